@@ -1,0 +1,35 @@
+-- What a shelf of files answers to a read and to a write, and what it holds then.
+use Rattle.std.specs.Prelude.{◌≡◌, ℕ, ◌+◌, ◌<◌, ◌≤◌, ◌⊎◌, List, length, take, Option, Some, None, IfSome, Result, Ok, Err, ⊤}
+use Rattle.std.specs.Option.{option_map}
+use Rattle.std.specs.Global.{Vec}
+use Rattle.outside_io.specs.Files.{Files, file, filed}
+use Rattle.outside_io.specs.declared.shelf.ShelfAnswer.{ShelfAnswer}
+use Rattle.outside_io.specs.declared.shelf.ShelfAnswer.TheVariants as answers
+
+-- What a read of at most `limit` bytes answers, where this is found under the name: its bytes, or that there is
+-- no such file, or that there are more. A fault and want of memory may come whatever is found.
+abbrev pub Answers : Option (List ℕ) → ℕ → Result (Vec ℕ) ShelfAnswer → Type 0
+Answers found limit (Ok bytes) = found ≡ Some bytes.items
+Answers found limit (Err answers.Absent) = found ≡ None
+Answers found limit (Err (answers.TooLong taken)) = (bytes : List ℕ) × (found ≡ Some bytes) × (limit < length bytes)
+Answers found limit (Err answers.Failed) = ⊤
+Answers found limit (Err answers.NoMemory) = ⊤
+
+-- Whatever is found, a read takes at most one byte more than the limit.
+abbrev pub TakesAtMost : ℕ → Result (Vec ℕ) ShelfAnswer → Type 0
+TakesAtMost limit (Ok bytes) = length bytes.items ≤ limit
+TakesAtMost limit (Err answers.Absent) = ⊤
+TakesAtMost limit (Err (answers.TooLong taken)) = taken ≡ limit + 1
+TakesAtMost limit (Err answers.Failed) = ⊤
+TakesAtMost limit (Err answers.NoMemory) = ⊤
+
+-- The files that a write leaves: these bytes under the name after Ok, a front of them after a fault, and after
+-- want of memory a front or what was there before.
+abbrev pub WriteLeaves : Option Files → List ℕ → List ℕ → Result (Unit {0}) ShelfAnswer → Option Files → Type 0
+WriteLeaves old name bytes (Ok done) new = new ≡ option_map (λ files. filed files name bytes) old
+WriteLeaves old name bytes (Err answers.Failed) new =
+    (n : ℕ) × (new ≡ option_map (λ files. filed files name (take n bytes)) old)
+WriteLeaves old name bytes (Err answers.NoMemory) new =
+    (new ≡ old) ⊎ ((n : ℕ) × (new ≡ option_map (λ files. filed files name (take n bytes)) old))
+WriteLeaves old name bytes (Err answers.Absent) new = ⊥
+WriteLeaves old name bytes (Err (answers.TooLong taken)) new = ⊥

@@ -1,0 +1,9 @@
+-- What a sink answers, and what it was given then.
+use Rattle.std.specs.Prelude.{◌≡◌, ℕ, List, ◌++◌, take, Option, Result, Ok, Err}
+use Rattle.std.specs.Option.{option_map}
+use Rattle.outside_io.specs.declared.sink.SinkAnswer.{SinkAnswer}
+
+-- At Ok the whole piece went out behind what was written, and after a refusal a front of it.
+abbrev pub Puts : Option (List ℕ) → List ℕ → Result (Unit {0}) SinkAnswer → Option (List ℕ) → Type 0
+Puts old piece (Ok done) new = new ≡ option_map (λ written. written ++ piece) old
+Puts old piece (Err answer) new = (n : ℕ) × (new ≡ option_map (λ written. written ++ take n piece) old)

@@ -1,0 +1,19 @@
+-- What a swap disk of blocks answers, and what it holds then.
+use Rattle.std.specs.Prelude.{◌≡◌, ℕ, ◌≤◌, List, length, Option, Result, Ok, Err, ⊤, slice_set, slice_get, Some, IfSome}
+use Rattle.std.specs.Option.{option_map}
+use Rattle.outside_io.specs.declared.swap.SwapAnswer.{SwapAnswer}
+
+-- the blocks of a disk by their numbers, each a list of 4,096 bytes
+abbrev pub Blocks : Type 0
+Blocks = List (List ℕ)
+
+-- At Ok the slice has the block's bytes, and after a refusal any bytes.
+abbrev pub ReadsBlock : Blocks → ℕ → Result (Unit {0}) SwapAnswer → List ℕ → Type 0
+ReadsBlock blocks n (Ok done) into = slice_get blocks n ≡ Some into
+ReadsBlock blocks n (Err answer) into = ⊤
+
+-- The blocks that a write leaves: this one written after Ok, or unknown after a refusal. All others stand.
+abbrev pub WritesBlock : Option Blocks → ℕ → List ℕ → Result (Unit {0}) SwapAnswer → Option Blocks → Type 0
+WritesBlock old n bytes (Ok done) new = new ≡ option_map (λ blocks. slice_set blocks n bytes) old
+WritesBlock old n bytes (Err answer) new =
+    (left : List ℕ) × (length left ≡ 4096) × (new ≡ option_map (λ blocks. slice_set blocks n left) old)

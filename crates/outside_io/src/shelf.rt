@@ -1,0 +1,51 @@
+//! Shelves: files by their names.
+
+ghost use Rattle.std.specs.Prelude.{◌≡◌, ℕ, ◌≤◌, Option, IfSome, IsTrue, IsErrOf};
+ghost use Rattle.outside_io.specs.FileName.{is_file_name};
+ghost use Rattle.outside_io.specs.Faults.{Rose};
+ghost use Rattle.outside_io.specs.Files.{Files, file};
+ghost use Rattle.outside_io.specs.Shelf.{Answers, TakesAtMost, WriteLeaves};
+
+/// Why a shelf did not do what it was asked to.
+#[derive(Clone, Copy, Debug, PartialEq, Eq)]
+pub enum ShelfAnswer {
+    /// The device failed.
+    Failed,
+    /// There is no file of that name.
+    Absent,
+    /// The file has more bytes than the limit; `taken` were read, the limit and one more.
+    TooLong { taken: u64 },
+    /// No memory was left.
+    NoMemory,
+}
+
+/// Files by their names. A name has 1 to 64 letters, digits, `_`, `-` and `.`, the first neither `-` nor `.`.
+pub trait Shelf {
+    /// The files, where the shelf tells them.
+    ghost files: { Self → Option Files };
+
+    /// How many reads failed.
+    ghost read_faults: { Self → ℕ };
+
+    /// How many writes failed.
+    ghost write_faults: { Self → ℕ };
+
+    /// The bytes of a file that has at most `limit` of them.
+    fn read(&mut self, name: &str, limit: u64) -> Result<Vec<u8>, ShelfAnswer>
+        requires { IsTrue (is_file_name name.now) }
+        ensures gives { IfSome (files self.old) (λ all. Answers (file all name.now) limit result) }
+        ensures within { TakesAtMost limit result }
+        ensures failed { IsErrOf result ShelfAnswer.Failed → Rose (read_faults self.old) (read_faults self.new) }
+        ensures absent { IsErrOf result ShelfAnswer.Absent → read_faults self.new ≡ read_faults self.old }
+        ensures later { read_faults self.old ≤ read_faults self.new }
+        ensures files { files self.new ≡ files self.old }
+        ensures write_faults { write_faults self.new ≡ write_faults self.old };
+
+    /// Makes a file hold exactly these bytes.
+    fn write(&mut self, name: &str, bytes: &[u8]) -> Result<(), ShelfAnswer>
+        requires { IsTrue (is_file_name name.now) }
+        ensures leaves { WriteLeaves (files self.old) name.now bytes.now result (files self.new) }
+        ensures failed { IsErrOf result ShelfAnswer.Failed → Rose (write_faults self.old) (write_faults self.new) }
+        ensures later { write_faults self.old ≤ write_faults self.new }
+        ensures read_faults { read_faults self.new ≡ read_faults self.old };
+}

@@ -1,0 +1,50 @@
+//! Swap disks: blocks of 4,096 bytes by their numbers.
+
+ghost use Rattle.std.specs.Prelude.{◌≡◌, ℕ, ◌<◌, ◌≤◌, ◌^◌, Option, IfSome, IsErrOf, length};
+ghost use Rattle.outside_io.specs.Faults.{Rose};
+ghost use Rattle.outside_io.specs.Swap.{Blocks, ReadsBlock, WritesBlock};
+
+/// Why a swap disk did not do what it was asked to.
+#[derive(Clone, Copy, Debug, PartialEq, Eq)]
+pub enum SwapAnswer {
+    /// The device failed.
+    Failed,
+    /// No memory was left.
+    NoMemory,
+}
+
+/// Blocks of 4,096 bytes, numbered from 0.
+pub trait SwapDisk {
+    /// The blocks, where the disk tells them.
+    ghost blocks: { Self → Option Blocks };
+
+    /// How many calls failed.
+    ghost faults: { Self → ℕ };
+
+    /// How many blocks there are, which no call changes.
+    ghost block_count: { Self → ℕ };
+
+    /// How many blocks there are.
+    fn size(&self) -> u32
+        ensures value { result ≡ block_count self.now }
+        ensures bound { result ≤ 2 ^ 20 };
+
+    /// Reads block `n` into a slice of its length.
+    fn read_block(&mut self, n: u32, into: &mut [u8]) -> Result<(), SwapAnswer>
+        requires known { n < block_count self.old }
+        requires whole { length into.old ≡ 4096 }
+        ensures gives { IfSome (blocks self.old) (λ all. ReadsBlock all n result into.new) }
+        ensures failed { IsErrOf result SwapAnswer.Failed → Rose (faults self.old) (faults self.new) }
+        ensures later { faults self.old ≤ faults self.new }
+        ensures blocks { blocks self.new ≡ blocks self.old }
+        ensures block_count { block_count self.new ≡ block_count self.old };
+
+    /// Makes block `n` hold these bytes.
+    fn write_block(&mut self, n: u32, bytes: &[u8]) -> Result<(), SwapAnswer>
+        requires known { n < block_count self.old }
+        requires whole { length bytes.now ≡ 4096 }
+        ensures leaves { WritesBlock (blocks self.old) n bytes.now result (blocks self.new) }
+        ensures failed { IsErrOf result SwapAnswer.Failed → Rose (faults self.old) (faults self.new) }
+        ensures later { faults self.old ≤ faults self.new }
+        ensures block_count { block_count self.new ≡ block_count self.old };
+}
