@@ -4,3 +4,7 @@ pub mod Files
 pub mod Shelf
 pub mod Swap
 pub mod Sink
+pub mod Calls
+pub mod MemSink
+pub mod FolderShelf
+pub mod StoredFiles

@@ -3,6 +3,9 @@
 ghost use Rattle.std.specs.Prelude.{◌≡◌, ℕ, ◌≤◌, List, Option, IsErrOf};
 ghost use Rattle.outside_io.specs.Faults.{Rose};
 ghost use Rattle.outside_io.specs.Sink.{Puts};
+ghost use Rattle.outside_io.specs.declared.sink.SinkAnswer.TheVariants.{NoMemory};
+
+use std::alloc::{AllocError, AllocFailed};
 
 /// Why a sink did not take a piece.
 #[derive(Clone, Copy, Debug, PartialEq, Eq)]
@@ -11,6 +14,22 @@ pub enum SinkAnswer {
     Failed,
     /// No memory was left.
     NoMemory,
+}
+
+impl From<AllocError> for SinkAnswer {
+    ghost from_gives = { λ _ answer. answer ≡ NoMemory };
+
+    fn from(_error: AllocError) -> SinkAnswer {
+        SinkAnswer::NoMemory
+    }
+}
+
+impl<T: Drop> From<AllocFailed<T>> for SinkAnswer {
+    ghost from_gives = { λ _ answer. answer ≡ NoMemory };
+
+    fn from(_error: AllocFailed<T>) -> SinkAnswer {
+        SinkAnswer::NoMemory
+    }
 }
 
 /// Takes text, piece by piece.

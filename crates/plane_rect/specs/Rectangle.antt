@@ -1,7 +1,10 @@
 -- Places and rectangles, in natural numbers: a column and a row count from the plane's upper left corner, which
 -- stands at x = y = -2^24. So the column of x is x + 2^24, and no definition above this file has a sign.
-use Rattle.std.specs.Prelude.{◌≡◌, ℕ, ◌+◌, ◌-◌, ◌^◌, ◌<◌, ◌≤◌, ◌⊎◌, ◌||◌, ◌==◌, nat_lt, min, max, if◌then◌else◌, pos, negsuc, ℤ, ◌-ℤ◌}
-use Rattle.std.proofs.Common.{arith}
+use Rattle.std.specs.Prelude.{◌≡◌, ℕ, ◌+◌, ◌-◌, ◌*◌, ◌^◌, ◌<◌, ◌≤◌, ◌⊎◌, ◌&&◌, ◌||◌, ◌==◌, not, Bool, min, max, if◌then◌else◌, ℤ, pos, negsuc, ◌+ℤ◌, ◌-ℤ◌, ◌≤ℤ◌, ◌<ℤ◌, int_le, unsigned_abs, Result, Ok, Err}
+use Rattle.plane_rect.specs.declared.rect.RectRefused.{RectRefused}
+use Rattle.plane_rect.specs.declared.rect.RectRefused.TheVariants.{Place, Size}
+
+-- ---- the plane
 
 -- the distance from the plane's corner to the origin
 abbrev pub origin : ℕ
@@ -11,7 +14,7 @@ origin = 2 ^ 24
 abbrev pub plane_side : ℕ
 plane_side = 2 ^ 25
 
--- the column of an x, or the row of a y, from -2^24 on
+-- the column of an x, or the row of a y, that does not lie before the plane's corner
 abbrev pub plane_index : ℤ → ℕ
 plane_index (pos n) = n + origin
 plane_index (negsuc n) = origin - (n + 1)
@@ -19,6 +22,12 @@ plane_index (negsuc n) = origin - (n + 1)
 -- the x of a column, or the y of a row
 abbrev pub plane_coordinate : ℕ → ℤ
 plane_coordinate n = pos n -ℤ pos origin
+
+-- an x or a y does not lie before the plane's corner
+abbrev pub IsBehindCorner : ℤ → Type 0
+IsBehindCorner z = plane_coordinate 0 ≤ℤ z
+
+-- ---- rectangles
 
 -- A rectangle, by its first column and row and by how many it has of each.
 pub record Rectangle : Type 0 where
@@ -32,8 +41,17 @@ abbrev pub Within : ℕ → ℕ → ℕ → Type 0
 Within start len n = (start ≤ n) × (n < start + len)
 
 -- The place of column u and row v lies in the rectangle: a rectangle is the set of these places.
-abbrev pub Lies : ℕ → ℕ → Rectangle → Type 0
-Lies u v r = Within r.left r.width u × Within r.top r.height v
+pub record Lies (u v : ℕ) (r : Rectangle) : Type 0 where
+  pub column : Within r.left r.width u
+  pub row : Within r.top r.height v
+
+-- a signed number is one of the len numbers from start on
+abbrev pub WithinSigned : ℤ → ℕ → ℤ → Type 0
+WithinSigned start len z = (start ≤ℤ z) × (z <ℤ (start +ℤ pos len))
+
+-- the place of x and y, which may be outside the plane, lies in the rectangle
+abbrev pub LiesAt : ℤ → ℤ → Rectangle → Type 0
+LiesAt x y r = WithinSigned (plane_coordinate r.left) r.width x × WithinSigned (plane_coordinate r.top) r.height y
 
 -- the rectangle of no place, which stands at the origin
 abbrev pub empty : Rectangle
@@ -61,6 +79,71 @@ bottom r = r.top + r.height
 -- from the first columns and rows up to those that are behind the last
 abbrev pub spanning : ℕ → ℕ → ℕ → ℕ → Rectangle
 spanning left top right bottom = rectangle left top (right - left) (bottom - top)
+
+-- how many places a rectangle has
+abbrev pub area : Rectangle → ℕ
+area r = r.width * r.height
+
+-- the index of a place among those of the rectangle, which stand row by row
+abbrev pub offset : Rectangle → ℕ → ℕ → ℕ
+offset r u v = (v - r.top) * r.width + (u - r.left)
+
+-- a rectangle of which an image may be kept
+abbrev pub InLimits : Rectangle → Type 0
+InLimits r = (r.width ≤ 2 ^ 15) × (r.height ≤ 2 ^ 15) × (area r ≤ 2 ^ 25)
+
+-- two rectangles are one
+abbrev pub same_rectangle : Rectangle → Rectangle → Bool
+same_rectangle a b = a.left == b.left && a.top == b.top && a.width == b.width && a.height == b.height
+
+-- ---- a rectangle as it is written, by signed numbers
+
+-- the rectangle that begins at x and y, neither before the plane's corner
+abbrev pub placed : ℤ → ℤ → ℕ → ℕ → Rectangle
+placed x y w h = record { left = plane_index x; top = plane_index y; width = w; height = h }
+
+-- these numbers are the fields of a rectangle
+pub record AreFields (x y : ℤ) (w h : ℕ) : Type 0 where
+  pub behind_left : IsBehindCorner x
+  pub behind_top : IsBehindCorner y
+  pub rectangle : IsRectangle (placed x y w h)
+
+-- an x or a y is one at which a rectangle may begin
+abbrev pub is_coordinate : ℤ → Bool
+is_coordinate z = int_le (plane_coordinate 0) z && int_le z (pos origin)
+
+abbrev pub IsCoordinate : ℤ → Type 0
+IsCoordinate z = (plane_coordinate 0 ≤ℤ z) × (z ≤ℤ pos origin)
+
+abbrev pub IsNoCoordinate : ℤ → Type 0
+IsNoCoordinate z = (z <ℤ plane_coordinate 0) ⊎ (pos origin <ℤ z)
+
+-- so many columns from an x on, or rows from a y on, may be a rectangle's
+abbrev pub is_extent : ℤ → ℤ → Bool
+is_extent z len = int_le (pos 0) len && int_le (z +ℤ len) (pos origin)
+
+abbrev pub IsExtent : ℤ → ℤ → Type 0
+IsExtent z len = (pos 0 ≤ℤ len) × ((z +ℤ len) ≤ℤ pos origin)
+
+abbrev pub IsNoExtent : ℤ → ℤ → Type 0
+IsNoExtent z len = (len <ℤ pos 0) ⊎ (pos origin <ℤ (z +ℤ len))
+
+-- a rectangle may begin at x and y
+abbrev pub begins_in_plane : ℤ → ℤ → Bool
+begins_in_plane x y = is_coordinate x && is_coordinate y
+
+-- it may have w columns from x on and h rows from y on
+abbrev pub ends_in_plane : ℤ → ℤ → ℤ → ℤ → Bool
+ends_in_plane x y w h = is_extent x w && is_extent y h
+
+-- the rectangle of signed fields, or why there is none
+abbrev pub new_rectangle : ℤ → ℤ → ℤ → ℤ → Result Rectangle RectRefused
+new_rectangle x y w h =
+    if not (begins_in_plane x y) then Err Place
+    else if not (ends_in_plane x y w h) then Err Size
+    else Ok (rectangle (plane_index x) (plane_index y) (unsigned_abs w) (unsigned_abs h))
+
+-- ---- rectangles made of rectangles
 
 -- the places that lie in both
 abbrev pub meet : Rectangle → Rectangle → Rectangle

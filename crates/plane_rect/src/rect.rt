@@ -1,14 +1,22 @@
 //! Rectangles of places.
 
-ghost use Rattle.std.specs.Prelude.{◌≡◌, ℕ, ◌+◌, ◌-◌, ◌*◌, ◌/◌, ◌%◌, ◌^◌, ◌<◌, ◌≤◌, ◌↔◌, ◌⊎◌, pos, ◌+ℤ◌, ◌≤ℤ◌, ◌<ℤ◌, IsTrue, IfOk, IsErrOf, OnOk};
-ghost use Rattle.plane_rect.specs.Rectangle.{Lies, Rectangle, plane_index, meet, empty, IsRectangle, rectangle, right, bottom};
+ghost use Rattle.std.specs.Prelude.{◌≡◌, ℕ, ℤ, ◌+◌, ◌-◌, ◌*◌, ◌++◌, ◌<◌, ◌≤◌, ◌↔◌, ◌⊎◌, pos, ◌+ℤ◌, ◌≤ℤ◌, ◌<ℤ◌, IsTrue, IfOk, unsigned_abs};
+ghost use Rattle.std.specs.Bool.{OnTrue};
+ghost use Rattle.std.specs.Cmp.{partial_equiv_from_equiv};
+ghost use Rattle.std.specs.Cmp.Rules.{hashing};
+ghost use Rattle.std.specs.Hash as fed;
+ghost use Rattle.std.proofs.Common.{rules};
+ghost use Rattle.plane_rect.specs.SameRectangle.{same_rectangle-laws};
+ghost use Rattle.plane_rect.specs.Rectangle.{InLimits, IsCoordinate, IsExtent, IsNoCoordinate, IsNoExtent, IsRectangle, Lies, LiesAt, WithinSigned, area, begins_in_plane, bottom, empty, ends_in_plane, is_coordinate, is_extent, meet, new_rectangle, offset, origin, plane_index as index_of, plane_side, rectangle, right, same_rectangle, spanning};
 
+use crate::plane::{ORIGIN, plane_coordinate, plane_index};
+use std::hash::{Hash, Hasher};
 use std::marker::Model;
+use thiserror::Error;
 
-/// How far the plane reaches from the origin, to each side.
-const REACH: i64 = 1 << 24;
-
-/// A set of places, `x <= px < x + w` and `y <= py < y + h`.
+/// A set of places: those of `x <= px < x + w` and `y <= py < y + h`.
+///
+/// It lies in the plane, from -2^24 up to 2^24 in x and y, and a rectangle without a place is [`Rect::EMPTY`].
 #[derive(Clone, Copy, Debug)]
 pub struct Rect {
     pub x: i32,
@@ -18,32 +26,132 @@ pub struct Rect {
 }
 
 impl Model for Rect {
-    ghost use Rattle.std.specs.Prelude.{◌≡◌, ◌≤◌, ◌+◌, ◌^◌, pos, ◌+ℤ◌, ◌≤ℤ◌};
-    ghost use Rattle.plane_rect.specs.Rectangle.{Rectangle, IsRectangle, plane_index, plane_coordinate};
+    ghost use Rattle.plane_rect.specs.Rectangle.{AreFields, Rectangle, placed, plane_coordinate};
 
     ghost Value = { Rectangle };
 
-    ghost view = { λ r. record { left = plane_index r.x; top = plane_index r.y; width = r.w; height = r.h } };
+    ghost view = { λ r. placed r.x r.y r.w r.h };
 
-    ghost invariant = { λ r. (pos 0 ≤ℤ (r.x +ℤ pos (2 ^ 24))) × (pos 0 ≤ℤ (r.y +ℤ pos (2 ^ 24)))
-        × IsRectangle (record { left = plane_index r.x; top = plane_index r.y; width = r.w; height = r.h }) };
+    ghost invariant = { λ r. AreFields r.x r.y r.w r.h };
 
     ghost inverse = { λ v. record { x = plane_coordinate v.left; y = plane_coordinate v.top; w = v.width; h = v.height } };
 }
 
-#[derive(Clone, Copy, Debug, PartialEq, Eq)]
+/// Why numbers are no rectangle.
+#[derive(Clone, Copy, Debug, PartialEq, Eq, Error)]
 pub enum RectRefused {
+    /// It begins before -2^24 or behind 2^24.
+    #[error("the rectangle begins outside the plane")]
     Place,
+    /// A side is negative, or ends behind 2^24.
+    #[error("a side is negative or ends outside the plane")]
     Size,
 }
 
 impl Rect {
+    /// The rectangle without a place.
     pub const EMPTY: Rect = Rect {
         x: 0,
         y: 0,
         w: 0,
         h: 0,
     };
+
+    /// The rectangle of `w` columns from `x` on and `h` rows from `y` on.
+    ///
+    /// # Errors
+    ///
+    /// `Place` exactly where x or y is below -2^24 or above 2^24, and else `Size` exactly where w or h is negative, or
+    /// x + w or y + h is above 2^24.
+    pub fn new(x: i64, y: i64, w: i64, h: i64) -> Result<Rect, RectRefused>
+        ensures value { result ≡ new_rectangle x y w h }
+        ensures place { (result ≡ Err RectRefused.Place) ↔ (IsNoCoordinate x ⊎ IsNoCoordinate y) }
+        ensures size { (result ≡ Err RectRefused.Size) ↔ (IsCoordinate x × IsCoordinate y × (IsNoExtent x w ⊎ IsNoExtent y h)) }
+        ensures places { IfOk result (λ r. (px py : ℤ) → LiesAt px py r ↔ ((x ≤ℤ px) × (px <ℤ (x +ℤ w)) × (y ≤ℤ py) × (py <ℤ (y +ℤ h)))) }
+    {
+        if !begins_in_plane(x, y) {
+            return Err(RectRefused::Place);
+        }
+        if !ends_in_plane(x, y, w, h) {
+            return Err(RectRefused::Size);
+        }
+        Ok(Rect::from_fields(x, y, w, h))
+    }
+
+    /// The rectangle of fields that a rectangle may have, which is empty if a side is 0.
+    fn from_fields(x: i64, y: i64, w: i64, h: i64) -> Rect
+        requires left { IsCoordinate x }
+        requires top { IsCoordinate y }
+        requires width { IsExtent x w }
+        requires height { IsExtent y h }
+        ensures { result ≡ rectangle (index_of x) (index_of y) (unsigned_abs w) (unsigned_abs h) }
+    {
+        if w == 0 || h == 0 {
+            return Rect::EMPTY;
+        }
+        Rect {
+            x: x as i32,
+            y: y as i32,
+            w: w as u32,
+            h: h as u32,
+        }
+    }
+
+    /// From a first column and row up to those behind the last.
+    pub fn spanning(left: u32, top: u32, right: u32, bottom: u32) -> Rect
+        requires columns { right ≤ plane_side }
+        requires rows { bottom ≤ plane_side }
+        ensures { result ≡ spanning left top right bottom }
+    {
+        if left >= right || top >= bottom {
+            return Rect::EMPTY;
+        }
+        Rect {
+            x: plane_coordinate(left),
+            y: plane_coordinate(top),
+            w: right - left,
+            h: bottom - top,
+        }
+    }
+
+    /// The first column, counted from the plane's corner.
+    pub fn left(&self) -> u32
+        ensures value { result ≡ self.now.left }
+        ensures rectangle { IsRectangle self.now }
+    {
+        plane_index(self.x)
+    }
+
+    /// The first row, counted from the plane's corner.
+    pub fn top(&self) -> u32
+        ensures value { result ≡ self.now.top }
+        ensures rectangle { IsRectangle self.now }
+    {
+        plane_index(self.y)
+    }
+
+    /// The column behind the last.
+    pub fn right(&self) -> u32
+        ensures value { result ≡ right self.now }
+        ensures rectangle { IsRectangle self.now }
+    {
+        self.left() + self.w
+    }
+
+    /// The row below the last.
+    pub fn bottom(&self) -> u32
+        ensures value { result ≡ bottom self.now }
+        ensures rectangle { IsRectangle self.now }
+    {
+        self.top() + self.h
+    }
+
+    /// How many places lie in it.
+    pub fn area(&self) -> u64
+        ensures { result ≡ area self.now }
+    {
+        u64::from(self.w) * u64::from(self.h)
+    }
 
     /// Whether no place lies in it.
     pub fn is_empty(&self) -> bool
@@ -52,13 +160,122 @@ impl Rect {
         self.w == 0
     }
 
-    pub fn has(&self, x: i32, y: i32) -> bool
-        requires column { pos 0 ≤ℤ (x +ℤ pos (2 ^ 24)) }
-        requires row { pos 0 ≤ℤ (y +ℤ pos (2 ^ 24)) }
-        ensures { IsTrue result ↔ Lies (plane_index x) (plane_index y) self.now }
+    /// Whether an image of it may be kept: at most 2^15 columns and rows, and 2^25 places.
+    pub fn in_limits(&self) -> bool
+        ensures { IsTrue result ↔ InLimits self.now }
     {
-        let (px, py) = (i64::from(x), i64::from(y));
-        let (left, top) = (i64::from(self.x), i64::from(self.y));
-        left <= px && px < left + i64::from(self.w) && top <= py && py < top + i64::from(self.h)
+        self.w <= 1 << 15 && self.h <= 1 << 15 && self.area() <= 1 << 25
     }
+
+    /// Whether the place of x and y lies in it.
+    pub fn has(&self, x: i32, y: i32) -> bool
+        ensures { IsTrue result ↔ LiesAt x y self.now }
+    {
+        is_within(self.x, self.w, x) && is_within(self.y, self.h, y)
+    }
+
+    /// Whether the place of a column and a row lies in it.
+    pub fn has_place(&self, column: u32, row: u32) -> bool
+        ensures { IsTrue result ↔ Lies column row self.now }
+    {
+        self.left() <= column && column < self.right() && self.top() <= row && row < self.bottom()
+    }
+
+    /// The index of a place among those of the rectangle, which stand row by row.
+    pub fn offset(&self, column: u32, row: u32) -> usize
+        requires { Lies column row self.now }
+        ensures value { result ≡ offset self.now column row }
+        ensures in_area { result < area self.now }
+    {
+        (row - self.top()) as usize * self.w as usize + (column - self.left()) as usize
+    }
+
+    /// The places that lie in both.
+    pub fn meet(&self, other: &Rect) -> Rect
+        ensures value { result ≡ meet self.now other.now }
+        ensures places { (u v : ℕ) → Lies u v result ↔ (Lies u v self.now × Lies u v other.now) }
+    {
+        Rect::spanning(
+            self.left().max(other.left()),
+            self.top().max(other.top()),
+            self.right().min(other.right()),
+            self.bottom().min(other.bottom()),
+        )
+    }
+}
+
+impl PartialEq for Rect {
+    ghost eq = { same_rectangle };
+
+    ghost laws = { partial_equiv_from_equiv same_rectangle-laws };
+
+    fn eq(&self, other: &Rect) -> bool
+        ensures eq { result ≡ same_rectangle self.now other.now }
+        ensures same { IsTrue result ↔ (self.now ≡ other.now) }
+    {
+        self.left() == other.left()
+            && self.top() == other.top()
+            && self.w == other.w
+            && self.h == other.h
+    }
+}
+
+impl Eq for Rect {
+    ghost laws = { same_rectangle-laws };
+}
+
+impl Hash for Rect {
+    ghost hash_input = { λ r. fed.u32 r.left ++ fed.u32 r.top ++ fed.u32 r.width ++ fed.u32 r.height };
+
+    ghost respects_eq = { Prim.search (hashing, rules) };
+
+    fn hash<H: Hasher>(&self, state: &mut H) {
+        self.left().hash(state);
+        self.top().hash(state);
+        self.w.hash(state);
+        self.h.hash(state);
+    }
+}
+
+/// Whether a rectangle may begin at x and y.
+fn begins_in_plane(x: i64, y: i64) -> bool
+    ensures value { result ≡ begins_in_plane x y }
+    ensures inside { OnTrue result (IsCoordinate x × IsCoordinate y) }
+{
+    is_coordinate(x) && is_coordinate(y)
+}
+
+/// Whether a rectangle that begins at x and y may have w columns and h rows.
+fn ends_in_plane(x: i64, y: i64, w: i64, h: i64) -> bool
+    requires left { IsCoordinate x }
+    requires top { IsCoordinate y }
+    ensures value { result ≡ ends_in_plane x y w h }
+    ensures inside { OnTrue result (IsExtent x w × IsExtent y h) }
+{
+    is_extent(x, w) && is_extent(y, h)
+}
+
+/// Whether a rectangle may begin at an x or a y.
+fn is_coordinate(z: i64) -> bool
+    ensures value { result ≡ is_coordinate z }
+    ensures inside { OnTrue result (IsCoordinate z) }
+{
+    let reach = i64::from(ORIGIN);
+    -reach <= z && z <= reach
+}
+
+/// Whether a rectangle may have so many columns from an x on, or rows from a y on.
+fn is_extent(z: i64, len: i64) -> bool
+    requires { IsCoordinate z }
+    ensures value { result ≡ is_extent z len }
+    ensures inside { OnTrue result (IsExtent z len) }
+{
+    0 <= len && len <= i64::from(ORIGIN) - z
+}
+
+/// Whether a number is one of the `len` numbers from `start` on.
+fn is_within(start: i32, len: u32, z: i32) -> bool
+    ensures { IsTrue result ↔ WithinSigned start len z }
+{
+    start <= z && i64::from(z) < i64::from(start) + i64::from(len)
 }

@@ -1,2 +1,4 @@
 pub mod Format
+pub mod Row
+pub mod Recolour
 pub mod Invert

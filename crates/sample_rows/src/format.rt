@@ -56,6 +56,16 @@ impl Format {
         self.channels() * self.depth()
     }
 
+    /// Whether the last channel is alpha.
+    pub fn has_alpha(self) -> bool
+        ensures { result ≡ has_alpha self }
+    {
+        match self {
+            Format::Y8 | Format::RGB8 | Format::Y16 | Format::RGB16 => false,
+            Format::YA8 | Format::RGBA8 | Format::YA16 | Format::RGBA16 => true,
+        }
+    }
+
     /// The name in a script.
     pub fn word(self) -> &'static str
         ensures { result.now ≡ word_of self }

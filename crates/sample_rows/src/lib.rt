@@ -2,5 +2,7 @@
 #![tactic(auto)]
 
 mod format;
+mod invert;
 
 pub use format::Format;
+pub use invert::row_invert;

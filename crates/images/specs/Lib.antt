@@ -1,0 +1,5 @@
+pub mod Image
+pub mod Raw
+pub mod Paint
+pub use Rattle.plane_rect.specs.Rectangle
+pub use Rattle.sample_rows.specs.Format

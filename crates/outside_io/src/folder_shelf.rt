@@ -1,0 +1,132 @@
+//! The files of the current folder as a shelf.
+
+ghost use Rattle.std.specs.Prelude.{◌≡◌, ◌≤◌, ◌⊎◌, None, IfOk, vec_len};
+ghost use Rattle.outside_io.specs.Shelf.{TakesAtMost};
+ghost use Rattle.outside_io.specs.FolderShelf.{ShelfFaults};
+
+use crate::shelf::{Shelf, ShelfAnswer};
+use std::alloc::Global;
+use std::fs::{Files, OpenFile};
+use std::io::{ErrorKind, Read};
+use std::marker::Model;
+use std::{fs, io};
+
+/// The files of the current folder. It doesn't tell what they hold.
+#[derive(Drop)]
+pub struct FolderShelf<R: Files + AllocGlobal + Drop> {
+    rt: R,
+    read_faults: u64,
+    write_faults: u64,
+}
+
+impl<R: Files + AllocGlobal + Drop> Model for FolderShelf<R> {
+    ghost Value = { ShelfFaults };
+
+    ghost view = { λ shelf. record { reads = shelf.read_faults; writes = shelf.write_faults } };
+}
+
+impl<R: Files + AllocGlobal + Drop> FolderShelf<R> {
+    /// The current folder of this runtime, of which no read and no write has failed yet.
+    pub fn new(rt: R) -> FolderShelf<R>
+        ensures { result ≡ record { reads = 0; writes = 0 } }
+    {
+        FolderShelf {
+            rt,
+            read_faults: 0,
+            write_faults: 0,
+        }
+    }
+}
+
+impl<R: Files + AllocGlobal + Drop> Shelf for FolderShelf<R> {
+    ghost files = { λ _. None };
+
+    ghost read_faults = { λ faults. faults.reads };
+
+    ghost write_faults = { λ faults. faults.writes };
+
+    fn read(&mut self, name: &str, limit: u64) -> Result<Vec<u8>, ShelfAnswer> {
+        let answer = read_file(&self.rt, name, limit);
+        if let Err(ShelfAnswer::Failed) = answer {
+            self.read_faults = self.read_faults.saturating_add(1);
+        }
+        answer
+    }
+
+    fn write(&mut self, name: &str, bytes: &[u8]) -> Result<(), ShelfAnswer> {
+        match fs::write(&self.rt, name, bytes) {
+            Ok(()) => Ok(()),
+            Err(error) if error.kind() == ErrorKind::OutOfMemory => Err(ShelfAnswer::NoMemory),
+            Err(_) => {
+                self.write_faults = self.write_faults.saturating_add(1);
+                Err(ShelfAnswer::Failed)
+            }
+        }
+    }
+}
+
+/// The bytes of a file of the current folder.
+fn read_file<R: Files + AllocGlobal>(rt: &R, name: &str, limit: u64) -> Result<Vec<u8>, ShelfAnswer>
+    ensures within { TakesAtMost limit result }
+{
+    let file = match fs::open(rt, name) {
+        Ok(file) => file,
+        Err(error) if error.kind() == ErrorKind::NotFound => return Err(ShelfAnswer::Absent),
+        Err(error) => return Err(refusal(error)),
+    };
+    match read_front(rt.alloc(), file, limit.saturating_add(1)) {
+        Ok(bytes) if bytes.len() as u64 > limit => Err(ShelfAnswer::TooLong { taken: limit + 1 }),
+        Ok(bytes) => Ok(bytes),
+        Err(error) => Err(refusal(error)),
+    }
+}
+
+/// What a shelf answers where an open file gave this error.
+fn refusal(error: io::Error) -> ShelfAnswer
+    ensures { (result ≡ ShelfAnswer.Failed) ⊎ (result ≡ ShelfAnswer.NoMemory) }
+{
+    match error.kind() {
+        ErrorKind::OutOfMemory => ShelfAnswer::NoMemory,
+        _ => ShelfAnswer::Failed,
+    }
+}
+
+/// The bytes of a file from its beginning, at most `most` of them.
+fn read_front<F: Read + OpenFile + Drop>(
+    alloc: Global,
+    mut file: F,
+    most: u64,
+) -> io::Result<Vec<u8>>
+    ensures { IfOk result (λ bytes. vec_len bytes ≤ most) }
+{
+    let room = file.metadata()?.len().saturating_add(1).min(most);
+    let mut bytes = vec![in alloc; 0; room as usize]?;
+    let filled = fill(&mut file, &mut bytes, most as usize)?;
+    bytes.truncate(filled);
+    Ok(bytes)
+}
+
+/// Reads a file into the front of `bytes`, to the file's end or until `most` bytes are read, and says how many were.
+/// `bytes` grows where the file is longer than it.
+fn fill<F: Read>(file: &mut F, bytes: &mut Vec<u8>, most: usize) -> io::Result<usize>
+    requires { vec_len bytes.old ≤ most }
+    ensures filled { IfOk result (λ filled. filled ≤ vec_len bytes.new) }
+    ensures most { vec_len bytes.new ≤ most }
+{
+    let mut filled = 0;
+    for _ in 0..u64::MAX {
+        if filled >= bytes.len() {
+            if filled >= most {
+                return Ok(filled);
+            }
+            bytes.resize(filled.saturating_mul(2).clamp(1, most), 0)?;
+        }
+        match file.read(&mut bytes[filled..]) {
+            Ok(0) => return Ok(filled),
+            Ok(count) => filled += count,
+            Err(error) if error.kind() == ErrorKind::Interrupted => {}
+            Err(error) => return Err(error),
+        }
+    }
+    Err(io::Error::from(ErrorKind::Interrupted))
+}

@@ -1,0 +1,55 @@
+//! Standard output as a sink.
+
+ghost use Rattle.std.specs.Prelude.{◌≡◌, None};
+
+use crate::sink::{Sink, SinkAnswer};
+use std::io;
+use std::io::{ErrorKind, Write};
+use std::marker::Model;
+
+/// Standard output. It doesn't tell what went out.
+#[derive(Drop)]
+pub struct StdSink<R: Print + Drop> {
+    rt: R,
+    faults: u64,
+}
+
+impl<R: Print + Drop> Model for StdSink<R> {
+    ghost use Rattle.std.specs.Prelude.{ℕ};
+
+    ghost Value = { ℕ };
+
+    ghost view = { λ sink. sink.faults };
+}
+
+impl<R: Print + Drop> StdSink<R> {
+    /// The standard output of this runtime, of which no piece has failed yet.
+    pub fn new(rt: R) -> StdSink<R>
+        ensures { result ≡ 0 }
+    {
+        StdSink { rt, faults: 0 }
+    }
+
+    fn send(&self, bytes: &[u8]) -> io::Result<()> {
+        let mut output = io::writer(&self.rt);
+        output.write_all(bytes)?;
+        output.flush()
+    }
+}
+
+impl<R: Print + Drop> Sink for StdSink<R> {
+    ghost written = { λ _. None };
+
+    ghost faults = { λ count. count };
+
+    fn put(&mut self, bytes: &[u8]) -> Result<(), SinkAnswer> {
+        match self.send(bytes) {
+            Ok(()) => Ok(()),
+            Err(error) if error.kind() == ErrorKind::OutOfMemory => Err(SinkAnswer::NoMemory),
+            Err(_) => {
+                self.faults = self.faults.saturating_add(1);
+                Err(SinkAnswer::Failed)
+            }
+        }
+    }
+}

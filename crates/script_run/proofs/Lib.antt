@@ -1,0 +1,3 @@
+pub mod FileNamesLemmas
+pub mod CommandsLemmas
+pub mod FormLemmas

@@ -1,0 +1,81 @@
+-- What stands when a run has ended, or a part of one: the files, the text, and the counts of faults.
+use Rattle.std.specs.Prelude.{◌≡◌, ℕ, ◌≤◌, ◌⊎◌, List, [], ◌∷◌, ◌++◌, take, Option, Some, None, IsSome, Result, Ok, Err, ⊤}
+use Rattle.std.specs.Option.{option_map}
+use Rattle.outside_io.specs.Files.{Files, filed}
+use Rattle.outside_io.specs.Faults.{Rose}
+use Rattle.script_run.specs.Outcome.{Event, Writes, Puts, Outcome, files_after}
+use Rattle.script_run.specs.declared.status.End.{End}
+use Rattle.script_run.specs.declared.status.End.TheVariants as ends
+
+-- the files of a shelf and the text that a sink was given, each where it is told
+pub record World : Type 0 where
+  pub files : Option Files
+  pub text : Option (List ℕ)
+
+-- the world after an event
+abbrev pub after : Event → World → World
+after (Writes name bytes) world = record world { files = option_map (λ files. filed files name bytes) world.files }
+after (Puts text) world = record world { text = option_map (λ written. written ++ text) world.text }
+
+abbrev pub after_all : List Event → World → World
+after_all [] world = world
+after_all (event ∷ events) world = after_all events (after event world)
+
+-- a front of an event has come; of a file only where files may be torn
+abbrev pub IsFront : Type 0 → Event → World → World → Type 0
+IsFront torn (Writes name bytes) old new = torn × ((n : ℕ) × (new ≡ after (Writes name (take n bytes)) old))
+IsFront torn (Puts text) old new = (n : ℕ) × (new ≡ after (Puts (take n text)) old)
+
+-- the first of the events have come, and perhaps a front of the next
+abbrev pub LeavesSome : Type 0 → List Event → World → World → Type 0
+LeavesSome torn [] old new = new ≡ old
+LeavesSome torn (event ∷ events) old new =
+    (new ≡ old) ⊎ (IsFront torn event old new ⊎ LeavesSome torn events (after event old) new)
+
+-- every event has come: at the end, and at a refusal
+abbrev pub IsWhole : Result (Unit {0}) End → Type 0
+IsWhole (Ok done) = ⊤
+IsWhole (Err ends.Refused) = ⊤
+IsWhole (Err ends.ReadFault) = ⊥
+IsWhole (Err ends.WriteFault) = ⊥
+IsWhole (Err ends.OutputFault) = ⊥
+IsWhole (Err ends.NoMemory) = ⊥
+
+-- the last file may be torn: after a fault of a write, and after want of memory
+abbrev pub MayTear : Result (Unit {0}) End → Type 0
+MayTear (Ok done) = ⊥
+MayTear (Err ends.Refused) = ⊥
+MayTear (Err ends.ReadFault) = ⊥
+MayTear (Err ends.WriteFault) = ⊤
+MayTear (Err ends.OutputFault) = ⊥
+MayTear (Err ends.NoMemory) = ⊤
+
+-- a line is refused exactly where the outcome says so
+abbrev pub SaysRefused : Result (Unit {0}) End → Outcome → Type 0
+SaysRefused (Ok done) outcome = outcome.refused ≡ None
+SaysRefused (Err ends.Refused) outcome = IsSome outcome.refused
+SaysRefused (Err ends.ReadFault) outcome = ⊤
+SaysRefused (Err ends.WriteFault) outcome = ⊤
+SaysRefused (Err ends.OutputFault) outcome = ⊤
+SaysRefused (Err ends.NoMemory) outcome = ⊤
+
+-- what a part of a run leaves that is to have this outcome
+pub record Leaves (outcome : Outcome) (result : Result (Unit {0}) End) (old new : World) : Type 0 where
+  pub refused : SaysRefused result outcome
+  pub whole : IsWhole result → new ≡ after_all outcome.events old
+  pub some : LeavesSome (MayTear result) outcome.events old new
+
+-- counts of faults: of reads and writes of a shelf, and of a sink
+pub record Faults : Type 0 where
+  pub reads : ℕ
+  pub writes : ℕ
+  pub puts : ℕ
+
+-- each fault that ends a run comes only where its count rose, and no count falls
+pub record HasCause (result : Result (Unit {0}) End) (old new : Faults) : Type 0 where
+  pub read : result ≡ Err ends.ReadFault → Rose old.reads new.reads
+  pub write : result ≡ Err ends.WriteFault → Rose old.writes new.writes
+  pub put : result ≡ Err ends.OutputFault → Rose old.puts new.puts
+  pub reads : old.reads ≤ new.reads
+  pub writes : old.writes ≤ new.writes
+  pub puts : old.puts ≤ new.puts

@@ -1,0 +1,139 @@
+-- What a run is to do: files to be written and texts to be put, one after another, up to a line that is refused.
+use Rattle.std.specs.Prelude.{◌≡◌, ℕ, ◌+◌, ◌*◌, ◌^◌, ◌==◌, nat_lt, if◌then◌else◌, List, [], ◌∷◌, ◌++◌, length, Option, Some, None, Result, Ok, Err}
+use Rattle.std.specs.Str.{bytes_eq}
+use Rattle.plane_rect.specs.Rectangle.{Rectangle, area}
+use Rattle.sample_rows.specs.declared.format.Format.TheVariants.{Y8}
+use Rattle.outside_io.specs.Files.{Files, file, filed}
+use Rattle.images.specs.Image.{Image}
+use Rattle.images.specs.Paint.{blank, put_raw}
+use Rattle.images.specs.Raw.{raw}
+use Rattle.graphs.specs.Node as graph
+use Rattle.graphs.specs.Operation.{Operation, result_of}
+use Rattle.graphs.specs.Operation as operations
+use Rattle.graphs.specs.Evaluation.{Buffers, buffer_image, evaluated}
+use Rattle.script_run.specs.declared.command.Command.{Command}
+use Rattle.script_run.specs.declared.command.Command.TheVariants.{Buffer, Load, Source, Invert, Commit, Render}
+use Rattle.script_run.specs.Words.{script_of, script_limit}
+use Rattle.script_run.specs.Texts.{refusal_text, render_text}
+use Rattle.script_run.specs.declared.texts.Cause.{Cause}
+use Rattle.script_run.specs.declared.texts.Cause.TheVariants as causes
+use Rattle.script_run.specs.Form.{commands_of}
+
+-- a file that is made to hold these bytes, or a text that is put out
+pub data Event : Type 0 where
+  Writes : List ℕ → List ℕ → Event
+  Puts : List ℕ → Event
+
+pub record Refusal : Type 0 where
+  pub line : ℕ
+  pub cause : Cause
+
+-- the events in their order, the text of a refusal among them, and the line that is refused
+pub record Outcome : Type 0 where
+  pub events : List Event
+  pub refused : Option Refusal
+
+-- nothing is to be done
+abbrev pub nothing : Outcome
+nothing = record { events = []; refused = None }
+
+-- a line is refused, and told so
+abbrev pub refusal : ℕ → Cause → Outcome
+refusal line cause =
+    record { events = Puts (refusal_text line cause) ∷ []; refused = Some (record { line = line; cause = cause }) }
+
+-- these events, and then what is to be done behind them
+abbrev pub then_do : List Event → Outcome → Outcome
+then_do events rest = record { events = events ++ rest.events; refused = rest.refused }
+
+-- the files, after an event
+abbrev pub files_after : Event → Files → Files
+files_after (Writes name bytes) files = filed files name bytes
+files_after (Puts text) files = files
+
+-- What a script has made so far: its buffers, the nodes that are noted for the next commit, and of the last
+-- commit its number, 0 before the first, and its buffers and nodes.
+pub record State : Type 0 where
+  pub buffers : Buffers
+  pub noted : List (graph.Node Operation)
+  pub number : ℕ
+  pub committed_buffers : Buffers
+  pub committed_nodes : List (graph.Node Operation)
+
+-- before the first line
+abbrev pub empty_state : State
+empty_state = record { buffers = []; noted = []; number = 0; committed_buffers = []; committed_nodes = [] }
+
+-- the buffers, with another image under a name
+abbrev pub with_image : Buffers → List ℕ → Image → Buffers
+with_image buffers name image = (name, image) ∷ buffers
+
+abbrev pub note : State → graph.Node Operation → State
+note state node = record state { noted = state.noted ++ node ∷ [] }
+
+-- the working buffers and the noted nodes become the next committed state
+abbrev pub commit : State → State
+commit state =
+    record state { number = state.number + 1; committed_buffers = state.buffers; committed_nodes = state.committed_nodes ++ state.noted; noted = [] }
+
+-- the image of a node of the last committed state
+abbrev pub node_image : State → List ℕ → Image
+node_image state name = evaluated result_of state.committed_buffers state.committed_nodes name
+
+-- What a line does: it leaves a state, or writes a file with its text, or is refused.
+pub data Turn : Type 0 where
+  Leaves : State → Turn
+  Renders : List ℕ → List ℕ → Turn
+  IsRefused : Cause → Turn
+
+-- a file is loaded into a rectangle of a buffer, of which it has to have the size
+abbrev pub load : State → List ℕ → Rectangle → Option (List ℕ) → Turn
+load state name rect None = IsRefused causes.Absent
+load state name rect (Some bytes) =
+    if length bytes == area rect
+    then Leaves (record state { buffers = with_image state.buffers name (put_raw (buffer_image state.buffers name) rect bytes) })
+    else IsRefused causes.WrongSize
+
+abbrev pub turn : State → Files → Command → Turn
+turn state files (Buffer name rect) = Leaves (record state { buffers = with_image state.buffers name (blank rect Y8) })
+turn state files (Load name rect source) = load state name rect (file files source)
+turn state files (Source name buffer) = Leaves (note state (record { name = name; body = graph.Source buffer }))
+turn state files (Invert name input) =
+    Leaves (note state (record { name = name; body = graph.Compute operations.Invert (input ∷ []) }))
+turn state files Commit = Leaves (commit state)
+turn state files (Render name rect target) = Renders target (raw (node_image state name) rect)
+
+-- a file is written, and then its text is put
+abbrev pub rendered : ℕ → ℕ → List ℕ → List ℕ → List Event
+rendered line commit target bytes = Writes target bytes ∷ Puts (render_text line commit (length bytes)) ∷ []
+
+-- what becomes of a line's turn, where `rest` tells what the lines behind it are to do
+abbrev pub after_turn : ℕ → State → Files → Turn → (State → Files → Outcome) → Outcome
+after_turn line state files (Leaves next) rest = rest next files
+after_turn line state files (Renders target bytes) rest =
+    then_do (rendered line state.number target bytes) (rest state (filed files target bytes))
+after_turn line state files (IsRefused cause) rest = refusal line cause
+
+-- the lines from one number on, in their order
+abbrev pub lines_outcome : ℕ → State → Files → List Command → Outcome
+lines_outcome line state files [] = nothing
+lines_outcome line state files (command ∷ commands) =
+    after_turn line state files (turn state files command) (λ next later. lines_outcome (line + 1) next later commands)
+
+-- The first line that isn't of the form is refused before any line is carried out.
+abbrev pub commands_outcome : Files → Result (List Command) ℕ → Outcome
+commands_outcome files (Ok commands) = lines_outcome 1 empty_state files commands
+commands_outcome files (Err line) = refusal line causes.UnknownCommand
+
+abbrev pub text_outcome : Files → Option (List ℕ) → Outcome
+text_outcome files None = refusal 0 causes.Absent
+text_outcome files (Some text) =
+    if nat_lt script_limit (length text) then refusal 0 causes.TooLong else commands_outcome files (commands_of text)
+
+abbrev pub script_outcome : Files → Option (List ℕ) → Outcome
+script_outcome files None = nothing
+script_outcome files (Some name) = text_outcome files (file files name)
+
+-- what the words are to do over these files
+abbrev pub outcome : List (List ℕ) → Files → Outcome
+outcome words files = script_outcome files (script_of words)

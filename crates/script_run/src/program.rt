@@ -1,0 +1,89 @@
+//! The call that the program makes.
+
+ghost use Rattle.std.specs.Prelude.{◌≡◌, ◌≢◌, ◌↔◌, ◌⊎◌, ◌≤◌, map, string_bytes, None, IsSome, IfSome, IsTrue, Option, length};
+ghost use Rattle.std.specs.Option.{option_map};
+ghost use Rattle.outside_io.specs.FileName.{is_file_name};
+ghost use Rattle.outside_io.specs.Files.{file};
+ghost use Rattle.outside_io.specs.Faults.{Rose};
+ghost use Rattle.script_run.specs.Words.{script_limit, script_of as script_of_words};
+ghost use Rattle.script_run.specs.Form.{commands_of};
+ghost use Rattle.script_run.specs.Outcome.{outcome, text_outcome, commands_outcome};
+ghost use Rattle.script_run.specs.Ending.{Leaves, HasCause, LeavesSome, after_all};
+
+use std::alloc::Global;
+
+use outside_io::{Gate, Shelf, ShelfAnswer, Sink, SwapDisk};
+
+use crate::carry_out::{carry_out, refuse};
+use crate::form::{FormRefused, commands_of};
+use crate::status::{End, status_of};
+use crate::texts::Cause;
+use crate::words::script_of;
+
+/// The most bytes that a script may have.
+const SCRIPT_LIMIT: u64 = 1 << 20;
+
+/// The status of words that are no command line.
+const WRONG_WORDS: u8 = 1;
+
+/// Runs the program's words, without the program's own name.
+pub fn run<F: Shelf, D: SwapDisk, O: Sink, G: Gate + Sync>(
+    alloc: Global,
+    words: &[String],
+    shelf: &mut F,
+    swap: &mut D,
+    out: &mut O,
+    gate: &G,
+) -> u8
+    // 1 comes exactly where the words are not in their grammar.
+    ensures words { (result ≡ 1) ↔ (script_of_words (map string_bytes words.now) ≡ None) }
+{
+    match script_of(words) {
+        Some(script) => status_of(run_script(alloc, script, shelf, out)),
+        None => WRONG_WORDS,
+    }
+}
+
+/// Reads a script and carries it out.
+fn run_script<F: Shelf, O: Sink>(
+    alloc: Global,
+    script: &str,
+    shelf: &mut F,
+    out: &mut O,
+) -> Result<(), End>
+    requires { IsTrue (is_file_name script.now) }
+    ensures leaves { IfSome (F.files shelf.old) (λ files. Leaves (text_outcome files (file files script.now)) result
+        (record { files = F.files shelf.old; text = O.written out.old }) (record { files = F.files shelf.new; text = O.written out.new })) }
+    ensures cause { HasCause result
+        (record { reads = F.read_faults shelf.old; writes = F.write_faults shelf.old; puts = O.faults out.old })
+        (record { reads = F.read_faults shelf.new; writes = F.write_faults shelf.new; puts = O.faults out.new }) }
+{
+    match shelf.read(script, SCRIPT_LIMIT) {
+        Ok(text) => run_text(alloc, &text, shelf, out),
+        Err(ShelfAnswer::TooLong { .. }) => refuse(alloc, 0, Cause::TooLong, out),
+        Err(ShelfAnswer::Absent) => refuse(alloc, 0, Cause::Absent, out),
+        Err(ShelfAnswer::Failed) => Err(End::ReadFault),
+        Err(ShelfAnswer::NoMemory) => Err(End::NoMemory),
+    }
+}
+
+/// Carries out the text of a script.
+fn run_text<F: Shelf, O: Sink>(
+    alloc: Global,
+    text: &[u8],
+    shelf: &mut F,
+    out: &mut O,
+) -> Result<(), End>
+    requires { length text.now ≤ script_limit }
+    ensures leaves { IfSome (F.files shelf.old) (λ files. Leaves (commands_outcome files (commands_of text.now)) result
+        (record { files = F.files shelf.old; text = O.written out.old }) (record { files = F.files shelf.new; text = O.written out.new })) }
+    ensures cause { HasCause result
+        (record { reads = F.read_faults shelf.old; writes = F.write_faults shelf.old; puts = O.faults out.old })
+        (record { reads = F.read_faults shelf.new; writes = F.write_faults shelf.new; puts = O.faults out.new }) }
+{
+    match commands_of(alloc, text) {
+        Ok(commands) => carry_out(alloc, &commands, shelf, out),
+        Err(FormRefused::Line(line)) => refuse(alloc, line, Cause::UnknownCommand, out),
+        Err(FormRefused::NoMemory) => Err(End::NoMemory),
+    }
+}

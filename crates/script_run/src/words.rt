@@ -1,0 +1,23 @@
+//! The words of the command line.
+
+ghost use Rattle.std.specs.Prelude.{◌≡◌, map, string_bytes, IfSome, IsTrue};
+ghost use Rattle.std.specs.Option.{option_map};
+ghost use Rattle.outside_io.specs.FileName.{is_file_name};
+ghost use Rattle.script_run.specs.Words.{script_of};
+
+use crate::file_name::is_file_name;
+
+/// The script that the words name, `run SCRIPT`, and None where they are no such words.
+pub fn script_of(words: &[String]) -> Option<&str>
+    ensures script { option_map (λ name. name.now) result ≡ script_of (map string_bytes words.now) }
+    ensures name { IfSome result (λ name. IsTrue (is_file_name name.now)) }
+{
+    let [command, script] = words else {
+        return None;
+    };
+    if command.as_str() == "run" && is_file_name(script.as_bytes()) {
+        Some(script.as_str())
+    } else {
+        None
+    }
+}
