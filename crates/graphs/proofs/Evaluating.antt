@@ -2,21 +2,20 @@
 use Rattle.std.proofs.Common.{◌≡◌, ◌≢◌, ℕ, Bool, true, false, List, [], ◌∷◌, refl, sym, ap, ◌∙◌}
 use Rattle.std.specs.Str.{bytes_eq}
 use Rattle.std.proofs.lemmas.Slice.Eq.{bytes_eq-Decides}
-use Rattle.images.specs.Image.{Image}
 use Rattle.images.specs.Paint.{inverted_image}
 use Rattle.graphs.specs.Node.{Node, Source, Compute}
 use Rattle.graphs.specs.Operation.{Operation, Invert, result_of}
-use Rattle.graphs.specs.Evaluation.{evaluated}
+use Rattle.graphs.specs.Evaluation.{Buffers, buffer_image, evaluated}
 
 pub same_bytes : (name : List ℕ) → bytes_eq name name ≡ true
 same_bytes name = (bytes_eq-Decides name name).1 refl
 
-apart_bytes : (a b : List ℕ) → (r : Bool) → bytes_eq a b ≡ r → a ≢ b → r ≡ false
+pub apart_bytes : (a b : List ℕ) → (r : Bool) → bytes_eq a b ≡ r → a ≢ b → r ≡ false
 apart_bytes a b true same apart = absurd (apart ((bytes_eq-Decides a b).0 same))
 apart_bytes a b false same apart = refl
 
-pub inverse_of_buffer : (buffer source node : List ℕ) (image : Image) → source ≢ node →
-    evaluated result_of ((buffer, image) ∷ []) (record { name = source; body = Source buffer } ∷ record { name = node; body = Compute Invert (source ∷ []) } ∷ []) node ≡ inverted_image image
-inverse_of_buffer buffer source node image differ =
+pub inverse_of_buffer : (buffers : Buffers) (buffer source node : List ℕ) → source ≢ node →
+    evaluated result_of buffers (record { name = source; body = Source buffer } ∷ record { name = node; body = Compute Invert (source ∷ []) } ∷ []) node ≡ inverted_image (buffer_image buffers buffer)
+inverse_of_buffer buffers buffer source node differ =
     let apart : bytes_eq source node ≡ false = apart_bytes source node _ refl differ in
-    simp (apart, same_bytes buffer, same_bytes source, same_bytes node)
+    simp (apart, same_bytes source, same_bytes node)

@@ -2,17 +2,16 @@
 #![tactic(auto)]
 
 ghost use Rattle.std.specs.Prelude.{◌≡◌, ◌≢◌, ℕ, List, [], ◌∷◌};
-ghost use Rattle.images.specs.Image.{Image};
 ghost use Rattle.images.specs.Paint.{inverted_image};
-ghost use Rattle.graphs.specs.Evaluation.{evaluated};
+ghost use Rattle.graphs.specs.Evaluation.{Buffers, buffer_image, evaluated};
 ghost use Rattle.graphs.specs.Node.{Node, Source, Compute};
 ghost use Rattle.graphs.specs.Operation.{Invert, result_of};
 
 /// The node that inverts a source stands for the inverse of the source's buffer.
 pub fn inverse_of_buffer()
-    ensures { (buffer source node : List ℕ) (image : Image) → source ≢ node →
-        evaluated result_of ((buffer, image) ∷ [])
+    ensures { (buffers : Buffers) (buffer source node : List ℕ) → source ≢ node →
+        evaluated result_of buffers
             (record { name = source; body = Source buffer } ∷ record { name = node; body = Compute Invert (source ∷ []) } ∷ [])
-            node ≡ inverted_image image }
+            node ≡ inverted_image (buffer_image buffers buffer) }
 {
 }

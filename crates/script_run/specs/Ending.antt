@@ -1,9 +1,9 @@
 -- What stands when a run has ended, or a part of one: the files, the text, and the counts of faults.
-use Rattle.std.specs.Prelude.{◌≡◌, ℕ, ◌≤◌, ◌⊎◌, List, [], ◌∷◌, ◌++◌, take, Option, Some, None, IsSome, Result, Ok, Err, ⊤}
+use Rattle.std.specs.Prelude.{◌≡◌, ℕ, ◌≤◌, ◌⊎◌, List, [], ◌∷◌, ◌++◌, take, Option, Some, None, Result, Ok, Err, ⊤}
 use Rattle.std.specs.Option.{option_map}
 use Rattle.outside_io.specs.Files.{Files, filed}
 use Rattle.outside_io.specs.Faults.{Rose}
-use Rattle.script_run.specs.Outcome.{Event, Writes, Puts, Outcome, files_after}
+use Rattle.script_run.specs.Outcome.{Event, Writes, Puts, Outcome, Refusal}
 use Rattle.script_run.specs.declared.status.End.{End}
 use Rattle.script_run.specs.declared.status.End.TheVariants as ends
 
@@ -50,18 +50,23 @@ MayTear (Err ends.WriteFault) = ⊤
 MayTear (Err ends.OutputFault) = ⊥
 MayTear (Err ends.NoMemory) = ⊤
 
--- a line is refused exactly where the outcome says so
-abbrev pub SaysRefused : Result (Unit {0}) End → Outcome → Type 0
-SaysRefused (Ok done) outcome = outcome.refused ≡ None
-SaysRefused (Err ends.Refused) outcome = IsSome outcome.refused
-SaysRefused (Err ends.ReadFault) outcome = ⊤
-SaysRefused (Err ends.WriteFault) outcome = ⊤
-SaysRefused (Err ends.OutputFault) outcome = ⊤
-SaysRefused (Err ends.NoMemory) outcome = ⊤
+-- there is a line that is refused
+abbrev pub IsRefusal : Option Refusal → Type 0
+IsRefusal None = ⊥
+IsRefusal (Some refusal) = ⊤
+
+-- A part of a run says that a line is refused exactly where one is.
+abbrev pub SaysRefused : Result (Unit {0}) End → Option Refusal → Type 0
+SaysRefused (Ok done) refused = refused ≡ None
+SaysRefused (Err ends.Refused) refused = IsRefusal refused
+SaysRefused (Err ends.ReadFault) refused = ⊤
+SaysRefused (Err ends.WriteFault) refused = ⊤
+SaysRefused (Err ends.OutputFault) refused = ⊤
+SaysRefused (Err ends.NoMemory) refused = ⊤
 
 -- what a part of a run leaves that is to have this outcome
 pub record Leaves (outcome : Outcome) (result : Result (Unit {0}) End) (old new : World) : Type 0 where
-  pub refused : SaysRefused result outcome
+  pub refused : SaysRefused result outcome.refused
   pub whole : IsWhole result → new ≡ after_all outcome.events old
   pub some : LeavesSome (MayTear result) outcome.events old new
 
@@ -70,6 +75,12 @@ pub record Faults : Type 0 where
   pub reads : ℕ
   pub writes : ℕ
   pub puts : ℕ
+
+-- no count falls
+pub record NoneFalls (old new : Faults) : Type 0 where
+  pub reads : old.reads ≤ new.reads
+  pub writes : old.writes ≤ new.writes
+  pub puts : old.puts ≤ new.puts
 
 -- each fault that ends a run comes only where its count rose, and no count falls
 pub record HasCause (result : Result (Unit {0}) End) (old new : Faults) : Type 0 where

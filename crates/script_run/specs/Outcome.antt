@@ -33,9 +33,13 @@ pub record Outcome : Type 0 where
   pub events : List Event
   pub refused : Option Refusal
 
+-- events, and no line that is refused
+abbrev pub events_alone : List Event → Outcome
+events_alone events = record { events = events; refused = None }
+
 -- nothing is to be done
 abbrev pub nothing : Outcome
-nothing = record { events = []; refused = None }
+nothing = events_alone []
 
 -- a line is refused, and told so
 abbrev pub refusal : ℕ → Cause → Outcome

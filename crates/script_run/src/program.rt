@@ -1,6 +1,6 @@
 //! The call that the program makes.
 
-ghost use Rattle.std.specs.Prelude.{◌≡◌, ◌≢◌, ◌↔◌, ◌⊎◌, ◌≤◌, map, string_bytes, None, IsSome, IfSome, IsTrue, Option, length};
+ghost use Rattle.std.specs.Prelude.{◌≡◌, ◌≢◌, ◌↔◌, ◌⊎◌, ◌≤◌, map, string_bytes, Some, None, IfSome, IsTrue, length};
 ghost use Rattle.std.specs.Option.{option_map};
 ghost use Rattle.outside_io.specs.FileName.{is_file_name};
 ghost use Rattle.outside_io.specs.Files.{file};
@@ -8,7 +8,8 @@ ghost use Rattle.outside_io.specs.Faults.{Rose};
 ghost use Rattle.script_run.specs.Words.{script_limit, script_of as script_of_words};
 ghost use Rattle.script_run.specs.Form.{commands_of};
 ghost use Rattle.script_run.specs.Outcome.{outcome, text_outcome, commands_outcome};
-ghost use Rattle.script_run.specs.Ending.{Leaves, HasCause, LeavesSome, after_all};
+ghost use Rattle.script_run.specs.Ending.{HasCause, IsRefusal, Leaves, LeavesSome, NoneFalls, after_all};
+ghost use Rattle.script_run.specs.Status.{IsStatus, end_status};
 
 use std::alloc::Global;
 
@@ -35,8 +36,43 @@ pub fn run<F: Shelf, D: SwapDisk, O: Sink, G: Gate + Sync>(
     out: &mut O,
     gate: &G,
 ) -> u8
-    // 1 comes exactly where the words are not in their grammar.
+    // 1 comes exactly where the words are not in their grammar, and then nothing is touched.
     ensures words { (result ≡ 1) ↔ (script_of_words (map string_bytes words.now) ≡ None) }
+    ensures shelf_stands { result ≡ 1 → shelf.new ≡ shelf.old }
+    ensures sink_stands { result ≡ 1 → out.new ≡ out.old }
+
+    // At 0 no line was refused, and at 2 one was. At both the files and the text are those of every event.
+    ensures done { result ≡ 0 → IfSome (F.files shelf.old)
+        (λ files. (outcome (map string_bytes words.now) files).refused ≡ None) }
+    ensures refused { result ≡ 2 → IfSome (F.files shelf.old)
+        (λ files. IsRefusal (outcome (map string_bytes words.now) files).refused) }
+    ensures whole { (result ≡ 0) ⊎ (result ≡ 2) → IfSome (F.files shelf.old)
+        (λ files. record { files = F.files shelf.new; text = O.written out.new }
+            ≡ after_all (outcome (map string_bytes words.now) files).events (record { files = Some files; text = O.written out.old })) }
+
+    // At every status the first of the events have come, and perhaps a front of the next: of a file only at 4 and 7.
+    ensures front { IfSome (F.files shelf.old)
+        (λ files. LeavesSome ((result ≡ 4) ⊎ (result ≡ 7)) (outcome (map string_bytes words.now) files).events
+            (record { files = Some files; text = O.written out.old }) (record { files = F.files shelf.new; text = O.written out.new })) }
+
+    // A fault comes only where its count rose. Swap faults and a full swap don't come.
+    ensures read_fault { result ≡ 3 → Rose (F.read_faults shelf.old) (F.read_faults shelf.new) }
+    ensures write_fault { result ≡ 4 → Rose (F.write_faults shelf.old) (F.write_faults shelf.new) }
+    ensures output_fault { result ≡ 6 → Rose (O.faults out.old) (O.faults out.new) }
+    ensures known { IsStatus result }
+
+    // Where no count rose, the run comes to its end or to the refused line, unless memory runs out.
+    ensures complete { (Rose (F.read_faults shelf.old) (F.read_faults shelf.new) → ⊥)
+        → (Rose (F.write_faults shelf.old) (F.write_faults shelf.new) → ⊥)
+        → (Rose (O.faults out.old) (O.faults out.new) → ⊥)
+        → script_of_words (map string_bytes words.now) ≢ None
+        → IfSome (F.files shelf.old) (λ files. (result ≡ 7) ⊎ (result ≡ end_status (outcome (map string_bytes words.now) files).refused)) }
+
+    // No count falls, and the swap stands.
+    ensures counts { NoneFalls
+        (record { reads = F.read_faults shelf.old; writes = F.write_faults shelf.old; puts = O.faults out.old })
+        (record { reads = F.read_faults shelf.new; writes = F.write_faults shelf.new; puts = O.faults out.new }) }
+    ensures swap { swap.new ≡ swap.old }
 {
     match script_of(words) {
         Some(script) => status_of(run_script(alloc, script, shelf, out)),

@@ -75,6 +75,7 @@ impl Raster {
     pub fn raw(&self, alloc: Global, rect: &Rect) -> Result<Vec<u8>, AllocError>
         ensures { IfOk result (λ bytes. bytes.items ≡ raw self.now rect.now) }
     {
+        let _ = &self.rect;
         let mut bytes = Vec::with_capacity(alloc, rect.area() as usize)?;
         for row in rect.top()..rect.bottom() {
             self.push_row(rect, row, &mut bytes)?;

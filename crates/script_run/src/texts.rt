@@ -1,9 +1,10 @@
 //! The texts of a run.
 
 ghost use Rattle.std.specs.Prelude.{◌≡◌, string_bytes, IfOk};
-ghost use Rattle.script_run.specs.Texts.{cause_word, refusal_text, render_text};
+ghost use Rattle.script_run.specs.Texts.{refusal_text, render_text};
 
 use std::alloc::{AllocError, Global};
+use std::fmt;
 
 /// Why a line is refused.
 #[derive(Clone, Copy, Debug, PartialEq, Eq)]
@@ -18,17 +19,19 @@ pub enum Cause {
     WrongSize,
 }
 
-impl Cause {
-    /// Its name in a text.
-    pub fn word(self) -> &'static str
-        ensures { result.now ≡ cause_word self }
-    {
-        match self {
+impl fmt::Display for Cause {
+    ghost use Rattle.std.specs.Prelude.{Some};
+    ghost use Rattle.script_run.specs.Texts.{cause_word};
+
+    ghost output = { λ cause. Some (cause_word cause) };
+
+    fn fmt<W: fmt::Write>(&self, f: &mut fmt::Formatter<W>) -> fmt::Result {
+        f.write_str(match self {
             Cause::Absent => "Absent",
             Cause::TooLong => "TooLong",
             Cause::UnknownCommand => "UnknownCommand",
             Cause::WrongSize => "WrongSize",
-        }
+        })
     }
 }
 
@@ -36,8 +39,7 @@ impl Cause {
 pub fn refusal_text(alloc: Global, line: u32, cause: Cause) -> Result<String, AllocError>
     ensures { IfOk result (λ text. string_bytes text ≡ refusal_text line cause) }
 {
-    let word = cause.word();
-    format!(in alloc; "line {line}: {word}\n")
+    format!(in alloc; "line {line}: {cause}\n")
 }
 
 /// The text of a render line whose file of so many bytes is written, `commit` being the number of the last commit.

@@ -1,0 +1,183 @@
+-- What parts of a run leave, one part after another.
+use Rattle.std.proofs.Common.{◌≡◌, ℕ, ◌≤◌, List, [], ◌∷◌, ◌++◌, take, Option, Some, None, Result, Ok, Err, IfSome, refl, sym, ap, ◌∙◌, subst, inl, inr, ⊎_elim, ◌⊎◌, arith}
+use Rattle.std.specs.Result.{IsErrAnd}
+use Rattle.outside_io.specs.Faults.{Rose}
+use Rattle.outside_io.specs.Files.{Files}
+use Rattle.images.specs.Image.{Image}
+use Rattle.script_run.specs.Rendering.{renders_outcome}
+use Rattle.script_run.specs.declared.command.Command.{Command}
+use Rattle.script_run.specs.declared.status.End.{End}
+use Rattle.script_run.specs.declared.status.End.TheVariants as ends
+use Rattle.script_run.specs.Outcome.{Event, Writes, Puts, Outcome, Refusal, events_alone, then_do}
+use Rattle.script_run.specs.Ending.{World, after, after_all, IsFront, LeavesSome, IsWhole, MayTear, SaysRefused, Leaves, Faults, HasCause, NoneFalls}
+
+-- nothing has come
+pub none_yet : (torn : Type 0) (events : List Event) (world : World) → LeavesSome torn events world world
+none_yet torn [] world = refl
+none_yet torn (event ∷ events) world = inl refl
+
+-- every event has come
+pub all_came : (torn : Type 0) (events : List Event) (world : World) → LeavesSome torn events world (after_all events world)
+all_came torn [] world = refl
+all_came torn (event ∷ events) world = inr (inr (all_came torn events (after event world)))
+
+after_all-append : (first rest : List Event) (world : World) → after_all (first ++ rest) world ≡ after_all rest (after_all first world)
+after_all-append [] rest world = refl
+after_all-append (event ∷ first) rest world = after_all-append first rest (after event world)
+
+-- behind the first events, some of the rest
+some_behind : (torn : Type 0) (first rest : List Event) (old new : World) → LeavesSome torn rest (after_all first old) new → LeavesSome torn (first ++ rest) old new
+some_behind torn [] rest old new some = some
+some_behind torn (event ∷ first) rest old new some = inr (inr (some_behind torn first rest (after event old) new some))
+
+-- some of the first events are some of all
+some_of_first : (torn : Type 0) (first rest : List Event) (old new : World) → LeavesSome torn first old new → LeavesSome torn (first ++ rest) old new
+some_of_first torn [] rest old new same = subst (λ (w : World). LeavesSome torn rest old w) (sym same) (none_yet torn rest old)
+some_of_first torn (event ∷ first) rest old new (inl same) = inl same
+some_of_first torn (event ∷ first) rest old new (inr (inl front)) = inr (inl front)
+some_of_first torn (event ∷ first) rest old new (inr (inr some)) = inr (inr (some_of_first torn first rest (after event old) new some))
+
+-- a part whose events have all come, and then the rest
+pub Leaves-then : (events : List Event) (rest : Outcome) (result : Result (Unit {0}) End) (old mid new : World) →
+    mid ≡ after_all events old → Leaves rest result mid new → Leaves (then_do events rest) result old new
+Leaves-then events rest result old mid new came leaves =
+    let begin : Leaves rest result (after_all events old) new = subst (λ (w : World). Leaves rest result w new) came leaves in
+    record {
+      refused = leaves.refused;
+      whole = λ whole. begin.whole whole ∙ sym (after_all-append events rest.events old);
+      some = some_behind (MayTear result) events rest.events old new begin.some;
+    }
+
+-- nothing is done for want of memory
+pub nothing_done : (outcome : Outcome) (world : World) → Leaves outcome (Err ends.NoMemory) world world
+nothing_done outcome world = record { refused = tt; whole = λ whole. absurd whole; some = none_yet _ outcome.events world }
+
+-- nothing is done after a fault of a read
+pub nothing_read : (outcome : Outcome) (world : World) → Leaves outcome (Err ends.ReadFault) world world
+nothing_read outcome world = record { refused = tt; whole = λ whole. absurd whole; some = none_yet _ outcome.events world }
+
+-- nothing is left to be done
+pub nothing_left : (world : World) → Leaves (events_alone []) (Ok tt) world world
+nothing_left world = record { refused = refl; whole = λ whole. refl; some = refl }
+
+-- a part that ends early, and so ends what it is a part of
+pub Leaves-first : (events : List Event) (outcome : Outcome) (end : End) (old new : World) →
+    Leaves (events_alone events) (Err end) old new → Leaves (then_do events outcome) (Err end) old new
+Leaves-first events outcome ends.Refused old new leaves = absurd leaves.refused
+Leaves-first events outcome ends.ReadFault old new leaves =
+    record { refused = tt; whole = λ whole. absurd whole; some = some_of_first _ events outcome.events old new leaves.some }
+Leaves-first events outcome ends.WriteFault old new leaves =
+    record { refused = tt; whole = λ whole. absurd whole; some = some_of_first _ events outcome.events old new leaves.some }
+Leaves-first events outcome ends.OutputFault old new leaves =
+    record { refused = tt; whole = λ whole. absurd whole; some = some_of_first _ events outcome.events old new leaves.some }
+Leaves-first events outcome ends.NoMemory old new leaves =
+    record { refused = tt; whole = λ whole. absurd whole; some = some_of_first _ events outcome.events old new leaves.some }
+
+-- the text of a refusal did not go out whole
+pub Leaves-told : (events : List Event) (refused : Option Refusal) (end : End) (old new : World) →
+    Leaves (events_alone events) (Err end) old new → Leaves (record { events = events; refused = refused }) (Err end) old new
+Leaves-told events refused ends.Refused old new leaves = absurd leaves.refused
+Leaves-told events refused ends.ReadFault old new leaves = record { refused = tt; whole = λ whole. absurd whole; some = leaves.some }
+Leaves-told events refused ends.WriteFault old new leaves = record { refused = tt; whole = λ whole. absurd whole; some = leaves.some }
+Leaves-told events refused ends.OutputFault old new leaves = record { refused = tt; whole = λ whole. absurd whole; some = leaves.some }
+Leaves-told events refused ends.NoMemory old new leaves = record { refused = tt; whole = λ whole. absurd whole; some = leaves.some }
+
+-- the text of a refusal went out
+pub Leaves-refused : (events : List Event) (refusal : Refusal) (old new : World) → new ≡ after_all events old →
+    Leaves (record { events = events; refused = Some refusal }) (Err ends.Refused) old new
+Leaves-refused events refusal old new came =
+    record { refused = tt; whole = λ whole. came; some = subst (λ (w : World). LeavesSome ⊥ events old w) (sym came) (all_came ⊥ events old) }
+
+pub none_falls : {result : Result (Unit {0}) End} {old new : Faults} → HasCause result old new → NoneFalls old new
+none_falls cause = record { reads = cause.reads; writes = cause.writes; puts = cause.puts }
+
+-- a fault behind a part
+pub HasCause-then : (result : Result (Unit {0}) End) (old mid new : Faults) → NoneFalls old mid → HasCause result mid new → HasCause result old new
+HasCause-then result old mid new first cause = record {
+  read = λ e. omega (arith, cause.read e);
+  write = λ e. omega (arith, cause.write e);
+  put = λ e. omega (arith, cause.put e);
+  reads = omega arith;
+  writes = omega arith;
+  puts = omega arith;
+}
+
+-- want of memory has no cause
+pub memory_cause : (old new : Faults) → NoneFalls old new → HasCause (Err ends.NoMemory) old new
+memory_cause old new first = record {
+  read = λ e. absurd (cc);
+  write = λ e. absurd (cc);
+  put = λ e. absurd (cc);
+  reads = first.reads;
+  writes = first.writes;
+  puts = first.puts;
+}
+
+-- a refusal is no fault
+pub refused_cause : (old new : Faults) → NoneFalls old new → HasCause (Err ends.Refused) old new
+refused_cause old new first = record {
+  read = λ e. absurd (cc);
+  write = λ e. absurd (cc);
+  put = λ e. absurd (cc);
+  reads = first.reads;
+  writes = first.writes;
+  puts = first.puts;
+}
+
+-- the same text
+pub Leaves-same_text : (a b : List ℕ) (result : Result (Unit {0}) End) (old new : World) → a ≡ b →
+    Leaves (events_alone (Puts a ∷ [])) result old new → Leaves (events_alone (Puts b ∷ [])) result old new
+Leaves-same_text a b result old new same leaves = subst (λ (text : List ℕ). Leaves (events_alone (Puts text ∷ [])) result old new) same leaves
+
+-- one end for another that is the same
+pub Leaves-same_end : (outcome : Outcome) (end : End) (result : Result (Unit {0}) End) (old new : World) →
+    IsErrAnd result (λ other. other ≡ end) → Leaves outcome (Err end) old new → Leaves outcome result old new
+Leaves-same_end outcome end (Ok done) old new same leaves = absurd same
+Leaves-same_end outcome end (Err other) old new same leaves = subst (λ (e : End). Leaves outcome (Err e) old new) (sym same) leaves
+
+pub HasCause-same_end : (end : End) (result : Result (Unit {0}) End) (old new : Faults) →
+    IsErrAnd result (λ other. other ≡ end) → HasCause (Err end) old new → HasCause result old new
+HasCause-same_end end (Ok done) old new same cause = absurd same
+HasCause-same_end end (Err other) old new same cause = subst (λ (e : End). HasCause (Err e) old new) (sym same) cause
+
+-- the same bytes in a file
+pub Leaves-same_bytes : (name a b : List ℕ) (result : Result (Unit {0}) End) (old new : World) → a ≡ b →
+    Leaves (events_alone (Writes name a ∷ [])) result old new → Leaves (events_alone (Writes name b ∷ [])) result old new
+Leaves-same_bytes name a b result old new same leaves = subst (λ (bytes : List ℕ). Leaves (events_alone (Writes name bytes ∷ [])) result old new) same leaves
+
+pub falls_then : (old mid new : Faults) → NoneFalls old mid → NoneFalls mid new → NoneFalls old new
+falls_then old mid new first then = record { reads = omega arith; writes = omega arith; puts = omega arith }
+
+-- the same line
+pub Leaves-same_line : (a b : ℕ) (image : Image) (commands : List Command) (result : Result (Unit {0}) End) (old new : World) → a ≡ b →
+    Leaves (renders_outcome a image commands) result old new → Leaves (renders_outcome b image commands) result old new
+Leaves-same_line a b image commands result old new same leaves = subst (λ (line : ℕ). Leaves (renders_outcome line image commands) result old new) same leaves
+
+-- the same files before
+pub Leaves-same_files : (outcome : Outcome) (result : Result (Unit {0}) End) (old mid : Option Files) (text : Option (List ℕ)) (new : World) → mid ≡ old →
+    Leaves outcome result (record { files = mid; text = text }) new → Leaves outcome result (record { files = old; text = text }) new
+Leaves-same_files outcome result old mid text new same leaves = subst (λ (files : Option Files). Leaves outcome result (record { files = files; text = text }) new) same leaves
+
+in_some : {A : Type 0} (told : Option A) (P Q : A → Type 0) → ((x : A) → P x → Q x) → IfSome told P → IfSome told Q
+in_some None P Q weaker holds = tt
+in_some (Some x) P Q weaker holds = weaker x holds
+
+-- where the files are told, an outcome that is another by what is known of them
+pub told_outcome : (told : Option Files) (known : Files → Type 0) (outcome : Files → Outcome) (other : Outcome) (result : Result (Unit {0}) End) (old new : World) →
+    ((files : Files) → known files → outcome files ≡ other) → IfSome told known → Leaves other result old new → IfSome told (λ files. Leaves (outcome files) result old new)
+told_outcome told known outcome other result old new same holds leaves =
+    in_some told known _ (λ files k. subst (λ (o : Outcome). Leaves o result old new) (sym (same files k)) leaves) holds
+
+-- where the files are told, one outcome for another
+pub told_same : (told : Option Files) (outcome other : Files → Outcome) (result : Result (Unit {0}) End) (old new : World) →
+    ((files : Files) → outcome files ≡ other files) → IfSome told (λ files. Leaves (other files) result old new) → IfSome told (λ files. Leaves (outcome files) result old new)
+told_same told outcome other result old new same leaves =
+    in_some told _ _ (λ files l. subst (λ (o : Outcome). Leaves o result old new) (sym (same files)) l) leaves
+
+pub told_any : (told : Option Files) (outcome : Files → Outcome) (result : Result (Unit {0}) End) (old new : World) →
+    ((files : Files) → Leaves (outcome files) result old new) → IfSome told (λ files. Leaves (outcome files) result old new)
+told_any None outcome result old new leaves = tt
+told_any (Some files) outcome result old new leaves = leaves files
+
+pub Leaves-same_outcome : (outcome other : Outcome) (result : Result (Unit {0}) End) (old new : World) → outcome ≡ other → Leaves other result old new → Leaves outcome result old new
+Leaves-same_outcome outcome other result old new same leaves = subst (λ (o : Outcome). Leaves o result old new) (sym same) leaves

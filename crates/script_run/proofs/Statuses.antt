@@ -1,0 +1,36 @@
+-- What a status says.
+use Rattle.std.proofs.Common.{◌≡◌, ◌≢◌, ℕ, ◌≤◌, ◌⊎◌, List, [], ◌∷◌, Option, Some, None, Result, Ok, Err, IfSome, refl, sym, ap, ◌∙◌, subst, inl, inr, ⊎_elim, lit≤, arith}
+use Rattle.outside_io.specs.Files.{Files}
+use Rattle.script_run.specs.declared.status.End.{End}
+use Rattle.script_run.specs.declared.status.End.TheVariants as ends
+use Rattle.script_run.specs.Outcome.{Event, Writes, Puts, Outcome}
+use Rattle.script_run.specs.Ending.{World, after, after_all, IsFront, LeavesSome, MayTear, Leaves}
+use Rattle.script_run.specs.Status.{status_of}
+
+may_tear_at : (ended : Result (Unit {0}) End) → MayTear ended → (status_of ended ≡ 4) ⊎ (status_of ended ≡ 7)
+may_tear_at (Ok done) torn = absurd torn
+may_tear_at (Err ends.Refused) torn = absurd torn
+may_tear_at (Err ends.ReadFault) torn = absurd torn
+may_tear_at (Err ends.WriteFault) torn = inl refl
+may_tear_at (Err ends.OutputFault) torn = absurd torn
+may_tear_at (Err ends.NoMemory) torn = inr refl
+
+front_weaker : (a b : Type 0) → (a → b) → (event : Event) (old new : World) → IsFront a event old new → IsFront b event old new
+front_weaker a b weaker (Writes name bytes) old new front = (weaker front.0, front.1)
+front_weaker a b weaker (Puts text) old new front = front
+
+LeavesSome-weaker : (a b : Type 0) → (a → b) → (events : List Event) (old new : World) → LeavesSome a events old new → LeavesSome b events old new
+LeavesSome-weaker a b weaker [] old new some = some
+LeavesSome-weaker a b weaker (event ∷ events) old new (inl same) = inl same
+LeavesSome-weaker a b weaker (event ∷ events) old new (inr (inl front)) = inr (inl (front_weaker a b weaker event old new front))
+LeavesSome-weaker a b weaker (event ∷ events) old new (inr (inr some)) = inr (inr (LeavesSome-weaker a b weaker events (after event old) new some))
+
+-- what the front clause says, where the files are told
+pub told_front : (told : Option Files) (outcome other : Files → Outcome) (ended : Result (Unit {0}) End) (status : ℕ) (text : Option (List ℕ)) (new : World) →
+    status ≡ status_of ended → ((files : Files) → outcome files ≡ other files) →
+    IfSome told (λ files. Leaves (other files) ended (record { files = told; text = text }) new) →
+    IfSome told (λ files. LeavesSome ((status ≡ 4) ⊎ (status ≡ 7)) (outcome files).events (record { files = Some files; text = text }) new)
+told_front None outcome other ended status text new is same leaves = tt
+told_front (Some files) outcome other ended status text new is same leaves =
+    let old : World = record { files = Some files; text = text } in
+    rw (is, same files) (LeavesSome-weaker (MayTear ended) _ (may_tear_at ended) (other files).events old new leaves.some)
