@@ -1,12 +1,10 @@
 -- Calls of one kind, of which some fail by their numbers.
-use Rattle.std.specs.Prelude.{ℕ, ◌+◌, ◌-◌, ◌/◌, ◌^◌, ◌==◌, Bool, List, length, take, min, if◌then◌else◌}
+use Rattle.std.specs.Prelude.{ℕ, ◌+◌, ◌/◌, ◌==◌, Bool, List, length, take, refl, if◌then◌else◌}
 use Rattle.std.specs.List.{list_any}
+use Rattle.std.specs.Coded.{Coded, code_by, coded×, coded_list, coded_ℕ}
+use Rattle.outside_io.specs.Faults.{raised, faults_after}
 
--- a count after one more, which stands still at the end of its type
-abbrev pub raised : ℕ → ℕ
-raised count = min (count + 1) (2 ^ 64 - 1)
-
--- the numbers of the calls that fail, counted from 1, how many calls were made, and how many of them failed
+-- the numbers of the calls that fail, from 1 on, how many calls were made, and how many failed
 pub record Calls : Type 0 where
   pub failing : List ℕ
   pub made : ℕ
@@ -25,9 +23,16 @@ abbrev pub after_call : Calls → Calls
 after_call calls = record {
   failing = calls.failing;
   made = raised calls.made;
-  faults = if next_fails calls then raised calls.faults else calls.faults;
+  faults = faults_after (next_fails calls) calls.faults;
 }
 
--- what a call keeps of the bytes that it is handed: all, or their first half, rounded down, where it fails
+-- what a call keeps of its bytes: all, or the first half, rounded down, where it fails
 abbrev pub kept : Bool → List ℕ → List ℕ
 kept fails bytes = if fails then take (length bytes / 2) bytes else bytes
+
+-- calls are stored as their fields in pairs
+abbrev pub calls_code : Coded Calls
+calls_code =
+    code_by (List ℕ × (ℕ × ℕ)) (coded× (coded_list coded_ℕ) (coded× coded_ℕ coded_ℕ))
+    (λ calls. (calls.failing, (calls.made, calls.faults)))
+    (λ parts. record { failing = parts.0; made = parts.1.0; faults = parts.1.1 }) (λ _. refl)

@@ -1,6 +1,14 @@
 -- Counts of faults. One stands still at the end of its type.
-use Rattle.std.specs.Prelude.{ℕ, ◌+◌, ◌-◌, ◌^◌, ◌≤◌, min}
+use Rattle.std.specs.Prelude.{ℕ, ◌+◌, ◌-◌, ◌^◌, ◌≤◌, Bool, min, if◌then◌else◌}
 
 -- the count rose by one at least, or stands at the last value of its type
 abbrev pub Rose : ℕ → ℕ → Type 0
 Rose before now = min (before + 1) (2 ^ 64 - 1) ≤ now
+
+-- a count after one more
+abbrev pub raised : ℕ → ℕ
+raised count = min (count + 1) (2 ^ 64 - 1)
+
+-- a count of faults after a call that failed or didn't
+abbrev pub faults_after : Bool → ℕ → ℕ
+faults_after failed count = if failed then raised count else count

@@ -8,3 +8,7 @@ pub mod Calls
 pub mod MemSink
 pub mod FolderShelf
 pub mod StoredFiles
+pub mod MemShelf
+pub mod StoredBlocks
+pub mod MemSwap
+pub mod FileSwap

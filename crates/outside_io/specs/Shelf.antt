@@ -1,10 +1,18 @@
 -- What a shelf of files answers to a read and to a write, and what it holds then.
-use Rattle.std.specs.Prelude.{◌≡◌, ℕ, ◌+◌, ◌<◌, ◌≤◌, ◌⊎◌, List, length, take, Option, Some, None, IfSome, Result, Ok, Err, ⊤}
+use Rattle.std.specs.Prelude.{◌≡◌, ℕ, ◌+◌, ◌<◌, ◌≤◌, ◌⊎◌, Bool, true, false, List, length, take, Option, Some, None, Result, Ok, Err, ⊤}
 use Rattle.std.specs.Option.{option_map}
 use Rattle.std.specs.Global.{Vec}
-use Rattle.outside_io.specs.Files.{Files, file, filed}
+use Rattle.outside_io.specs.Files.{Files, filed}
 use Rattle.outside_io.specs.declared.shelf.ShelfAnswer.{ShelfAnswer}
 use Rattle.outside_io.specs.declared.shelf.ShelfAnswer.TheVariants as answers
+
+-- whether the answer is that the device failed
+abbrev pub has_failed : {A : Type 0} → Result A ShelfAnswer → Bool
+has_failed (Ok value) = false
+has_failed (Err answers.Failed) = true
+has_failed (Err answers.Absent) = false
+has_failed (Err (answers.TooLong taken)) = false
+has_failed (Err answers.NoMemory) = false
 
 -- What a read of at most `limit` bytes answers, where this is found under the name: its bytes, or that there is
 -- no such file, or that there are more. A fault and want of memory may come whatever is found.

@@ -10,9 +10,13 @@ use Rattle.outside_io.specs.Files.{Files}
 abbrev pub StoredFile : Type 0
 StoredFile = String Global × Vec ℕ
 
+-- its bytes
+abbrev pub bytes_of : StoredFile → List ℕ
+bytes_of stored = stored.1.items
+
 -- the same as lists of bytes
 abbrev pub entry_of : StoredFile → List ℕ × List ℕ
-entry_of stored = (string_bytes stored.0, stored.1.items)
+entry_of stored = (string_bytes stored.0, bytes_of stored)
 
 -- the files of a list, in which the earlier of two equal names counts
 abbrev pub files_of : List StoredFile → Files
@@ -20,7 +24,7 @@ files_of stored = from_entries (map entry_of stored)
 
 -- whether a file has this name
 abbrev pub has_name : List ℕ → StoredFile → Bool
-has_name name stored = bytes_eq (string_bytes stored.0) name
+has_name name stored = bytes_eq name (string_bytes stored.0)
 
 -- how the files of a shelf are told apart
 abbrev pub files_code : Coded Files

@@ -1,11 +1,18 @@
 -- What a swap disk of blocks answers, and what it holds then.
-use Rattle.std.specs.Prelude.{◌≡◌, ℕ, ◌≤◌, List, length, Option, Result, Ok, Err, ⊤, slice_set, slice_get, Some, IfSome}
+use Rattle.std.specs.Prelude.{◌≡◌, ℕ, Bool, true, false, List, length, Option, Result, Ok, Err, ⊤, slice_set, slice_get, Some}
 use Rattle.std.specs.Option.{option_map}
 use Rattle.outside_io.specs.declared.swap.SwapAnswer.{SwapAnswer}
+use Rattle.outside_io.specs.declared.swap.SwapAnswer.TheVariants as answers
 
 -- the blocks of a disk by their numbers, each a list of 4,096 bytes
 abbrev pub Blocks : Type 0
 Blocks = List (List ℕ)
+
+-- whether the answer is that the device failed
+abbrev pub has_failed : Result (Unit {0}) SwapAnswer → Bool
+has_failed (Ok done) = false
+has_failed (Err answers.Failed) = true
+has_failed (Err answers.NoMemory) = false
 
 -- At Ok the slice has the block's bytes, and after a refusal any bytes.
 abbrev pub ReadsBlock : Blocks → ℕ → Result (Unit {0}) SwapAnswer → List ℕ → Type 0

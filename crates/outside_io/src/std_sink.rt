@@ -1,6 +1,8 @@
 //! Standard output as a sink.
 
-ghost use Rattle.std.specs.Prelude.{◌≡◌, None};
+ghost use Rattle.std.specs.Prelude.{◌≡◌, ◌≤◌, None};
+ghost use Rattle.outside_io.specs.Faults.{faults_after};
+ghost use Rattle.outside_io.specs.Sink.{has_failed};
 
 use crate::sink::{Sink, SinkAnswer};
 use std::io;
@@ -42,7 +44,12 @@ impl<R: Print + Drop> Sink for StdSink<R> {
 
     ghost faults = { λ count. count };
 
-    fn put(&mut self, bytes: &[u8]) -> Result<(), SinkAnswer> {
+    fn put(&mut self, bytes: &[u8]) -> Result<(), SinkAnswer>
+        ensures later { self.old ≤ self.new }
+
+        // A piece that failed is counted, and no other.
+        ensures counted { self.new ≡ faults_after (has_failed result) self.old }
+    {
         match self.send(bytes) {
             Ok(()) => Ok(()),
             Err(error) if error.kind() == ErrorKind::OutOfMemory => Err(SinkAnswer::NoMemory),

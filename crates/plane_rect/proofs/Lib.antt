@@ -1,2 +1,7 @@
+pub mod Differences
+pub mod Gathered
+pub mod Lists
+pub mod Moved
 pub mod Names
 pub mod Rectangles
+pub mod TileLists

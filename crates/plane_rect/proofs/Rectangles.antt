@@ -1,10 +1,15 @@
 -- Laws of rectangles.
 use Rattle.std.proofs.Common.{◌≡◌, ℕ, zero, suc, ◌+◌, ℤ, pos, negsuc, ◌≤ℤ◌, ◌<ℤ◌, ◌+ℤ◌, ◌<◌, ◌≤◌, ◌↔◌, ◌⊎◌, inl, inr, arith, Ok, Err, refl, unsigned_abs, false, IsTrue, Result, ap, ◌≢◌, sym, subst}
 use Rattle.std.proofs.lemmas.Int.{ints}
+use Rattle.std.proofs.lemmas.Bool.{cases_lt}
 use Rattle.std.proofs.lemmas.Bool.Decides.{nat_tests}
 use Rattle.plane_rect.specs.declared.rect.RectRefused.{RectRefused}
 use Rattle.plane_rect.specs.declared.rect.RectRefused.TheVariants.{Place, Size}
-use Rattle.plane_rect.specs.Rectangle.{empty, origin, plane_side, AreFields, placed, WithinSigned, Lies, LiesAt, IsCoordinate, IsNoCoordinate, IsExtent, IsNoExtent, is_coordinate, is_extent, begins_in_plane, ends_in_plane, new_rectangle, rectangle, plane_index, plane_coordinate, IsBehindCorner, Rectangle, meet}
+use Rattle.plane_rect.specs.Rectangle.{IsRectangle, empty, origin, spanning, plane_side, AreFields, placed, WithinSigned, Lies, LiesAt, IsCoordinate, IsNoCoordinate, IsExtent, IsNoExtent, is_coordinate, is_extent, begins_in_plane, ends_in_plane, new_rectangle, rectangle, plane_index, plane_coordinate, IsBehindCorner, Rectangle, meet}
+
+pub Lies-spanning : (u v left top right bottom : ℕ)
+    → Lies u v (spanning left top right bottom) ↔ ((left ≤ u) × (u < right) × (top ≤ v) × (v < bottom))
+Lies-spanning u v left top right bottom = grind (arith, nat_tests)
 
 pub Lies-meet : (u v : ℕ) (a b : Rectangle) → Lies u v (meet a b) ↔ (Lies u v a × Lies u v b)
 Lies-meet u v a b = grind arith
@@ -159,3 +164,10 @@ rectangle-placed x y w h v t = sym (rectangle-some (plane_index x) (plane_index 
     some : (z : ℤ) → z ≢ pos 0 → 0 < unsigned_abs z
     some (pos n) e = grind arith
     some (negsuc n) e = omega arith
+
+-- a rectangle of the plane has a place, or is the empty one
+pub some_or_empty : (r : Rectangle) → IsRectangle r → ((0 < r.width) × (0 < r.height)) ⊎ (r ≡ empty)
+some_or_empty r is = elim (cases_lt 0 r.width) [
+  | inl w ↦ elim (cases_lt 0 r.height) [ inl h ↦ inl (w, h) | inr h ↦ inr (is.empty_height (omega arith)) ]
+  | inr w ↦ inr (is.empty_width (omega arith))
+]

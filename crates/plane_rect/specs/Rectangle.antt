@@ -1,6 +1,6 @@
 -- Places and rectangles, in natural numbers: a column and a row count from the plane's upper left corner, which
 -- stands at x = y = -2^24. So the column of x is x + 2^24, and no definition above this file has a sign.
-use Rattle.std.specs.Prelude.{◌≡◌, ℕ, ◌+◌, ◌-◌, ◌*◌, ◌^◌, ◌<◌, ◌≤◌, ◌⊎◌, ◌&&◌, ◌||◌, ◌==◌, not, Bool, min, max, if◌then◌else◌, ℤ, pos, negsuc, ◌+ℤ◌, ◌-ℤ◌, ◌≤ℤ◌, ◌<ℤ◌, int_le, unsigned_abs, Result, Ok, Err}
+use Rattle.std.specs.Prelude.{List, [], ◌∷◌, filter, nat_le, nat_lt, ◌≡◌, ℕ, ◌+◌, ◌-◌, ◌*◌, ◌/◌, ◌^◌, ◌<◌, ◌≤◌, ◌⊎◌, ◌&&◌, ◌||◌, ◌==◌, not, Bool, min, max, if◌then◌else◌, ℤ, pos, negsuc, ◌+ℤ◌, ◌-ℤ◌, ◌*ℤ◌, ◌≤ℤ◌, ◌<ℤ◌, int_le, unsigned_abs, Result, Ok, Err, Option, Some, None}
 use Rattle.plane_rect.specs.declared.rect.RectRefused.{RectRefused}
 use Rattle.plane_rect.specs.declared.rect.RectRefused.TheVariants.{Place, Size}
 
@@ -89,6 +89,9 @@ abbrev pub offset : Rectangle → ℕ → ℕ → ℕ
 offset r u v = (v - r.top) * r.width + (u - r.left)
 
 -- a rectangle of which an image may be kept
+abbrev pub in_limits : Rectangle → Bool
+in_limits r = nat_le r.width (2 ^ 15) && nat_le r.height (2 ^ 15) && nat_le (area r) (2 ^ 25)
+
 abbrev pub InLimits : Rectangle → Type 0
 InLimits r = (r.width ≤ 2 ^ 15) × (r.height ≤ 2 ^ 15) × (area r ≤ 2 ^ 25)
 
@@ -145,6 +148,107 @@ new_rectangle x y w h =
 
 -- ---- rectangles made of rectangles
 
+-- no place lies in the rectangle
+abbrev pub is_empty : Rectangle → Bool
+is_empty r = r.width == 0 || r.height == 0
+
+-- some place lies in the rectangle
+abbrev pub has_places : Rectangle → Bool
+has_places r = not (is_empty r)
+
+-- each place of b lies in a
+abbrev pub Includes : Rectangle → Rectangle → Type 0
+Includes a b = (u v : ℕ) → Lies u v b → Lies u v a
+
+abbrev pub includes : Rectangle → Rectangle → Bool
+includes a b =
+    is_empty b
+    || nat_le a.left b.left && nat_le a.top b.top && nat_le (right b) (right a) && nat_le (bottom b) (bottom a)
+
+-- no place lies in both
+abbrev pub AreDisjoint : Rectangle → Rectangle → Type 0
+AreDisjoint a b = (u v : ℕ) → Lies u v a → ¬ Lies u v b
+
 -- the places that lie in both
 abbrev pub meet : Rectangle → Rectangle → Rectangle
 meet a b = spanning (max a.left b.left) (max a.top b.top) (min (right a) (right b)) (min (bottom a) (bottom b))
+
+-- the least rectangle that includes both
+abbrev pub hull : Rectangle → Rectangle → Rectangle
+hull a b =
+    if is_empty a then b
+    else if is_empty b then a
+    else spanning (min a.left b.left) (min a.top b.top) (max (right a) (right b)) (max (bottom a) (bottom b))
+
+-- what surrounds a part of a rectangle: the rows above it, what is left and right of it, and the rows below it
+abbrev pub surroundings : Rectangle → Rectangle → List Rectangle
+surroundings a part =
+    spanning a.left a.top (right a) part.top
+    ∷ spanning a.left part.top part.left (bottom part)
+    ∷ spanning (right part) part.top (right a) (bottom part)
+    ∷ spanning a.left (bottom part) (right a) (bottom a)
+    ∷ []
+
+-- the places of a that do not lie in b, as rectangles that have some
+abbrev pub minus : Rectangle → Rectangle → List Rectangle
+minus a b =
+    let part = meet a b in
+    filter has_places (if is_empty part then a ∷ [] else surroundings a part)
+
+-- ---- rectangles moved and scaled
+
+-- the rectangle moved by dx and dy, or why that is none: an empty one stays
+abbrev pub shifted : ℤ → ℤ → Rectangle → Result Rectangle RectRefused
+shifted dx dy r =
+    if is_empty r then Ok r
+    else new_rectangle (plane_coordinate r.left +ℤ dx) (plane_coordinate r.top +ℤ dy) (pos r.width) (pos r.height)
+
+-- the rectangle with so many more places on each side, or why that is none: an empty one stays
+abbrev pub grown : ℕ → Rectangle → Result Rectangle RectRefused
+grown by r =
+    if is_empty r then Ok r
+    else if nat_lt r.left by || nat_lt r.top by then Err Place
+    else if nat_lt plane_side (right r + by) || nat_lt plane_side (bottom r + by) then Err Size
+    else Ok (spanning (r.left - by) (r.top - by) (right r + by) (bottom r + by))
+
+-- two numbers are at most so far apart
+abbrev pub AreNear : ℕ → ℕ → ℕ → Type 0
+AreNear by m n = (m ≤ n + by) × (n ≤ m + by)
+
+-- some place of the rectangle is at most so many columns and rows away
+abbrev pub LiesNear : ℕ → ℕ → ℕ → Rectangle → Type 0
+LiesNear by u v r = (u' : ℕ) × (v' : ℕ) × Lies u' v' r × AreNear by u u' × AreNear by v v'
+
+-- the column of half an x, rounded down, or the row of half a y
+abbrev pub half : ℕ → ℕ
+half n = n / 2 + origin / 2
+
+-- from half the first to half of what is behind the last, the first rounded down and the second up
+abbrev pub halved : Rectangle → Rectangle
+halved r = spanning (half r.left) (half r.top) (half (right r + 1)) (half (bottom r + 1))
+
+-- the place is that of half the x and half the y of a place of the rectangle
+abbrev pub LiesHalved : ℕ → ℕ → Rectangle → Type 0
+LiesHalved u v r = (u' : ℕ) × (v' : ℕ) × Lies u' v' r × (u ≡ half u') × (v ≡ half v')
+
+-- the column of an x divided by 2 ^ level, rounded down, or the row of a y so divided
+abbrev pub coarse : ℕ → ℕ → ℕ
+coarse level n = n / 2 ^ level + (origin - origin / 2 ^ level)
+
+-- all four fields times 2 ^ level, or why that is no rectangle
+abbrev pub enlarged : ℕ → Rectangle → Result Rectangle RectRefused
+enlarged level r =
+    new_rectangle
+    (plane_coordinate r.left *ℤ pos (2 ^ level))
+    (plane_coordinate r.top *ℤ pos (2 ^ level))
+    (pos r.width *ℤ pos (2 ^ level))
+    (pos r.height *ℤ pos (2 ^ level))
+
+-- a rectangle in limits, where there is one
+abbrev pub kept_in_limits : Result Rectangle RectRefused → Option Rectangle
+kept_in_limits (Ok r) = if in_limits r then Some r else None
+kept_in_limits (Err refused) = None
+
+-- all four fields times 2 ^ level, where that is a rectangle in limits
+abbrev pub scaled : ℕ → Rectangle → Option Rectangle
+scaled level r = kept_in_limits (enlarged level r)

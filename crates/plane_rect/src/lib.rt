@@ -1,9 +1,14 @@
 //! Names, rectangles and tiles of places in the plane.
 #![tactic(auto)]
 
+mod moves;
 mod name;
 mod plane;
 mod rect;
+mod sets;
+mod tile;
 
 pub use name::Name;
 pub use rect::{Rect, RectRefused};
+pub use sets::Parts;
+pub use tile::{TILE_SIDE, TileAt, Tiles};

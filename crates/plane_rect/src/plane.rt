@@ -9,6 +9,9 @@ ghost use Rattle.plane_rect.specs.Rectangle.{IsBehindCorner, plane_coordinate as
 /// How far the plane reaches from the origin, to each side.
 pub(crate) const ORIGIN: i32 = 1 << 24;
 
+/// How many columns, and how many rows, the plane has.
+pub(crate) const SIDE: u32 = 1 << 25;
+
 /// The column of an x, or the row of a y.
 pub(crate) fn plane_index(coordinate: i32) -> u32
     requires { IsBehindCorner coordinate }

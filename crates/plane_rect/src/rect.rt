@@ -7,11 +7,12 @@ ghost use Rattle.std.specs.Cmp.Rules.{hashing};
 ghost use Rattle.std.specs.Hash as fed;
 ghost use Rattle.std.proofs.Common.{rules};
 ghost use Rattle.plane_rect.specs.SameRectangle.{same_rectangle-laws};
-ghost use Rattle.plane_rect.specs.Rectangle.{InLimits, IsCoordinate, IsExtent, IsNoCoordinate, IsNoExtent, IsRectangle, Lies, LiesAt, WithinSigned, area, begins_in_plane, bottom, empty, ends_in_plane, is_coordinate, is_extent, meet, new_rectangle, offset, origin, plane_index as index_of, plane_side, rectangle, right, same_rectangle, spanning};
+ghost use Rattle.plane_rect.specs.Rectangle.{InLimits, IsCoordinate, IsExtent, IsNoCoordinate, IsNoExtent, IsRectangle, Includes, Lies, LiesAt, Within, WithinSigned, area, begins_in_plane, bottom, empty, ends_in_plane, in_limits, is_coordinate, is_empty, is_extent, new_rectangle, offset, origin, plane_coordinate as coordinate_of, plane_index as index_of, plane_side, rectangle, right, same_rectangle, spanning};
 
 use crate::plane::{ORIGIN, plane_coordinate, plane_index};
 use std::hash::{Hash, Hasher};
 use std::marker::Model;
+use std::ops::Range;
 use thiserror::Error;
 
 /// A set of places: those of `x <= px < x + w` and `y <= py < y + h`.
@@ -148,23 +149,36 @@ impl Rect {
 
     /// How many places lie in it.
     pub fn area(&self) -> u64
-        ensures { result ≡ area self.now }
+        ensures value { result ≡ area self.now }
+        ensures rectangle { IsRectangle self.now }
     {
         u64::from(self.w) * u64::from(self.h)
     }
 
     /// Whether no place lies in it.
     pub fn is_empty(&self) -> bool
-        ensures { IsTrue result ↔ (self.now ≡ empty) }
+        ensures value { result ≡ is_empty self.now }
+        ensures empty { IsTrue result ↔ (self.now ≡ empty) }
+        ensures places { IsTrue result ↔ ((u v : ℕ) → ¬ Lies u v self.now) }
     {
         self.w == 0
     }
 
     /// Whether an image of it may be kept: at most 2^15 columns and rows, and 2^25 places.
     pub fn in_limits(&self) -> bool
-        ensures { IsTrue result ↔ InLimits self.now }
+        ensures value { result ≡ in_limits self.now }
+        ensures limits { IsTrue result ↔ InLimits self.now }
     {
         self.w <= 1 << 15 && self.h <= 1 << 15 && self.area() <= 1 << 25
+    }
+
+    /// Its x and y, with room for sums and products.
+    pub(crate) fn corner(&self) -> (i64, i64)
+        ensures x { result.0 ≡ coordinate_of self.now.left }
+        ensures y { result.1 ≡ coordinate_of self.now.top }
+        ensures rectangle { IsRectangle self.now }
+    {
+        (i64::from(self.x), i64::from(self.y))
     }
 
     /// Whether the place of x and y lies in it.
@@ -186,21 +200,21 @@ impl Rect {
         requires { Lies column row self.now }
         ensures value { result ≡ offset self.now column row }
         ensures in_area { result < area self.now }
+        ensures rectangle { IsRectangle self.now }
     {
         (row - self.top()) as usize * self.w as usize + (column - self.left()) as usize
     }
 
-    /// The places that lie in both.
-    pub fn meet(&self, other: &Rect) -> Rect
-        ensures value { result ≡ meet self.now other.now }
-        ensures places { (u v : ℕ) → Lies u v result ↔ (Lies u v self.now × Lies u v other.now) }
+    /// Where a row of a part of it stands among its places, which stand row by row.
+    pub fn part_row(&self, part: &Rect, row: u32) -> Range<usize>
+        requires part { Includes self.now part.now }
+        requires row { Within part.now.top part.now.height row }
+        ensures start { result.start ≡ offset self.now part.now.left row }
+        ensures len { result.end ≡ result.start + part.now.width }
+        ensures in_area { result.end ≤ area self.now }
     {
-        Rect::spanning(
-            self.left().max(other.left()),
-            self.top().max(other.top()),
-            self.right().min(other.right()),
-            self.bottom().min(other.bottom()),
-        )
+        let start = self.offset(part.left(), row);
+        start..start + part.w as usize
     }
 }
 

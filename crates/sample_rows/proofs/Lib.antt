@@ -1,1 +1,8 @@
 pub mod RowLaws
+pub mod Pointwise
+pub mod Saturation
+pub mod Moves
+pub mod GroupLaws
+pub mod BlockLaws
+pub mod Shuffles
+pub mod RecolourLaws

@@ -1,4 +1,11 @@
 pub mod Format
 pub mod Row
+pub mod Groups
+pub mod Lanes
 pub mod Recolour
 pub mod Invert
+pub mod Threshold
+pub mod Add
+pub mod Mask
+pub mod Average
+pub mod SizeLaws

@@ -1,0 +1,2 @@
+pub mod StoredFilesLemmas
+pub mod BlockLemmas

@@ -1,0 +1,109 @@
+//! A shelf in memory.
+
+ghost use Rattle.std.specs.Prelude.{◌≡◌, ◌≤◌, ◌↔◌, true, false, Some, IfSome, IsTrue, IsErrOf, OnOk, reverse};
+ghost use Rattle.std.specs.Option.{option_copied};
+ghost use Rattle.outside_io.specs.Calls.{no_calls, next_fails, after_call};
+ghost use Rattle.outside_io.specs.Faults.{Rose};
+ghost use Rattle.outside_io.specs.FileName.{is_file_name};
+ghost use Rattle.outside_io.specs.Files.{file};
+ghost use Rattle.outside_io.specs.MemShelf.{left_by};
+ghost use Rattle.outside_io.specs.Shelf.{Answers, TakesAtMost, WriteLeaves};
+ghost use Rattle.outside_io.specs.StoredFiles.{files_of};
+
+use crate::failing_calls::{FailingCalls, kept};
+use crate::shelf::{Shelf, ShelfAnswer};
+use crate::stored_files::StoredFiles;
+use std::alloc::Global;
+use std::marker::Model;
+
+/// Keeps files in memory. Fails at chosen calls; a write that fails keeps the first half of the
+/// bytes, rounded down.
+#[derive(Drop)]
+pub struct MemShelf {
+    files: StoredFiles,
+    reads: FailingCalls,
+    writes: FailingCalls,
+}
+
+impl Model for MemShelf {
+    ghost use Rattle.outside_io.specs.MemShelf.{ShelfState, shelf_code};
+
+    ghost Value = { ShelfState };
+
+    ghost coded = { shelf_code };
+
+    ghost view = { λ shelf. record { files = shelf.files; reads = shelf.reads; writes = shelf.writes } };
+}
+
+impl MemShelf {
+    /// A shelf with these files, of which the later counts where a name stands twice. The reads and
+    /// writes of these numbers, each counted from 1, fail.
+    pub fn new(
+        alloc: Global,
+        files: Vec<(String, Vec<u8>)>,
+        fail_reads: Vec<u64>,
+        fail_writes: Vec<u64>,
+    ) -> MemShelf
+        ensures files { result.files ≡ files_of (reverse files.items) }
+        ensures reads { result.reads ≡ no_calls fail_reads.items }
+        ensures writes { result.writes ≡ no_calls fail_writes.items }
+    {
+        MemShelf {
+            files: StoredFiles::new(alloc, files),
+            reads: FailingCalls::new(fail_reads),
+            writes: FailingCalls::new(fail_writes),
+        }
+    }
+
+    /// The bytes of a file.
+    pub fn get(&self, name: &str) -> Option<&[u8]>
+        ensures { option_copied result ≡ file self.now.files name.now }
+    {
+        self.files.get(name)
+    }
+}
+
+impl Shelf for MemShelf {
+    ghost files = { λ shelf. Some shelf.files };
+
+    ghost read_faults = { λ shelf. shelf.reads.faults };
+
+    ghost write_faults = { λ shelf. shelf.writes.faults };
+
+    fn read(&mut self, name: &str, limit: u64) -> Result<Vec<u8>, ShelfAnswer>
+        requires { IsTrue (is_file_name name.now) }
+        ensures gives { Answers (file self.old.files name.now) limit result }
+        ensures within { TakesAtMost limit result }
+        ensures later { self.old.reads.faults ≤ self.new.reads.faults }
+
+        // It fails at the chosen calls and at no others, and changes nothing but their count.
+        ensures chosen { IsErrOf result ShelfAnswer.Failed ↔ IsTrue (next_fails self.old.reads) }
+        ensures after { self.new ≡ record self.old { reads = after_call self.old.reads } }
+    {
+        if self.reads.fails() {
+            return Err(ShelfAnswer::Failed);
+        }
+        self.files.read(name, limit)
+    }
+
+    fn write(&mut self, name: &str, bytes: &[u8]) -> Result<(), ShelfAnswer>
+        requires { IsTrue (is_file_name name.now) }
+        ensures leaves { WriteLeaves (Some self.old.files) name.now bytes.now result (Some self.new.files) }
+        ensures later { self.old.writes.faults ≤ self.new.writes.faults }
+
+        // It fails at the chosen calls and at no others.
+        ensures chosen { IsErrOf result ShelfAnswer.Failed → IsTrue (next_fails self.old.writes) }
+        ensures others { OnOk result (next_fails self.old.writes ≡ false) }
+        ensures written { self.new.files ≡ left_by result self.old.files name.now bytes.now }
+        ensures counted { self.new.writes ≡ after_call self.old.writes }
+        ensures reads { self.new.reads ≡ self.old.reads }
+    {
+        let fails = self.writes.fails();
+        self.files.put(name, kept(fails, bytes))?;
+        if fails {
+            Err(ShelfAnswer::Failed)
+        } else {
+            Ok(())
+        }
+    }
+}

@@ -1,0 +1,75 @@
+//! A shelf in memory that never fails.
+
+ghost use Rattle.std.specs.Prelude.{◌≡◌, ◌≢◌, Some, Err, IsTrue, IsOkUnless, is_ok, if◌then◌else◌, reverse};
+ghost use Rattle.std.specs.Option.{option_copied};
+ghost use Rattle.outside_io.specs.FileName.{is_file_name};
+ghost use Rattle.outside_io.specs.Files.{file, filed};
+ghost use Rattle.outside_io.specs.Shelf.{Answers, TakesAtMost};
+ghost use Rattle.outside_io.specs.StoredFiles.{files_of};
+
+use crate::shelf::{Shelf, ShelfAnswer};
+use crate::stored_files::StoredFiles;
+use std::alloc::Global;
+use std::marker::Model;
+
+/// Keeps files in memory, and never fails.
+#[derive(Drop)]
+pub struct SureShelf {
+    files: StoredFiles,
+}
+
+impl Model for SureShelf {
+    ghost use Rattle.outside_io.specs.Files.{Files};
+    ghost use Rattle.outside_io.specs.StoredFiles.{files_code};
+
+    ghost Value = { Files };
+
+    ghost coded = { files_code };
+
+    ghost view = { λ shelf. shelf.files };
+}
+
+impl SureShelf {
+    /// A shelf with these files, of which the later counts where a name stands twice.
+    pub fn new(alloc: Global, files: Vec<(String, Vec<u8>)>) -> SureShelf
+        ensures { result ≡ files_of (reverse files.items) }
+    {
+        SureShelf {
+            files: StoredFiles::new(alloc, files),
+        }
+    }
+
+    /// The bytes of a file.
+    pub fn get(&self, name: &str) -> Option<&[u8]>
+        ensures { option_copied result ≡ file self.now name.now }
+    {
+        self.files.get(name)
+    }
+}
+
+impl Shelf for SureShelf {
+    ghost files = { λ files. Some files };
+
+    ghost read_faults = { λ _. 0 };
+
+    ghost write_faults = { λ _. 0 };
+
+    fn read(&mut self, name: &str, limit: u64) -> Result<Vec<u8>, ShelfAnswer>
+        requires { IsTrue (is_file_name name.now) }
+        ensures gives { Answers (file self.old name.now) limit result }
+        ensures within { TakesAtMost limit result }
+        ensures sure { result ≢ Err ShelfAnswer.Failed }
+        ensures same { self.new ≡ self.old }
+    {
+        self.files.read(name, limit)
+    }
+
+    fn write(&mut self, name: &str, bytes: &[u8]) -> Result<(), ShelfAnswer>
+        requires { IsTrue (is_file_name name.now) }
+        ensures sure { IsOkUnless result ShelfAnswer.NoMemory }
+        ensures written { self.new ≡ (if is_ok result then filed self.old name.now bytes.now else self.old) }
+    {
+        self.files.put(name, bytes)?;
+        Ok(())
+    }
+}

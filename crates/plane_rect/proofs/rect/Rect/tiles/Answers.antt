@@ -1,0 +1,19 @@
+use Rattle.plane_rect.specs.Rectangle.{right, bottom}
+use Rattle.plane_rect.specs.Tile.{tile_of, tile_end}
+use Rattle.plane_rect.proofs.TileLists.{tiles-meeting, tiles-in_order, tiles_left-all, tiles-whole}
+use Rattle.plane_rect.proofs.rect.Rect.tiles.Goals as goal
+
+pub returns-clause-value : goal.returns-clause-value
+returns-clause-value c =
+    let r = c.args.self.now in
+    rw (c.div_ceil.ensures, c.div_ceil-2.ensures, c.left-first_column.ensures.value, c.right.ensures.value, c.top.ensures.value, c.bottom.ensures.value)
+    (tiles_left-all (tile_of r.left) (tile_end (right r)) (tile_of r.top) (tile_end (bottom r)))
+
+pub returns-clause-meeting : goal.returns-clause-meeting
+returns-clause-meeting c t = rw (returns-clause-value c) (tiles-meeting c.args.self.now c.right.ensures.rectangle t)
+
+pub returns-clause-in_order : goal.returns-clause-in_order
+returns-clause-in_order c = rw (returns-clause-value c) (tiles-in_order c.args.self.now)
+
+pub returns-clause-whole : goal.returns-clause-whole
+returns-clause-whole c = rw (returns-clause-value c) (tiles-whole c.args.self.now c.right.ensures.rectangle)

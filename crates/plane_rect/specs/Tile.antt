@@ -1,0 +1,116 @@
+-- Tiles of places, in natural numbers: a tile's column and row count from the plane's upper left corner, 64 places a
+-- tile. So the column of a tx is tx + 2^18.
+use Rattle.std.specs.Prelude.{◌≡◌, ℕ, zero, suc, ◌+◌, ◌-◌, ◌*◌, ◌/◌, ◌^◌, ◌<◌, ◌≤◌, ◌⊎◌, ◌&&◌, ◌==◌, Bool, nat_lt, if◌then◌else◌, ℤ, pos, negsuc, ◌-ℤ◌, ◌≤ℤ◌, List, [], ◌∷◌, ◌++◌}
+use Rattle.std.specs.Int.{div_ceil}
+use Rattle.plane_rect.specs.Rectangle.{Rectangle, Lies, plane_side, meet, right, bottom}
+
+-- how many columns, and how many rows, a tile has
+abbrev pub tile_side : ℕ
+tile_side = 64
+
+-- the column and the row of the tile that begins at the origin
+abbrev pub tile_origin : ℕ
+tile_origin = 2 ^ 18
+
+-- the greatest column and row of a tile, where it begins behind the plane
+abbrev pub last_tile : ℕ
+last_tile = 2 ^ 19
+
+-- A tile, by its column and row.
+pub record Tile : Type 0 where
+  pub column : ℕ
+  pub row : ℕ
+
+-- the tile begins no later than just behind the plane
+pub record IsTile (t : Tile) : Type 0 where
+  pub in_columns : t.column ≤ last_tile
+  pub in_rows : t.row ≤ last_tile
+
+-- the column of a tx, or the row of a ty, that is not below -2^18
+abbrev pub tile_index : ℤ → ℕ
+tile_index (pos n) = n + tile_origin
+tile_index (negsuc n) = tile_origin - (n + 1)
+
+-- the tx of a column, or the ty of a row
+abbrev pub tile_coordinate : ℕ → ℤ
+tile_coordinate n = pos n -ℤ pos tile_origin
+
+-- the tile of tx and ty, neither below -2^18
+abbrev pub tile_by : ℤ → ℤ → Tile
+tile_by tx ty = record { column = tile_index tx; row = tile_index ty }
+
+-- these numbers name a tile
+pub record NameTile (tx ty : ℤ) : Type 0 where
+  pub behind_left : tile_coordinate 0 ≤ℤ tx
+  pub behind_top : tile_coordinate 0 ≤ℤ ty
+  pub tile : IsTile (tile_by tx ty)
+
+-- the column of the tile in which a column lies, or the row of that in which a row lies
+abbrev pub tile_of : ℕ → ℕ
+tile_of n = n / tile_side
+
+-- the tile in which the place lies
+abbrev pub tile_at : ℕ → ℕ → Tile
+tile_at u v = record { column = tile_of u; row = tile_of v }
+
+-- all places
+abbrev pub plane : Rectangle
+plane = record { left = 0; top = 0; width = plane_side; height = plane_side }
+
+-- the 64 by 64 places of a tile
+abbrev pub tile_square : Tile → Rectangle
+tile_square t =
+    record { left = tile_side * t.column; top = tile_side * t.row; width = tile_side; height = tile_side }
+
+-- the tile begins in the plane, and so ends there
+abbrev pub IsWhole : Tile → Type 0
+IsWhole t = (t.column < last_tile) × (t.row < last_tile)
+
+-- the places of the plane that lie in the tile
+abbrev pub tile_rectangle : Tile → Rectangle
+tile_rectangle t = meet (tile_square t) plane
+
+-- two tiles are one
+abbrev pub same_tile : Tile → Tile → Bool
+same_tile a b = a.row == b.row && a.column == b.column
+
+-- some place of the rectangle lies in the tile
+abbrev pub Meets : Tile → Rectangle → Type 0
+Meets t r = (u : ℕ) × (v : ℕ) × Lies u v r × (t ≡ tile_at u v)
+
+-- a tile of a row above, or of the same row and further left
+abbrev pub IsBefore : Tile → Tile → Type 0
+IsBefore s t = (s.row < t.row) ⊎ ((s.row ≡ t.row) × (s.column < t.column))
+
+-- so many tiles of a row, from a column on
+abbrev pub tile_row : ℕ → ℕ → ℕ → List Tile
+tile_row row column zero = []
+tile_row row column (suc n) = record { column = column; row = row } ∷ tile_row row (suc column) n
+
+-- so many rows from a row on, each of so many tiles from a column on
+abbrev pub tile_rows : ℕ → ℕ → ℕ → ℕ → List Tile
+tile_rows column columns row zero = []
+tile_rows column columns row (suc n) = tile_row row column columns ++ tile_rows column columns (suc row) n
+
+-- the column behind those of the tiles in which the columns before an end lie, or the row so
+abbrev pub tile_end : ℕ → ℕ
+tile_end n = div_ceil n tile_side
+
+-- the tiles that meet the rectangle, row by row from the top, each row from the left
+abbrev pub tiles : Rectangle → List Tile
+tiles r =
+    tile_rows (tile_of r.left) (tile_end (right r) - tile_of r.left) (tile_of r.top) (tile_end (bottom r) - tile_of r.top)
+
+-- the tiles of rows of columns from first up to end that are left at a column and a row
+abbrev pub tiles_left : ℕ → ℕ → ℕ → ℕ → ℕ → List Tile
+tiles_left first end column row end_row =
+    if nat_lt row end_row
+    then tile_row row column (end - column) ++ tile_rows first (end - first) (suc row) (end_row - suc row)
+    else []
+
+-- a column and a row at which tiles are left, or a row behind the last
+pub record AreLeft (first end column row end_row : ℕ) : Type 0 where
+  pub in_columns : end ≤ last_tile
+  pub in_rows : end_row ≤ last_tile
+  pub behind_first : row < end_row → first ≤ column
+  pub before_end : row < end_row → column < end

@@ -1,0 +1,238 @@
+//! Kernels over blocks of bytes, and the rows that are made by them.
+
+ghost use Rattle.std.specs.Prelude.{◌≡◌, ℕ, ◌+◌, ◌*◌, ◌/◌, ◌<◌, ◌≤◌, length, slice_index};
+ghost use Rattle.sample_rows.specs.Groups.{Groups, group_at, group_bytes, Maps, MapsPairs, SameGroups};
+
+/// The most bytes that a block has.
+const MOST: usize = 192;
+
+/// What is made of two rows, block by block.
+pub(crate) trait PairKernel {
+    /// What a group of samples of the first row and one of the second become.
+    ghost value: { Self → (ℕ → ℕ) → (ℕ → ℕ) → ℕ → ℕ };
+
+    /// How the samples of the first row are grouped.
+    ghost first: { Groups };
+
+    /// How the samples of the second row are grouped.
+    ghost second: { Groups };
+
+    /// How the samples of the row that is written are grouped.
+    ghost to: { Groups };
+
+    /// How many groups a block has.
+    ghost count: { ℕ };
+
+    ghost FIRST: { ℕ };
+
+    ghost SECOND: { ℕ };
+
+    ghost WRITTEN: { ℕ };
+
+    /// The bytes of a block of the first row.
+    const FIRST: usize;
+
+    /// The bytes of a block of the second row.
+    const SECOND: usize;
+
+    /// The bytes of a block that is written.
+    const WRITTEN: usize;
+
+    /// Reads the first block of each of two rows and writes the first of another.
+    fn block(&self, a: &[u8], b: &[u8], dst: &mut [u8])
+        requires first { FIRST ≤ length a.now }
+        requires second { SECOND ≤ length b.now }
+        requires written { WRITTEN ≤ length dst.old }
+        ensures { MapsPairs first second to count (value self.now) a.now b.now dst.new };
+
+    ghost some_groups: { 0 < count };
+
+    ghost some_first: { 0 < group_bytes first };
+
+    ghost some_second: { 0 < group_bytes second };
+
+    ghost some_written: { 0 < group_bytes to };
+
+    ghost first_bytes: { FIRST ≡ count * group_bytes first };
+
+    ghost second_bytes: { SECOND ≡ count * group_bytes second };
+
+    ghost written_bytes: { WRITTEN ≡ count * group_bytes to };
+
+    ghost first_few: { FIRST ≤ 192 };
+
+    ghost second_few: { SECOND ≤ 192 };
+
+    ghost written_few: { WRITTEN ≤ 192 };
+}
+
+/// Makes one row of two others.
+pub(crate) fn transform_rows<K: PairKernel>(kernel: &K, a: &[u8], b: &[u8], dst: &mut [u8])
+    requires first { SameGroups K.first K.to a.now dst.old }
+    requires second { SameGroups K.second K.to b.now dst.old }
+    ensures { MapsPairs K.first K.second K.to (length dst.new / group_bytes K.to) (K.value kernel.now) a.now b.now dst.new }
+{
+    let blocks = dst.len() / K::WRITTEN;
+    for block in 0..blocks {
+        transform_block(kernel, a, b, dst, block);
+    }
+    if dst.len() % K::WRITTEN > 0 {
+        transform_rest(kernel, a, b, dst, blocks);
+    }
+}
+
+/// Makes block number `block` of a row.
+#[inline(always)]
+fn transform_block<K: PairKernel>(kernel: &K, a: &[u8], b: &[u8], dst: &mut [u8], block: usize)
+    requires first { (block + 1) * K.FIRST ≤ length a.now }
+    requires second { (block + 1) * K.SECOND ≤ length b.now }
+    requires written { (block + 1) * K.WRITTEN ≤ length dst.old }
+    ensures kept { (p : ℕ) → p < block * K.WRITTEN → slice_index dst.new p ≡ slice_index dst.old p }
+    ensures made { (k i : ℕ) → k < K.count → i < K.to.size
+        → group_at K.to dst.new (block * K.count + k) i
+        ≡ K.value kernel.now (group_at K.first a.now (block * K.count + k)) (group_at K.second b.now (block * K.count + k)) i }
+{
+    kernel.block(
+        &a[K::FIRST * block..],
+        &b[K::SECOND * block..],
+        &mut dst[K::WRITTEN * block..],
+    );
+}
+
+/// Makes what is left of a row behind so many blocks, which is less than a block.
+fn transform_rest<K: PairKernel>(kernel: &K, a: &[u8], b: &[u8], dst: &mut [u8], blocks: usize)
+    requires first_begun { blocks * K.FIRST ≤ length a.now }
+    requires first_short { length a.now < (blocks + 1) * K.FIRST }
+    requires second_begun { blocks * K.SECOND ≤ length b.now }
+    requires second_short { length b.now < (blocks + 1) * K.SECOND }
+    requires written_begun { blocks * K.WRITTEN ≤ length dst.old }
+    requires written_short { length dst.old < (blocks + 1) * K.WRITTEN }
+    ensures kept { (p : ℕ) → p < blocks * K.WRITTEN → slice_index dst.new p ≡ slice_index dst.old p }
+    ensures made { (k i : ℕ) → blocks * K.count + k < length dst.old / group_bytes K.to → i < K.to.size
+        → group_at K.to dst.new (blocks * K.count + k) i
+        ≡ K.value kernel.now (group_at K.first a.now (blocks * K.count + k)) (group_at K.second b.now (blocks * K.count + k)) i }
+{
+    let first = padded(&a[K::FIRST * blocks..]);
+    let second = padded(&b[K::SECOND * blocks..]);
+    let mut written = [0; MOST];
+    kernel.block(&first, &second, &mut written);
+    let rest = &mut dst[K::WRITTEN * blocks..];
+    let len = rest.len();
+    rest.copy_from_slice(&written[..len]);
+}
+
+/// The bytes of a row, and zeros behind it.
+fn padded(row: &[u8]) -> [u8; MOST]
+    requires { length row.now ≤ 192 }
+    ensures { (p : ℕ) → slice_index result p ≡ slice_index row.now p }
+{
+    let mut bytes = [0; MOST];
+    bytes[..row.len()].copy_from_slice(row);
+    bytes
+}
+
+/// What is made of one row, block by block.
+pub(crate) trait RowKernel: Copy {
+    /// What a group of samples becomes.
+    ghost value: { Self → (ℕ → ℕ) → ℕ → ℕ };
+
+    /// How the samples of the row that is read are grouped.
+    ghost from: { Groups };
+
+    /// How the samples of the row that is written are grouped.
+    ghost to: { Groups };
+
+    /// How many groups a block has.
+    ghost count: { ℕ };
+
+    ghost READ: { ℕ };
+
+    ghost WRITTEN: { ℕ };
+
+    /// The bytes of a block that is read.
+    const READ: usize;
+
+    /// The bytes of a block that is written.
+    const WRITTEN: usize;
+
+    /// Reads the first block of one row and writes the first of the other.
+    fn block(&self, src: &[u8], dst: &mut [u8])
+        requires read { READ ≤ length src.now }
+        requires written { WRITTEN ≤ length dst.old }
+        ensures { Maps from to count (value self.now) src.now dst.new };
+
+    ghost some_groups: { 0 < count };
+
+    ghost some_read: { 0 < group_bytes from };
+
+    ghost some_written: { 0 < group_bytes to };
+
+    ghost read_bytes: { READ ≡ count * group_bytes from };
+
+    ghost written_bytes: { WRITTEN ≡ count * group_bytes to };
+
+    ghost read_few: { READ ≤ 192 };
+
+    ghost written_few: { WRITTEN ≤ 192 };
+}
+
+/// A kernel over one row, as one over two rows that leaves the second aside.
+#[derive(Clone, Copy)]
+struct Alone<K>(K);
+
+impl<K: RowKernel> PairKernel for Alone<K> {
+    ghost value = { λ k a b. K.value k.0 a };
+
+    ghost first = { K.from };
+
+    ghost second = { K.from };
+
+    ghost to = { K.to };
+
+    ghost count = { K.count };
+
+    ghost FIRST = { K.READ };
+
+    ghost SECOND = { K.READ };
+
+    ghost WRITTEN = { K.WRITTEN };
+
+    const FIRST: usize = K::READ;
+
+    const SECOND: usize = K::READ;
+
+    const WRITTEN: usize = K::WRITTEN;
+
+    #[inline(always)]
+    fn block(&self, a: &[u8], _b: &[u8], dst: &mut [u8]) {
+        self.0.block(a, dst);
+    }
+
+    ghost some_groups = { K.some_groups };
+
+    ghost some_first = { K.some_read };
+
+    ghost some_second = { K.some_read };
+
+    ghost some_written = { K.some_written };
+
+    ghost first_bytes = { K.read_bytes };
+
+    ghost second_bytes = { K.read_bytes };
+
+    ghost written_bytes = { K.written_bytes };
+
+    ghost first_few = { K.read_few };
+
+    ghost second_few = { K.read_few };
+
+    ghost written_few = { K.written_few };
+}
+
+/// Makes one row of another.
+pub(crate) fn transform_row<K: RowKernel>(kernel: K, src: &[u8], dst: &mut [u8])
+    requires { SameGroups K.from K.to src.now dst.old }
+    ensures { Maps K.from K.to (length dst.new / group_bytes K.to) (K.value kernel) src.now dst.new }
+{
+    transform_rows(&Alone(kernel), src, src, dst);
+}

@@ -1,0 +1,144 @@
+//! How pixels lie in a vector of sixteen samples, and where their alpha is.
+
+ghost use Rattle.std.specs.Prelude.{◌≡◌, ℕ, ◌+◌, ◌*◌, ◌<◌, ◌==◌, Bool, false, if◌then◌else◌, refl};
+ghost use Rattle.std.proofs.Common.{rules};
+ghost use Rattle.sample_rows.specs.Format.{greatest_of};
+
+use crate::lanes::Lanes;
+
+/// Pixels side by side in a vector.
+pub(crate) trait Layout: Copy {
+    /// How many samples a pixel has.
+    ghost channels: { ℕ };
+
+    /// How many pixels a vector has.
+    ghost pixels: { ℕ };
+
+    /// Whether a channel is alpha.
+    ghost is_alpha: { ℕ → Bool };
+
+    /// What the colours of a pixel are at most, where the greatest sample is given.
+    ghost cap: { ℕ → (ℕ → ℕ) → ℕ };
+
+    /// In each lane the cap of its pixel.
+    fn caps<L: Lanes>(samples: L) -> L
+        ensures { (k i : ℕ) → k < pixels → i < channels
+            → L.lane result (k * channels + i) ≡ cap (greatest_of L.depth) (λ c. L.lane samples (k * channels + c)) };
+
+    /// The changed samples, but alpha as it was.
+    fn with_alpha<L: Lanes>(changed: L, old: L) -> L
+        ensures { (k i : ℕ) → k < pixels → i < channels
+            → L.lane result (k * channels + i) ≡ (if is_alpha i then L.lane old (k * channels + i) else L.lane changed (k * channels + i)) };
+
+    ghost sixteen: { pixels * channels ≡ 16 };
+
+    ghost some_pixels: { 0 < pixels };
+
+    ghost some_channels: { 0 < channels };
+
+    ghost cap_of_pixel: { (greatest : ℕ) (p q : ℕ → ℕ) → ((i : ℕ) → i < channels → p i ≡ q i) → cap greatest p ≡ cap greatest q };
+
+    ghost place: { (k i : ℕ) → k < pixels → i < channels → k * channels + i < 16 };
+}
+
+/// Samples without alpha.
+#[derive(Clone, Copy)]
+pub(crate) struct Opaque;
+
+impl Layout for Opaque {
+    ghost channels = { 1 };
+
+    ghost pixels = { 16 };
+
+    ghost is_alpha = { λ i. false };
+
+    ghost cap = { λ greatest pixel. greatest };
+
+    #[inline(always)]
+    fn caps<L: Lanes>(_samples: L) -> L {
+        L::greatest()
+    }
+
+    #[inline(always)]
+    fn with_alpha<L: Lanes>(changed: L, _old: L) -> L {
+        changed
+    }
+
+    ghost sixteen = { refl };
+
+    ghost some_pixels = { Prim.search rules };
+
+    ghost some_channels = { Prim.search rules };
+
+    ghost cap_of_pixel = { λ greatest p q same. refl };
+
+    ghost place = { λ k i lt within. Prim.search rules };
+}
+
+/// Grey and alpha.
+#[derive(Clone, Copy)]
+pub(crate) struct GreyAlpha;
+
+impl Layout for GreyAlpha {
+    ghost channels = { 2 };
+
+    ghost pixels = { 8 };
+
+    ghost is_alpha = { λ i. i + 1 == 2 };
+
+    ghost cap = { λ greatest pixel. pixel 1 };
+
+    #[inline(always)]
+    fn caps<L: Lanes>(samples: L) -> L {
+        samples.spread_second()
+    }
+
+    #[inline(always)]
+    fn with_alpha<L: Lanes>(changed: L, old: L) -> L {
+        changed.with_second(old)
+    }
+
+    ghost sixteen = { refl };
+
+    ghost some_pixels = { Prim.search rules };
+
+    ghost some_channels = { Prim.search rules };
+
+    ghost cap_of_pixel = { λ greatest p q same. same 1 (Prim.search rules) };
+
+    ghost place = { λ k i lt within. Prim.search rules };
+}
+
+/// Three colours and alpha.
+#[derive(Clone, Copy)]
+pub(crate) struct ColoursAlpha;
+
+impl Layout for ColoursAlpha {
+    ghost channels = { 4 };
+
+    ghost pixels = { 4 };
+
+    ghost is_alpha = { λ i. i + 1 == 4 };
+
+    ghost cap = { λ greatest pixel. pixel 3 };
+
+    #[inline(always)]
+    fn caps<L: Lanes>(samples: L) -> L {
+        samples.spread_fourth()
+    }
+
+    #[inline(always)]
+    fn with_alpha<L: Lanes>(changed: L, old: L) -> L {
+        changed.with_fourth(old)
+    }
+
+    ghost sixteen = { refl };
+
+    ghost some_pixels = { Prim.search rules };
+
+    ghost some_channels = { Prim.search rules };
+
+    ghost cap_of_pixel = { λ greatest p q same. same 3 (Prim.search rules) };
+
+    ghost place = { λ k i lt within. Prim.search rules };
+}
