@@ -1,10 +1,10 @@
 -- What small graphs stand for.
-use Rattle.std.proofs.Common.{◌≡◌, ◌≢◌, ℕ, Bool, true, false, List, [], ◌∷◌, refl, sym, ap, ◌∙◌}
+use Rattle.std.proofs.Common.{◌≡◌, ◌≢◌, ℕ, Bool, true, false, List, [], ◌∷◌, refl}
 use Rattle.std.specs.Str.{bytes_eq}
 use Rattle.std.proofs.lemmas.Slice.Eq.{bytes_eq-Decides}
 use Rattle.images.specs.Paint.{inverted_image}
-use Rattle.graphs.specs.Node.{Node, Source, Compute}
-use Rattle.graphs.specs.Operation.{Operation, Invert, result_of}
+use Rattle.graphs.specs.Node.{Source, Compute}
+use Rattle.graphs.specs.Operation.{Invert, result_of}
 use Rattle.graphs.specs.Evaluation.{Buffers, buffer_image, evaluated}
 
 pub same_bytes : (name : List ℕ) → bytes_eq name name ≡ true

@@ -1,5 +1,5 @@
 -- Operations, and the image that each gives of the images of its inputs.
-use Rattle.std.specs.Prelude.{List, [], ◌∷◌, slice_index_or}
+use Rattle.std.specs.Prelude.{List, slice_index_or}
 use Rattle.plane_rect.specs.Rectangle.{empty}
 use Rattle.sample_rows.specs.declared.format.Format.TheVariants.{Y8}
 use Rattle.images.specs.Image.{Image}

@@ -11,7 +11,6 @@ ghost use Rattle.graphs.specs.Operation.{Invert, result_of};
 pub fn inverse_of_buffer()
     ensures { (buffers : Buffers) (buffer source node : List ℕ) → source ≢ node →
         evaluated result_of buffers
-            (record { name = source; body = Source buffer } ∷ record { name = node; body = Compute Invert (source ∷ []) } ∷ [])
-            node ≡ inverted_image (buffer_image buffers buffer) }
-{
-}
+        (record { name = source; body = Source buffer } ∷ record { name = node; body = Compute Invert (source ∷ []) } ∷ [])
+        node ≡ inverted_image (buffer_image buffers buffer) }
+{}

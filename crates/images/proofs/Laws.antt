@@ -1,6 +1,5 @@
 -- The laws of images.
-use Rattle.std.proofs.Common.{◌≡◌, ℕ, ◌+◌, ◌%◌, ◌<◌, Bool, true, false, ◌&&◌, List, length, get_or, map, sym, ap, ◌∙◌, refl, arith, cond, ltb, inl, inr, ⊎_elim}
-use Rattle.std.specs.List.{range_with_len}
+use Rattle.std.proofs.Common.{◌≡◌, ℕ, ◌%◌, ◌<◌, true, false, ◌&&◌, List, get_or, sym, ap, ◌∙◌, refl, arith, cond, ltb}
 use Rattle.std.proofs.lemmas.Bool.Decides.{nat_tests}
 use Rattle.std.proofs.lemmas.List.{same_lists}
 use Rattle.std.proofs.lemmas.List.FromFn.{get_or-map-range_with_len, length-map-range_with_len, fill_by_all}
@@ -45,12 +44,12 @@ sampled_alike r n f g same =
     let F : ℕ → ℕ = λ j. f (column_of r n j) (row_of r n j) (j % n) in
     let G : ℕ → ℕ = λ j. g (column_of r n j) (row_of r n j) (j % n) in
     same_lists _ _ (length-map-range_with_len F 0 N ∙ sym (length-map-range_with_len G 0 N))
-      (λ k d h.
-        let below : k < N = omega (arith, length-map-range_with_len F 0 N) in
-        let p = place_lies r n k below in
-        get_or-map-range_with_len F 0 N k k d below (omega arith)
-        ∙ same _ _ _ p.0 p.1
-        ∙ sym (get_or-map-range_with_len G 0 N k k d below (omega arith)))
+    (λ k d h.
+    let below : k < N = omega (arith, length-map-range_with_len F 0 N) in
+    let p = place_lies r n k below in
+    get_or-map-range_with_len F 0 N k k d below (omega arith)
+    ∙ same _ _ _ p.0 p.1
+    ∙ sym (get_or-map-range_with_len G 0 N k k d below (omega arith)))
 
 pub drawn_alike : (box : Rectangle) (format : Format) (f g : ℕ → ℕ → ℕ → ℕ) → ((u v c : ℕ) → Lies u v box → c < channels format → f u v c ≡ g u v c) → drawn box format f ≡ drawn box format g
 drawn_alike box format f g same =
@@ -61,8 +60,8 @@ drawn-at image whole =
     let n = channels image.format in
     let F : ℕ → ℕ = λ j. at image (column_of image.box n j) (row_of image.box n j) (j % n) in
     let same : image.samples ≡ sampled image.box n (at image) =
-        fill_by_all F image.samples (sample_count image.box n) 0 whole
-          (λ k below.
-            let p = place_lies image.box n k below in
-            sym (at_inside image _ _ _ p.0 p.1 ∙ ap (λ j. get_or image.samples j 0) (index_of_place image.box n k))) in
+    fill_by_all F image.samples (sample_count image.box n) 0 whole
+    (λ k below.
+    let p = place_lies image.box n k below in
+    sym (at_inside image _ _ _ p.0 p.1 ∙ ap (λ j. get_or image.samples j 0) (index_of_place image.box n k))) in
     ap (λ (samples : List ℕ). record { box = image.box; format = image.format; samples = samples }) (sym same)

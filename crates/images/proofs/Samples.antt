@@ -1,15 +1,10 @@
 -- Where the sample of a place and a channel stands, and back.
-use Rattle.std.proofs.Common.{◌≡◌, ℕ, zero, suc, ◌+◌, ◌-◌, ◌*◌, ◌/◌, ◌%◌, ◌<◌, ◌≤◌, Bool, true, false, ◌&&◌, List, length, get_or, map, sym, ap, ◌∙◌, refl, arith, cond, ltb, leb, subst}
-use Rattle.std.specs.List.{range_with_len}
+use Rattle.std.proofs.Common.{◌≡◌, ℕ, zero, suc, ◌+◌, ◌-◌, ◌*◌, ◌/◌, ◌%◌, ◌<◌, true, refl, arith}
 use Rattle.std.proofs.lemmas.Nat.{mul-add-lt, div-mul-add, mod-mul-add, div_below, mod_below, div-add-mod'}
-use Rattle.std.proofs.lemmas.List.FromFn.{get_or-map-range_with_len, length-map-range_with_len}
 use Rattle.std.proofs.lemmas.Bool.Decides.{nat_tests}
-use Rattle.std.proofs.lemmas.List.{same_lists}
 use Rattle.std.proofs.Math.Nat.{mul-zero, mul_comm}
-use Rattle.plane_rect.specs.Rectangle.{Rectangle, Lies, area, offset}
-use Rattle.sample_rows.specs.Format.{channels}
-use Rattle.sample_rows.specs.declared.format.Format.{Format}
-use Rattle.images.specs.Image.{Image, IsImage, lies, at, drawn, sampled, sample_index, sample_count, column_of, row_of}
+use Rattle.plane_rect.specs.Rectangle.{Rectangle, Lies, area}
+use Rattle.images.specs.Image.{lies, sample_index, sample_count, column_of, row_of}
 
 pub lies_where : (u v : ℕ) (r : Rectangle) → Lies u v r → lies u v r ≡ true
 lies_where u v r h = grind (arith, nat_tests)
@@ -28,10 +23,11 @@ pub place_of_index : (r : Rectangle) (n u v c : ℕ) → Lies u v r → c < n �
 place_of_index r n u v c h k =
     let place = div-mul-add ((v - r.top) * r.width + (u - r.left)) n c k in
     let column = mod-mul-add (v - r.top) r.width (u - r.left) (omega arith) in
-    let row = div-mul-add (v - r.top) r.width (u - r.left) (omega arith) in
-    ( rw place (rw column (omega arith))
-    , rw place (rw row (omega arith))
-    , mod-mul-add ((v - r.top) * r.width + (u - r.left)) n c k )
+    let row = div-mul-add (v - r.top) r.width (u - r.left) (omega arith) in (
+      rw place (rw column (omega arith)),
+      rw place (rw row (omega arith)),
+      mod-mul-add ((v - r.top) * r.width + (u - r.left)) n c k,
+    )
 
 -- a product is 0 where a factor is
 factor_pos : (a b i : ℕ) → i < a * b → 0 < b

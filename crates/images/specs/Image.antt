@@ -1,7 +1,7 @@
 -- Images. One is reached by `at`, and made by `drawn`.
-use Rattle.std.specs.Prelude.{◌≡◌, ℕ, ◌+◌, ◌-◌, ◌*◌, ◌/◌, ◌%◌, ◌<◌, Bool, ◌&&◌, nat_lt, nat_le, if◌then◌else◌, List, map, length, slice_index}
+use Rattle.std.specs.Prelude.{◌≡◌, ℕ, ◌+◌, ◌*◌, ◌/◌, ◌%◌, Bool, ◌&&◌, nat_lt, nat_le, if◌then◌else◌, List, map, length, slice_index}
 use Rattle.std.specs.List.{range_with_len}
-use Rattle.plane_rect.specs.Rectangle.{Rectangle, Lies, area, offset}
+use Rattle.plane_rect.specs.Rectangle.{Rectangle, area, offset}
 use Rattle.sample_rows.specs.Format.{channels}
 use Rattle.sample_rows.specs.Row.{Pixel}
 use Rattle.sample_rows.specs.declared.format.Format.{Format}

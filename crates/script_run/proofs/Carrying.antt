@@ -22,8 +22,8 @@ use Rattle.script_run.specs.declared.form.Stage.{Stage}
 use Rattle.script_run.specs.declared.form.Stage.TheVariants as stages
 use Rattle.script_run.specs.declared.texts.Cause.TheVariants as causes
 use Rattle.script_run.specs.Commands.{if_passed}
-use Rattle.script_run.specs.Form.{Follows, GoOn, next_stage}
-use Rattle.script_run.specs.Outcome.{State, Outcome, Turn, Leaves, IsRefused, empty_state, lines_outcome, after_turn, turn, load, node_image, nothing, refusal, rendered, then_do}
+use Rattle.script_run.specs.Form.{Follows, GoOn}
+use Rattle.script_run.specs.Outcome.{State, Outcome, Leaves, IsRefused, empty_state, lines_outcome, after_turn, load, node_image, nothing, refusal, rendered, then_do}
 use Rattle.script_run.specs.Rendering.{renders_outcome, raster_outcome, file_outcome}
 
 passed : (test : Bool) (stage : Stage) (rest : Stage → Type 0) → GoOn (if_passed test stage) rest → (test ≡ true) × rest stage
@@ -74,12 +74,12 @@ behind_load files loaded image buffers (Source source buffer ∷ Invert node inp
     let apart : source ≢ node = λ e. differ node source tests.1 (sym e) in
     let same : input ≡ source = same_names input source tests.0 in
     let nodes : List ℕ → List (graph.Node Operation) = λ i.
-        record { name = source; body = graph.Source buffer } ∷ record { name = node; body = graph.Compute operations.Invert (i ∷ []) } ∷ [] in
+    record { name = source; body = graph.Source buffer } ∷ record { name = node; body = graph.Compute operations.Invert (i ∷ []) } ∷ [] in
     let state : State = record { buffers = buffers; noted = []; number = 1; committed_buffers = buffers; committed_nodes = nodes input } in
     let shows : node_image state node ≡ inverted_image image =
-        ap (λ (i : List ℕ). evaluated result_of buffers (nodes i) node) same
-        ∙ inverse_of_buffer buffers buffer source node apart
-        ∙ ap inverted_image (found buffer (same_names buffer loaded sourced.0)) in
+    ap (λ (i : List ℕ). evaluated result_of buffers (nodes i) node) same
+    ∙ inverse_of_buffer buffers buffer source node apart
+    ∙ ap inverted_image (found buffer (same_names buffer loaded sourced.0)) in
     renders 6 state files node commands refl inverted.1 ∙ ap (λ (i : Image). renders_outcome 6 i commands) shows
 behind_load files loaded image buffers (Source source buffer ∷ Invert node input ∷ command ∷ commands) follows found =
     let sourced = passed (bytes_eq buffer loaded) (stages.Sourced source) (λ next. Follows next (Invert node input ∷ command ∷ commands)) follows in
@@ -122,7 +122,7 @@ carries_out files made loaded name rect part commands follows =
     let rect_same : part ≡ rect = same_rectangle-true part rect tests.1 in
     ap (λ (n : List ℕ). after_turn 2 (made_state made rect) files (load (made_state made rect) n part (file files name)) (λ next later. lines_outcome 3 next later commands)) name_same
     ∙ subst (λ (r : Rectangle). after_turn 2 (made_state made rect) files (load (made_state made rect) made r (file files name)) (λ next later. lines_outcome 3 next later commands) ≡ file_outcome r (file files name) (drop 3 commands))
-        (sym rect_same) (load_turn files made rect commands (file files name) goes.1)
+    (sym rect_same) (load_turn files made rect commands (file files name) goes.1)
 
 -- a script that loads no raster does nothing
 pub carries_out_none : (files : Files) (commands : List Command) → Follows stages.Empty commands → length commands ≤ 1 →

@@ -1,15 +1,14 @@
 -- Lemmas on names of files.
-use Rattle.std.proofs.Common.{◌≡◌, ℕ, ◌≤◌, ◌<◌, ◌-◌, ◌+◌, Bool, true, false, ◌&&◌, List, [], ◌∷◌, ◌++◌, length, take, drop, replicate, IsTrue, arith, refl, ap, sym, rules}
+use Rattle.std.proofs.Common.{◌≡◌, ℕ, ◌<◌, true, List, [], ◌∷◌, ◌++◌, length, take, drop, replicate, IsTrue, arith, refl, ap, sym, rules}
 use Rattle.std.specs.List.{list_all}
 use Rattle.std.specs.Str.{IsAscii, IsUtf8}
 use Rattle.std.proofs.lemmas.Bool.Decides.{nat_tests}
 use Rattle.std.proofs.lemmas.Str.Ascii.{IsAscii-nil, IsAscii-cons}
 use Rattle.std.proofs.lemmas.Str.{IsUtf8-from_ascii}
-use Rattle.std.proofs.lemmas.Grind.{common_steps}
 use Rattle.std.proofs.Math.Seq.{take-append_seam}
 use Rattle.std.proofs.lemmas.List.{drop-replicate}
 use Rattle.outside_io.specs.FileName.{is_file_name, is_name_byte}
-use Rattle.script_run.specs.FileNames.{HoldsFileName, padded_file_name}
+use Rattle.script_run.specs.FileNames.{HoldsFileName}
 
 -- a file name that was written over the front of zeros
 pub written_file_name : (word : List ℕ) → IsTrue (is_file_name word) → HoldsFileName (word ++ drop (length word) (replicate 64 0)) (length word)

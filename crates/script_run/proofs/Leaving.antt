@@ -1,7 +1,6 @@
 -- What parts of a run leave, one part after another.
-use Rattle.std.proofs.Common.{◌≡◌, ℕ, ◌≤◌, List, [], ◌∷◌, ◌++◌, take, Option, Some, None, Result, Ok, Err, IfSome, refl, sym, ap, ◌∙◌, subst, inl, inr, ⊎_elim, ◌⊎◌, arith}
+use Rattle.std.proofs.Common.{◌≡◌, ℕ, List, [], ◌∷◌, ◌++◌, Option, Some, None, Result, Ok, Err, IfSome, refl, sym, ◌∙◌, subst, inl, inr, arith}
 use Rattle.std.specs.Result.{IsErrAnd}
-use Rattle.outside_io.specs.Faults.{Rose}
 use Rattle.outside_io.specs.Files.{Files}
 use Rattle.images.specs.Image.{Image}
 use Rattle.script_run.specs.Rendering.{renders_outcome}
@@ -9,7 +8,7 @@ use Rattle.script_run.specs.declared.command.Command.{Command}
 use Rattle.script_run.specs.declared.status.End.{End}
 use Rattle.script_run.specs.declared.status.End.TheVariants as ends
 use Rattle.script_run.specs.Outcome.{Event, Writes, Puts, Outcome, Refusal, events_alone, then_do}
-use Rattle.script_run.specs.Ending.{World, after, after_all, IsFront, LeavesSome, IsWhole, MayTear, SaysRefused, Leaves, Faults, HasCause, NoneFalls}
+use Rattle.script_run.specs.Ending.{World, after, after_all, LeavesSome, MayTear, Leaves, Faults, HasCause, NoneFalls}
 
 -- nothing has come
 pub none_yet : (torn : Type 0) (events : List Event) (world : World) → LeavesSome torn events world world

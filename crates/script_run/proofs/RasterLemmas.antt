@@ -1,13 +1,13 @@
 -- Images of format Y8, whose samples are bytes.
-use Rattle.std.proofs.Common.{◌≡◌, ℕ, ◌+◌, ◌-◌, ◌*◌, ◌/◌, ◌<◌, Bool, true, false, cond, List, length, get_or, refl, sym, ap, ◌∙◌, arith}
-use Rattle.plane_rect.specs.Rectangle.{Rectangle, Lies, area, offset}
+use Rattle.std.proofs.Common.{◌≡◌, ℕ, ◌-◌, ◌<◌, cond, List, length, get_or, sym, ap, ◌∙◌, arith}
+use Rattle.plane_rect.specs.Rectangle.{Rectangle, Lies, offset}
 use Rattle.sample_rows.specs.declared.format.Format.TheVariants.{Y8}
 use Rattle.sample_rows.specs.Row.{HasPixels, pixel_at}
 use Rattle.sample_rows.specs.Invert.{inverted_pixel}
 use Rattle.images.specs.Image.{Image, IsImage, at, lies, sample_index}
 use Rattle.images.specs.Paint.{blank, put_raw, inverted_image}
 use Rattle.images.proofs.Samples.{lies_where, sample_index_below}
-use Rattle.images.proofs.Laws.{at_inside, at_outside, drawn_alike, drawn-at}
+use Rattle.images.proofs.Laws.{at_inside, drawn_alike, drawn-at}
 
 -- the image of a box whose samples are these bytes
 abbrev pub bytes_image : Rectangle → List ℕ → Image
@@ -21,11 +21,11 @@ pub bytes_image-put_raw : (box : Rectangle) (bytes : List ℕ) → IsImage (byte
 bytes_image-put_raw box bytes whole =
     let image = bytes_image box bytes in
     let painted : ℕ → ℕ → ℕ → ℕ =
-        λ u v c. cond (lies u v box) (get_or bytes (sample_index box 1 u v c) 0) (at (blank box Y8) u v c) in
+    λ u v c. cond (lies u v box) (get_or bytes (sample_index box 1 u v c) 0) (at (blank box Y8) u v c) in
     let same : (u v c : ℕ) → Lies u v box → c < 1 → at image u v c ≡ painted u v c =
-        λ u v c there known.
-          let inside = lies_where u v box there in
-          rw inside (at_inside image u v c there known) in
+    λ u v c there known.
+    let inside = lies_where u v box there in
+    rw inside (at_inside image u v c there known) in
     sym (drawn-at image whole) ∙ drawn_alike box Y8 (at image) painted same
 
 pub inverted_bytes_image : (box : Rectangle) (bytes inverse : List ℕ) → IsImage (bytes_image box bytes) → length inverse ≡ length bytes →
@@ -34,9 +34,9 @@ inverted_bytes_image box bytes inverse whole same pixels =
     let image = bytes_image box bytes in
     let result = bytes_image box inverse in
     let alike : (u v c : ℕ) → Lies u v box → c < 1 → at result u v c ≡ 255 - at image u v c =
-        λ u v c there known.
-          let below = sample_index_below box 1 u v c there known in
-          at_inside result u v c there known
-          ∙ pixels (offset box u v) c (omega arith) known
-          ∙ ap (λ (n : ℕ). 255 - n) (sym (at_inside image u v c there known)) in
+    λ u v c there known.
+    let below = sample_index_below box 1 u v c there known in
+    at_inside result u v c there known
+    ∙ pixels (offset box u v) c (omega arith) known
+    ∙ ap (λ (n : ℕ). 255 - n) (sym (at_inside image u v c there known)) in
     sym (drawn-at result (same ∙ whole)) ∙ drawn_alike box Y8 (at result) (λ u v c. 255 - at image u v c) alike

@@ -1,11 +1,10 @@
 -- The raw bytes of an image of one channel, row after row.
-use Rattle.std.proofs.Common.{◌≡◌, ℕ, zero, suc, ◌+◌, ◌*◌, ◌/◌, ◌%◌, ◌<◌, List, [], ◌∷◌, ◌++◌, length, get_or, map, refl, sym, ap, ◌∙◌, arith, append_assoc}
+use Rattle.std.proofs.Common.{◌≡◌, ℕ, zero, suc, ◌+◌, ◌*◌, ◌/◌, ◌%◌, ◌<◌, List, [], ◌∷◌, ◌++◌, map, refl, sym, ap, ◌∙◌, arith, append_assoc}
 use Rattle.std.specs.List.{range_with_len, flat_map}
 use Rattle.std.proofs.lemmas.List.{same_lists, append-nil}
 use Rattle.std.proofs.lemmas.List.FromFn.{map-range_with_len_more, get_or-map-range_with_len, length-map-range_with_len}
 use Rattle.std.proofs.lemmas.Nat.{div-mul-add, mod-mul-add}
 use Rattle.plane_rect.specs.Rectangle.{Rectangle, area}
-use Rattle.sample_rows.specs.declared.format.Format.TheVariants.{Y8}
 use Rattle.images.specs.Image.{Image, at, sampled}
 use Rattle.images.specs.Raw.{raw, sample_bytes}
 use Rattle.script_run.specs.Rows.{row_of}
@@ -28,14 +27,14 @@ map-range-append f a (suc b) =
     ∙ ap (λ (xs : List ℕ). xs ++ f (a + b) ∷ []) (map-range-append f a b)
     ∙ append_assoc (map f (range_with_len 0 a)) (map g (range_with_len 0 b)) (f (a + b) ∷ [])
     ∙ ap (λ (xs : List ℕ). map f (range_with_len 0 a) ++ xs)
-        (sym (map-range_with_len_more g 0 b b (omega arith)) ∙ ap (λ (n : ℕ). map g (range_with_len 0 n)) more)
+    (sym (map-range_with_len_more g 0 b b (omega arith)) ∙ ap (λ (n : ℕ). map g (range_with_len 0 n)) more)
 
 map-range-alike : (f g : ℕ → ℕ) (n : ℕ) → ((i : ℕ) → i < n → f i ≡ g i) → map f (range_with_len 0 n) ≡ map g (range_with_len 0 n)
 map-range-alike f g n same =
     same_lists _ _ (length-map-range_with_len f 0 n ∙ sym (length-map-range_with_len g 0 n))
-      (λ k d h.
-        let below : k < n = omega (arith, length-map-range_with_len f 0 n) in
-        get_or-map-range_with_len f 0 n k k d below (omega arith) ∙ same k below ∙ sym (get_or-map-range_with_len g 0 n k k d below (omega arith)))
+    (λ k d h.
+    let below : k < n = omega (arith, length-map-range_with_len f 0 n) in
+    get_or-map-range_with_len f 0 n k k d below (omega arith) ∙ same k below ∙ sym (get_or-map-range_with_len g 0 n k k d below (omega arith)))
 
 pub sampled-more : (image : Image) (r : Rectangle) (k : ℕ) →
     sampled (rows_of r (k + 1)) 1 (at image) ≡ sampled (rows_of r k) 1 (at image) ++ row_of image r (r.top + k)
@@ -44,12 +43,12 @@ sampled-more image r k =
     let g : ℕ → ℕ = λ i. at image (r.left + i) (r.top + k) 0 in
     let more : area (rows_of r (k + 1)) * 1 ≡ area (rows_of r k) * 1 + r.width = omega arith in
     let shifted : (i : ℕ) → i < r.width → f (area (rows_of r k) * 1 + i) ≡ g i =
-        λ i below.
-          let whole : (area (rows_of r k) * 1 + i) / 1 ≡ k * r.width + i = omega arith in
-          let none : (area (rows_of r k) * 1 + i) % 1 ≡ 0 = omega arith in
-          let column = mod-mul-add k r.width i below in
-          let row = div-mul-add k r.width i below in
-          rw (whole, none, column, row) refl in
+    λ i below.
+    let whole : (area (rows_of r k) * 1 + i) / 1 ≡ k * r.width + i = omega arith in
+    let none : (area (rows_of r k) * 1 + i) % 1 ≡ 0 = omega arith in
+    let column = mod-mul-add k r.width i below in
+    let row = div-mul-add k r.width i below in
+    rw (whole, none, column, row) refl in
     ap (λ (n : ℕ). map f (range_with_len 0 n)) more
     ∙ map-range-append f (area (rows_of r k) * 1) r.width
     ∙ ap (λ (xs : List ℕ). map f (range_with_len 0 (area (rows_of r k) * 1)) ++ xs) (map-range-alike (λ i. f (area (rows_of r k) * 1 + i)) g r.width shifted)

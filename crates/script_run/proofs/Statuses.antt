@@ -1,10 +1,10 @@
 -- What a status says.
-use Rattle.std.proofs.Common.{◌≡◌, ◌≢◌, ℕ, ◌≤◌, ◌⊎◌, List, [], ◌∷◌, Option, Some, None, Result, Ok, Err, IfSome, refl, sym, ap, ◌∙◌, subst, inl, inr, ⊎_elim, lit≤, arith}
+use Rattle.std.proofs.Common.{◌≡◌, ℕ, ◌⊎◌, List, [], ◌∷◌, Option, Some, None, Result, Ok, Err, IfSome, refl, inl, inr}
 use Rattle.outside_io.specs.Files.{Files}
 use Rattle.script_run.specs.declared.status.End.{End}
 use Rattle.script_run.specs.declared.status.End.TheVariants as ends
 use Rattle.script_run.specs.Outcome.{Event, Writes, Puts, Outcome}
-use Rattle.script_run.specs.Ending.{World, after, after_all, IsFront, LeavesSome, MayTear, Leaves}
+use Rattle.script_run.specs.Ending.{World, after, IsFront, LeavesSome, MayTear, Leaves}
 use Rattle.script_run.specs.Status.{status_of}
 
 may_tear_at : (ended : Result (Unit {0}) End) → MayTear ended → (status_of ended ≡ 4) ⊎ (status_of ended ≡ 7)

@@ -6,10 +6,10 @@
 --     node I invert S
 --     commit
 --     render I 0 Q FILE
-use Rattle.std.specs.Prelude.{ℕ, ◌+◌, ◌-◌, take, slice_index, ◌==◌, Bool, not, ◌&&◌, if◌then◌else◌, List, [], ◌∷◌, Option, Some, None, Result, Ok, Err, length, ◌≡◌, ⊤}
+use Rattle.std.specs.Prelude.{ℕ, ◌+◌, ◌-◌, take, slice_index, ◌==◌, not, ◌&&◌, if◌then◌else◌, List, [], ◌∷◌, Option, Some, None, Result, Ok, Err, length, ◌≡◌, ⊤}
 use Rattle.std.specs.Str.{bytes_eq}
 use Rattle.std.specs.List.{slice_split}
-use Rattle.plane_rect.specs.Rectangle.{Rectangle, same_rectangle}
+use Rattle.plane_rect.specs.Rectangle.{same_rectangle}
 use Rattle.script_run.specs.Commands.{words_of, command_of, if_passed}
 use Rattle.script_run.specs.declared.command.Command.{Command}
 use Rattle.script_run.specs.declared.command.Command.TheVariants.{Buffer, Load, Source, Invert, Commit, Render}

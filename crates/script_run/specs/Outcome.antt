@@ -1,6 +1,5 @@
 -- What a run is to do: files to be written and texts to be put, one after another, up to a line that is refused.
-use Rattle.std.specs.Prelude.{◌≡◌, ℕ, ◌+◌, ◌*◌, ◌^◌, ◌==◌, nat_lt, if◌then◌else◌, List, [], ◌∷◌, ◌++◌, length, Option, Some, None, Result, Ok, Err}
-use Rattle.std.specs.Str.{bytes_eq}
+use Rattle.std.specs.Prelude.{ℕ, ◌+◌, ◌==◌, nat_lt, if◌then◌else◌, List, [], ◌∷◌, ◌++◌, length, Option, Some, None, Result, Ok, Err}
 use Rattle.plane_rect.specs.Rectangle.{Rectangle, area}
 use Rattle.sample_rows.specs.declared.format.Format.TheVariants.{Y8}
 use Rattle.outside_io.specs.Files.{Files, file, filed}

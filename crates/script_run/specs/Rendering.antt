@@ -8,7 +8,7 @@ use Rattle.images.specs.Raw.{raw}
 use Rattle.script_run.specs.Outcome.{Event, Outcome, nothing, refusal, then_do, rendered}
 use Rattle.script_run.specs.declared.texts.Cause.TheVariants.{Absent, WrongSize}
 use Rattle.script_run.specs.declared.command.Command.{Command}
-use Rattle.script_run.specs.declared.command.Command.TheVariants.{Buffer, Load, Source, Invert, Commit, Render}
+use Rattle.script_run.specs.declared.command.Command.TheVariants.{Render}
 
 -- a render line writes its rectangle of the image, behind the first commit
 abbrev pub render_events : ℕ → Image → Command → List Event

@@ -1,5 +1,5 @@
 -- The texts of a run, each a line.
-use Rattle.std.specs.Prelude.{ℕ, List, [], ◌∷◌, ◌++◌, codes}
+use Rattle.std.specs.Prelude.{ℕ, List, ◌++◌, codes}
 use Rattle.std.specs.Fmt.{decimal}
 use Rattle.script_run.specs.declared.texts.Cause.{Cause}
 use Rattle.script_run.specs.declared.texts.Cause.TheVariants.{Absent, TooLong, UnknownCommand, WrongSize}

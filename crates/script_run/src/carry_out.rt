@@ -9,17 +9,15 @@ ghost use Rattle.script_run.specs.Outcome.{Puts, Writes, events_alone, refusal, 
 ghost use Rattle.script_run.specs.Texts.{render_text as text_of_render};
 ghost use Rattle.script_run.specs.Rendering.{file_outcome, raster_outcome, render_events, renders_outcome};
 
-use std::alloc::Global;
-
-use outside_io::{Shelf, ShelfAnswer, Sink, SinkAnswer};
-use plane_rect::Rect;
-
 use crate::command::Command;
 use crate::file_name::FileName;
 use crate::form::Stage;
 use crate::raster::Raster;
 use crate::status::End;
 use crate::texts::{Cause, refusal_text, render_text};
+use outside_io::{Shelf, ShelfAnswer, Sink, SinkAnswer};
+use plane_rect::Rect;
+use std::alloc::Global;
 
 /// How many lines stand before the first render line.
 const LINES_BEFORE_RENDERS: usize = 5;

@@ -4,10 +4,9 @@ ghost use Rattle.std.specs.Prelude.{◌≡◌, map};
 ghost use Rattle.std.specs.Str.{bytes_eq};
 ghost use Rattle.script_run.specs.Commands.{buffer, buffer_of, command_of, commit_of, load, load_of, node, node_of, render, render_of};
 
-use plane_rect::{Name, Rect};
-
 use crate::file_name::FileName;
 use crate::numbers::{natural_of, rectangle_of};
+use plane_rect::{Name, Rect};
 
 /// A line of a script.
 #[derive(Clone, Copy, Debug)]

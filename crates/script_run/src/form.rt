@@ -6,11 +6,9 @@ ghost use Rattle.script_run.specs.Commands.{command_of};
 ghost use Rattle.script_run.specs.Words.{script_limit};
 ghost use Rattle.script_run.specs.Form.{commands_of, lines_of, without_last_feed, Follows, Reads};
 
-use std::alloc::{AllocError, AllocFailed, Global};
-
-use plane_rect::{Name, Rect};
-
 use crate::command::{Command, command_of};
+use plane_rect::{Name, Rect};
+use std::alloc::{AllocError, AllocFailed, Global};
 
 /// Where the form stands behind some of its lines.
 #[derive(Clone, Copy, Debug)]

@@ -11,15 +11,13 @@ ghost use Rattle.script_run.specs.Outcome.{outcome, text_outcome, commands_outco
 ghost use Rattle.script_run.specs.Ending.{HasCause, IsRefusal, Leaves, LeavesSome, NoneFalls, after_all};
 ghost use Rattle.script_run.specs.Status.{IsStatus, end_status};
 
-use std::alloc::Global;
-
-use outside_io::{Gate, Shelf, ShelfAnswer, Sink, SwapDisk};
-
 use crate::carry_out::{carry_out, refuse};
 use crate::form::{FormRefused, commands_of};
 use crate::status::{End, status_of};
 use crate::texts::Cause;
 use crate::words::script_of;
+use outside_io::{Gate, Shelf, ShelfAnswer, Sink, SwapDisk};
+use std::alloc::Global;
 
 /// The most bytes that a script may have.
 const SCRIPT_LIMIT: u64 = 1 << 20;
@@ -48,12 +46,12 @@ pub fn run<F: Shelf, D: SwapDisk, O: Sink, G: Gate + Sync>(
         (λ files. IsRefusal (outcome (map string_bytes words.now) files).refused) }
     ensures whole { (result ≡ 0) ⊎ (result ≡ 2) → IfSome (F.files shelf.old)
         (λ files. record { files = F.files shelf.new; text = O.written out.new }
-            ≡ after_all (outcome (map string_bytes words.now) files).events (record { files = Some files; text = O.written out.old })) }
+        ≡ after_all (outcome (map string_bytes words.now) files).events (record { files = Some files; text = O.written out.old })) }
 
     // At every status the first of the events have come, and perhaps a front of the next: of a file only at 4 and 7.
     ensures front { IfSome (F.files shelf.old)
         (λ files. LeavesSome ((result ≡ 4) ⊎ (result ≡ 7)) (outcome (map string_bytes words.now) files).events
-            (record { files = Some files; text = O.written out.old }) (record { files = F.files shelf.new; text = O.written out.new })) }
+        (record { files = Some files; text = O.written out.old }) (record { files = F.files shelf.new; text = O.written out.new })) }
 
     // A fault comes only where its count rose. Swap faults and a full swap don't come.
     ensures read_fault { result ≡ 3 → Rose (F.read_faults shelf.old) (F.read_faults shelf.new) }

@@ -1,10 +1,9 @@
 //! Images of format Y8.
 
-use std::alloc::{AllocError, Global};
-use std::marker::Model;
-
 use plane_rect::Rect;
 use sample_rows::{Format, row_invert};
+use std::alloc::{AllocError, Global};
+use std::marker::Model;
 
 /// An image of format Y8: a byte for each place of a rectangle, row by row.
 #[derive(Drop)]

@@ -43,7 +43,12 @@ pub fn refusal_text(alloc: Global, line: u32, cause: Cause) -> Result<String, Al
 }
 
 /// The text of a render line whose file of so many bytes is written, `commit` being the number of the last commit.
-pub fn render_text(alloc: Global, line: u32, commit: u32, bytes: usize) -> Result<String, AllocError>
+pub fn render_text(
+    alloc: Global,
+    line: u32,
+    commit: u32,
+    bytes: usize,
+) -> Result<String, AllocError>
     ensures { IfOk result (λ text. string_bytes text ≡ render_text line commit bytes) }
 {
     format!(in alloc; "render {line} commit {commit} bytes {bytes}\n")

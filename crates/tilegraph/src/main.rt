@@ -1,12 +1,10 @@
 //! The program: `tilegraph run SCRIPT`, in the folder of the script and its files.
 #![tactic(auto)]
 
-use std::env;
-use std::io;
-use std::process::ExitCode;
-
 use outside_io::{FolderShelf, OpenGate, StdSink, SureSwap};
 use script_run::run;
+use std::process::ExitCode;
+use std::{env, io};
 
 /// The status of a program that could not begin for want of memory.
 const NO_MEMORY: u8 = 7;
@@ -22,7 +20,9 @@ fn main(rt: HostRuntime) -> ExitCode {
 fn status(rt: HostRuntime) -> io::Result<u8> {
     let alloc = rt.alloc();
     let words: Vec<String> = env::args(&rt)?.skip(1).collect(alloc)?;
-    let mut swap = SureSwap::new(alloc, SWAP_BLOCKS)?;
+    let Ok(mut swap) = SureSwap::new(alloc, SWAP_BLOCKS) else {
+        return Ok(NO_MEMORY);
+    };
     let mut shelf = FolderShelf::new(rt.clone()?);
     let mut sink = StdSink::new(rt);
     Ok(run(alloc, &words, &mut shelf, &mut swap, &mut sink, &OpenGate))

@@ -1,8 +1,7 @@
-use Rattle.std.proofs.Common.{◌≡◌, ◌∙◌, List, ℕ, [], ◌∷◌, length, ap, sym, rules}
+use Rattle.std.proofs.Common.{◌≡◌, ◌∙◌, [], ◌∷◌, length, ap, rules}
 use Rattle.images.specs.Raw.{raw}
 use Rattle.script_run.specs.Texts.{render_text}
-use Rattle.script_run.specs.Outcome.{Event, Writes, Puts, events_alone}
-use Rattle.script_run.specs.Ending.{Leaves}
+use Rattle.script_run.specs.Outcome.{Writes, Puts, events_alone}
 use Rattle.script_run.proofs.Leaving.{Leaves-same_end, Leaves-first, Leaves-then, Leaves-same_bytes, Leaves-same_text, HasCause-same_end, HasCause-then, none_falls}
 use Rattle.script_run.proofs.carry_out.render.Goals as goal
 
@@ -10,8 +9,8 @@ pub returns-in_err-write-clause-leaves : goal.returns-in_err-write-clause-leaves
 returns-in_err-write-clause-leaves g c =
     let bytes = c.deref.ensures.value ∙ c.in_ok-bytes.ensures in
     Leaves-same_end _ _ _ _ _ c.from_residual-in_err-write.ensures.1
-      (Leaves-first _ (events_alone (Puts (render_text c.args.line 1 (length (raw c.args.image.now c.args.rect.now))) ∷ [])) _ _ _
-        (Leaves-same_bytes _ _ _ _ _ _ bytes (c.in_err-write.ensures.leaves _)))
+    (Leaves-first _ (events_alone (Puts (render_text c.args.line 1 (length (raw c.args.image.now c.args.rect.now))) ∷ [])) _ _ _
+    (Leaves-same_bytes _ _ _ _ _ _ bytes (c.in_err-write.ensures.leaves _)))
 
 pub returns-in_err-write-clause-cause : goal.returns-in_err-write-clause-cause
 returns-in_err-write-clause-cause g c =
@@ -23,8 +22,8 @@ returns-clause-leaves g c =
     let bytes = c.deref.ensures.value ∙ c.in_ok-bytes.ensures in
     let count : c.len.result ≡ length image = search rules in
     Leaves-then (Writes c.args.file.now image ∷ []) (events_alone (Puts (render_text c.args.line 1 (length image)) ∷ [])) _ _ _ _
-      ((Leaves-same_bytes _ _ _ _ _ _ bytes (c.in_ok-write.ensures.leaves _)).whole tt)
-      (Leaves-same_text _ _ _ _ _ (ap (render_text c.args.line 1) count) (c.tell_render.ensures.leaves _))
+    ((Leaves-same_bytes _ _ _ _ _ _ bytes (c.in_ok-write.ensures.leaves _)).whole tt)
+    (Leaves-same_text _ _ _ _ _ (ap (render_text c.args.line 1) count) (c.tell_render.ensures.leaves _))
 
 pub returns-clause-cause : goal.returns-clause-cause
 returns-clause-cause g c = HasCause-then _ _ _ _ (none_falls (c.in_ok-write.ensures.cause _)) (c.tell_render.ensures.cause _ _)

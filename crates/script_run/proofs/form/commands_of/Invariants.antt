@@ -1,4 +1,4 @@
-use Rattle.std.proofs.Common.{◌≡◌, ◌+◌, ◌≤◌, List, ℕ, Bor, map, drop, length}
+use Rattle.std.proofs.Common.{◌≡◌, ◌+◌, ◌≤◌, drop, length}
 use Rattle.script_run.specs.Form.{commands_of, commands_from}
 use Rattle.script_run.proofs.FormLemmas.{before_all, LeadsTo}
 use Rattle.script_run.proofs.CommandsLemmas.{texts}

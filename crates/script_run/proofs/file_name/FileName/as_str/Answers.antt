@@ -1,6 +1,5 @@
-use Rattle.std.proofs.Common.{◌≡◌, ℕ, List, take, IsTrue, rules, MatchResult, Result, Ok, Err, Bor, arith}
+use Rattle.std.proofs.Common.{take, arith}
 use Rattle.std.proofs.lemmas.Grind.{common_steps}
-use Rattle.std.specs.Result.{IsOk}
 use Rattle.std.specs.Str.{IsUtf8}
 use Rattle.script_run.proofs.FileNamesLemmas.{IsUtf8-file_name}
 use Rattle.script_run.proofs.file_name.FileName.as_str.Goals as goal

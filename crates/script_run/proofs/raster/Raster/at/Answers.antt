@@ -1,6 +1,5 @@
-use Rattle.std.proofs.Common.{◌≡◌, sym, ◌∙◌, ap, rules, arith, ℕ}
+use Rattle.std.proofs.Common.{sym, ◌∙◌, rules, arith}
 use Rattle.std.proofs.lemmas.List.{get_or_read}
-use Rattle.images.specs.Image.{Image, at}
 use Rattle.images.proofs.Laws.{at_outside}
 use Rattle.script_run.proofs.RasterLemmas.{at-bytes_image}
 use Rattle.script_run.proofs.raster.Raster.at.Goals as goal
@@ -9,8 +8,8 @@ pub returns-then-has_place : goal.returns-then-has_place
 returns-then-has_place c =
     let lies = c.if-has_place.ensures in
     rw (← c.self.view_is)
-      (get_or_read c.self.inside.samples.items c.offset.result c.index.result.now (omega arith) c.index.ensures 0
-       ∙ rw c.offset.ensures.value (sym (at-bytes_image c.self.inside.rect c.self.inside.samples.items c.args.column c.args.row (search rules))))
+    (get_or_read c.self.inside.samples.items c.offset.result c.index.result.now (omega arith) c.index.ensures 0
+    ∙ rw c.offset.ensures.value (sym (at-bytes_image c.self.inside.rect c.self.inside.samples.items c.args.column c.args.row (search rules))))
 
 pub returns-else-has_place : goal.returns-else-has_place
 returns-else-has_place c =

@@ -11,5 +11,5 @@ returns c =
     let same : length inverse ≡ length bytes = search rules in
     let fits : length inverse ≡ c.in_ok-samples.samples.len = search rules in
     rw (← c.self.view_is)
-      (ap (bytes_image box) (with_items_is c.in_ok-samples.samples inverse fits)
-       ∙ inverted_bytes_image box bytes inverse c.self.invariant same (search rules))
+    (ap (bytes_image box) (with_items_is c.in_ok-samples.samples inverse fits)
+    ∙ inverted_bytes_image box bytes inverse c.self.invariant same (search rules))

@@ -16,9 +16,9 @@ loop-column-preserved c =
     let next : n + 1 ≡ column + 1 - rect.left = omega arith in
     let sample : c.at.result ≡ f n = c.at.ensures ∙ ap (λ (u : ℕ). at image u c.args.row 0) here in
     let more : map f (range_with_len 0 n) ++ c.at.result ∷ [] ≡ map f (range_with_len 0 (column + 1 - rect.left)) =
-        ap (λ (x : ℕ). map f (range_with_len 0 n) ++ x ∷ []) sample
-        ∙ sym (map-range_with_len_more f 0 n n (omega arith))
-        ∙ ap (λ (k : ℕ). map f (range_with_len 0 k)) next in
+    ap (λ (x : ℕ). map f (range_with_len 0 n) ++ x ∷ []) sample
+    ∙ sym (map-range_with_len_more f 0 n n (omega arith))
+    ∙ ap (λ (k : ℕ). map f (range_with_len 0 k)) next in
     c.in_ok-push.ensures.items
     ∙ ap (λ (xs : List ℕ). xs ++ c.at.result ∷ []) c.loop-column.invariant
     ∙ append_assoc old (map f (range_with_len 0 n)) (c.at.result ∷ [])

@@ -1,0 +1,7 @@
+//! Worked examples of whole runs. What each must leave was worked out by hand.
+#![tactic(auto)]
+
+#[cfg(test)]
+mod cases;
+#[cfg(test)]
+mod tests;
