@@ -1,76 +1,67 @@
-//! Runs over a shelf and a sink in memory, and what they must leave.
+//! Runs over a shelf and a sink in memory.
 
 use outside_io::{MemShelf, MemSink, OpenGate, SureSwap};
 use script_run::run;
 use std::alloc::{AllocError, Global};
-use std::process::Abort;
 use std::test::Fail;
 
-/// The numbers of the calls that fail, counted from 1.
+/// The number of the call of each kind that fails, counted from 1; at 0 none fails.
 #[derive(Clone, Copy)]
-pub struct Failing<'a> {
-    pub reads: &'a [u64],
-    pub writes: &'a [u64],
-    pub puts: &'a [u64],
+pub struct Failing {
+    pub read: u64,
+    pub write: u64,
+    pub put: u64,
 }
 
-pub const NONE_FAILS: Failing<'static> = Failing {
-    reads: &[],
-    writes: &[],
-    puts: &[],
+pub const NONE_FAILS: Failing = Failing {
+    read: 0,
+    write: 0,
+    put: 0,
 };
 
-/// A run, and what it must leave.
-#[derive(Clone, Copy)]
-pub struct Case<'a> {
-    pub about: &'a str,
-    pub words: &'a [&'a str],
-    pub files: &'a [(&'a str, &'a [u8])],
-    pub failing: Failing<'a>,
+/// What a run left.
+#[derive(Drop)]
+pub struct Left {
     pub status: u8,
-    pub text: &'a str,
-    /// Files that must hold these bytes, or not be there.
-    pub left: &'a [(&'a str, Option<&'a [u8]>)],
+    pub text: Vec<u8>,
+    pub shelf: MemShelf,
 }
 
-impl Case<'_> {
-    /// Runs it, and stops where it leaves something else.
-    pub fn check(&self, rt: &impl Abort, alloc: Global) -> Result<(), Fail> {
-        let about = self.about;
-        let mut shelf = MemShelf::new(
-            alloc,
-            owned_files(alloc, self.files)?,
-            self.failing.reads.to_vec(alloc)?,
-            self.failing.writes.to_vec(alloc)?,
-        );
-        let mut sink = MemSink::new(alloc, self.failing.puts.to_vec(alloc)?);
-        let mut swap = SureSwap::new(alloc, 1)?;
-        let words = owned_words(alloc, self.words)?;
-        let status = run(alloc, &words, &mut shelf, &mut swap, &mut sink, &OpenGate);
-        assert_eq!(rt; status, self.status, "status of {about}");
-        assert_eq!(rt; sink.bytes(), self.text.as_bytes(), "text of {about}");
-        for (name, bytes) in self.left {
-            assert_eq!(rt; shelf.get(name), *bytes, "{name} of {about}");
-        }
-        Ok(())
-    }
-}
-
-fn owned_words(alloc: Global, words: &[&str]) -> Result<Vec<String>, AllocError> {
-    let mut owned = Vec::new(alloc);
-    for word in words {
-        owned.push(String::from_str(alloc, word)?)?;
-    }
-    Ok(owned)
-}
-
-fn owned_files(
+/// Runs `run script.txt` over a folder with this script, and this raster as `in.raw`.
+pub fn run_script(
     alloc: Global,
-    files: &[(&str, &[u8])],
-) -> Result<Vec<(String, Vec<u8>)>, AllocError> {
-    let mut owned = Vec::new(alloc);
-    for (name, bytes) in files {
-        owned.push((String::from_str(alloc, name)?, bytes.to_vec(alloc)?))?;
-    }
-    Ok(owned)
+    script: &[u8],
+    raster: &[u8],
+    failing: Failing,
+) -> Result<Left, Fail> {
+    let mut files = Vec::new(alloc);
+    files.push(("script.txt".to_string(alloc)?, script.to_vec(alloc)?))?;
+    files.push(("in.raw".to_string(alloc)?, raster.to_vec(alloc)?))?;
+    let words = vec![in alloc; "run".to_string(alloc)?, "script.txt".to_string(alloc)?]?;
+    run_words(alloc, &words, files, failing)
+}
+
+/// Runs these words over a folder with these files.
+pub fn run_words(
+    alloc: Global,
+    words: &[String],
+    files: Vec<(String, Vec<u8>)>,
+    failing: Failing,
+) -> Result<Left, Fail> {
+    let reads = chosen(alloc, failing.read)?;
+    let writes = chosen(alloc, failing.write)?;
+    let mut shelf = MemShelf::new(alloc, files, reads, writes);
+    let mut sink = MemSink::new(alloc, chosen(alloc, failing.put)?);
+    let mut swap = SureSwap::new(alloc, 1)?;
+    let status = run(alloc, words, &mut shelf, &mut swap, &mut sink, &OpenGate);
+    let text = sink.bytes().to_vec(alloc)?;
+    Ok(Left {
+        status,
+        text,
+        shelf,
+    })
+}
+
+fn chosen(alloc: Global, call: u64) -> Result<Vec<u64>, AllocError> {
+    Ok(vec![in alloc; call]?)
 }
