@@ -27,16 +27,26 @@ ties = eq_by_cmp (slice_cmp nat_cmp)
 abbrev place : List ℕ → List StoredFile → ℕ
 place name files = position_or_len (has_name name) files
 
-found_first : (b : Bool) (x : StoredFile) (xs : List StoredFile) (n : ℕ) (rest : Option (List ℕ)) → rest ≡ option_map bytes_of (slice_get xs n) → cond b (Some (bytes_of x)) rest ≡ option_map bytes_of (slice_get (x ∷ xs) (cond (not b) (1 + n) 0))
+-- what is found under q once these bytes are filed under a name
+abbrev refound : List ℕ → Vec ℕ → List ℕ → Option (List ℕ) → Option (List ℕ)
+refound name bytes q old = cond (ties q name) (Some bytes.items) old
+
+found_first : (b : Bool) (x : StoredFile) (xs : List StoredFile) (n : ℕ) (rest : Option (List ℕ))
+    → rest ≡ option_map bytes_of (slice_get xs n)
+    → cond b (Some (bytes_of x)) rest
+    ≡ option_map bytes_of (slice_get (x ∷ xs) (cond (not b) (1 + n) 0))
 found_first true x xs n rest h = refl
 found_first false x xs n rest h = rw one-add h
 
 -- a scan finds the file that stands at the place of the name
-pub found-place : (name : List ℕ) (files : List StoredFile) → found_in name files ≡ option_map bytes_of (slice_get files (place name files))
+found-place : (name : List ℕ) (files : List StoredFile)
+    → found_in name files ≡ option_map bytes_of (slice_get files (place name files))
 found-place name [] = refl
 found-place name (x ∷ xs) =
-    subst (λ b. cond b (Some (bytes_of x)) (found_in name xs) ≡ option_map bytes_of (slice_get (x ∷ xs) (place name (x ∷ xs)))) (texts_ties name (string_bytes x.0))
-    (found_first (bytes_eq name (string_bytes x.0)) x xs (place name xs) (found_in name xs) (found-place name xs))
+    let key : List ℕ = string_bytes x.0 in
+    subst (λ b. cond b (Some (bytes_of x)) (found_in name xs)
+    ≡ option_map bytes_of (slice_get (x ∷ xs) (place name (x ∷ xs)))) (texts_ties name key)
+    (found_first (bytes_eq name key) x xs (place name xs) (found_in name xs) (found-place name xs))
 
 -- two names tie only if they are equal
 tied : (x y : List ℕ) → ties x y ≡ true → x ≡ y
@@ -47,7 +57,8 @@ overwritten true new old rest = refl
 overwritten false new old rest = refl
 
 -- two tests that do not both pass may be made in either order
-either_order : (a b : Bool) (x y rest : Option (List ℕ)) → (a ≡ true → b ≡ true → ⊥) → cond a x (cond b y rest) ≡ cond b y (cond a x rest)
+either_order : (a b : Bool) (x y rest : Option (List ℕ)) → (a ≡ true → b ≡ true → ⊥)
+    → cond a x (cond b y rest) ≡ cond b y (cond a x rest)
 either_order true true x y rest apart = absurd (apart refl refl)
 either_order true false x y rest apart = refl
 either_order false b x y rest apart = refl
@@ -60,85 +71,99 @@ with_bytes stored bytes = (stored.0, bytes)
 abbrev set_bytes : List StoredFile → ℕ → StoredFile → Vec ℕ → List StoredFile
 set_bytes files n d bytes = slice_set files n (with_bytes (slice_index_or files n d) bytes)
 
-found_other : (name q : List ℕ) (bytes : Vec ℕ) (d x : StoredFile) (xs : List StoredFile) (n : ℕ) → bytes_eq name (string_bytes x.0) ≡ false
-    → found_in q (set_bytes xs n d bytes) ≡ cond (ties q name) (Some bytes.items) (found_in q xs)
-    → found_in q (set_bytes (x ∷ xs) (1 + n) d bytes) ≡ cond (ties q name) (Some bytes.items) (found_in q (x ∷ xs))
+found_other : (name q : List ℕ) (bytes : Vec ℕ) (d x : StoredFile) (xs : List StoredFile) (n : ℕ)
+    → bytes_eq name (string_bytes x.0) ≡ false
+    → found_in q (set_bytes xs n d bytes) ≡ refound name bytes q (found_in q xs)
+    → found_in q (set_bytes (x ∷ xs) (1 + n) d bytes) ≡ refound name bytes q (found_in q (x ∷ xs))
 found_other name q bytes d x xs n other h =
-    rw one-add (ap (cond (ties q (string_bytes x.0)) (Some (bytes_of x))) h
-    ∙ either_order (ties q (string_bytes x.0)) (ties q name) _ _ _ (λ a b.
-    let same : name ≡ string_bytes x.0 = sym (tied q name b) ∙ tied q (string_bytes x.0) a in
-    let yes : bytes_eq name (string_bytes x.0) ≡ true = (bytes_eq-Decides _ _).1 same in cc))
+    let key : List ℕ = string_bytes x.0 in
+    rw one-add (ap (cond (ties q key) (Some (bytes_of x))) h
+    ∙ either_order (ties q key) (ties q name) _ _ _ (λ a b.
+    let same : name ≡ key = sym (tied q name b) ∙ tied q key a in
+    let yes : bytes_eq name key ≡ true = (bytes_eq-Decides _ _).1 same in cc))
 
-found_here : (name q : List ℕ) (bytes : Vec ℕ) (x : StoredFile) (xs : List StoredFile) → bytes_eq name (string_bytes x.0) ≡ true
-    → found_in q (with_bytes x bytes ∷ xs) ≡ cond (ties q name) (Some bytes.items) (found_in q (x ∷ xs))
+found_here : (name q : List ℕ) (bytes : Vec ℕ) (x : StoredFile) (xs : List StoredFile)
+    → bytes_eq name (string_bytes x.0) ≡ true
+    → found_in q (with_bytes x bytes ∷ xs) ≡ refound name bytes q (found_in q (x ∷ xs))
 found_here name q bytes x xs here =
     let same : name ≡ string_bytes x.0 = (bytes_eq-Decides _ _).0 here in
     rw same (overwritten (ties q (string_bytes x.0)) _ _ _)
 
 -- after a write at the place of a name, a scan finds these bytes under it, and all others as before
-found-set_bytes : (name q : List ℕ) (bytes : Vec ℕ) (d : StoredFile) (files : List StoredFile) → place name files < length files
-    → found_in q (set_bytes files (place name files) d bytes) ≡ cond (ties q name) (Some bytes.items) (found_in q files)
+found-set_bytes : (name q : List ℕ) (bytes : Vec ℕ) (d : StoredFile) (files : List StoredFile)
+    → place name files < length files
+    → found_in q (set_bytes files (place name files) d bytes) ≡ refound name bytes q (found_in q files)
 found-set_bytes name q bytes d [] h = absurd (omega arith)
 found-set_bytes name q bytes d (x ∷ xs) h =
-    elim (bytes_eq name (string_bytes x.0)) as (λ b. bytes_eq name (string_bytes x.0) ≡ b → cond (not b) (1 + place name xs) 0 < length (x ∷ xs)
-    → found_in q (set_bytes (x ∷ xs) (cond (not b) (1 + place name xs) 0) d bytes) ≡ cond (ties q name) (Some bytes.items) (found_in q (x ∷ xs))) [
+    elim (bytes_eq name (string_bytes x.0)) as (λ b. bytes_eq name (string_bytes x.0) ≡ b
+    → cond (not b) (1 + place name xs) 0 < length (x ∷ xs)
+    → found_in q (set_bytes (x ∷ xs) (cond (not b) (1 + place name xs) 0) d bytes)
+    ≡ refound name bytes q (found_in q (x ∷ xs))) [
       | true ↦ λ e _. found_here name q bytes x xs e
-      | false ↦ λ e k. found_other name q bytes d x xs (place name xs) e (found-set_bytes name q bytes d xs (omega arith))
+      | false ↦ λ e k. found_other name q bytes d x xs _ e (found-set_bytes name q bytes d xs (omega arith))
     ] refl h
 
 antisymmetric : (x y : List ℕ) → slice_cmp nat_cmp x y ≡ Equal → x ≡ y
 antisymmetric = slice_cmp-IsAntisymmetric nat_cmp-IsAntisymmetric
 
--- where `position` finds a file, and where it finds none
-within : (name : List ℕ) (files : List StoredFile) (n : ℕ) → Some n ≡ position (has_name name) files → (n ≡ place name files) × (n < length files)
-within name files n =
-    elim (nat_lt (place name files) (length files)) as (λ b. nat_lt (place name files) (length files) ≡ b → Some n ≡ cond b (Some (place name files)) None → (n ≡ place name files) × (n < length files)) [
-      | true ↦ λ e found. let at : n ≡ place name files = cc in (at, rw at (ltb-true _ _ e))
-      | false ↦ λ e found. cc
-    ] refl
+-- what `position` answers, by the place
+within : (b : Bool) (n at len : ℕ) → nat_lt at len ≡ b → Some n ≡ cond b (Some at) None
+    → (n ≡ at) × (n < len)
+within true n at len e found = let same : n ≡ at = cc in (same, rw same (ltb-true _ _ e))
+within false n at len e found = cc
 
-past : (name : List ℕ) (files : List StoredFile) → None ≡ position (has_name name) files → length files ≤ place name files
-past name files =
-    elim (nat_lt (place name files) (length files)) as (λ b. nat_lt (place name files) (length files) ≡ b → ◌≡◌ {A = Option ℕ} None (cond b (Some (place name files)) None) → length files ≤ place name files) [
-      | true ↦ λ e none. cc
-      | false ↦ λ e none. omega (arith, ltb-false _ _ e)
-    ] refl
+past : (b : Bool) (at len : ℕ) → nat_lt at len ≡ b → ◌≡◌ {A = Option ℕ} None (cond b (Some at) None)
+    → len ≤ at
+past true at len e none = cc
+past false at len e none = omega (arith, ltb-false _ _ e)
+
+-- the file of a name, by its place
+file-place : (name : List ℕ) (files : List StoredFile)
+    → file (files_of files) name ≡ option_map bytes_of (slice_get files (place name files))
+file-place name files =
+    get-from_entries nat_list_cmp_total (map entry_of files) name ∙ found-place name files
 
 -- the file that `position` finds is the file of the name
-pub file_found : (name : List ℕ) (files : List StoredFile) (n : ℕ) (stored : StoredFile) → Some n ≡ position (has_name name) files → stored ≡ slice_index_or files n stored
+pub file_found : (name : List ℕ) (files : List StoredFile) (n : ℕ) (stored : StoredFile)
+    → Some n ≡ position (has_name name) files → stored ≡ slice_index_or files n stored
     → Some (bytes_of stored) ≡ file (files_of files) name
 file_found name files n stored found is =
-    let at = within name files n found in
-    sym (get-from_entries nat_list_cmp_total (map entry_of files) name ∙ found-place name files
-    ∙ ap (λ k. option_map bytes_of (slice_get files k)) (sym at.0)
+    let at = within _ n (place name files) (length files) refl found in
+    sym (file-place name files ∙ ap (λ k. option_map bytes_of (slice_get files k)) (sym at.0)
     ∙ ap (option_map bytes_of) (slice_get-get_or files n stored at.1 ∙ ap Some (sym is)))
 
 -- where it finds none the name is absent
-pub file_missing : (name : List ℕ) (files : List StoredFile) → None ≡ position (has_name name) files → None ≡ file (files_of files) name
+pub file_missing : (name : List ℕ) (files : List StoredFile)
+    → None ≡ position (has_name name) files → None ≡ file (files_of files) name
 file_missing name files none =
-    sym (get-from_entries nat_list_cmp_total (map entry_of files) name ∙ found-place name files
-    ∙ ap (option_map bytes_of) (slice_get_past files _ (past name files none)))
+    let far = past _ (place name files) (length files) refl none in
+    sym (file-place name files ∙ ap (option_map bytes_of) (slice_get_past files _ far))
 
 -- to write where `position` finds the name is to file under it
-pub filed_found : (name : List ℕ) (bytes : Vec ℕ) (files : List StoredFile) (n : ℕ) (stored : StoredFile) → Some n ≡ position (has_name name) files → stored ≡ slice_index_or files n stored
+pub filed_found : (name : List ℕ) (bytes : Vec ℕ) (files : List StoredFile) (n : ℕ) (stored : StoredFile)
+    → Some n ≡ position (has_name name) files → stored ≡ slice_index_or files n stored
     → files_of (slice_set files n (with_bytes stored bytes)) ≡ filed (files_of files) name bytes.items
 filed_found name bytes files n stored found is =
-    let at = within name files n found in
-    let set : (q : List ℕ) → found_in q (slice_set files n (with_bytes stored bytes)) ≡ cond (ties q name) (Some bytes.items) (found_in q files) =
-    λ q. subst (λ x. found_in q (slice_set files n (with_bytes x bytes)) ≡ cond (ties q name) (Some bytes.items) (found_in q files)) (sym is)
+    let at = within _ n (place name files) (length files) refl found in
+    let set : (q : List ℕ) → found_in q (slice_set files n (with_bytes stored bytes)) ≡ refound name bytes q (found_in q files) =
+    λ q. subst (λ x. found_in q (slice_set files n (with_bytes x bytes)) ≡ refound name bytes q (found_in q files)) (sym is)
     (rw at.0 (found-set_bytes name q bytes stored files (rw (← at.0) at.1))) in
     same_map nat_list_cmp_total antisymmetric _ _ (λ q.
     get-from_entries nat_list_cmp_total _ q ∙ set q
-    ∙ sym (get-insert nat_list_cmp_total (files_of files) name bytes.items q ∙ ap (cond (ties q name) (Some bytes.items)) (get-from_entries nat_list_cmp_total _ q)))
+    ∙ sym (get-insert nat_list_cmp_total (files_of files) name bytes.items q
+    ∙ ap (refound name bytes q) (get-from_entries nat_list_cmp_total _ q)))
 
-map-push : (files : List StoredFile) (x : StoredFile) → map entry_of (files ++ x ∷ []) ≡ map entry_of files ++ entry_of x ∷ []
+map-push : (files : List StoredFile) (x : StoredFile)
+    → map entry_of (files ++ x ∷ []) ≡ map entry_of files ++ entry_of x ∷ []
 map-push [] x = refl
 map-push (y ∷ ys) x = ap (λ rest. entry_of y ∷ rest) (map-push ys x)
 
 -- to push where it finds none is to file under that name
-pub filed_pushed : (name : List ℕ) (key : String Global) (bytes : Vec ℕ) (files : List StoredFile) → None ≡ position (has_name name) files → string_bytes key ≡ name
+pub filed_pushed : (name : List ℕ) (key : String Global) (bytes : Vec ℕ) (files : List StoredFile)
+    → None ≡ position (has_name name) files → string_bytes key ≡ name
     → files_of (files ++ (key, bytes) ∷ []) ≡ filed (files_of files) name bytes.items
 filed_pushed name key bytes files none is =
+    let far = past _ (place name files) (length files) refl none in
+    let absent = found-place name files ∙ ap (option_map bytes_of) (slice_get_past files _ far) in
     ap from_entries (map-push files (key, bytes))
-    ∙ rw is (from_entries_push nat_list_cmp_total antisymmetric (map entry_of files) name bytes.items
-    (found-place name files ∙ ap (option_map bytes_of) (slice_get_past files _ (past name files none))))
+    ∙ rw is (from_entries_push nat_list_cmp_total antisymmetric (map entry_of files) name bytes.items absent)

@@ -2,6 +2,7 @@
 #![tactic(auto)]
 
 mod failing_calls;
+mod file_name;
 mod file_swap;
 mod folder_shelf;
 mod gate;
@@ -22,6 +23,7 @@ mod swap;
 #[cfg(test)]
 mod tests;
 
+pub use file_name::is_file_name;
 pub use file_swap::FileSwap;
 pub use folder_shelf::FolderShelf;
 pub use gate::{Gate, OpenGate};

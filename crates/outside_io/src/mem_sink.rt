@@ -1,9 +1,7 @@
 //! A sink in memory.
 
-ghost use Rattle.std.specs.Prelude.{◌≡◌, ◌≤◌, ◌++◌, [], true, false, Some, OnOk, IsErrOf};
-ghost use Rattle.outside_io.specs.Faults.{Rose};
+ghost use Rattle.std.specs.Prelude.{◌≡◌, ◌≤◌, ◌++◌, [], false, Some, IsTrue, OnOk, IsErrOf};
 ghost use Rattle.outside_io.specs.Calls.{no_calls, next_fails, after_call};
-ghost use Rattle.outside_io.specs.Sink.{Puts};
 ghost use Rattle.outside_io.specs.MemSink.{SinkState, sent};
 
 use crate::failing_calls::{FailingCalls, kept};
@@ -53,7 +51,7 @@ impl Sink for MemSink {
         ensures later { self.old.puts.faults ≤ self.new.puts.faults }
 
         // It fails at the chosen calls and at no others.
-        ensures chosen { IsErrOf result SinkAnswer.Failed → next_fails self.old.puts ≡ true }
+        ensures chosen { IsErrOf result SinkAnswer.Failed → IsTrue (next_fails self.old.puts) }
         ensures others { OnOk result (next_fails self.old.puts ≡ false) }
         ensures sent { self.new.written ≡ self.old.written ++ sent result bytes.now }
         ensures counted { self.new.puts ≡ after_call self.old.puts }

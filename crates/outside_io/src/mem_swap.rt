@@ -1,8 +1,7 @@
 //! A swap disk in memory.
 
-ghost use Rattle.std.specs.Prelude.{◌≡◌, ◌<◌, ◌≤◌, ◌^◌, [], Some, Ok, Err, IfSome, IfOk, IsErrOf, length, slice_set, refl, is_ok, if◌then◌else◌, ◌+◌};
+ghost use Rattle.std.specs.Prelude.{◌≡◌, ◌+◌, ◌<◌, ◌≤◌, ◌^◌, [], Some, Ok, Err, IfOk, length, slice_set, refl, is_ok, if◌then◌else◌};
 ghost use Rattle.outside_io.specs.Calls.{no_calls, next_fails, after_call};
-ghost use Rattle.outside_io.specs.Faults.{Rose};
 ghost use Rattle.outside_io.specs.StoredBlocks.{zero_blocks, spoiled_block};
 ghost use Rattle.outside_io.specs.Swap.{ReadsBlock, WritesBlock};
 

@@ -22,6 +22,29 @@ fn files(alloc: Global, entries: &[(&str, &[u8])]) -> Result<Vec<(String, Vec<u8
 }
 
 #[test]
+fn names_of_files(rt: HostRuntime) -> Result<(), Fail> {
+    let alloc = rt.alloc();
+    let longest = vec![in alloc; b'n'; 64]?;
+    let too_long = vec![in alloc; b'n'; 65]?;
+    let names: [(&[u8], bool); 10] = [
+        (b"", false),
+        (b"out.raw", true),
+        (b"_A9-z.", true),
+        (b"9", true),
+        (b".hidden", false),
+        (b"-option", false),
+        (b"folder/out.raw", false),
+        (b"two words", false),
+        (&longest, true),
+        (&too_long, false),
+    ];
+    for (name, wanted) in &names {
+        assert_eq!(rt; is_file_name(name), *wanted, "{name:?}");
+    }
+    Ok(())
+}
+
+#[test]
 fn reads_of_a_shelf_in_memory(rt: HostRuntime) -> Result<(), Fail> {
     let alloc = rt.alloc();
     let files = files(

@@ -1,21 +1,19 @@
 -- The laws of hulls and differences.
-use Rattle.std.proofs.Common.{◌≡◌, ◌≢◌, ℕ, zero, suc, ◌-◌, ◌<◌, ◌≤◌, ◌↔◌, ◌⊎◌, inl, inr, true, false, not, Bool, List, [], ◌∷◌, ◌++◌, length, take, replicate, get_or, filter, refl, ap, sym, ◌∙◌, subst, arith, if◌then◌else◌, min, max, All, AllPairs, Any, ◌+◌, ◌*◌, ◌^◌, mul_comm}
+use Rattle.std.proofs.Common.{◌≡◌, ◌≢◌, ℕ, zero, suc, ◌-◌, ◌<◌, ◌≤◌, ◌↔◌, ◌⊎◌, inl, inr, true, false, not, Bool, List, [], ◌∷◌, ◌++◌, length, take, replicate, get_or, filter, refl, ap, sym, subst, arith, if◌then◌else◌, min, max, All, AllPairs, Any}
 use Rattle.std.proofs.lemmas.Bool.{cases_lt}
 use Rattle.std.proofs.lemmas.Bool.Decides.{nat_tests}
-use Rattle.std.proofs.lemmas.List.Elements.{All-cons, All-nil, filter_passes, All-weaker}
+use Rattle.std.proofs.lemmas.List.Elements.{All-contains, All-replicate, All-cons, All-nil, filter_passes, All-weaker}
 use Rattle.std.proofs.lemmas.List.Kept.{AllPairs-cons, AllPairs-filter}
-use Rattle.std.proofs.lemmas.List.{get_or-replicate, length-append, length-replicate}
-use Rattle.std.proofs.lemmas.Nat.{row_fits, mul-le}
-use Rattle.std.proofs.Math.ListN.{get_or-append}
-use Rattle.std.proofs.Math.Seq.{take-append_seam, get_or-append_right}
+use Rattle.std.proofs.Math.Seq.{take-append_seam}
 use Rattle.plane_rect.specs.Parts.{parts_of}
-use Rattle.plane_rect.specs.Rectangle.{Rectangle, Lies, IsRectangle, Within, area, offset, empty, is_empty, has_places, spanning, right, bottom, Includes, AreDisjoint, meet, hull, surroundings, minus}
-use Rattle.plane_rect.proofs.Rectangles.{Lies-meet, Lies-spanning, some_or_empty}
+use Rattle.plane_rect.specs.Rectangle.{Rectangle, Lies, empty, is_empty, has_places, spanning, right, bottom, Includes, AreDisjoint, meet, hull, surroundings, minus}
+use Rattle.plane_rect.proofs.Lists.{AllPairs-nil, AllPairs-append}
+use Rattle.plane_rect.proofs.Rectangles.{Lies-meet, Lies-spanning}
 
 -- ---- hulls
 
 -- what includes a rectangle with a place reaches as far to each side
-reaches : (r a : Rectangle) → has_places a ≡ true → Includes r a
+pub reaches : (r a : Rectangle) → has_places a ≡ true → Includes r a
     → (r.left ≤ a.left) × (r.top ≤ a.top) × (right a ≤ right r) × (bottom a ≤ bottom r)
 reaches r a some inside =
     let wide : 0 < a.width = grind (arith, nat_tests) in
@@ -38,25 +36,6 @@ hull-least a b r p q = cases (is_empty a) refl (is_empty b) refl
         record { column = (omega (arith, s, x, y), omega (arith, s, x, y)); row = (omega (arith, s, x, y), omega (arith, s, x, y)) } in
         rw (← e, ← f) within
 
--- ---- rows
-
--- a row of a part of a rectangle ends within the rectangle's places
-pub part_row-fits : (a part : Rectangle) (v : ℕ) → IsRectangle part → Includes a part → Within part.top part.height v
-    → offset a part.left v + part.width ≤ area a
-part_row-fits a part v is inside within = elim (some_or_empty part is) [
-  | inl some ↦
-      let reach = reaches a part (grind (arith, nat_tests, some)) inside in
-      let row : v - a.top < a.height = omega (arith, within, reach) in
-      let columns : part.left - a.left + part.width ≤ a.width = omega (arith, reach) in
-      let rows : (v - a.top) * a.width + a.width ≤ a.height * a.width = row_fits (v - a.top) a.width a.height a.width row (omega arith) in
-      omega (arith, rows, columns, mul_comm a.height a.width)
-  | inr none ↦ absurd (omega (arith, within, ap (λ (r : Rectangle). r.height) none))
-]
-
--- the places of a rectangle of the plane are few
-pub area-fits : (r : Rectangle) → IsRectangle r → area r ≤ 2 ^ 50
-area-fits r is = mul-le r.width r.height (2 ^ 25) (2 ^ 25) (omega (arith, is.columns)) (omega (arith, is.rows))
-
 -- ---- lists of rectangles as sets of places
 
 -- the place lies in one of them
@@ -78,7 +57,7 @@ from-any u v rs h = found rs h.0 h.1 h.2 h.3 h.4
     found (q ∷ rs) zero r lt e h = inl (subst (λ (r : Rectangle). Lies u v r) (sym e) h)
     found (q ∷ rs) (suc k) r lt e h = inr (found rs k r (omega arith) e h)
 
-no_places : (u v : ℕ) (r : Rectangle) → has_places r ≡ false → ¬ Lies u v r
+pub no_places : (u v : ℕ) (r : Rectangle) → has_places r ≡ false → ¬ Lies u v r
 no_places u v r e h = grind (arith, nat_tests)
 
 kept : (u v : ℕ) (rs : List Rectangle) → LiesInOne u v (filter has_places rs) ↔ LiesInOne u v rs
@@ -191,9 +170,6 @@ columns_apart : (left top right bottom left' top' right' bottom' : ℕ) → righ
 columns_apart left top right bottom left' top' right' bottom' h u v p q =
     omega (arith, (Lies-spanning u v left top right bottom).0 p, (Lies-spanning u v left' top' right' bottom').0 q)
 
-no_pairs : AllPairs AreDisjoint []
-no_pairs i j d p q = absurd (omega arith)
-
 surroundings-disjoint : (a part : Rectangle) → AllPairs AreDisjoint (surroundings a part)
 surroundings-disjoint a part =
     let above : Rectangle = spanning a.left a.top (right a) part.top in
@@ -209,31 +185,30 @@ surroundings-disjoint a part =
     (All-cons (AreDisjoint before) below [] (rows_apart a.left part.top part.left (bottom part) a.left (bottom part) (right a) (bottom a) (omega arith)) (All-nil (AreDisjoint before))))
     (AllPairs-cons AreDisjoint behind (below ∷ [])
     (All-cons (AreDisjoint behind) below [] (rows_apart (right part) part.top (right a) (bottom part) a.left (bottom part) (right a) (bottom a) (omega arith)) (All-nil (AreDisjoint behind)))
-    (AllPairs-cons AreDisjoint below [] (All-nil (AreDisjoint below)) no_pairs)))
+    (AllPairs-cons AreDisjoint below [] (All-nil (AreDisjoint below)) (AllPairs-nil AreDisjoint))))
 
 minus-disjoint : (a b : Rectangle) → AllPairs AreDisjoint (minus a b)
 minus-disjoint a b = cases (is_empty (meet a b)) refl
   where
     cases : (e : Bool) → is_empty (meet a b) ≡ e
         → AllPairs AreDisjoint (filter has_places (if is_empty (meet a b) then a ∷ [] else surroundings a (meet a b)))
-    cases true e = rw e (AllPairs-filter AreDisjoint has_places (a ∷ []) (AllPairs-cons AreDisjoint a [] (All-nil (AreDisjoint a)) no_pairs))
+    cases true e = rw e (AllPairs-filter AreDisjoint has_places (a ∷ []) (AllPairs-cons AreDisjoint a [] (All-nil (AreDisjoint a)) (AllPairs-nil AreDisjoint)))
     cases false e = rw e (AllPairs-filter AreDisjoint has_places (surroundings a (meet a b)) (surroundings-disjoint a (meet a b)))
 
-all_with_empty_ones : (n : ℕ) (rs : List Rectangle) → AllPairs AreDisjoint rs → AllPairs AreDisjoint (rs ++ replicate n empty)
-all_with_empty_ones n rs p i j d below long u v s t = elim (cases_lt j (length rs)) [
-  | inl c ↦
-      let at_i : get_or (rs ++ replicate n empty) i d ≡ get_or rs i d = get_or-append rs (replicate n empty) d i (omega arith) in
-      let at_j : get_or (rs ++ replicate n empty) j d ≡ get_or rs j d = get_or-append rs (replicate n empty) d j c in
-      p i j d below c u v (rw at_i at s) (rw at_j at t)
-  | inr c ↦
-      let at_j : get_or (rs ++ replicate n empty) j d ≡ empty =
-      get_or-append_right rs (replicate n empty) j d c
-      ∙ get_or-replicate n (j - length rs) empty d (omega (arith, length-append rs (replicate n empty), length-replicate n empty)) in
-      no_places u v empty refl (rw at_j at t)
-]
+all_empty-disjoint : (n : ℕ) → AllPairs AreDisjoint (replicate n empty)
+all_empty-disjoint zero = AllPairs-nil AreDisjoint
+all_empty-disjoint (suc n) =
+    AllPairs-cons AreDisjoint empty (replicate n empty)
+    (All-replicate (AreDisjoint empty) n empty (disjoint_from_empty empty))
+    (all_empty-disjoint n)
 
 pub parts-disjoint : (a b : Rectangle) → AllPairs AreDisjoint (parts_of (minus a b)).parts
-parts-disjoint a b = all_with_empty_ones (4 - length (minus a b)) (minus a b) (minus-disjoint a b)
+parts-disjoint a b =
+    AllPairs-append AreDisjoint (minus a b) (replicate (4 - length (minus a b)) empty)
+    (minus-disjoint a b)
+    (all_empty-disjoint (4 - length (minus a b)))
+    (λ p q _ in_empty_ones. All-contains (λ r. AreDisjoint p r) (replicate (4 - length (minus a b)) empty) q
+    (All-replicate (λ r. AreDisjoint p r) (4 - length (minus a b)) empty (disjoint_from_empty p)) in_empty_ones)
 
 pub parts-some : (a b : Rectangle) → All (λ part. part ≢ empty) (take (length (minus a b)) (parts_of (minus a b)).parts)
 parts-some a b =

@@ -5,8 +5,8 @@ use Rattle.std.proofs.lemmas.Bool.Decides.{nat_tests}
 use Rattle.std.specs.Int.{saturate_signed}
 use Rattle.plane_rect.specs.declared.rect.RectRefused.{RectRefused}
 use Rattle.plane_rect.specs.declared.rect.RectRefused.TheVariants.{Place, Size}
-use Rattle.plane_rect.specs.Rectangle.{Rectangle, Lies, LiesAt, LiesHalved, LiesNear, AreNear, Within, WithinSigned, IsRectangle, IsCoordinate, IsNoCoordinate, IsNoExtent, empty, is_empty, spanning, right, bottom, plane_coordinate, plane_side, origin, new_rectangle, shifted, half, halved, coarse, enlarged}
-use Rattle.plane_rect.proofs.Rectangles.{Lies-spanning, new_rectangle-places, refuses_place, refuses_size, some_or_empty}
+use Rattle.plane_rect.specs.Rectangle.{Rectangle, BeginsInside, BeginsOutside, EndsOutside, moved_x, moved_y, Lies, LiesAt, LiesHalved, LiesNear, AreNear, Within, WithinSigned, IsRectangle, IsCoordinate, IsNoCoordinate, empty, is_empty, spanning, right, bottom, plane_coordinate, plane_side, origin, new_rectangle, shifted, half, halved, coarse, enlarged}
+use Rattle.plane_rect.proofs.Rectangles.{Lies-spanning, new_rectangle-places, refuses_place, refuses_size, some_or_empty, LiesAt-coordinates}
 
 -- ---- halves
 
@@ -79,19 +79,20 @@ new_rectangle-saturated x y w h = elim (saturated x) [
         (refuses_place (saturate_signed w64 x) (saturate_signed w64 y) w h _ refl).1 s ∙ sym ((refuses_place x y w h _ refl).1 t)
 
 pub shifted-saturated : (dx dy : ℤ) (r : Rectangle) → is_empty r ≡ false
-    → new_rectangle (saturate_signed w64 (plane_coordinate r.left +ℤ dx)) (saturate_signed w64 (plane_coordinate r.top +ℤ dy)) (pos r.width) (pos r.height)
+    → new_rectangle (saturate_signed w64 (moved_x dx r)) (saturate_signed w64 (moved_y dy r)) (pos r.width) (pos r.height)
     ≡ shifted dx dy r
 shifted-saturated dx dy r some =
-    new_rectangle-saturated (plane_coordinate r.left +ℤ dx) (plane_coordinate r.top +ℤ dy) (pos r.width) (pos r.height) ∙ rw some refl
+    new_rectangle-saturated (moved_x dx r) (moved_y dy r) (pos r.width) (pos r.height) ∙ rw some refl
 
 -- the places of a moved rectangle, whose fields are those that it had moved
 shifted-places : (dx dy : ℤ) (r moved : Rectangle) → is_empty r ≡ false → Ok moved ≡ shifted dx dy r → (x y : ℤ)
     → LiesAt (x +ℤ dx) (y +ℤ dy) moved ↔ LiesAt x y r
 shifted-places dx dy r moved some e x y =
-    let fields : Ok moved ≡ new_rectangle (plane_coordinate r.left +ℤ dx) (plane_coordinate r.top +ℤ dy) (pos r.width) (pos r.height) = e ∙ rw some refl in
-    let lies = new_rectangle-places (plane_coordinate r.left +ℤ dx) (plane_coordinate r.top +ℤ dy) (pos r.width) (pos r.height) moved fields (x +ℤ dx) (y +ℤ dy) in (
-      λ h. let t = lies.0 h in ((omega (arith, ints, t), omega (arith, ints, t)), (omega (arith, ints, t), omega (arith, ints, t))),
-      λ h. lies.1 (omega (arith, ints, h), omega (arith, ints, h), omega (arith, ints, h), omega (arith, ints, h)),
+    let fields : Ok moved ≡ new_rectangle (moved_x dx r) (moved_y dy r) (pos r.width) (pos r.height) = e ∙ rw some refl in
+    let lies = new_rectangle-places (moved_x dx r) (moved_y dy r) (pos r.width) (pos r.height) moved fields (x +ℤ dx) (y +ℤ dy) in (
+      λ h. let t = lies.0 h in
+          ((omega (arith, ints, t.0), omega (arith, ints, t.0)), (omega (arith, ints, t.1), omega (arith, ints, t.1))),
+      λ h. lies.1 ((omega (arith, ints, h.0), omega (arith, ints, h.0)), (omega (arith, ints, h.1), omega (arith, ints, h.1))),
     )
 
 -- what a call that moves a rectangle with a place says of its answer
@@ -99,21 +100,21 @@ module _ (dx dy : ℤ) (r : Rectangle) (some : is_empty r ≡ false) (moved : Re
   some_place : r ≢ empty
   some_place e = cc (rw e at some)
 
-  by_fields : moved ≡ new_rectangle (plane_coordinate r.left +ℤ dx) (plane_coordinate r.top +ℤ dy) (pos r.width) (pos r.height)
+  by_fields : moved ≡ new_rectangle (moved_x dx r) (moved_y dy r) (pos r.width) (pos r.height)
   by_fields = is ∙ rw some refl
 
   pub shifted-refuses_place : (moved ≡ Err Place)
-      ↔ ((r ≢ empty) × (IsNoCoordinate (plane_coordinate r.left +ℤ dx) ⊎ IsNoCoordinate (plane_coordinate r.top +ℤ dy)))
+      ↔ ((r ≢ empty) × BeginsOutside (moved_x dx r) (moved_y dy r))
   shifted-refuses_place =
-      let refuses = refuses_place (plane_coordinate r.left +ℤ dx) (plane_coordinate r.top +ℤ dy) (pos r.width) (pos r.height) moved by_fields in
+      let refuses = refuses_place (moved_x dx r) (moved_y dy r) (pos r.width) (pos r.height) moved by_fields in
       (λ e. (some_place, refuses.0 e), λ h. refuses.1 h.1)
 
   pub shifted-refuses_size : (moved ≡ Err Size)
-      ↔ ((r ≢ empty) × (IsCoordinate (plane_coordinate r.left +ℤ dx) × IsCoordinate (plane_coordinate r.top +ℤ dy))
-      × (IsNoExtent (plane_coordinate r.left +ℤ dx) (pos r.width) ⊎ IsNoExtent (plane_coordinate r.top +ℤ dy) (pos r.height)))
+      ↔ ((r ≢ empty) × BeginsInside (moved_x dx r) (moved_y dy r)
+      × EndsOutside (moved_x dx r) (moved_y dy r) (pos r.width) (pos r.height))
   shifted-refuses_size =
-      let refuses = refuses_size (plane_coordinate r.left +ℤ dx) (plane_coordinate r.top +ℤ dy) (pos r.width) (pos r.height) moved by_fields in
-      (λ e. let h = refuses.0 e in (some_place, (h.0, h.1), h.2), λ h. refuses.1 (h.1.0, h.1.1, h.2))
+      let refuses = refuses_size (moved_x dx r) (moved_y dy r) (pos r.width) (pos r.height) moved by_fields in
+      (λ e. let h = refuses.0 e in (some_place, h.0, h.1), λ h. refuses.1 (h.1, h.2))
 
 pub shifted-moves : (dx dy : ℤ) (r : Rectangle) → is_empty r ≡ false → (moved : Result Rectangle RectRefused) → moved ≡ shifted dx dy r
     → IfOk moved (λ q. (x y : ℤ) → LiesAt (x +ℤ dx) (y +ℤ dy) q ↔ LiesAt x y r)
@@ -139,7 +140,7 @@ pub times-fits : (n : ℤ) (level : ℕ) → level ≤ 8 → unsigned_abs n ≤ 
 times-fits n level h small = fits_signed_mul w64 n (pos (2 ^ level)) plane_side 256 small (factor level h).1 (omega arith)
 
 scaled-within : (level start len n : ℕ) → level ≤ 8
-    → WithinSigned (plane_coordinate start *ℤ pos (2 ^ level)) (len * 2 ^ level) (plane_coordinate n) ↔ Within start len (coarse level n)
+    → WithinSigned (plane_coordinate start *ℤ pos (2 ^ level)) (pos len *ℤ pos (2 ^ level)) (plane_coordinate n) ↔ Within start len (coarse level n)
 scaled-within zero start len n h = (λ w. (omega (arith, ints, w), omega (arith, ints, w)), λ w. (omega (arith, ints, w), omega (arith, ints, w)))
 scaled-within (suc zero) start len n h = (λ w. (omega (arith, ints, w), omega (arith, ints, w)), λ w. (omega (arith, ints, w), omega (arith, ints, w)))
 scaled-within (suc (suc zero)) start len n h = (λ w. (omega (arith, ints, w), omega (arith, ints, w)), λ w. (omega (arith, ints, w), omega (arith, ints, w)))
@@ -155,15 +156,14 @@ scaled-within (suc (suc (suc (suc (suc (suc (suc (suc (suc k))))))))) start len 
 enlarged-places : (level : ℕ) (r q : Rectangle) → level ≤ 8 → Ok q ≡ enlarged level r → (u v : ℕ)
     → Lies u v q ↔ Lies (coarse level u) (coarse level v) r
 enlarged-places level r q small e u v =
-    let lies = new_rectangle-places (plane_coordinate r.left *ℤ pos (2 ^ level)) (plane_coordinate r.top *ℤ pos (2 ^ level)) (pos r.width *ℤ pos (2 ^ level)) (pos r.height *ℤ pos (2 ^ level)) q e (plane_coordinate u) (plane_coordinate v) in
+    let factor : ℤ = pos (2 ^ level) in
+    let lies = new_rectangle-places (plane_coordinate r.left *ℤ factor) (plane_coordinate r.top *ℤ factor)
+    (pos r.width *ℤ factor) (pos r.height *ℤ factor) q e (plane_coordinate u) (plane_coordinate v) in
     let columns = scaled-within level r.left r.width u small in
-    let rows = scaled-within level r.top r.height v small in (
-      λ h. let t = lies.0 ((omega (arith, ints, h.column), omega (arith, ints, h.column)), (omega (arith, ints, h.row), omega (arith, ints, h.row))) in
-          record { column = columns.0 (t.0, t.1); row = rows.0 (t.2, t.3) },
-      λ h. let x = columns.1 h.column in
-          let y = rows.1 h.row in
-          let t = lies.1 (x.0, x.1, y.0, y.1) in
-          record { column = (omega (arith, ints, t.0), omega (arith, ints, t.0)); row = (omega (arith, ints, t.1), omega (arith, ints, t.1)) },
+    let rows = scaled-within level r.top r.height v small in
+    let at = LiesAt-coordinates u v q in (
+      λ h. let t = lies.0 (at.1 h) in record { column = columns.0 t.0; row = rows.0 t.1 },
+      λ h. at.0 (lies.1 (columns.1 h.column, rows.1 h.row)),
     )
 
 pub enlarged-all : (level : ℕ) (r : Rectangle) → level ≤ 8 → (grown : Result Rectangle RectRefused) → grown ≡ enlarged level r

@@ -1,11 +1,11 @@
 -- Laws of rectangles.
-use Rattle.std.proofs.Common.{◌≡◌, ℕ, zero, suc, ◌+◌, ℤ, pos, negsuc, ◌≤ℤ◌, ◌<ℤ◌, ◌+ℤ◌, ◌<◌, ◌≤◌, ◌↔◌, ◌⊎◌, inl, inr, arith, Ok, Err, refl, unsigned_abs, false, IsTrue, Result, ap, ◌≢◌, sym, subst}
+use Rattle.std.proofs.Common.{◌≡◌, ℕ, zero, suc, ◌+◌, ℤ, pos, negsuc, ◌≤ℤ◌, ◌+ℤ◌, ◌<◌, ◌≤◌, ◌↔◌, ◌⊎◌, inl, inr, arith, Ok, Err, refl, unsigned_abs, false, IsTrue, Result, ap, ◌≢◌, sym, subst}
 use Rattle.std.proofs.lemmas.Int.{ints}
 use Rattle.std.proofs.lemmas.Bool.{cases_lt}
 use Rattle.std.proofs.lemmas.Bool.Decides.{nat_tests}
 use Rattle.plane_rect.specs.declared.rect.RectRefused.{RectRefused}
 use Rattle.plane_rect.specs.declared.rect.RectRefused.TheVariants.{Place, Size}
-use Rattle.plane_rect.specs.Rectangle.{IsRectangle, empty, origin, spanning, plane_side, AreFields, placed, WithinSigned, Lies, LiesAt, IsCoordinate, IsNoCoordinate, IsExtent, IsNoExtent, is_coordinate, is_extent, begins_in_plane, ends_in_plane, new_rectangle, rectangle, plane_index, plane_coordinate, IsBehindCorner, Rectangle, meet}
+use Rattle.plane_rect.specs.Rectangle.{IsRectangle, empty, origin, spanning, plane_side, AreFields, BeginsInside, BeginsOutside, EndsInside, EndsOutside, placed, WithinSigned, Lies, LiesAt, IsCoordinate, IsNoCoordinate, IsExtent, IsNoExtent, is_coordinate, is_extent, begins_inside, ends_inside, new_rectangle, rectangle, plane_index, plane_coordinate, IsBehindCorner, Rectangle, meet}
 
 pub Lies-spanning : (u v left top right bottom : ℕ)
     → Lies u v (spanning left top right bottom) ↔ ((left ≤ u) × (u < right) × (top ≤ v) × (v < bottom))
@@ -25,8 +25,8 @@ pub extent_test : (z len : ℤ) → (IsTrue (is_extent z len) × IsExtent z len)
 extent_test z len = grind (arith, ints)
 
 begins_test : (x y : ℤ)
-    → (IsTrue (begins_in_plane x y) × (IsCoordinate x × IsCoordinate y))
-    ⊎ ((begins_in_plane x y ≡ false) × (IsNoCoordinate x ⊎ IsNoCoordinate y))
+    → (IsTrue (begins_inside x y) × BeginsInside x y)
+    ⊎ ((begins_inside x y ≡ false) × BeginsOutside x y)
 begins_test x y = elim (coordinate_test x) [
   | inl t ↦ elim (coordinate_test y) [
     | inl s ↦ inl (rw (t.0, s.0) refl, (t.1, s.1))
@@ -36,8 +36,8 @@ begins_test x y = elim (coordinate_test x) [
 ]
 
 ends_test : (x y w h : ℤ)
-    → (IsTrue (ends_in_plane x y w h) × (IsExtent x w × IsExtent y h))
-    ⊎ ((ends_in_plane x y w h ≡ false) × (IsNoExtent x w ⊎ IsNoExtent y h))
+    → (IsTrue (ends_inside x y w h) × EndsInside x y w h)
+    ⊎ ((ends_inside x y w h ≡ false) × EndsOutside x y w h)
 ends_test x y w h = elim (extent_test x w) [
   | inl t ↦ elim (extent_test y h) [
     | inl s ↦ inl (rw (t.0, s.0) refl, (t.1, s.1))
@@ -46,48 +46,48 @@ ends_test x y w h = elim (extent_test x w) [
   | inr t ↦ inr (rw t.0 refl, inl t.1)
 ]
 
-no_coordinate : (z : ℤ) → IsCoordinate z → IsNoCoordinate z → ⊥
+no_coordinate : (z : ℤ) → IsCoordinate z → ¬ IsNoCoordinate z
 no_coordinate z p (inl q) = omega (arith, ints)
 no_coordinate z p (inr q) = omega (arith, ints)
 
-no_extent : (z len : ℤ) → IsExtent z len → IsNoExtent z len → ⊥
+no_extent : (z len : ℤ) → IsExtent z len → ¬ IsNoExtent z len
 no_extent z len p (inl q) = omega (arith, ints)
 no_extent z len p (inr q) = omega (arith, ints)
 
+not_begins_outside : (x y : ℤ) → BeginsInside x y → ¬ BeginsOutside x y
+not_begins_outside x y p (inl q) = no_coordinate x p.0 q
+not_begins_outside x y p (inr q) = no_coordinate y p.1 q
+
+not_ends_outside : (x y w h : ℤ) → EndsInside x y w h → ¬ EndsOutside x y w h
+not_ends_outside x y w h p (inl q) = no_extent x w p.0 q
+not_ends_outside x y w h p (inr q) = no_extent y h p.1 q
+
 -- when `new_rectangle` refuses a place, and when a size
-place_refused : (x y w h : ℤ) → (new_rectangle x y w h ≡ Err Place) ↔ (IsNoCoordinate x ⊎ IsNoCoordinate y)
+place_refused : (x y w h : ℤ) → (new_rectangle x y w h ≡ Err Place) ↔ BeginsOutside x y
 place_refused x y w h = elim (begins_test x y) [
   | inl t ↦ elim (ends_test x y w h) [
-    | inl s ↦ rw (t.0, s.0) (λ e. cc, λ p. absurd (outside t.1 p))
-    | inr s ↦ rw (t.0, s.0) (λ e. cc, λ p. absurd (outside t.1 p))
+    | inl s ↦ rw (t.0, s.0) (λ e. cc, λ p. absurd (not_begins_outside x y t.1 p))
+    | inr s ↦ rw (t.0, s.0) (λ e. cc, λ p. absurd (not_begins_outside x y t.1 p))
   ]
   | inr t ↦ rw t.0 (λ _. t.1, λ _. refl)
 ]
-  where
-    outside : IsCoordinate x × IsCoordinate y → IsNoCoordinate x ⊎ IsNoCoordinate y → ⊥
-    outside p (inl q) = no_coordinate x p.0 q
-    outside p (inr q) = no_coordinate y p.1 q
 
 size_refused : (x y w h : ℤ)
-    → (new_rectangle x y w h ≡ Err Size) ↔ (IsCoordinate x × IsCoordinate y × (IsNoExtent x w ⊎ IsNoExtent y h))
+    → (new_rectangle x y w h ≡ Err Size) ↔ (BeginsInside x y × EndsOutside x y w h)
 size_refused x y w h = elim (begins_test x y) [
   | inl t ↦ elim (ends_test x y w h) [
-    | inl s ↦ rw (t.0, s.0) (λ e. cc, λ p. absurd (outside s.1 p.2))
-    | inr s ↦ rw (t.0, s.0) (λ _. (t.1.0, t.1.1, s.1), λ _. refl)
+    | inl s ↦ rw (t.0, s.0) (λ e. cc, λ p. absurd (not_ends_outside x y w h s.1 p.1))
+    | inr s ↦ rw (t.0, s.0) (λ _. (t.1, s.1), λ _. refl)
   ]
-  | inr t ↦ rw t.0 (λ e. cc, λ p. absurd (elim t.1 [ inl q ↦ no_coordinate x p.0 q | inr q ↦ no_coordinate y p.1 q ]))
+  | inr t ↦ rw t.0 (λ e. cc, λ p. absurd (not_begins_outside x y p.0 t.1))
 ]
-  where
-    outside : IsExtent x w × IsExtent y h → IsNoExtent x w ⊎ IsNoExtent y h → ⊥
-    outside p (inl q) = no_extent x w p.0 q
-    outside p (inr q) = no_extent y h p.1 q
 
 pub refuses_place : (x y w h : ℤ) (r : Result Rectangle RectRefused) → r ≡ new_rectangle x y w h
-    → (r ≡ Err Place) ↔ (IsNoCoordinate x ⊎ IsNoCoordinate y)
+    → (r ≡ Err Place) ↔ BeginsOutside x y
 refuses_place x y w h r e = rw e (place_refused x y w h)
 
 pub refuses_size : (x y w h : ℤ) (r : Result Rectangle RectRefused) → r ≡ new_rectangle x y w h
-    → (r ≡ Err Size) ↔ (IsCoordinate x × IsCoordinate y × (IsNoExtent x w ⊎ IsNoExtent y h))
+    → (r ≡ Err Size) ↔ (BeginsInside x y × EndsOutside x y w h)
 refuses_size x y w h r e = rw e (size_refused x y w h)
 
 -- a rectangle of no column or no row is the empty one
@@ -102,24 +102,24 @@ pub rectangle-some : (left top width height : ℕ) → 0 < width → 0 < height
 rectangle-some left top width height p q = grind (arith, nat_tests)
 
 -- the places of a rectangle that is not before the plane's corner, by signed numbers
-pub LiesAt-rectangle : (px py x y : ℤ) (w h : ℕ) → IsBehindCorner x → IsBehindCorner y
-    → LiesAt px py (rectangle (plane_index x) (plane_index y) w h) ↔ ((x ≤ℤ px) × (px <ℤ (x +ℤ pos w)) × (y ≤ℤ py) × (py <ℤ (y +ℤ pos h)))
+LiesAt-rectangle : (px py x y : ℤ) (w h : ℕ) → IsBehindCorner x → IsBehindCorner y
+    → LiesAt px py (rectangle (plane_index x) (plane_index y) w h) ↔ (WithinSigned x (pos w) px × WithinSigned y (pos h) py)
 LiesAt-rectangle px py x y zero h p q =
-    (λ t. absurd (omega (arith, ints, t.0.0, t.0.1)), λ t. absurd (omega (arith, ints, t.0, t.1)))
+    (λ t. absurd (omega (arith, ints, t.0)), λ t. absurd (omega (arith, ints, t.0)))
 LiesAt-rectangle px py x y (suc w) zero p q =
     rw (rectangle-no_rows (plane_index x) (plane_index y) (suc w))
-    (λ t. absurd (omega (arith, ints, t.0.0, t.0.1)), λ t. absurd (omega (arith, ints, t.2, t.3)))
+    (λ t. absurd (omega (arith, ints, t.0)), λ t. absurd (omega (arith, ints, t.1)))
 LiesAt-rectangle px py x y (suc w) (suc h) p q =
-    let some = rectangle-some (plane_index x) (plane_index y) (suc w) (suc h) (omega arith) (omega arith) in
-    let P : ℤ → ℤ → Type 0 = λ left top. (WithinSigned left (suc w) px × WithinSigned top (suc h) py) ↔ ((x ≤ℤ px) × (px <ℤ (x +ℤ pos (suc w))) × (y ≤ℤ py) × (py <ℤ (y +ℤ pos (suc h)))) in
-    rw some
+    let P : ℤ → ℤ → Type 0 = λ left top.
+    (WithinSigned left (pos (suc w)) px × WithinSigned top (pos (suc h)) py)
+    ↔ (WithinSigned x (pos (suc w)) px × WithinSigned y (pos (suc h)) py) in
+    rw (rectangle-some (plane_index x) (plane_index y) (suc w) (suc h) (omega arith) (omega arith))
     (subst (λ (left : ℤ). P left (plane_coordinate (plane_index y))) (sym (plane_coordinate-plane_index x p))
-    (subst (λ (top : ℤ). P x top) (sym (plane_coordinate-plane_index y q))
-    (λ t. (t.0.0, t.0.1, t.1.0, t.1.1), λ t. ((t.0, t.1), (t.2, t.3)))))
+    (subst (λ (top : ℤ). P x top) (sym (plane_coordinate-plane_index y q)) (λ t. t, λ t. t)))
 
 -- the places of a rectangle that `new_rectangle` gives
 pub new_rectangle-places : (x y w h : ℤ) (r : Rectangle) → Ok r ≡ new_rectangle x y w h → (px py : ℤ)
-    → LiesAt px py r ↔ ((x ≤ℤ px) × (px <ℤ (x +ℤ w)) × (y ≤ℤ py) × (py <ℤ (y +ℤ h)))
+    → LiesAt px py r ↔ (WithinSigned x w px × WithinSigned y h py)
 new_rectangle-places x y w h r e px py = elim (begins_test x y) [
   | inl t ↦ elim (ends_test x y w h) [
     | inl s ↦
@@ -138,14 +138,14 @@ new_rectangle-places x y w h r e px py = elim (begins_test x y) [
     unsigned (negsuc n) p = absurd (omega (arith, ints))
 
 -- numbers that a rectangle may have, of which no side is 0, are the fields of one
-pub fields : (x y w h : ℤ) → IsCoordinate x → IsCoordinate y → IsExtent x w → IsExtent y h → w ≢ pos 0 → h ≢ pos 0
+pub fields : (x y w h : ℤ) → BeginsInside x y → EndsInside x y w h → w ≢ pos 0 → h ≢ pos 0
     → AreFields x y (unsigned_abs w) (unsigned_abs h)
-fields x y (pos w) (pos h) p q r s v t = record {
-  behind_left = p.0;
-  behind_top = q.0;
+fields x y (pos w) (pos h) p q v t = record {
+  behind_left = p.0.0;
+  behind_top = p.1.0;
   rectangle = record {
-    columns = within x w p.0 r.1;
-    rows = within y h q.0 s.1;
+    columns = within x w p.0.0 q.0.1;
+    rows = within y h p.1.0 q.1.1;
     empty_width = λ e. absurd (v (ap pos e));
     empty_height = λ e. absurd (t (ap pos e));
   };
@@ -154,8 +154,8 @@ fields x y (pos w) (pos h) p q r s v t = record {
     within : (z : ℤ) (len : ℕ) → IsBehindCorner z → (z +ℤ pos len) ≤ℤ pos origin → plane_index z + len ≤ plane_side
     within (pos n) len b e = omega (arith, ints)
     within (negsuc n) len b e = omega (arith, ints)
-fields x y (pos w) (negsuc h) p q r s v t = absurd (omega (arith, ints, s.0))
-fields x y (negsuc w) h p q r s v t = absurd (omega (arith, ints, r.0))
+fields x y (pos w) (negsuc h) p q v t = absurd (omega (arith, ints, q.1))
+fields x y (negsuc w) h p q v t = absurd (omega (arith, ints, q.0))
 
 pub rectangle-placed : (x y w h : ℤ) → w ≢ pos 0 → h ≢ pos 0
     → placed x y (unsigned_abs w) (unsigned_abs h) ≡ rectangle (plane_index x) (plane_index y) (unsigned_abs w) (unsigned_abs h)
@@ -171,3 +171,29 @@ some_or_empty r is = elim (cases_lt 0 r.width) [
   | inl w ↦ elim (cases_lt 0 r.height) [ inl h ↦ inl (w, h) | inr h ↦ inr (is.empty_height (omega arith)) ]
   | inr w ↦ inr (is.empty_width (omega arith))
 ]
+
+-- ---- places with signs and without
+
+-- a place lies in a rectangle by its x and y as it does by its column and row
+pub LiesAt-coordinates : (u v : ℕ) (r : Rectangle) → LiesAt (plane_coordinate u) (plane_coordinate v) r ↔ Lies u v r
+LiesAt-coordinates u v r = (
+  λ h. record { column = (omega (arith, ints, h.0), omega (arith, ints, h.0)); row = (omega (arith, ints, h.1), omega (arith, ints, h.1)) },
+  λ h. ((omega (arith, ints, h.column), omega (arith, ints, h.column)), (omega (arith, ints, h.row), omega (arith, ints, h.row))),
+)
+
+-- no place before the plane's corner lies in a rectangle
+pub LiesAt-index : (x y : ℤ) (r : Rectangle)
+    → LiesAt x y r ↔ (IsBehindCorner x × IsBehindCorner y × Lies (plane_index x) (plane_index y) r)
+LiesAt-index x y r = (
+  λ h. let a : IsBehindCorner x = omega (arith, ints, h.0) in
+      let b : IsBehindCorner y = omega (arith, ints, h.1) in (
+        a,
+        b,
+        (LiesAt-coordinates (plane_index x) (plane_index y) r).0
+            (subst (λ (z : ℤ). LiesAt z (plane_coordinate (plane_index y)) r) (sym (plane_coordinate-plane_index x a))
+            (subst (λ (z : ℤ). LiesAt x z r) (sym (plane_coordinate-plane_index y b)) h)),
+      ),
+  λ h. subst (λ (z : ℤ). LiesAt x z r) (plane_coordinate-plane_index y h.1)
+      (subst (λ (z : ℤ). LiesAt z (plane_coordinate (plane_index y)) r) (plane_coordinate-plane_index x h.0)
+      ((LiesAt-coordinates (plane_index x) (plane_index y) r).1 h.2)),
+)

@@ -1,10 +1,11 @@
--- The tiles that meet a rectangle.
-use Rattle.std.proofs.Common.{◌≡◌, ℕ, zero, suc, ◌+◌, ◌-◌, ◌*◌, ◌<◌, ◌≤◌, ◌↔◌, inl, inr, nat_lt, true, false, max, refl, ap, sym, subst, arith, All, AllPairs, Contains}
+-- The tiles that meet a rectangle, and the tile of a place.
+use Rattle.std.proofs.Common.{◌≡◌, ℕ, zero, suc, ◌+◌, ◌-◌, ◌*◌, ◌^◌, length, length-append, ◌<◌, ◌≤◌, ◌↔◌, inl, inr, nat_lt, true, false, max, refl, ap, sym, subst, arith, All, AllPairs, Contains, ◌%◌}
 use Rattle.std.proofs.lemmas.Bool.{cases_lt, lt-ltb, le-ltb}
 use Rattle.std.proofs.lemmas.List.Elements.{Contains-append_left, Contains-append_right, Contains-append_cases}
 use Rattle.std.proofs.lemmas.List.Kept.{AllPairs-cons}
-use Rattle.plane_rect.specs.Rectangle.{Rectangle, Within, IsRectangle, right, bottom}
-use Rattle.plane_rect.specs.Tile.{Tile, IsBefore, IsWhole, Meets, tile_of, tile_end, tile_row, tile_rows, tiles, tiles_left}
+use Rattle.std.proofs.lemmas.Nat.{mul-le}
+use Rattle.plane_rect.specs.Rectangle.{Rectangle, Lies, offset, Within, IsRectangle}
+use Rattle.plane_rect.specs.Tile.{Tile, IsBefore, IsWhole, Meets, tile_at, tile_of, tile_end, tile_columns, tile_lines, tile_row, tile_rows, tile_square, tiles, tiles_left}
 use Rattle.plane_rect.proofs.Lists.{All-from_contains, AllPairs-nil, AllPairs-append, Contains-cases, Contains-first, Contains-later}
 use Rattle.plane_rect.proofs.Rectangles.{some_or_empty}
 
@@ -61,13 +62,13 @@ tiles-meeting r is t = elim (some_or_empty r is) [
   | inl some ↦
       let columns = tile-within r.left r.width t.column some.0 in
       let rows = tile-within r.top r.height t.row some.1 in (
-        λ h. let s = in_tile_rows (tile_of r.left) (tile_end (right r) - tile_of r.left) (tile_of r.top) (tile_end (bottom r) - tile_of r.top) t h in
+        λ h. let s = in_tile_rows (tile_of r.left) (tile_columns r) (tile_of r.top) (tile_lines r) t h in
             let x = columns.0 (s.0, omega (arith, s.0, s.1)) in
             let y = rows.0 (s.2, omega (arith, s.2, s.3)) in
             (x.0, y.0, record { column = x.1; row = y.1 }, tile-named (tile_of x.0) (tile_of y.0) t x.2 y.2),
         λ h. let x = columns.1 (h.0, h.2.column, ap (λ (t : Tile). t.column) h.3) in
             let y = rows.1 (h.1, h.2.row, ap (λ (t : Tile). t.row) h.3) in
-            tile_rows-has (tile_of r.left) (tile_end (right r) - tile_of r.left) (tile_of r.top) (tile_end (bottom r) - tile_of r.top) t
+            tile_rows-has (tile_of r.left) (tile_columns r) (tile_of r.top) (tile_lines r) t
             x.0 (omega (arith, x.0, x.1)) y.0 (omega (arith, y.0, y.1)),
       )
   | inr none ↦
@@ -95,7 +96,7 @@ tile_rows-in_order column columns row (suc n) =
 
 pub tiles-in_order : (r : Rectangle) → AllPairs IsBefore (tiles r)
 tiles-in_order r =
-    tile_rows-in_order (tile_of r.left) (tile_end (right r) - tile_of r.left) (tile_of r.top) (tile_end (bottom r) - tile_of r.top)
+    tile_rows-in_order (tile_of r.left) (tile_columns r) (tile_of r.top) (tile_lines r)
 
 -- ---- the list of an iterator that has given none
 
@@ -119,3 +120,37 @@ tiles-whole r is = All-from_contains IsWhole (tiles r)
     let column : t.column ≡ tile_of m.0 = ap (λ (t : Tile). t.column) m.3 in
     let row : t.row ≡ tile_of m.1 = ap (λ (t : Tile). t.row) m.3 in
     (omega (arith, m.2, is), omega (arith, m.2, is)))
+
+-- ---- how many they are
+
+length-tile_row : (row column n : ℕ) → length (tile_row row column n) ≡ n
+length-tile_row row column zero = refl
+length-tile_row row column (suc n) = ap suc (length-tile_row row (suc column) n)
+
+length-tile_rows : (column columns row n : ℕ) → length (tile_rows column columns row n) ≡ n * columns
+length-tile_rows column columns row zero = omega arith
+length-tile_rows column columns row (suc n) =
+    omega (arith, length-append (tile_row row column columns) (tile_rows column columns (suc row) n), length-tile_row row column columns, length-tile_rows column columns (suc row) n)
+
+pub length-tiles : (r : Rectangle) → length (tiles r) ≡ tile_lines r * tile_columns r
+length-tiles r = length-tile_rows (tile_of r.left) (tile_columns r) (tile_of r.top) (tile_lines r)
+
+pub tiles-few : (r : Rectangle) → IsRectangle r → length (tiles r) ≤ 2 ^ 38
+tiles-few r is =
+    let few = mul-le (tile_lines r) (tile_columns r) (2 ^ 19) (2 ^ 19) (omega (arith, is.rows)) (omega (arith, is.columns)) in
+    omega (arith, few, length-tiles r)
+
+-- ---- the tile of a place
+
+-- each place lies in one tile, and in no other
+pub Lies-tile_square : (u v : ℕ) (t : Tile) → Lies u v (tile_square t) ↔ (t ≡ tile_at u v)
+Lies-tile_square u v t = (
+  λ h. tile-named (tile_of u) (tile_of v) t (omega (arith, h.column)) (omega (arith, h.row)),
+  λ e. let column : t.column ≡ tile_of u = ap (λ (t : Tile). t.column) e in
+      let row : t.row ≡ tile_of v = ap (λ (t : Tile). t.row) e in
+      record { column = (omega arith, omega arith); row = (omega arith, omega arith) },
+)
+
+-- where a place stands among those of its tile
+pub offset-tile_square : (u v : ℕ) → offset (tile_square (tile_at u v)) u v ≡ v % 64 * 64 + u % 64
+offset-tile_square u v = omega arith

@@ -18,7 +18,8 @@ is_name_byte byte = is_ascii_lowercase byte || is_ascii_digit byte || byte == un
 -- a word of 1 to 16 bytes whose first is `a` to `z`, and whose others may stand in a name
 abbrev pub is_name : List ℕ → Bool
 is_name [] = false
-is_name (first ∷ rest) = is_ascii_lowercase first && nat_lt (length rest) longest_name && list_all is_name_byte rest
+is_name (first ∷ rest) =
+    is_ascii_lowercase first && nat_lt (length rest) longest_name && list_all is_name_byte rest
 
 -- a name with zeros behind it, up to the greatest length
 abbrev pub padded_name : List ℕ → List ℕ

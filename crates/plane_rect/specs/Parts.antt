@@ -5,4 +5,5 @@ use Rattle.plane_rect.specs.declared.sets.Parts.{Parts}
 
 -- up to four rectangles in an array, and empty ones behind them
 abbrev pub parts_of : List Rectangle → Parts
-parts_of rectangles = record { count = length rectangles; parts = rectangles ++ replicate (4 - length rectangles) empty }
+parts_of rectangles =
+    record { count = length rectangles; parts = rectangles ++ replicate (4 - length rectangles) empty }

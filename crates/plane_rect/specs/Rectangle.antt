@@ -45,13 +45,14 @@ pub record Lies (u v : ℕ) (r : Rectangle) : Type 0 where
   pub column : Within r.left r.width u
   pub row : Within r.top r.height v
 
--- a signed number is one of the len numbers from start on
-abbrev pub WithinSigned : ℤ → ℕ → ℤ → Type 0
-WithinSigned start len z = (start ≤ℤ z) × (z <ℤ (start +ℤ pos len))
+-- the same of signed numbers
+abbrev pub WithinSigned : ℤ → ℤ → ℤ → Type 0
+WithinSigned start len z = (start ≤ℤ z) × (z <ℤ (start +ℤ len))
 
 -- the place of x and y, which may be outside the plane, lies in the rectangle
 abbrev pub LiesAt : ℤ → ℤ → Rectangle → Type 0
-LiesAt x y r = WithinSigned (plane_coordinate r.left) r.width x × WithinSigned (plane_coordinate r.top) r.height y
+LiesAt x y r =
+    WithinSigned (plane_coordinate r.left) (pos r.width) x × WithinSigned (plane_coordinate r.top) (pos r.height) y
 
 -- the rectangle of no place, which stands at the origin
 abbrev pub empty : Rectangle
@@ -69,10 +70,11 @@ abbrev pub rectangle : ℕ → ℕ → ℕ → ℕ → Rectangle
 rectangle left top width height =
     if width == 0 || height == 0 then empty else record { left = left; top = top; width = width; height = height }
 
--- the first column behind the rectangle, and the first row below it
+-- the first column behind the rectangle
 abbrev pub right : Rectangle → ℕ
 right r = r.left + r.width
 
+-- the first row below it
 abbrev pub bottom : Rectangle → ℕ
 bottom r = r.top + r.height
 
@@ -92,6 +94,7 @@ offset r u v = (v - r.top) * r.width + (u - r.left)
 abbrev pub in_limits : Rectangle → Bool
 in_limits r = nat_le r.width (2 ^ 15) && nat_le r.height (2 ^ 15) && nat_le (area r) (2 ^ 25)
 
+-- the same as a fact
 abbrev pub InLimits : Rectangle → Type 0
 InLimits r = (r.width ≤ 2 ^ 15) × (r.height ≤ 2 ^ 15) × (area r ≤ 2 ^ 25)
 
@@ -115,9 +118,11 @@ pub record AreFields (x y : ℤ) (w h : ℕ) : Type 0 where
 abbrev pub is_coordinate : ℤ → Bool
 is_coordinate z = int_le (plane_coordinate 0) z && int_le z (pos origin)
 
+-- the same as a fact
 abbrev pub IsCoordinate : ℤ → Type 0
 IsCoordinate z = (plane_coordinate 0 ≤ℤ z) × (z ≤ℤ pos origin)
 
+-- no rectangle may begin there
 abbrev pub IsNoCoordinate : ℤ → Type 0
 IsNoCoordinate z = (z <ℤ plane_coordinate 0) ⊎ (pos origin <ℤ z)
 
@@ -125,25 +130,43 @@ IsNoCoordinate z = (z <ℤ plane_coordinate 0) ⊎ (pos origin <ℤ z)
 abbrev pub is_extent : ℤ → ℤ → Bool
 is_extent z len = int_le (pos 0) len && int_le (z +ℤ len) (pos origin)
 
+-- the same as a fact
 abbrev pub IsExtent : ℤ → ℤ → Type 0
 IsExtent z len = (pos 0 ≤ℤ len) × ((z +ℤ len) ≤ℤ pos origin)
 
+-- they can not
 abbrev pub IsNoExtent : ℤ → ℤ → Type 0
 IsNoExtent z len = (len <ℤ pos 0) ⊎ (pos origin <ℤ (z +ℤ len))
 
 -- a rectangle may begin at x and y
-abbrev pub begins_in_plane : ℤ → ℤ → Bool
-begins_in_plane x y = is_coordinate x && is_coordinate y
+abbrev pub begins_inside : ℤ → ℤ → Bool
+begins_inside x y = is_coordinate x && is_coordinate y
+
+-- the same as a fact
+abbrev pub BeginsInside : ℤ → ℤ → Type 0
+BeginsInside x y = IsCoordinate x × IsCoordinate y
+
+-- no rectangle may begin there
+abbrev pub BeginsOutside : ℤ → ℤ → Type 0
+BeginsOutside x y = IsNoCoordinate x ⊎ IsNoCoordinate y
 
 -- it may have w columns from x on and h rows from y on
-abbrev pub ends_in_plane : ℤ → ℤ → ℤ → ℤ → Bool
-ends_in_plane x y w h = is_extent x w && is_extent y h
+abbrev pub ends_inside : ℤ → ℤ → ℤ → ℤ → Bool
+ends_inside x y w h = is_extent x w && is_extent y h
+
+-- the same as a fact
+abbrev pub EndsInside : ℤ → ℤ → ℤ → ℤ → Type 0
+EndsInside x y w h = IsExtent x w × IsExtent y h
+
+-- it can not
+abbrev pub EndsOutside : ℤ → ℤ → ℤ → ℤ → Type 0
+EndsOutside x y w h = IsNoExtent x w ⊎ IsNoExtent y h
 
 -- the rectangle of signed fields, or why there is none
 abbrev pub new_rectangle : ℤ → ℤ → ℤ → ℤ → Result Rectangle RectRefused
 new_rectangle x y w h =
-    if not (begins_in_plane x y) then Err Place
-    else if not (ends_in_plane x y w h) then Err Size
+    if not (begins_inside x y) then Err Place
+    else if not (ends_inside x y w h) then Err Size
     else Ok (rectangle (plane_index x) (plane_index y) (unsigned_abs w) (unsigned_abs h))
 
 -- ---- rectangles made of rectangles
@@ -160,6 +183,7 @@ has_places r = not (is_empty r)
 abbrev pub Includes : Rectangle → Rectangle → Type 0
 Includes a b = (u v : ℕ) → Lies u v b → Lies u v a
 
+-- the same as a test of rectangles of the plane
 abbrev pub includes : Rectangle → Rectangle → Bool
 includes a b =
     is_empty b
@@ -197,11 +221,18 @@ minus a b =
 
 -- ---- rectangles moved and scaled
 
+-- the x at which a rectangle begins that is moved by so much
+abbrev pub moved_x : ℤ → Rectangle → ℤ
+moved_x dx r = plane_coordinate r.left +ℤ dx
+
+-- the y so
+abbrev pub moved_y : ℤ → Rectangle → ℤ
+moved_y dy r = plane_coordinate r.top +ℤ dy
+
 -- the rectangle moved by dx and dy, or why that is none: an empty one stays
 abbrev pub shifted : ℤ → ℤ → Rectangle → Result Rectangle RectRefused
 shifted dx dy r =
-    if is_empty r then Ok r
-    else new_rectangle (plane_coordinate r.left +ℤ dx) (plane_coordinate r.top +ℤ dy) (pos r.width) (pos r.height)
+    if is_empty r then Ok r else new_rectangle (moved_x dx r) (moved_y dy r) (pos r.width) (pos r.height)
 
 -- the rectangle with so many more places on each side, or why that is none: an empty one stays
 abbrev pub grown : ℕ → Rectangle → Result Rectangle RectRefused

@@ -2,6 +2,8 @@
 -- tile. So the column of a tx is tx + 2^18.
 use Rattle.std.specs.Prelude.{◌≡◌, ℕ, zero, suc, ◌+◌, ◌-◌, ◌*◌, ◌/◌, ◌^◌, ◌<◌, ◌≤◌, ◌⊎◌, ◌&&◌, ◌==◌, Bool, nat_lt, if◌then◌else◌, ℤ, pos, negsuc, ◌-ℤ◌, ◌≤ℤ◌, List, [], ◌∷◌, ◌++◌}
 use Rattle.std.specs.Int.{div_ceil}
+use Rattle.std.specs.Ordering.{nat_cmp, on, then_cmp}
+use Rattle.std.specs.declared.cmp.Ordering.{Ordering}
 use Rattle.plane_rect.specs.Rectangle.{Rectangle, Lies, plane_side, meet, right, bottom}
 
 -- how many columns, and how many rows, a tile has
@@ -74,6 +76,10 @@ tile_rectangle t = meet (tile_square t) plane
 abbrev pub same_tile : Tile → Tile → Bool
 same_tile a b = a.row == b.row && a.column == b.column
 
+-- the order of tiles: row by row from the top, each row from the left
+abbrev pub tile_cmp : Tile → Tile → Ordering
+tile_cmp = then_cmp (on (λ t. t.row) nat_cmp) (on (λ t. t.column) nat_cmp)
+
 -- some place of the rectangle lies in the tile
 abbrev pub Meets : Tile → Rectangle → Type 0
 Meets t r = (u : ℕ) × (v : ℕ) × Lies u v r × (t ≡ tile_at u v)
@@ -90,16 +96,24 @@ tile_row row column (suc n) = record { column = column; row = row } ∷ tile_row
 -- so many rows from a row on, each of so many tiles from a column on
 abbrev pub tile_rows : ℕ → ℕ → ℕ → ℕ → List Tile
 tile_rows column columns row zero = []
-tile_rows column columns row (suc n) = tile_row row column columns ++ tile_rows column columns (suc row) n
+tile_rows column columns row (suc n) =
+    tile_row row column columns ++ tile_rows column columns (suc row) n
 
 -- the column behind those of the tiles in which the columns before an end lie, or the row so
 abbrev pub tile_end : ℕ → ℕ
 tile_end n = div_ceil n tile_side
 
+-- how many columns of tiles meet the rectangle
+abbrev pub tile_columns : Rectangle → ℕ
+tile_columns r = tile_end (right r) - tile_of r.left
+
+-- how many rows of tiles meet it
+abbrev pub tile_lines : Rectangle → ℕ
+tile_lines r = tile_end (bottom r) - tile_of r.top
+
 -- the tiles that meet the rectangle, row by row from the top, each row from the left
 abbrev pub tiles : Rectangle → List Tile
-tiles r =
-    tile_rows (tile_of r.left) (tile_end (right r) - tile_of r.left) (tile_of r.top) (tile_end (bottom r) - tile_of r.top)
+tiles r = tile_rows (tile_of r.left) (tile_columns r) (tile_of r.top) (tile_lines r)
 
 -- the tiles of rows of columns from first up to end that are left at a column and a row
 abbrev pub tiles_left : ℕ → ℕ → ℕ → ℕ → ℕ → List Tile

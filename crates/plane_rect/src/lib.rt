@@ -6,6 +6,8 @@ mod name;
 mod plane;
 mod rect;
 mod sets;
+#[cfg(test)]
+mod tests;
 mod tile;
 
 pub use name::Name;

@@ -1,7 +1,7 @@
 //! Rectangles moved, grown and scaled.
 
 ghost use Rattle.std.specs.Prelude.{◌≡◌, ◌≢◌, ℕ, ℤ, ◌+◌, ◌<◌, ◌≤◌, ◌↔◌, ◌⊎◌, pos, ◌+ℤ◌, ◌*ℤ◌, ◌^◌, unsigned_abs, IfOk, IfSome};
-ghost use Rattle.plane_rect.specs.Rectangle.{InLimits, IsCoordinate, IsNoCoordinate, IsNoExtent, Lies, LiesAt, LiesHalved, LiesNear, bottom, coarse, empty, enlarged, grown, half, halved, plane_coordinate, plane_side, right, scaled, shifted};
+ghost use Rattle.plane_rect.specs.Rectangle.{BeginsInside, BeginsOutside, EndsOutside, InLimits, Lies, LiesAt, LiesHalved, LiesNear, bottom, coarse, empty, enlarged, grown, half, halved, moved_x, moved_y, plane_side, right, scaled, shifted};
 
 use crate::plane::{ORIGIN, SIDE};
 use crate::rect::{Rect, RectRefused};
@@ -14,11 +14,14 @@ impl Rect {
     /// `Place` and `Size` as [`Rect::new`] gives them for the moved fields.
     pub fn shift(&self, dx: i64, dy: i64) -> Result<Rect, RectRefused>
         ensures value { result ≡ shifted dx dy self.now }
-        ensures place { let x = plane_coordinate self.now.left +ℤ dx in let y = plane_coordinate self.now.top +ℤ dy in
-            (result ≡ Err RectRefused.Place) ↔ ((self.now ≢ empty) × (IsNoCoordinate x ⊎ IsNoCoordinate y)) }
-        ensures size { let x = plane_coordinate self.now.left +ℤ dx in let y = plane_coordinate self.now.top +ℤ dy in
-            (result ≡ Err RectRefused.Size) ↔ ((self.now ≢ empty) × (IsCoordinate x × IsCoordinate y) × (IsNoExtent x (pos self.now.width) ⊎ IsNoExtent y (pos self.now.height))) }
-        ensures places { IfOk result (λ moved. (x y : ℤ) → LiesAt (x +ℤ dx) (y +ℤ dy) moved ↔ LiesAt x y self.now) }
+        ensures place { (result ≡ Err RectRefused.Place)
+            ↔ ((self.now ≢ empty) × BeginsOutside (moved_x dx self.now) (moved_y dy self.now)) }
+        ensures size { (result ≡ Err RectRefused.Size)
+            ↔ ((self.now ≢ empty) × BeginsInside (moved_x dx self.now) (moved_y dy self.now)
+            × EndsOutside (moved_x dx self.now) (moved_y dy self.now)
+            (pos self.now.width) (pos self.now.height)) }
+        ensures places { IfOk result (λ moved. (x y : ℤ) →
+            LiesAt (x +ℤ dx) (y +ℤ dy) moved ↔ LiesAt x y self.now) }
     {
         if self.is_empty() {
             return Ok(*self);
@@ -36,13 +39,17 @@ impl Rect {
     ///
     /// # Errors
     ///
-    /// `Place` exactly where the grown rectangle would begin before -2^24, and else `Size` exactly where it would end
-    /// behind 2^24.
+    /// `Place` exactly where the grown rectangle would begin before -2^24, and else `Size` exactly
+    /// where it would end behind 2^24.
     pub fn grow(&self, by: u32) -> Result<Rect, RectRefused>
         ensures value { result ≡ grown by self.now }
-        ensures place { (result ≡ Err RectRefused.Place) ↔ ((self.now ≢ empty) × ((self.now.left < by) ⊎ (self.now.top < by))) }
-        ensures size { (result ≡ Err RectRefused.Size) ↔ ((self.now ≢ empty) × (by ≤ self.now.left) × (by ≤ self.now.top) × ((plane_side < right self.now + by) ⊎ (plane_side < bottom self.now + by))) }
-        ensures places { IfOk result (λ grown. (u v : ℕ) → Lies u v grown ↔ LiesNear by u v self.now) }
+        ensures place { (result ≡ Err RectRefused.Place)
+            ↔ ((self.now ≢ empty) × ((self.now.left < by) ⊎ (self.now.top < by))) }
+        ensures size { (result ≡ Err RectRefused.Size)
+            ↔ ((self.now ≢ empty) × ((by ≤ self.now.left) × (by ≤ self.now.top))
+            × ((plane_side < right self.now + by) ⊎ (plane_side < bottom self.now + by))) }
+        ensures places { IfOk result (λ grown. (u v : ℕ) →
+            Lies u v grown ↔ LiesNear by u v self.now) }
     {
         if self.is_empty() {
             return Ok(*self);
@@ -58,8 +65,8 @@ impl Rect {
         Ok(Rect::spanning(left - by, top - by, right, bottom))
     }
 
-    /// The rectangle of half the coordinates: from half the first, rounded down, to half of what is behind the last,
-    /// rounded up.
+    /// The rectangle of half the coordinates: from half the first, rounded down, to half of what is
+    /// behind the last, rounded up.
     pub fn halved(&self) -> Rect
         ensures value { result ≡ halved self.now }
         ensures places { (u v : ℕ) → Lies u v result ↔ LiesHalved u v self.now }
@@ -72,11 +79,13 @@ impl Rect {
         )
     }
 
-    /// The rectangle of all four fields times 2^level, and None exactly where that is no rectangle in limits.
+    /// The rectangle of all four fields times 2^level, and None exactly where that is no rectangle
+    /// in limits.
     pub fn scaled(&self, level: u32) -> Option<Rect>
         requires { level ≤ 8 }
         ensures value { result ≡ scaled level self.now }
-        ensures places { IfSome result (λ r. (u v : ℕ) → Lies u v r ↔ Lies (coarse level u) (coarse level v) self.now) }
+        ensures places { IfSome result (λ r. (u v : ℕ) →
+            Lies u v r ↔ Lies (coarse level u) (coarse level v) self.now) }
         ensures limits { IfSome result InLimits }
     {
         match self.enlarged(level) {
@@ -89,7 +98,8 @@ impl Rect {
     fn enlarged(&self, level: u32) -> Result<Rect, RectRefused>
         requires { level ≤ 8 }
         ensures value { result ≡ enlarged level self.now }
-        ensures places { IfOk result (λ r. (u v : ℕ) → Lies u v r ↔ Lies (coarse level u) (coarse level v) self.now) }
+        ensures places { IfOk result (λ r. (u v : ℕ) →
+            Lies u v r ↔ Lies (coarse level u) (coarse level v) self.now) }
     {
         let (x, y) = self.corner();
         let (w, h) = (i64::from(self.w), i64::from(self.h));

@@ -1,6 +1,6 @@
-//! Names of buffers, nodes and files.
+//! Names of buffers and nodes.
 
-ghost use Rattle.std.specs.Prelude.{◌≡◌, ◌↔◌, IsTrue, SomeIff, nat_eq, Some};
+ghost use Rattle.std.specs.Prelude.{◌≡◌, ◌≤◌, ◌↔◌, IsTrue, SomeIff, length, nat_eq, Some};
 ghost use Rattle.std.specs.Ordering.{nat_cmp};
 ghost use Rattle.std.specs.Cmp.Lexicographic.{pointwise, slice_cmp, nat_list_cmp_total, nat_list_eq_equiv, texts_ties, texts_po};
 ghost use Rattle.std.specs.Cmp.{partial_equiv_from_equiv};
@@ -8,7 +8,7 @@ ghost use Rattle.std.specs.Cmp.Rules.{hashing};
 ghost use Rattle.std.specs.Hash as fed;
 ghost use Rattle.std.proofs.Common.{rules, refl};
 ghost use Rattle.std.specs.List.{list_all};
-ghost use Rattle.plane_rect.specs.Name.{is_name, is_name_byte};
+ghost use Rattle.plane_rect.specs.Name.{is_name, is_name_byte, longest_name};
 
 use std::cmp::Ordering;
 use std::hash::{Hash, Hasher};
@@ -58,6 +58,7 @@ impl Name {
     pub fn as_bytes(&self) -> &[u8]
         ensures value { result.now ≡ self.now }
         ensures name { IsTrue (is_name result.now) }
+        ensures short { length result.now ≤ longest_name }
     {
         &self.padded[..usize::from(self.len)]
     }

@@ -1,7 +1,7 @@
 //! The plane's columns and rows.
 //!
-//! A column and a row count from the plane's upper left corner, which stands at x = y = -2^24, so no number of them is
-//! negative.
+//! A column and a row count from the plane's upper left corner, which stands at x = y = -2^24, so
+//! no number of them is negative.
 
 ghost use Rattle.std.specs.Prelude.{◌≡◌, ◌≤◌};
 ghost use Rattle.plane_rect.specs.Rectangle.{IsBehindCorner, plane_coordinate as coordinate_of, plane_index as index_of, plane_side};

@@ -7,7 +7,7 @@ ghost use Rattle.std.specs.Cmp.Rules.{hashing};
 ghost use Rattle.std.specs.Hash as fed;
 ghost use Rattle.std.proofs.Common.{rules};
 ghost use Rattle.plane_rect.specs.SameRectangle.{same_rectangle-laws};
-ghost use Rattle.plane_rect.specs.Rectangle.{InLimits, IsCoordinate, IsExtent, IsNoCoordinate, IsNoExtent, IsRectangle, Includes, Lies, LiesAt, Within, WithinSigned, area, begins_in_plane, bottom, empty, ends_in_plane, in_limits, is_coordinate, is_empty, is_extent, new_rectangle, offset, origin, plane_coordinate as coordinate_of, plane_index as index_of, plane_side, rectangle, right, same_rectangle, spanning};
+ghost use Rattle.plane_rect.specs.Rectangle.{BeginsInside, BeginsOutside, EndsInside, EndsOutside, InLimits, IsCoordinate, IsExtent, IsRectangle, Includes, Lies, LiesAt, Within, WithinSigned, area, begins_inside, bottom, empty, ends_inside, in_limits, is_coordinate, is_empty, is_extent, new_rectangle, offset, origin, plane_coordinate as coordinate_of, plane_index as index_of, plane_side, rectangle, right, same_rectangle, spanning};
 
 use crate::plane::{ORIGIN, plane_coordinate, plane_index};
 use std::hash::{Hash, Hasher};
@@ -17,7 +17,8 @@ use thiserror::Error;
 
 /// A set of places: those of `x <= px < x + w` and `y <= py < y + h`.
 ///
-/// It lies in the plane, from -2^24 up to 2^24 in x and y, and a rectangle without a place is [`Rect::EMPTY`].
+/// It lies in the plane, from -2^24 up to 2^24 in x and y, and a rectangle without a place is
+/// [`Rect::EMPTY`].
 #[derive(Clone, Copy, Debug)]
 pub struct Rect {
     pub x: i32,
@@ -35,7 +36,12 @@ impl Model for Rect {
 
     ghost invariant = { λ r. AreFields r.x r.y r.w r.h };
 
-    ghost inverse = { λ v. record { x = plane_coordinate v.left; y = plane_coordinate v.top; w = v.width; h = v.height } };
+    ghost inverse = { λ v. record {
+      x = plane_coordinate v.left;
+      y = plane_coordinate v.top;
+      w = v.width;
+      h = v.height;
+    } };
 }
 
 /// Why numbers are no rectangle.
@@ -62,18 +68,19 @@ impl Rect {
     ///
     /// # Errors
     ///
-    /// `Place` exactly where x or y is below -2^24 or above 2^24, and else `Size` exactly where w or h is negative, or
-    /// x + w or y + h is above 2^24.
+    /// `Place` exactly where x or y is below -2^24 or above 2^24, and else `Size` exactly where w
+    /// or h is negative, or x + w or y + h is above 2^24.
     pub fn new(x: i64, y: i64, w: i64, h: i64) -> Result<Rect, RectRefused>
         ensures value { result ≡ new_rectangle x y w h }
-        ensures place { (result ≡ Err RectRefused.Place) ↔ (IsNoCoordinate x ⊎ IsNoCoordinate y) }
-        ensures size { (result ≡ Err RectRefused.Size) ↔ (IsCoordinate x × IsCoordinate y × (IsNoExtent x w ⊎ IsNoExtent y h)) }
-        ensures places { IfOk result (λ r. (px py : ℤ) → LiesAt px py r ↔ ((x ≤ℤ px) × (px <ℤ (x +ℤ w)) × (y ≤ℤ py) × (py <ℤ (y +ℤ h)))) }
+        ensures place { (result ≡ Err RectRefused.Place) ↔ BeginsOutside x y }
+        ensures size { (result ≡ Err RectRefused.Size) ↔ (BeginsInside x y × EndsOutside x y w h) }
+        ensures places { IfOk result (λ r. (px py : ℤ) →
+            LiesAt px py r ↔ (WithinSigned x w px × WithinSigned y h py)) }
     {
-        if !begins_in_plane(x, y) {
+        if !begins_inside(x, y) {
             return Err(RectRefused::Place);
         }
-        if !ends_in_plane(x, y, w, h) {
+        if !ends_inside(x, y, w, h) {
             return Err(RectRefused::Size);
         }
         Ok(Rect::from_fields(x, y, w, h))
@@ -81,10 +88,8 @@ impl Rect {
 
     /// The rectangle of fields that a rectangle may have, which is empty if a side is 0.
     fn from_fields(x: i64, y: i64, w: i64, h: i64) -> Rect
-        requires left { IsCoordinate x }
-        requires top { IsCoordinate y }
-        requires width { IsExtent x w }
-        requires height { IsExtent y h }
+        requires begins { BeginsInside x y }
+        requires ends { EndsInside x y w h }
         ensures { result ≡ rectangle (index_of x) (index_of y) (unsigned_abs w) (unsigned_abs h) }
     {
         if w == 0 || h == 0 {
@@ -252,19 +257,18 @@ impl Hash for Rect {
 }
 
 /// Whether a rectangle may begin at x and y.
-fn begins_in_plane(x: i64, y: i64) -> bool
-    ensures value { result ≡ begins_in_plane x y }
-    ensures inside { OnTrue result (IsCoordinate x × IsCoordinate y) }
+fn begins_inside(x: i64, y: i64) -> bool
+    ensures value { result ≡ begins_inside x y }
+    ensures inside { OnTrue result (BeginsInside x y) }
 {
     is_coordinate(x) && is_coordinate(y)
 }
 
 /// Whether a rectangle that begins at x and y may have w columns and h rows.
-fn ends_in_plane(x: i64, y: i64, w: i64, h: i64) -> bool
-    requires left { IsCoordinate x }
-    requires top { IsCoordinate y }
-    ensures value { result ≡ ends_in_plane x y w h }
-    ensures inside { OnTrue result (IsExtent x w × IsExtent y h) }
+fn ends_inside(x: i64, y: i64, w: i64, h: i64) -> bool
+    requires { BeginsInside x y }
+    ensures value { result ≡ ends_inside x y w h }
+    ensures inside { OnTrue result (EndsInside x y w h) }
 {
     is_extent(x, w) && is_extent(y, h)
 }
@@ -289,7 +293,7 @@ fn is_extent(z: i64, len: i64) -> bool
 
 /// Whether a number is one of the `len` numbers from `start` on.
 fn is_within(start: i32, len: u32, z: i32) -> bool
-    ensures { IsTrue result ↔ WithinSigned start len z }
+    ensures { IsTrue result ↔ WithinSigned start (pos len) z }
 {
     start <= z && i64::from(z) < i64::from(start) + i64::from(len)
 }

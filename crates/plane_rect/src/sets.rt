@@ -6,7 +6,8 @@ ghost use Rattle.plane_rect.specs.Rectangle.{AreDisjoint, Includes, Lies, Rectan
 
 use crate::rect::Rect;
 
-/// Rectangles without a common place: the first `count` of `parts`, none of which is empty. The others are empty.
+/// Rectangles without a common place: the first `count` of `parts`, none of which is empty. The
+/// others are empty.
 #[derive(Clone, Copy, Debug, PartialEq, Eq)]
 pub struct Parts {
     pub count: u32,
@@ -46,7 +47,8 @@ impl Rect {
         ensures value { result ≡ hull self.now other.now }
         ensures contains_this { Includes result self.now }
         ensures contains_other { Includes result other.now }
-        ensures least { (r : Rectangle) → Includes r self.now → Includes r other.now → Includes r result }
+        ensures least { (r : Rectangle) →
+            Includes r self.now → Includes r other.now → Includes r result }
     {
         if self.is_empty() {
             return *other;
@@ -62,11 +64,13 @@ impl Rect {
         )
     }
 
-    /// The places that do not lie in the other, in at most four parts: the rows above the other, what is left of it,
-    /// what is right of it, and the rows below it. The rows above and below have the full width.
+    /// The places that do not lie in the other, in at most four parts: the rows above the other,
+    /// what is left of it, what is right of it, and the rows below it. The rows above and below
+    /// have the full width.
     pub fn minus(&self, other: &Rect) -> Parts
         ensures value { result ≡ parts_of (minus self.now other.now) }
-        ensures places { (u v : ℕ) → Any (Lies u v) result.parts ↔ (Lies u v self.now × ¬ Lies u v other.now) }
+        ensures places { (u v : ℕ) →
+            Any (Lies u v) result.parts ↔ (Lies u v self.now × ¬ Lies u v other.now) }
         ensures disjoint { AllPairs AreDisjoint result.parts }
         ensures count { result.count ≤ 4 }
         ensures some { All (λ part. part ≢ empty) (take result.count result.parts) }

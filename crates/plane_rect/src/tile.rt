@@ -1,15 +1,15 @@
 //! Tiles of 64 by 64 places.
 
-ghost use Rattle.std.specs.Prelude.{◌≡◌, ℕ, ◌+◌, ◌≤◌, ◌<◌, ◌++◌, ◌↔◌, IsTrue, Some, All, AllPairs, Contains};
+ghost use Rattle.std.specs.Prelude.{◌≡◌, ℕ, ◌*◌, ◌^◌, ◌≤◌, ◌++◌, ◌↔◌, IsTrue, Some, All, AllPairs, length, Contains};
 ghost use Rattle.std.specs.Cmp.{partial_equiv_from_equiv, partial_order_from_own_ties};
 ghost use Rattle.std.specs.Cmp.Rules.{comparing, hashing};
 ghost use Rattle.std.specs.Hash as fed;
 ghost use Rattle.std.specs.Iterator.{YieldsFirst, item_count};
-ghost use Rattle.std.specs.Ordering.{as_partial_cmp, nat_cmp, on, then_cmp};
+ghost use Rattle.std.specs.Ordering.{as_partial_cmp};
 ghost use Rattle.std.proofs.Common.{rules};
 ghost use Rattle.plane_rect.specs.Rectangle.{IsCoordinate, Lies, plane_index as index_of, plane_side};
 ghost use Rattle.plane_rect.specs.SameTile.{same_tile-laws};
-ghost use Rattle.plane_rect.specs.Tile.{IsBefore, IsTile, IsWhole, Meets, Tile, last_tile, plane, same_tile, tile_at, tile_end, tile_of, tile_rectangle, tile_square, tiles};
+ghost use Rattle.plane_rect.specs.Tile.{IsBefore, IsTile, IsWhole, Meets, Tile, last_tile, plane, same_tile, tile_at, tile_cmp, tile_columns, tile_lines, tile_rectangle, tile_square, tiles};
 
 use crate::plane::{SIDE, plane_index};
 use crate::rect::Rect;
@@ -51,11 +51,11 @@ impl TileAt {
         requires y { IsCoordinate y }
         ensures { result ≡ tile_at (index_of x) (index_of y) }
     {
-        TileAt::at(plane_index(x), plane_index(y))
+        TileAt::of_place(plane_index(x), plane_index(y))
     }
 
     /// The tile in which the place of a column and a row lies.
-    pub fn at(column: u32, row: u32) -> TileAt
+    pub fn of_place(column: u32, row: u32) -> TileAt
         requires column { column ≤ plane_side }
         requires row { row ≤ plane_side }
         ensures { result ≡ tile_at column row }
@@ -63,8 +63,8 @@ impl TileAt {
         TileAt::from_indices(column / TILE_SIDE, row / TILE_SIDE)
     }
 
-    /// The tile of a column and a row of tiles.
-    fn from_indices(column: u32, row: u32) -> TileAt
+    /// The tile of a column and a row of tiles, counted from the plane's corner.
+    pub fn from_indices(column: u32, row: u32) -> TileAt
         requires column { column ≤ last_tile }
         requires row { row ≤ last_tile }
         ensures column { result.column ≡ column }
@@ -92,7 +92,8 @@ impl TileAt {
         (self.ty + TILE_ORIGIN) as u32
     }
 
-    /// The places of the plane that lie in it: none where it begins behind the plane, and else all 64 by 64.
+    /// The places of the plane that lie in it: none where it begins behind the plane, and else all
+    /// 64 by 64.
     pub fn rect(&self) -> Rect
         ensures value { result ≡ tile_rectangle self.now }
         ensures places { (u v : ℕ) → Lies u v result ↔ (Lies u v plane × (self.now ≡ tile_at u v)) }
@@ -126,7 +127,7 @@ impl Eq for TileAt {
 }
 
 impl Ord for TileAt {
-    ghost cmp = { then_cmp (on (λ t. t.row) nat_cmp) (on (λ t. t.column) nat_cmp) };
+    ghost cmp = { tile_cmp };
 
     ghost total = { Prim.search (comparing, rules) };
 
@@ -143,9 +144,10 @@ impl Ord for TileAt {
 }
 
 impl PartialOrd for TileAt {
-    ghost partial_cmp = { as_partial_cmp (then_cmp (on (λ t. t.row) nat_cmp) (on (λ t. t.column) nat_cmp)) };
+    ghost partial_cmp = { as_partial_cmp tile_cmp };
 
-    ghost laws = { partial_order_from_own_ties (Prim.search (comparing, rules)) (Prim.search (comparing, rules)) };
+    ghost laws = { partial_order_from_own_ties
+        (Prim.search (comparing, rules)) (Prim.search (comparing, rules)) };
 
     fn partial_cmp(&self, other: &TileAt) -> Option<Ordering> {
         Some(self.cmp(other))
@@ -163,7 +165,8 @@ impl Hash for TileAt {
     }
 }
 
-/// The tiles that meet a rectangle, row by row from the top, each row from the left: see [`Rect::tiles`].
+/// The tiles that meet a rectangle, row by row from the top, each row from the left: see
+/// [`Rect::tiles`].
 ///
 /// It is seen as the list of the tiles that are still to come.
 #[derive(Clone, Debug, Drop)]
@@ -214,6 +217,8 @@ impl Rect {
         ensures meeting { (t : Tile) → Contains result t ↔ Meets t self.now }
         ensures in_order { AllPairs IsBefore result }
         ensures whole { All IsWhole result }
+        ensures count { length result ≡ tile_lines self.now * tile_columns self.now }
+        ensures few { length result ≤ 2 ^ 38 }
     {
         let first_column = self.left() / TILE_SIDE;
         Tiles {

@@ -3,7 +3,7 @@ use Rattle.std.proofs.Common.{◌≡◌, ℕ, zero, suc, ◌+◌, ◌-◌, ◌*�
 use Rattle.std.proofs.Math.Nat.{mul-le-mul_left}
 use Rattle.std.proofs.lemmas.Nat.{mul-add-lt}
 use Rattle.std.proofs.lemmas.Bool.{cases_lt}
-use Rattle.std.proofs.lemmas.List.{get_or-drop, get_or-append-add, get_or_append_left, get_or-append_right, get_or_past, get_or-replicate, length-take}
+use Rattle.std.proofs.lemmas.List.{get_or-drop, get_or-append-add, get_or_append_left, get_or-append_right, get_or_past, get_or-replicate, get_or-take, length-take}
 use Rattle.std.proofs.lemmas.Simd.{length-replicate}
 use Rattle.std.proofs.Math.ListN.{length-append, length-drop}
 use Rattle.std.proofs.lemmas.Slice.{between_to_end}
@@ -15,7 +15,7 @@ same_place : (row : List ℕ) (p q : ℕ) → p ≡ q → get_or row p 0 ≡ get
 same_place row p q e = ap (λ k. get_or row k 0) e
 
 -- samples that stand m places further on in the one row than in the other
-sample_at-shift : (d : ℕ) (a b : List ℕ) (m n i j : ℕ) → n ≡ d * m → j ≡ m + i → ((p : ℕ) → get_or a p 0 ≡ get_or b (n + p) 0) → sample_at d a i ≡ sample_at d b j
+pub sample_at-shift : (d : ℕ) (a b : List ℕ) (m n i j : ℕ) → n ≡ d * m → j ≡ m + i → ((p : ℕ) → get_or a p 0 ≡ get_or b (n + p) 0) → sample_at d a i ≡ sample_at d b j
 sample_at-shift zero a b m n i j at_n at_j same = refl
 sample_at-shift (suc zero) a b m n i j at_n at_j same = same i ∙ same_place b (n + i) j (omega arith)
 sample_at-shift (suc (suc zero)) a b m n i j at_n at_j same =
@@ -31,7 +31,7 @@ group_at-shift g a b m n k l at_n at_l same i =
     (omega arith) (omega (arith, ap (λ x. x * g.size) at_l)) same
 
 -- samples of rows that agree up to there
-sample_at-below : (d : ℕ) (a b : List ℕ) (n j : ℕ) → d * (j + 1) ≤ n → ((p : ℕ) → p < n → get_or a p 0 ≡ get_or b p 0) → sample_at d a j ≡ sample_at d b j
+pub sample_at-below : (d : ℕ) (a b : List ℕ) (n j : ℕ) → d * (j + 1) ≤ n → ((p : ℕ) → p < n → get_or a p 0 ≡ get_or b p 0) → sample_at d a j ≡ sample_at d b j
 sample_at-below zero a b n j far same = refl
 sample_at-below (suc zero) a b n j far same = same j (omega arith)
 sample_at-below (suc (suc zero)) a b n j far same =
@@ -66,6 +66,11 @@ part_written row part a k p whole long =
       | inl lt ↦ sym (at ∙ get_or_append_left part (post_of a k row) 0 p (omega arith))
       | inr past ↦ get_or_past part p 0 (omega arith) ∙ sym (at ∙ get_or_past behind p 0 (omega (arith, length-append part (post_of a k row), length-drop k (drop a row), length-drop a row)))
     ]
+
+-- and before it those of the row as it was
+pub part_kept : (row part : List ℕ) (a k p : ℕ) → a ≤ length row → p < a → get_or (put_mid a k row part) p 0 ≡ get_or row p 0
+part_kept row part a k p room lt =
+    get_or_append_left (take a row) (part ++ post_of a k row) 0 p (omega (arith, length-take a row)) ∙ get_or-take a row p 0 lt
 
 -- rows of which m groups were made before, and the rest behind them now
 pub MapsPairs-extended : (first second to : Groups) (value : (ℕ → ℕ) → (ℕ → ℕ) → ℕ → ℕ) (a b old new : List ℕ) (m n total : ℕ) → n ≡ m * group_bytes to

@@ -6,3 +6,9 @@ pub mod GroupLaws
 pub mod BlockLaws
 pub mod Shuffles
 pub mod RecolourLaws
+pub mod Arithmetic
+pub mod Reached
+pub mod Interleaving
+pub mod SampleLaws
+pub mod VectorLaws
+pub mod PlaneLaws

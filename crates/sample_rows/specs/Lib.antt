@@ -9,3 +9,6 @@ pub mod Add
 pub mod Mask
 pub mod Average
 pub mod SizeLaws
+pub mod Extremes
+pub mod Over
+pub mod Planes

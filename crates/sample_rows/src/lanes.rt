@@ -4,7 +4,7 @@ ghost use Rattle.std.specs.Prelude.{◌≡◌, ℕ, ◌+◌, ◌-◌, ◌*◌, �
 ghost use Rattle.sample_rows.specs.Add.{added};
 ghost use Rattle.sample_rows.specs.Average.{mean_of_four, mean_of_three};
 ghost use Rattle.sample_rows.specs.Format.{greatest_of};
-ghost use Rattle.sample_rows.specs.Lanes.{Hold};
+ghost use Rattle.sample_rows.specs.Lanes.{Hold, HoldThree, HoldTwo};
 ghost use Rattle.sample_rows.specs.Mask.{weighed};
 ghost use Rattle.sample_rows.specs.Row.{sample_at};
 ghost use Rattle.sample_rows.specs.Threshold.{thresholded};
@@ -66,6 +66,55 @@ pub(crate) trait Lanes: Copy {
     /// The same lanes, but the fourth of each four from `old`.
     fn with_fourth(self, old: Self) -> Self
         ensures { Hold (lane result) (λ j. if j % 4 == 3 then lane old j else lane self j) };
+
+    /// A sample in each lane, and the greatest sample where that is less.
+    fn splat(sample: u32) -> Self
+        ensures { Hold (lane result) (λ j. min (greatest_of depth) sample) };
+
+    /// The cap where a colour reaches the threshold, and else 0.
+    fn threshold(self, colours: Self, thresholds: Self) -> Self
+        ensures { Hold (lane result) (λ j. thresholded (lane thresholds j) (lane self j) (lane colours j)) };
+
+    /// The part of each sample that its weight leaves.
+    fn weigh(self, weights: Self) -> Self
+        ensures { Hold (lane result) (λ j. weighed (greatest_of depth) (lane self j) (lane weights j)) };
+
+    fn mean_of_three(self, second: Self, third: Self) -> Self
+        ensures { Hold (lane result) (λ j. mean_of_three (lane self j) (lane second j) (lane third j)) };
+
+    fn mean_of_four(self, second: Self, third: Self, fourth: Self) -> Self
+        ensures { Hold (lane result) (λ j. mean_of_four (lane self j) (lane second j) (lane third j) (lane fourth j)) };
+
+    /// Of two vectors the lanes with even and those with odd numbers.
+    fn deinterleave(self, other: Self) -> (Self, Self)
+        ensures even { (s : ℕ → ℕ) → HoldTwo (lane self) (lane other) s → Hold (lane result.0) (λ j. s (2 * j)) }
+        ensures odd { (s : ℕ → ℕ) → HoldTwo (lane self) (lane other) s → Hold (lane result.1) (λ j. s (2 * j + 1)) };
+
+    /// Of two vectors the pairs of lanes with even and those with odd numbers.
+    fn deinterleave_pairs(self, other: Self) -> (Self, Self)
+        ensures even { (s : ℕ → ℕ) → HoldTwo (lane self) (lane other) s → Hold (lane result.0) (λ j. s (j / 2 * 4 + j % 2)) }
+        ensures odd { (s : ℕ → ℕ) → HoldTwo (lane self) (lane other) s → Hold (lane result.1) (λ j. s (j / 2 * 4 + 2 + j % 2)) };
+
+    /// Of two vectors the fours of lanes with even and those with odd numbers.
+    fn deinterleave_fours(self, other: Self) -> (Self, Self)
+        ensures even { (s : ℕ → ℕ) → HoldTwo (lane self) (lane other) s → Hold (lane result.0) (λ j. s (j / 4 * 8 + j % 4)) }
+        ensures odd { (s : ℕ → ℕ) → HoldTwo (lane self) (lane other) s → Hold (lane result.1) (λ j. s (j / 4 * 8 + 4 + j % 4)) };
+
+    /// The lanes of two vectors by turns.
+    fn interleave(self, other: Self) -> (Self, Self)
+        ensures { (s : ℕ → ℕ) → Hold (lane self) (λ j. s (2 * j)) → Hold (lane other) (λ j. s (2 * j + 1))
+            → HoldTwo (lane result.0) (lane result.1) s };
+
+    /// Of three vectors every third lane, from the first, the second and the third lane on.
+    fn split_thirds(self, second: Self, third: Self) -> (Self, Self, Self)
+        ensures first { (s : ℕ → ℕ) → HoldThree (lane self) (lane second) (lane third) s → Hold (lane result.0) (λ j. s (3 * j)) }
+        ensures second { (s : ℕ → ℕ) → HoldThree (lane self) (lane second) (lane third) s → Hold (lane result.1) (λ j. s (3 * j + 1)) }
+        ensures third { (s : ℕ → ℕ) → HoldThree (lane self) (lane second) (lane third) s → Hold (lane result.2) (λ j. s (3 * j + 2)) };
+
+    /// The lanes of three vectors by turns.
+    fn join_thirds(self, second: Self, third: Self) -> (Self, Self, Self)
+        ensures { (s : ℕ → ℕ) → Hold (lane self) (λ j. s (3 * j)) → Hold (lane second) (λ j. s (3 * j + 1)) → Hold (lane third) (λ j. s (3 * j + 2))
+            → HoldThree (lane result.0) (lane result.1) (lane result.2) s };
 
     ghost sixteen: { BYTES ≡ 16 * depth };
 

@@ -3,6 +3,7 @@
 ghost use Rattle.std.specs.Prelude.{◌≡◌, ℕ, ◌+◌, ◌*◌, ◌<◌, ◌==◌, Bool, false, if◌then◌else◌, refl};
 ghost use Rattle.std.proofs.Common.{rules};
 ghost use Rattle.sample_rows.specs.Format.{greatest_of};
+ghost use Rattle.sample_rows.specs.Lanes.{HoldTwo};
 
 use crate::lanes::Lanes;
 
@@ -30,6 +31,13 @@ pub(crate) trait Layout: Copy {
         ensures { (k i : ℕ) → k < pixels → i < channels
             → L.lane result (k * channels + i) ≡ (if is_alpha i then L.lane old (k * channels + i) else L.lane changed (k * channels + i)) };
 
+    /// Of two vectors the pixels with even and those with odd numbers.
+    fn halves<L: Lanes>(first: L, second: L) -> (L, L)
+        ensures even { (s : ℕ → ℕ) → HoldTwo (L.lane first) (L.lane second) s → (k i : ℕ) → k < pixels → i < channels
+            → L.lane result.0 (k * channels + i) ≡ s (k * (2 * channels) + i) }
+        ensures odd { (s : ℕ → ℕ) → HoldTwo (L.lane first) (L.lane second) s → (k i : ℕ) → k < pixels → i < channels
+            → L.lane result.1 (k * channels + i) ≡ s (k * (2 * channels) + (channels + i)) };
+
     ghost sixteen: { pixels * channels ≡ 16 };
 
     ghost some_pixels: { 0 < pixels };
@@ -41,7 +49,7 @@ pub(crate) trait Layout: Copy {
     ghost place: { (k i : ℕ) → k < pixels → i < channels → k * channels + i < 16 };
 }
 
-/// Samples without alpha.
+/// Samples of which each is a pixel of its own, without alpha.
 #[derive(Clone, Copy)]
 pub(crate) struct Opaque;
 
@@ -64,6 +72,11 @@ impl Layout for Opaque {
         changed
     }
 
+    #[inline(always)]
+    fn halves<L: Lanes>(first: L, second: L) -> (L, L) {
+        first.deinterleave(second)
+    }
+
     ghost sixteen = { refl };
 
     ghost some_pixels = { Prim.search rules };
@@ -75,11 +88,11 @@ impl Layout for Opaque {
     ghost place = { λ k i lt within. Prim.search rules };
 }
 
-/// Grey and alpha.
+/// Pixels of two samples, of which the second is alpha.
 #[derive(Clone, Copy)]
-pub(crate) struct GreyAlpha;
+pub(crate) struct AlphaOfTwo;
 
-impl Layout for GreyAlpha {
+impl Layout for AlphaOfTwo {
     ghost channels = { 2 };
 
     ghost pixels = { 8 };
@@ -98,6 +111,11 @@ impl Layout for GreyAlpha {
         changed.with_second(old)
     }
 
+    #[inline(always)]
+    fn halves<L: Lanes>(first: L, second: L) -> (L, L) {
+        first.deinterleave_pairs(second)
+    }
+
     ghost sixteen = { refl };
 
     ghost some_pixels = { Prim.search rules };
@@ -109,11 +127,11 @@ impl Layout for GreyAlpha {
     ghost place = { λ k i lt within. Prim.search rules };
 }
 
-/// Three colours and alpha.
+/// Pixels of four samples, of which the fourth is alpha.
 #[derive(Clone, Copy)]
-pub(crate) struct ColoursAlpha;
+pub(crate) struct AlphaOfFour;
 
-impl Layout for ColoursAlpha {
+impl Layout for AlphaOfFour {
     ghost channels = { 4 };
 
     ghost pixels = { 4 };
@@ -130,6 +148,11 @@ impl Layout for ColoursAlpha {
     #[inline(always)]
     fn with_alpha<L: Lanes>(changed: L, old: L) -> L {
         changed.with_fourth(old)
+    }
+
+    #[inline(always)]
+    fn halves<L: Lanes>(first: L, second: L) -> (L, L) {
+        first.deinterleave_fours(second)
     }
 
     ghost sixteen = { refl };

@@ -1,15 +1,29 @@
 //! The formats of pixels, and kernels over rows of samples.
 #![tactic(auto)]
 
+mod add;
+mod average;
 mod blocks;
 mod byte_lanes;
+mod combine;
+mod extremes;
 mod format;
 mod invert;
 mod lanes;
 mod layout;
+mod mask;
+mod over;
+mod planes;
 mod positions;
 mod recolour;
+mod threshold;
+mod vectors;
 mod word_lanes;
 
+pub use add::row_add;
+pub use extremes::{row_max, row_min};
 pub use format::Format;
 pub use invert::row_invert;
+pub use mask::row_mask;
+pub use over::row_over;
+pub use threshold::row_threshold;

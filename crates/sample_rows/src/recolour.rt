@@ -12,7 +12,7 @@ ghost use Rattle.sample_rows.specs.Row.{HasPixels, pixel_at};
 use crate::blocks::{RowKernel, transform_row};
 use crate::format::Format;
 use crate::lanes::Lanes;
-use crate::layout::{ColoursAlpha, GreyAlpha, Layout, Opaque};
+use crate::layout::{AlphaOfFour, AlphaOfTwo, Layout, Opaque};
 use std::marker::PhantomData;
 
 /// A change of colours, each by itself.
@@ -84,8 +84,8 @@ pub(crate) fn recolour_row<L: Lanes, K: Recolour<L>>(
     ensures { HasPixels f dst.new (λ k. recoloured f (K.change change) (pixel_at f src.now k)) }
 {
     match f.channels() {
-        2 => recolour_pixels::<L, GreyAlpha, K>(change, src, dst),
-        4 => recolour_pixels::<L, ColoursAlpha, K>(change, src, dst),
+        2 => recolour_pixels::<L, AlphaOfTwo, K>(change, src, dst),
+        4 => recolour_pixels::<L, AlphaOfFour, K>(change, src, dst),
         _ => recolour_pixels::<L, Opaque, K>(change, src, dst),
     }
 }

@@ -3,7 +3,7 @@ use Rattle.std.specs.Prelude.{ℕ, ℤ, pos, neg_ℤ, ◌+◌, ◌-◌, ◌*◌,
 use Rattle.std.specs.Char.{is_ascii_digit}
 use Rattle.std.specs.Option.{option_map}
 use Rattle.std.specs.List.{list_all}
-use Rattle.plane_rect.specs.Rectangle.{Rectangle, new_rectangle, area}
+use Rattle.plane_rect.specs.Rectangle.{Rectangle, new_rectangle, in_limits}
 use Rattle.plane_rect.specs.declared.rect.RectRefused.{RectRefused}
 
 infixl 10 ◌>>=◌
@@ -31,13 +31,9 @@ coordinate_of (byte ∷ bytes) =
     then option_map (λ value. neg_ℤ (pos value)) (natural_of bytes >>= up_to (2 ^ 31))
     else option_map pos (natural_of (byte ∷ bytes) >>= up_to (2 ^ 31 - 1))
 
--- of a rectangle an image may be kept: at most 2^15 columns and rows, and 2^25 places
-abbrev pub is_in_limits : Rectangle → Bool
-is_in_limits rect = nat_le rect.width (2 ^ 15) && nat_le rect.height (2 ^ 15) && nat_le (area rect) (2 ^ 25)
-
 -- the rectangle that isn't refused, where it is in limits
 abbrev pub limited : Result Rectangle RectRefused → Option Rectangle
-limited (Ok rect) = if is_in_limits rect then Some rect else None
+limited (Ok rect) = if in_limits rect then Some rect else None
 limited (Err refused) = None
 
 -- the rectangle in limits that four words spell, each a number

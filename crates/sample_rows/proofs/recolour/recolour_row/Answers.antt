@@ -1,7 +1,8 @@
 use Rattle.std.proofs.Common.{◌≡◌, ℕ, ◌*◌, ◌/◌, ◌%◌, ◌<◌, length, sym, ap, ◌∙◌, subst, arith}
 use Rattle.sample_rows.specs.Format.{greatest_of, pixel_bytes}
 use Rattle.sample_rows.specs.Row.{sample_at}
-use Rattle.sample_rows.proofs.RecolourLaws.{no_alpha, opaque_pixels, sample_at-mapped}
+use Rattle.sample_rows.proofs.RecolourLaws.{no_alpha, opaque_pixels}
+use Rattle.sample_rows.proofs.SampleLaws.{sample_at-mapped}
 use Rattle.sample_rows.proofs.recolour.recolour_row.Goals as goal
 
 pub returns-in_default : goal.returns-in_default

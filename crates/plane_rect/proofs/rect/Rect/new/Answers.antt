@@ -7,11 +7,11 @@ use Rattle.plane_rect.proofs.rect.Rect.new.Goals as goal
 value : (c : goal.After-from_fields) → Ok c.from_fields.result ≡ new_rectangle c.args.x c.args.y c.args.w c.args.h
 value c = search rules
 
-pub returns-then-not-ends_in_plane-clause-place : goal.returns-then-not-ends_in_plane-clause-place
-returns-then-not-ends_in_plane-clause-place c = refuses_place c.args.x c.args.y c.args.w c.args.h _ (search rules)
+pub returns-then-not-ends_inside-clause-place : goal.returns-then-not-ends_inside-clause-place
+returns-then-not-ends_inside-clause-place c = refuses_place c.args.x c.args.y c.args.w c.args.h _ (search rules)
 
-pub returns-then-not-ends_in_plane-clause-size : goal.returns-then-not-ends_in_plane-clause-size
-returns-then-not-ends_in_plane-clause-size c = refuses_size c.args.x c.args.y c.args.w c.args.h _ (search rules)
+pub returns-then-not-ends_inside-clause-size : goal.returns-then-not-ends_inside-clause-size
+returns-then-not-ends_inside-clause-size c = refuses_size c.args.x c.args.y c.args.w c.args.h _ (search rules)
 
 pub returns-clause-place : goal.returns-clause-place
 returns-clause-place c = refuses_place c.args.x c.args.y c.args.w c.args.h _ (value c)

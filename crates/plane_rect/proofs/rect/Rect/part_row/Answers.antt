@@ -1,6 +1,6 @@
 use Rattle.std.proofs.Common.{◌≡◌, ap, arith}
 use Rattle.plane_rect.specs.Rectangle.{Rectangle}
-use Rattle.plane_rect.proofs.Differences.{part_row-fits, area-fits}
+use Rattle.plane_rect.proofs.RectangleLaws.{part_row-fits, area-fits}
 use Rattle.plane_rect.proofs.rect.Rect.part_row.Goals as goal
 
 pub returns-clause-in_area : goal.returns-clause-in_area

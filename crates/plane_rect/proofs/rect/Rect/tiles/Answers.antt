@@ -1,6 +1,6 @@
 use Rattle.plane_rect.specs.Rectangle.{right, bottom}
 use Rattle.plane_rect.specs.Tile.{tile_of, tile_end}
-use Rattle.plane_rect.proofs.TileLists.{tiles-meeting, tiles-in_order, tiles_left-all, tiles-whole}
+use Rattle.plane_rect.proofs.TileLists.{tiles-meeting, tiles-in_order, tiles_left-all, tiles-whole, length-tiles, tiles-few}
 use Rattle.plane_rect.proofs.rect.Rect.tiles.Goals as goal
 
 pub returns-clause-value : goal.returns-clause-value
@@ -17,3 +17,9 @@ returns-clause-in_order c = rw (returns-clause-value c) (tiles-in_order c.args.s
 
 pub returns-clause-whole : goal.returns-clause-whole
 returns-clause-whole c = rw (returns-clause-value c) (tiles-whole c.args.self.now c.right.ensures.rectangle)
+
+pub returns-clause-count : goal.returns-clause-count
+returns-clause-count c = rw (returns-clause-value c) (length-tiles c.args.self.now)
+
+pub returns-clause-few : goal.returns-clause-few
+returns-clause-few c = rw (returns-clause-value c) (tiles-few c.args.self.now c.right.ensures.rectangle)

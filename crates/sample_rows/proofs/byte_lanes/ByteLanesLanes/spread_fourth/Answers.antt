@@ -1,6 +1,6 @@
 use Rattle.std.proofs.Common.{◌+◌, ◌*◌, ◌/◌, get_or, refl, arith}
 use Rattle.sample_rows.proofs.Pointwise.{Makes}
-use Rattle.sample_rows.proofs.Shuffles.{Makes-picked, in_first}
+use Rattle.sample_rows.proofs.Shuffles.{Makes-shuffled, in_first}
 use Rattle.sample_rows.specs.declared.byte_lanes.ByteLanes.{ByteLanes}
 use Rattle.sample_rows.specs.declared.positions.TheConstants.{FOURTH_OF_FOUR}
 use Rattle.sample_rows.proofs.byte_lanes.ByteLanesLanes.spread_fourth.Goals as goal
@@ -9,7 +9,7 @@ use Rattle.std.proofs.Common.{◌++◌}
 
 spread : (v : ByteLanes) → Makes 256 (pick_l 0 (v.lanes ++ v.lanes) FOURTH_OF_FOUR) (λ j. get_or v.lanes (j / 4 * 4 + 3) 0)
 spread v =
-    Makes-picked 256 (omega arith) v.lanes v.lanes v.samples v.samples FOURTH_OF_FOUR (λ j. j / 4 * 4 + 3) _ refl tt
+    Makes-shuffled 256 (omega arith) v.lanes v.lanes v.samples v.samples FOURTH_OF_FOUR (λ j. j / 4 * 4 + 3) (λ j. get_or v.lanes (j / 4 * 4 + 3) 0) refl tt
     (λ j lt. in_first 256 (omega arith) v.lanes v.lanes v.samples v.samples (j / 4 * 4 + 3) (omega arith))
 
 pub invariant_of-result : goal.invariant_of-result

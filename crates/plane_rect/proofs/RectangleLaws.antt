@@ -1,0 +1,147 @@
+-- Laws of rectangles and of the order of their places.
+use Rattle.std.proofs.Common.{◌*◌, ◌≡◌, ℕ, ◌+◌, ◌-◌, ◌/◌, ◌%◌, ◌<◌, ◌≤◌, ◌↔◌, inl, inr, Bool, true, false, not, if◌then◌else◌, min, max, refl, ap, sym, ◌∙◌, arith, mul_comm, ◌^◌}
+use Rattle.std.proofs.lemmas.Bool.{cases_lt}
+use Rattle.std.proofs.lemmas.Bool.Decides.{nat_tests}
+use Rattle.std.proofs.lemmas.Nat.{row_fits, mul-le, mul-add-lt, div-mul-add, mod-mul-add, div_below, mod_below, div-add-mod'}
+use Rattle.plane_rect.specs.Rectangle.{Rectangle, Within, Lies, Includes, IsRectangle, area, bottom, empty, halved, half, hull, is_empty, meet, offset, plane_side, right, spanning}
+use Rattle.plane_rect.proofs.Differences.{no_places, reaches}
+use Rattle.plane_rect.proofs.Rectangles.{Lies-spanning, rectangle-no_rows, rectangle-some, some_or_empty}
+
+-- ---- rectangles of the plane
+
+pub IsRectangle-empty : IsRectangle empty
+IsRectangle-empty = record { columns = omega arith; rows = omega arith; empty_width = λ _. refl; empty_height = λ _. refl }
+
+pub IsRectangle-spanning : (left top right bottom : ℕ) → right ≤ plane_side → bottom ≤ plane_side
+    → IsRectangle (spanning left top right bottom)
+IsRectangle-spanning left top right bottom p q = elim (cases_lt left right) [
+  | inl w ↦ elim (cases_lt top bottom) [
+    | inl h ↦ rw (rectangle-some left top (right - left) (bottom - top) (omega arith) (omega arith)) (record {
+      columns = omega arith;
+      rows = omega arith;
+      empty_width = λ e. absurd (omega arith);
+      empty_height = λ e. absurd (omega arith);
+    })
+    | inr h ↦ let none : bottom - top ≡ 0 = omega arith in rw (none, rectangle-no_rows left top (right - left)) IsRectangle-empty
+  ]
+  | inr w ↦ let none : right - left ≡ 0 = omega arith in rw none IsRectangle-empty
+]
+
+pub IsRectangle-meet : (a b : Rectangle) → IsRectangle a → IsRectangle b → IsRectangle (meet a b)
+IsRectangle-meet a b p q = IsRectangle-spanning (max a.left b.left) (max a.top b.top) (min (right a) (right b)) (min (bottom a) (bottom b)) (omega (arith, p.columns)) (omega (arith, p.rows))
+
+-- from the first columns and rows of two rectangles to behind their last
+abbrev around : Rectangle → Rectangle → Rectangle
+around a b = spanning (min a.left b.left) (min a.top b.top) (max (right a) (right b)) (max (bottom a) (bottom b))
+
+pub IsRectangle-hull : (a b : Rectangle) → IsRectangle a → IsRectangle b → IsRectangle (hull a b)
+IsRectangle-hull a b p q = cases (is_empty a) (is_empty b)
+  where
+    cases : (s t : Bool) → IsRectangle (if s then b else if t then a else around a b)
+    cases true t = q
+    cases false true = p
+    cases false false =
+        IsRectangle-spanning (min a.left b.left) (min a.top b.top) (max (right a) (right b)) (max (bottom a) (bottom b))
+        (omega (arith, p.columns, q.columns)) (omega (arith, p.rows, q.rows))
+
+pub IsRectangle-halved : (r : Rectangle) → IsRectangle r → IsRectangle (halved r)
+IsRectangle-halved r p =
+    IsRectangle-spanning (half r.left) (half r.top) (half (right r + 1)) (half (bottom r + 1)) (omega (arith, p.columns)) (omega (arith, p.rows))
+
+same_fields : (a b : Rectangle) → a.left ≡ b.left → a.top ≡ b.top → a.width ≡ b.width → a.height ≡ b.height → a ≡ b
+same_fields a b left top width height =
+    let joined : (of : ℕ → ℕ → ℕ → ℕ → Rectangle) → of a.left a.top a.width a.height ≡ of b.left b.top b.width b.height = λ of. cc in
+    joined (λ l t w h. record { left = l; top = t; width = w; height = h })
+
+first_place : (r : Rectangle) → (0 < r.width) × (0 < r.height) → Lies r.left r.top r
+first_place r some = record { column = (omega arith, omega (arith, some)); row = (omega arith, omega (arith, some)) }
+
+-- two rectangles of the plane with the same places are one
+pub rectangle-by_places : (a b : Rectangle) → IsRectangle a → IsRectangle b → ((u v : ℕ) → Lies u v a ↔ Lies u v b) → a ≡ b
+rectangle-by_places a b p q same = elim (some_or_empty a p) [
+  | inl s ↦ elim (some_or_empty b q) [
+    | inl t ↦
+        let x = reaches a b (grind (arith, nat_tests, t)) (λ u v h. (same u v).1 h) in
+        let y = reaches b a (grind (arith, nat_tests, s)) (λ u v h. (same u v).0 h) in
+        same_fields a b (omega (arith, x, y)) (omega (arith, x, y)) (omega (arith, x, y)) (omega (arith, x, y))
+    | inr t ↦ absurd (no_places a.left a.top b (rw t refl) ((same a.left a.top).0 (first_place a s)))
+  ]
+  | inr s ↦ elim (some_or_empty b q) [
+    | inl t ↦ absurd (no_places b.left b.top a (rw s refl) ((same b.left b.top).1 (first_place b t)))
+    | inr t ↦ s ∙ sym t
+  ]
+]
+
+-- ---- hulls
+
+pub Includes-hull_left : (a b : Rectangle) → Includes (hull a b) a
+Includes-hull_left a b u v h = cases (is_empty a) refl (is_empty b)
+  where
+    cases : (s : Bool) → is_empty a ≡ s → (t : Bool) → Lies u v (if s then b else if t then a else around a b)
+    cases true e t = absurd (no_places u v a (ap not e) h)
+    cases false e true = h
+    cases false e false = (Lies-spanning u v (min a.left b.left) (min a.top b.top) (max (right a) (right b)) (max (bottom a) (bottom b))).1
+        (omega (arith, h.column), omega (arith, h.column), omega (arith, h.row), omega (arith, h.row))
+
+pub Includes-hull_right : (a b : Rectangle) → Includes (hull a b) b
+Includes-hull_right a b u v h = cases (is_empty a) (is_empty b) refl
+  where
+    cases : (s t : Bool) → is_empty b ≡ t → Lies u v (if s then b else if t then a else around a b)
+    cases true t e = h
+    cases false true e = absurd (no_places u v b (ap not e) h)
+    cases false false e = (Lies-spanning u v (min a.left b.left) (min a.top b.top) (max (right a) (right b)) (max (bottom a) (bottom b))).1
+        (omega (arith, h.column), omega (arith, h.column), omega (arith, h.row), omega (arith, h.row))
+
+-- ---- places and their indices
+
+-- the index of a place is one of the rectangle's
+pub offset-below : (u v : ℕ) (r : Rectangle) → Lies u v r → offset r u v < area r
+offset-below u v r h = mul-add-lt (v - r.top) r.width (u - r.left) r.height (omega (arith, h.row)) (omega (arith, h.column))
+
+-- a rectangle with an index has columns
+wide : (k : ℕ) (r : Rectangle) → k < area r → 0 < r.width
+wide k r h = elim (cases_lt 0 r.width) [
+  | inl w ↦ w
+  | inr w ↦ let none : r.width ≡ 0 = omega arith in absurd (omega (arith, rw none at h))
+]
+
+-- the place of an index
+pub Lies-index : (k : ℕ) (r : Rectangle) → k < area r → Lies (r.left + k % r.width) (r.top + k / r.width) r
+Lies-index k r h =
+    let columns = mod_below k r.width (wide k r h) in
+    let rows = div_below k r.width r.height (wide k r h) (omega (arith, h, mul_comm r.width r.height)) in
+    record { column = (omega arith, omega (arith, columns)); row = (omega arith, omega (arith, rows)) }
+
+pub offset-index : (k : ℕ) (r : Rectangle) → offset r (r.left + k % r.width) (r.top + k / r.width) ≡ k
+offset-index k r =
+    let row : r.top + k / r.width - r.top ≡ k / r.width = omega arith in
+    let column : r.left + k % r.width - r.left ≡ k % r.width = omega arith in
+    rw (row, column) (div-add-mod' k r.width)
+
+-- the column and the row of the place that an index came from
+pub offset-column : (u v : ℕ) (r : Rectangle) → Lies u v r → r.left + offset r u v % r.width ≡ u
+offset-column u v r h =
+    let column = mod-mul-add (v - r.top) r.width (u - r.left) (omega (arith, h.column)) in
+    omega (arith, column, h.column)
+
+pub offset-row : (u v : ℕ) (r : Rectangle) → Lies u v r → r.top + offset r u v / r.width ≡ v
+offset-row u v r h =
+    let row = div-mul-add (v - r.top) r.width (u - r.left) (omega (arith, h.column)) in
+    omega (arith, row, h.row)
+
+-- a row of a part of a rectangle ends within the rectangle's places
+pub part_row-fits : (a part : Rectangle) (v : ℕ) → IsRectangle part → Includes a part → Within part.top part.height v
+    → offset a part.left v + part.width ≤ area a
+part_row-fits a part v is inside within = elim (some_or_empty part is) [
+  | inl some ↦
+      let reach = reaches a part (grind (arith, nat_tests, some)) inside in
+      let row : v - a.top < a.height = omega (arith, within, reach) in
+      let columns : part.left - a.left + part.width ≤ a.width = omega (arith, reach) in
+      let rows : (v - a.top) * a.width + a.width ≤ a.height * a.width = row_fits (v - a.top) a.width a.height a.width row (omega arith) in
+      omega (arith, rows, columns, mul_comm a.height a.width)
+  | inr none ↦ absurd (omega (arith, within, ap (λ (r : Rectangle). r.height) none))
+]
+
+-- the places of a rectangle of the plane are few
+pub area-fits : (r : Rectangle) → IsRectangle r → area r ≤ 2 ^ 50
+area-fits r is = mul-le r.width r.height (2 ^ 25) (2 ^ 25) (omega (arith, is.columns)) (omega (arith, is.rows))

@@ -1,0 +1,10 @@
+use Rattle.std.proofs.Common.{◌+◌, ◌*◌, ◌∙◌}
+use Rattle.sample_rows.specs.Average.{mean_of_four}
+use Rattle.sample_rows.proofs.average.mean_of_pixels.Goals as goal
+
+pub returns : goal.returns
+returns g c s t both below k i lt within =
+    let up = c.halves-first.ensures in
+    let down = c.halves-third.ensures in
+    c.mean_of_four.ensures (k * g.P.Layout.channels + i) (g.met.P.Layout.place k i lt within)
+    ∙ (λ p. mean_of_four (up.even s both k i lt within p) (up.odd s both k i lt within p) (down.even t below k i lt within p) (down.odd t below k i lt within p))

@@ -1,0 +1,39 @@
+//! Adding rows.
+
+ghost use Rattle.std.specs.Prelude.{◌≡◌, ℕ, ◌%◌, length};
+ghost use Rattle.sample_rows.specs.Add.{added, added_pixel};
+ghost use Rattle.sample_rows.specs.Format.{pixel_bytes};
+ghost use Rattle.sample_rows.specs.Row.{HasPixels, pixel_at};
+
+use crate::byte_lanes::ByteLanes;
+use crate::combine::{Combine, combine_rows};
+use crate::format::Format;
+use crate::lanes::Lanes;
+use crate::word_lanes::WordLanes;
+
+/// The sum of two samples, at most the greatest.
+#[derive(Clone, Copy)]
+struct Add;
+
+impl<L: Lanes> Combine<L> for Add {
+    ghost combined = { λ s. added };
+
+    #[inline(always)]
+    fn combine(&self, a: L, b: L) -> L {
+        a.saturating_add(b)
+    }
+}
+
+/// Writes to `dst` the sums of the samples of two rows. A sum above the greatest sample becomes
+/// the greatest sample.
+pub fn row_add(f: Format, a: &[u8], b: &[u8], dst: &mut [u8])
+    requires whole { length a.now % pixel_bytes f ≡ 0 }
+    requires same_length { length b.now ≡ length a.now }
+    requires written_length { length dst.old ≡ length a.now }
+    ensures { HasPixels f dst.new (λ k. added_pixel f (pixel_at f a.now k) (pixel_at f b.now k)) }
+{
+    match f.depth() {
+        1 => combine_rows::<ByteLanes, Add>(f, Add, a, b, dst),
+        _ => combine_rows::<WordLanes, Add>(f, Add, a, b, dst),
+    }
+}

@@ -1,0 +1,174 @@
+//! Halving two rows to one.
+
+ghost use Rattle.std.specs.Prelude.{◌≡◌, ℕ, ◌+◌, ◌*◌, ◌/◌, ◌%◌, ◌<◌, ◌≤◌, length, refl};
+ghost use Rattle.std.proofs.Common.{rules};
+ghost use Rattle.sample_rows.specs.Average.{mean_of_four, mean_pixel};
+ghost use Rattle.sample_rows.specs.Format.{pixel_bytes};
+ghost use Rattle.sample_rows.specs.Groups.{MapsPairs, SameGroups, groups};
+ghost use Rattle.sample_rows.specs.Lanes.{HoldTwo};
+ghost use Rattle.sample_rows.specs.Row.{HasPixels, pixel_at, sample_at};
+ghost use Rattle.sample_rows.specs.SizeLaws.{few_bytes, pair_bytes, planes_bytes, some_bytes, twice_some, vector_bytes};
+
+use crate::blocks::{PairKernel, transform_rows};
+use crate::byte_lanes::ByteLanes;
+use crate::format::Format;
+use crate::lanes::Lanes;
+use crate::layout::{AlphaOfFour, AlphaOfTwo, Layout, Opaque};
+use crate::vectors::{load_three, load_two, store_three};
+use crate::word_lanes::WordLanes;
+use std::marker::PhantomData;
+
+/// The means of two pixels of one row and the two below them.
+#[derive(Clone, Copy)]
+struct Average<L, P> {
+    of: PhantomData<(L, P)>,
+}
+
+impl<L: Lanes, P: Layout> PairKernel for Average<L, P> {
+    ghost value = { λ s up down i. mean_of_four (up i) (up (P.channels + i)) (down i) (down (P.channels + i)) };
+
+    ghost first = { groups (2 * P.channels) L.depth };
+
+    ghost second = { groups (2 * P.channels) L.depth };
+
+    ghost to = { groups P.channels L.depth };
+
+    ghost count = { P.pixels };
+
+    ghost FIRST = { 2 * L.BYTES };
+
+    ghost SECOND = { 2 * L.BYTES };
+
+    ghost WRITTEN = { L.BYTES };
+
+    const FIRST: usize = 2 * L::BYTES;
+
+    const SECOND: usize = 2 * L::BYTES;
+
+    const WRITTEN: usize = L::BYTES;
+
+    #[inline(always)]
+    fn block(&self, a: &[u8], b: &[u8], dst: &mut [u8]) {
+        mean_of_pixels::<L, P>(load_two(a), load_two(b)).store(dst);
+    }
+
+    ghost some_groups = { P.some_pixels };
+
+    ghost some_first = { some_bytes (2 * P.channels) L.depth (twice_some P.channels P.some_channels) L.some_depth };
+
+    ghost some_second = { some_bytes (2 * P.channels) L.depth (twice_some P.channels P.some_channels) L.some_depth };
+
+    ghost some_written = { some_bytes P.channels L.depth P.some_channels L.some_depth };
+
+    ghost first_bytes = { pair_bytes L.BYTES L.depth P.pixels P.channels L.sixteen P.sixteen };
+
+    ghost second_bytes = { pair_bytes L.BYTES L.depth P.pixels P.channels L.sixteen P.sixteen };
+
+    ghost written_bytes = { vector_bytes L.BYTES L.depth P.pixels P.channels L.sixteen P.sixteen };
+
+    ghost first_few = { Prim.search (rules, L.few) };
+
+    ghost second_few = { Prim.search (rules, L.few) };
+
+    ghost written_few = { Prim.search (rules, L.few) };
+}
+
+/// The means of each two pixels of two vectors and the two of two others.
+#[inline(always)]
+fn mean_of_pixels<L: Lanes, P: Layout>(up: (L, L), down: (L, L)) -> L
+    ensures { (s t : ℕ → ℕ) → HoldTwo (L.lane up.0) (L.lane up.1) s → HoldTwo (L.lane down.0) (L.lane down.1) t
+        → (k i : ℕ) → k < P.pixels → i < P.channels → L.lane result (k * P.channels + i)
+        ≡ mean_of_four (s (k * (2 * P.channels) + i)) (s (k * (2 * P.channels) + (P.channels + i)))
+        (t (k * (2 * P.channels) + i)) (t (k * (2 * P.channels) + (P.channels + i))) }
+{
+    let (first, second) = P::halves(up.0, up.1);
+    let (third, fourth) = P::halves(down.0, down.1);
+    first.mean_of_four(second, third, fourth)
+}
+
+/// The same of pixels of three colours, which do not fill vectors.
+#[derive(Clone, Copy)]
+struct AverageColours<L> {
+    of: PhantomData<L>,
+}
+
+impl<L: Lanes> PairKernel for AverageColours<L> {
+    ghost value = { λ s up down i. mean_of_four (up i) (up (3 + i)) (down i) (down (3 + i)) };
+
+    ghost first = { groups 6 L.depth };
+
+    ghost second = { groups 6 L.depth };
+
+    ghost to = { groups 3 L.depth };
+
+    ghost count = { 16 };
+
+    ghost FIRST = { 6 * L.BYTES };
+
+    ghost SECOND = { 6 * L.BYTES };
+
+    ghost WRITTEN = { 3 * L.BYTES };
+
+    const FIRST: usize = 6 * L::BYTES;
+
+    const SECOND: usize = 6 * L::BYTES;
+
+    const WRITTEN: usize = 3 * L::BYTES;
+
+    #[inline(always)]
+    fn block(&self, a: &[u8], b: &[u8], dst: &mut [u8]) {
+        let up = load_colours::<L>(a);
+        let down = load_colours::<L>(b);
+        let red = mean_of_pixels::<L, Opaque>(up.red, down.red);
+        let green = mean_of_pixels::<L, Opaque>(up.green, down.green);
+        let blue = mean_of_pixels::<L, Opaque>(up.blue, down.blue);
+        let (first, second, third) = red.join_thirds(green, blue);
+        store_three(first, second, third, dst);
+    }
+
+    ghost some_groups = { Prim.search rules };
+
+    ghost some_first = { some_bytes 6 L.depth (Prim.search rules) L.some_depth };
+
+    ghost some_second = { some_bytes 6 L.depth (Prim.search rules) L.some_depth };
+
+    ghost some_written = { some_bytes 3 L.depth (Prim.search rules) L.some_depth };
+
+    ghost first_bytes = { planes_bytes 6 (6 * L.BYTES) L.BYTES L.depth refl L.sixteen };
+
+    ghost second_bytes = { planes_bytes 6 (6 * L.BYTES) L.BYTES L.depth refl L.sixteen };
+
+    ghost written_bytes = { planes_bytes 3 (3 * L.BYTES) L.BYTES L.depth refl L.sixteen };
+
+    ghost first_few = { Prim.search (rules, L.few) };
+
+    ghost second_few = { Prim.search (rules, L.few) };
+
+    ghost written_few = { Prim.search (rules, L.few) };
+}
+
+/// The planes of thirty-two pixels of three colours, each of two vectors.
+#[derive(Clone, Copy)]
+struct WideColours<L> {
+    red: (L, L),
+    green: (L, L),
+    blue: (L, L),
+}
+
+#[inline(always)]
+fn load_colours<L: Lanes>(src: &[u8]) -> WideColours<L>
+    requires { 6 * L.BYTES ≤ length src.now }
+    ensures red { HoldTwo (L.lane result.red.0) (L.lane result.red.1) (λ j. sample_at L.depth src.now (3 * j)) }
+    ensures green { HoldTwo (L.lane result.green.0) (L.lane result.green.1) (λ j. sample_at L.depth src.now (3 * j + 1)) }
+    ensures blue { HoldTwo (L.lane result.blue.0) (L.lane result.blue.1) (λ j. sample_at L.depth src.now (3 * j + 2)) }
+{
+    let (first, second, third) = load_three::<L>(src, 0);
+    let (fourth, fifth, sixth) = load_three::<L>(src, 3);
+    let near = first.split_thirds(second, third);
+    let far = fourth.split_thirds(fifth, sixth);
+    WideColours {
+        red: (near.0, far.0),
+        green: (near.1, far.1),
+        blue: (near.2, far.2),
+    }
+}

@@ -1,0 +1,102 @@
+//! Weighing a row by a mask.
+
+ghost use Rattle.std.specs.Prelude.{◌≡◌, ℕ, ◌+◌, ◌*◌, ◌/◌, ◌%◌, ◌<◌, ◌≤◌, length, refl};
+ghost use Rattle.std.proofs.Common.{rules};
+ghost use Rattle.sample_rows.specs.Format.{depth, greatest_of, pixel_bytes};
+ghost use Rattle.sample_rows.specs.Groups.{MapsPairs, SameGroups, groups};
+ghost use Rattle.sample_rows.specs.Mask.{masked_pixel, weighed};
+ghost use Rattle.sample_rows.specs.Row.{HasPixels, pixel_at, pixel_count, sample_at};
+ghost use Rattle.sample_rows.specs.SizeLaws.{some_bytes, vector_bytes};
+
+use crate::blocks::{PairKernel, transform_rows};
+use crate::byte_lanes::ByteLanes;
+use crate::format::Format;
+use crate::lanes::Lanes;
+use crate::planes::{Colours, ColoursAlpha, Grey, GreyAlpha, Planes};
+use crate::word_lanes::WordLanes;
+use std::marker::PhantomData;
+
+/// Pixels weighed each by a sample of its own.
+#[derive(Clone, Copy)]
+struct Mask<L, P> {
+    of: PhantomData<(L, P)>,
+}
+
+impl<L: Lanes, P: Planes<L>> PairKernel for Mask<L, P> {
+    ghost value = { λ s pixel mask i. weighed (greatest_of L.depth) (pixel i) (mask 0) };
+
+    ghost first = { groups P.channels L.depth };
+
+    ghost second = { groups 1 L.depth };
+
+    ghost to = { groups P.channels L.depth };
+
+    ghost count = { 16 };
+
+    ghost FIRST = { P.BYTES };
+
+    ghost SECOND = { L.BYTES };
+
+    ghost WRITTEN = { P.BYTES };
+
+    const FIRST: usize = P::BYTES;
+
+    const SECOND: usize = L::BYTES;
+
+    const WRITTEN: usize = P::BYTES;
+
+    #[inline(always)]
+    fn block(&self, a: &[u8], b: &[u8], dst: &mut [u8]) {
+        P::load(a).weigh(L::load(b)).store(dst);
+    }
+
+    ghost some_groups = { Prim.search rules };
+
+    ghost some_first = { some_bytes P.channels L.depth P.some_channels L.some_depth };
+
+    ghost some_second = { some_bytes 1 L.depth (Prim.search rules) L.some_depth };
+
+    ghost some_written = { some_bytes P.channels L.depth P.some_channels L.some_depth };
+
+    ghost first_bytes = { P.whole };
+
+    ghost second_bytes = { vector_bytes L.BYTES L.depth 16 1 L.sixteen refl };
+
+    ghost written_bytes = { P.whole };
+
+    ghost first_few = { Prim.search (rules, P.few) };
+
+    ghost second_few = { Prim.search (rules, L.few) };
+
+    ghost written_few = { Prim.search (rules, P.few) };
+}
+
+/// Writes the row `src` to `dst` with each sample weighed by the mask's sample of its pixel: the
+/// greatest leaves it as it is, and 0 makes it 0. The mask is a row of grey samples without alpha,
+/// as deep as those of `f`.
+pub fn row_mask(f: Format, src: &[u8], mask: &[u8], dst: &mut [u8])
+    requires whole { length src.now % pixel_bytes f ≡ 0 }
+    requires mask_length { length mask.now ≡ pixel_count f src.now * depth f }
+    requires same_length { length dst.old ≡ length src.now }
+    ensures { HasPixels f dst.new (λ k. masked_pixel f (pixel_at f src.now k) (sample_at (depth f) mask.now k)) }
+{
+    match f {
+        Format::Y8 => mask_pixels::<ByteLanes, Grey<ByteLanes>>(src, mask, dst),
+        Format::YA8 => mask_pixels::<ByteLanes, GreyAlpha<ByteLanes>>(src, mask, dst),
+        Format::RGB8 => mask_pixels::<ByteLanes, Colours<ByteLanes>>(src, mask, dst),
+        Format::RGBA8 => mask_pixels::<ByteLanes, ColoursAlpha<ByteLanes>>(src, mask, dst),
+        Format::Y16 => mask_pixels::<WordLanes, Grey<WordLanes>>(src, mask, dst),
+        Format::YA16 => mask_pixels::<WordLanes, GreyAlpha<WordLanes>>(src, mask, dst),
+        Format::RGB16 => mask_pixels::<WordLanes, Colours<WordLanes>>(src, mask, dst),
+        Format::RGBA16 => mask_pixels::<WordLanes, ColoursAlpha<WordLanes>>(src, mask, dst),
+    }
+}
+
+fn mask_pixels<L: Lanes, P: Planes<L>>(src: &[u8], mask: &[u8], dst: &mut [u8])
+    requires first { SameGroups (groups P.channels L.depth) (groups P.channels L.depth) src.now dst.old }
+    requires second { SameGroups (groups 1 L.depth) (groups P.channels L.depth) mask.now dst.old }
+    ensures { MapsPairs (groups P.channels L.depth) (groups 1 L.depth) (groups P.channels L.depth) (length dst.new / (P.channels * L.depth))
+        (λ pixel mask i. weighed (greatest_of L.depth) (pixel i) (mask 0)) src.now mask.now dst.new }
+{
+    transform_rows(&Mask::<L, P> { of: PhantomData }, src, mask, dst);
+}

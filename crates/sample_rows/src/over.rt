@@ -1,0 +1,103 @@
+//! Laying one row over another.
+
+ghost use Rattle.std.specs.Prelude.{◌≡◌, ℕ, ◌+◌, ◌*◌, ◌/◌, ◌%◌, ◌<◌, ◌≤◌, IsTrue, length};
+ghost use Rattle.std.proofs.Common.{rules};
+ghost use Rattle.sample_rows.specs.Format.{depth, greatest_of, has_alpha, pixel_bytes};
+ghost use Rattle.sample_rows.specs.Groups.{MapsPairs, SameGroups, groups};
+ghost use Rattle.sample_rows.specs.Over.{laid_over, over_pixel};
+ghost use Rattle.sample_rows.specs.Row.{HasPixels, pixel_at};
+ghost use Rattle.sample_rows.specs.SizeLaws.{some_bytes, vector_bytes};
+
+use crate::blocks::{PairKernel, transform_rows};
+use crate::byte_lanes::ByteLanes;
+use crate::format::Format;
+use crate::lanes::Lanes;
+use crate::layout::{AlphaOfFour, AlphaOfTwo, Layout};
+use crate::word_lanes::WordLanes;
+use std::marker::PhantomData;
+
+/// Pixels of a layout over others.
+#[derive(Clone, Copy)]
+struct Over<L, P> {
+    of: PhantomData<(L, P)>,
+}
+
+impl<L: Lanes, P: Layout> PairKernel for Over<L, P> {
+    ghost value = { λ s top bottom i. laid_over (greatest_of L.depth) (P.cap (greatest_of L.depth) top) (top i) (bottom i) };
+
+    ghost first = { groups P.channels L.depth };
+
+    ghost second = { groups P.channels L.depth };
+
+    ghost to = { groups P.channels L.depth };
+
+    ghost count = { P.pixels };
+
+    ghost FIRST = { L.BYTES };
+
+    ghost SECOND = { L.BYTES };
+
+    ghost WRITTEN = { L.BYTES };
+
+    const FIRST: usize = L::BYTES;
+
+    const SECOND: usize = L::BYTES;
+
+    const WRITTEN: usize = L::BYTES;
+
+    #[inline(always)]
+    fn block(&self, a: &[u8], b: &[u8], dst: &mut [u8]) {
+        let top = L::load(a);
+        let left = L::greatest().saturating_sub(P::caps(top));
+        let below = L::load(b).weigh(left);
+        top.saturating_add(below).store(dst);
+    }
+
+    ghost some_groups = { P.some_pixels };
+
+    ghost some_first = { some_bytes P.channels L.depth P.some_channels L.some_depth };
+
+    ghost some_second = { some_bytes P.channels L.depth P.some_channels L.some_depth };
+
+    ghost some_written = { some_bytes P.channels L.depth P.some_channels L.some_depth };
+
+    ghost first_bytes = { vector_bytes L.BYTES L.depth P.pixels P.channels L.sixteen P.sixteen };
+
+    ghost second_bytes = { vector_bytes L.BYTES L.depth P.pixels P.channels L.sixteen P.sixteen };
+
+    ghost written_bytes = { vector_bytes L.BYTES L.depth P.pixels P.channels L.sixteen P.sixteen };
+
+    ghost first_few = { Prim.search (rules, L.few) };
+
+    ghost second_few = { Prim.search (rules, L.few) };
+
+    ghost written_few = { Prim.search (rules, L.few) };
+}
+
+/// Writes to `dst` the row `top` laid over the row `bottom`: of each lower sample the part that
+/// the upper pixel's alpha leaves is added to the upper one. A sum above the greatest sample
+/// becomes the greatest sample.
+pub fn row_over(f: Format, top: &[u8], bottom: &[u8], dst: &mut [u8])
+    requires alpha { IsTrue (has_alpha f) }
+    requires whole { length top.now % pixel_bytes f ≡ 0 }
+    requires same_length { length bottom.now ≡ length top.now }
+    requires written_length { length dst.old ≡ length top.now }
+    ensures { HasPixels f dst.new (λ k. over_pixel f (pixel_at f top.now k) (pixel_at f bottom.now k)) }
+{
+    match f {
+        Format::YA8 => over_pixels::<ByteLanes, AlphaOfTwo>(top, bottom, dst),
+        Format::RGBA8 => over_pixels::<ByteLanes, AlphaOfFour>(top, bottom, dst),
+        Format::YA16 => over_pixels::<WordLanes, AlphaOfTwo>(top, bottom, dst),
+        Format::RGBA16 => over_pixels::<WordLanes, AlphaOfFour>(top, bottom, dst),
+        Format::Y8 | Format::RGB8 | Format::Y16 | Format::RGB16 => unreachable!(),
+    }
+}
+
+fn over_pixels<L: Lanes, P: Layout>(top: &[u8], bottom: &[u8], dst: &mut [u8])
+    requires first { SameGroups (groups P.channels L.depth) (groups P.channels L.depth) top.now dst.old }
+    requires second { SameGroups (groups P.channels L.depth) (groups P.channels L.depth) bottom.now dst.old }
+    ensures { MapsPairs (groups P.channels L.depth) (groups P.channels L.depth) (groups P.channels L.depth) (length dst.new / (P.channels * L.depth))
+        (λ a b i. laid_over (greatest_of L.depth) (P.cap (greatest_of L.depth) a) (a i) (b i)) top.now bottom.now dst.new }
+{
+    transform_rows(&Over::<L, P> { of: PhantomData }, top, bottom, dst);
+}

@@ -1,0 +1,71 @@
+//! Thresholds.
+
+ghost use Rattle.std.specs.Prelude.{◌≡◌, ℕ, ◌%◌, length, min};
+ghost use Rattle.sample_rows.specs.Format.{greatest_of, pixel_bytes};
+ghost use Rattle.sample_rows.specs.Recolour.{recoloured};
+ghost use Rattle.sample_rows.specs.Row.{HasPixels, pixel_at};
+ghost use Rattle.sample_rows.specs.Threshold.{thresholded, thresholded_pixel};
+
+use crate::byte_lanes::ByteLanes;
+use crate::format::Format;
+use crate::lanes::Lanes;
+use crate::recolour::{Recolour, recolour_row};
+use crate::word_lanes::WordLanes;
+
+/// Puts each colour at its cap where it reaches the threshold, and else at 0.
+#[derive(Clone, Copy)]
+struct Threshold {
+    at: u32,
+}
+
+impl<L: Lanes> Recolour<L> for Threshold {
+    ghost change = { λ s. thresholded (min (greatest_of L.depth) s.at) };
+
+    #[inline(always)]
+    fn recolour(&self, caps: L, colours: L) -> L {
+        caps.threshold(colours, L::splat(self.at))
+    }
+}
+
+/// Puts each colour at 0.
+#[derive(Clone, Copy)]
+struct Clear;
+
+impl<L: Lanes> Recolour<L> for Clear {
+    ghost change = { λ s cap colour. 0 };
+
+    #[inline(always)]
+    fn recolour(&self, _caps: L, _colours: L) -> L {
+        L::splat(0)
+    }
+}
+
+/// Writes the row `src` to `dst` with each colour that is at least `at` at its cap, which is the
+/// pixel's alpha or, in a format without alpha, the greatest sample, and with the others at 0.
+/// Alpha stays.
+pub fn row_threshold(f: Format, at: u32, src: &[u8], dst: &mut [u8])
+    requires whole { length src.now % pixel_bytes f ≡ 0 }
+    requires same_length { length dst.old ≡ length src.now }
+    ensures { HasPixels f dst.new (λ k. thresholded_pixel f at (pixel_at f src.now k)) }
+{
+    if at > f.max() {
+        // No colour reaches such a threshold.
+        return clear_row(f, src, dst);
+    }
+    let change = Threshold { at };
+    match f.depth() {
+        1 => recolour_row::<ByteLanes, Threshold>(f, change, src, dst),
+        _ => recolour_row::<WordLanes, Threshold>(f, change, src, dst),
+    }
+}
+
+fn clear_row(f: Format, src: &[u8], dst: &mut [u8])
+    requires whole { length src.now % pixel_bytes f ≡ 0 }
+    requires same_length { length dst.old ≡ length src.now }
+    ensures { HasPixels f dst.new (λ k. recoloured f (λ cap colour. 0) (pixel_at f src.now k)) }
+{
+    match f.depth() {
+        1 => recolour_row::<ByteLanes, Clear>(f, Clear, src, dst),
+        _ => recolour_row::<WordLanes, Clear>(f, Clear, src, dst),
+    }
+}
