@@ -3,9 +3,10 @@ use Rattle.std.proofs.Common.{◌≡◌, ℕ, ◌%◌, ◌<◌, true, false, ◌
 use Rattle.std.proofs.lemmas.Bool.Decides.{nat_tests}
 use Rattle.std.proofs.lemmas.List.{same_lists}
 use Rattle.std.proofs.lemmas.List.FromFn.{get_or-map-range_with_len, length-map-range_with_len, fill_by_all}
-use Rattle.plane_rect.specs.Rectangle.{Rectangle, Lies}
+use Rattle.plane_rect.specs.Rectangle.{Rectangle, Lies, empty}
 use Rattle.sample_rows.specs.Format.{channels}
 use Rattle.sample_rows.specs.declared.format.Format.{Format}
+use Rattle.images.specs.Agreement.{AgreeOutside}
 use Rattle.images.specs.Image.{Image, IsImage, lies, at, drawn, sampled, sample_index, sample_count, column_of, row_of}
 use Rattle.images.proofs.Samples.{lies_where, Lies_from, sample_index_below, place_of_index, place_lies, index_of_place}
 
@@ -65,3 +66,14 @@ drawn-at image whole =
     let p = place_lies image.box n k below in
     sym (at_inside image _ _ _ p.0 p.1 ∙ ap (λ j. get_or image.samples j 0) (index_of_place image.box n k))) in
     ap (λ (samples : List ℕ). record { box = image.box; format = image.format; samples = samples }) (sym same)
+
+nowhere : (u v : ℕ) → Lies u v empty → ⊥
+nowhere u v there = omega (arith, there.column.0, there.column.1)
+
+pub same_images : (a b : Image) → IsImage a → IsImage b → AgreeOutside a b empty → a ≡ b
+same_images a b whole_a whole_b agreed =
+    sym (drawn-at a whole_a)
+    ∙ drawn_alike a.box a.format (at a) (at b) (λ u v c there known. agreed.samples u v c (nowhere u v))
+    ∙ ap (λ (box : Rectangle). drawn box a.format (at b)) agreed.box
+    ∙ ap (λ (format : Format). drawn b.box format (at b)) agreed.format
+    ∙ drawn-at b whole_b

@@ -1,5 +1,6 @@
 pub mod Image
 pub mod Raw
 pub mod Paint
+pub mod Agreement
 pub use Rattle.plane_rect.specs.Rectangle
 pub use Rattle.sample_rows.specs.Format

@@ -2,9 +2,10 @@
 #![tactic(auto)]
 
 ghost use Rattle.std.specs.Prelude.{◌≡◌, ℕ, ◌<◌};
-ghost use Rattle.plane_rect.specs.Rectangle.{Lies, Rectangle};
+ghost use Rattle.plane_rect.specs.Rectangle.{Lies, Rectangle, empty};
 ghost use Rattle.sample_rows.specs.Format.{channels};
 ghost use Rattle.sample_rows.specs.declared.format.Format.{Format};
+ghost use Rattle.images.specs.Agreement.{AgreeOutside};
 ghost use Rattle.images.specs.Image.{Image, IsImage, at, drawn};
 
 /// A drawn image has the sample that was drawn, at each place of its box and each of its channels.
@@ -27,4 +28,9 @@ pub fn drawn_alike()
 /// An image is what is drawn by its samples.
 pub fn drawn_again()
     ensures { (image : Image) → IsImage image → drawn image.box image.format (at image) ≡ image }
+{}
+
+/// Images that agree outside the rectangle of no place are equal.
+pub fn agreed_everywhere()
+    ensures { (a b : Image) → IsImage a → IsImage b → AgreeOutside a b empty → a ≡ b }
 {}

@@ -10,7 +10,6 @@ mod lent;
 mod mem_shelf;
 mod mem_sink;
 mod mem_swap;
-mod no_memory;
 mod shelf;
 mod sink;
 mod std_sink;

@@ -6,9 +6,9 @@ ghost use Rattle.outside_io.specs.StoredBlocks.{zero_blocks, spoiled_block};
 ghost use Rattle.outside_io.specs.Swap.{ReadsBlock, WritesBlock};
 
 use crate::failing_calls::FailingCalls;
-use crate::no_memory::NoMemory;
 use crate::stored_blocks::StoredBlocks;
 use crate::swap::{SwapAnswer, SwapDisk};
+use no_memory::NoMemory;
 use std::alloc::Global;
 use std::marker::Model;
 

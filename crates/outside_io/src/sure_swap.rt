@@ -3,9 +3,9 @@
 ghost use Rattle.std.specs.Prelude.{◌≡◌, ◌<◌, ◌≤◌, ◌^◌, [], Some, Ok, IfOk, length, slice_get, slice_set, refl};
 ghost use Rattle.outside_io.specs.StoredBlocks.{zero_blocks};
 
-use crate::no_memory::NoMemory;
 use crate::stored_blocks::StoredBlocks;
 use crate::swap::{SwapAnswer, SwapDisk};
+use no_memory::NoMemory;
 use std::alloc::Global;
 use std::marker::Model;
 

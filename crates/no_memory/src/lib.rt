@@ -1,4 +1,5 @@
-//! Want of memory, where nothing else can go wrong.
+//! The answer of a call that asks for memory and in which nothing else can go wrong.
+#![tactic(auto)]
 
 use std::alloc::{AllocError, AllocFailed};
 use thiserror::Error;

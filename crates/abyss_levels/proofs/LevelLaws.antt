@@ -1,0 +1,92 @@
+-- The laws of levels.
+use Rattle.std.proofs.Common.{◌≡◌, ℕ, zero, suc, ◌+◌, ◌-◌, ◌*◌, ◌/◌, ◌<◌, ◌≤◌, ◌↔◌, ◌⊎◌, inl, inr, refl, sym, ap, ◌∙◌, subst, arith, add-one}
+use Rattle.std.proofs.lemmas.Nat.{mul-le}
+use Rattle.plane_rect.specs.Rectangle.{Rectangle, Lies, LiesHalved, IsRectangle, InLimits, empty, half, halved, area, right, bottom}
+use Rattle.plane_rect.proofs.Moved.{halved-places}
+use Rattle.plane_rect.proofs.Rectangles.{rectangle-some, some_or_empty}
+use Rattle.plane_rect.proofs.RectangleLaws.{IsRectangle-halved}
+use Rattle.sample_rows.specs.Format.{channels}
+use Rattle.sample_rows.specs.declared.format.Format.{Format}
+use Rattle.images.specs.Image.{Image, IsImage, at, drawn}
+use Rattle.images.proofs.Laws.{at-drawn}
+use Rattle.abyss_levels.specs.Level.{doubled, mean_at, halved_image, level}
+use Rattle.abyss_levels.proofs.ByteLaws.{length-sampled}
+
+pub level-zero : (image : Image) → level image 0 ≡ image
+unfolding level
+level-zero image = refl
+
+pub level-next : (image : Image) (z : ℕ) → level image (z + 1) ≡ halved_image (level image z)
+unfolding level
+level-next image z = rw add-one refl
+
+pub IsImage-drawn : (box : Rectangle) (format : Format) (f : ℕ → ℕ → ℕ → ℕ) → IsImage (drawn box format f)
+IsImage-drawn box format f = length-sampled box (channels format) f
+
+pub IsImage-level : (image : Image) (z : ℕ) → IsImage image → IsImage (level image z)
+unfolding level
+IsImage-level image zero whole = whole
+IsImage-level image (suc z) whole = IsImage-drawn (halved (level image z).box) (level image z).format (mean_at (level image z))
+
+pub level-format : (image : Image) (z : ℕ) → (level image z).format ≡ image.format
+unfolding level
+level-format image zero = refl
+level-format image (suc z) = level-format image z
+
+pub IsRectangle-level : (image : Image) (z : ℕ) → IsRectangle image.box → IsRectangle (level image z).box
+unfolding level
+IsRectangle-level image zero is = is
+IsRectangle-level image (suc z) is = IsRectangle-halved (level image z).box (IsRectangle-level image z is)
+
+pub at-halved_image : (image : Image) (u v c : ℕ) → Lies u v (halved image.box) → c < channels image.format → at (halved_image image) u v c ≡ mean_at image u v c
+at-halved_image image u v c h k = at-drawn (halved image.box) image.format (mean_at image) u v c h k
+
+pub halved_image-even : (image : Image) (u v c sample : ℕ) → Lies u v (halved image.box) → c < channels image.format
+    → at image (doubled u) (doubled v) c ≡ sample → at image (doubled u + 1) (doubled v) c ≡ sample
+    → at image (doubled u) (doubled v + 1) c ≡ sample → at image (doubled u + 1) (doubled v + 1) c ≡ sample
+    → at (halved_image image) u v c ≡ sample
+halved_image-even image u v c sample h k p q r s =
+    at-halved_image image u v c h k ∙ omega (arith, p, q, r, s)
+
+pub halved_image-places : (image : Image) (u v : ℕ) → IsRectangle image.box → Lies u v (halved_image image).box ↔ LiesHalved u v image.box
+halved_image-places image u v is = halved-places u v image.box is
+
+pub one_of_four : (n : ℕ) → (n ≡ doubled (half n)) ⊎ (n ≡ doubled (half n) + 1)
+one_of_four n = grind arith
+
+-- a rectangle of the plane has a place, and then its half has, but no more columns or rows
+halved-some : (r : Rectangle) → 0 < r.width → 0 < r.height
+    → (0 < (halved r).width) × ((halved r).width ≤ r.width) × (0 < (halved r).height) × ((halved r).height ≤ r.height)
+halved-some r w h =
+    let some = rectangle-some (half r.left) (half r.top) (half (right r + 1) - half r.left) (half (bottom r + 1) - half r.top) (omega arith) (omega arith) in
+    rw some (omega arith, omega arith, omega arith, omega arith)
+
+halved-empty : (r : Rectangle) → IsRectangle r → (halved r ≡ empty) ↔ (r ≡ empty)
+halved-empty r is = elim (some_or_empty r is) [
+  | inl some ↦
+      let half_has = halved-some r some.0 some.1 in
+      (λ e. absurd (omega (arith, half_has, ap (λ (q : Rectangle). q.width) e)), λ e. absurd (omega (arith, some, ap (λ (q : Rectangle). q.width) e)))
+  | inr none ↦ (λ _. none, λ _. subst (λ (q : Rectangle). halved q ≡ empty) (sym none) refl)
+]
+
+InLimits-halved : (r : Rectangle) → IsRectangle r → InLimits r → InLimits (halved r)
+InLimits-halved r is small = elim (some_or_empty r is) [
+  | inl some ↦
+      let less = halved-some r some.0 some.1 in
+      let fewer : area (halved r) ≤ area r = mul-le (halved r).width (halved r).height r.width r.height less.1 less.3 in
+      (omega (arith, less, small), omega (arith, less, small), omega (arith, fewer, small))
+  | inr none ↦ subst (λ (q : Rectangle). InLimits (halved q)) (sym none) (omega arith, omega arith, omega arith)
+]
+
+pub InLimits-level : (image : Image) (z : ℕ) → IsRectangle image.box → InLimits image.box → InLimits (level image z).box
+unfolding level
+InLimits-level image zero is small = small
+InLimits-level image (suc z) is small = InLimits-halved (level image z).box (IsRectangle-level image z is) (InLimits-level image z is small)
+
+pub empty-level : (image : Image) (z : ℕ) → IsRectangle image.box → ((level image z).box ≡ empty) ↔ (image.box ≡ empty)
+unfolding level
+empty-level image zero is = (λ e. e, λ e. e)
+empty-level image (suc z) is =
+    let here = halved-empty (level image z).box (IsRectangle-level image z is) in
+    let before = empty-level image z is in
+    (λ e. before.0 (here.0 e), λ e. here.1 (before.1 e))

@@ -1,0 +1,4 @@
+pub mod Sides
+pub mod PolicyLaws
+pub mod ByteLaws
+pub mod LevelLaws

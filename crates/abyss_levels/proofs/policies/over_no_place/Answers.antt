@@ -1,0 +1,11 @@
+use Rattle.abyss_levels.proofs.PolicyLaws as laws
+use Rattle.abyss_levels.proofs.policies.over_no_place.Goals as goal
+
+pub returns-clause-none : goal.returns-clause-none
+returns-clause-none c = laws.none-empty
+
+pub returns-clause-clamp : goal.returns-clause-clamp
+returns-clause-clamp c = laws.clamp-empty
+
+pub returns-clause-wrap : goal.returns-clause-wrap
+returns-clause-wrap c = laws.loop-empty

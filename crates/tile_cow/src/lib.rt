@@ -1,0 +1,8 @@
+//! Tiles of bytes that several owners share, each with bytes of its own to write.
+#![tactic(auto)]
+
+#[cfg(test)]
+mod tests;
+mod tile;
+
+pub use tile::{Tile, Wrote};
