@@ -1,8 +1,8 @@
 -- The laws of raw bytes.
-use Rattle.std.proofs.Common.{◌≡◌, ℕ, zero, suc, ◌+◌, ◌*◌, ◌/◌, ◌%◌, ◌<◌, List, [], ◌∷◌, ◌++◌, length, refl, sym, ap, ◌∙◌, arith, length-append}
+use Rattle.std.proofs.Common.{◌≡◌, ℕ, zero, suc, ◌*◌, ◌/◌, ◌%◌, List, [], ◌∷◌, length, refl, sym, ap, ◌∙◌, arith, length-append}
 use Rattle.std.specs.List.{flat_map}
 use Rattle.std.proofs.lemmas.List.FromFn.{length-map-range_with_len}
-use Rattle.plane_rect.specs.Rectangle.{Rectangle, Lies, Includes, area}
+use Rattle.plane_rect.specs.Rectangle.{Rectangle, Includes, area}
 use Rattle.plane_rect.specs.Tile.{Tile, tile_square}
 use Rattle.sample_rows.specs.Format.{channels, depth, pixel_bytes}
 use Rattle.images.specs.Image.{Image, at, drawn, sampled, sample_count, column_of, row_of}

@@ -1,15 +1,18 @@
 -- The laws of levels.
-use Rattle.std.proofs.Common.{◌≡◌, ℕ, zero, suc, ◌+◌, ◌-◌, ◌*◌, ◌/◌, ◌<◌, ◌≤◌, ◌↔◌, ◌⊎◌, inl, inr, refl, sym, ap, ◌∙◌, subst, arith, add-one}
+use Rattle.std.proofs.Common.{◌≡◌, ℕ, zero, suc, ◌+◌, ◌-◌, ◌/◌, ◌<◌, ◌≤◌, ◌↔◌, ◌⊎◌, inl, inr, refl, sym, ap, ◌∙◌, subst, arith, ◌&&◌, cond, ltb, get_or, true, false}
 use Rattle.std.proofs.lemmas.Nat.{mul-le}
-use Rattle.plane_rect.specs.Rectangle.{Rectangle, Lies, LiesHalved, IsRectangle, InLimits, empty, half, halved, area, right, bottom}
+use Rattle.std.proofs.lemmas.Bool.{cases_lt}
+use Rattle.std.proofs.lemmas.Bool.Decides.{nat_tests}
+use Rattle.plane_rect.specs.Rectangle.{origin, Rectangle, Lies, LiesHalved, IsRectangle, InLimits, empty, half, halved, area, right, bottom}
 use Rattle.plane_rect.proofs.Moved.{halved-places}
-use Rattle.plane_rect.proofs.Rectangles.{rectangle-some, some_or_empty}
+use Rattle.plane_rect.proofs.Rectangles.{Lies-spanning, rectangle-some, some_or_empty}
 use Rattle.plane_rect.proofs.RectangleLaws.{IsRectangle-halved}
 use Rattle.sample_rows.specs.Format.{channels}
 use Rattle.sample_rows.specs.declared.format.Format.{Format}
-use Rattle.images.specs.Image.{Image, IsImage, at, drawn}
-use Rattle.images.proofs.Laws.{at-drawn}
+use Rattle.images.specs.Image.{Image, IsImage, at, drawn, lies, sample_index}
+use Rattle.images.proofs.Laws.{at-drawn, at_outside}
 use Rattle.abyss_levels.specs.Level.{doubled, mean_at, halved_image, level}
+use Rattle.abyss_levels.proofs.Places.{by_places}
 use Rattle.abyss_levels.proofs.ByteLaws.{length-sampled}
 
 pub level-zero : (image : Image) → level image 0 ≡ image
@@ -18,7 +21,7 @@ level-zero image = refl
 
 pub level-next : (image : Image) (z : ℕ) → level image (z + 1) ≡ halved_image (level image z)
 unfolding level
-level-next image z = rw add-one refl
+level-next image z = let next : z + 1 ≡ suc z = omega arith in ap (level image) next
 
 pub IsImage-drawn : (box : Rectangle) (format : Format) (f : ℕ → ℕ → ℕ → ℕ) → IsImage (drawn box format f)
 IsImage-drawn box format f = length-sampled box (channels format) f
@@ -90,3 +93,67 @@ empty-level image (suc z) is =
     let here = halved-empty (level image z).box (IsRectangle-level image z is) in
     let before = empty-level image z is in
     (λ e. before.0 (here.0 e), λ e. here.1 (before.1 e))
+
+-- ---- how great the samples are
+
+at_no_channel : (image : Image) (u v c : ℕ) → channels image.format ≤ c → at image u v c ≡ 0
+unfolding at
+at_no_channel image u v c beyond =
+    let none : ltb c (channels image.format) ≡ false = grind (arith, nat_tests) in
+    elim (lies u v image.box) as (λ b. cond (b && ltb c (channels image.format)) (get_or image.samples (sample_index image.box (channels image.format) u v c) 0) 0 ≡ 0) [
+      | true ↦ rw none refl
+      | false ↦ refl
+    ]
+
+halved_image-most : (image : Image) (c most : ℕ) → ((u v : ℕ) → at image u v c ≤ most) → (u v : ℕ) → at (halved_image image) u v c ≤ most
+halved_image-most image c most below u v = elim (cases_lt c (channels image.format)) [
+  | inl k ↦ by_places _ u v (halved image.box)
+      (λ h. rw (at-halved_image image u v c h k) (omega (
+        arith,
+        below (doubled u) (doubled v),
+        below (doubled u + 1) (doubled v),
+        below (doubled u) (doubled v + 1),
+        below (doubled u + 1) (doubled v + 1),
+      )))
+      (λ out. rw (at_outside (halved_image image) u v c out) (omega arith))
+  | inr beyond ↦ rw (at_no_channel (halved_image image) u v c beyond) (omega arith)
+]
+
+pub level-most : (image : Image) (z c most : ℕ) → ((u v : ℕ) → at image u v c ≤ most) → (u v : ℕ) → at (level image z) u v c ≤ most
+unfolding level
+level-most image zero c most below = below
+level-most image (suc z) c most below = halved_image-most (level image z) c most (level-most image z c most below)
+
+-- ---- where a halved image changes
+
+-- the half of each of the four places of a place is that place
+half-of_four : (n m : ℕ) → origin / 2 ≤ n → (m ≡ doubled n) ⊎ (m ≡ doubled n + 1) → n ≡ half m
+half-of_four n m behind (inl e) = omega arith
+half-of_four n m behind (inr e) = omega arith
+
+pub halved_image-local : (a b : Image) (r : Rectangle) → a.box ≡ b.box → a.format ≡ b.format → IsRectangle r
+    → ((u v c : ℕ) → ¬ Lies u v r → at a u v c ≡ at b u v c)
+    → (u v c : ℕ) → ¬ Lies u v (halved r) → at (halved_image a) u v c ≡ at (halved_image b) u v c
+halved_image-local a b r box format is same u v c out =
+    by_places _ u v (halved a.box)
+    (λ h. elim (cases_lt c (channels a.format)) [
+      | inl k ↦
+          at-halved_image a u v c h k
+          ∙ means h
+          ∙ sym (at-halved_image b u v c (subst (λ (q : Rectangle). Lies u v (halved q)) box h) (subst (λ (f : Format). c < channels f) format k))
+      | inr beyond ↦
+          at_no_channel (halved_image a) u v c beyond
+          ∙ sym (at_no_channel (halved_image b) u v c (subst (λ (f : Format). channels f ≤ c) format beyond))
+    ])
+    (λ none. at_outside (halved_image a) u v c none ∙ sym (at_outside (halved_image b) u v c (subst (λ (q : Rectangle). ¬ Lies u v (halved q)) box none)))
+  where
+    means : Lies u v (halved a.box) → mean_at a u v c ≡ mean_at b u v c
+    means h =
+        let spans = (Lies-spanning u v (half a.box.left) (half a.box.top) (half (right a.box + 1)) (half (bottom a.box + 1))).0 h in
+        let alike : (m n : ℕ) → (m ≡ doubled u) ⊎ (m ≡ doubled u + 1) → (n ≡ doubled v) ⊎ (n ≡ doubled v + 1) → at a m n c ≡ at b m n c =
+        λ m n p q. same m n c (λ there. out ((halved-places u v r is).1 (m, n, there, half-of_four u m (omega (arith, spans)) p, half-of_four v n (omega (arith, spans)) q))) in
+        let upper_left = alike (doubled u) (doubled v) (inl refl) (inl refl) in
+        let upper_right = alike (doubled u + 1) (doubled v) (inr refl) (inl refl) in
+        let lower_left = alike (doubled u) (doubled v + 1) (inl refl) (inr refl) in
+        let lower_right = alike (doubled u + 1) (doubled v + 1) (inr refl) (inr refl) in
+        rw (upper_left, upper_right, lower_left, lower_right) refl

@@ -1,4 +1,6 @@
+pub mod Places
 pub mod Sides
 pub mod PolicyLaws
 pub mod ByteLaws
 pub mod LevelLaws
+pub mod RowLaws

@@ -3,35 +3,27 @@ use Rattle.std.proofs.Common.{◌≡◌, ℕ, ◌+◌, ◌<◌, ◌≤◌, Bool,
 use Rattle.plane_rect.specs.Rectangle.{Rectangle, Lies}
 use Rattle.sample_rows.specs.Format.{greatest}
 use Rattle.sample_rows.specs.Recolour.{is_alpha}
-use Rattle.images.specs.Image.{Image, at, lies}
-use Rattle.images.proofs.Samples.{lies_where, Lies_from}
+use Rattle.images.specs.Image.{Image, at}
+use Rattle.images.proofs.Samples.{lies_where}
 use Rattle.images.proofs.Laws.{at_outside}
 use Rattle.abyss_levels.specs.declared.abyss.Abyss.{Abyss}
 use Rattle.abyss_levels.specs.declared.abyss.Abyss.TheVariants.{None, Clamp, Loop, Black, White}
-use Rattle.abyss_levels.specs.Abyss.{abyss_at, outside_at, nearest, wrapped}
+use Rattle.abyss_levels.specs.Abyss.{abyss_at, outside_at, black_sample, nearest, wrapped}
+use Rattle.abyss_levels.proofs.Places.{by_places, lies_not}
 use Rattle.abyss_levels.proofs.Sides.{nearest-within, nearest-inside, wrapped-within, wrapped-inside, wrapped-periodic}
-
--- what holds of the places of a rectangle, and of the others, holds of each
-by_places : (P : Type 0) (u v : ℕ) (r : Rectangle) → (Lies u v r → P) → ((Lies u v r → ⊥) → lies u v r ≡ false → P) → P
-by_places P u v r inside outside =
-    elim (lies u v r) as (λ b. lies u v r ≡ b → P) [
-      | true ↦ λ e. inside (Lies_from u v r e)
-      | false ↦ λ e. outside (λ h. cc (sym (lies_where u v r h) ∙ e)) e
-    ] refl
 
 pub abyss_at-inside : (image : Image) (policy : Abyss) (u v c : ℕ) → Lies u v image.box → abyss_at image policy u v c ≡ at image u v c
 unfolding abyss_at
 abyss_at-inside image policy u v c h = let there = lies_where u v image.box h in rw there refl
 
-pub abyss_at-outside : (image : Image) (policy : Abyss) (u v c : ℕ) → (Lies u v image.box → ⊥) → abyss_at image policy u v c ≡ outside_at image policy u v c
+pub abyss_at-outside : (image : Image) (policy : Abyss) (u v c : ℕ) → ¬ Lies u v image.box → abyss_at image policy u v c ≡ outside_at image policy u v c
 unfolding abyss_at
-abyss_at-outside image policy u v c out =
-    by_places _ u v image.box (λ h. absurd (out h)) (λ _. λ e. rw e refl)
+abyss_at-outside image policy u v c out = let nowhere = lies_not u v image.box out in rw nowhere refl
 
 pub none-everywhere : (image : Image) (u v c : ℕ) → abyss_at image None u v c ≡ at image u v c
 none-everywhere image u v c =
     by_places _ u v image.box (abyss_at-inside image None u v c)
-    (λ out. λ _. abyss_at-outside image None u v c out ∙ sym (at_outside image u v c out))
+    (λ out. abyss_at-outside image None u v c out ∙ sym (at_outside image u v c out))
 
 -- the sample of the nearest place
 abbrev pub clamped : Image → ℕ → ℕ → ℕ → ℕ
@@ -45,7 +37,7 @@ clamp-everywhere image u v c =
     let row = nearest-inside image.box.top image.box.height v h.row in
     abyss_at-inside image Clamp u v c h
     ∙ sym (ap (λ (a : ℕ). at image a (nearest image.box.top image.box.height v) c) column ∙ ap (λ (b : ℕ). at image u b c) row))
-    (λ out. λ _. abyss_at-outside image Clamp u v c out)
+    (λ out. abyss_at-outside image Clamp u v c out)
 
 pub clamp-place : (r : Rectangle) (u v : ℕ) → 0 < r.width → 0 < r.height → Lies (nearest r.left r.width u) (nearest r.top r.height v) r
 clamp-place r u v wide high = record { column = nearest-within r.left r.width u wide; row = nearest-within r.top r.height v high }
@@ -62,7 +54,7 @@ loop-everywhere image u v c =
     let row = wrapped-inside image.box.top image.box.height v h.row in
     abyss_at-inside image Loop u v c h
     ∙ sym (ap (λ (a : ℕ). at image a (wrapped image.box.top image.box.height v) c) column ∙ ap (λ (b : ℕ). at image u b c) row))
-    (λ out. λ _. abyss_at-outside image Loop u v c out)
+    (λ out. abyss_at-outside image Loop u v c out)
 
 pub loop-place : (r : Rectangle) (u v : ℕ) → 0 < r.width → 0 < r.height → Lies (wrapped r.left r.width u) (wrapped r.top r.height v) r
 loop-place r u v wide high = record { column = wrapped-within r.left r.width u wide; row = wrapped-within r.top r.height v high }
@@ -99,6 +91,12 @@ module _ (image : Image) (empty : (u v : ℕ) → ¬ Lies u v image.box) (u v c 
   pub loop-empty : abyss_at image Loop u v c ≡ 0
   loop-empty = loop-everywhere image u v c ∙ at_outside image _ _ c (empty _ _)
 
+  pub black-empty : abyss_at image Black u v c ≡ black_sample image.format c
+  black-empty = abyss_at-outside image Black u v c (empty u v)
+
+  pub white-empty : abyss_at image White u v c ≡ greatest image.format
+  white-empty = abyss_at-outside image White u v c (empty u v)
+
 -- samples up to a number are read as such under each policy, where the number is the greatest sample or above it
 pub abyss_at-most : (image : Image) (policy : Abyss) (c most : ℕ) → greatest image.format ≤ most → ((u v : ℕ) → at image u v c ≤ most)
     → (u v : ℕ) → abyss_at image policy u v c ≤ most
@@ -108,7 +106,7 @@ abyss_at-most image Loop c most room below u v = rw (loop-everywhere image u v c
 abyss_at-most image Black c most room below u v =
     by_places _ u v image.box
     (λ h. rw (abyss_at-inside image Black u v c h) (below u v))
-    (λ out. λ _. rw (abyss_at-outside image Black u v c out) (black (is_alpha image.format c)))
+    (λ out. rw (abyss_at-outside image Black u v c out) (black (is_alpha image.format c)))
   where
     black : (b : Bool) → cond b (greatest image.format) 0 ≤ most
     black true = room
@@ -116,4 +114,4 @@ abyss_at-most image Black c most room below u v =
 abyss_at-most image White c most room below u v =
     by_places _ u v image.box
     (λ h. rw (abyss_at-inside image White u v c h) (below u v))
-    (λ out. λ _. rw (abyss_at-outside image White u v c out) room)
+    (λ out. rw (abyss_at-outside image White u v c out) room)

@@ -5,6 +5,7 @@ use Rattle.plane_rect.specs.Rectangle.{Rectangle}
 use Rattle.plane_rect.specs.Tile.{Tile, tile_square}
 use Rattle.sample_rows.specs.Format.{channels, depth, greatest}
 use Rattle.sample_rows.specs.Recolour.{is_alpha}
+use Rattle.sample_rows.specs.declared.format.Format.{Format}
 use Rattle.images.specs.Image.{Image, at, lies, sampled}
 use Rattle.images.specs.Raw.{raw, sample_bytes}
 use Rattle.abyss_levels.specs.declared.abyss.Abyss.{Abyss}
@@ -19,8 +20,8 @@ abbrev pub wrapped : ℕ → ℕ → ℕ → ℕ
 wrapped start len n = start + (n + start * len - start) % len
 
 -- the sample of a channel where all is black: no colour, and full alpha
-abbrev pub black_sample : Image → ℕ → ℕ
-black_sample image c = if is_alpha image.format c then greatest image.format else 0
+abbrev pub black_sample : Format → ℕ → ℕ
+black_sample format c = if is_alpha format c then greatest format else 0
 
 -- the sample that a policy gives for a column, a row and a channel outside the image's box
 abbrev pub outside_at : Image → Abyss → ℕ → ℕ → ℕ → ℕ
@@ -29,17 +30,19 @@ outside_at image Clamp u v c =
     at image (nearest image.box.left image.box.width u) (nearest image.box.top image.box.height v) c
 outside_at image Loop u v c =
     at image (wrapped image.box.left image.box.width u) (wrapped image.box.top image.box.height v) c
-outside_at image Black u v c = black_sample image c
+outside_at image Black u v c = black_sample image.format c
 outside_at image White u v c = greatest image.format
 
 -- The sample of a column, a row and a channel under a policy: the image's own inside its box.
 unfoldable pub abyss_at : Image → Abyss → ℕ → ℕ → ℕ → ℕ
-abyss_at image policy u v c = if lies u v image.box then at image u v c else outside_at image policy u v c
+abyss_at image policy u v c =
+    if lies u v image.box then at image u v c else outside_at image policy u v c
 
 -- the bytes of the samples of a rectangle under a policy
 unfoldable pub raw_with : Image → Abyss → Rectangle → List ℕ
 raw_with image policy rectangle =
-    flat_map (sample_bytes (depth image.format)) (sampled rectangle (channels image.format) (abyss_at image policy))
+    flat_map (sample_bytes (depth image.format))
+    (sampled rectangle (channels image.format) (abyss_at image policy))
 
 -- the bytes of the 64 by 64 places of a tile, which are 0 outside the image's box
 abbrev pub tile_bytes : Image → Tile → List ℕ

@@ -2,33 +2,59 @@
 use Rattle.std.specs.Prelude.{ℕ, ℤ, pos, negsuc, List, [], ◌∷◌}
 use Rattle.plane_rect.specs.Rectangle.{Rectangle, empty, placed}
 use Rattle.sample_rows.specs.declared.format.Format.{Format}
-use Rattle.sample_rows.specs.declared.format.Format.TheVariants.{Y8}
+use Rattle.sample_rows.specs.declared.format.Format.TheVariants.{Y8, YA8, YA16}
 use Rattle.images.specs.Image.{Image}
 
 -- so many places from an x on, in the row of y = 0
 abbrev pub places_from : ℤ → ℕ → Rectangle
 places_from x width = placed x (pos 0) width 1
 
+-- the first two places of that row
+abbrev pub two_places : Rectangle
+two_places = places_from (pos 0) 2
+
+-- two places at the plane's left edge, where x = -2^24
+abbrev pub left_edge : Rectangle
+left_edge = places_from (negsuc 16777215) 2
+
+-- four places, from x = -1 on
+abbrev pub four_places : Rectangle
+four_places = places_from (negsuc 0) 4
+
+-- the places of -1 and 0 in x and in y
+abbrev pub upper_left : Rectangle
+upper_left = placed (negsuc 0) (negsuc 0) 2 2
+
 -- the image of these samples over so many places from an x on
 abbrev pub row_image : Format → ℤ → ℕ → List ℕ → Image
-row_image format x width samples = record { box = places_from x width; format = format; samples = samples }
+row_image format x width samples =
+    record { box = places_from x width; format = format; samples = samples }
 
--- two places of one byte, from x = 0 on
+-- 10 and 20 from x = 0 on
 abbrev pub ten_twenty : Image
 ten_twenty = row_image Y8 (pos 0) 2 (10 ∷ 20 ∷ [])
 
--- four places, from x = -1 on
-abbrev pub around_two : Rectangle
-around_two = places_from (negsuc 0) 4
-
--- two places of one byte in each of two rows, from the origin on
-abbrev pub one_to_four : Image
-one_to_four = record { box = placed (pos 0) (pos 0) 2 2; format = Y8; samples = 1 ∷ 2 ∷ 3 ∷ 4 ∷ [] }
-
--- no place
-abbrev pub no_sample : Image
-no_sample = record { box = empty; format = Y8; samples = [] }
-
--- three places of one byte, from an x on
+-- 10, 20 and 31 from an x on
 abbrev pub three_from : ℤ → Image
 three_from x = row_image Y8 x 3 (10 ∷ 20 ∷ 31 ∷ [])
+
+-- one place at the origin, with these samples
+abbrev pub one_place : Format → List ℕ → Image
+one_place format samples = row_image format (pos 0) 1 samples
+
+-- 10 with an alpha of 200
+abbrev pub faint_ten : Image
+faint_ten = one_place YA8 (10 ∷ 200 ∷ [])
+
+-- the same of 16 bits, 258 with an alpha of 772
+abbrev pub faint_of_16_bits : Image
+faint_of_16_bits = one_place YA16 (258 ∷ 772 ∷ [])
+
+-- from the origin on, 1 and 2 above 3 and 4
+abbrev pub one_to_four : Image
+one_to_four =
+    record { box = placed (pos 0) (pos 0) 2 2; format = Y8; samples = 1 ∷ 2 ∷ 3 ∷ 4 ∷ [] }
+
+-- no place
+abbrev pub no_place : Image
+no_place = record { box = empty; format = Y8; samples = [] }

@@ -8,7 +8,7 @@ use Rattle.images.specs.Image.{Image, at, drawn}
 abbrev pub doubled : ℕ → ℕ
 doubled n = 2 * n - origin
 
--- the mean of the samples of the four places of 2x and 2x + 1 by 2y and 2y + 1, which are 0 outside the image's box
+-- the mean of the samples at 2x and 2x + 1 by 2y and 2y + 1, each of which is 0 outside the box
 abbrev pub mean_at : Image → ℕ → ℕ → ℕ → ℕ
 mean_at image u v c =
     mean_of_four

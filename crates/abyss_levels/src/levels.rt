@@ -1,7 +1,7 @@
 //! The laws of levels.
 
-ghost use Rattle.std.specs.Prelude.{◌≡◌, ◌⊎◌, ◌↔◌, ℕ, ◌+◌, ◌<◌};
-ghost use Rattle.plane_rect.specs.Rectangle.{InLimits, IsRectangle, Lies, LiesHalved, empty, half, halved};
+ghost use Rattle.std.specs.Prelude.{◌≡◌, ◌⊎◌, ◌↔◌, ℕ, ◌+◌, ◌<◌, ◌≤◌};
+ghost use Rattle.plane_rect.specs.Rectangle.{InLimits, IsRectangle, Lies, LiesHalved, Rectangle, empty, half, halved};
 ghost use Rattle.sample_rows.specs.Average.{mean_of_four};
 ghost use Rattle.sample_rows.specs.Format.{channels};
 ghost use Rattle.images.specs.Image.{Image, IsImage, at};
@@ -31,16 +31,16 @@ pub fn box_of_a_level()
         ((level image z).box ≡ empty) ↔ (image.box ≡ empty) }
 {}
 
-/// The box of a halved image has the half of each place of the image's, and no other. A place is one
-/// of the four that are averaged at its half.
+/// The box of a halved image has the half of each place of the image's, and no other. A place is
+/// one of the four that are averaged at its half.
 pub fn halving_covers()
     ensures places { (image : Image) (u v : ℕ) → IsRectangle image.box →
         Lies u v (halved_image image).box ↔ LiesHalved u v image.box }
     ensures four { (n : ℕ) → (n ≡ doubled (half n)) ⊎ (n ≡ doubled (half n) + 1) }
 {}
 
-/// A halved image has at each place of its box the mean of four samples of the image, and the sample
-/// of all four where they are equal.
+/// A halved image has at each place of its box the mean of four samples of the image, and the
+/// sample of all four where they are equal.
 pub fn halved_samples()
     ensures mean { (image : Image) (u v c : ℕ) →
         Lies u v (halved image.box) → c < channels image.format →
@@ -56,4 +56,19 @@ pub fn halved_samples()
         at image (doubled u) (doubled v + 1) c ≡ sample →
         at image (doubled u + 1) (doubled v + 1) c ≡ sample →
         at (halved_image image) u v c ≡ sample }
+{}
+
+/// No level has a sample above what the image's samples are at most.
+pub fn levels_stay_in_range()
+    ensures { (image : Image) (z c most : ℕ) →
+        ((u v : ℕ) → at image u v c ≤ most) → (u v : ℕ) → at (level image z) u v c ≤ most }
+{}
+
+/// Where images agree outside a rectangle, their halves agree outside its half.
+pub fn halving_is_local()
+    ensures { (a b : Image) (r : Rectangle) →
+        a.box ≡ b.box → a.format ≡ b.format → IsRectangle r →
+        ((u v c : ℕ) → ¬ Lies u v r → at a u v c ≡ at b u v c) →
+        (u v c : ℕ) → ¬ Lies u v (halved r) →
+        at (halved_image a) u v c ≡ at (halved_image b) u v c }
 {}

@@ -6,7 +6,7 @@ ghost use Rattle.plane_rect.specs.Rectangle.{Lies, Rectangle, Within};
 ghost use Rattle.sample_rows.specs.Format.{greatest};
 ghost use Rattle.sample_rows.specs.Recolour.{is_alpha};
 ghost use Rattle.images.specs.Image.{Image, at};
-ghost use Rattle.abyss_levels.specs.Abyss.{abyss_at, nearest, wrapped};
+ghost use Rattle.abyss_levels.specs.Abyss.{abyss_at, black_sample, nearest, wrapped};
 
 use crate::abyss::Abyss;
 
@@ -19,9 +19,9 @@ pub fn nearest_in_a_row()
         Within start len m → abs_diff n (nearest start len n) ≤ abs_diff n m }
 {}
 
-/// A wrapped number is the one of some numbers in a row that is away by a whole multiple of how many
-/// they are: it leaves the same remainder, and no other of them does. A number that is one of them
-/// stays.
+/// A wrapped number is the one of some numbers in a row that is away by a whole multiple of how
+/// many they are: it leaves the same remainder, and no other of them does. A number that is one of
+/// them stays.
 pub fn wrapped_in_a_row()
     ensures within { (start len n : ℕ) → 0 < len → Within start len (wrapped start len n) }
     ensures stays { (start len n : ℕ) → Within start len n → wrapped start len n ≡ n }
@@ -38,26 +38,31 @@ pub fn inside_is_the_image()
         Lies u v image.box → abyss_at image policy u v c ≡ at image u v c }
 {}
 
-/// With no policy an image has its own samples everywhere, which are 0 outside its box.
+/// Under `None` an image has its own samples everywhere, which are 0 outside its box.
 pub fn none_is_the_image()
     ensures { (image : Image) (u v c : ℕ) → abyss_at image Abyss.None u v c ≡ at image u v c }
 {}
 
-/// A clamped image has everywhere the sample of the nearest place, which lies in the box if any does.
+/// A clamped image has everywhere the sample of the nearest place, which lies in the box if any
+/// does.
 pub fn clamp_is_the_nearest_place()
     ensures sample { (image : Image) (u v c : ℕ) →
         abyss_at image Abyss.Clamp u v c
-        ≡ at image (nearest image.box.left image.box.width u) (nearest image.box.top image.box.height v) c }
+        ≡ at image
+        (nearest image.box.left image.box.width u)
+        (nearest image.box.top image.box.height v) c }
     ensures place { (box : Rectangle) (u v : ℕ) → 0 < box.width → 0 < box.height →
         Lies (nearest box.left box.width u) (nearest box.top box.height v) box }
 {}
 
-/// A looped image has everywhere the sample of the wrapped place, which lies in the box if any does,
-/// and repeats itself after a width and after a height of the box.
+/// A looped image has everywhere the sample of the wrapped place, which lies in the box if any
+/// does, and repeats itself after a width and after a height of the box.
 pub fn loop_is_the_wrapped_place()
     ensures sample { (image : Image) (u v c : ℕ) →
         abyss_at image Abyss.Loop u v c
-        ≡ at image (wrapped image.box.left image.box.width u) (wrapped image.box.top image.box.height v) c }
+        ≡ at image
+        (wrapped image.box.left image.box.width u)
+        (wrapped image.box.top image.box.height v) c }
     ensures place { (box : Rectangle) (u v : ℕ) → 0 < box.width → 0 < box.height →
         Lies (wrapped box.left box.width u) (wrapped box.top box.height v) box }
     ensures columns { (image : Image) (u v c : ℕ) → 0 < image.box.width →
@@ -82,7 +87,7 @@ pub fn white_outside()
 {}
 
 /// Over an image without a place there is no place to clamp to or to loop to, and so 0; black and
-/// white have their colour, as [`black_outside`] and [`white_outside`] say.
+/// white are as they are outside any image.
 pub fn over_no_place()
     ensures none { (image : Image) → ((u v : ℕ) → ¬ Lies u v image.box) →
         (u v c : ℕ) → abyss_at image Abyss.None u v c ≡ 0 }
@@ -90,4 +95,15 @@ pub fn over_no_place()
         (u v c : ℕ) → abyss_at image Abyss.Clamp u v c ≡ 0 }
     ensures wrap { (image : Image) → ((u v : ℕ) → ¬ Lies u v image.box) →
         (u v c : ℕ) → abyss_at image Abyss.Loop u v c ≡ 0 }
+    ensures black { (image : Image) → ((u v : ℕ) → ¬ Lies u v image.box) →
+        (u v c : ℕ) → abyss_at image Abyss.Black u v c ≡ black_sample image.format c }
+    ensures white { (image : Image) → ((u v : ℕ) → ¬ Lies u v image.box) →
+        (u v c : ℕ) → abyss_at image Abyss.White u v c ≡ greatest image.format }
+{}
+
+/// No policy gives a sample above the format's greatest, where the image has none.
+pub fn policies_stay_in_range()
+    ensures { (image : Image) (policy : Abyss) (c : ℕ) →
+        ((u v : ℕ) → at image u v c ≤ greatest image.format) →
+        (u v : ℕ) → abyss_at image policy u v c ≤ greatest image.format }
 {}

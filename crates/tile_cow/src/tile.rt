@@ -71,7 +71,7 @@ impl Tile {
         ensures value { result.now ≡ self.now }
         ensures size { IsTileLength (length self.now) }
     {
-        &self.block
+        self.block.as_slice()
     }
 
     /// Writes these bytes into the range that begins at byte `at`. Other owners' bytes stay. At an
@@ -80,6 +80,7 @@ impl Tile {
         requires { at + length bytes.now ≤ length self.old }
         ensures written { OnOk result (self.new ≡ overwritten self.old at bytes.now) }
         ensures unchanged { OnErr result (self.new ≡ self.old) }
+        ensures same_length { length self.new ≡ length self.old }
     {
         let at = at as usize;
         match Arc::get_mut(&mut self.block) {

@@ -9,3 +9,9 @@ returns-clause-clamp c = laws.clamp-empty
 
 pub returns-clause-wrap : goal.returns-clause-wrap
 returns-clause-wrap c = laws.loop-empty
+
+pub returns-clause-black : goal.returns-clause-black
+returns-clause-black c = laws.black-empty
+
+pub returns-clause-white : goal.returns-clause-white
+returns-clause-white c = laws.white-empty

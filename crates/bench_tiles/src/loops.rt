@@ -1,0 +1,99 @@
+//! The loops that are timed. Each gives a number that depends on all of its rounds.
+
+ghost use Rattle.std.specs.Prelude.{◌≡◌, ◌≤◌, length};
+
+use no_memory::NoMemory;
+use std::alloc::{AllocError, Global};
+use tile_cow::{Tile, Wrote};
+
+/// Makes another owner and drops it.
+pub fn share_and_drop(alloc: Global, tile: &Tile, rounds: u32) -> Result<u64, NoMemory> {
+    let mut found = 0u64;
+    for _ in 0..rounds {
+        let other = tile.share(alloc)?;
+        found = found.wrapping_add(other.bytes().len() as u64);
+    }
+    Ok(found)
+}
+
+/// Copies a tile's bytes out.
+pub fn read(tile: &Tile, into: &mut [u8], rounds: u32) -> u64
+    requires { length into.old ≡ length tile.now }
+{
+    let mut found = 0u64;
+    for _ in 0..rounds {
+        into.copy_from_slice(tile.bytes());
+        found = found.wrapping_add(last(into));
+    }
+    found
+}
+
+/// Writes all bytes of a tile. Counts the writes that were in place.
+pub fn write(alloc: Global, tile: &mut Tile, row: &mut [u8], rounds: u32) -> Result<u64, NoMemory>
+    requires { length row.old ≡ length tile.old }
+{
+    let mut found = 0u64;
+    for round in 0..rounds {
+        mark(row, round);
+        if tile.write(alloc, 0, row)? == Wrote::InPlace {
+            found = found.wrapping_add(1);
+        }
+    }
+    Ok(found)
+}
+
+/// Writes all bytes of a tile that has another owner. Counts the writes that were in place.
+pub fn write_shared(
+    alloc: Global,
+    tile: &mut Tile,
+    row: &mut [u8],
+    rounds: u32,
+) -> Result<u64, NoMemory>
+    requires { length row.old ≡ length tile.old }
+{
+    let mut found = 0u64;
+    for round in 0..rounds {
+        mark(row, round);
+        let _other = tile.share(alloc)?;
+        if tile.write(alloc, 0, row)? == Wrote::InPlace {
+            found = found.wrapping_add(1);
+        }
+    }
+    Ok(found)
+}
+
+/// Copies the bytes to other bytes.
+pub fn copy(row: &mut [u8], into: &mut [u8], rounds: u32) -> u64
+    requires { length row.old ≡ length into.old }
+{
+    let mut found = 0u64;
+    for round in 0..rounds {
+        mark(row, round);
+        into.copy_from_slice(row);
+        found = found.wrapping_add(last(into));
+    }
+    found
+}
+
+/// Copies the bytes into memory that is asked for.
+pub fn copy_afresh(alloc: Global, row: &mut [u8], rounds: u32) -> Result<u64, AllocError> {
+    let mut found = 0u64;
+    for round in 0..rounds {
+        mark(row, round);
+        let copy = row.to_vec(alloc)?;
+        found = found.wrapping_add(last(&copy));
+    }
+    Ok(found)
+}
+
+/// Makes the first byte tell the rounds apart.
+fn mark(row: &mut [u8], round: u32) {
+    if let Some(first) = row.first_mut() {
+        *first = (round % 256) as u8;
+    }
+}
+
+/// The last byte.
+fn last(bytes: &[u8]) -> u64 {
+    bytes.last().copied().map_or(0, u64::from)
+}
