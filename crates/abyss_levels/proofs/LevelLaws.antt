@@ -9,6 +9,7 @@ use Rattle.plane_rect.proofs.Rectangles.{Lies-spanning, rectangle-some, some_or_
 use Rattle.plane_rect.proofs.RectangleLaws.{IsRectangle-halved}
 use Rattle.sample_rows.specs.Format.{channels}
 use Rattle.sample_rows.specs.declared.format.Format.{Format}
+use Rattle.images.specs.Agreement.{AgreeOutside}
 use Rattle.images.specs.Image.{Image, IsImage, at, drawn, lies, sample_index}
 use Rattle.images.proofs.Laws.{at-drawn, at_outside}
 use Rattle.abyss_levels.specs.Level.{doubled, mean_at, halved_image, level}
@@ -131,7 +132,7 @@ half-of_four : (n m : ℕ) → origin / 2 ≤ n → (m ≡ doubled n) ⊎ (m ≡
 half-of_four n m behind (inl e) = omega arith
 half-of_four n m behind (inr e) = omega arith
 
-pub halved_image-local : (a b : Image) (r : Rectangle) → a.box ≡ b.box → a.format ≡ b.format → IsRectangle r
+halved_image-local : (a b : Image) (r : Rectangle) → a.box ≡ b.box → a.format ≡ b.format → IsRectangle r
     → ((u v c : ℕ) → ¬ Lies u v r → at a u v c ≡ at b u v c)
     → (u v c : ℕ) → ¬ Lies u v (halved r) → at (halved_image a) u v c ≡ at (halved_image b) u v c
 halved_image-local a b r box format is same u v c out =
@@ -157,3 +158,10 @@ halved_image-local a b r box format is same u v c out =
         let lower_left = alike (doubled u) (doubled v + 1) (inl refl) (inr refl) in
         let lower_right = alike (doubled u + 1) (doubled v + 1) (inr refl) (inr refl) in
         rw (upper_left, upper_right, lower_left, lower_right) refl
+
+pub halved_images-agree : (a b : Image) (r : Rectangle) → IsRectangle r → AgreeOutside a b r → AgreeOutside (halved_image a) (halved_image b) (halved r)
+halved_images-agree a b r is agreed = record {
+  box = ap halved agreed.box;
+  format = agreed.format;
+  samples = halved_image-local a b r agreed.box agreed.format is agreed.samples;
+}

@@ -2,4 +2,3 @@ pub mod Abyss
 pub mod Examples
 pub mod Level
 pub mod Rows
-pub use Rattle.images.specs.Image

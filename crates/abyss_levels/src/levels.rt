@@ -4,6 +4,7 @@ ghost use Rattle.std.specs.Prelude.{◌≡◌, ◌⊎◌, ◌↔◌, ℕ, ◌+�
 ghost use Rattle.plane_rect.specs.Rectangle.{InLimits, IsRectangle, Lies, LiesHalved, Rectangle, empty, half, halved};
 ghost use Rattle.sample_rows.specs.Average.{mean_of_four};
 ghost use Rattle.sample_rows.specs.Format.{channels};
+ghost use Rattle.images.specs.Agreement.{AgreeOutside};
 ghost use Rattle.images.specs.Image.{Image, IsImage, at};
 ghost use Rattle.abyss_levels.specs.Level.{doubled, halved_image, level};
 
@@ -67,8 +68,5 @@ pub fn levels_stay_in_range()
 /// Where images agree outside a rectangle, their halves agree outside its half.
 pub fn halving_is_local()
     ensures { (a b : Image) (r : Rectangle) →
-        a.box ≡ b.box → a.format ≡ b.format → IsRectangle r →
-        ((u v c : ℕ) → ¬ Lies u v r → at a u v c ≡ at b u v c) →
-        (u v c : ℕ) → ¬ Lies u v (halved r) →
-        at (halved_image a) u v c ≡ at (halved_image b) u v c }
+        IsRectangle r → AgreeOutside a b r → AgreeOutside (halved_image a) (halved_image b) (halved r) }
 {}
