@@ -1,4 +1,4 @@
-//! A tile.
+//! A tile and its owners.
 
 ghost use Rattle.std.specs.Prelude.{◌≡◌, ◌+◌, ◌≤◌, IfOk, OnErr, OnOk, length, replicate};
 ghost use Rattle.tile_cow.specs.Tile.{IsTileLength, overwritten};
@@ -8,8 +8,8 @@ use std::alloc::{AllocError, Global};
 use std::marker::Model;
 use std::sync::Arc;
 
-/// From 1 to 65,536 bytes. Each owner has bytes of its own to see: tiles share memory until one of
-/// them is written. Dropping a tile takes no memory.
+/// From 1 to 65,536 bytes. Tiles may share the memory of equal bytes until one of them is written,
+/// and no owner sees another's writes. Dropping a tile takes no memory.
 #[derive(Drop)]
 pub struct Tile {
     block: Arc<Vec<u8>>,
@@ -29,9 +29,10 @@ impl Model for Tile {
 /// Where a write put its bytes.
 #[derive(Clone, Copy, Debug, PartialEq, Eq)]
 pub enum Wrote {
-    /// Into the block that the tile had, which no other tile owned. It took no memory.
+    /// Into the block that the tile had, of which it was the only owner. This took no memory, which
+    /// tests alone show, since a contract doesn't see what memory is asked for.
     InPlace,
-    /// Into a copy of the block, which the tile alone owns.
+    /// Into a copy of the block, of which the tile is the only owner.
     Copied,
 }
 
@@ -56,7 +57,8 @@ impl Tile {
         Ok(Tile { block })
     }
 
-    /// Another owner of the same bytes. Where the block can't take one owner more, they are copied.
+    /// Another owner of the same bytes. They are copied only where the block can't take one owner
+    /// more.
     pub fn share(&self, alloc: Global) -> Result<Tile, NoMemory>
         ensures { IfOk result (λ tile. tile ≡ self.now) }
     {
@@ -74,8 +76,9 @@ impl Tile {
         self.block.as_slice()
     }
 
-    /// Writes these bytes into the range that begins at byte `at`. Other owners' bytes stay. At an
-    /// error the tile is as it was.
+    /// Writes these bytes into the range that begins at byte `at`: in place where this is the only
+    /// owner of its block, else in a copy. Other owners' bytes stay. At an error the tile is as it
+    /// was.
     pub fn write(&mut self, alloc: Global, at: u32, bytes: &[u8]) -> Result<Wrote, NoMemory>
         requires { at + length bytes.now ≤ length self.old }
         ensures written { OnOk result (self.new ≡ overwritten self.old at bytes.now) }
