@@ -3,8 +3,8 @@ use Rattle.std.specs.Prelude.{ℕ, List, [], ◌∷◌, ◌++◌, map, unwrap_or
 use Rattle.std.specs.Str.{bytes_eq}
 use Rattle.std.specs.Map.{lookup}
 use Rattle.images.specs.Image.{Image}
+use Rattle.images.specs.Paint.{no_image}
 use Rattle.graphs.specs.Node.{Node, Step, FromBuffer, Apply, index_of, step_of}
-use Rattle.graphs.specs.Operation.{no_image}
 
 -- the images of buffers, by their names
 abbrev pub Buffers : Type 0

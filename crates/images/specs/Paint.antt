@@ -1,15 +1,20 @@
 -- Images that are made of others.
 use Rattle.std.specs.Prelude.{ℕ, if◌then◌else◌, List}
-use Rattle.plane_rect.specs.Rectangle.{Rectangle}
+use Rattle.plane_rect.specs.Rectangle.{Rectangle, empty}
 use Rattle.sample_rows.specs.Format.{channels, depth}
 use Rattle.sample_rows.specs.Row.{Pixel, sample_at}
 use Rattle.sample_rows.specs.Invert.{inverted_pixel}
 use Rattle.sample_rows.specs.declared.format.Format.{Format}
+use Rattle.sample_rows.specs.declared.format.Format.TheVariants.{Y8}
 use Rattle.images.specs.Image.{Image, at, drawn, lies, sample_index}
 
 -- the image of zeros
 abbrev pub blank : Rectangle → Format → Image
 blank box format = drawn box format (λ u v c. 0)
+
+-- the image of no place, which stands where one is lacking
+abbrev pub no_image : Image
+no_image = blank empty Y8
 
 -- the image, with what f gives over a rectangle in place of its samples there
 abbrev pub painted : Image → Rectangle → (ℕ → ℕ → Pixel) → Image
