@@ -25,7 +25,7 @@ abbrev pub shifted : ℕ → ℕ → ℕ
 shifted a b = a / 2 ^ b
 
 -- lanes below one more than m are at most m
-below_le : (m : ℕ) (v : List ℕ) → AreLanes (m + 1) v → (j : ℕ) → get_or v j 0 ≤ m
+pub below_le : (m : ℕ) (v : List ℕ) → AreLanes (m + 1) v → (j : ℕ) → get_or v j 0 ≤ m
 below_le m v p j = omega (arith, p.below j)
 
 -- what a division and a narrowing cast ask
@@ -53,7 +53,7 @@ module _ (w m k : ℕ) (room : m * m + k < w) where
       ap (λ x. (x + k) % w) (mod-eq_of_lt (omega (arith, small))) ∙ mod-eq_of_lt small
 
 -- sixteen times one number
-splat_at : (n j : ℕ) → j < 16 → get_or (replicate 16 n) j 0 ≡ n
+pub splat_at : (n j : ℕ) → j < 16 → get_or (replicate 16 n) j 0 ≡ n
 splat_at n j lt = get_or-replicate 16 j n 0 lt
 
 -- sums of products, before they are divided

@@ -12,3 +12,7 @@ pub mod Interleaving
 pub mod SampleLaws
 pub mod VectorLaws
 pub mod PlaneLaws
+pub mod GainLaws
+pub mod Scaling
+pub mod DepthLaws
+pub mod ConvertLaws

@@ -35,7 +35,7 @@ number_of_pair (x ∷ []) long = absurd (omega arith)
 number_of_pair (x ∷ y ∷ []) long = omega arith
 number_of_pair (x ∷ y ∷ z ∷ rest) long = absurd (omega arith)
 
-number_of_two : (row : List ℕ) (k : ℕ) → k + 2 ≤ length row → number_l 256 (chunk k 2 row) ≡ get_or row k 0 + 256 * get_or row (k + 1) 0
+pub number_of_two : (row : List ℕ) (k : ℕ) → k + 2 ≤ length row → number_l 256 (chunk k 2 row) ≡ get_or row k 0 + 256 * get_or row (k + 1) 0
 number_of_two row k room =
     let low = chunk-at k 2 0 k row (omega arith) (omega arith) in
     let high = chunk-at k 2 1 (k + 1) row refl (omega arith) in

@@ -88,6 +88,13 @@ greatest_of_words a b A B = go (ltb a b) refl
     go true e = omega (arith, ltb-true _ _ e)
     go false e = omega (arith, ltb-false _ _ e)
 
+pub least_of_longs : (a b : ℕ) → a < 18446744073709551616 → b < 18446744073709551616 → choice 63 18446744073709551616 a b a b ≡ min a b
+least_of_longs a b A B = go (ltb a b) refl
+  where
+    go : (t : Bool) → ltb a b ≡ t → cond (top 63 (cond t 18446744073709551615 0)) a b ≡ min a b
+    go true e = omega (arith, ltb-true _ _ e)
+    go false e = omega (arith, ltb-false _ _ e)
+
 -- of vectors, where this is known of two lanes
 module _ (h m : ℕ) (some : 0 < m) (xs ys : List ℕ) (p : AreLanes m xs) (q : AreLanes m ys) where
   pub Makes-difference : ((a b : ℕ) → a < m → b < m → less m (choice h m a b b a) b ≡ a - b) → Makes m (difference h m xs ys) (λ j. (get_or xs j 0) - (get_or ys j 0))

@@ -33,7 +33,7 @@ module _ (bound : ℕ) (some : 0 < bound) (xs ys : List ℕ) (p : AreLanes bound
   pub in_second : (k : ℕ) → get_or (xs ++ ys) (16 + k) 0 ≡ get_or ys k 0
   in_second k = ap (λ i. get_or (xs ++ ys) i 0) (omega (arith, p.long)) ∙ get_or-append-add xs ys k 0
 
-  joined_below : (k : ℕ) → get_or (xs ++ ys) k 0 < bound
+  pub joined_below : (k : ℕ) → get_or (xs ++ ys) k 0 < bound
   joined_below k =
       elim (cases_lt k 16) [
         | inl lt ↦ omega (arith, in_first k lt, p.below k)

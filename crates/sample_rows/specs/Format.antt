@@ -1,5 +1,5 @@
 -- The formats of pixels. A pixel is its channels in order: Y, or R, G and B, and then alpha where the format has it.
-use Rattle.std.specs.Prelude.{ℕ, ◌*◌, ◌-◌, ◌^◌, Bool, true, false, List, codes}
+use Rattle.std.specs.Prelude.{ℕ, ◌*◌, ◌-◌, ◌^◌, ◌==◌, ◌&&◌, Bool, true, false, List, codes}
 use Rattle.sample_rows.specs.declared.format.Format.{Format}
 use Rattle.sample_rows.specs.declared.format.Format.TheVariants.{Y8, YA8, RGB8, RGBA8, Y16, YA16, RGB16, RGBA16}
 
@@ -58,3 +58,7 @@ greatest format = greatest_of (depth format)
 -- the bytes of a pixel
 abbrev pub pixel_bytes : Format → ℕ
 pixel_bytes format = channels format * depth format
+
+-- two formats are one: no other has as many channels and as many bytes a sample
+abbrev pub same_format : Format → Format → Bool
+same_format a b = channels a == channels b && depth a == depth b

@@ -12,3 +12,8 @@ pub mod SizeLaws
 pub mod Extremes
 pub mod Over
 pub mod Planes
+pub mod Averages
+pub mod Gain
+pub mod Convert
+pub mod Parts
+pub mod PartsLaws

@@ -3,6 +3,7 @@
 ghost use Rattle.std.specs.Prelude.{◌≡◌, ℕ, ◌+◌, ◌*◌, ◌/◌, ◌%◌, ◌<◌, ◌≤◌, length, refl};
 ghost use Rattle.std.proofs.Common.{rules};
 ghost use Rattle.sample_rows.specs.Average.{mean_of_four, mean_pixel};
+ghost use Rattle.sample_rows.specs.Averages.{Averages};
 ghost use Rattle.sample_rows.specs.Format.{pixel_bytes};
 ghost use Rattle.sample_rows.specs.Groups.{MapsPairs, SameGroups, groups};
 ghost use Rattle.sample_rows.specs.Lanes.{HoldTwo};
@@ -17,6 +18,44 @@ use crate::layout::{AlphaOfFour, AlphaOfTwo, Layout, Opaque};
 use crate::vectors::{load_three, load_two, store_three};
 use crate::word_lanes::WordLanes;
 use std::marker::PhantomData;
+
+/// Writes to `dst` a row half as long as `up` and `down`, the row below it: each of its pixels is
+/// the mean of two neighbours of the one and the two below them, in each channel and rounded to
+/// the nearest.
+pub fn row_average4(f: Format, up: &[u8], down: &[u8], dst: &mut [u8])
+    requires whole { length dst.old % pixel_bytes f ≡ 0 }
+    requires up_length { length up.now ≡ 2 * length dst.old }
+    requires down_length { length down.now ≡ 2 * length dst.old }
+    ensures { HasPixels f dst.new (λ k. mean_pixel
+        (pixel_at f up.now (2 * k)) (pixel_at f up.now (2 * k + 1)) (pixel_at f down.now (2 * k)) (pixel_at f down.now (2 * k + 1))) }
+{
+    match f {
+        Format::Y8 => average_pixels::<ByteLanes, Opaque>(up, down, dst),
+        Format::YA8 => average_pixels::<ByteLanes, AlphaOfTwo>(up, down, dst),
+        Format::RGB8 => average_colours::<ByteLanes>(up, down, dst),
+        Format::RGBA8 => average_pixels::<ByteLanes, AlphaOfFour>(up, down, dst),
+        Format::Y16 => average_pixels::<WordLanes, Opaque>(up, down, dst),
+        Format::YA16 => average_pixels::<WordLanes, AlphaOfTwo>(up, down, dst),
+        Format::RGB16 => average_colours::<WordLanes>(up, down, dst),
+        Format::RGBA16 => average_pixels::<WordLanes, AlphaOfFour>(up, down, dst),
+    }
+}
+
+fn average_pixels<L: Lanes, P: Layout>(up: &[u8], down: &[u8], dst: &mut [u8])
+    requires first { SameGroups (groups (2 * P.channels) L.depth) (groups P.channels L.depth) up.now dst.old }
+    requires second { SameGroups (groups (2 * P.channels) L.depth) (groups P.channels L.depth) down.now dst.old }
+    ensures { Averages P.channels L.depth up.now down.now dst.new }
+{
+    transform_rows(&Average::<L, P> { of: PhantomData }, up, down, dst);
+}
+
+fn average_colours<L: Lanes>(up: &[u8], down: &[u8], dst: &mut [u8])
+    requires first { SameGroups (groups 6 L.depth) (groups 3 L.depth) up.now dst.old }
+    requires second { SameGroups (groups 6 L.depth) (groups 3 L.depth) down.now dst.old }
+    ensures { Averages 3 L.depth up.now down.now dst.new }
+{
+    transform_rows(&AverageColours::<L> { of: PhantomData }, up, down, dst);
+}
 
 /// The means of two pixels of one row and the two below them.
 #[derive(Clone, Copy)]

@@ -16,7 +16,7 @@ use std::simd::prelude::*;
 /// Sixteen samples of one byte.
 #[derive(Clone, Copy)]
 pub(crate) struct ByteLanes {
-    lanes: u8x16,
+    pub(crate) lanes: u8x16,
     ghost samples: { AreLanes 256 lanes },
 }
 
@@ -28,6 +28,10 @@ impl Lanes for ByteLanes {
     ghost BYTES = { 16 };
 
     const BYTES: usize = 16;
+
+    ghost LEVELS = { 256 };
+
+    const LEVELS: u64 = 256;
 
     #[inline(always)]
     fn load(src: &[u8]) -> Self {
@@ -124,6 +128,34 @@ impl Lanes for ByteLanes {
         let sum = self.lanes.cast::<u16>() * weights.lanes.cast::<u16>() + u16x16::splat(127);
         ByteLanes {
             lanes: (sum / u16x16::splat(255)).cast::<u8>(),
+        }
+    }
+
+    #[inline(always)]
+    fn scale(self, factor: u64, offset: u64) -> Self {
+        let products = self.lanes.cast::<u32>() * u32x16::splat(factor as u32);
+        let scaled = (products + u32x16::splat(offset as u32)) >> u32x16::splat(24);
+        ByteLanes {
+            lanes: scaled.cast::<u8>(),
+        }
+    }
+
+    #[inline(always)]
+    fn divide(self, number: u64, offset: u64, divisor: u64) -> Self {
+        let products = self.lanes.cast::<u64>() * u64x16::splat(number);
+        let sums = products + u64x16::splat(offset);
+        let quotients = sums / u64x16::splat(divisor);
+        let most = u64x16::splat(255);
+        ByteLanes {
+            lanes: quotients.simd_min(most).cast::<u8>(),
+        }
+    }
+
+    #[inline(always)]
+    fn greatest_above(self, colours: Self, limits: Self) -> Self {
+        let within = colours.lanes.simd_le(limits.lanes);
+        ByteLanes {
+            lanes: within.select(self.lanes, u8x16::splat(u8::MAX)),
         }
     }
 
@@ -231,4 +263,12 @@ impl Lanes for ByteLanes {
     ghost some_depth = { Prim.search rules };
 
     ghost few = { Prim.search rules };
+
+    ghost fits = { λ v j. Prim.search (rules, v.samples.below j) };
+
+    ghost levels = { refl };
+
+    ghost some_levels = { Prim.search rules };
+
+    ghost few_levels = { Prim.search rules };
 }

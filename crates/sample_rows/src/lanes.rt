@@ -1,9 +1,10 @@
 //! Sixteen samples side by side, as the kernels compute them.
 
-ghost use Rattle.std.specs.Prelude.{◌≡◌, ℕ, ◌+◌, ◌-◌, ◌*◌, ◌/◌, ◌%◌, ◌^◌, ◌<◌, ◌≤◌, ◌==◌, length, slice_index, min, max, if◌then◌else◌};
+ghost use Rattle.std.specs.Prelude.{◌≡◌, ℕ, ◌+◌, ◌-◌, ◌*◌, ◌/◌, ◌%◌, ◌^◌, ◌<◌, ◌≤◌, ◌==◌, length, slice_index, min, max, nat_le, if◌then◌else◌};
 ghost use Rattle.sample_rows.specs.Add.{added};
 ghost use Rattle.sample_rows.specs.Average.{mean_of_four, mean_of_three};
 ghost use Rattle.sample_rows.specs.Format.{greatest_of};
+ghost use Rattle.sample_rows.specs.Gain.{unit_of};
 ghost use Rattle.sample_rows.specs.Lanes.{Hold, HoldThree, HoldTwo};
 ghost use Rattle.sample_rows.specs.Mask.{weighed};
 ghost use Rattle.sample_rows.specs.Row.{sample_at};
@@ -21,6 +22,11 @@ pub(crate) trait Lanes: Copy {
 
     /// The bytes of the sixteen samples.
     const BYTES: usize;
+
+    ghost LEVELS: { ℕ };
+
+    /// How many values a sample has.
+    const LEVELS: u64;
 
     /// The first sixteen samples of a row.
     fn load(src: &[u8]) -> Self
@@ -79,6 +85,25 @@ pub(crate) trait Lanes: Copy {
     fn weigh(self, weights: Self) -> Self
         ensures { Hold (lane result) (λ j. weighed (greatest_of depth) (lane self j) (lane weights j)) };
 
+    /// Each sample times a factor, with an offset; both are counted in parts of 65,536 times the
+    /// number of levels.
+    fn scale(self, factor: u64, offset: u64) -> Self
+        requires factor { factor < LEVELS * unit_of depth }
+        requires small { (j : ℕ) → j < 16 → lane self j * factor + offset < LEVELS * unit_of depth }
+        ensures { Hold (lane result) (λ j. (lane self j * factor + offset) / unit_of depth) };
+
+    /// Each sample times a number, with an offset, divided by another number, and at most the
+    /// greatest sample.
+    fn divide(self, number: u64, offset: u64, divisor: u64) -> Self
+        requires number { number < 2 ^ 32 }
+        requires offset { offset < 2 ^ 32 }
+        requires divisor { 0 < divisor }
+        ensures { Hold (lane result) (λ j. min (greatest_of depth) ((lane self j * number + offset) / divisor)) };
+
+    /// The greatest sample where a colour is above its limit, and else the sample.
+    fn greatest_above(self, colours: Self, limits: Self) -> Self
+        ensures { Hold (lane result) (λ j. if nat_le (lane colours j) (lane limits j) then lane self j else greatest_of depth) };
+
     fn mean_of_three(self, second: Self, third: Self) -> Self
         ensures { Hold (lane result) (λ j. mean_of_three (lane self j) (lane second j) (lane third j)) };
 
@@ -121,4 +146,12 @@ pub(crate) trait Lanes: Copy {
     ghost some_depth: { 0 < depth };
 
     ghost few: { BYTES ≤ 32 };
+
+    ghost fits: { (v : Self) (j : ℕ) → lane v j ≤ greatest_of depth };
+
+    ghost levels: { LEVELS ≡ 256 ^ depth };
+
+    ghost some_levels: { 0 < LEVELS };
+
+    ghost few_levels: { LEVELS ≤ 65536 };
 }

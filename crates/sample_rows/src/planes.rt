@@ -40,6 +40,8 @@ pub(crate) trait Planes<L: Lanes>: Copy {
 
     ghost some_channels: { 0 < channels };
 
+    ghost few_channels: { channels ≤ 4 };
+
     ghost whole: { BYTES ≡ 16 * (channels * L.depth) };
 
     ghost few: { BYTES ≤ 128 };
@@ -48,7 +50,7 @@ pub(crate) trait Planes<L: Lanes>: Copy {
 /// Pixels of one sample.
 #[derive(Clone, Copy)]
 pub(crate) struct Grey<L> {
-    grey: L,
+    pub(crate) grey: L,
 }
 
 impl<L: Lanes> Planes<L> for Grey<L> {
@@ -79,6 +81,8 @@ impl<L: Lanes> Planes<L> for Grey<L> {
 
     ghost some_channels = { Prim.search rules };
 
+    ghost few_channels = { Prim.search rules };
+
     ghost whole = { planes_bytes 1 L.BYTES L.BYTES L.depth (Prim.search rules) L.sixteen };
 
     ghost few = { few_bytes 1 L.BYTES L.BYTES (Prim.search rules) L.few (Prim.search rules) };
@@ -87,8 +91,8 @@ impl<L: Lanes> Planes<L> for Grey<L> {
 /// Pixels of grey and alpha.
 #[derive(Clone, Copy)]
 pub(crate) struct GreyAlpha<L> {
-    grey: L,
-    alpha: L,
+    pub(crate) grey: L,
+    pub(crate) alpha: L,
 }
 
 impl<L: Lanes> Planes<L> for GreyAlpha<L> {
@@ -123,6 +127,8 @@ impl<L: Lanes> Planes<L> for GreyAlpha<L> {
 
     ghost some_channels = { Prim.search rules };
 
+    ghost few_channels = { Prim.search rules };
+
     ghost whole = { planes_bytes 2 (2 * L.BYTES) L.BYTES L.depth refl L.sixteen };
 
     ghost few = { few_bytes 2 (2 * L.BYTES) L.BYTES refl L.few (Prim.search rules) };
@@ -131,9 +137,9 @@ impl<L: Lanes> Planes<L> for GreyAlpha<L> {
 /// Pixels of three colours.
 #[derive(Clone, Copy)]
 pub(crate) struct Colours<L> {
-    red: L,
-    green: L,
-    blue: L,
+    pub(crate) red: L,
+    pub(crate) green: L,
+    pub(crate) blue: L,
 }
 
 impl<L: Lanes> Planes<L> for Colours<L> {
@@ -169,6 +175,8 @@ impl<L: Lanes> Planes<L> for Colours<L> {
 
     ghost some_channels = { Prim.search rules };
 
+    ghost few_channels = { Prim.search rules };
+
     ghost whole = { planes_bytes 3 (3 * L.BYTES) L.BYTES L.depth refl L.sixteen };
 
     ghost few = { few_bytes 3 (3 * L.BYTES) L.BYTES refl L.few (Prim.search rules) };
@@ -177,10 +185,10 @@ impl<L: Lanes> Planes<L> for Colours<L> {
 /// Pixels of three colours and alpha.
 #[derive(Clone, Copy)]
 pub(crate) struct ColoursAlpha<L> {
-    red: L,
-    green: L,
-    blue: L,
-    alpha: L,
+    pub(crate) red: L,
+    pub(crate) green: L,
+    pub(crate) blue: L,
+    pub(crate) alpha: L,
 }
 
 impl<L: Lanes> Planes<L> for ColoursAlpha<L> {
@@ -227,6 +235,8 @@ impl<L: Lanes> Planes<L> for ColoursAlpha<L> {
     }
 
     ghost some_channels = { Prim.search rules };
+
+    ghost few_channels = { Prim.search rules };
 
     ghost whole = { planes_bytes 4 (4 * L.BYTES) L.BYTES L.depth refl L.sixteen };
 

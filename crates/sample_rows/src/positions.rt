@@ -99,3 +99,9 @@ pub(crate) const THIRD_JOINED_BY_TWO: [usize; 16] = [
 pub(crate) const THIRD_JOINED_BY_LAST: [usize; 16] = [
     26, 1, 2, 27, 4, 5, 28, 7, 8, 29, 10, 11, 30, 13, 14, 31,
 ];
+
+/// Each lane twice.
+pub(crate) const DOUBLED: [usize; 32] = [
+    0, 0, 1, 1, 2, 2, 3, 3, 4, 4, 5, 5, 6, 6, 7, 7, 8, 8, 9, 9, 10, 10, 11, 11, 12, 12, 13, 13, 14,
+    14, 15, 15,
+];

@@ -16,7 +16,7 @@ use std::simd::prelude::*;
 /// Sixteen samples of two bytes, the less significant first.
 #[derive(Clone, Copy)]
 pub(crate) struct WordLanes {
-    lanes: u16x16,
+    pub(crate) lanes: u16x16,
     ghost samples: { AreLanes 65536 lanes },
 }
 
@@ -28,6 +28,10 @@ impl Lanes for WordLanes {
     ghost BYTES = { 32 };
 
     const BYTES: usize = 32;
+
+    ghost LEVELS = { 65536 };
+
+    const LEVELS: u64 = 65536;
 
     #[inline(always)]
     fn load(src: &[u8]) -> Self {
@@ -126,6 +130,34 @@ impl Lanes for WordLanes {
         let quotient = (sum + u32x16::splat(1) + (sum >> u32x16::splat(16))) >> u32x16::splat(16);
         WordLanes {
             lanes: quotient.cast::<u16>(),
+        }
+    }
+
+    #[inline(always)]
+    fn scale(self, factor: u64, offset: u64) -> Self {
+        let products = self.lanes.cast::<u64>() * u64x16::splat(factor);
+        let scaled = (products + u64x16::splat(offset)) >> u64x16::splat(32);
+        WordLanes {
+            lanes: scaled.cast::<u16>(),
+        }
+    }
+
+    #[inline(always)]
+    fn divide(self, number: u64, offset: u64, divisor: u64) -> Self {
+        let products = self.lanes.cast::<u64>() * u64x16::splat(number);
+        let sums = products + u64x16::splat(offset);
+        let quotients = sums / u64x16::splat(divisor);
+        let most = u64x16::splat(65_535);
+        WordLanes {
+            lanes: quotients.simd_min(most).cast::<u16>(),
+        }
+    }
+
+    #[inline(always)]
+    fn greatest_above(self, colours: Self, limits: Self) -> Self {
+        let within = colours.lanes.simd_le(limits.lanes);
+        WordLanes {
+            lanes: within.select(self.lanes, u16x16::splat(u16::MAX)),
         }
     }
 
@@ -233,4 +265,12 @@ impl Lanes for WordLanes {
     ghost some_depth = { Prim.search rules };
 
     ghost few = { Prim.search rules };
+
+    ghost fits = { λ v j. Prim.search (rules, v.samples.below j) };
+
+    ghost levels = { refl };
+
+    ghost some_levels = { Prim.search rules };
+
+    ghost few_levels = { Prim.search rules };
 }

@@ -1,4 +1,4 @@
-use Rattle.std.proofs.Common.{ℕ, ◌+◌, ◌*◌, ap, ◌∙◌, arith}
+use Rattle.std.proofs.Common.{ℕ, ◌+◌, ap, ◌∙◌, arith}
 use Rattle.sample_rows.specs.Row.{sample_at}
 use Rattle.sample_rows.proofs.average.load_colours.Goals as goal
 

@@ -6,5 +6,9 @@ pub returns : goal.returns
 returns g c s t both below k i lt within =
     let up = c.halves-first.ensures in
     let down = c.halves-third.ensures in
-    c.mean_of_four.ensures (k * g.P.Layout.channels + i) (g.met.P.Layout.place k i lt within)
-    ∙ (λ p. mean_of_four (up.even s both k i lt within p) (up.odd s both k i lt within p) (down.even t below k i lt within p) (down.odd t below k i lt within p))
+    let lane = g.L.Lanes.lane in
+    let at = k * g.P.Layout.channels + i in
+    ◌∙◌
+    {b = mean_of_four (lane c.halves-first.result.0 at) (lane c.halves-first.result.1 at) (lane c.halves-third.result.0 at) (lane c.halves-third.result.1 at)}
+    (c.mean_of_four.ensures at (g.met.P.Layout.place k i lt within))
+    (λ p. mean_of_four (up.even s both k i lt within p) (up.odd s both k i lt within p) (down.even t below k i lt within p) (down.odd t below k i lt within p))

@@ -1,4 +1,3 @@
-use Rattle.std.proofs.Common.{ap, ◌∙◌, arith}
 use Rattle.sample_rows.proofs.VectorLaws.{sixteen_more}
 use Rattle.sample_rows.proofs.vectors.store_four.Goals as goal
 

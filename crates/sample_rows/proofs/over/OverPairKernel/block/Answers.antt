@@ -1,4 +1,4 @@
-use Rattle.std.proofs.Common.{◌≡◌, ◌+◌, ◌-◌, ◌*◌, ap, ◌∙◌}
+use Rattle.std.proofs.Common.{◌≡◌, ◌+◌, ◌-◌, ◌*◌, ◌∙◌}
 use Rattle.sample_rows.specs.Add.{added}
 use Rattle.sample_rows.specs.Format.{greatest_of}
 use Rattle.sample_rows.specs.Groups.{group_at, groups}
@@ -19,8 +19,9 @@ returns g c k i lt within =
     c.caps.ensures k i lt within
     ∙ g.met.P.Layout.cap_of_pixel most (λ j. L.lane c.load-top.result (k * P.channels + j)) top (λ j inside. c.load-top.ensures (k * P.channels + j) (place k j lt inside)) in
     let left : L.lane c.saturating_sub-left.result at ≡ most - P.cap most top =
-    c.saturating_sub-left.ensures at near ∙ ap (λ m. m - L.lane c.caps.result at) (c.greatest.ensures at near) ∙ ap (λ x. most - x) cap in
+    ◌∙◌ {b = L.lane c.greatest.result at - L.lane c.caps.result at} (c.saturating_sub-left.ensures at near) (λ p. c.greatest.ensures at near p - cap p) in
     let below : L.lane c.weigh-below.result at ≡ weighed most (bottom i) (most - P.cap most top) =
-    c.weigh-below.ensures at near ∙ ap (λ x. weighed most x (L.lane c.saturating_sub-left.result at)) (c.load.ensures at near) ∙ ap (weighed most (bottom i)) left in
-    c.store.ensures.here at near ∙ c.saturating_add.ensures at near
-    ∙ ap (λ x. added most x (L.lane c.weigh-below.result at)) (c.load-top.ensures at near) ∙ ap (added most (top i)) below
+    ◌∙◌ {b = weighed most (L.lane c.load.result at) (L.lane c.saturating_sub-left.result at)} (c.weigh-below.ensures at near)
+    (λ p. weighed most (c.load.ensures at near p) (left p)) in
+    c.store.ensures.here at near
+    ∙ ◌∙◌ {b = added most (L.lane c.load-top.result at) (L.lane c.weigh-below.result at)} (c.saturating_add.ensures at near) (λ p. added most (c.load-top.ensures at near p) (below p))

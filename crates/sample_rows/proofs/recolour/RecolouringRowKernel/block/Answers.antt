@@ -1,4 +1,4 @@
-use Rattle.std.proofs.Common.{◌≡◌, ◌+◌, ◌*◌, cond, ap, ◌∙◌}
+use Rattle.std.proofs.Common.{◌≡◌, ◌+◌, ◌*◌, cond, ◌∙◌}
 use Rattle.sample_rows.specs.Format.{greatest_of}
 use Rattle.sample_rows.specs.Groups.{group_at, groups}
 use Rattle.sample_rows.proofs.recolour.RecolouringRowKernel.block.Goals as goal
@@ -18,7 +18,6 @@ returns g c k i lt within =
     ∙ g.met.P.Layout.cap_of_pixel (greatest_of L.depth) (λ j. L.lane c.load-samples.result (k * P.channels + j)) pixel
     (λ j inside. c.load-samples.ensures (k * P.channels + j) (place k j lt inside)) in
     let changed : L.lane c.recolour-changed.result at ≡ change (P.cap (greatest_of L.depth) pixel) (pixel i) =
-    c.recolour-changed.ensures at near ∙ ap (λ x. change x (L.lane c.load-samples.result at)) cap ∙ ap (change (P.cap (greatest_of L.depth) pixel)) read in
-    c.store.ensures.here at near ∙ c.with_alpha.ensures k i lt within
-    ∙ ap (λ x. cond (P.is_alpha i) x (L.lane c.recolour-changed.result at)) read
-    ∙ ap (λ x. cond (P.is_alpha i) (pixel i) x) changed
+    ◌∙◌ {b = change (L.lane c.caps.result at) (L.lane c.load-samples.result at)} (c.recolour-changed.ensures at near) (λ p. change (cap p) (read p)) in
+    ◌∙◌ {b = cond (P.is_alpha i) (L.lane c.load-samples.result at) (L.lane c.recolour-changed.result at)}
+    (c.store.ensures.here at near ∙ c.with_alpha.ensures k i lt within) (λ p. cond (P.is_alpha i) (read p) (changed p))

@@ -1,0 +1,123 @@
+//! Converting rows from one format to another.
+
+ghost use Rattle.std.specs.Prelude.{◌≡◌, ℕ, ◌+◌, ◌*◌, ◌/◌, ◌%◌, ◌<◌, ◌≤◌, length};
+ghost use Rattle.std.proofs.Common.{rules};
+ghost use Rattle.sample_rows.specs.Convert.{converted_pixel, rescaled};
+ghost use Rattle.sample_rows.specs.Format.{channels, depth, greatest_of, pixel_bytes};
+ghost use Rattle.sample_rows.specs.Groups.{Maps, SameGroups, groups};
+ghost use Rattle.sample_rows.specs.Parts.{part_for};
+ghost use Rattle.sample_rows.specs.Row.{HasPixels, pixel_at, pixel_count};
+ghost use Rattle.sample_rows.specs.SizeLaws.{some_bytes};
+
+use crate::blocks::{RowKernel, transform_row};
+use crate::byte_lanes::ByteLanes;
+use crate::depths::Rescale;
+use crate::format::Format;
+use crate::lanes::Lanes;
+use crate::parts::{FromParts, Parts};
+use crate::planes::{Colours, ColoursAlpha, Grey, GreyAlpha};
+use crate::word_lanes::WordLanes;
+use std::marker::PhantomData;
+
+/// Writes the row `src` of one format to `dst` in another: first the channels are converted, at
+/// the depth that they have, and then the depth. Grey becomes three equal colours, three colours
+/// their mean; alpha is kept, left out, or added as the greatest sample. Samples are rounded to
+/// the nearest.
+pub fn convert_row(from: Format, src: &[u8], to: Format, dst: &mut [u8])
+    requires whole { length src.now % pixel_bytes from ≡ 0 }
+    requires same_count { length dst.old ≡ pixel_count from src.now * pixel_bytes to }
+    ensures { HasPixels to dst.new (λ k. converted_pixel from to (pixel_at from src.now k)) }
+{
+    if from == to {
+        dst.copy_from_slice(src);
+        return;
+    }
+    match (from.depth(), to.depth()) {
+        (1, 1) => convert_layout::<ByteLanes, ByteLanes>(from, src, to, dst),
+        (1, _) => convert_layout::<ByteLanes, WordLanes>(from, src, to, dst),
+        (_, 1) => convert_layout::<WordLanes, ByteLanes>(from, src, to, dst),
+        _ => convert_layout::<WordLanes, WordLanes>(from, src, to, dst),
+    }
+}
+
+fn convert_layout<S: Rescale<D>, D: Lanes>(from: Format, src: &[u8], to: Format, dst: &mut [u8])
+    requires depth { depth from ≡ S.depth }
+    requires to_depth { depth to ≡ D.depth }
+    requires whole { length src.now % pixel_bytes from ≡ 0 }
+    requires same_count { length dst.old ≡ pixel_count from src.now * pixel_bytes to }
+    ensures { HasPixels to dst.new (λ k. converted_pixel from to (pixel_at from src.now k)) }
+{
+    if from.channels() == to.channels() {
+        return convert_pixels::<S, D, Grey<S>, Grey<D>>(src, dst);
+    }
+    match from.channels() {
+        1 => convert_channels::<S, D, Grey<S>>(src, to, dst),
+        2 => convert_channels::<S, D, GreyAlpha<S>>(src, to, dst),
+        3 => convert_channels::<S, D, Colours<S>>(src, to, dst),
+        _ => convert_channels::<S, D, ColoursAlpha<S>>(src, to, dst),
+    }
+}
+
+fn convert_channels<S: Rescale<D>, D: Lanes, P: Parts<S>>(src: &[u8], to: Format, dst: &mut [u8])
+    requires { SameGroups (groups P.channels S.depth) (groups (channels to) D.depth) src.now dst.old }
+    ensures { Maps (groups P.channels S.depth) (groups (channels to) D.depth) (length dst.new / (channels to * D.depth))
+        (λ pixel i. rescaled S.depth D.depth (P.parts (greatest_of S.depth) pixel (part_for (channels to) i))) src.now dst.new }
+{
+    match to.channels() {
+        1 => convert_pixels::<S, D, P, Grey<D>>(src, dst),
+        2 => convert_pixels::<S, D, P, GreyAlpha<D>>(src, dst),
+        3 => convert_pixels::<S, D, P, Colours<D>>(src, dst),
+        _ => convert_pixels::<S, D, P, ColoursAlpha<D>>(src, dst),
+    }
+}
+
+/// Pixels of one layout and depth from those of another.
+#[derive(Clone, Copy)]
+struct Conversion<S, D, P, Q> {
+    of: PhantomData<(S, D, P, Q)>,
+}
+
+impl<S: Rescale<D>, D: Lanes, P: Parts<S>, Q: FromParts<D>> RowKernel for Conversion<S, D, P, Q> {
+    ghost value = { λ s pixel i. rescaled S.depth D.depth (P.parts (greatest_of S.depth) pixel (part_for Q.channels i)) };
+
+    ghost from = { groups P.channels S.depth };
+
+    ghost to = { groups Q.channels D.depth };
+
+    ghost count = { 16 };
+
+    ghost READ = { P.BYTES };
+
+    ghost WRITTEN = { Q.BYTES };
+
+    const READ: usize = P::BYTES;
+
+    const WRITTEN: usize = Q::BYTES;
+
+    #[inline(always)]
+    fn block(&self, src: &[u8], dst: &mut [u8]) {
+        Q::from_parts::<S, P>(P::load(src)).store(dst);
+    }
+
+    ghost some_groups = { Prim.search rules };
+
+    ghost some_read = { some_bytes P.channels S.depth P.some_channels S.some_depth };
+
+    ghost some_written = { some_bytes Q.channels D.depth Q.some_channels D.some_depth };
+
+    ghost read_bytes = { P.whole };
+
+    ghost written_bytes = { Q.whole };
+
+    ghost read_few = { Prim.search (rules, P.few) };
+
+    ghost written_few = { Prim.search (rules, Q.few) };
+}
+
+fn convert_pixels<S: Rescale<D>, D: Lanes, P: Parts<S>, Q: FromParts<D>>(src: &[u8], dst: &mut [u8])
+    requires { SameGroups (groups P.channels S.depth) (groups Q.channels D.depth) src.now dst.old }
+    ensures { Maps (groups P.channels S.depth) (groups Q.channels D.depth) (length dst.new / (Q.channels * D.depth))
+        (λ pixel i. rescaled S.depth D.depth (P.parts (greatest_of S.depth) pixel (part_for Q.channels i))) src.now dst.new }
+{
+    transform_row(Conversion::<S, D, P, Q> { of: PhantomData }, src, dst);
+}

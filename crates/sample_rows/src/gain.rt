@@ -1,0 +1,162 @@
+//! Multiplying colours.
+
+ghost use Rattle.std.specs.Prelude.{◌≡◌, ℕ, ◌+◌, ◌-◌, ◌*◌, ◌/◌, ◌%◌, ◌^◌, ◌<◌, ◌≤◌, length, min, nat_le, if◌then◌else◌, ⊤};
+ghost use Rattle.sample_rows.specs.Format.{greatest_of, pixel_bytes};
+ghost use Rattle.sample_rows.specs.Gain.{gained, gained_pixel, scaled, unit_of};
+ghost use Rattle.sample_rows.specs.Row.{HasPixels, pixel_at};
+
+use crate::byte_lanes::ByteLanes;
+use crate::format::Format;
+use crate::lanes::Lanes;
+use crate::recolour::{Recolour, recolour_row};
+use crate::word_lanes::WordLanes;
+use std::alloc::AllocError;
+use std::marker::PhantomData;
+
+/// The greatest number and divisor of a gain that is done by a multiplication.
+const MOST: u32 = 65_535;
+
+/// Multiplies each colour by num / den without a division: `factor` and `offset` are num / den and
+/// one half in parts of 65,536 times the levels of a sample. Colours above `last` would come out
+/// above the greatest sample.
+struct Gain<L: Lanes> {
+    factor: u64,
+    offset: u64,
+    last: u32,
+    of: PhantomData<L>,
+    ghost factor_fits: { factor < L.LEVELS * unit_of L.depth },
+    ghost small: { last * factor + offset < L.LEVELS * unit_of L.depth },
+    ghost last_fits: { last ≤ greatest_of L.depth },
+}
+
+impl<L: Lanes> Clone for Gain<L> {
+    ghost is_clone = { λ x y. y ≡ x };
+
+    ghost is_infallible = { λ _. ⊤ };
+
+    fn clone(&self) -> Result<Self, AllocError> {
+        Ok(*self)
+    }
+}
+
+impl<L: Lanes> Copy for Gain<L> {}
+
+impl<L: Lanes> Recolour<L> for Gain<L> {
+    ghost change = { λ s. scaled L.depth s.factor s.offset s.last };
+
+    #[inline(always)]
+    fn recolour(&self, caps: L, colours: L) -> L {
+        let last = L::splat(self.last);
+        let scaled = colours.min(last).scale(self.factor, self.offset);
+        caps.min(scaled.greatest_above(colours, last))
+    }
+}
+
+impl<L: Lanes> Gain<L> {
+    fn new(num: u32, den: u32) -> Self
+        requires num { num ≤ 65535 }
+        requires some { 0 < den }
+        requires den { den ≤ 65535 }
+        ensures { (cap colour : ℕ) → cap ≤ greatest_of L.depth → colour ≤ greatest_of L.depth
+            → scaled L.depth result.factor result.offset result.last cap colour ≡ gained num den cap colour }
+    {
+        let factors = factors_of(u64::from(num), u64::from(den), L::LEVELS);
+        Gain {
+            factor: factors.factor,
+            offset: factors.offset,
+            last: factors.last,
+            of: PhantomData,
+        }
+    }
+}
+
+/// The numbers of a gain.
+#[derive(Clone, Copy)]
+struct Factors {
+    factor: u64,
+    offset: u64,
+    last: u32,
+}
+
+/// The numbers of a gain by num / den, for samples of so many levels.
+fn factors_of(num: u64, den: u64, levels: u64) -> Factors
+    requires num { num ≤ 65535 }
+    requires some { 0 < den }
+    requires den { den ≤ 65535 }
+    requires some_levels { 0 < levels }
+    requires few_levels { levels ≤ 65536 }
+    ensures factor_fits { result.factor < levels * (65536 * levels) }
+    ensures small { result.last * result.factor + result.offset < levels * (65536 * levels) }
+    ensures last_fits { result.last < levels }
+    ensures exact { (cap colour : ℕ) → cap < levels → colour < levels
+        → min cap (if nat_le colour result.last then (colour * result.factor + result.offset) / (65536 * levels) else levels - 1)
+        ≡ gained num den cap colour }
+{
+    let half = den / 2;
+    let unit = 65_536 * levels;
+    let factor = (num * unit).div_ceil(den);
+    Factors {
+        factor: factor.min(unit * levels - 1),
+        offset: (half * unit).div_ceil(den),
+        last: last_within(num, den, levels),
+    }
+}
+
+/// The greatest sample that comes out below the number of levels.
+fn last_within(num: u64, den: u64, levels: u64) -> u32
+    requires num { num ≤ 65535 }
+    requires some { 0 < den }
+    requires den { den ≤ 65535 }
+    requires some_levels { 0 < levels }
+    requires few_levels { levels ≤ 65536 }
+    ensures bound { result < levels }
+    ensures within { result * num + den / 2 < levels * den }
+    ensures last { (colour : ℕ) → result < colour → colour < levels → levels * den ≤ colour * num + den / 2 }
+{
+    if num == 0 {
+        return (levels - 1) as u32;
+    }
+    let most = levels * den - 1 - den / 2;
+    (most / num).min(levels - 1) as u32
+}
+
+/// Divides each multiplied colour.
+#[derive(Clone, Copy)]
+struct Division {
+    num: u32,
+    den: u32,
+    ghost some: { 0 < den },
+}
+
+impl<L: Lanes> Recolour<L> for Division {
+    ghost change = { λ s. gained s.num s.den };
+
+    #[inline(always)]
+    fn recolour(&self, caps: L, colours: L) -> L {
+        let den = u64::from(self.den);
+        let half = u64::from(self.den / 2);
+        caps.min(colours.divide(u64::from(self.num), half, den))
+    }
+}
+
+/// Writes the row `src` to `dst` with each colour multiplied by `num / den`, rounded to the nearest
+/// and at most its cap, which is the pixel's alpha or, in a format without alpha, the greatest
+/// sample. Alpha stays.
+pub fn row_gain(f: Format, num: u32, den: u32, src: &[u8], dst: &mut [u8])
+    requires some { 0 < den }
+    requires whole { length src.now % pixel_bytes f ≡ 0 }
+    requires same_length { length dst.old ≡ length src.now }
+    ensures { HasPixels f dst.new (λ k. gained_pixel f num den (pixel_at f src.now k)) }
+{
+    if num > MOST || den > MOST {
+        let division = Division { num, den };
+        return match f.depth() {
+            1 => recolour_row::<ByteLanes, Division>(f, division, src, dst),
+            _ => recolour_row::<WordLanes, Division>(f, division, src, dst),
+        };
+    }
+    match f.depth() {
+        1 => recolour_row::<ByteLanes, Gain<ByteLanes>>(f, Gain::new(num, den), src, dst),
+        _ => recolour_row::<WordLanes, Gain<WordLanes>>(f, Gain::new(num, den), src, dst),
+    }
+}
