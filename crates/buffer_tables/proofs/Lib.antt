@@ -1,0 +1,11 @@
+pub mod FindLaws
+pub mod CutLaws
+pub mod TableLaws
+pub mod AddingLaws
+pub mod AnswerLaws
+pub mod CauseLaws
+pub mod EffectLaws
+pub mod MoveLaws
+pub mod SharingLaws
+pub mod ExactLaws
+pub mod SeenLaws

@@ -1,0 +1,86 @@
+-- Where the places of a rectangle are once it is moved.
+use Rattle.std.proofs.Common.{◌≡◌, ℕ, ℤ, List, pos, ◌+◌, ◌-◌, ◌<◌, ◌+ℤ◌, Bool, true, false, cond, Result, Ok, inl, inr, refl, sym, ap, ◌∙◌, subst, arith}
+use Rattle.std.specs.Prelude.{IfOk}
+use Rattle.std.proofs.lemmas.Int.{ints}
+use Rattle.std.proofs.lemmas.Bool.Decides.{nat_tests}
+use Rattle.plane_rect.specs.declared.rect.RectRefused.{RectRefused}
+use Rattle.plane_rect.specs.Rectangle.{Rectangle, Lies, rectangle, new_rectangle, shifted, is_empty, moved_x, moved_y, plane_coordinate, plane_index}
+use Rattle.plane_rect.proofs.Rectangles.{coordinate_test, extent_test, rectangle-some, plane_coordinate-plane_index}
+use Rattle.sample_rows.specs.Format.{channels}
+use Rattle.images.specs.Image.{at}
+use Rattle.buffer_tables.specs.Table.{Table, image_of, IsTable}
+use Rattle.buffer_tables.specs.Edits.{copied, moved_samples}
+use Rattle.buffer_tables.proofs.AnswerLaws.{copy}
+use Rattle.buffer_tables.proofs.CauseLaws.{box-seen}
+use Rattle.buffer_tables.proofs.TableLaws.{IsWritten-written}
+use Rattle.buffer_tables.proofs.EffectLaws.{Any, written_name}
+
+-- a rectangle begins at these coordinates and has these sides
+pub record BeginsAt (x y : ℤ) (w h : ℕ) (r : Rectangle) : Type 0 where
+  pub left : plane_coordinate r.left ≡ x
+  pub top : plane_coordinate r.top ≡ y
+  pub width : r.width ≡ w
+  pub height : r.height ≡ h
+
+new_rectangle-begins : (x y : ℤ) (w h : ℕ) (r : Rectangle) → 0 < w → 0 < h → new_rectangle x y (pos w) (pos h) ≡ Ok r → BeginsAt x y w h r
+new_rectangle-begins x y w h r wide high e = elim (coordinate_test x) [
+  | inl t ↦ elim (coordinate_test y) [
+    | inl s ↦ elim (extent_test x (pos w)) [
+      | inl p ↦ elim (extent_test y (pos h)) [
+        | inl q ↦
+            let made : rectangle (plane_index x) (plane_index y) w h ≡ r = cc (rw (t.0, s.0, p.0, q.0) at e) in
+            subst (BeginsAt x y w h) (sym (rectangle-some (plane_index x) (plane_index y) w h wide high) ∙ made) (record {
+              left = plane_coordinate-plane_index x t.1.0;
+              top = plane_coordinate-plane_index y s.1.0;
+              width = refl;
+              height = refl;
+            })
+        | inr q ↦ absurd (cc (rw (t.0, s.0, p.0, q.0) at e))
+      ]
+      | inr p ↦ absurd (cc (rw (t.0, s.0, p.0) at e))
+    ]
+    | inr s ↦ absurd (cc (rw (t.0, s.0) at e))
+  ]
+  | inr t ↦ absurd (cc (rw t.0 at e))
+]
+
+pub shifted-begins : (dx dy : ℤ) (r moved : Rectangle) (u v : ℕ) → Lies u v r → shifted dx dy r ≡ Ok moved
+    → BeginsAt (moved_x dx r) (moved_y dy r) r.width r.height moved
+shifted-begins dx dy r moved u v here e =
+    let some : is_empty r ≡ false = grind (arith, nat_tests) in
+    new_rectangle-begins (moved_x dx r) (moved_y dy r) r.width r.height moved (omega (arith, here.column)) (omega (arith, here.row))
+    (opened (is_empty r) (new_rectangle (moved_x dx r) (moved_y dy r) (pos r.width) (pos r.height)) some e)
+  where
+    opened : (b : Bool) (made : Result Rectangle RectRefused) → b ≡ false → cond b (Ok r) made ≡ Ok moved → made ≡ Ok moved
+    opened true made t e = absurd (cc)
+    opened false made t e = e
+
+module _ (dx dy : ℤ) (r moved : Rectangle) (u v mu mv : ℕ) (here : Lies u v r) (m : shifted dx dy r ≡ Ok moved)
+    (column : plane_coordinate mu ≡ (plane_coordinate u +ℤ dx)) (row : plane_coordinate mv ≡ (plane_coordinate v +ℤ dy)) where
+  begins : BeginsAt (moved_x dx r) (moved_y dy r) r.width r.height moved
+  begins = shifted-begins dx dy r moved u v here m
+
+  pub Lies-moved : Lies mu mv moved
+  Lies-moved = let b = begins in record {
+    column = (omega (arith, ints, column, b.left, here.column), omega (arith, ints, column, b.left, b.width, here.column));
+    row = (omega (arith, ints, row, b.top, here.row), omega (arith, ints, row, b.top, b.height, here.row));
+  }
+
+  pub column-back : r.left + (mu - moved.left) ≡ u
+  column-back = let b = begins in omega (arith, ints, column, b.left, here.column)
+
+  pub row-back : r.top + (mv - moved.top) ≡ v
+  row-back = let b = begins in omega (arith, ints, row, b.top, here.row)
+
+pub copied-place : (table : Table) → IsTable table → (from to : List ℕ) (r : Rectangle) (dx dy : ℤ) (u v mu mv c : ℕ) → Lies u v r → c < channels (image_of table to).format
+    → plane_coordinate mu ≡ (plane_coordinate u +ℤ dx) → plane_coordinate mv ≡ (plane_coordinate v +ℤ dy)
+    → IfOk (copied table from to r dx dy) (λ after. at (image_of after to) mu mv c ≡ at (image_of table from) u v c)
+copied-place table is from to r dx dy u v mu mv c here few column row =
+    copy (λ after. at (image_of after to) mu mv c ≡ at (image_of table from) u v c) Any table from to r dx dy
+    (λ _. tt) (λ _ _ _. tt) (λ _ _ _ _ _. tt) (λ _ _ _ _ _. tt) (λ _ _ _ _ _ _. tt) (λ _ _ _ _ _ _ _. tt)
+    (λ source target b moved m there alike.
+    let f = moved_samples (image_of table from) r moved in
+    let all = IsWritten-written table target.root moved f is to (written_name table is to target b.1) (rw (box-seen table to target b.1) there) in
+    all.named mu mv c (Lies-moved dx dy r moved u v mu mv here m column row) few
+    ∙ ap (λ (a : ℕ). at (image_of table from) a (r.top + (mv - moved.top)) c) (column-back dx dy r moved u v mu mv here m column row)
+    ∙ ap (λ (a : ℕ). at (image_of table from) u a c) (row-back dx dy r moved u v mu mv here m column row))

@@ -1,0 +1,54 @@
+-- Inputs, and images that are drawn alike.
+use Rattle.std.proofs.Common.{◌≡◌, ℕ, ◌≤◌, inl, inr, true, false, ◌&&◌, List, ltb, refl, sym, ◌∙◌, arith}
+use Rattle.std.proofs.Math.ListN.{get_or-map}
+use Rattle.std.proofs.lemmas.Bool.{cases_lt}
+use Rattle.std.proofs.lemmas.Bool.Decides.{nat_tests}
+use Rattle.plane_rect.specs.Rectangle.{Rectangle, Lies, meet}
+use Rattle.plane_rect.proofs.Rectangles.{Lies-meet}
+use Rattle.sample_rows.specs.Format.{channels}
+use Rattle.sample_rows.specs.declared.format.Format.{Format}
+use Rattle.images.specs.Image.{Image, at, drawn, lies}
+use Rattle.images.proofs.Laws.{at-drawn, at_outside}
+use Rattle.images.proofs.Samples.{Lies_from, lies_where}
+use Rattle.images.specs.Paint.{no_image}
+use Rattle.operations.specs.Inputs.{boxes_of, formats_of, image_of, input_box, input_format}
+
+-- what holds of the places of a rectangle, and of the others, holds of each
+pub by_places : (P : Type 0) (u v : ℕ) (r : Rectangle) → (Lies u v r → P) → ((Lies u v r → ⊥) → P) → P
+by_places P u v r inside outside =
+    elim (lies u v r) as (λ b. lies u v r ≡ b → P) [
+      | true ↦ λ e. inside (Lies_from u v r e)
+      | false ↦ λ e. outside (λ h. cc (sym (lies_where u v r h) ∙ e))
+    ] refl
+
+pub input_box-image : (images : List Image) (i : ℕ) → input_box (boxes_of images) i ≡ (image_of images i).box
+input_box-image images i = get_or-map (λ (image : Image). image.box) images i no_image
+
+pub input_format-image : (images : List Image) (i : ℕ) → input_format (formats_of images) i ≡ (image_of images i).format
+input_format-image images i = get_or-map (λ (image : Image). image.format) images i no_image
+
+-- a channel that the format lacks is 0
+pub at_beyond : (image : Image) (u v c : ℕ) → channels image.format ≤ c → at image u v c ≡ 0
+unfolding at
+at_beyond image u v c out =
+    let none : (lies u v image.box && ltb c (channels image.format)) ≡ false = grind (arith, nat_tests) in
+    rw none refl
+
+-- images that are drawn alike at a place have the same samples there
+pub drawn_same : (box : Rectangle) (format : Format) (f g : ℕ → ℕ → ℕ → ℕ) (u v c : ℕ) → Lies u v box → f u v c ≡ g u v c
+    → at (drawn box format f) u v c ≡ at (drawn box format g) u v c
+drawn_same box format f g u v c there same = elim (cases_lt c (channels format)) [
+  | inl known ↦ at-drawn box format f u v c there known ∙ same ∙ sym (at-drawn box format g u v c there known)
+  | inr out ↦ at_beyond (drawn box format f) u v c out ∙ sym (at_beyond (drawn box format g) u v c out)
+]
+
+-- two images have the same samples at the places of a rectangle that lie in the box of the first
+abbrev pub AgreeIn : Image → Image → Rectangle → Type 0
+AgreeIn a b r = (u v c : ℕ) → Lies u v (meet r a.box) → at a u v c ≡ at b u v c
+
+-- images of one box that agree in a rectangle have the same samples at each of its places
+pub agreed_at : (a b : Image) (r : Rectangle) → a.box ≡ b.box → AgreeIn a b r → (u v c : ℕ) → Lies u v r → at a u v c ≡ at b u v c
+agreed_at a b r box agree u v c there =
+    by_places _ u v a.box
+    (λ inside. agree u v c ((Lies-meet u v r a.box).1 (there, inside)))
+    (λ out. at_outside a u v c out ∙ sym (at_outside b u v c (λ inside. out (rw box inside))))

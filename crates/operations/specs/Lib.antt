@@ -1,0 +1,11 @@
+pub mod Inputs
+pub mod Arguments
+pub mod Formats
+pub mod Moves
+pub mod Boxes
+pub mod Windows
+pub mod Values
+pub mod Regions
+pub mod Results
+pub mod Examples
+pub use Rattle.abyss_levels.specs.Abyss

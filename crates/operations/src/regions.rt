@@ -1,0 +1,40 @@
+//! What regions are, place by place.
+
+ghost use Rattle.std.specs.Prelude.{◌≡◌, ℕ, ◌<◌, ◌↔◌, List, false, true};
+ghost use Rattle.plane_rect.specs.Rectangle.{Lies, LiesNear, Rectangle, is_empty};
+ghost use Rattle.operations.specs.declared.operation.IntOp.{IntOp};
+ghost use Rattle.operations.specs.Boxes.{result_box};
+ghost use Rattle.operations.specs.Inputs.{input_box, input_count};
+ghost use Rattle.operations.specs.Moves.{moved_into, place, surrounded};
+ghost use Rattle.operations.specs.Regions.{IsNearestTo, invalidated, is_pointwise, required};
+
+/// Of an input that changed in a region, a place of the result that the region doesn't invalidate
+/// requires no place of it.
+pub fn unreached_requires_nothing()
+    ensures { (op : IntOp) (boxes : List Rectangle) (i : ℕ) (region : Rectangle) (u v s t : ℕ) →
+        i < input_count op → Lies u v (result_box op boxes) →
+        ¬ Lies u v (invalidated op boxes i region) →
+        Lies s t (required op boxes i (place u v)) → ¬ Lies s t region }
+{}
+
+/// Where each pixel of the result is of the pixels at its own place, a region stands for itself, as
+/// far as it lies in the result's box and in the input's.
+pub fn pointwise_regions()
+    ensures required { (op : IntOp) (boxes : List Rectangle) (i : ℕ) (region : Rectangle) (u v : ℕ) →
+        is_pointwise op ≡ true →
+        Lies u v (required op boxes i region)
+        ↔ (Lies u v region × Lies u v (result_box op boxes) × Lies u v (input_box boxes i)) }
+    ensures invalidated { (op : IntOp) (boxes : List Rectangle) (i : ℕ) (region : Rectangle) (u v : ℕ) →
+        is_pointwise op ≡ true →
+        Lies u v (invalidated op boxes i region)
+        ↔ (Lies u v region × Lies u v (input_box boxes i) × Lies u v (result_box op boxes)) }
+{}
+
+/// A surrounded rectangle has the places that are near to one of its own. Moved into a box, a
+/// rectangle has the nearest of the box to each of its places.
+pub fn area_regions()
+    ensures surrounded { (by u v : ℕ) (r : Rectangle) →
+        Lies u v (surrounded by r) ↔ LiesNear by u v r }
+    ensures moved_into { (box r : Rectangle) (u v : ℕ) → is_empty box ≡ false →
+        Lies u v (moved_into box r) ↔ IsNearestTo box u v r }
+{}

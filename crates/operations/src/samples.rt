@@ -1,0 +1,42 @@
+//! The samples of one pixel.
+
+ghost use Rattle.std.specs.Prelude.{◌≡◌};
+
+use std::marker::Model;
+
+/// The samples of a pixel, one for each channel in the order of its format.
+#[derive(Drop)]
+pub struct Samples {
+    values: Vec<u32>,
+}
+
+impl Model for Samples {
+    ghost use Rattle.std.specs.Prelude.{ℕ, List};
+
+    ghost Value = { List ℕ };
+
+    ghost view = { λ samples. samples.values.items };
+}
+
+impl Samples {
+    /// These samples, in their order.
+    pub fn new(values: Vec<u32>) -> Samples
+        ensures { result ≡ values.items }
+    {
+        Samples { values }
+    }
+
+    /// The samples as a slice.
+    pub fn as_slice(&self) -> &[u32]
+        ensures { result.now ≡ self.now }
+    {
+        &self.values
+    }
+
+    /// The samples given back.
+    pub fn into_vec(self) -> Vec<u32>
+        ensures { result.items ≡ self }
+    {
+        self.values
+    }
+}
