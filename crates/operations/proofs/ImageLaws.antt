@@ -1,27 +1,27 @@
 -- The laws of operations.
 use Rattle.std.proofs.Common.{◌≡◌, ◌≢◌, ℕ, zero, suc, ◌<◌, Bool, true, false, cond, eqb, List, [], ◌∷◌, length, Option, Some, None, unwrap_or, refl, sym, subst, ap, ◌∙◌, arith, eq-eqb}
 use Rattle.std.proofs.lemmas.Bool.Decides.{nat_tests}
-use Rattle.plane_rect.specs.Rectangle.{Includes, Lies, Rectangle, empty, meet}
 use Rattle.plane_rect.proofs.Rectangles.{Lies-meet}
+use Rattle.plane_rect.specs.Rectangle.{Includes, Lies, Rectangle, empty, meet}
+use Rattle.sample_rows.specs.Format.{channels}
 use Rattle.sample_rows.specs.declared.format.Format.{Format}
+use Rattle.sample_rows.specs.declared.format.Format.TheVariants.{Y8}
+use Rattle.images.proofs.Laws.{at-drawn, at_outside}
 use Rattle.images.specs.Agreement.{AgreeOutside}
 use Rattle.images.specs.Image.{Image, IsImage, at, drawn}
-use Rattle.images.proofs.Laws.{at-drawn, at_outside}
-use Rattle.sample_rows.specs.Format.{channels}
-use Rattle.sample_rows.specs.declared.format.Format.TheVariants.{Y8}
-use Rattle.operations.specs.Formats.{format_of}
 use Rattle.abyss_levels.proofs.ByteLaws.{length-sampled}
 use Rattle.operations.specs.Boxes.{box_of, box_with, result_box}
+use Rattle.operations.specs.Formats.{format_of}
 use Rattle.operations.specs.Inputs.{boxes_of, formats_of, image_of, input_box, input_count, input_format}
-use Rattle.operations.specs.Regions.{invalidated, read_for, reached_from, required}
+use Rattle.operations.specs.Moves.{place}
+use Rattle.operations.specs.Regions.{invalidated, reached_from, read_for, required}
 use Rattle.operations.specs.Results.{AgreeOn, AreAlike, ChangedWithin, result_format, result_of}
 use Rattle.operations.specs.Values.{value_at}
 use Rattle.operations.specs.declared.operation.IntOp.{IntOp}
 use Rattle.operations.proofs.Inputs.{AgreeIn, by_places, drawn_same, input_box-image, input_format-image}
-use Rattle.operations.proofs.Reading.{value-read}
 use Rattle.operations.proofs.Reaching.{first-reaches, input_count-most, second-reaches}
+use Rattle.operations.proofs.Reading.{value-read}
 use Rattle.operations.proofs.Sides.{place-lies}
-use Rattle.operations.specs.Moves.{place}
 
 -- ---- boxed
 

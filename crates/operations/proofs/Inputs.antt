@@ -3,13 +3,13 @@ use Rattle.std.proofs.Common.{◌≡◌, ℕ, ◌≤◌, inl, inr, true, false, 
 use Rattle.std.proofs.Math.ListN.{get_or-map}
 use Rattle.std.proofs.lemmas.Bool.{cases_lt}
 use Rattle.std.proofs.lemmas.Bool.Decides.{nat_tests}
-use Rattle.plane_rect.specs.Rectangle.{Rectangle, Lies, meet}
 use Rattle.plane_rect.proofs.Rectangles.{Lies-meet}
+use Rattle.plane_rect.specs.Rectangle.{Lies, Rectangle, meet}
 use Rattle.sample_rows.specs.Format.{channels}
 use Rattle.sample_rows.specs.declared.format.Format.{Format}
-use Rattle.images.specs.Image.{Image, at, drawn, lies}
 use Rattle.images.proofs.Laws.{at-drawn, at_outside}
 use Rattle.images.proofs.Samples.{Lies_from, lies_where}
+use Rattle.images.specs.Image.{Image, at, drawn, lies}
 use Rattle.images.specs.Paint.{no_image}
 use Rattle.operations.specs.Inputs.{boxes_of, formats_of, image_of, input_box, input_format}
 

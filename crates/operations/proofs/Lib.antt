@@ -5,3 +5,5 @@ pub mod Reaching
 pub mod ImageLaws
 pub mod RegionLaws
 pub mod WindowLaws
+pub mod RangeLaws
+pub mod BoxLaws

@@ -1,20 +1,20 @@
 -- What changes reach: where a place of the result needs a place of an input, a change of the one reaches the other.
-use Rattle.std.proofs.Common.{◌≡◌, ℕ, ◌<◌, ◌≤◌, ℤ, pos, negsuc, ◌+ℤ◌, ◌-ℤ◌, ◌≤ℤ◌, Bool, true, false, cond, Some, None, Result, Ok, Err, refl, sym, subst, ap, arith}
+use Rattle.std.proofs.Common.{[], ◌∷◌, ◌≡◌, ℕ, ◌<◌, ◌≤◌, ℤ, pos, negsuc, ◌+ℤ◌, ◌-ℤ◌, ◌≤ℤ◌, Bool, true, false, cond, Some, None, Result, Ok, Err, refl, sym, subst, ap, arith}
 use Rattle.std.proofs.lemmas.Int.{ints}
 use Rattle.std.proofs.lemmas.Bool.Decides.{nat_tests}
-use Rattle.plane_rect.specs.declared.rect.RectRefused.{RectRefused}
-use Rattle.plane_rect.specs.Rectangle.{Rectangle, Lies, LiesAt, in_limits, is_empty, kept_in_limits, plane_coordinate, shifted}
 use Rattle.plane_rect.proofs.Moved.{shifted-moves}
 use Rattle.plane_rect.proofs.Rectangles.{LiesAt-coordinates}
+use Rattle.plane_rect.specs.Rectangle.{Lies, LiesAt, Rectangle, in_limits, is_empty, kept_in_limits, plane_coordinate, shifted}
+use Rattle.plane_rect.specs.declared.rect.RectRefused.{RectRefused}
 use Rattle.abyss_levels.specs.declared.abyss.Abyss.{Abyss}
 use Rattle.abyss_levels.specs.declared.abyss.Abyss.TheVariants as policies
-use Rattle.operations.specs.Boxes.{area_box, box_with}
+use Rattle.operations.specs.Boxes.{area_box, box_of, box_with}
 use Rattle.operations.specs.Inputs.{input_count}
-use Rattle.operations.specs.Moves.{ahead, behind, moved, moved_back, mirrored_part, surrounded, place}
-use Rattle.operations.specs.Regions.{area_read, read_for, reached_from}
+use Rattle.operations.specs.Moves.{ahead, behind, mirrored_part, moved, moved_back, place, surrounded}
+use Rattle.operations.specs.Regions.{area_read, reached_from, read_for}
 use Rattle.operations.specs.declared.operation.IntOp.{IntOp}
 use Rattle.operations.specs.declared.operation.IntOp.TheVariants.{Color, Checker, Convert, Invert, Threshold, Gain, Translate, Crop, Flip, BoxMean, Dilate, Erode, Add, Over, Mask}
-use Rattle.operations.proofs.Sides.{AreNear, mirrored_row, mirrored_part-came, mirrored_part-place, moved-lies, moved_into-near, surrounded-lies, surrounded-near}
+use Rattle.operations.proofs.Sides.{AreNear, mirrored_part-came, mirrored_part-place, mirrored_row, moved-lies, moved_into-near, surrounded-lies, surrounded-near}
 
 -- what is kept in limits is the rectangle itself
 kept_if : (b : Bool) (q r : Rectangle) → cond b (Some q) None ≡ Some r → q ≡ r
@@ -47,15 +47,20 @@ came : (d : ℤ) (start u : ℕ) → plane_coordinate start ≤ℤ (plane_coordi
 came (pos n) start u h = omega (arith, ints, h)
 came (negsuc n) start u h = omega (arith, ints, h)
 
+-- the x of the column from which one came
+behind-coordinate : (d : ℤ) (u : ℕ) → ahead d (behind d u) ≡ u → plane_coordinate (behind d u) ≡ plane_coordinate u -ℤ d
+behind-coordinate (pos n) u h = omega (arith, ints, h)
+behind-coordinate (negsuc n) u h = omega (arith, ints, h)
+
 module _ (dx dy : ℤ) (box r : Rectangle) (boxed : kept_in_limits (shifted dx dy box) ≡ Some r) (u v : ℕ) (inside : Lies u v r) where
   stays : is_empty box ≡ true → Lies u v box
   stays none =
       let whole : kept_in_limits (Ok box) ≡ Some r = rw none at boxed in
       subst (λ (q : Rectangle). Lies u v q) (sym (kept box r whole)) inside
 
-  moves : is_empty box ≡ false → (ahead dx (behind dx u) ≡ u) × (ahead dy (behind dy v) ≡ v)
+  source : is_empty box ≡ false → LiesAt (plane_coordinate u -ℤ dx) (plane_coordinate v -ℤ dy) box
   unfolding made_of
-  moves some =
+  source some =
       let made = kept_made (shifted dx dy box) r boxed in
       let x = plane_coordinate u -ℤ dx in
       let y = plane_coordinate v -ℤ dy in
@@ -63,8 +68,26 @@ module _ (dx dy : ℤ) (box r : Rectangle) (boxed : kept_in_limits (shifted dx d
       let row : plane_coordinate v ≡ y +ℤ dy = omega (arith, ints) in
       let there : LiesAt (x +ℤ dx) (y +ℤ dy) r =
       subst (λ (s : ℤ). LiesAt s (y +ℤ dy) r) column (subst (λ (t : ℤ). LiesAt (plane_coordinate u) t r) row ((LiesAt-coordinates u v r).1 inside)) in
-      let from = (shifted-moves dx dy box some (Ok r) (sym made) x y).0 there in
+      (shifted-moves dx dy box some (Ok r) (sym made) x y).0 there
+
+  moves : is_empty box ≡ false → (ahead dx (behind dx u) ≡ u) × (ahead dy (behind dy v) ≡ v)
+  moves some =
+      let from = source some in
       (came dx box.left u from.0.0, came dy box.top v from.1.0)
+
+  shows : is_empty box ≡ false → Lies (behind dx u) (behind dy v) box
+  shows some =
+      let own = moves some in
+      (LiesAt-coordinates (behind dx u) (behind dy v) box).0
+      (subst (λ (s : ℤ). LiesAt s (plane_coordinate (behind dy v)) box) (sym (behind-coordinate dx u own.0))
+      (subst (λ (t : ℤ). LiesAt (plane_coordinate u -ℤ dx) t box) (sym (behind-coordinate dy v own.1)) (source some)))
+
+  pub translated-from : Lies (behind dx u) (behind dy v) box
+  translated-from =
+      elim (is_empty box) as (λ b. is_empty box ≡ b → Lies (behind dx u) (behind dy v) box) [
+        | true ↦ λ none. absurd (no_place u v box none (stays none))
+        | false ↦ λ some. shows some
+      ] refl
 
   pub shifted-came : (ahead dx (behind dx u) ≡ u) × (ahead dy (behind dy v) ≡ v)
   shifted-came =
@@ -164,3 +187,8 @@ input_count-most (Erode radius abyss) = omega arith
 input_count-most Add = omega arith
 input_count-most Over = omega arith
 input_count-most Mask = omega arith
+
+-- a place of a translated box shows one of the input's
+pub translated-shows : (dx dy : ℤ) (box r : Rectangle) → box_of (Translate dx dy) (box ∷ []) ≡ Some r → (u v : ℕ) → Lies u v r
+    → Lies (behind dx u) (behind dy v) box
+translated-shows dx dy box r told u v inside = translated-from dx dy box r told u v inside

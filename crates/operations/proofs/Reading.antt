@@ -1,39 +1,34 @@
 -- What operations read: inputs that agree there give the same.
 use Rattle.std.proofs.Common.{◌≡◌, ℕ, ◌-◌, ◌*◌, ◌<◌, ℤ, Bool, true, false, ◌&&◌, leb, Some, cond, subst, refl, sym, ap, ◌∙◌, arith}
 use Rattle.std.proofs.Math.Path.{fun_ext}
-use Rattle.plane_rect.specs.Rectangle.{Rectangle, Lies}
-use Rattle.sample_rows.specs.Row.{Pixel}
-use Rattle.sample_rows.specs.declared.format.Format.{Format}
-use Rattle.images.specs.Image.{Image, at}
-use Rattle.images.proofs.Laws.{at_outside}
-use Rattle.sample_rows.specs.Convert.{converted_pixel}
-use Rattle.sample_rows.specs.Gain.{gained_pixel}
-use Rattle.operations.specs.Inputs.{input_count}
-use Rattle.operations.specs.Moves.{behind, moved_back}
-use Rattle.operations.specs.Regions.{read_for}
-use Rattle.operations.specs.Values.{value_with}
-use Rattle.operations.specs.declared.operation.IntOp.{IntOp}
-use Rattle.operations.specs.declared.operation.IntOp.TheVariants.{Color, Checker, Convert, Invert, Threshold, Gain, Translate, Crop, Flip, BoxMean, Dilate, Erode, Add, Over, Mask}
+use Rattle.plane_rect.specs.Rectangle.{Lies, Rectangle}
 use Rattle.sample_rows.specs.Add.{added_pixel}
+use Rattle.sample_rows.specs.Format.{greatest}
 use Rattle.sample_rows.specs.Invert.{inverted_pixel}
 use Rattle.sample_rows.specs.Mask.{masked_pixel}
 use Rattle.sample_rows.specs.Over.{over_pixel}
-use Rattle.sample_rows.specs.Threshold.{thresholded_pixel}
-use Rattle.operations.proofs.Inputs.{AgreeIn, agreed_at}
-use Rattle.operations.proofs.Inputs.{by_places}
-use Rattle.operations.proofs.Sides.{mirrored_column, mirrored_row, mirrored_part-lies, moved_back-lies, moved_into-lies, surrounded-lies}
-use Rattle.sample_rows.specs.Format.{greatest}
 use Rattle.sample_rows.specs.Recolour.{is_alpha}
-use Rattle.images.proofs.Laws.{sampled_alike}
-use Rattle.abyss_levels.specs.Abyss.{abyss_at, outside_at, nearest}
+use Rattle.sample_rows.specs.Row.{Pixel}
+use Rattle.sample_rows.specs.Threshold.{thresholded_pixel}
+use Rattle.sample_rows.specs.declared.format.Format.{Format}
+use Rattle.images.proofs.Laws.{at_outside, sampled_alike}
+use Rattle.images.specs.Image.{Image, at}
+use Rattle.abyss_levels.proofs.PolicyLaws.{abyss_at-inside, abyss_at-outside, clamp-everywhere}
+use Rattle.abyss_levels.specs.Abyss.{abyss_at, nearest, outside_at}
 use Rattle.abyss_levels.specs.declared.abyss.Abyss.{Abyss}
 use Rattle.abyss_levels.specs.declared.abyss.Abyss.TheVariants as policies
-use Rattle.abyss_levels.proofs.PolicyLaws.{abyss_at-inside, abyss_at-outside, clamp-everywhere}
 use Rattle.operations.specs.Boxes.{area_box, box_with}
-use Rattle.operations.specs.Moves.{mirrored_part, moved_into, surrounded}
-use Rattle.operations.specs.Regions.{area_read}
-use Rattle.operations.specs.Values.{flipped_pixel}
+use Rattle.sample_rows.specs.Convert.{converted_pixel}
+use Rattle.sample_rows.specs.Gain.{gained_pixel}
+use Rattle.operations.specs.Inputs.{input_count}
+use Rattle.operations.specs.Moves.{behind, mirrored_part, moved_back, moved_into, surrounded}
+use Rattle.operations.specs.Regions.{area_read, read_for}
+use Rattle.operations.specs.Values.{flipped_pixel, value_with}
 use Rattle.operations.specs.Windows.{greatest_of_all, least_of_all, mean_of, read_before, window, window_side, window_square}
+use Rattle.operations.specs.declared.operation.IntOp.{IntOp}
+use Rattle.operations.specs.declared.operation.IntOp.TheVariants.{Color, Checker, Convert, Invert, Threshold, Gain, Translate, Crop, Flip, BoxMean, Dilate, Erode, Add, Over, Mask}
+use Rattle.operations.proofs.Inputs.{AgreeIn, agreed_at, by_places}
+use Rattle.operations.proofs.Sides.{mirrored_column, mirrored_part-lies, mirrored_row, moved_back-lies, moved_into-lies, surrounded-lies}
 
 -- a pixel of an input alone
 one_alike : (g : Format → Pixel → Pixel) (f f' : Format) (p p' : Pixel) (c : ℕ) → f ≡ f' → ((c : ℕ) → p c ≡ p' c) → g f p c ≡ g f' p' c

@@ -1,13 +1,13 @@
 -- What regions are, place by place.
 use Rattle.std.proofs.Common.{◌≡◌, ℕ, ◌+◌, ◌-◌, ◌<◌, ◌≤◌, ◌↔◌, true, false, List, max, min, refl, sym, subst, ap, ◌∙◌, arith}
 use Rattle.std.proofs.lemmas.Bool.Decides.{nat_tests}
-use Rattle.plane_rect.specs.Rectangle.{Lies, LiesNear, AreNear, Rectangle, Within, bottom, empty, is_empty, meet, rectangle, right}
 use Rattle.plane_rect.proofs.Rectangles.{Lies-meet, Lies-spanning}
+use Rattle.plane_rect.specs.Rectangle.{AreNear, Lies, LiesNear, Rectangle, Within, bottom, empty, is_empty, meet, rectangle, right}
 use Rattle.abyss_levels.specs.Abyss.{nearest}
 use Rattle.operations.specs.Boxes.{result_box}
 use Rattle.operations.specs.Inputs.{input_box, input_count}
 use Rattle.operations.specs.Moves.{moved_into, place, surrounded}
-use Rattle.operations.specs.Regions.{IsNearestTo, invalidated, is_pointwise, read_for, reached_from, required}
+use Rattle.operations.specs.Regions.{IsNearestTo, invalidated, is_pointwise, reached_from, read_for, required}
 use Rattle.operations.specs.declared.operation.IntOp.{IntOp}
 use Rattle.operations.specs.declared.operation.IntOp.TheVariants.{Color, Checker, Convert, Invert, Threshold, Gain, Translate, Crop, Flip, BoxMean, Dilate, Erode, Add, Over, Mask}
 use Rattle.operations.proofs.ImageLaws.{input-reaches}

@@ -1,10 +1,10 @@
 -- Places moved, mirrored and surrounded.
-use Rattle.std.proofs.Common.{◌≡◌, ℕ, ℤ, pos, negsuc, ◌+◌, ◌-◌, ◌<◌, ◌≤◌, Bool, true, false, subst, arith}
+use Rattle.std.proofs.Common.{◌↔◌, ◌≡◌, ℕ, ℤ, pos, negsuc, ◌+◌, ◌-◌, ◌<◌, ◌≤◌, Bool, true, false, subst, arith}
 use Rattle.std.proofs.lemmas.Bool.Decides.{nat_tests}
-use Rattle.plane_rect.specs.Rectangle.{Rectangle, Lies, Within, right, bottom, rectangle}
 use Rattle.plane_rect.proofs.Rectangles.{rectangle-some}
+use Rattle.plane_rect.specs.Rectangle.{Includes, Lies, Rectangle, Within, bottom, rectangle, right}
 use Rattle.abyss_levels.specs.Abyss.{nearest}
-use Rattle.operations.specs.Moves.{ahead, behind, mirrored, mirrored_start, mirrored_part, moved, moved_back, moved_into, place, surrounded}
+use Rattle.operations.specs.Moves.{ahead, behind, mirrored, mirrored_part, mirrored_start, moved, moved_back, moved_into, place, surrounded}
 
 pub place-lies : (u v : ℕ) → Lies u v (place u v)
 place-lies u v = record { column = (omega arith, omega arith); row = (omega arith, omega arith) }
@@ -129,3 +129,27 @@ moved_into_around-near box by u v u' v' inside h =
 pub moved_into-near : (box : Rectangle) (by u v u' v' : ℕ) → Lies u v box → Lies u' v' (moved_into box (surrounded by (place u v))) → AreNear by u v u' v'
 moved_into-near box by u v u' v' inside h =
     moved_into_around-near box by u v u' v' inside (subst (λ (r : Rectangle). Lies u' v' (moved_into box r)) (surrounded-place by u v) h)
+
+-- ---- a part of a box, mirrored, place by place
+
+pub mirrored-sideways : (box part : Rectangle) (u v : ℕ) → Includes box part → Lies u v box
+    → Lies u v (mirrored_part true box part) ↔ Lies (mirrored box.left box.width u) v part
+mirrored-sideways box part u v includes inside = (from, mirrored_part-came true box part u v inside)
+  where
+    from : Lies u v (mirrored_part true box part) → Lies (mirrored box.left box.width u) v part
+    from there =
+        let t = Lies-rectangle_from u v (mirrored_start box.left box.width part.left part.width) part.top part.width part.height there in
+        let last = includes (part.left + part.width - 1) part.top
+        (record { column = (omega (arith, t.0), omega (arith, t.0)); row = (omega arith, omega (arith, t.1)) }) in
+        record { column = (omega (arith, t.0, last.column, inside.column), omega (arith, t.0, last.column, inside.column)); row = t.1 }
+
+pub mirrored-upright : (box part : Rectangle) (u v : ℕ) → Includes box part → Lies u v box
+    → Lies u v (mirrored_part false box part) ↔ Lies u (mirrored box.top box.height v) part
+mirrored-upright box part u v includes inside = (from, mirrored_part-came false box part u v inside)
+  where
+    from : Lies u v (mirrored_part false box part) → Lies u (mirrored box.top box.height v) part
+    from there =
+        let t = Lies-rectangle_from u v part.left (mirrored_start box.top box.height part.top part.height) part.width part.height there in
+        let last = includes part.left (part.top + part.height - 1)
+        (record { column = (omega arith, omega (arith, t.0)); row = (omega (arith, t.1), omega (arith, t.1)) }) in
+        record { column = t.0; row = (omega (arith, t.1, last.row, inside.row), omega (arith, t.1, last.row, inside.row)) }

@@ -1,7 +1,7 @@
 -- Places and rectangles moved, mirrored and surrounded. Columns and rows count from the plane's corner, and what
 -- would lie before it stays there.
 use Rattle.std.specs.Prelude.{ℕ, ◌+◌, ◌-◌, ◌*◌, ◌||◌, Bool, if◌then◌else◌, ℤ, pos, negsuc}
-use Rattle.plane_rect.specs.Rectangle.{Rectangle, empty, is_empty, rectangle, spanning, right, bottom}
+use Rattle.plane_rect.specs.Rectangle.{Rectangle, bottom, empty, is_empty, rectangle, right, spanning}
 use Rattle.abyss_levels.specs.Abyss.{nearest}
 
 -- the rectangle of one place

@@ -1,6 +1,7 @@
 -- What operations give of whole images, and images that are told apart as inputs.
-use Rattle.std.specs.Prelude.{◌≡◌, ◌≢◌, ℕ, List, unwrap_or}
-use Rattle.plane_rect.specs.Rectangle.{Rectangle, Lies}
+use Rattle.std.specs.Prelude.{◌≡◌, ◌≢◌, ◌≤◌, ℕ, List, unwrap_or}
+use Rattle.plane_rect.specs.Rectangle.{Lies, Rectangle}
+use Rattle.sample_rows.specs.Format.{greatest}
 use Rattle.sample_rows.specs.declared.format.Format.{Format}
 use Rattle.sample_rows.specs.declared.format.Format.TheVariants.{Y8}
 use Rattle.images.specs.Image.{Image, at, drawn}
@@ -18,6 +19,10 @@ result_format op formats = unwrap_or (format_of op formats) Y8
 abbrev pub result_of : IntOp → List Image → Image
 result_of op images =
     drawn (result_box op (boxes_of images)) (result_format op (formats_of images)) (value_at op images)
+
+-- no sample of an image is above the greatest of its format
+abbrev pub IsInRange : Image → Type 0
+IsInRange image = (u v c : ℕ) → at image u v c ≤ greatest image.format
 
 -- two lists of images have the same boxes and the same formats
 pub record AreAlike (before after : List Image) : Type 0 where

@@ -1,17 +1,18 @@
 //! The laws of all operations.
 
-ghost use Rattle.std.specs.Prelude.{◌≡◌, ℕ, ◌<◌, List, [], ◌∷◌, Some};
-ghost use Rattle.plane_rect.specs.Rectangle.{Includes, Lies, Rectangle};
-ghost use Rattle.sample_rows.specs.Format.{channels};
+ghost use Rattle.std.specs.Prelude.{◌≡◌, ℕ, ◌<◌, ◌≤◌, List, [], ◌∷◌, Some};
+ghost use Rattle.plane_rect.specs.Rectangle.{InLimits, Includes, Lies, Rectangle};
+ghost use Rattle.sample_rows.specs.Format.{channels, greatest};
 ghost use Rattle.sample_rows.specs.declared.format.Format.{Format};
 ghost use Rattle.images.specs.Agreement.{AgreeOutside};
 ghost use Rattle.images.specs.Image.{Image, IsImage, at};
+ghost use Rattle.images.specs.Paint.{inverted_image};
 ghost use Rattle.operations.specs.declared.operation.IntOp.{IntOp};
 ghost use Rattle.operations.specs.Boxes.{box_of, result_box};
 ghost use Rattle.operations.specs.Formats.{format_of};
-ghost use Rattle.operations.specs.Inputs.{boxes_of, formats_of, input_box, input_count};
+ghost use Rattle.operations.specs.Inputs.{boxes_of, formats_of, image_of, input_box, input_count};
 ghost use Rattle.operations.specs.Regions.{invalidated, required};
-ghost use Rattle.operations.specs.Results.{AgreeOn, AreAlike, ChangedWithin, result_format, result_of};
+ghost use Rattle.operations.specs.Results.{AgreeOn, AreAlike, ChangedWithin, IsInRange, result_format, result_of};
 ghost use Rattle.operations.specs.Values.{value_at};
 
 /// The samples of a result over a region depend on its inputs only over what is required of each for
@@ -55,6 +56,27 @@ pub fn result_is_drawn()
         Lies u v (result_box op (boxes_of images)) →
         c < channels (result_format op (formats_of images)) →
         at (result_of op images) u v c ≡ value_at op images u v c }
+{}
+
+/// An operation tells no box of which an image may not be kept.
+pub fn box_in_limits()
+    ensures { (op : IntOp) (boxes : List Rectangle) (box : Rectangle) →
+        box_of op boxes ≡ Some box → InLimits box }
+{}
+
+/// The operation that inverts gives the inverse of an image.
+pub fn inverse_of_image()
+    ensures { (image : Image) → InLimits image.box →
+        result_of IntOp.Invert (image ∷ []) ≡ inverted_image image }
+{}
+
+/// Where no sample of the inputs is above the greatest of its format, none of the result is, if the
+/// operation takes such inputs.
+pub fn result_in_range()
+    ensures { (op : IntOp) (images : List Image) (format : Format) →
+        format_of op (formats_of images) ≡ Some format →
+        ((i : ℕ) → i < input_count op → IsInRange (image_of images i)) →
+        (u v c : ℕ) → at (result_of op images) u v c ≤ greatest format }
 {}
 
 /// Two images that agree outside a region are inputs of which one changed in the region alone.

@@ -1,0 +1,12 @@
+pub mod CacheLaws
+pub mod PrefixLaws
+pub mod Agreeing
+pub mod Shapes
+pub mod DamageLaws
+pub mod NodeDamage
+pub mod RightPairs
+pub mod HistoryLaws
+pub mod Steady
+pub mod Walks
+pub mod Unrolled
+pub mod Renders

@@ -1,0 +1,68 @@
+-- The shapes of nodes are those of their images.
+use Rattle.std.proofs.Common.{◌≡◌, ℕ, zero, suc, List, [], ◌∷◌, ◌++◌, map, get_or, refl, sym, ap, ◌∙◌, Some, None, Option, unwrap_or}
+use Rattle.std.specs.Prelude.{option_map}
+use Rattle.std.specs.Str.{bytes_eq}
+use Rattle.std.proofs.lemmas.List.{map-append}
+use Rattle.std.proofs.lemmas.Map.Made.{lookup-map_values}
+use Rattle.plane_rect.specs.Rectangle.{Rectangle}
+use Rattle.sample_rows.specs.declared.format.Format.{Format}
+use Rattle.images.specs.Image.{Image}
+use Rattle.graphs.specs.Node.{Step, FromBuffer, Apply}
+use Rattle.images.specs.Paint.{no_image}
+use Rattle.graphs.specs.Evaluation.{buffer_image, step_image, images_after}
+use Rattle.graph_states.specs.Meanings.{Meanings, result_of, result_box, result_format, boxes_of, formats_of}
+use Rattle.graph_states.specs.Sources.{Sources, SourceBuffer, source_of, images_of}
+use Rattle.graph_states.specs.Valid.{Shape, no_shape, shape_of_buffer, input_boxes, input_formats, step_shape, shapes_after}
+
+-- the shape of an image
+abbrev pub shape : Image → Shape
+shape image = record { box = image.box; format = image.format }
+
+-- the image of a buffer, by its entry in the table
+pub buffer_image-is : (sources : Sources) (name : List ℕ) → buffer_image (images_of sources) name ≡ unwrap_or (option_map (λ (buffer : SourceBuffer). buffer.image) (source_of sources name)) no_image
+buffer_image-is sources name = ap (λ found. unwrap_or found no_image) (lookup-map_values (λ (buffer : SourceBuffer). buffer.image) (bytes_eq name) sources)
+
+get_or-shapes : (known : List Image) (i : ℕ) → get_or (map shape known) i no_shape ≡ shape (get_or known i no_image)
+get_or-shapes [] i = refl
+get_or-shapes (image ∷ known) zero = refl
+get_or-shapes (image ∷ known) (suc i) = get_or-shapes known i
+
+input_boxes-is : (known : List Image) (inputs : List ℕ) → input_boxes (map shape known) inputs ≡ boxes_of (map (λ i. get_or known i no_image) inputs)
+input_boxes-is known [] = refl
+input_boxes-is known (i ∷ inputs) =
+    ap (λ (s : Shape). s.box ∷ input_boxes (map shape known) inputs) (get_or-shapes known i)
+    ∙ ap (λ boxes. (get_or known i no_image).box ∷ boxes) (input_boxes-is known inputs)
+
+input_formats-is : (known : List Image) (inputs : List ℕ) → input_formats (map shape known) inputs ≡ formats_of (map (λ i. get_or known i no_image) inputs)
+input_formats-is known [] = refl
+input_formats-is known (i ∷ inputs) =
+    ap (λ (s : Shape). s.format ∷ input_formats (map shape known) inputs) (get_or-shapes known i)
+    ∙ ap (λ formats. (get_or known i no_image).format ∷ formats) (input_formats-is known inputs)
+
+of_entry : (found : Option SourceBuffer) → unwrap_or (option_map shape_of_buffer found) no_shape ≡ shape (unwrap_or (option_map (λ (buffer : SourceBuffer). buffer.image) found) no_image)
+of_entry None = refl
+of_entry (Some buffer) = refl
+
+pub step_shape-is : {Op : Type 0} (meanings : Meanings Op) (sources : Sources) (known : List Image) (step : Step Op) →
+    step_shape meanings sources (map shape known) step ≡ shape (step_image (result_of meanings) (images_of sources) known step)
+step_shape-is meanings sources known (FromBuffer buffer) = of_entry (source_of sources buffer) ∙ ap shape (sym (buffer_image-is sources buffer))
+step_shape-is meanings sources known (Apply operation inputs) =
+    let of : Rectangle → Format → Shape = λ box format. record { box = box; format = format } in
+    ap (λ boxes. of (result_box meanings operation boxes) (result_format meanings operation (input_formats (map shape known) inputs))) (input_boxes-is known inputs)
+    ∙ ap (λ formats. of (result_box meanings operation (boxes_of (map (λ i. get_or known i no_image) inputs))) (result_format meanings operation formats)) (input_formats-is known inputs)
+
+pub shapes_after-is : {Op : Type 0} (meanings : Meanings Op) (sources : Sources) (known : List Image) (steps : List (Step Op)) →
+    shapes_after meanings sources (map shape known) steps ≡ map shape (images_after (result_of meanings) (images_of sources) known steps)
+shapes_after-is meanings sources known [] = refl
+shapes_after-is meanings sources known (step ∷ steps) =
+    let image = step_image (result_of meanings) (images_of sources) known step in
+    ap (λ (s : Shape). shapes_after meanings sources (map shape known ++ s ∷ []) steps) (step_shape-is meanings sources known step)
+    ∙ ap (λ shapes. shapes_after meanings sources shapes steps) (sym (map-append shape known (image ∷ [])))
+    ∙ shapes_after-is meanings sources (known ++ image ∷ []) steps
+
+-- the shape at a place is that of the image there
+pub shape_at : {Op : Type 0} (meanings : Meanings Op) (sources : Sources) (steps : List (Step Op)) (i : ℕ) →
+    get_or (shapes_after meanings sources [] steps) i no_shape ≡ shape (get_or (images_after (result_of meanings) (images_of sources) [] steps) i no_image)
+shape_at meanings sources steps i =
+    ap (λ shapes. get_or shapes i no_shape) (shapes_after-is meanings sources [] steps)
+    ∙ get_or-shapes (images_after (result_of meanings) (images_of sources) [] steps) i

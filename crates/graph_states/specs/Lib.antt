@@ -1,0 +1,12 @@
+pub mod Meanings
+pub mod Sources
+pub mod Valid
+pub mod State
+pub mod Edits
+pub mod History
+pub mod Regions
+pub mod Damage
+pub mod Need
+pub mod Cache
+pub mod Laws
+pub mod Examples

@@ -1,0 +1,5 @@
+use Rattle.operations.proofs.Reaching as laws
+use Rattle.operations.proofs.regions.translated_places.Goals as goal
+
+pub returns : goal.returns
+returns c = laws.translated-shows

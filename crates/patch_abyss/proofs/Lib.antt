@@ -1,0 +1,5 @@
+pub mod Spelling
+pub mod Places
+pub mod CopiedRows
+pub mod Parts
+pub mod TilesOfPatches

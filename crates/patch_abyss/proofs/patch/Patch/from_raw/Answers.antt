@@ -1,0 +1,13 @@
+use Rattle.std.proofs.Common.{◌≡◌, ◌∙◌, ap, rules, length}
+use Rattle.images.specs.Raw.{raw}
+use Rattle.patch_abyss.specs.Spelled.{byte_count, spelled}
+use Rattle.patch_abyss.proofs.Spelling.{raw-spelled, are_bytes}
+use Rattle.patch_abyss.proofs.patch.Patch.from_raw.Goals as goal
+
+pub returns-clause-raw : goal.returns-clause-raw
+returns-clause-raw c =
+    let bytes = c.args.bytes.now in
+    let copied : c.in_ok-to_vec.field-0.items ≡ bytes = search rules in
+    let whole : length bytes ≡ byte_count c.args.rect c.args.format = search rules in
+    ap (λ bytes. raw (spelled c.args.rect c.args.format bytes) c.args.rect) copied
+    ∙ raw-spelled c.args.rect c.args.format bytes (are_bytes bytes c.type_inv.bytes) whole

@@ -1,0 +1,9 @@
+use Rattle.std.proofs.Common.{sym, ◌∙◌}
+use Rattle.patch_abyss.proofs.Spelling.{raw-spelled}
+use Rattle.patch_abyss.proofs.patch.Patch.raw_bytes.Goals as goal
+
+pub returns-clause-value : goal.returns-clause-value
+returns-clause-value c =
+    let patch = c.self.inside in
+    rw (← c.self.view_is)
+    (c.deref.ensures.value ∙ sym (raw-spelled patch.rect patch.format patch.bytes.items c.self.invariant.small c.self.invariant.whole))

@@ -1,0 +1,46 @@
+use Rattle.std.proofs.Common.{◌≡◌, ◌*◌, ◌∙◌, ap, arith, rules, length, replicate}
+use Rattle.plane_rect.specs.Rectangle.{empty}
+use Rattle.plane_rect.specs.Tile.{tile_square}
+use Rattle.sample_rows.specs.Format.{pixel_bytes}
+use Rattle.images.specs.Image.{Image}
+use Rattle.images.specs.Raw.{raw}
+use Rattle.abyss_levels.specs.Abyss.{tile_bytes}
+use Rattle.patch_abyss.specs.Spelled.{spelled, byte_count}
+use Rattle.patch_abyss.proofs.TilesOfPatches.{no_tile_place, zero_tile, some_places, whole_tile, few_bytes, raw-part}
+use Rattle.patch_abyss.proofs.patch.Patch.tile.Goals as goal
+
+pub returns-then-is_empty : goal.returns-then-is_empty
+returns-then-is_empty c =
+    let to = c.self.inside in
+    let h = c.if-is_empty.ensures.empty in
+    let none : c.rect-rect.result ≡ empty = search rules in
+    let zeros : tile_bytes (spelled to.rect to.format to.bytes.items) c.args.at ≡ replicate (4096 * pixel_bytes to.format) 0 =
+    zero_tile (spelled to.rect to.format to.bytes.items) c.args.at
+    (no_tile_place c.rect-rect.result to.rect c.args.at c.rect-rect.ensures.places none c.self.invariant.rectangle) in
+    rw (← c.self.view_is) (rw zeros (rw c.pixel_bytes.ensures at c.zero.ensures))
+
+pub part-requires : goal.part-requires
+part-requires c =
+    let some = some_places c.rect-rect.result c.if-is_empty.ensures.value in
+    let square : c.rect-rect.result ≡ tile_square c.args.at = c.rect-rect.ensures.whole (whole_tile c.rect-rect.result c.args.at c.rect-rect.ensures.places some.0 some.1) in
+    rw square (omega arith, omega arith, omega arith)
+
+pub of-requires : goal.of-requires
+of-requires c =
+    let some = some_places c.rect-rect.result c.if-is_empty.ensures.value in
+    let square : c.rect-rect.result ≡ tile_square c.args.at = c.rect-rect.ensures.whole (whole_tile c.rect-rect.result c.args.at c.rect-rect.ensures.places some.0 some.1) in
+    let few = few_bytes c.args.self.now.format in
+    let count : length c.raw_bytes.result.now ≡ 4096 * pixel_bytes c.args.self.now.format =
+    c.raw_bytes.ensures.count ∙ ap (λ (image : Image). byte_count image.box image.format) c.in_ok-part.ensures
+    ∙ rw square (omega arith) in
+    (omega (arith, count, few.0), omega (arith, count, few.1))
+
+pub returns : goal.returns
+returns c =
+    let some = some_places c.rect-rect.result c.if-is_empty.ensures.value in
+    let square : c.rect-rect.result ≡ tile_square c.args.at = c.rect-rect.ensures.whole (whole_tile c.rect-rect.result c.args.at c.rect-rect.ensures.places some.0 some.1) in
+    let image = c.args.self.now in
+    let bytes : c.raw_bytes.result.now ≡ tile_bytes image c.args.at =
+    c.raw_bytes.ensures.value ∙ ap (λ (image : Image). raw image image.box) c.in_ok-part.ensures
+    ∙ raw-part image c.rect-rect.result ∙ ap (raw image) square in
+    rw (← bytes) c.of.ensures

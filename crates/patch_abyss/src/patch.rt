@@ -1,0 +1,244 @@
+//! Images in memory.
+
+ghost use Rattle.std.specs.Prelude.{◌≡◌, ◌≢◌, ◌<◌, ◌≤◌, ◌+◌, ◌*◌, ◌↔◌, ◌⊎◌, IfErr, IfOk, length};
+ghost use Rattle.plane_rect.specs.Rectangle.{InLimits, IsBehindCorner, IsRectangle, LiesAt, plane_index as index_of};
+ghost use Rattle.plane_rect.specs.Tile.{tile_square};
+ghost use Rattle.sample_rows.specs.Format.{channels, depth, pixel_bytes};
+ghost use Rattle.sample_rows.specs.Row.{sample_at};
+ghost use Rattle.images.specs.Image.{IsImage, at, drawn};
+ghost use Rattle.images.specs.Paint.{blank, painted, put_raw};
+ghost use Rattle.images.specs.Raw.{raw};
+ghost use Rattle.abyss_levels.specs.Abyss.{tile_bytes};
+ghost use Rattle.patch_abyss.specs.Spelled.{byte_count, spelled};
+ghost use Rattle.patch_abyss.specs.declared.patch.PatchRefused.TheVariants.{NoMemory, WrongSize};
+
+use crate::rows::copy_meet;
+use no_memory::NoMemory;
+use plane_rect::{Rect, TileAt};
+use sample_rows::Format;
+use std::alloc::{AllocError, Global};
+use std::marker::Model;
+use thiserror::Error;
+use tile_cow::Tile;
+
+/// How far the plane's corner is from the origin, in columns and in rows.
+const ORIGIN: i64 = 1 << 24;
+
+/// How many places a tile has.
+const TILE_PLACES: u32 = 64 * 64;
+
+/// An image that is kept in memory. Its rectangle is in limits.
+#[derive(Drop)]
+pub struct Patch {
+    rect: Rect,
+    format: Format,
+    /// The raw bytes of the rectangle.
+    bytes: Vec<u8>,
+}
+
+impl Model for Patch {
+    ghost use Rattle.images.specs.Image.{Image};
+    ghost use Rattle.patch_abyss.specs.Spelled.{Spells, spelled};
+
+    ghost Value = { Image };
+
+    ghost view = { λ patch. spelled patch.rect patch.format patch.bytes.items };
+
+    ghost invariant = { λ patch. Spells patch.rect patch.format patch.bytes.items };
+}
+
+/// Why bytes make no patch.
+#[derive(Clone, Copy, Debug, PartialEq, Eq, Error)]
+pub enum PatchRefused {
+    /// There are `found` bytes, and the rectangle has `wanted`.
+    #[error("{found} bytes for a rectangle of {wanted}")]
+    WrongSize { found: u64, wanted: u64 },
+    /// No memory was left.
+    #[error("no memory was left")]
+    NoMemory,
+}
+
+impl From<AllocError> for PatchRefused {
+    ghost from_gives = { λ _ refused. refused ≡ NoMemory };
+
+    fn from(_error: AllocError) -> PatchRefused {
+        PatchRefused::NoMemory
+    }
+}
+
+impl Patch {
+    /// The patch of zeros.
+    ///
+    /// # Errors
+    ///
+    /// No memory was left.
+    pub fn zero(alloc: Global, rect: Rect, format: Format) -> Result<Patch, NoMemory>
+        requires { InLimits rect }
+        ensures { IfOk result (λ patch. patch ≡ blank rect format) }
+    {
+        let bytes = vec![in alloc; 0; byte_count(&rect, format)]?;
+        Ok(Patch {
+            rect,
+            format,
+            bytes,
+        })
+    }
+
+    /// The patch of these raw bytes: the places row by row, each row from the left.
+    ///
+    /// # Errors
+    ///
+    /// `WrongSize` exactly where they are too many or too few, and `NoMemory`.
+    pub fn from_raw(
+        alloc: Global,
+        rect: Rect,
+        format: Format,
+        bytes: &[u8],
+    ) -> Result<Patch, PatchRefused>
+        requires { InLimits rect }
+        ensures image { IfOk result (λ patch. patch ≡ spelled rect format bytes.now) }
+        ensures raw { IfOk result (λ patch. raw patch rect ≡ bytes.now) }
+        ensures size { (result ≡ Err (WrongSize (length bytes.now) (byte_count rect format)))
+            ↔ (length bytes.now ≢ byte_count rect format) }
+        ensures causes { IfErr result (λ refused. (refused ≡ PatchRefused.NoMemory)
+            ⊎ (refused ≡ WrongSize (length bytes.now) (byte_count rect format))) }
+    {
+        let wanted = byte_count(&rect, format);
+        if bytes.len() != wanted {
+            return Err(PatchRefused::WrongSize {
+                found: bytes.len() as u64,
+                wanted: wanted as u64,
+            });
+        }
+        Ok(Patch {
+            rect,
+            format,
+            bytes: bytes.to_vec(alloc)?,
+        })
+    }
+
+    /// The rectangle.
+    pub fn rect(&self) -> Rect
+        ensures value { result ≡ self.now.box }
+        ensures rectangle { IsRectangle result }
+        ensures limits { InLimits result }
+        ensures whole { IsImage self.now }
+    {
+        self.rect
+    }
+
+    /// The format.
+    pub fn format(&self) -> Format
+        ensures { result ≡ self.now.format }
+    {
+        self.format
+    }
+
+    /// The sample of the place of x and y in a channel, and 0 at a place outside the rectangle.
+    pub fn at(&self, x: i32, y: i32, c: u32) -> u32
+        requires { c < channels self.now.format }
+        ensures inside { LiesAt x y self.now.box → result ≡ at self.now (index_of x) (index_of y) c }
+        ensures outside { ¬ LiesAt x y self.now.box → result ≡ 0 }
+    {
+        if !self.rect.has(x, y) {
+            return 0;
+        }
+        let place = self.rect.offset(plane_index(x), plane_index(y));
+        let index = place * self.format.channels() as usize + c as usize;
+        sample_at(self.format, &self.bytes, index)
+    }
+
+    /// The patch over another rectangle, zero where this one has no place.
+    ///
+    /// # Errors
+    ///
+    /// No memory was left.
+    pub fn part(&self, alloc: Global, rect: Rect) -> Result<Patch, NoMemory>
+        requires { InLimits rect }
+        ensures { IfOk result (λ patch. patch ≡ drawn rect self.now.format (at self.now)) }
+    {
+        let format = self.format;
+        let pixel = format.pixel_bytes() as usize;
+        let mut bytes = vec![in alloc; 0; byte_count(&rect, format)]?;
+        copy_meet(&mut bytes, &rect, &self.bytes, &self.rect, pixel);
+        Ok(Patch {
+            rect,
+            format,
+            bytes,
+        })
+    }
+
+    /// Takes the samples of the other patch at the places that lie in both rectangles.
+    pub fn blit(&mut self, from: &Patch)
+        requires { from.now.format ≡ self.old.format }
+        ensures { self.new ≡ painted self.old from.now.box (at from.now) }
+    {
+        let pixel = self.format.pixel_bytes() as usize;
+        copy_meet(&mut self.bytes, &self.rect, &from.bytes, &from.rect, pixel);
+    }
+
+    /// The 64 by 64 pixels of a tile, zero where the patch has no place.
+    ///
+    /// # Errors
+    ///
+    /// No memory was left.
+    pub fn tile(&self, alloc: Global, at: TileAt) -> Result<Tile, NoMemory>
+        ensures { IfOk result (λ tile. tile ≡ tile_bytes self.now at) }
+    {
+        let rect = at.rect();
+        if rect.is_empty() {
+            return Tile::zero(alloc, TILE_PLACES * self.format.pixel_bytes());
+        }
+        let part = self.part(alloc, rect)?;
+        Tile::of(alloc, part.raw_bytes())
+    }
+
+    /// Takes the samples of a tile at the places that lie in the rectangle.
+    pub fn put_tile(&mut self, at: TileAt, tile: &Tile)
+        requires { length tile.now ≡ 4096 * pixel_bytes self.old.format }
+        ensures { self.new ≡ put_raw self.old (tile_square at) tile.now }
+    {
+        let pixel = self.format.pixel_bytes() as usize;
+        let rect = at.rect();
+        if rect.is_empty() {
+            return;
+        }
+        copy_meet(&mut self.bytes, &self.rect, tile.bytes(), &rect, pixel);
+    }
+
+    /// The raw bytes of the rectangle: its places row by row, each row from the left.
+    pub fn raw_bytes(&self) -> &[u8]
+        ensures value { result.now ≡ raw self.now self.now.box }
+        ensures count { length result.now ≡ byte_count self.now.box self.now.format }
+    {
+        &self.bytes
+    }
+}
+
+/// How many raw bytes a rectangle has.
+fn byte_count(rect: &Rect, format: Format) -> usize
+    requires { InLimits rect.now }
+    ensures value { result ≡ byte_count rect.now format }
+    ensures rectangle { IsRectangle rect.now }
+{
+    rect.area() as usize * format.pixel_bytes() as usize
+}
+
+/// The column of an x, or the row of a y, counted from the plane's corner.
+fn plane_index(coordinate: i32) -> u32
+    requires { IsBehindCorner coordinate }
+    ensures { result ≡ index_of coordinate }
+{
+    (i64::from(coordinate) + ORIGIN) as u32
+}
+
+/// A sample of raw bytes, by its index.
+fn sample_at(format: Format, bytes: &[u8], index: usize) -> u32
+    requires { depth format * (index + 1) ≤ length bytes.now }
+    ensures { result ≡ sample_at (depth format) bytes.now index }
+{
+    match format.depth() {
+        1 => u32::from(bytes[index]),
+        _ => u32::from(bytes[2 * index]) + 256 * u32::from(bytes[2 * index + 1]),
+    }
+}

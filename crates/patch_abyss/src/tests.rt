@@ -1,0 +1,99 @@
+//! Expected values are worked out by hand from the doc comments.
+
+ghost use Rattle.std.specs.Prelude.{IfOk, ◌≡◌};
+ghost use Rattle.plane_rect.specs.Rectangle.{InLimits};
+ghost use Rattle.sample_rows.specs.declared.format.Format.TheVariants.{Y8};
+
+use super::*;
+use plane_rect::{Rect, TileAt};
+use sample_rows::Format;
+use std::alloc::Global;
+use std::test::Fail;
+
+/// A rectangle of fields that are one's, or else the one without a place.
+fn rect(fields: [i64; 4]) -> Rect
+    ensures { InLimits result }
+{
+    let [x, y, w, h] = fields;
+    match Rect::new(x, y, w, h) {
+        Ok(rect) if rect.in_limits() => rect,
+        _ => Rect::EMPTY,
+    }
+}
+
+/// The patch of rows 1 2 and 3 4 from x = y = -1 on.
+fn one_to_four(alloc: Global) -> Result<Patch, PatchRefused>
+    ensures { IfOk result (λ patch. patch.format ≡ Y8) }
+{
+    Patch::from_raw(alloc, rect([-1, -1, 2, 2]), Format::Y8, &[1, 2, 3, 4])
+}
+
+#[test]
+fn from_raw_refuses_a_wrong_length(rt: HostRuntime) -> Result<(), Fail> {
+    let alloc = rt.alloc();
+    let bounds = rect([0, 0, 3, 2]);
+    for bytes in [&[0; 17].as_slice(), &[0; 19].as_slice(), &[].as_slice()] {
+        let refused = Patch::from_raw(alloc, bounds, Format::RGB8, bytes).err();
+        let found = bytes.len() as u64;
+        assert!(rt; refused == Some(PatchRefused::WrongSize { found, wanted: 18 }));
+    }
+    Ok(())
+}
+
+#[test]
+fn samples_by_x_and_y(rt: HostRuntime) -> Result<(), Fail> {
+    let patch = one_to_four(rt.alloc())?;
+    let table = [
+        (-1, -1, 1),
+        (0, -1, 2),
+        (-1, 0, 3),
+        (0, 0, 4),
+        (1, 0, 0),
+        (0, -2, 0),
+        (i32::MIN, 0, 0),
+        (0, i32::MAX, 0),
+    ];
+    for (x, y, sample) in table {
+        assert_eq!(rt; patch.at(x, y, 0), sample);
+    }
+    Ok(())
+}
+
+#[test]
+fn parts(rt: HostRuntime) -> Result<(), Fail> {
+    let alloc = rt.alloc();
+    let patch = one_to_four(alloc)?;
+    let table = [
+        ([-1, -1, 2, 2], [1, 2, 3, 4]),
+        ([0, 0, 2, 2], [4, 0, 0, 0]),
+        ([-2, -1, 2, 2], [0, 1, 0, 3]),
+        ([-2, 0, 4, 1], [0, 3, 4, 0]),
+        ([-16_777_216, -16_777_216, 2, 2], [0, 0, 0, 0]),
+    ];
+    for (fields, samples) in table {
+        let part = patch.part(alloc, rect(fields))?;
+        assert_eq!(rt; part.raw_bytes(), samples.as_slice());
+    }
+    Ok(())
+}
+
+#[test]
+fn blits_the_meet(rt: HostRuntime) -> Result<(), Fail> {
+    let alloc = rt.alloc();
+    let mut patch = Patch::zero(alloc, rect([0, -1, 3, 2]), Format::Y8)?;
+    patch.blit(&one_to_four(alloc)?);
+    assert_eq!(rt; patch.raw_bytes(), [2, 0, 0, 4, 0, 0].as_slice());
+    Ok(())
+}
+
+#[test]
+fn tiles_of_a_patch(rt: HostRuntime) -> Result<(), Fail> {
+    let alloc = rt.alloc();
+    let patch = one_to_four(alloc)?;
+    let tile = patch.tile(alloc, TileAt::of(-1, 0))?;
+    assert!(rt; tile.bytes().len() == 4096);
+    assert!(rt; tile.bytes().get(63) == Some(&3) && tile.bytes().get(62) == Some(&0));
+    let behind = patch.tile(alloc, TileAt::of(16_777_216, 0))?;
+    assert!(rt; behind.bytes().iter().all(|byte| *byte == 0));
+    Ok(())
+}
