@@ -1,0 +1,5 @@
+//! Rows that were worked out by hand, as tests of the row kernels.
+#![tactic(auto)]
+
+#[cfg(test)]
+mod tests;
