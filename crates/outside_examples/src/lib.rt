@@ -1,0 +1,6 @@
+//! What the devices in memory answer and leave where each of their calls in turn fails. All expected
+//! values were worked out by hand.
+#![tactic(auto)]
+
+#[cfg(test)]
+mod tests;
