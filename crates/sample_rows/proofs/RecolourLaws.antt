@@ -1,11 +1,12 @@
 -- The pixels of a row whose samples were changed.
-use Rattle.std.proofs.Common.{◌≡◌, ℕ, ◌*◌, ◌/◌, ◌%◌, ◌<◌, false, List, length, refl}
+use Rattle.std.proofs.Common.{◌≡◌, ℕ, ◌*◌, ◌/◌, ◌%◌, ◌<◌, Bool, true, false, cond, leb, List, length, refl, ap, ◌∙◌, arith, leb-false}
 use Rattle.sample_rows.specs.declared.format.Format.{Format}
 use Rattle.sample_rows.specs.declared.format.Format.TheVariants.{Y8, YA8, RGB8, Y16, YA16, RGB16}
 use Rattle.sample_rows.specs.Format.{channels, depth, has_alpha, greatest_of, pixel_bytes}
 use Rattle.sample_rows.specs.Recolour.{recoloured}
 use Rattle.sample_rows.proofs.SampleLaws.{HasPixels-from_samples}
 use Rattle.sample_rows.specs.Row.{sample_at, HasPixels, pixel_at}
+use Rattle.sample_rows.specs.Threshold.{thresholded}
 
 -- in a format without alpha the colours are all samples
 pub opaque_pixels : (f : Format) (change : ℕ → ℕ → ℕ) (src dst : List ℕ) → has_alpha f ≡ false → length dst % pixel_bytes f ≡ 0 → ((j : ℕ) → j < length dst / (1 * depth f) → sample_at (depth f) dst j ≡ change (greatest_of (depth f)) (sample_at (depth f) src j)) → HasPixels f dst (λ k. recoloured f change (pixel_at f src k))
@@ -23,3 +24,24 @@ no_alpha RGB16 two four = refl
 no_alpha YA8 two four = absurd (two refl)
 no_alpha YA16 two four = absurd (two refl)
 no_alpha f two four = absurd (four refl)
+
+-- ---- lanes of vectors of pixels
+
+-- alpha was put back
+pub lane_with_alpha : (alpha : Bool) (old lane changed new : ℕ) → lane ≡ cond alpha old changed → changed ≡ new → lane ≡ cond alpha old new
+lane_with_alpha alpha old lane changed new kept made = kept ∙ (λ p. cond alpha old (made p))
+
+reached_zero : (sample cap : ℕ) → thresholded 0 cap sample ≡ cap
+reached_zero sample cap = go (leb 0 sample) refl
+  where
+    go : (t : Bool) → leb 0 sample ≡ t → cond t cap 0 ≡ cap
+    go true e = refl
+    go false e = absurd (omega (arith, leb-false _ _ e))
+
+-- alpha, which is its own cap, reaches a threshold of 0
+pub lane_at_threshold : (alpha : Bool) (lane sample caps cap limits limit : ℕ) → lane ≡ thresholded limits caps sample → limits ≡ cond alpha 0 limit → caps ≡ cap → (alpha ≡ true → cap ≡ sample)
+    → lane ≡ cond alpha sample (thresholded limit cap sample)
+lane_at_threshold true lane sample caps cap limits limit made at capped own =
+    let none : limits ≡ 0 = at in
+    made ∙ ap (λ t. thresholded t caps sample) none ∙ reached_zero sample caps ∙ capped ∙ own refl
+lane_at_threshold false lane sample caps cap limits limit made at capped own = made ∙ (λ p. thresholded (at p) (capped p) sample)

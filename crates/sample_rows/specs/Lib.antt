@@ -17,3 +17,4 @@ pub mod Gain
 pub mod Convert
 pub mod Parts
 pub mod PartsLaws
+pub mod LayoutLaws

@@ -23,3 +23,7 @@ twice_some n some = omega arith
 
 pub pair_bytes : (bytes depth count size : ℕ) → bytes ≡ 16 * depth → count * size ≡ 16 → 2 * bytes ≡ count * (2 * size * depth)
 pair_bytes bytes depth count size whole sixteen = omega (arith, ap (λ n. n * depth) sixteen)
+
+-- two vectors of groups
+pub vectors_bytes : (bytes depth count size : ℕ) → bytes ≡ 16 * depth → count * size ≡ 16 → 2 * bytes ≡ 2 * count * (size * depth)
+vectors_bytes bytes depth count size whole sixteen = omega (arith, ap (λ n. n * depth) sixteen)

@@ -3,11 +3,13 @@
 ghost use Rattle.std.specs.Prelude.{◌≡◌, ℕ, ◌+◌, ◌-◌, ◌*◌, ◌/◌, ◌%◌, ◌^◌, ◌<◌, ◌≤◌, length, min, nat_le, if◌then◌else◌, ⊤};
 ghost use Rattle.sample_rows.specs.Format.{greatest_of, pixel_bytes};
 ghost use Rattle.sample_rows.specs.Gain.{gained, gained_pixel, scaled, unit_of};
+ghost use Rattle.sample_rows.specs.Lanes.{Hold};
 ghost use Rattle.sample_rows.specs.Row.{HasPixels, pixel_at};
 
 use crate::byte_lanes::ByteLanes;
 use crate::format::Format;
 use crate::lanes::Lanes;
+use crate::layout::Layout;
 use crate::recolour::{Recolour, recolour_row};
 use crate::word_lanes::WordLanes;
 use std::alloc::AllocError;
@@ -45,14 +47,23 @@ impl<L: Lanes> Recolour<L> for Gain<L> {
     ghost change = { λ s. scaled L.depth s.factor s.offset s.last };
 
     #[inline(always)]
-    fn recolour(&self, caps: L, colours: L) -> L {
-        let last = L::splat(self.last);
-        let scaled = colours.min(last).scale(self.factor, self.offset);
-        caps.min(scaled.greatest_above(colours, last))
+    fn recolour<P: Layout>(&self, samples: L) -> L {
+        let gained = self.gained(P::caps(samples), samples);
+        P::with_alpha(gained, samples)
     }
 }
 
 impl<L: Lanes> Gain<L> {
+    /// Multiplies sixteen colours, each under its cap.
+    #[inline(always)]
+    fn gained(&self, caps: L, colours: L) -> L
+        ensures { Hold (L.lane result) (λ j. scaled L.depth self.now.factor self.now.offset self.now.last (L.lane caps j) (L.lane colours j)) }
+    {
+        let last = L::splat(self.last);
+        let scaled = colours.min(last).scale(self.factor, self.offset);
+        caps.min(scaled.greatest_above(colours, last))
+    }
+
     fn new(num: u32, den: u32) -> Self
         requires num { num ≤ 65535 }
         requires some { 0 < den }
@@ -132,7 +143,18 @@ impl<L: Lanes> Recolour<L> for Division {
     ghost change = { λ s. gained s.num s.den };
 
     #[inline(always)]
-    fn recolour(&self, caps: L, colours: L) -> L {
+    fn recolour<P: Layout>(&self, samples: L) -> L {
+        let gained = self.gained(P::caps(samples), samples);
+        P::with_alpha(gained, samples)
+    }
+}
+
+impl Division {
+    /// Multiplies and divides sixteen colours, each under its cap.
+    #[inline(always)]
+    fn gained<L: Lanes>(&self, caps: L, colours: L) -> L
+        ensures { Hold (L.lane result) (λ j. gained self.now.num self.now.den (L.lane caps j) (L.lane colours j)) }
+    {
         let den = u64::from(self.den);
         let half = u64::from(self.den / 2);
         caps.min(colours.divide(u64::from(self.num), half, den))

@@ -8,6 +8,7 @@ ghost use Rattle.sample_rows.specs.Row.{HasPixels, pixel_at};
 use crate::byte_lanes::ByteLanes;
 use crate::format::Format;
 use crate::lanes::Lanes;
+use crate::layout::Layout;
 use crate::recolour::{Recolour, recolour_row};
 use crate::word_lanes::WordLanes;
 
@@ -19,8 +20,9 @@ impl<L: Lanes> Recolour<L> for Invert {
     ghost change = { λ s. inverted };
 
     #[inline(always)]
-    fn recolour(&self, caps: L, colours: L) -> L {
-        caps.saturating_sub(colours)
+    fn recolour<P: Layout>(&self, samples: L) -> L {
+        let inverted = P::caps(samples).saturating_sub(samples);
+        P::with_alpha(inverted, samples)
     }
 }
 

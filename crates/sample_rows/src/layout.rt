@@ -1,8 +1,9 @@
 //! How pixels lie in a vector of sixteen samples, and where their alpha is.
 
-ghost use Rattle.std.specs.Prelude.{◌≡◌, ℕ, ◌+◌, ◌*◌, ◌<◌, ◌==◌, Bool, false, if◌then◌else◌, refl};
+ghost use Rattle.std.specs.Prelude.{◌≡◌, ℕ, ◌+◌, ◌*◌, ◌<◌, ◌==◌, Bool, true, false, if◌then◌else◌, refl};
 ghost use Rattle.std.proofs.Common.{rules};
 ghost use Rattle.sample_rows.specs.Format.{greatest_of};
+ghost use Rattle.sample_rows.specs.LayoutLaws.{last_channel, no_channel};
 ghost use Rattle.sample_rows.specs.Lanes.{HoldTwo};
 
 use crate::lanes::Lanes;
@@ -46,6 +47,9 @@ pub(crate) trait Layout: Copy {
 
     ghost cap_of_pixel: { (greatest : ℕ) (p q : ℕ → ℕ) → ((i : ℕ) → i < channels → p i ≡ q i) → cap greatest p ≡ cap greatest q };
 
+    /// Alpha is the cap of its pixel.
+    ghost alpha_is_cap: { (greatest : ℕ) (pixel : ℕ → ℕ) (i : ℕ) → is_alpha i ≡ true → cap greatest pixel ≡ pixel i };
+
     ghost place: { (k i : ℕ) → k < pixels → i < channels → k * channels + i < 16 };
 }
 
@@ -84,6 +88,8 @@ impl Layout for Opaque {
     ghost some_channels = { Prim.search rules };
 
     ghost cap_of_pixel = { λ greatest p q same. refl };
+
+    ghost alpha_is_cap = { λ greatest pixel i alpha. no_channel greatest (pixel i) alpha };
 
     ghost place = { λ k i lt within. Prim.search rules };
 }
@@ -124,6 +130,8 @@ impl Layout for AlphaOfTwo {
 
     ghost cap_of_pixel = { λ greatest p q same. same 1 (Prim.search rules) };
 
+    ghost alpha_is_cap = { λ greatest pixel i alpha. last_channel 1 i pixel alpha };
+
     ghost place = { λ k i lt within. Prim.search rules };
 }
 
@@ -162,6 +170,8 @@ impl Layout for AlphaOfFour {
     ghost some_channels = { Prim.search rules };
 
     ghost cap_of_pixel = { λ greatest p q same. same 3 (Prim.search rules) };
+
+    ghost alpha_is_cap = { λ greatest pixel i alpha. last_channel 3 i pixel alpha };
 
     ghost place = { λ k i lt within. Prim.search rules };
 }

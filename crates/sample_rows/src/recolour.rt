@@ -2,10 +2,9 @@
 
 ghost use Rattle.std.specs.Prelude.{◌≡◌, ℕ, ◌+◌, ◌*◌, ◌/◌, ◌%◌, ◌<◌, length, if◌then◌else◌};
 ghost use Rattle.std.proofs.Common.{rules};
-ghost use Rattle.sample_rows.specs.SizeLaws.{some_bytes, vector_bytes};
+ghost use Rattle.sample_rows.specs.SizeLaws.{some_bytes, twice_some, vectors_bytes};
 ghost use Rattle.sample_rows.specs.Format.{depth, greatest_of, pixel_bytes};
 ghost use Rattle.sample_rows.specs.Groups.{Maps, SameGroups, groups};
-ghost use Rattle.sample_rows.specs.Lanes.{Hold};
 ghost use Rattle.sample_rows.specs.Recolour.{recoloured};
 ghost use Rattle.sample_rows.specs.Row.{HasPixels, pixel_at};
 
@@ -13,6 +12,7 @@ use crate::blocks::{RowKernel, transform_row};
 use crate::format::Format;
 use crate::lanes::Lanes;
 use crate::layout::{AlphaOfFour, AlphaOfTwo, Layout, Opaque};
+use crate::vectors::{load_two, store_two};
 use std::marker::PhantomData;
 
 /// A change of colours, each by itself.
@@ -20,9 +20,11 @@ pub(crate) trait Recolour<L: Lanes>: Copy {
     /// What a colour becomes, by its cap and itself.
     ghost change: { Self → ℕ → ℕ → ℕ };
 
-    /// Changes sixteen colours, each under its cap.
-    fn recolour(&self, caps: L, colours: L) -> L
-        ensures { Hold (L.lane result) (λ j. change self.now (L.lane caps j) (L.lane colours j)) };
+    /// Changes the colours of a vector of pixels, each under its pixel's cap. Alpha stays.
+    fn recolour<P: Layout>(&self, samples: L) -> L
+        ensures { (k i : ℕ) → k < P.pixels → i < P.channels → L.lane result (k * P.channels + i)
+            ≡ (if P.is_alpha i then L.lane samples (k * P.channels + i)
+            else change self.now (P.cap (greatest_of L.depth) (λ c. L.lane samples (k * P.channels + c))) (L.lane samples (k * P.channels + i))) };
 }
 
 /// A change of colours as a kernel over pixels of a layout.
@@ -39,32 +41,34 @@ impl<L: Lanes, P: Layout, K: Recolour<L>> RowKernel for Recolouring<L, P, K> {
 
     ghost to = { groups P.channels L.depth };
 
-    ghost count = { P.pixels };
+    ghost count = { 2 * P.pixels };
 
-    ghost READ = { L.BYTES };
+    ghost READ = { 2 * L.BYTES };
 
-    ghost WRITTEN = { L.BYTES };
+    ghost WRITTEN = { 2 * L.BYTES };
 
-    const READ: usize = L::BYTES;
+    const READ: usize = 2 * L::BYTES;
 
-    const WRITTEN: usize = L::BYTES;
+    const WRITTEN: usize = 2 * L::BYTES;
 
     #[inline(always)]
     fn block(&self, src: &[u8], dst: &mut [u8]) {
-        let samples = L::load(src);
-        let changed = self.change.recolour(P::caps(samples), samples);
-        P::with_alpha(changed, samples).store(dst);
+        // Both vectors are read before one is written, which goes faster than one after the other.
+        let (first, second) = load_two::<L>(src);
+        let changed = self.change.recolour::<P>(first);
+        let next = self.change.recolour::<P>(second);
+        store_two(changed, next, dst);
     }
 
-    ghost some_groups = { P.some_pixels };
+    ghost some_groups = { twice_some P.pixels P.some_pixels };
 
     ghost some_read = { some_bytes P.channels L.depth P.some_channels L.some_depth };
 
     ghost some_written = { some_bytes P.channels L.depth P.some_channels L.some_depth };
 
-    ghost read_bytes = { vector_bytes L.BYTES L.depth P.pixels P.channels L.sixteen P.sixteen };
+    ghost read_bytes = { vectors_bytes L.BYTES L.depth P.pixels P.channels L.sixteen P.sixteen };
 
-    ghost written_bytes = { vector_bytes L.BYTES L.depth P.pixels P.channels L.sixteen P.sixteen };
+    ghost written_bytes = { vectors_bytes L.BYTES L.depth P.pixels P.channels L.sixteen P.sixteen };
 
     ghost read_few = { Prim.search (rules, L.few) };
 

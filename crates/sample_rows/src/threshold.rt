@@ -9,6 +9,7 @@ ghost use Rattle.sample_rows.specs.Threshold.{thresholded, thresholded_pixel};
 use crate::byte_lanes::ByteLanes;
 use crate::format::Format;
 use crate::lanes::Lanes;
+use crate::layout::Layout;
 use crate::recolour::{Recolour, recolour_row};
 use crate::word_lanes::WordLanes;
 
@@ -22,8 +23,11 @@ impl<L: Lanes> Recolour<L> for Threshold {
     ghost change = { λ s. thresholded (min (greatest_of L.depth) s.at) };
 
     #[inline(always)]
-    fn recolour(&self, caps: L, colours: L) -> L {
-        caps.threshold(colours, L::splat(self.at))
+    fn recolour<P: Layout>(&self, samples: L) -> L {
+        // Alpha is its own cap, so that a threshold of 0 leaves it as it is.
+        let none = L::splat(0);
+        let thresholds = P::with_alpha(L::splat(self.at), none);
+        P::caps(samples).threshold(samples, thresholds)
     }
 }
 
@@ -35,8 +39,9 @@ impl<L: Lanes> Recolour<L> for Clear {
     ghost change = { λ s cap colour. 0 };
 
     #[inline(always)]
-    fn recolour(&self, _caps: L, _colours: L) -> L {
-        L::splat(0)
+    fn recolour<P: Layout>(&self, samples: L) -> L {
+        let none = L::splat(0);
+        P::with_alpha(none, samples)
     }
 }
 
