@@ -75,17 +75,3 @@ fn two_rows(rt: HostRuntime) {
     row_average4(Format::Y8, &[1, 2, 9, 9], &[3, 4, 9, 8], &mut greys);
     assert_eq!(rt; greys, [3, 9]);
 }
-
-/// A row of each length near that of a vector, in a longer one that stays as it is elsewhere.
-#[test]
-fn lengths(rt: HostRuntime) {
-    let src = [10u8; 40];
-    for length in [0, 1, 15, 16, 17, 31, 32, 33] {
-        let mut dst = [7u8; 40];
-        row_invert(Format::Y8, &src[..length], &mut dst[..length]);
-        for (place, byte) in dst.iter().enumerate() {
-            let want = if place < length { 245 } else { 7 };
-            assert_eq!(rt; *byte, want, "at {place} of {length}");
-        }
-    }
-}

@@ -27,9 +27,9 @@ no_alpha f two four = absurd (four refl)
 
 -- ---- lanes of vectors of pixels
 
--- alpha was put back
-pub lane_with_alpha : (alpha : Bool) (old lane changed new : ℕ) → lane ≡ cond alpha old changed → changed ≡ new → lane ≡ cond alpha old new
-lane_with_alpha alpha old lane changed new kept made = kept ∙ (λ p. cond alpha old (made p))
+-- alpha was put back behind a change under the cap
+pub lane_with_alpha : (alpha : Bool) (old : ℕ) (under : ℕ → ℕ) {lane changed caps cap : ℕ} → lane ≡ cond alpha old changed → changed ≡ under caps → caps ≡ cap → lane ≡ cond alpha old (under cap)
+lane_with_alpha alpha old under kept made capped = kept ∙ (λ p. cond alpha old ((made ∙ ap under capped) p))
 
 reached_zero : (sample cap : ℕ) → thresholded 0 cap sample ≡ cap
 reached_zero sample cap = go (leb 0 sample) refl
@@ -39,9 +39,8 @@ reached_zero sample cap = go (leb 0 sample) refl
     go false e = absurd (omega (arith, leb-false _ _ e))
 
 -- alpha, which is its own cap, reaches a threshold of 0
-pub lane_at_threshold : (alpha : Bool) (lane sample caps cap limits limit : ℕ) → lane ≡ thresholded limits caps sample → limits ≡ cond alpha 0 limit → caps ≡ cap → (alpha ≡ true → cap ≡ sample)
-    → lane ≡ cond alpha sample (thresholded limit cap sample)
-lane_at_threshold true lane sample caps cap limits limit made at capped own =
-    let none : limits ≡ 0 = at in
-    made ∙ ap (λ t. thresholded t caps sample) none ∙ reached_zero sample caps ∙ capped ∙ own refl
-lane_at_threshold false lane sample caps cap limits limit made at capped own = made ∙ (λ p. thresholded (at p) (capped p) sample)
+pub lane_at_threshold : (alpha : Bool) (sample limit : ℕ) {lane caps cap limits none spread : ℕ} → lane ≡ thresholded limits caps sample → limits ≡ cond alpha none spread → none ≡ 0 → spread ≡ limit
+    → caps ≡ cap → (alpha ≡ true → cap ≡ sample) → lane ≡ cond alpha sample (thresholded limit cap sample)
+lane_at_threshold true sample limit {caps = caps} made at zero full capped own =
+    made ∙ ap (λ t. thresholded t caps sample) (at ∙ zero) ∙ reached_zero sample caps ∙ capped ∙ own refl
+lane_at_threshold false sample limit made at zero full capped own = made ∙ (λ p. thresholded ((at ∙ full) p) (capped p) sample)

@@ -25,5 +25,5 @@ pub pair_bytes : (bytes depth count size : ℕ) → bytes ≡ 16 * depth → cou
 pair_bytes bytes depth count size whole sixteen = omega (arith, ap (λ n. n * depth) sixteen)
 
 -- two vectors of groups
-pub vectors_bytes : (bytes depth count size : ℕ) → bytes ≡ 16 * depth → count * size ≡ 16 → 2 * bytes ≡ 2 * count * (size * depth)
-vectors_bytes bytes depth count size whole sixteen = omega (arith, ap (λ n. n * depth) sixteen)
+pub two_vectors_bytes : (bytes depth count size : ℕ) → bytes ≡ 16 * depth → count * size ≡ 16 → 2 * bytes ≡ 2 * count * (size * depth)
+two_vectors_bytes bytes depth count size whole sixteen = omega (arith, ap (λ n. n * depth) sixteen)

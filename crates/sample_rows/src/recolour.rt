@@ -2,7 +2,7 @@
 
 ghost use Rattle.std.specs.Prelude.{◌≡◌, ℕ, ◌+◌, ◌*◌, ◌/◌, ◌%◌, ◌<◌, length, if◌then◌else◌};
 ghost use Rattle.std.proofs.Common.{rules};
-ghost use Rattle.sample_rows.specs.SizeLaws.{some_bytes, twice_some, vectors_bytes};
+ghost use Rattle.sample_rows.specs.SizeLaws.{some_bytes, twice_some, two_vectors_bytes};
 ghost use Rattle.sample_rows.specs.Format.{depth, greatest_of, pixel_bytes};
 ghost use Rattle.sample_rows.specs.Groups.{Maps, SameGroups, groups};
 ghost use Rattle.sample_rows.specs.Recolour.{recoloured};
@@ -66,9 +66,9 @@ impl<L: Lanes, P: Layout, K: Recolour<L>> RowKernel for Recolouring<L, P, K> {
 
     ghost some_written = { some_bytes P.channels L.depth P.some_channels L.some_depth };
 
-    ghost read_bytes = { vectors_bytes L.BYTES L.depth P.pixels P.channels L.sixteen P.sixteen };
+    ghost read_bytes = { two_vectors_bytes L.BYTES L.depth P.pixels P.channels L.sixteen P.sixteen };
 
-    ghost written_bytes = { vectors_bytes L.BYTES L.depth P.pixels P.channels L.sixteen P.sixteen };
+    ghost written_bytes = { two_vectors_bytes L.BYTES L.depth P.pixels P.channels L.sixteen P.sixteen };
 
     ghost read_few = { Prim.search (rules, L.few) };
 

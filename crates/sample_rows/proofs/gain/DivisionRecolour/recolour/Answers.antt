@@ -1,4 +1,4 @@
-use Rattle.std.proofs.Common.{◌+◌, ◌*◌, ap, ◌∙◌}
+use Rattle.std.proofs.Common.{◌+◌, ◌*◌}
 use Rattle.sample_rows.specs.Gain.{gained}
 use Rattle.sample_rows.proofs.RecolourLaws.{lane_with_alpha}
 use Rattle.sample_rows.proofs.gain.DivisionRecolour.recolour.Goals as goal
@@ -6,7 +6,6 @@ use Rattle.sample_rows.proofs.gain.DivisionRecolour.recolour.Goals as goal
 pub returns : goal.returns
 returns g c k i lt within =
     let at = k * g.P.Layout.channels + i in
-    let division = c.args.self.now in
-    lane_with_alpha (g.P.Layout.is_alpha i) (g.L.Lanes.lane c.args.samples at) _ _ _ (c.with_alpha.ensures k i lt within)
-    (c.gained-gained.ensures at (g.met.P.Layout.place k i lt within)
-    ∙ ap (λ cap. gained division.num division.den cap (g.L.Lanes.lane c.args.samples at)) (c.caps.ensures k i lt within))
+    let sample = g.L.Lanes.lane c.args.samples at in
+    lane_with_alpha (g.P.Layout.is_alpha i) sample (λ cap. gained c.args.self.now.num c.args.self.now.den cap sample) (c.with_alpha.ensures k i lt within)
+    (c.gained-gained.ensures at (g.met.P.Layout.place k i lt within)) (c.caps.ensures k i lt within)

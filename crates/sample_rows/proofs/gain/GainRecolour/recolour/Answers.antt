@@ -1,4 +1,4 @@
-use Rattle.std.proofs.Common.{◌+◌, ◌*◌, ap, ◌∙◌}
+use Rattle.std.proofs.Common.{◌+◌, ◌*◌}
 use Rattle.sample_rows.specs.Gain.{scaled}
 use Rattle.sample_rows.proofs.RecolourLaws.{lane_with_alpha}
 use Rattle.sample_rows.proofs.gain.GainRecolour.recolour.Goals as goal
@@ -8,6 +8,6 @@ returns g c k i lt within =
     let L = g.L.Lanes in
     let at = k * g.P.Layout.channels + i in
     let gain = c.args.self.now in
-    lane_with_alpha (g.P.Layout.is_alpha i) (g.L.Lanes.lane c.args.samples at) _ _ _ (c.with_alpha.ensures k i lt within)
-    (c.gained-gained.ensures at (g.met.P.Layout.place k i lt within)
-    ∙ ap (λ cap. scaled L.depth gain.factor gain.offset gain.last cap (L.lane c.args.samples at)) (c.caps.ensures k i lt within))
+    let sample = L.lane c.args.samples at in
+    lane_with_alpha (g.P.Layout.is_alpha i) sample (λ cap. scaled L.depth gain.factor gain.offset gain.last cap sample) (c.with_alpha.ensures k i lt within)
+    (c.gained-gained.ensures at (g.met.P.Layout.place k i lt within)) (c.caps.ensures k i lt within)
