@@ -1,0 +1,5 @@
+pub mod Passing
+pub mod FileNamesLemmas
+pub mod LineLaws
+pub mod WordLaws
+pub mod NumberLaws
