@@ -39,10 +39,10 @@ module _ (row part : List ℕ) (a k : ℕ) (room : a + k ≤ length row) (long :
 
 -- ---- places before and behind others
 
-before_place : (p q n k : ℕ) → p < q → k < n → p * n + k < q * n
+pub before_place : (p q n k : ℕ) → p < q → k < n → p * n + k < q * n
 before_place p q n k lt within = omega (arith, mul-add-lt p n k q lt within)
 
-behind_place : (p q n k : ℕ) → p ≤ q → p * n ≤ q * n + k
+pub behind_place : (p q n k : ℕ) → p ≤ q → p * n ≤ q * n + k
 behind_place p q n k le = omega (arith, mul-le-mul_right n le)
 
 row_above : (r : Rectangle) (u v left row : ℕ) → Lies u v r → v < row → offset r u v < offset r left row

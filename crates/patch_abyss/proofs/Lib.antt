@@ -1,5 +1,13 @@
 pub mod Spelling
 pub mod Places
 pub mod CopiedRows
+pub mod Repeated
 pub mod Parts
 pub mod TilesOfPatches
+pub mod ReadRows
+pub mod RowPixels
+pub mod Surrounded
+pub mod Edged
+pub mod ReadPixels
+pub mod DrawnRows
+pub mod HalvedRows

@@ -13,10 +13,10 @@ use Rattle.patch_abyss.specs.Copied.{HasPart, byte_at}
 use Rattle.patch_abyss.proofs.Spelling.{sample_alike, sample_zero, zeros-at, at-spelled}
 
 -- where the bytes of a sample stand
-byte_index : (o m d c k : ℕ) → d * (o * m + c) + k ≡ o * (m * d) + (d * c + k)
+pub byte_index : (o m d c k : ℕ) → d * (o * m + c) + k ≡ o * (m * d) + (d * c + k)
 byte_index o m d c k = omega arith
 
-byte_within : (m d c k : ℕ) → c < m → k < d → d * c + k < m * d
+pub byte_within : (m d c k : ℕ) → c < m → k < d → d * c + k < m * d
 byte_within m d c k known within = omega (arith, mul-add-lt c d k m known within)
 
 -- samples of pixels whose bytes are equal

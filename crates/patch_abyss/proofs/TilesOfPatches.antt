@@ -1,7 +1,7 @@
 -- Tiles of patches. A tile that begins behind the plane has no place there.
 use Rattle.std.proofs.Common.{◌≡◌, ℕ, ◌*◌, ◌/◌, ◌<◌, ◌≤◌, ◌↔◌, true, false, cond, List, replicate, refl, sym, ap, ◌∙◌, arith}
 use Rattle.std.proofs.lemmas.Simd.{length-replicate}
-use Rattle.plane_rect.specs.Rectangle.{Rectangle, IsRectangle, Lies, empty, is_empty}
+use Rattle.plane_rect.specs.Rectangle.{Rectangle, IsRectangle, Includes, Lies, empty, is_empty}
 use Rattle.plane_rect.specs.Tile.{Tile, IsWhole, plane, tile_at, tile_square}
 use Rattle.sample_rows.specs.Format.{channels, depth, pixel_bytes}
 use Rattle.sample_rows.specs.declared.format.Format.{Format}
@@ -38,12 +38,18 @@ in_tile u v t there =
     let joined : (of : ℕ → ℕ → Tile) → of t.column t.row ≡ of (u / 64) (v / 64) = λ of. cc in
     joined (λ column row. record { column = column; row = row })
 
+-- a tile has no place of a rectangle of the plane where what it has of the plane has none
+pub no_common_place : (r box : Rectangle) (t : Tile) → HasTilePlaces r t → IsRectangle box → ((u v : ℕ) → Lies u v r → Lies u v box → ⊥) →
+    (u v : ℕ) → Lies u v (tile_square t) → Lies u v box → ⊥
+no_common_place r box t places is apart u v there inside =
+    let on_plane : Lies u v plane = record { column = (omega arith, omega (arith, inside.column, is.columns)); row = (omega arith, omega (arith, inside.row, is.rows)) } in
+    apart u v ((places u v).1 (on_plane, in_tile u v t there)) inside
+
 -- a tile without a place has none of a rectangle of the plane
 pub no_tile_place : (r box : Rectangle) (t : Tile) → HasTilePlaces r t → r ≡ empty → IsRectangle box → (u v : ℕ) → Lies u v (tile_square t) → Lies u v box → ⊥
-no_tile_place r box t places none is u v there inside =
-    let on_plane : Lies u v plane = record { column = (omega arith, omega (arith, inside.column, is.columns)); row = (omega arith, omega (arith, inside.row, is.rows)) } in
-    let h = (places u v).1 (on_plane, in_tile u v t there) in
-    omega (arith, h.column, ap (λ (r : Rectangle). r.width) none, ap (λ (r : Rectangle). r.left) none)
+no_tile_place r box t places none is =
+    no_common_place r box t places is
+    (λ u v there inside. omega (arith, there.column, ap (λ (r : Rectangle). r.width) none, ap (λ (r : Rectangle). r.left) none))
 
 pub zero_tile : (image : Image) (t : Tile) → ((u v : ℕ) → Lies u v (tile_square t) → Lies u v image.box → ⊥) → tile_bytes image t ≡ replicate (4096 * pixel_bytes image.format) 0
 zero_tile image t out =
@@ -94,3 +100,10 @@ unfolding raw
 raw-part image r =
     ap (flat_map (sample_bytes (depth image.format)))
     (sampled_alike r (channels image.format) (at (drawn r image.format (at image))) (at image) (at-drawn r image.format (at image)))
+
+-- a tile of whose part of the plane some places are met begins in the plane
+pub met_tile : (r part : Rectangle) (t : Tile) → HasTilePlaces r t → Includes r part → false ≡ is_empty part → IsWhole t
+met_tile r part t places inside some =
+    let sides = some_places part some in
+    let first = inside part.left part.top (record { column = (omega arith, omega (arith, sides.0)); row = (omega arith, omega (arith, sides.1)) }) in
+    whole_tile r t places (omega (arith, first.column)) (omega (arith, first.row))

@@ -1,2 +1,4 @@
 pub mod Spelled
 pub mod Copied
+pub mod Fetched
+pub mod Rows

@@ -1,9 +1,14 @@
 //! Images in memory.
 #![tactic(auto)]
 
+mod fill;
+mod halving;
+mod outside;
 mod patch;
+mod reading;
 mod rows;
-#[cfg(test)]
-mod tests;
 
+pub use abyss_levels::Abyss;
+pub use halving::halve;
 pub use patch::{Patch, PatchRefused};
+pub use reading::fetch;

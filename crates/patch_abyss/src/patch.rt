@@ -1,10 +1,10 @@
 //! Images in memory.
 
-ghost use Rattle.std.specs.Prelude.{◌≡◌, ◌≢◌, ◌<◌, ◌≤◌, ◌+◌, ◌*◌, ◌↔◌, ◌⊎◌, IfErr, IfOk, length};
-ghost use Rattle.plane_rect.specs.Rectangle.{InLimits, IsBehindCorner, IsRectangle, LiesAt, plane_index as index_of};
+ghost use Rattle.std.specs.Prelude.{◌≡◌, ◌≢◌, ◌<◌, ◌≤◌, ◌+◌, ◌-◌, ◌*◌, ℕ, ◌↔◌, ◌⊎◌, IfErr, IfOk, length};
+ghost use Rattle.plane_rect.specs.Rectangle.{InLimits, Includes, IsBehindCorner, IsRectangle, LiesAt, Within, plane_index as index_of};
 ghost use Rattle.plane_rect.specs.Tile.{tile_square};
 ghost use Rattle.sample_rows.specs.Format.{channels, depth, pixel_bytes};
-ghost use Rattle.sample_rows.specs.Row.{sample_at};
+ghost use Rattle.sample_rows.specs.Row.{pixel_at, sample_at};
 ghost use Rattle.images.specs.Image.{IsImage, at, drawn};
 ghost use Rattle.images.specs.Paint.{blank, painted, put_raw};
 ghost use Rattle.images.specs.Raw.{raw};
@@ -77,11 +77,7 @@ impl Patch {
         ensures { IfOk result (λ patch. patch ≡ blank rect format) }
     {
         let bytes = vec![in alloc; 0; byte_count(&rect, format)]?;
-        Ok(Patch {
-            rect,
-            format,
-            bytes,
-        })
+        Ok(Patch::from_bytes(rect, format, bytes))
     }
 
     /// The patch of these raw bytes: the places row by row, each row from the left.
@@ -157,15 +153,30 @@ impl Patch {
         requires { InLimits rect }
         ensures { IfOk result (λ patch. patch ≡ drawn rect self.now.format (at self.now)) }
     {
+        if self.rect.contains(&rect) {
+            return self.cut(alloc, rect);
+        }
         let format = self.format;
         let pixel = format.pixel_bytes() as usize;
         let mut bytes = vec![in alloc; 0; byte_count(&rect, format)]?;
         copy_meet(&mut bytes, &rect, &self.bytes, &self.rect, pixel);
-        Ok(Patch {
-            rect,
-            format,
-            bytes,
-        })
+        Ok(Patch::from_bytes(rect, format, bytes))
+    }
+
+    /// The patch over a part of the rectangle.
+    fn cut(&self, alloc: Global, part: Rect) -> Result<Patch, NoMemory>
+        requires limits { InLimits part }
+        requires part { Includes self.now.box part }
+        ensures { IfOk result (λ patch. patch ≡ drawn part self.now.format (at self.now)) }
+    {
+        let format = self.format;
+        let pixel = format.pixel_bytes() as usize;
+        let mut bytes = Vec::with_capacity(alloc, byte_count(&part, format))?;
+        for row in part.top()..part.bottom() {
+            let places = self.rect.part_row(&part, row);
+            bytes.extend_from_slice(&self.bytes[places.start * pixel..places.end * pixel])?;
+        }
+        Ok(Patch::from_bytes(part, format, bytes))
     }
 
     /// Takes the samples of the other patch at the places that lie in both rectangles.
@@ -173,8 +184,16 @@ impl Patch {
         requires { from.now.format ≡ self.old.format }
         ensures { self.new ≡ painted self.old from.now.box (at from.now) }
     {
+        self.lay(&from.rect, &from.bytes);
+    }
+
+    /// Takes the samples that the raw bytes of a rectangle spell, at the places that lie in both.
+    fn lay(&mut self, rect: &Rect, bytes: &[u8])
+        requires { length bytes.now ≡ byte_count rect.now self.old.format }
+        ensures { self.new ≡ painted self.old rect.now (at (spelled rect.now self.old.format bytes.now)) }
+    {
         let pixel = self.format.pixel_bytes() as usize;
-        copy_meet(&mut self.bytes, &self.rect, &from.bytes, &from.rect, pixel);
+        copy_meet(&mut self.bytes, &self.rect, bytes, rect, pixel);
     }
 
     /// The 64 by 64 pixels of a tile, zero where the patch has no place.
@@ -198,12 +217,37 @@ impl Patch {
         requires { length tile.now ≡ 4096 * pixel_bytes self.old.format }
         ensures { self.new ≡ put_raw self.old (tile_square at) tile.now }
     {
-        let pixel = self.format.pixel_bytes() as usize;
-        let rect = at.rect();
-        if rect.is_empty() {
+        let square = at.rect();
+        if self.rect.meet(&square).is_empty() {
             return;
         }
-        copy_meet(&mut self.bytes, &self.rect, tile.bytes(), &rect, pixel);
+        self.lay(&square, tile.bytes());
+    }
+
+    /// The patch of as many raw bytes as the rectangle has.
+    pub(crate) fn from_bytes(rect: Rect, format: Format, bytes: Vec<u8>) -> Patch
+        requires limits { InLimits rect }
+        requires rectangle { IsRectangle rect }
+        requires count { length bytes.items ≡ byte_count rect format }
+        ensures { result ≡ spelled rect format bytes.items }
+    {
+        Patch {
+            rect,
+            format,
+            bytes,
+        }
+    }
+
+    /// The raw bytes of a row of the rectangle.
+    pub(crate) fn row(&self, row: u32) -> &[u8]
+        requires { Within self.now.box.top self.now.box.height row }
+        ensures len { length result.now ≡ self.now.box.width * pixel_bytes self.now.format }
+        ensures samples { (u c : ℕ) → Within self.now.box.left self.now.box.width u → c < channels self.now.format
+            → pixel_at self.now.format result.now (u - self.now.box.left) c ≡ at self.now u row c }
+    {
+        let pixel = self.format.pixel_bytes() as usize;
+        let places = self.rect.part_row(&self.rect, row);
+        &self.bytes[places.start * pixel..places.end * pixel]
     }
 
     /// The raw bytes of the rectangle: its places row by row, each row from the left.
@@ -216,7 +260,7 @@ impl Patch {
 }
 
 /// How many raw bytes a rectangle has.
-fn byte_count(rect: &Rect, format: Format) -> usize
+pub(crate) fn byte_count(rect: &Rect, format: Format) -> usize
     requires { InLimits rect.now }
     ensures value { result ≡ byte_count rect.now format }
     ensures rectangle { IsRectangle rect.now }

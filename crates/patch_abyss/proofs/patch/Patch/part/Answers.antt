@@ -21,7 +21,8 @@ returns c =
     let has : HasPart to from.rect (meet to from.rect) (pixel_bytes from.format) from.bytes.items (replicate n 0) new =
     rw (c.pixel_bytes-pixel.ensures, c.deref.ensures.value, c.deref_mut.ensures.value, zeros) at c.copy_meet.ensures.part in
     rw (← c.self.view_is)
-    (ap (spelled to from.format) (with_items_is c.in_ok-bytes.bytes new fits)
+    (c.from_bytes.ensures
+    ∙ ap (spelled to from.format) (with_items_is c.in_ok-bytes.bytes new fits)
     ∙ drawn_alike to from.format (spelled_pixels to from.format new) (at (spelled from.rect from.format from.bytes.items))
     (part_drawn to from.rect (meet to from.rect) from.format n from.bytes.items new
     (λ u v p q. (Lies-meet u v to from.rect).1 (p, q)) (λ u v h. ((Lies-meet u v to from.rect).0 h).1) has))

@@ -1,14 +1,18 @@
-//! Expected values are worked out by hand from the doc comments.
+//! Expected values are worked out by hand from the doc comments, but for those of the tables.
 
 ghost use Rattle.std.specs.Prelude.{IfOk, ◌≡◌};
 ghost use Rattle.plane_rect.specs.Rectangle.{InLimits};
 ghost use Rattle.sample_rows.specs.declared.format.Format.TheVariants.{Y8};
 
-use super::*;
+use crate::cases::Samples;
+use crate::halved_cases::HALVED;
+use crate::read_cases::READ;
+use patch_abyss::{Abyss, Patch, PatchRefused, fetch, halve};
 use plane_rect::{Rect, TileAt};
 use sample_rows::Format;
 use std::alloc::Global;
 use std::test::Fail;
+use tile_cow::Tile;
 
 /// A rectangle of fields that are one's, or else the one without a place.
 fn rect(fields: [i64; 4]) -> Rect
@@ -18,6 +22,22 @@ fn rect(fields: [i64; 4]) -> Rect
     match Rect::new(x, y, w, h) {
         Ok(rect) if rect.in_limits() => rect,
         _ => Rect::EMPTY,
+    }
+}
+
+/// The policies, in the order of the tables.
+const POLICIES: [Abyss; 5] = [
+    Abyss::None,
+    Abyss::Clamp,
+    Abyss::Loop,
+    Abyss::Black,
+    Abyss::White,
+];
+
+impl Samples {
+    /// The patch of these.
+    fn patch(self, alloc: Global) -> Result<Patch, PatchRefused> {
+        Patch::from_raw(alloc, rect(self.bounds), self.format, self.bytes)
     }
 }
 
@@ -95,5 +115,49 @@ fn tiles_of_a_patch(rt: HostRuntime) -> Result<(), Fail> {
     assert!(rt; tile.bytes().get(63) == Some(&3) && tile.bytes().get(62) == Some(&0));
     let behind = patch.tile(alloc, TileAt::of(16_777_216, 0))?;
     assert!(rt; behind.bytes().iter().all(|byte| *byte == 0));
+    Ok(())
+}
+
+#[test]
+fn puts_tiles(rt: HostRuntime) -> Result<(), Fail> {
+    let alloc = rt.alloc();
+    let mut patch = Patch::zero(alloc, rect([63, -1, 2, 2]), Format::YA8)?;
+    let tile = Tile::of(alloc, &[7; 8_192])?;
+    patch.put_tile(TileAt::of(64, 0), &tile);
+    assert_eq!(rt; patch.raw_bytes(), [0, 0, 0, 0, 0, 0, 7, 7].as_slice());
+    let back = patch.tile(alloc, TileAt::of(64, 0))?;
+    assert_eq!(rt; back.bytes().len(), 8_192);
+    assert_eq!(rt; back.bytes().iter().filter(|byte| **byte == 7).count(), 2);
+    assert!(rt; back.bytes().starts_with(&[7, 7, 0]));
+    Ok(())
+}
+
+#[test]
+fn reads_under_each_policy(rt: HostRuntime) -> Result<(), Fail> {
+    let alloc = rt.alloc();
+    for case in READ {
+        let image = case.image.patch(alloc)?;
+        for (abyss, bytes) in POLICIES.into_iter().zip(case.gives) {
+            let patch = fetch(alloc, &image, abyss, rect(case.over))?;
+            assert!(rt; patch.rect() == rect(case.over) && patch.format() == case.image.format);
+            assert_eq!(rt; patch.raw_bytes(), bytes, "{abyss:?} over {:?}", case.over);
+        }
+    }
+    Ok(())
+}
+
+#[test]
+fn halves(rt: HostRuntime) -> Result<(), Fail> {
+    let alloc = rt.alloc();
+    for case in HALVED {
+        let half = halve(alloc, &case.image.patch(alloc)?)?;
+        assert!(rt; half.rect() == rect(case.half.bounds) && half.format() == case.half.format);
+        assert_eq!(rt;
+            half.raw_bytes(),
+            case.half.bytes,
+            "{:?}",
+            case.image.bounds
+        );
+    }
     Ok(())
 }

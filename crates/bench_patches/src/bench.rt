@@ -1,0 +1,143 @@
+//! The loops over patches of one size and format.
+
+use crate::report::Speed;
+use crate::{loops, pictures};
+use anyhow::Result;
+use patch_abyss::{Abyss, Patch, fetch, halve};
+use sample_rows::Format;
+use std::alloc::Global;
+use std::rt::Clock;
+use std::time::Instant;
+
+/// How many columns and rows the patches have, their format, how many rounds each loop has, and the
+/// speed of a copy.
+#[derive(Clone, Copy)]
+pub struct Bench {
+    side: u32,
+    format: Format,
+    rounds: u32,
+    copy: Speed,
+}
+
+/// A loop that reads a square of an image.
+#[derive(Clone, Copy)]
+struct Reading {
+    name: &'static str,
+    abyss: Abyss,
+    /// The x and y at which the square begins.
+    corner: i64,
+}
+
+impl Bench {
+    /// Times the copies.
+    pub fn new<R: Clock + Print + Eprint + Alloc<A = Global>>(
+        rt: &R,
+        side: u32,
+        format: Format,
+        rounds: u32,
+    ) -> Result<Bench> {
+        let alloc = rt.alloc();
+        let count = pictures::square(0, side)
+            .area()
+            .saturating_mul(u64::from(format.pixel_bytes()));
+        let mut from = pictures::bytes(alloc, count)?;
+        let mut to = vec![in alloc; 0; from.len()]?;
+        let start = Instant::now(rt)?;
+        let found = loops::copy(&mut from, &mut to, rounds);
+        let copy = Speed::since(rt, start, count.saturating_mul(u64::from(rounds)))?;
+        let bench = Bench {
+            side,
+            format,
+            rounds,
+            copy,
+        };
+        bench.print(rt, "copy", found.wrapping_add(loops::sum(&to)), copy)?;
+
+        let start = Instant::now(rt)?;
+        let found = loops::copy_afresh(alloc, &mut from, rounds)?;
+        bench.report(rt, "copy afresh", start, found, &from)?;
+        Ok(bench)
+    }
+
+    /// Times each call.
+    pub fn time_all<R: Clock + Print + Eprint + Alloc<A = Global>>(self, rt: &R) -> Result<()> {
+        let side = i64::from(self.side);
+        let readings = [
+            ("inside", Abyss::Clamp, side / 2 + 1),
+            ("none around", Abyss::None, -side / 2),
+            ("clamp around", Abyss::Clamp, -side / 2),
+            ("clamp outside", Abyss::Clamp, 3 * side),
+            ("loop around", Abyss::Loop, -side / 2),
+            ("loop outside", Abyss::Loop, 3 * side + 1),
+            ("black around", Abyss::Black, -side / 2),
+            ("white outside", Abyss::White, 3 * side),
+        ];
+        let image = pictures::image(rt.alloc(), self.side.saturating_mul(2), self.format)?;
+        for (name, abyss, corner) in readings {
+            let reading = Reading {
+                name,
+                abyss,
+                corner,
+            };
+            self.time_reading(rt, &image, reading)?;
+        }
+        self.time_halving(rt, &image)?;
+        let small = pictures::image(rt.alloc(), 3, self.format)?;
+        let reading = Reading {
+            name: "loop of 3 by 3",
+            abyss: Abyss::Loop,
+            corner: -side / 2,
+        };
+        self.time_reading(rt, &small, reading)
+    }
+
+    fn time_reading<R: Clock + Print + Eprint + Alloc<A = Global>>(
+        self,
+        rt: &R,
+        image: &Patch,
+        reading: Reading,
+    ) -> Result<()> {
+        let alloc = rt.alloc();
+        let rect = pictures::square(reading.corner, self.side);
+        let start = Instant::now(rt)?;
+        let found = loops::fetch(alloc, image, reading.abyss, rect, self.rounds)?;
+        let patch = fetch(alloc, image, reading.abyss, rect)?;
+        self.report(rt, reading.name, start, found, patch.raw_bytes())
+    }
+
+    fn time_halving<R: Clock + Print + Eprint + Alloc<A = Global>>(
+        self,
+        rt: &R,
+        image: &Patch,
+    ) -> Result<()> {
+        let alloc = rt.alloc();
+        let start = Instant::now(rt)?;
+        let found = loops::halve(alloc, image, self.rounds)?;
+        let patch = halve(alloc, image)?;
+        self.report(rt, "halve", start, found, patch.raw_bytes())
+    }
+
+    /// Prints what a loop found, and the speed at which it made bytes again and again.
+    fn report<R: Clock + Print + Eprint>(
+        self,
+        rt: &R,
+        name: &str,
+        start: Instant,
+        found: u64,
+        bytes: &[u8],
+    ) -> Result<()> {
+        let made = (bytes.len() as u64).saturating_mul(u64::from(self.rounds));
+        let speed = Speed::since(rt, start, made)?;
+        self.print(rt, name, found.wrapping_add(loops::sum(bytes)), speed)
+    }
+
+    fn print<R: Print + Eprint>(self, rt: &R, name: &str, found: u64, speed: Speed) -> Result<()> {
+        let (side, format) = (self.side, self.format.word());
+        println!(rt; "{side} {format}: {name} {found}")?;
+        eprintln!(rt;
+            "{side} {format}: {name} {speed}, {}% of a copy",
+            speed.percent_of(self.copy)
+        )?;
+        Ok(())
+    }
+}

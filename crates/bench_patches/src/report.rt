@@ -1,0 +1,29 @@
+//! What is printed of a loop.
+
+use std::rt::Clock;
+use std::time::Instant;
+use std::{fmt, io};
+
+/// Megabytes a second.
+#[derive(Clone, Copy)]
+pub struct Speed(u64);
+
+impl Speed {
+    /// The speed at which so many bytes were written since then.
+    pub fn since(rt: &impl Clock, start: Instant, bytes: u64) -> io::Result<Speed> {
+        let elapsed = start.elapsed(rt)?;
+        let nanoseconds = u64::try_from(elapsed.as_nanos()).unwrap_or(u64::MAX);
+        Ok(Speed(bytes.saturating_mul(1_000) / nanoseconds.max(1)))
+    }
+
+    /// How many hundredths of another speed it is.
+    pub fn percent_of(self, other: Speed) -> u64 {
+        self.0.saturating_mul(100) / other.0.max(1)
+    }
+}
+
+impl fmt::Display for Speed {
+    fn fmt<W: fmt::Write>(&self, f: &mut fmt::Formatter<W>) -> fmt::Result {
+        write!(f, "{}.{:02} GB/s", self.0 / 1_000, self.0 % 1_000 / 10)
+    }
+}

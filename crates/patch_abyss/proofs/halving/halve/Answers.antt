@@ -1,0 +1,29 @@
+use Rattle.std.proofs.Common.{◌≡◌, ap, sym, ◌∙◌, rules, length, subst}
+use Rattle.std.proofs.lemmas.List.{with_items_is}
+use Rattle.plane_rect.specs.Rectangle.{Rectangle, InLimits, halved}
+use Rattle.images.specs.Image.{drawn}
+use Rattle.abyss_levels.specs.Level.{mean_at}
+use Rattle.patch_abyss.specs.Spelled.{spelled}
+use Rattle.patch_abyss.proofs.DrawnRows.{RowsDrawn-all}
+use Rattle.patch_abyss.proofs.HalvedRows.{halved-limits}
+use Rattle.patch_abyss.proofs.halving.halve.Goals as goal
+
+pub byte_count-requires : goal.byte_count-requires
+byte_count-requires c =
+    subst InLimits (sym c.halved-rect.ensures.value) (halved-limits c.rect.result c.rect.ensures.rectangle c.rect.ensures.limits)
+
+pub from_bytes-requires-clause-limits : goal.from_bytes-requires-clause-limits
+from_bytes-requires-clause-limits c =
+    subst InLimits (sym c.halved-rect.ensures.value) (halved-limits c.rect.result c.rect.ensures.rectangle c.rect.ensures.limits)
+
+pub returns : goal.returns
+returns c =
+    let image = c.args.image.now in
+    let rect = c.halved-rect.result in
+    let new = c.halve_rows.new.bytes in
+    let fits : length new ≡ c.in_ok-bytes.bytes.len = search rules in
+    rw c.format-format.ensures at c.from_bytes.ensures
+    ∙ ap (spelled rect image.format) (with_items_is c.in_ok-bytes.bytes new fits)
+    ∙ RowsDrawn-all rect image.format (mean_at image) new c.halve_rows.ensures.drawn
+    ∙ ap (λ (r : Rectangle). drawn r image.format (mean_at image)) c.halved-rect.ensures.value
+    ∙ ap (λ (r : Rectangle). drawn (halved r) image.format (mean_at image)) c.rect.ensures.value

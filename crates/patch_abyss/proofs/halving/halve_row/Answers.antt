@@ -1,0 +1,50 @@
+use Rattle.std.proofs.Common.{◌≡◌, ℕ, ◌+◌, ◌*◌, ◌/◌, ◌<◌, length, sym, ap, ◌∙◌, refl, subst, arith}
+use Rattle.plane_rect.specs.Rectangle.{Rectangle}
+use Rattle.sample_rows.specs.Average.{mean_pixel}
+use Rattle.sample_rows.specs.Format.{pixel_bytes}
+use Rattle.sample_rows.specs.Row.{HasPixels, pixel_at}
+use Rattle.patch_abyss.proofs.HalvedRows.{shows_own, shows_read, mean_row, pair_count}
+use Rattle.patch_abyss.proofs.ReadPixels.{count_pixels}
+use Rattle.patch_abyss.proofs.TilesOfPatches.{few_bytes}
+use Rattle.patch_abyss.proofs.halving.halve_row.Goals as goal
+
+pub returns-then-has_rows-clause-pixels : goal.returns-then-has_rows-clause-pixels
+returns-then-has_rows-clause-pixels c = λ k channel inside known.
+    let image = c.args.image.now in
+    let columns = c.args.columns.now in
+    let h = c.if-has_rows.ensures in
+    let box = c.rect.ensures.value in
+    let start : image.box.left ≡ columns.left = sym (ap (λ (r : Rectangle). r.left) box) ∙ h.left refl in
+    let many : image.box.width ≡ columns.width = sym (ap (λ (r : Rectangle). r.width) box) ∙ h.width refl in
+    let up = c.row.result.now in
+    let down = c.row-then-has_rows.result.now in
+    let to = c.row_average4.new.dst in
+    let pairs = pair_count (pixel_bytes image.format) (length c.args.to.now) columns.width (few_bytes image.format).0 c.requires.whole c.requires.count in
+    let below : k < length c.args.to.now / pixel_bytes image.format = subst (λ (l : ℕ). k < l / pixel_bytes image.format) c.row_average4.auto.dst inside in
+    let means : HasPixels image.format to (λ k. mean_pixel (pixel_at image.format up (2 * k)) (pixel_at image.format up (2 * k + 1)) (pixel_at image.format down (2 * k)) (pixel_at image.format down (2 * k + 1))) =
+    rw c.format-format.ensures at c.row_average4.ensures in
+    means k channel inside known
+    ∙ mean_row image up down columns.width columns.left c.args.row
+    (shows_own image up columns.width columns.left c.args.row start many c.row.ensures.samples)
+    (shows_own image down columns.width columns.left (c.args.row + 1) start many c.row-then-has_rows.ensures.samples)
+    k channel (omega (arith, below, pairs)) known
+
+pub returns-clause-pixels : goal.returns-clause-pixels
+returns-clause-pixels c = λ k channel inside known.
+    let image = c.args.image.now in
+    let n = pixel_bytes image.format in
+    let columns = c.args.columns.now in
+    let up = c.read_row.new.to in
+    let down = c.read_row-2.new.to in
+    let to = c.row_average4-2.new.dst in
+    let pairs = pair_count n (length c.args.to.now) columns.width (few_bytes image.format).0 c.requires.whole c.requires.count in
+    let below : k < length c.args.to.now / n = subst (λ (l : ℕ). k < l / n) c.row_average4-2.auto.dst inside in
+    let many_up = count_pixels image.format up columns.width (c.read_row.ensures.len ∙ c.requires.up ∙ c.requires.count) in
+    let many_down = count_pixels image.format down columns.width (c.read_row-2.ensures.len ∙ c.requires.down ∙ c.requires.count) in
+    let means : HasPixels image.format to (λ k. mean_pixel (pixel_at image.format up (2 * k)) (pixel_at image.format up (2 * k + 1)) (pixel_at image.format down (2 * k)) (pixel_at image.format down (2 * k + 1))) =
+    rw c.format-format.ensures at c.row_average4-2.ensures in
+    means k channel inside known
+    ∙ mean_row image up down columns.width columns.left c.args.row
+    (shows_read image up columns.width columns.left c.args.row many_up c.read_row.ensures.pixels)
+    (shows_read image down columns.width columns.left (c.args.row + 1) many_down c.read_row-2.ensures.pixels)
+    k channel (omega (arith, below, pairs)) known

@@ -1,0 +1,115 @@
+//! Images halved.
+
+ghost use Rattle.std.specs.Prelude.{◌≡◌, ◌+◌, ◌*◌, ◌%◌, ◌<◌, IfOk, IsTrue, length};
+ghost use Rattle.plane_rect.specs.Rectangle.{Within, halved, plane_side};
+ghost use Rattle.sample_rows.specs.Average.{mean_pixel};
+ghost use Rattle.sample_rows.specs.Format.{pixel_bytes};
+ghost use Rattle.sample_rows.specs.Row.{HasPixels};
+ghost use Rattle.images.specs.Image.{at};
+ghost use Rattle.abyss_levels.specs.Level.{doubled, halved_image, mean_at};
+ghost use Rattle.patch_abyss.specs.Fetched.{RowsDrawn};
+ghost use Rattle.patch_abyss.specs.Spelled.{byte_count};
+
+use crate::patch::{Patch, byte_count};
+use crate::reading::read_row;
+use abyss_levels::Abyss;
+use no_memory::NoMemory;
+use plane_rect::Rect;
+use sample_rows::row_average4;
+use std::alloc::Global;
+
+/// The column or row at which the plane's origin stands.
+const ORIGIN: u32 = 1 << 24;
+
+/// The patch over half the image's rectangle: each sample is the mean of four of the image's,
+/// rounded to the nearest, where samples outside its rectangle are 0.
+///
+/// # Errors
+///
+/// No memory was left.
+pub fn halve(alloc: Global, image: &Patch) -> Result<Patch, NoMemory>
+    ensures { IfOk result (λ patch. patch ≡ halved_image image.now) }
+{
+    let format = image.format();
+    let rect = image.rect().halved();
+    let count = 2 * rect.w as usize * format.pixel_bytes() as usize;
+    let mut up = vec![in alloc; 0; count]?;
+    let mut down = vec![in alloc; 0; count]?;
+    let mut bytes = vec![in alloc; 0; byte_count(&rect, format)]?;
+    halve_rows(image, &rect, &mut up, &mut down, &mut bytes);
+    Ok(Patch::from_bytes(rect, format, bytes))
+}
+
+/// Writes the samples of a halved image, row by row. Two rows of twice the width hold those of the
+/// image that are averaged.
+fn halve_rows(image: &Patch, rect: &Rect, up: &mut [u8], down: &mut [u8], bytes: &mut [u8])
+    requires rect { rect.now ≡ halved image.now.box }
+    requires count { length bytes.old ≡ byte_count rect.now image.now.format }
+    requires up { length up.old ≡ 2 * rect.now.width * pixel_bytes image.now.format }
+    requires down { length down.old ≡ 2 * rect.now.width * pixel_bytes image.now.format }
+    ensures len { length bytes.new ≡ length bytes.old }
+    ensures drawn { RowsDrawn rect.now image.now.format (mean_at image.now) rect.now.height bytes.new }
+{
+    let columns = even_columns(&image.rect());
+    let count = rect.w as usize * image.format().pixel_bytes() as usize;
+    for row in rect.top()..rect.bottom() {
+        let start = (row - rect.top()) as usize * count;
+        let to = &mut bytes[start..start + count];
+        halve_row(image, &columns, 2 * row - ORIGIN, up, down, to);
+    }
+}
+
+/// Writes the means of a row over some columns and the row below it, pair by pair.
+fn halve_row(image: &Patch, columns: &Rect, row: u32, up: &mut [u8], down: &mut [u8], to: &mut [u8])
+    requires row { row + 1 < plane_side }
+    requires whole { length to.old % pixel_bytes image.now.format ≡ 0 }
+    requires count { 2 * length to.old ≡ columns.now.width * pixel_bytes image.now.format }
+    requires up { length up.old ≡ 2 * length to.old }
+    requires down { length down.old ≡ 2 * length to.old }
+    ensures up { length up.new ≡ length up.old }
+    ensures down { length down.new ≡ length down.old }
+    ensures len { length to.new ≡ length to.old }
+    ensures pixels { HasPixels image.now.format to.new (λ k. mean_pixel
+        (at image.now (columns.now.left + 2 * k) row)
+        (at image.now (columns.now.left + (2 * k + 1)) row)
+        (at image.now (columns.now.left + 2 * k) (row + 1))
+        (at image.now (columns.now.left + (2 * k + 1)) (row + 1))) }
+{
+    let format = image.format();
+    if has_rows(&image.rect(), columns, row) {
+        row_average4(format, image.row(row), image.row(row + 1), to);
+        return;
+    }
+    read_row(image, Abyss::None, columns, row, up);
+    read_row(image, Abyss::None, columns, row + 1, down);
+    row_average4(format, up, down, to);
+}
+
+/// Whether a rectangle has just these columns, and a row and the row below it.
+fn has_rows(rect: &Rect, columns: &Rect, row: u32) -> bool
+    requires { row + 1 < plane_side }
+    ensures left { IsTrue result → rect.now.left ≡ columns.now.left }
+    ensures width { IsTrue result → rect.now.width ≡ columns.now.width }
+    ensures row { IsTrue result → Within rect.now.top rect.now.height row }
+    ensures below { IsTrue result → Within rect.now.top rect.now.height (row + 1) }
+{
+    rect.left() == columns.left()
+        && rect.w == columns.w
+        && rect.top() <= row
+        && row + 1 < rect.bottom()
+}
+
+/// The rectangle with a column more on each side where the first is odd or the last is even, so that
+/// the columns that are averaged to one lie in it together.
+fn even_columns(rect: &Rect) -> Rect
+    ensures left { result.left ≡ doubled (halved rect.now).left }
+    ensures width { result.width ≡ 2 * (halved rect.now).width }
+{
+    let (left, right) = (rect.left(), rect.right());
+    Rect::spanning(
+        left - left % 2,
+        rect.top(),
+        right + right % 2,
+        rect.bottom(),
+    )
+}
