@@ -33,7 +33,7 @@ stays_in_capacity bytes capacity counted (pair ∷ pairs) few =
     (omega (arith, length-take capacity list))
 
 -- pairs that pass the test are one
-same_pair-true : (a b : Pair) → same_pair a b ≡ true → a ≡ b
+pub same_pair-true : (a b : Pair) → same_pair a b ≡ true → a ≡ b
 same_pair-true a b e = by (bytes_eq a.node b.node) refl (same_tile a.tile b.tile) refl e
   where
     joined : a.node ≡ b.node → a.tile ≡ b.tile → a ≡ b
@@ -76,7 +76,7 @@ all-filter P test (c ∷ list) h = by (test c) (all-filter P test list h.1)
     by true rest = (h.0, rest)
     by false rest = rest
 
-distinct-filter : (test : Cached → Bool) (list : List Cached) → HasDistinctPairs list → HasDistinctPairs (filter test list)
+pub distinct-filter : (test : Cached → Bool) (list : List Cached) → HasDistinctPairs list → HasDistinctPairs (filter test list)
 unfolding IsDistinct
 distinct-filter test [] h = tt
 distinct-filter test (c ∷ list) h = by (test c) (distinct-filter test list h.1)

@@ -2,7 +2,7 @@
 use Rattle.std.proofs.Common.{Bool, true, false, List, [], ◌∷◌, cond, refl, Result, Ok, Err, IfOk}
 use Rattle.std.specs.Prelude.{◌==◌}
 use Rattle.graphs.specs.Node.{Node}
-use Rattle.graph_states.specs.Meanings.{Meanings}
+use Rattle.operation_meanings.specs.Meanings.{Meanings}
 use Rattle.graph_states.specs.Sources.{Sources}
 use Rattle.graph_states.specs.Edits.{StateRefused, TooManyCommits, edited}
 use Rattle.graph_states.specs.History.{History, Parted, Appends, Returns, committed, commit_of, with_commit, undone, undo_to, redone, redo_to, with_state, left_behind, number_of, last_number}

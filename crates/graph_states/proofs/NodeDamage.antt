@@ -1,144 +1,246 @@
--- Outside its damage each node's image stands where samples of buffers change.
-use Rattle.std.proofs.Common.{◌≡◌, ℕ, suc, ◌<◌, Bool, List, [], ◌∷◌, ◌++◌, map, length, get_or, IsTrue, refl, sym, ap, ◌∙◌, subst, arith}
-use Rattle.std.specs.Prelude.{All}
+-- Outside its damage each node's image stands.
+use Rattle.std.proofs.Common.{◌≡◌, ℕ, suc, ◌+◌, ◌<◌, ◌≤◌, Bool, true, false, cond, List, [], ◌∷◌, ◌++◌, map, length, get_or, inl, inr, refl, sym, ap, ◌∙◌, subst, arith, Some}
+use Rattle.std.specs.Prelude.{All, slice_get}
 use Rattle.std.specs.List.{enumerate_from}
-use Rattle.std.proofs.lemmas.Bool.Decides.{nat_tests}
-use Rattle.std.proofs.lemmas.List.{length-append, get_or_at, get_or_default, length-map, map-append}
-use Rattle.plane_rect.specs.Rectangle.{Rectangle, Includes, empty, hull, meet}
-use Rattle.plane_rect.proofs.RectangleLaws.{Includes-hull_right}
-use Rattle.images.specs.Image.{Image}
+use Rattle.std.proofs.lemmas.Bool.{cases_lt}
+use Rattle.std.proofs.lemmas.List.{length-append, get_or_append_left, get_or_at, get_or_default, get_or_past, get_or-map, length-map}
+use Rattle.std.proofs.lemmas.Option.{slice_get_within}
+use Rattle.plane_rect.specs.Rectangle.{Rectangle, Includes, Lies, empty, hull, meet}
+use Rattle.plane_rect.proofs.RectangleLaws.{Includes-hull_left}
+use Rattle.images.specs.Image.{Image, at}
 use Rattle.images.specs.Agreement.{AgreeOutside}
-use Rattle.graphs.specs.Node.{Node, Body, Source, Compute, Step, index_of, step_of}
 use Rattle.images.specs.Paint.{no_image}
-use Rattle.graphs.specs.Evaluation.{step_image, images_after}
-use Rattle.graph_states.specs.Edits.{has_node}
-use Rattle.graph_states.specs.Meanings.{Meanings, result_of, boxes_of}
-use Rattle.graph_states.specs.Sources.{Sources, images_of}
-use Rattle.graph_states.specs.Valid.{Shape, no_shape, steps_of, IsValidStep, AreValidSteps, AreValid, step_shape}
-use Rattle.graph_states.specs.State.{Scene, image_of, node_of, shape_of, node_shapes}
-use Rattle.graph_states.specs.History.{Rectangles, rectangle_of}
+use Rattle.images.proofs.Laws.{at_outside}
+use Rattle.graphs.specs.Node.{Node, Body, Source, Compute, index_of, step_of}
+use Rattle.graphs.specs.Evaluation.{buffer_image}
+use Rattle.operation_meanings.specs.Meanings.{Meanings, result_of, boxes_of, formats_of}
+use Rattle.graph_states.specs.Sources.{images_of}
+use Rattle.graph_states.specs.Valid.{Shape, steps_of}
+use Rattle.graph_states.specs.State.{Scene, body_image, image_of, node_of, shape_of, node_images}
+use Rattle.graph_states.specs.History.{rectangle_of}
 use Rattle.graph_states.specs.Regions.{hull_of}
-use Rattle.graph_states.specs.Damage.{root_of, is_kept, new_boxes, damage_passed_on, new_shape, damage_of_node, damages_after, damages, damage}
-use Rattle.graph_states.specs.Laws.{KeepsLaws, samples_change, ChangesSamples}
-use Rattle.graph_states.proofs.Agreeing.{agree-itself, agree-meet, agree-box}
-use Rattle.graph_states.proofs.Shapes.{shape, shape_at, step_shape-is}
-use Rattle.graph_states.proofs.PrefixLaws.{images_after-keeps, length-images_after}
-use Rattle.graph_states.proofs.DamageLaws.{ListsAgree, lists_agree-more, at_places, places_of, buffers_agree, boxes_alike, compute_agree, agree-either}
+use Rattle.graph_states.specs.Damage.{Change, IsChange, SamplesAgreeOutside, root_of, inputs_of, is_kept, known_damage, damage_passed_on, new_shape, damage_of_node, damages_after, damages, damage}
+use Rattle.operation_meanings.specs.Laws.{KeepsLaws, TellsApart}
+use Rattle.graph_states.proofs.Agreeing.{agree-meet, agree-boxes}
+use Rattle.graph_states.proofs.DamageLaws.{buffers_agree, compute_agree}
+use Rattle.graph_states.proofs.Kept.{KeptFrom, SameShapes, kept-from_test}
+use Rattle.graph_states.proofs.Places.{found_name, source_there, inputs_before}
+use Rattle.graph_states.proofs.PrefixLaws.{length-images_after}
+use Rattle.graph_states.proofs.Shapes.{shape, shape_at}
+use Rattle.graph_states.proofs.Unrolled.{image_by_body, places_of}
 
--- the images of so many steps, and those of all
-abbrev images_to : {Op : Type 0} → Meanings Op → Sources → List Image → List (Step Op) → List Image
-images_to meanings sources known steps = images_after (result_of meanings) (images_of sources) known steps
+pub shape_is : {Op : Type 0} (meanings : Meanings Op) (scene : Scene Op) (name : List ℕ) → shape_of meanings scene name ≡ shape (image_of meanings scene name)
+shape_is meanings scene name = shape_at meanings scene.table (steps_of scene.nodes) (index_of scene.nodes name)
 
-abbrev scene : {Op : Type 0} → Sources → List (Node Op) → Scene Op
-scene sources nodes = record { table = sources; nodes = nodes }
+-- a node that is not there has the image of no place
+pub image_past : {Op : Type 0} (meanings : Meanings Op) (scene : Scene Op) (name : List ℕ) → length scene.nodes ≤ index_of scene.nodes name → image_of meanings scene name ≡ no_image
+image_past {Op} meanings scene name past =
+    get_or_past (node_images meanings scene) (index_of scene.nodes name) no_image
+    (omega (arith, past, length-images_after (result_of meanings) (images_of scene.table) [] (steps_of scene.nodes), length-map scene.nodes (λ (node : Node Op). step_of scene.nodes node.body)))
 
--- the image of a body behind known ones
-abbrev body_image : {Op : Type 0} → Meanings Op → Sources → List (Node Op) → List Image → Body Op → Image
-body_image meanings sources nodes known body = step_image (result_of meanings) (images_of sources) known (step_of nodes body)
+nowhere : (u v : ℕ) → ¬ Lies u v empty
+nowhere u v there = omega (arith, there.column)
 
--- a known image has the shape of the node at its place
-known_shape : {Op : Type 0} (meanings : Meanings Op) (sources : Sources) (nodes : List (Node Op)) (known : List Image) (rest : List (Step Op)) →
-    images_to meanings sources known rest ≡ images_to meanings sources [] (steps_of nodes) → (i : ℕ) → i < length known →
-    get_or (node_shapes meanings (scene sources nodes)) i no_shape ≡ shape (get_or known i no_image)
-known_shape meanings sources nodes known rest final i less =
-    shape_at meanings sources (steps_of nodes) i
-    ∙ ap (λ images. shape (get_or images i no_image)) (sym final)
-    ∙ ap shape (images_after-keeps (result_of meanings) (images_of sources) known rest i no_image less)
+module _ {Op : Type 0} (same : Op → Op → Bool) (meanings : Meanings Op) (change : Change Op)
+    (laws : KeepsLaws meanings) (apart : TellsApart same) (valid : IsChange meanings change) where
+  abbrev old_image : List ℕ → Image
+  old_image = image_of meanings change.old
 
--- so have the inputs of a valid step
-input_boxes_known : {Op : Type 0} (meanings : Meanings Op) (old new : Sources) (nodes : List (Node Op)) (rectangles : Rectangles) (known : List Image) (inputs : List (List ℕ)) →
-    ((i : ℕ) → i < length known → get_or (node_shapes meanings (scene new nodes)) i no_shape ≡ shape (get_or known i no_image)) →
-    All (λ i. i < length known) (places_of nodes inputs) →
-    new_boxes meanings (samples_change old new nodes rectangles) inputs ≡ boxes_of (at_places known (places_of nodes inputs))
-input_boxes_known meanings old new nodes rectangles known [] shapes earlier = refl
-input_boxes_known meanings old new nodes rectangles known (input ∷ inputs) shapes earlier =
-    let first = shapes (index_of nodes input) (earlier 0 0 (omega arith)) in
-    let later : All (λ i. i < length known) (places_of nodes inputs) = λ k d less. earlier (suc k) d (omega arith) in
-    ap (λ (s : Shape). s.box ∷ new_boxes meanings (samples_change old new nodes rectangles) inputs) first
-    ∙ ap (λ boxes. (get_or known (index_of nodes input) no_image).box ∷ boxes) (input_boxes_known meanings old new nodes rectangles known inputs shapes later)
+  abbrev new_image : List ℕ → Image
+  new_image = image_of meanings change.new
 
--- what the damage of the nodes before it leaves of a body's image
-passed_agree : {Op : Type 0} (meanings : Meanings Op) (old new : Sources) (nodes : List (Node Op)) (rectangles : Rectangles) (a b : List Image) (rs : List Rectangle) (body : Body Op) (box : Rectangle) →
-    KeepsLaws meanings → ChangesSamples old new rectangles → ListsAgree a b rs →
-    ((i : ℕ) → i < length b → get_or (node_shapes meanings (scene new nodes)) i no_shape ≡ shape (get_or b i no_image)) →
-    IsValidStep meanings new (map shape b) (step_of nodes body) →
-    box ≡ (body_image meanings new nodes b body).box →
-    AgreeOutside (body_image meanings old nodes a body) (body_image meanings new nodes b body) (damage_passed_on meanings (samples_change old new nodes rectangles) rs box body)
-passed_agree meanings old new nodes rectangles a b rs (Source buffer) box laws changes lists shapes valid is =
-    let x = body_image meanings old nodes a (Source buffer) in
-    let y = body_image meanings new nodes b (Source buffer) in
-    subst (λ box. AgreeOutside x y (meet (rectangle_of rectangles (root_of new buffer)) box)) (sym is)
-    (agree-meet x y (rectangle_of rectangles (root_of new buffer)) (buffers_agree old new rectangles buffer changes))
-passed_agree meanings old new nodes rectangles a b rs (Compute operation inputs) box laws changes lists shapes valid is =
-    let x = body_image meanings old nodes a (Compute operation inputs) in
-    let y = body_image meanings new nodes b (Compute operation inputs) in
-    let earlier : All (λ i. i < length b) (places_of nodes inputs) =
-    subst (λ n. All (λ i. i < n) (places_of nodes inputs)) (length-map b shape) valid.inputs_earlier in
-    let boxes = boxes_alike a b rs (places_of nodes inputs) lists ∙ sym (input_boxes_known meanings old new nodes rectangles b inputs shapes earlier) in
-    subst (λ boxes. AgreeOutside x y (hull_of (map (λ (input : ℕ × List ℕ). meanings.invalidated operation boxes input.0 (get_or rs (index_of nodes input.1) empty)) (enumerate_from 0 inputs)))) boxes
-    (compute_agree meanings nodes a b rs operation inputs laws lists)
+  -- what is claimed of a name and its damage
+  pub record Stands (name : List ℕ) (r : Rectangle) : Type 0 where
+    pub samples : SamplesAgreeOutside (old_image name) (new_image name) r
+    pub kept : (node : Node Op) → node_of change.new.nodes name ≡ Some node → is_kept same meanings change node (node_of change.old.nodes name) ≡ true →
+        AgreeOutside (old_image name) (new_image name) r
+    pub changed : ((node : Node Op) → node_of change.new.nodes name ≡ Some node → is_kept same meanings change node (node_of change.old.nodes name) ≡ true → ⊥) →
+        Includes r (shape_of meanings change.old name).box
 
--- a node's image outside its damage
-node_agree : {Op : Type 0} (same : Op → Op → Bool) (meanings : Meanings Op) (old new : Sources) (nodes : List (Node Op)) (rectangles : Rectangles) (a b : List Image) (rs : List Rectangle) (node : Node Op) →
-    KeepsLaws meanings → ChangesSamples old new rectangles → ListsAgree a b rs →
-    ((i : ℕ) → i < length b → get_or (node_shapes meanings (scene new nodes)) i no_shape ≡ shape (get_or b i no_image)) →
-    IsValidStep meanings new (map shape b) (step_of nodes node.body) →
-    new_shape meanings (samples_change old new nodes rectangles) (length rs) ≡ shape (body_image meanings new nodes b node.body) →
-    AgreeOutside (body_image meanings old nodes a node.body) (body_image meanings new nodes b node.body) (damage_of_node same meanings (samples_change old new nodes rectangles) rs node)
-node_agree same meanings old new nodes rectangles a b rs node laws changes lists shapes valid is =
-    let x = body_image meanings old nodes a node.body in
-    let y = body_image meanings new nodes b node.body in
-    let change = samples_change old new nodes rectangles in
-    let box = (new_shape meanings change (length rs)).box in
-    let was = (shape_of meanings change.old node.name).box in
-    let here : box ≡ y.box = ap (λ (s : Shape). s.box) is in
-    let passed = passed_agree meanings old new nodes rectangles a b rs node.body box laws changes lists shapes valid here in
-    let whole : Includes (hull was box) y.box = subst (λ r. Includes (hull was box) r) here (Includes-hull_right was box) in
-    agree-either x y (is_kept same meanings change node (node_of nodes node.name))
-    (damage_passed_on meanings change rs box node.body) (hull was box)
-    passed
-    (agree-box x y (hull was box) passed.box passed.format whole)
+  -- the nodes whose damage is known stand
+  abbrev pub AreStanding : List Rectangle → Type 0
+  AreStanding known =
+      (name : List ℕ) → index_of change.new.nodes name < length known → Stands name (known_damage change known name)
 
--- all nodes' images outside their damages
-all_agree : {Op : Type 0} (same : Op → Op → Bool) (meanings : Meanings Op) (old new : Sources) (nodes : List (Node Op)) (rectangles : Rectangles) (a b : List Image) (rs : List Rectangle) (rest : List (Node Op)) →
-    KeepsLaws meanings → ChangesSamples old new rectangles → ListsAgree a b rs →
-    AreValidSteps meanings new (map shape b) (map (λ (node : Node Op). step_of nodes node.body) rest) →
-    images_to meanings new b (map (λ (node : Node Op). step_of nodes node.body) rest) ≡ images_to meanings new [] (steps_of nodes) →
-    ListsAgree
-    (images_to meanings old a (map (λ (node : Node Op). step_of nodes node.body) rest))
-    (images_to meanings new b (map (λ (node : Node Op). step_of nodes node.body) rest))
-    (damages_after same meanings (samples_change old new nodes rectangles) rs rest)
-all_agree same meanings old new nodes rectangles a b rs [] laws changes lists valid final = lists
-all_agree {Op} same meanings old new nodes rectangles a b rs (node ∷ rest) laws changes lists valid final =
-    let step : Node Op → Step Op = λ (node : Node Op). step_of nodes node.body in
-    let x = body_image meanings old nodes a node.body in
-    let y = body_image meanings new nodes b node.body in
-    let r = damage_of_node same meanings (samples_change old new nodes rectangles) rs node in
-    let longer = b ++ y ∷ [] in
-    let inside : length b < length longer = omega (arith, length-append b (y ∷ [])) in
-    let is : new_shape meanings (samples_change old new nodes rectangles) (length rs) ≡ shape y =
-    ap (λ n. get_or (node_shapes meanings (scene new nodes)) n no_shape) lists.as_many
-    ∙ known_shape meanings new nodes longer (map step rest) final (length b) inside
-    ∙ ap shape (get_or_at b y [] no_image (length b) refl) in
-    let agreed = node_agree same meanings old new nodes rectangles a b rs node laws changes lists (known_shape meanings new nodes b (map step (node ∷ rest)) final) valid.0 is in
-    let known : map shape b ++ step_shape meanings new (map shape b) (step node) ∷ [] ≡ map shape longer =
-    ap (λ (s : Shape). map shape b ++ s ∷ []) (step_shape-is meanings new b (step node)) ∙ sym (map-append shape b (y ∷ [])) in
-    all_agree same meanings old new nodes rectangles (a ++ x ∷ []) longer (rs ++ r ∷ []) rest laws changes
-    (lists_agree-more a b rs x y r lists agreed)
-    (subst (λ shapes. AreValidSteps meanings new shapes (map step rest)) known valid.1)
-    final
+  -- ---- the inputs of a kept node
 
-pub stands_outside_damage : {Op : Type 0} (same : Op → Op → Bool) (meanings : Meanings Op) (nodes : List (Node Op)) (old new : Sources) (rectangles : Rectangles) (name : List ℕ) →
-    KeepsLaws meanings → AreValid meanings new nodes → ChangesSamples old new rectangles → IsTrue (has_node nodes name) →
-    AgreeOutside (image_of meanings (scene old nodes) name) (image_of meanings (scene new nodes) name) (damage same meanings (samples_change old new nodes rectangles) name)
-stands_outside_damage {Op} same meanings nodes old new rectangles name laws valid changes there =
-    let step : Node Op → Step Op = λ (node : Node Op). step_of nodes node.body in
-    let change = samples_change old new nodes rectangles in
-    let none : ListsAgree [] [] [] = record { same_length = refl; as_many = refl; each = λ i. agree-itself no_image empty } in
-    let all = all_agree same meanings old new nodes rectangles [] [] [] nodes laws changes none valid.steps refl in
-    let place : index_of nodes name < length nodes = grind (arith, nat_tests) in
-    let known : index_of nodes name < length (damages same meanings change) =
-    omega (arith, place, all.as_many, length-images_after (result_of meanings) (images_of new) [] (steps_of nodes), length-map nodes step) in
-    subst (λ r. AgreeOutside (image_of meanings (scene old nodes) name) (image_of meanings (scene new nodes) name) r)
-    (get_or_default (damages same meanings change) (index_of nodes name) empty (shape_of meanings change.old name).box known)
-    (all.each (index_of nodes name))
+  boxes_same : (names : List (List ℕ)) → SameShapes meanings change names → boxes_of (map old_image names) ≡ boxes_of (map new_image names)
+  boxes_same [] shapes = refl
+  boxes_same (name ∷ names) shapes =
+      let first : (old_image name).box ≡ (new_image name).box =
+      ap (λ (s : Shape). s.box) (sym (shape_is meanings change.old name) ∙ shapes.0 ∙ shape_is meanings change.new name) in
+      ap (λ box. box ∷ boxes_of (map old_image names)) first
+      ∙ ap (λ boxes. (new_image name).box ∷ boxes) (boxes_same names shapes.1)
+
+  formats_same : (names : List (List ℕ)) → SameShapes meanings change names → formats_of (map old_image names) ≡ formats_of (map new_image names)
+  formats_same [] shapes = refl
+  formats_same (name ∷ names) shapes =
+      let first : (old_image name).format ≡ (new_image name).format =
+      ap (λ (s : Shape). s.format) (sym (shape_is meanings change.old name) ∙ shapes.0 ∙ shape_is meanings change.new name) in
+      ap (λ format. format ∷ formats_of (map old_image names)) first
+      ∙ ap (λ formats. (new_image name).format ∷ formats) (formats_same names shapes.1)
+
+  new_boxes-is : (names : List (List ℕ)) → map (λ name. (shape_of meanings change.new name).box) names ≡ boxes_of (map new_image names)
+  new_boxes-is [] = refl
+  new_boxes-is (name ∷ names) =
+      ap (λ (s : Shape). s.box ∷ map (λ name. (shape_of meanings change.new name).box) names) (shape_is meanings change.new name)
+      ∙ ap (λ boxes. (new_image name).box ∷ boxes) (new_boxes-is names)
+
+  -- ---- a kept node
+
+  -- a body that is in both states, of which the inputs are known, in a box
+  body_agree : (known : List Rectangle) (node old : Node Op) (body : Body Op) (box : Rectangle) → AreStanding known →
+      node_of change.new.nodes node.name ≡ Some node → node_of change.old.nodes node.name ≡ Some old →
+      index_of change.new.nodes node.name ≡ length known →
+      old.body ≡ body → node.body ≡ body → SameShapes meanings change (inputs_of body) →
+      box ≡ (body_image meanings change.new body).box →
+      AgreeOutside (body_image meanings change.old body) (body_image meanings change.new body) (damage_passed_on meanings change known box body)
+  body_agree known node old (Source buffer) box standing found was place is_old is_new shapes is_box =
+      let x = buffer_image (images_of change.old.table) buffer in
+      let y = buffer_image (images_of change.new.table) buffer in
+      let r = rectangle_of change.rectangles (root_of change.new.table buffer) in
+      let agreed = buffers_agree change.old.table change.new.table change.rectangles buffer valid.neighbours
+      (source_there meanings change.old.table change.old.nodes node.name old buffer valid.old was is_old)
+      (source_there meanings change.new.table change.new.nodes node.name node buffer valid.new found is_new) in
+      subst (λ box. AgreeOutside x y (meet r box)) (sym is_box) (agree-meet x y r agreed)
+  body_agree known node old (Compute operation inputs) box standing found was place is_old is_new shapes is_box =
+      let earlier = inputs_before meanings change.new.table change.new.nodes node.name node operation inputs valid.new found is_new in
+      subst (λ boxes. AgreeOutside (result_of meanings operation (map old_image inputs)) (result_of meanings operation (map new_image inputs))
+      (hull_of (map (λ (input : ℕ × List ℕ). meanings.invalidated operation boxes input.0 (known_damage change known input.1)) (enumerate_from 0 inputs)))) (sym (new_boxes-is inputs))
+      (compute_agree meanings operation inputs old_image new_image (known_damage change known) laws (boxes_same inputs shapes) (formats_same inputs shapes)
+      (λ i less. (standing (get_or inputs i []) (input_known i less earlier)).samples))
+    where
+      input_known : (i : ℕ) → i < length inputs → All (λ i. i < index_of change.new.nodes node.name) (places_of change.new.nodes inputs) →
+          index_of change.new.nodes (get_or inputs i []) < length known
+      input_known i less earlier =
+          let there = earlier i 0 (omega (arith, length-map inputs (index_of change.new.nodes))) in
+          let is = get_or-map (index_of change.new.nodes) inputs i [] 0 less in
+          omega (arith, there, is, place)
+
+  kept_agree : (known : List Rectangle) (node : Node Op) (box : Rectangle) → AreStanding known →
+      node_of change.new.nodes node.name ≡ Some node → index_of change.new.nodes node.name ≡ length known →
+      KeptFrom meanings change node (node_of change.old.nodes node.name) → box ≡ (new_image node.name).box →
+      AgreeOutside (old_image node.name) (new_image node.name) (damage_passed_on meanings change known box node.body)
+  kept_agree known node box standing found place kept is_box =
+      let r = damage_passed_on meanings change known box node.body in
+      let was = image_by_body meanings change.old.table change.old.nodes node.name kept.old valid.old kept.found_is in
+      let is = image_by_body meanings change.new.table change.new.nodes node.name node valid.new found in
+      let before : old_image node.name ≡ body_image meanings change.old node.body = was ∙ ap (body_image meanings change.old) kept.body in
+      let agreed = body_agree known node kept.old node.body box standing found kept.found_is place kept.body refl kept.shapes
+      (is_box ∙ ap (λ (image : Image). image.box) is) in
+      subst (λ a. AgreeOutside a (new_image node.name) r) (sym before)
+      (subst (λ b. AgreeOutside (body_image meanings change.old node.body) b r) (sym is) agreed)
+
+  -- ---- a node
+
+  node_stands : (known : List Rectangle) (node : Node Op) → AreStanding known →
+      node_of change.new.nodes node.name ≡ Some node → index_of change.new.nodes node.name ≡ length known →
+      Stands node.name (damage_of_node same meanings change known node)
+  node_stands known node standing found place =
+      by (is_kept same meanings change node (node_of change.old.nodes node.name)) refl
+    where
+      box : Rectangle
+      box = (new_shape meanings change (length known)).box
+
+      was : Rectangle
+      was = (shape_of meanings change.old node.name).box
+
+      box-is : box ≡ (new_image node.name).box
+      box-is =
+          ap (λ i. (new_shape meanings change i).box) (sym place)
+          ∙ ap (λ (s : Shape). s.box) (shape_is meanings change.new node.name)
+
+      was-is : was ≡ (old_image node.name).box
+      was-is = ap (λ (s : Shape). s.box) (shape_is meanings change.old node.name)
+
+      same_node : (other : Node Op) → node_of change.new.nodes node.name ≡ Some other → node ≡ other
+      same_node other e = cc (found, e)
+
+      outside : SamplesAgreeOutside (old_image node.name) (new_image node.name) (hull was box)
+      outside =
+          subst (λ r. SamplesAgreeOutside (old_image node.name) (new_image node.name) (hull r box)) (sym was-is)
+          (subst (λ r. SamplesAgreeOutside (old_image node.name) (new_image node.name) (hull (old_image node.name).box r)) (sym box-is)
+          (agree-boxes (old_image node.name) (new_image node.name)))
+
+      by : (kept : Bool) → is_kept same meanings change node (node_of change.old.nodes node.name) ≡ kept →
+          Stands node.name (cond kept (damage_passed_on meanings change known box node.body) (hull was box))
+      by true e =
+          let agreed = kept_agree known node box standing found place
+          (kept-from_test same meanings change node (node_of change.old.nodes node.name) apart e) box-is in
+          record { samples = agreed.samples; kept = λ other there test. agreed; changed = λ never. absurd (never node found e) }
+      by false e =
+          record {
+            samples = outside;
+            kept = λ other there test.
+                absurd (let is = same_node other there in
+                cc (e, test, ap (λ (n : Node Op). is_kept same meanings change n (node_of change.old.nodes node.name)) is));
+            changed = λ never. Includes-hull_left was box;
+          }
+
+  -- ---- all nodes
+
+  one_more : (known : List Rectangle) (node : Node Op) → AreStanding known → slice_get change.new.nodes (length known) ≡ Some node →
+      AreStanding (known ++ damage_of_node same meanings change known node ∷ [])
+  one_more known node standing here name less =
+      let i = index_of change.new.nodes name in
+      let r = damage_of_node same meanings change known node in
+      elim (cases_lt i (length known)) [
+        | inl before ↦
+            subst (Stands name) (sym (get_or_append_left known (r ∷ []) empty i before)) (standing name before)
+        | inr behind ↦
+            let place : i ≡ length known = omega (arith, length-append known (r ∷ [])) in
+            let found : node_of change.new.nodes name ≡ Some node = ap (λ n. slice_get change.new.nodes n) place ∙ here in
+            let named = found_name change.new.nodes name node found in
+            let is : known_damage change (known ++ r ∷ []) name ≡ r = get_or_at known r [] empty i (sym place) in
+            subst (Stands name) (sym is)
+            (subst (λ n. Stands n r) named
+            (node_stands known node standing
+            (ap (node_of change.new.nodes) named ∙ found)
+            (ap (index_of change.new.nodes) named ∙ place)))
+      ]
+
+  all_stand : (known : List Rectangle) (rest : List (Node Op)) → AreStanding known →
+      ((i : ℕ) → slice_get change.new.nodes (length known + i) ≡ slice_get rest i) → AreStanding (damages_after same meanings change known rest)
+  all_stand known [] standing behind = standing
+  all_stand known (node ∷ rest) standing behind =
+      let r = damage_of_node same meanings change known node in
+      let start : length known ≡ length known + 0 = omega arith in
+      let here : slice_get change.new.nodes (length known) ≡ Some node = ap (λ i. slice_get change.new.nodes i) start ∙ behind 0 in
+      all_stand (known ++ r ∷ []) rest (one_more known node standing here)
+      (λ i.
+      let next : length (known ++ r ∷ []) + i ≡ length known + suc i = omega (arith, length-append known (r ∷ [])) in
+      ap (λ n. slice_get change.new.nodes n) next ∙ behind (suc i))
+
+  length-damages_after : (known : List Rectangle) (rest : List (Node Op)) → length (damages_after same meanings change known rest) ≡ length known + length rest
+  length-damages_after known [] = omega arith
+  length-damages_after known (node ∷ rest) =
+      let r = damage_of_node same meanings change known node in
+      length-damages_after (known ++ r ∷ []) rest ∙ omega (arith, length-append known (r ∷ []))
+
+  pub stands : (name : List ℕ) → Stands name (damage same meanings change name)
+  stands name =
+      let nodes = change.new.nodes in
+      let i = index_of nodes name in
+      let rs = damages same meanings change in
+      let count : length rs ≡ length nodes = length-damages_after [] nodes ∙ omega arith in
+      elim (cases_lt i (length nodes)) [
+        | inl inside ↦
+            let less : i < length rs = omega (arith, count) in
+            let start : (k : ℕ) → slice_get nodes (0 + k) ≡ slice_get nodes k = λ k. ap (λ n. slice_get nodes n) (let e : 0 + k ≡ k = omega arith in e) in
+            subst (Stands name) (get_or_default rs i empty (shape_of meanings change.old name).box less)
+            (all_stand [] nodes (λ other none. absurd (omega arith)) start name less)
+        | inr past ↦
+            let gone = get_or_past rs i (shape_of meanings change.old name).box (omega (arith, count)) in
+            subst (Stands name) (sym gone) (gone_stands name past)
+      ]
+    where
+      gone_stands : (name : List ℕ) → length change.new.nodes ≤ index_of change.new.nodes name → Stands name (shape_of meanings change.old name).box
+      gone_stands name past =
+          let box : (shape_of meanings change.old name).box ≡ (old_image name).box = ap (λ (s : Shape). s.box) (shape_is meanings change.old name) in
+          record {
+            samples = λ u v c out.
+                at_outside (old_image name) u v c (λ inside. out (subst (λ (box : Rectangle). Lies u v box) (sym box) inside))
+                ∙ sym (ap (λ (image : Image). at image u v c) (image_past meanings change.new name past) ∙ at_outside no_image u v c (nowhere u v));
+            kept = λ node found test. absurd (let inside = slice_get_within change.new.nodes (index_of change.new.nodes name) node found in omega (arith, inside, past));
+            changed = λ never u v inside. inside;
+          }

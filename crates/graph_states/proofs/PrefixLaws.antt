@@ -12,7 +12,7 @@ use Rattle.graphs.specs.Node.{Node, Body, Source, Compute, Step, index_of, step_
 use Rattle.images.specs.Paint.{no_image}
 use Rattle.graphs.specs.Evaluation.{Buffers, step_image, images_after}
 use Rattle.graph_states.specs.Edits.{has_node}
-use Rattle.graph_states.specs.Meanings.{Meanings, result_of}
+use Rattle.operation_meanings.specs.Meanings.{Meanings, result_of}
 use Rattle.graph_states.specs.Sources.{Sources, images_of}
 use Rattle.graph_states.specs.State.{image_of}
 

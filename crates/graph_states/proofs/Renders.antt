@@ -3,7 +3,7 @@ use Rattle.std.proofs.Common.{ℕ, zero, suc, Bool, true, false, not, List, [], 
 use Rattle.std.specs.Prelude.{filter, find}
 use Rattle.std.specs.List.{AllByRecursion}
 use Rattle.graph_states.specs.Cache.{Pair, Cached, Counted, same_pair, cached_or, without_pair, looked_up, all_looked_up, AreRight, IsRight, pair_bytes, with_bytes}
-use Rattle.graph_states.specs.Meanings.{Meanings}
+use Rattle.operation_meanings.specs.Meanings.{Meanings}
 use Rattle.graph_states.specs.State.{Scene}
 
 all-take : (P : Cached → Type 0) (n : ℕ) (list : List Cached) → AllByRecursion P list → AllByRecursion P (take n list)

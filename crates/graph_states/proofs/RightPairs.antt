@@ -1,68 +1,98 @@
--- Right pairs stay right outside the damage where samples of buffers change.
-use Rattle.std.proofs.Common.{◌≡◌, ℕ, zero, suc, ◌<◌, Bool, true, false, not, List, [], ◌∷◌, length, IsTrue, IsSomeAnd, cond, refl, sym, ap, ◌∙◌, subst, arith}
-use Rattle.std.specs.Prelude.{slice_get}
+-- Right pairs stay right outside the damage.
+use Rattle.std.proofs.Common.{◌≡◌, ℕ, Bool, true, false, not, List, [], ◌∷◌, IsTrue, IsSomeAnd, cond, refl, sym, ap, ◌∙◌, subst, arith, Option, Some, None}
 use Rattle.std.specs.List.{AllByRecursion}
 use Rattle.std.proofs.lemmas.Bool.Decides.{nat_tests}
-use Rattle.graphs.specs.Node.{Node, index_of}
+use Rattle.plane_rect.specs.Rectangle.{Rectangle, Lies, has_places, meet}
+use Rattle.plane_rect.specs.Tile.{Tile, tile_square}
+use Rattle.plane_rect.proofs.Differences.{no_places}
+use Rattle.plane_rect.proofs.Rectangles.{Lies-meet}
+use Rattle.graphs.specs.Node.{Node, Body}
 use Rattle.graph_states.specs.Cache.{Cached, IsRight, IsComputed, without_damaged}
-use Rattle.graph_states.specs.Edits.{has_node}
-use Rattle.graph_states.specs.Meanings.{Meanings}
-use Rattle.graph_states.specs.Sources.{Sources}
-use Rattle.graph_states.specs.Valid.{Shape, AreValid, steps_of}
-use Rattle.graph_states.specs.State.{Scene, image_of, shape_of}
-use Rattle.graph_states.specs.History.{Rectangles}
+use Rattle.operation_meanings.specs.Meanings.{Meanings}
+use Rattle.graph_states.specs.Valid.{Shape}
+use Rattle.graph_states.specs.State.{image_of, node_of, shape_of}
 use Rattle.graph_states.specs.Regions.{meets}
-use Rattle.graph_states.specs.Damage.{damage}
-use Rattle.graph_states.specs.Laws.{KeepsLaws, samples_change, ChangesSamples}
+use Rattle.graph_states.specs.Damage.{Change, IsChange, damage, is_kept}
+use Rattle.operation_meanings.specs.Laws.{KeepsLaws, TellsApart}
 use Rattle.graph_states.proofs.Agreeing.{same_tile_bytes}
-use Rattle.graph_states.proofs.Shapes.{shape_at}
-use Rattle.graph_states.proofs.NodeDamage.{stands_outside_damage}
+use Rattle.graph_states.proofs.Kept.{kept-from_test}
+use Rattle.graph_states.proofs.NodeDamage.{shape_is, stands}
 
-abbrev scene : {Op : Type 0} → Sources → List (Node Op) → Scene Op
-scene sources nodes = record { table = sources; nodes = nodes }
+-- ---- tiles
 
-found_below : {X : Type 0} (P : X → Type 0) (xs : List X) (i : ℕ) → IsSomeAnd (slice_get xs i) P → i < length xs
-found_below P [] i found = absurd found
-found_below P (x ∷ xs) zero found = omega arith
-found_below P (x ∷ xs) (suc i) found = let below = found_below P xs i found in omega (arith, below)
+a_place : (r : Rectangle) → has_places r ≡ true → Lies r.left r.top r
+a_place r some = grind (arith, nat_tests)
 
-box_is : {Op : Type 0} (meanings : Meanings Op) (sources : Sources) (nodes : List (Node Op)) (name : List ℕ) →
-    (shape_of meanings (scene sources nodes) name).box ≡ (image_of meanings (scene sources nodes) name).box
-box_is meanings sources nodes name = ap (λ (s : Shape). s.box) (shape_at meanings sources (steps_of nodes) (index_of nodes name))
+-- a tile that does not meet a rectangle meets no part of it
+pub meets_no_part : (t : Tile) (r part : Rectangle) → ((u v : ℕ) → Lies u v part → Lies u v r) → meets t r ≡ false → meets t part ≡ true → ⊥
+meets_no_part t r part inside apart met =
+    let both = meet (tile_square t) part in
+    let there = (Lies-meet both.left both.top (tile_square t) part).0 (a_place both met) in
+    no_places both.left both.top (meet (tile_square t) r) apart
+    ((Lies-meet both.left both.top (tile_square t) r).1 (there.0, inside both.left both.top there.1))
 
-pub stays_right : {Op : Type 0} (same : Op → Op → Bool) (meanings : Meanings Op) (nodes : List (Node Op)) (old new : Sources) (rectangles : Rectangles) (cached : Cached) →
-    KeepsLaws meanings → AreValid meanings new nodes → ChangesSamples old new rectangles →
-    meets cached.pair.tile (damage same meanings (samples_change old new nodes rectangles) cached.pair.node) ≡ false →
-    IsRight meanings (scene old nodes) cached → IsRight meanings (scene new nodes) cached
-stays_right {Op} same meanings nodes old new rectangles cached laws valid changes apart right =
-    let name = cached.pair.node in
-    let a = image_of meanings (scene old nodes) name in
-    let b = image_of meanings (scene new nodes) name in
-    let below : index_of nodes name < length nodes = found_below (λ (node : Node Op). IsComputed node.body) nodes (index_of nodes name) right.computed in
-    let there : IsTrue (has_node nodes name) = grind (arith, nat_tests) in
-    let agreed = stands_outside_damage same meanings nodes old new rectangles name laws valid changes there in
-    let box = box_is meanings old nodes name ∙ agreed.box ∙ sym (box_is meanings new nodes name) in
-    record {
-      computed = right.computed;
-      meets_box = subst (λ r. IsTrue (meets cached.pair.tile r)) box right.meets_box;
-      bytes = right.bytes ∙ same_tile_bytes a b (damage same meanings (samples_change old new nodes rectangles) name) cached.pair.tile agreed apart;
-    }
+-- ---- pairs
 
--- what is left of a list of right pairs
-pub stay_right : {Op : Type 0} (same : Op → Op → Bool) (meanings : Meanings Op) (nodes : List (Node Op)) (old new : Sources) (rectangles : Rectangles) (list : List Cached) →
-    KeepsLaws meanings → AreValid meanings new nodes → ChangesSamples old new rectangles →
-    AllByRecursion (IsRight meanings (scene old nodes)) list →
-    AllByRecursion (IsRight meanings (scene new nodes)) (without_damaged (damage same meanings (samples_change old new nodes rectangles)) list)
-stay_right same meanings nodes old new rectangles [] laws valid changes right = tt
-stay_right same meanings nodes old new rectangles (c ∷ list) laws valid changes right =
-    by (meets c.pair.tile (damage same meanings (samples_change old new nodes rectangles) c.pair.node)) refl
-    (stay_right same meanings nodes old new rectangles list laws valid changes right.1)
-  where
-    rest : List Cached
-    rest = without_damaged (damage same meanings (samples_change old new nodes rectangles)) list
+module _ {Op : Type 0} (same : Op → Op → Bool) (meanings : Meanings Op) (change : Change Op)
+    (laws : KeepsLaws meanings) (tells : TellsApart same) (valid : IsChange meanings change) where
+  -- a node of the name is kept
+  abbrev IsKept : List ℕ → Type 0
+  IsKept name = (node : Node Op) × (node_of change.new.nodes name ≡ Some node) × (is_kept same meanings change node (node_of change.old.nodes name) ≡ true)
 
-    by : (b : Bool) → meets c.pair.tile (damage same meanings (samples_change old new nodes rectangles) c.pair.node) ≡ b →
-        AllByRecursion (IsRight meanings (scene new nodes)) rest →
-        AllByRecursion (IsRight meanings (scene new nodes)) (cond (not b) (c ∷ rest) rest)
-    by true e others = others
-    by false e others = (stays_right same meanings nodes old new rectangles c laws valid changes e right.0, others)
+  -- or else none is
+  pub by_kept : (P : Type 0) (name : List ℕ) → (IsKept name → P) → ((IsKept name → ⊥) → P) → P
+  by_kept P name kept lost = at (node_of change.new.nodes name) refl
+    where
+      test : Node Op → Bool
+      test node = is_kept same meanings change node (node_of change.old.nodes name)
+
+      of : (node : Node Op) → node_of change.new.nodes name ≡ Some node → (b : Bool) → test node ≡ b → P
+      of node found true e = kept (node, found, e)
+      of node found false e =
+          lost (λ k. let is : k.0 ≡ node = cc (k.1, found) in cc (k.2, e, ap test is))
+
+      at : (o : Option (Node Op)) → node_of change.new.nodes name ≡ o → P
+      at None none = lost (λ k. cc (k.1, none))
+      at (Some node) found = of node found (test node) refl
+
+  computed : (name : List ℕ) (kept : IsKept name) → IsSomeAnd (node_of change.old.nodes name) (λ (node : Node Op). IsComputed node.body) →
+      IsSomeAnd (node_of change.new.nodes name) (λ (node : Node Op). IsComputed node.body)
+  computed name kept was =
+      let from = kept-from_test same meanings change kept.0 (node_of change.old.nodes name) tells kept.2 in
+      let old : IsComputed from.old.body = subst (λ (o : Option (Node Op)). IsSomeAnd o (λ (node : Node Op). IsComputed node.body)) from.found_is was in
+      subst (λ (o : Option (Node Op)). IsSomeAnd o (λ (node : Node Op). IsComputed node.body)) (sym kept.1)
+      (subst (λ (body : Body Op). IsComputed body) from.body old)
+
+  pub stays_right : (cached : Cached) → meets cached.pair.tile (damage same meanings change cached.pair.node) ≡ false →
+      IsRight meanings change.old cached → IsRight meanings change.new cached
+  stays_right cached apart right =
+      let name = cached.pair.node in
+      let r = damage same meanings change name in
+      let all = stands same meanings change laws tells valid name in
+      by_kept (IsRight meanings change.new cached) name
+      (λ kept.
+      let agreed = all.kept kept.0 kept.1 kept.2 in
+      let box : (shape_of meanings change.old name).box ≡ (shape_of meanings change.new name).box =
+      ap (λ (s : Shape). s.box) (shape_is meanings change.old name) ∙ agreed.box ∙ sym (ap (λ (s : Shape). s.box) (shape_is meanings change.new name)) in
+      record {
+        computed = computed name kept right.computed;
+        meets_box = subst (λ r. IsTrue (meets cached.pair.tile r)) box right.meets_box;
+        bytes = right.bytes ∙ same_tile_bytes (image_of meanings change.old name) (image_of meanings change.new name) r cached.pair.tile agreed apart;
+      })
+      (λ lost.
+      absurd (meets_no_part cached.pair.tile r (shape_of meanings change.old name).box
+      (all.changed (λ node found test. lost (node, found, test))) apart right.meets_box))
+
+  -- what is left of a list of right pairs
+  pub stay_right : (list : List Cached) → AllByRecursion (IsRight meanings change.old) list →
+      AllByRecursion (IsRight meanings change.new) (without_damaged (damage same meanings change) list)
+  stay_right [] right = tt
+  stay_right (c ∷ list) right = by (meets c.pair.tile (damage same meanings change c.pair.node)) refl (stay_right list right.1)
+    where
+      rest : List Cached
+      rest = without_damaged (damage same meanings change) list
+
+      by : (b : Bool) → meets c.pair.tile (damage same meanings change c.pair.node) ≡ b →
+          AllByRecursion (IsRight meanings change.new) rest → AllByRecursion (IsRight meanings change.new) (cond (not b) (c ∷ rest) rest)
+      by true e others = others
+      by false e others = (stays_right c e right.0, others)

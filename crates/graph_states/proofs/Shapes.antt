@@ -1,5 +1,5 @@
 -- The shapes of nodes are those of their images.
-use Rattle.std.proofs.Common.{◌≡◌, ℕ, zero, suc, List, [], ◌∷◌, ◌++◌, map, get_or, refl, sym, ap, ◌∙◌, Some, None, Option, unwrap_or}
+use Rattle.std.proofs.Common.{◌≡◌, ℕ, zero, suc, List, [], ◌∷◌, ◌++◌, map, get_or, refl, sym, ap, ◌∙◌, Some, None, Option, is_some, unwrap_or}
 use Rattle.std.specs.Prelude.{option_map}
 use Rattle.std.specs.Str.{bytes_eq}
 use Rattle.std.proofs.lemmas.List.{map-append}
@@ -7,12 +7,15 @@ use Rattle.std.proofs.lemmas.Map.Made.{lookup-map_values}
 use Rattle.plane_rect.specs.Rectangle.{Rectangle}
 use Rattle.sample_rows.specs.declared.format.Format.{Format}
 use Rattle.images.specs.Image.{Image}
-use Rattle.graphs.specs.Node.{Step, FromBuffer, Apply}
+use Rattle.graphs.specs.Node.{Node, Step, FromBuffer, Apply}
 use Rattle.images.specs.Paint.{no_image}
 use Rattle.graphs.specs.Evaluation.{buffer_image, step_image, images_after}
-use Rattle.graph_states.specs.Meanings.{Meanings, result_of, result_box, result_format, boxes_of, formats_of}
+use Rattle.operation_meanings.specs.Meanings.{Meanings, result_of, result_box, result_format, boxes_of, formats_of}
 use Rattle.graph_states.specs.Sources.{Sources, SourceBuffer, source_of, images_of}
-use Rattle.graph_states.specs.Valid.{Shape, no_shape, shape_of_buffer, input_boxes, input_formats, step_shape, shapes_after}
+use Rattle.graph_states.specs.History.{Rectangles}
+use Rattle.graph_states.specs.Damage.{IsSteady}
+use Rattle.graph_states.specs.Samples.{ChangesSamples}
+use Rattle.graph_states.specs.Valid.{Shape, no_shape, shape_of_buffer, input_boxes, input_formats, shapes_of, step_shape, steps_of, shapes_after}
 
 -- the shape of an image
 abbrev pub shape : Image → Shape
@@ -66,3 +69,31 @@ pub shape_at : {Op : Type 0} (meanings : Meanings Op) (sources : Sources) (steps
 shape_at meanings sources steps i =
     ap (λ shapes. get_or shapes i no_shape) (shapes_after-is meanings sources [] steps)
     ∙ get_or-shapes (images_after (result_of meanings) (images_of sources) [] steps) i
+
+-- ---- where samples change
+
+-- the shapes that entries of a name stand for
+entries_shape : (rectangles : Rectangles) (old new : Option SourceBuffer) → is_some old ≡ is_some new →
+    ((a b : SourceBuffer) → old ≡ Some a → new ≡ Some b → IsSteady a b rectangles) →
+    unwrap_or (option_map shape_of_buffer old) no_shape ≡ unwrap_or (option_map shape_of_buffer new) no_shape
+entries_shape rectangles None None same steady = refl
+entries_shape rectangles None (Some b) same steady = absurd (cc)
+entries_shape rectangles (Some a) None same steady = absurd (cc)
+entries_shape rectangles (Some a) (Some b) same steady =
+    let agreed = (steady a b refl refl).images in
+    let of : Rectangle → Format → Shape = λ box format. record { box = box; format = format } in
+    ap (λ box. of box a.image.format) agreed.box ∙ ap (λ format. of b.image.box format) agreed.format
+
+shapes_stand-after : {Op : Type 0} (meanings : Meanings Op) (old new : Sources) (rectangles : Rectangles) → ChangesSamples old new rectangles → (known : List Shape) (steps : List (Step Op)) →
+    shapes_after meanings old known steps ≡ shapes_after meanings new known steps
+shapes_stand-after meanings old new rectangles changes known [] = refl
+shapes_stand-after meanings old new rectangles changes known (FromBuffer buffer ∷ steps) =
+    let same = entries_shape rectangles (source_of old buffer) (source_of new buffer) (changes.names buffer) (changes.neighbours buffer) in
+    ap (λ (s : Shape). shapes_after meanings old (known ++ s ∷ []) steps) same
+    ∙ shapes_stand-after meanings old new rectangles changes (known ++ step_shape meanings new known (FromBuffer buffer) ∷ []) steps
+shapes_stand-after meanings old new rectangles changes known (Apply operation inputs ∷ steps) =
+    shapes_stand-after meanings old new rectangles changes (known ++ step_shape meanings new known (Apply operation inputs) ∷ []) steps
+
+pub shapes_stand : {Op : Type 0} (meanings : Meanings Op) (nodes : List (Node Op)) (old new : Sources) (rectangles : Rectangles) → ChangesSamples old new rectangles →
+    shapes_of meanings old nodes ≡ shapes_of meanings new nodes
+shapes_stand meanings nodes old new rectangles changes = shapes_stand-after meanings old new rectangles changes [] (steps_of nodes)

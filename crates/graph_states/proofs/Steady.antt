@@ -8,8 +8,9 @@ use Rattle.std.proofs.lemmas.Slice.Eq.{bytes_eq-Decides}
 use Rattle.plane_rect.specs.Rectangle.{Rectangle, empty, hull, meet, is_empty}
 use Rattle.plane_rect.specs.SameRectangle.{same_rectangle-itself}
 use Rattle.graphs.specs.Node.{Node, Body, Source, Compute, index_of}
-use Rattle.graph_states.specs.Laws.{samples_change, KeepsNothing}
-use Rattle.graph_states.specs.Meanings.{Meanings}
+use Rattle.operation_meanings.specs.Laws.{KeepsNothing}
+use Rattle.graph_states.specs.Samples.{samples_change}
+use Rattle.operation_meanings.specs.Meanings.{Meanings}
 use Rattle.graph_states.specs.Sources.{Sources, SourceBuffer, source_of}
 use Rattle.graph_states.specs.Valid.{Shape, node_names}
 use Rattle.graph_states.specs.State.{node_of, shape_of}

@@ -6,13 +6,20 @@ use Rattle.images.specs.Image.{Image}
 use Rattle.graphs.specs.Node.{Node, Body, Source, Compute, Step, index_of, step_of}
 use Rattle.images.specs.Paint.{no_image}
 use Rattle.graphs.specs.Evaluation.{step_image, images_after}
-use Rattle.graph_states.specs.Meanings.{Meanings, result_of}
+use Rattle.operation_meanings.specs.Meanings.{Meanings, result_of}
 use Rattle.graph_states.specs.Sources.{Sources, images_of}
 use Rattle.graph_states.specs.Valid.{Shape, steps_of, IsValidStep, AreValidSteps, AreValid, step_shape}
 use Rattle.graph_states.specs.State.{body_image, image_of, node_of}
 use Rattle.graph_states.proofs.Shapes.{shape, step_shape-is}
 use Rattle.graph_states.proofs.PrefixLaws.{images_after-keeps}
-use Rattle.graph_states.proofs.DamageLaws.{at_places, places_of}
+
+-- the images of inputs at these places
+abbrev at_places : List Image → List ℕ → List Image
+at_places known places = map (λ i. get_or known i no_image) places
+
+-- the places of the nodes of these names
+abbrev pub places_of : {Op : Type 0} → List (Node Op) → List (List ℕ) → List ℕ
+places_of nodes names = map (index_of nodes) names
 
 -- the images of all steps behind known ones
 abbrev images_to : {Op : Type 0} → Meanings Op → Sources → List Image → List (Step Op) → List Image

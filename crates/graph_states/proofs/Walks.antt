@@ -1,15 +1,15 @@
 -- The walk over steps refuses none exactly where each is valid.
-use Rattle.std.proofs.Common.{◌≡◌, ◌↔◌, ℕ, zero, suc, ◌<◌, Bool, true, false, not, ◌&&◌, List, [], ◌∷◌, ◌++◌, length, get_or, cond, refl, ap, ◌∙◌, arith, Option, Some, None, IsSome, IsSomeAnd, is_none, IfOk, Result, Ok, Err}
+use Rattle.std.proofs.Common.{◌≡◌, ◌↔◌, ℕ, zero, suc, ◌<◌, Bool, true, false, not, ◌&&◌, List, [], ◌∷◌, ◌++◌, length, get_or, cond, refl, ap, ◌∙◌, arith, Option, Some, None, IsSome, IsSomeAnd, is_none}
 use Rattle.std.specs.Prelude.{All, nat_lt, ◌==◌}
 use Rattle.std.specs.List.{list_all}
 use Rattle.std.specs.Option.{option_or}
 use Rattle.std.proofs.lemmas.Bool.Decides.{nat_tests}
 use Rattle.plane_rect.specs.Rectangle.{Rectangle, InLimits}
-use Rattle.graphs.specs.Node.{Node, Step, FromBuffer, Apply}
-use Rattle.graph_states.specs.Edits.{NodeEdit, edited, unless_refused, walked, with_edits, StateRefused, UnknownInput, Arity, Formats, Bounds, is_kept_box, step_refused, steps_refused}
-use Rattle.graph_states.specs.Meanings.{Meanings}
+use Rattle.graphs.specs.Node.{Step, FromBuffer, Apply}
+use Rattle.graph_states.specs.Edits.{StateRefused, UnknownInput, Arity, Formats, Bounds, is_kept_box, step_refused, steps_refused}
+use Rattle.operation_meanings.specs.Meanings.{Meanings}
 use Rattle.graph_states.specs.Sources.{Sources, source_of}
-use Rattle.graph_states.specs.Valid.{Shape, IsValidStep, AreValidSteps, steps_of, step_shape, input_boxes, input_formats}
+use Rattle.graph_states.specs.Valid.{Shape, IsValidStep, AreValidSteps, step_shape, input_boxes, input_formats}
 
 -- ---- the tests
 
@@ -100,7 +100,7 @@ none_of : {A : Type 0} (o p : Option A) → option_or o p ≡ None → (o ≡ No
 none_of None p h = (refl, h)
 none_of (Some a) p h = absurd (cc)
 
-valid_steps : {Op : Type 0} (meanings : Meanings Op) (sources : Sources) (known : List Shape) (steps : List (Step Op)) →
+pub valid_steps : {Op : Type 0} (meanings : Meanings Op) (sources : Sources) (known : List Shape) (steps : List (Step Op)) →
     steps_refused meanings sources known steps ≡ None → AreValidSteps meanings sources known steps
 valid_steps meanings sources known [] h = tt
 valid_steps meanings sources known (step ∷ steps) h =
@@ -119,18 +119,3 @@ steps_pass meanings sources known (step ∷ steps) valid =
 pub walk_refuses : {Op : Type 0} (meanings : Meanings Op) (sources : Sources) (known : List Shape) (steps : List (Step Op)) →
     (steps_refused meanings sources known steps ≡ None) ↔ AreValidSteps meanings sources known steps
 walk_refuses meanings sources known steps = (valid_steps meanings sources known steps, steps_pass meanings sources known steps)
-
--- ---- edits
-
-pub edited_valid : {Op : Type 0} (meanings : Meanings Op) (sources : Sources) (nodes : List (Node Op)) (edits : List (NodeEdit Op)) →
-    IfOk (edited meanings sources nodes edits) (λ next. AreValidSteps meanings sources [] (steps_of next))
-edited_valid {Op} meanings sources nodes edits = of_result (with_edits sources (Ok nodes) edits)
-  where
-    of_option : (next : List (Node Op)) (refused : Option StateRefused) → steps_refused meanings sources [] (steps_of next) ≡ refused →
-        IfOk (unless_refused refused next) (λ next. AreValidSteps meanings sources [] (steps_of next))
-    of_option next None e = valid_steps meanings sources [] (steps_of next) e
-    of_option next (Some refused) e = tt
-
-    of_result : (r : Result (List (Node Op)) StateRefused) → IfOk (walked meanings sources r) (λ next. AreValidSteps meanings sources [] (steps_of next))
-    of_result (Ok next) = of_option next (steps_refused meanings sources [] (steps_of next)) refl
-    of_result (Err refused) = tt

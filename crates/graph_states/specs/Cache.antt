@@ -6,7 +6,7 @@ use Rattle.plane_rect.specs.Rectangle.{Rectangle}
 use Rattle.plane_rect.specs.Tile.{Tile, same_tile, tile_square}
 use Rattle.images.specs.Raw.{raw}
 use Rattle.graphs.specs.Node.{Node, Body, Source, Compute}
-use Rattle.graph_states.specs.Meanings.{Meanings}
+use Rattle.operation_meanings.specs.Meanings.{Meanings}
 use Rattle.graph_states.specs.Valid.{node_names}
 use Rattle.graph_states.specs.State.{Scene, image_of, node_of, shape_of}
 use Rattle.graph_states.specs.Regions.{meets}

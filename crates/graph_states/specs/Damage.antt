@@ -2,14 +2,15 @@
 use Rattle.std.specs.Prelude.{◌≡◌, ℕ, Bool, true, false, ◌&&◌, if◌then◌else◌, List, [], ◌∷◌, ◌++◌, map, length, Option, Some, None, slice_index_or, unwrap_or, option_map}
 use Rattle.std.specs.List.{list_all, enumerate_from}
 use Rattle.std.specs.Str.{bytes_eq}
-use Rattle.plane_rect.specs.Rectangle.{Rectangle, empty, hull, meet, same_rectangle}
+use Rattle.plane_rect.specs.Rectangle.{Rectangle, Lies, empty, hull, meet, same_rectangle}
 use Rattle.sample_rows.specs.Format.{same_format}
 use Rattle.images.specs.Agreement.{AgreeOutside}
+use Rattle.images.specs.Image.{Image, at}
 use Rattle.graphs.specs.Node.{Node, Body, Source, Compute, index_of}
-use Rattle.graph_states.specs.Meanings.{Meanings}
+use Rattle.operation_meanings.specs.Meanings.{Meanings}
 use Rattle.graph_states.specs.Sources.{Sources, SourceBuffer, source_of}
 use Rattle.graph_states.specs.Valid.{Shape, no_shape}
-use Rattle.graph_states.specs.State.{Scene, shape_of, node_of, node_shapes}
+use Rattle.graph_states.specs.State.{IsValidScene, Scene, shape_of, node_of, node_shapes}
 use Rattle.graph_states.specs.History.{Rectangles, rectangle_of}
 use Rattle.graph_states.specs.Regions.{hull_of}
 
@@ -52,6 +53,16 @@ pub record Change (Op : Type 0) : Type 0 where
   pub old : Scene Op
   pub new : Scene Op
   pub rectangles : Rectangles
+
+-- both states are valid, and neighbours with the rectangles
+pub record IsChange {Op : Type 0} (meanings : Meanings Op) (change : Change Op) : Type 0 where
+  pub old : IsValidScene meanings change.old
+  pub new : IsValidScene meanings change.new
+  pub neighbours : AreNeighbours change.old.table change.new.table change.rectangles
+
+-- two images, whatever their boxes, have the same samples at each place that does not lie in a rectangle
+abbrev pub SamplesAgreeOutside : Image → Image → Rectangle → Type 0
+SamplesAgreeOutside a b r = (u v c : ℕ) → ¬ Lies u v r → at a u v c ≡ at b u v c
 
 -- the inputs of a body
 abbrev pub inputs_of : {Op : Type 0} → Body Op → List (List ℕ)

@@ -5,7 +5,7 @@ use Rattle.std.specs.Option.{option_or, option_map_or}
 use Rattle.std.specs.Str.{bytes_eq}
 use Rattle.plane_rect.specs.Rectangle.{Rectangle, in_limits}
 use Rattle.graphs.specs.Node.{Node, Body, Source, Compute, Step, FromBuffer, Apply, index_of}
-use Rattle.graph_states.specs.Meanings.{Meanings}
+use Rattle.operation_meanings.specs.Meanings.{Meanings}
 use Rattle.graph_states.specs.Sources.{Sources, source_of}
 use Rattle.graph_states.specs.Valid.{Shape, step_shape, steps_of, input_boxes, input_formats, most_nodes}
 

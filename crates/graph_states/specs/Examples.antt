@@ -4,13 +4,13 @@ use Rattle.plane_rect.specs.Rectangle.{Rectangle, empty, is_empty, meet, spannin
 use Rattle.sample_rows.specs.declared.format.Format.{Format}
 use Rattle.sample_rows.specs.declared.format.Format.TheVariants.{Y8}
 use Rattle.graphs.specs.Node.{Node, Source, Compute}
-use Rattle.graph_states.specs.Meanings.{Meanings}
+use Rattle.operation_meanings.specs.Meanings.{Meanings}
 use Rattle.graph_states.specs.Sources.{Sources}
 use Rattle.graph_states.specs.State.{Scene}
 use Rattle.graph_states.specs.Damage.{damage}
 use Rattle.graph_states.specs.Need.{need}
 use Rattle.graph_states.specs.Cache.{Pair, Cached, Counted, all_looked_up, needed_pairs, uncounted, without_damaged}
-use Rattle.graph_states.specs.Laws.{samples_change}
+use Rattle.graph_states.specs.Samples.{samples_change}
 
 -- a rectangle with so many more places on each side
 abbrev pub widened : ℕ → Rectangle → Rectangle

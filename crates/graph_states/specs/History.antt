@@ -4,7 +4,7 @@ use Rattle.std.specs.Str.{bytes_eq}
 use Rattle.std.specs.Map.{lookup}
 use Rattle.plane_rect.specs.Rectangle.{Rectangle, empty, hull}
 use Rattle.graphs.specs.Node.{Node}
-use Rattle.graph_states.specs.Meanings.{Meanings}
+use Rattle.operation_meanings.specs.Meanings.{Meanings}
 use Rattle.graph_states.specs.Sources.{Sources}
 use Rattle.graph_states.specs.State.{State}
 use Rattle.graph_states.specs.Edits.{NodeEdit, StateRefused, NothingToUndo, NothingToRedo, TooManyCommits, edited}

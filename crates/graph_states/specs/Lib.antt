@@ -1,4 +1,3 @@
-pub mod Meanings
 pub mod Sources
 pub mod Valid
 pub mod State
@@ -8,5 +7,5 @@ pub mod Regions
 pub mod Damage
 pub mod Need
 pub mod Cache
-pub mod Laws
+pub mod Samples
 pub mod Examples

@@ -4,7 +4,7 @@ use Rattle.std.specs.List.{enumerate_from, range_with_len}
 use Rattle.plane_rect.specs.Rectangle.{Rectangle, meet, plane_side}
 use Rattle.plane_rect.specs.Tile.{Tile, tile_side, tile_of, tile_lines, tile_square}
 use Rattle.graphs.specs.Node.{Step, FromBuffer, Apply}
-use Rattle.graph_states.specs.Meanings.{Meanings}
+use Rattle.operation_meanings.specs.Meanings.{Meanings}
 use Rattle.graph_states.specs.Valid.{Shape, no_shape, input_boxes, steps_of}
 use Rattle.graph_states.specs.State.{Scene, node_shapes}
 use Rattle.graph_states.specs.Regions.{tiles_of_any}

@@ -3,7 +3,7 @@ use Rattle.std.specs.Prelude.{ℕ, List, map, [], slice_get, slice_index_or, Opt
 use Rattle.images.specs.Image.{Image}
 use Rattle.graphs.specs.Node.{Node, Body, Source, Compute, index_of}
 use Rattle.graphs.specs.Evaluation.{buffer_image, evaluated, images_after}
-use Rattle.graph_states.specs.Meanings.{Meanings, result_of}
+use Rattle.operation_meanings.specs.Meanings.{Meanings, result_of}
 use Rattle.graph_states.specs.Sources.{Sources, images_of}
 use Rattle.graph_states.specs.Valid.{AreValid, Shape, no_shape, shapes_of, steps_of}
 

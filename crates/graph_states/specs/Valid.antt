@@ -6,7 +6,7 @@ use Rattle.plane_rect.specs.Rectangle.{Rectangle, InLimits, empty}
 use Rattle.sample_rows.specs.declared.format.Format.{Format}
 use Rattle.sample_rows.specs.declared.format.Format.TheVariants.{Y8}
 use Rattle.graphs.specs.Node.{Node, Step, FromBuffer, Apply, step_of}
-use Rattle.graph_states.specs.Meanings.{Meanings, result_box, result_format}
+use Rattle.operation_meanings.specs.Meanings.{Meanings, result_box, result_format}
 use Rattle.graph_states.specs.Sources.{Sources, SourceBuffer, source_of}
 
 -- the box and the format of a node's image

@@ -3,25 +3,27 @@
 
 pub mod examples;
 
-ghost use Rattle.std.specs.List.{IsDistinct};
+ghost use Rattle.std.specs.List.{AllByRecursion, IsDistinct};
 ghost use Rattle.std.specs.Str.{bytes_eq};
-ghost use Rattle.std.specs.Prelude.{◌≡◌, [], Bool, true, ◌++◌, ◌+◌, ◌≤◌, ◌↔◌, ℕ, None, Some, false, IfOk, IsTrue, length, List};
+ghost use Rattle.std.specs.Prelude.{◌≡◌, [], Bool, true, ◌++◌, ◌+◌, ◌≤◌, ◌↔◌, ℕ, None, Some, false, IfOk, IsTrue, length, List, map};
 ghost use Rattle.plane_rect.specs.Rectangle.{Rectangle};
 ghost use Rattle.plane_rect.specs.Tile.{Tile, tile_square};
 ghost use Rattle.images.specs.Agreement.{AgreeOutside};
 ghost use Rattle.images.specs.Image.{Image};
 ghost use Rattle.images.specs.Raw.{raw};
 ghost use Rattle.graphs.specs.Node.{Node, Step};
-ghost use Rattle.graph_states.specs.Cache.{all_looked_up, AreRight, AreRightPairs, Cached, Counted, HasDistinctPairs, IsRight, Pair, pair_bytes, without_damaged};
-ghost use Rattle.graph_states.specs.Damage.{AreNeighbours, damage, damages};
+ghost use Rattle.graph_states.specs.Cache.{all_looked_up, needed_pairs, AreRight, AreRightPairs, Cached, Counted, HasDistinctPairs, IsRight, Pair, pair_bytes, pair_of, same_pair, without_damaged};
+ghost use Rattle.graph_states.specs.Damage.{AreNeighbours, Change, damage, damages, is_kept, IsChange, SamplesAgreeOutside};
 ghost use Rattle.graph_states.specs.Edits.{edited, has_node, NodeEdit, steps_refused};
 ghost use Rattle.graph_states.specs.History.{Appends, committed, History, Rectangles, redone, Returns, undone, with_commit};
-ghost use Rattle.graph_states.specs.Laws.{samples_change, ChangesSamples, KeepsLaws, KeepsNothing};
-ghost use Rattle.graph_states.specs.Meanings.{Meanings};
+ghost use Rattle.operation_meanings.specs.Laws.{IsBoxed, KeepsLaws, KeepsNothing, TellsApart};
+ghost use Rattle.graph_states.specs.Samples.{samples_change, ChangesSamples};
+ghost use Rattle.operation_meanings.specs.Meanings.{Meanings};
+ghost use Rattle.graph_states.specs.Need.{need, Strip};
 ghost use Rattle.graph_states.specs.Regions.{HaveNoPlace, meets};
 ghost use Rattle.graph_states.specs.Sources.{Sources};
-ghost use Rattle.graph_states.specs.State.{Scene, body_image, image_of, node_of, shape_of};
-ghost use Rattle.graph_states.specs.Valid.{AreValid, AreValidSteps, node_names, Shape, steps_of};
+ghost use Rattle.graph_states.specs.State.{IsValidScene, Scene, body_image, image_of, node_of, shape_of};
+ghost use Rattle.graph_states.specs.Valid.{AreValid, AreValidSteps, most_nodes, node_names, Shape, shapes_of};
 
 /// Each pair that is looked up counts once, as applied or as reused.
 pub fn counts_add_up()
@@ -86,35 +88,63 @@ pub fn tiles_outside_stand()
         raw a (tile_square t) ≡ raw b (tile_square t) }
 {}
 
-/// Where samples of buffers change under the same valid nodes, each node's image stands outside the node's damage.
+/// Outside its damage a node's image has the same samples in both states, where one state follows the other: each
+/// buffer that both have is steady, and nodes may be new, gone, moved or edited. A node that is in one state alone is 0
+/// outside its damage. A node that is kept also has its box and its format.
 pub fn images_stand_outside_damage<Op>()
-    ensures { (same : Op → Op → Bool) (meanings : Meanings Op) (nodes : List (Node Op)) (old new : Sources)
-        (rectangles : Rectangles) (name : List ℕ) →
-        KeepsLaws meanings → AreValid meanings new nodes → ChangesSamples old new rectangles →
-        IsTrue (has_node nodes name) →
-        AgreeOutside (image_of meanings (record { table = old; nodes = nodes }) name)
-        (image_of meanings (record { table = new; nodes = nodes }) name)
-        (damage same meanings (samples_change old new nodes rectangles) name) }
+    ensures samples { (same : Op → Op → Bool) (meanings : Meanings Op) (change : Change Op) (name : List ℕ) →
+        KeepsLaws meanings → TellsApart same → IsChange meanings change →
+        SamplesAgreeOutside (image_of meanings change.old name) (image_of meanings change.new name)
+        (damage same meanings change name) }
+    ensures kept { (same : Op → Op → Bool) (meanings : Meanings Op) (change : Change Op) (node : Node Op) →
+        KeepsLaws meanings → TellsApart same → IsChange meanings change →
+        node_of change.new.nodes node.name ≡ Some node →
+        IsTrue (is_kept same meanings change node (node_of change.old.nodes node.name)) →
+        AgreeOutside (image_of meanings change.old node.name) (image_of meanings change.new node.name)
+        (damage same meanings change node.name) }
 {}
 
 /// There, a right pair whose tile does not meet the damage of its node stays right.
 pub fn pair_stays_right<Op>()
-    ensures { (same : Op → Op → Bool) (meanings : Meanings Op) (nodes : List (Node Op)) (old new : Sources)
-        (rectangles : Rectangles) (cached : Cached) →
-        KeepsLaws meanings → AreValid meanings new nodes → ChangesSamples old new rectangles →
-        meets cached.pair.tile (damage same meanings (samples_change old new nodes rectangles) cached.pair.node) ≡ false →
-        IsRight meanings (record { table = old; nodes = nodes }) cached →
-        IsRight meanings (record { table = new; nodes = nodes }) cached }
+    ensures { (same : Op → Op → Bool) (meanings : Meanings Op) (change : Change Op) (cached : Cached) →
+        KeepsLaws meanings → TellsApart same → IsChange meanings change →
+        meets cached.pair.tile (damage same meanings change cached.pair.node) ≡ false →
+        IsRight meanings change.old cached → IsRight meanings change.new cached }
 {}
 
 /// So a list of right pairs, without the damaged ones, is again one.
 pub fn list_stays_right<Op>()
-    ensures { (same : Op → Op → Bool) (meanings : Meanings Op) (nodes : List (Node Op)) (old new : Sources)
-        (rectangles : Rectangles) (list : List Cached) →
-        KeepsLaws meanings → AreValid meanings new nodes → ChangesSamples old new rectangles →
-        AreRight meanings (record { table = old; nodes = nodes }) list →
-        AreRight meanings (record { table = new; nodes = nodes })
-        (without_damaged (damage same meanings (samples_change old new nodes rectangles)) list) }
+    ensures { (same : Op → Op → Bool) (meanings : Meanings Op) (change : Change Op) (list : List Cached) →
+        KeepsLaws meanings → TellsApart same → IsChange meanings change →
+        AreRight meanings change.old list →
+        AreRight meanings change.new (without_damaged (damage same meanings change) list) }
+{}
+
+/// Where samples of buffers change under the same nodes, no node's box or format does.
+pub fn shapes_stand_where_samples_change<Op>()
+    ensures { (meanings : Meanings Op) (nodes : List (Node Op)) (old new : Sources) (rectangles : Rectangles) →
+        ChangesSamples old new rectangles → shapes_of meanings old nodes ≡ shapes_of meanings new nodes }
+{}
+
+/// In the need of a strip no pair stands twice.
+pub fn needed_pairs_are_distinct<Op>()
+    ensures { (meanings : Meanings Op) (scene : Scene Op) (node : ℕ) (request : Rectangle) →
+        IsDistinct bytes_eq (node_names scene.nodes) →
+        AllByRecursion (λ (strip : Strip). IsDistinct same_pair (map (pair_of scene.nodes) strip.needed))
+        (need meanings scene node request) }
+{}
+
+/// What is needed in a valid state are right pairs: tiles of operations, each of which meets its node's box.
+pub fn needed_pairs_are_right<Op>()
+    ensures { (meanings : Meanings Op) (scene : Scene Op) (node : ℕ) (request : Rectangle) →
+        IsBoxed meanings → IsValidScene meanings scene →
+        AreRightPairs meanings scene (needed_pairs scene.nodes (need meanings scene node request)) }
+{}
+
+/// Voided pairs leave distinct pairs of distinct ones.
+pub fn voided_pairs_stay_distinct()
+    ensures { (damage : List ℕ → Rectangle) (list : List Cached) →
+        HasDistinctPairs list → HasDistinctPairs (without_damaged damage list) }
 {}
 
 /// A commit that is not refused appends one state.
@@ -165,8 +195,9 @@ pub fn walk_refuses_what_is_not_valid<Op>()
         (steps_refused meanings sources known steps ≡ None) ↔ AreValidSteps meanings sources known steps }
 {}
 
-/// Nodes with edits made, where none is refused, have valid steps.
-pub fn edits_leave_valid_steps<Op>()
+/// Edits that are not refused leave valid nodes of nodes of distinct names, of which there are few enough.
+pub fn edits_leave_valid_nodes<Op>()
     ensures { (meanings : Meanings Op) (sources : Sources) (nodes : List (Node Op)) (edits : List (NodeEdit Op)) →
-        IfOk (edited meanings sources nodes edits) (λ next. AreValidSteps meanings sources [] (steps_of next)) }
+        length nodes ≤ most_nodes → IsDistinct bytes_eq (node_names nodes) →
+        IfOk (edited meanings sources nodes edits) (AreValid meanings sources) }
 {}

@@ -1,8 +1,4 @@
-pub mod Inputs
-pub mod Sides
-pub mod Reading
-pub mod Reaching
-pub mod ImageLaws
+pub mod ResultLaws
 pub mod RegionLaws
 pub mod WindowLaws
 pub mod RangeLaws

@@ -31,7 +31,7 @@ use Rattle.operations.specs.Values.{checker_pixel, flipped_pixel, value_at, valu
 use Rattle.operations.specs.Windows.{greatest_of_all, least_of_all, mean_of, read_before, window, window_side, window_square}
 use Rattle.operations.specs.declared.operation.IntOp.{IntOp}
 use Rattle.operations.specs.declared.operation.IntOp.TheVariants.{Color, Checker, Convert, Invert, Threshold, Gain, Translate, Crop, Flip, BoxMean, Dilate, Erode, Add, Over, Mask}
-use Rattle.operations.proofs.Inputs.{at_beyond, by_places, input_format-image}
+use Rattle.operations.specs.Lawful.Inputs.{at_beyond, by_places, input_format-image}
 use Rattle.operations.proofs.WindowLaws.{greatest-among, least-among, length-window}
 
 -- ---- formats

@@ -1,16 +1,15 @@
 -- What regions are, place by place.
-use Rattle.std.proofs.Common.{◌≡◌, ℕ, ◌+◌, ◌-◌, ◌<◌, ◌≤◌, ◌↔◌, true, false, List, max, min, refl, sym, subst, ap, ◌∙◌, arith}
+use Rattle.std.proofs.Common.{◌≡◌, ℕ, ◌+◌, ◌-◌, ◌<◌, ◌≤◌, ◌↔◌, true, false, List, max, min, refl, sym, subst, arith}
 use Rattle.std.proofs.lemmas.Bool.Decides.{nat_tests}
 use Rattle.plane_rect.proofs.Rectangles.{Lies-meet, Lies-spanning}
-use Rattle.plane_rect.specs.Rectangle.{AreNear, Lies, LiesNear, Rectangle, Within, bottom, empty, is_empty, meet, rectangle, right}
+use Rattle.plane_rect.specs.Rectangle.{AreNear, Lies, LiesNear, Rectangle, Within, bottom, empty, is_empty, meet, right}
 use Rattle.abyss_levels.specs.Abyss.{nearest}
 use Rattle.operations.specs.Boxes.{result_box}
-use Rattle.operations.specs.Inputs.{input_box, input_count}
-use Rattle.operations.specs.Moves.{moved_into, place, surrounded}
+use Rattle.operations.specs.Inputs.{input_box}
+use Rattle.operations.specs.Moves.{moved_into, surrounded}
 use Rattle.operations.specs.Regions.{IsNearestTo, invalidated, is_pointwise, reached_from, read_for, required}
 use Rattle.operations.specs.declared.operation.IntOp.{IntOp}
 use Rattle.operations.specs.declared.operation.IntOp.TheVariants.{Color, Checker, Convert, Invert, Threshold, Gain, Translate, Crop, Flip, BoxMean, Dilate, Erode, Add, Over, Mask}
-use Rattle.operations.proofs.ImageLaws.{input-reaches}
 
 -- ---- operations on each pixel
 
@@ -136,27 +135,3 @@ moved_into-places box r u v some =
       | true ↦ λ none. (λ h. absurd (none-moved box r u v some none h), λ h. absurd (none-nearest box r u v none h))
       | false ↦ λ more. some-moved box r u v some more
     ] refl
-
--- ---- what a place reads of an input that changed
-
-meet-place : (u v : ℕ) (r : Rectangle) → Lies u v r → meet (place u v) r ≡ place u v
-meet-place u v r there =
-    let left : max u r.left ≡ u = omega (arith, there.column) in
-    let top : max v r.top ≡ v = omega (arith, there.row) in
-    let width : min (u + 1) (right r) - max u r.left ≡ 1 = omega (arith, there.column) in
-    let height : min (v + 1) (bottom r) - max v r.top ≡ 1 = omega (arith, there.row) in
-    ap (λ (n : ℕ). rectangle n (max v r.top) (min (u + 1) (right r) - max u r.left) (min (v + 1) (bottom r) - max v r.top)) left
-    ∙ ap (λ (n : ℕ). rectangle u n (min (u + 1) (right r) - max u r.left) (min (v + 1) (bottom r) - max v r.top)) top
-    ∙ ap (λ (n : ℕ). rectangle u v n (min (v + 1) (bottom r) - max v r.top)) width
-    ∙ ap (λ (n : ℕ). rectangle u v 1 n) height
-
-pub unreached-requires : (op : IntOp) (boxes : List Rectangle) (i : ℕ) (region : Rectangle) (u v s t : ℕ) → i < input_count op
-    → Lies u v (result_box op boxes) → ¬ Lies u v (invalidated op boxes i region)
-    → Lies s t (required op boxes i (place u v)) → ¬ Lies s t region
-unreached-requires op boxes i region u v s t known inside out read changed =
-    let box = input_box boxes i in
-    let parts = (Lies-meet s t (read_for op box (meet (place u v) (result_box op boxes))) box).0 read in
-    let own : Lies s t (read_for op box (place u v)) =
-    subst (λ (r : Rectangle). Lies s t (read_for op box r)) (meet-place u v (result_box op boxes) inside) parts.0 in
-    out ((Lies-meet u v (reached_from op box (meet region box)) (result_box op boxes)).1
-    (input-reaches op boxes i (meet region box) u v s t inside known own ((Lies-meet s t region box).1 (changed, parts.1)), inside))

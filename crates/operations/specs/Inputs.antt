@@ -1,10 +1,10 @@
 -- The inputs of an operation, by their places in a list.
-use Rattle.std.specs.Prelude.{ℕ, List, map, slice_index_or}
+use Rattle.std.specs.Prelude.{ℕ, List, slice_index_or}
 use Rattle.plane_rect.specs.Rectangle.{Rectangle, empty}
 use Rattle.sample_rows.specs.declared.format.Format.{Format}
 use Rattle.sample_rows.specs.declared.format.Format.TheVariants.{Y8}
-use Rattle.images.specs.Image.{Image}
-use Rattle.images.specs.Paint.{no_image}
+pub use Rattle.operation_meanings.specs.Changes.{image_of}
+pub use Rattle.operation_meanings.specs.Meanings.{boxes_of, formats_of}
 use Rattle.operations.specs.declared.operation.IntOp.{IntOp}
 use Rattle.operations.specs.declared.operation.IntOp.TheVariants.{Color, Checker, Convert, Invert, Threshold, Gain, Translate, Crop, Flip, BoxMean, Dilate, Erode, Add, Over, Mask}
 
@@ -26,10 +26,6 @@ input_count Add = 2
 input_count Over = 2
 input_count Mask = 2
 
--- the image of an input
-abbrev pub image_of : List Image → ℕ → Image
-image_of images i = slice_index_or images i no_image
-
 -- the box of an input
 abbrev pub input_box : List Rectangle → ℕ → Rectangle
 input_box boxes i = slice_index_or boxes i empty
@@ -37,11 +33,3 @@ input_box boxes i = slice_index_or boxes i empty
 -- the format of an input
 abbrev pub input_format : List Format → ℕ → Format
 input_format formats i = slice_index_or formats i Y8
-
--- the boxes of images
-abbrev pub boxes_of : List Image → List Rectangle
-boxes_of images = map (λ (image : Image). image.box) images
-
--- the formats of images
-abbrev pub formats_of : List Image → List Format
-formats_of images = map (λ (image : Image). image.format) images

@@ -6,6 +6,8 @@ pub mod Boxes
 pub mod Windows
 pub mod Values
 pub mod Regions
+pub mod Meanings
 pub mod Results
+pub mod Lawful
 pub mod Examples
 pub use Rattle.abyss_levels.specs.Abyss

@@ -3,10 +3,11 @@
 use Rattle.std.specs.Prelude.{ℕ, ◌+◌, ◌-◌, ◌*◌, ◌||◌, Bool, if◌then◌else◌, ℤ, pos, negsuc}
 use Rattle.plane_rect.specs.Rectangle.{Rectangle, bottom, empty, is_empty, rectangle, right, spanning}
 use Rattle.abyss_levels.specs.Abyss.{nearest}
+use Rattle.operation_meanings.specs.Laws.{one_place}
 
 -- the rectangle of one place
 abbrev pub place : ℕ → ℕ → Rectangle
-place u v = record { left = u; top = v; width = 1; height = 1 }
+place u v = one_place u v
 
 -- the column so much further right, or left by what is negative; or the row so
 abbrev pub ahead : ℤ → ℕ → ℕ

@@ -4,6 +4,7 @@
 
 pub mod examples;
 pub mod laws;
+mod meanings;
 mod operation;
 pub mod regions;
 mod samples;

@@ -8,15 +8,6 @@ ghost use Rattle.operations.specs.Inputs.{input_box, input_count};
 ghost use Rattle.operations.specs.Moves.{behind, mirrored, mirrored_part, moved_into, place, surrounded};
 ghost use Rattle.operations.specs.Regions.{IsNearestTo, invalidated, is_pointwise, required};
 
-/// Of an input that changed in a region, a place of the result that the region doesn't invalidate
-/// requires no place of it.
-pub fn unreached_requires_nothing()
-    ensures { (op : IntOp) (boxes : List Rectangle) (i : ℕ) (region : Rectangle) (u v s t : ℕ) →
-        i < input_count op → Lies u v (result_box op boxes) →
-        ¬ Lies u v (invalidated op boxes i region) →
-        Lies s t (required op boxes i (place u v)) → ¬ Lies s t region }
-{}
-
 /// Where each pixel of the result is of the pixels at its own place, a region stands for itself, as
 /// far as it lies in the result's box and in the input's.
 pub fn pointwise_regions()

@@ -1,4 +1,4 @@
-use Rattle.operations.proofs.ImageLaws as laws
+use Rattle.operations.proofs.ResultLaws as laws
 use Rattle.operations.proofs.laws.result_is_drawn.Goals as goal
 
 pub returns-clause-whole : goal.returns-clause-whole

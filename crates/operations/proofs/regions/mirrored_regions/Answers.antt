@@ -1,4 +1,4 @@
-use Rattle.operations.proofs.Sides as laws
+use Rattle.operations.specs.Lawful.Sides as laws
 use Rattle.operations.proofs.regions.mirrored_regions.Goals as goal
 
 pub returns-clause-sideways : goal.returns-clause-sideways

@@ -1,0 +1,2 @@
+pub mod SameFormat
+pub mod ChangeLaws

@@ -1,0 +1,36 @@
+-- The test that two formats are one.
+use Rattle.std.proofs.Common.{◌≡◌, ℕ, true, cond, eqb, Decides, sym, subst, ap, ◌∙◌, refl, arith}
+use Rattle.std.proofs.lemmas.Bool.Decides.{nat_tests}
+use Rattle.sample_rows.specs.Format.{channels, depth, same_format}
+use Rattle.sample_rows.specs.declared.format.Format.{Format}
+use Rattle.sample_rows.specs.declared.format.Format.TheVariants.{Y8, YA8, RGB8, RGBA8, Y16, YA16, RGB16, RGBA16}
+
+-- the format of so many channels and so many bytes a sample
+format_of : ℕ → ℕ → Format
+format_of n d =
+    cond (eqb d 1)
+    (cond (eqb n 1) Y8 (cond (eqb n 2) YA8 (cond (eqb n 3) RGB8 RGBA8)))
+    (cond (eqb n 1) Y16 (cond (eqb n 2) YA16 (cond (eqb n 3) RGB16 RGBA16)))
+
+format-again : (format : Format) → format_of (channels format) (depth format) ≡ format
+unfolding format_of
+format-again Y8 = refl
+format-again YA8 = refl
+format-again RGB8 = refl
+format-again RGBA8 = refl
+format-again Y16 = refl
+format-again YA16 = refl
+format-again RGB16 = refl
+format-again RGBA16 = refl
+
+told : (a b : Format) → same_format a b ≡ true → a ≡ b
+told a b e =
+    let n : channels a ≡ channels b = grind (arith, nat_tests) in
+    let d : depth a ≡ depth b = grind (arith, nat_tests) in
+    sym (format-again a) ∙ ap (λ n. format_of n (depth a)) n ∙ ap (λ d. format_of (channels b) d) d ∙ format-again b
+
+itself : (f : Format) → same_format f f ≡ true
+itself f = grind (arith, nat_tests)
+
+pub Decides-same_format : (a b : Format) → Decides (same_format a b) (a ≡ b)
+Decides-same_format a b = (told a b, λ same. subst (λ (f : Format). same_format a f ≡ true) same (itself a))
