@@ -1,0 +1,33 @@
+-- The free run that was found for a tile.
+use Rattle.std.proofs.Common.{ℕ, suc, zero, ◌+◌, ◌-◌, ◌<◌, ◌≤◌, List, [], ◌∷◌, length, get_or, arith}
+use Rattle.tile_cow.specs.Tile.{IsTileLength}
+use Rattle.swap_store.specs.declared.runs.Run.{Run}
+use Rattle.swap_store.specs.Run.{blocks_for, LiesIn, HasBlock, IsFirstFit, longest}
+use Rattle.swap_store.specs.Placement.{Placement, IsPlacement}
+use Rattle.swap_store.proofs.RunLists.{HasBlock-at}
+use Rattle.swap_store.proofs.PlacementLaws.{blocks_for-some}
+
+run_at_most : (runs : List Run) (i : ℕ) (d : Run) → i < length runs → (get_or runs i d).count ≤ longest runs
+run_at_most [] i d lt = absurd (omega arith)
+run_at_most (x ∷ xs) zero d lt = omega arith
+run_at_most (x ∷ xs) (suc i) d lt = omega (arith, run_at_most xs i d (omega arith))
+
+-- where a run is long enough, the longest is
+pub fit-longest : (runs : List Run) (needed i : ℕ) → IsFirstFit runs needed i → needed ≤ longest runs
+fit-longest runs needed i fit =
+    let d : Run = record { first = 0; count = 0 } in
+    omega (arith, run_at_most runs i d fit.within, fit.long d)
+
+module _ (p : Placement) (laws : IsPlacement p) (len i : ℕ) (d : Run) (size : IsTileLength len) (fit : IsFirstFit p.free (blocks_for len) i) where
+  pub room-free : (b : ℕ) → LiesIn b (get_or p.free i d).first (blocks_for len) → HasBlock p.free b
+  room-free b lies = HasBlock-at p.free i d b fit.within (record { low = lies.low; high = omega (arith, lies.high, fit.long d) })
+
+  pub room-used : (get_or p.free i d).first + blocks_for len ≤ p.used
+  room-used =
+      let some = blocks_for-some len size.0 in
+      let first = (get_or p.free i d).first in
+      omega (
+        arith,
+        ((laws.exact (first + blocks_for len - 1)).0
+            (room-free (first + blocks_for len - 1) (record { low = omega (arith, some); high = omega (arith, some) }))).0,
+      )

@@ -1,0 +1,9 @@
+pub mod RunLists
+pub mod GivenBack
+pub mod Fits
+pub mod Names
+pub mod PlacementLaws
+pub mod Told
+pub mod Contents
+pub mod Windows
+pub mod FoundRoom

@@ -1,0 +1,229 @@
+-- What holds of where names lie, after a name came or went.
+use Rattle.std.proofs.Common.{◌≡◌, ◌≢◌, ℕ, ◌+◌, ◌-◌, ◌<◌, ◌≤◌, ◌^◌, ◌↔◌, Bool, true, false, cond, eqb, List, [], ◌∷◌, length, get_or, Option, Some, None, ◌⊎◌, inl, inr, refl, sym, ap, subst, ◌∙◌, arith}
+use Rattle.std.specs.Ordering.{nat_cmp}
+use Rattle.std.specs.FinMap as map
+use Rattle.std.specs.FinMap.{from_entries, get-empty}
+use Rattle.std.specs.Map.{lookup}
+use Rattle.std.specs.Option.{is_some}
+use Rattle.std.proofs.lemmas.Bool.{cases_eq, cases_lt, false≢true, true≢false}
+use Rattle.tile_cow.specs.Tile.{IsTileLength}
+use Rattle.swap_store.specs.declared.runs.Run.{Run}
+use Rattle.swap_store.specs.declared.block_map.Extent.{Extent}
+use Rattle.swap_store.specs.Values.{Named}
+use Rattle.swap_store.specs.Run.{blocks_for, LiesIn, HasBlock, IsRunList}
+use Rattle.swap_store.specs.Placement.{Placement, IsPlacement, IsUnnamed, LiesInExtent}
+use Rattle.swap_store.proofs.Names.{get_here, get_elsewhere, get_gone, get_left, entries-inserted, entries-removed}
+use Rattle.swap_store.proofs.RunLists.{Without, HasBlock-at}
+use Rattle.swap_store.proofs.GivenBack.{With}
+
+same_extent : (e f : Extent) → Some e ≡ Some f → e ≡ f
+same_extent e f is = cc
+
+absent : {A : Type 0} (o : Option Extent) (e : Extent) → o ≡ None → o ≡ Some e → A
+absent o e none some = absurd (let no_such : None ≡ Some e = sym none ∙ some in cc)
+
+pub blocks_for-some : (len : ℕ) → 1 ≤ len → 1 ≤ blocks_for len
+blocks_for-some len some = omega arith
+
+pub blocks_for-few : (len : ℕ) → len ≤ 65536 → blocks_for len ≤ 16
+blocks_for-few len few = omega arith
+
+-- ---- no names
+
+pub fresh : (used : ℕ) (free : List Run) → used ≤ 2 ^ 20 → IsRunList 0 (2 ^ 20) free → ((b : ℕ) → HasBlock free b ↔ (b < used))
+    → IsPlacement (record { extents = map.empty; free = free; used = used })
+fresh used free bounded runs all = record {
+  runs = runs;
+  exact = λ b. (λ h. ((all b).0 h, λ name extent some. absent _ extent (get-empty nat_cmp name) some), λ h. (all b).1 h.0);
+  fits = λ name extent some. absent _ extent (get-empty nat_cmp name) some;
+  apart = λ name other extent extent' ne some. absent _ extent (get-empty nat_cmp name) some;
+  bounded = bounded;
+}
+
+-- ---- a name that comes
+
+module _ (p : Placement) (laws : IsPlacement p) (name len : ℕ) (free : List Run) (first : ℕ)
+    (none : map.get p.extents name ≡ None) (size : IsTileLength len) (runs : IsRunList 0 (2 ^ 20) free)
+    (without : Without p.free free first (blocks_for len))
+    (were_free : (b : ℕ) → LiesIn b first (blocks_for len) → HasBlock p.free b) where
+  abbrev extent : Extent
+  extent = record { first = first; len = len }
+
+  abbrev extents : Named Extent
+  extents = map.insert p.extents name extent
+
+  -- an extent of the new map is the new one, or an old one
+  which : (q : ℕ) (e : Extent) → map.get extents q ≡ Some e → ((q ≡ name) × (e ≡ extent)) ⊎ ((q ≢ name) × (map.get p.extents q ≡ Some e))
+  which q e some = elim (cases_eq q name) [
+    | inl is ↦ inl (is, same_extent e extent (sym some ∙ ap (map.get extents) is ∙ get_here p.extents name extent))
+    | inr ne ↦ inr (ne, sym (get_elsewhere p.extents name extent q ne) ∙ some)
+  ]
+
+  still_unnamed : (b : ℕ) → IsUnnamed p.extents b → ¬ LiesIn b first (blocks_for len) → IsUnnamed extents b
+  still_unnamed b unnamed out q e some = elim (which q e some) [
+    | inl is ↦ let P : Extent → Type 0 = λ e. ¬ LiesInExtent b e in subst P (sym is.1) out
+    | inr old ↦ unnamed q e old.1
+  ]
+
+  was_unnamed : (b : ℕ) → IsUnnamed extents b → IsUnnamed p.extents b × ¬ LiesIn b first (blocks_for len)
+  was_unnamed b unnamed = (
+    λ q e some. elim (cases_eq q name) [
+      | inl is ↦ absent (map.get p.extents q) e (ap (map.get p.extents) is ∙ none) some
+      | inr ne ↦ unnamed q e (get_elsewhere p.extents name extent q ne ∙ some)
+    ],
+    unnamed name extent (get_here p.extents name extent),
+  )
+
+  was_free : (b : ℕ) → LiesIn b first (blocks_for len) → (b < p.used) × IsUnnamed p.extents b
+  was_free b lies = (laws.exact b).0 (were_free b lies)
+
+  in_used : first + blocks_for len ≤ p.used
+  in_used =
+      let some = blocks_for-some len size.0 in
+      let last : first + blocks_for len - 1 < p.used = (was_free (first + blocks_for len - 1) (record { low = omega (arith, some); high = omega (arith, some) })).0 in
+      omega (arith, some, last)
+
+  pub named : IsPlacement (record { extents = extents; free = free; used = p.used })
+  named = record {
+    runs = runs;
+    exact = λ b. (
+      λ h. let (was, out) = (without b).0 h in
+          let (lt, unnamed) = (laws.exact b).0 was in
+          (lt, still_unnamed b unnamed out),
+      λ h. let (unnamed, out) = was_unnamed b h.1 in (without b).1 ((laws.exact b).1 (h.0, unnamed), out),
+    );
+    fits = λ q e some. elim (which q e some) [
+      | inl is ↦ let P : Extent → Type 0 = λ e. IsTileLength e.len × (e.first + blocks_for e.len ≤ p.used) in subst P (sym is.1) (size, in_used)
+      | inr old ↦ laws.fits q e old.1
+    ];
+    apart = λ q r e f ne some some' b in_e in_f. elim (which q e some) [
+      | inl is ↦ let P : Extent → Type 0 = λ e. LiesInExtent b e in
+          elim (which r f some') [
+            | inl is' ↦ absurd (ne (is.0 ∙ sym is'.0))
+            | inr old ↦ (was_free b (subst P is.1 in_e)).1 r f old.1 in_f
+          ]
+      | inr old ↦ let P : Extent → Type 0 = λ e. LiesInExtent b e in
+          elim (which r f some') [
+            | inl is' ↦ (was_free b (subst P is'.1 in_f)).1 q e old.1 in_e
+            | inr old' ↦ laws.apart q r e f ne old.1 old'.1 b in_e in_f
+          ]
+    ];
+    bounded = laws.bounded;
+  }
+
+-- ---- a name that goes
+
+module _ (p : Placement) (laws : IsPlacement p) (name : ℕ) (extent : Extent) (some_extent : map.get p.extents name ≡ Some extent)
+  where
+    abbrev kept : Named Extent
+    kept = map.remove p.extents name
+
+    was_kept : (q : ℕ) (e : Extent) → map.get kept q ≡ Some e → (q ≢ name) × (map.get p.extents q ≡ Some e)
+    was_kept q e some = elim (cases_eq q name) [
+      | inl is ↦ absent (map.get kept q) e (ap (map.get kept) is ∙ get_gone p.extents name) some
+      | inr ne ↦ (ne, sym (get_left p.extents name q ne) ∙ some)
+    ]
+
+    -- the blocks of the name are no other's, and not free
+    pub not_free : (b : ℕ) → LiesIn b extent.first (blocks_for extent.len) → ¬ HasBlock p.free b
+    not_free b lies free = ((laws.exact b).0 free).1 name extent some_extent lies
+
+    pub extent_some : 1 ≤ blocks_for extent.len
+    extent_some = blocks_for-some extent.len (laws.fits name extent some_extent).0.0
+
+    pub extent_bound : extent.first + blocks_for extent.len ≤ 2 ^ 20
+    extent_bound = omega (arith, (laws.fits name extent some_extent).1, laws.bounded)
+
+    pub forgotten : (free : List Run) → IsRunList 0 (2 ^ 20) free → With p.free free extent.first (blocks_for extent.len)
+        → IsPlacement (record { extents = kept; free = free; used = p.used })
+    forgotten free runs with = record {
+      runs = runs;
+      exact = λ b. (
+        λ h. elim ((with b).0 h) [
+          | inl was ↦ let (lt, unnamed) = (laws.exact b).0 was in (lt, λ q e some. unnamed q e (was_kept q e some).1)
+          | inr lies ↦ (
+            omega (arith, (laws.fits name extent some_extent).1, lies.high),
+            λ q e some. let (ne, old) = was_kept q e some in laws.apart name q extent e (λ is. ne (sym is)) some_extent old b lies,
+          )
+        ],
+        λ h. (with b).1
+            (elim (cases_lies b) [
+              | inl lies ↦ inr lies
+              | inr out ↦ inl ((laws.exact b).1 (
+                h.0,
+                λ q e some. elim (cases_eq q name) [
+                  | inl is ↦ let P : Extent → Type 0 = λ e. ¬ LiesInExtent b e in
+                      subst P (same_extent extent e (sym some_extent ∙ ap (map.get p.extents) (sym is) ∙ some)) out
+                  | inr ne ↦ h.1 q e (get_left p.extents name q ne ∙ some)
+                ],
+              ))
+            ]),
+      );
+      fits = λ q e some. laws.fits q e (was_kept q e some).1;
+      apart = λ q r e f ne some some'. laws.apart q r e f ne (was_kept q e some).1 (was_kept r f some').1;
+      bounded = laws.bounded;
+    }
+      where
+        cases_lies : (b : ℕ) → LiesIn b extent.first (blocks_for extent.len) ⊎ (¬ LiesIn b extent.first (blocks_for extent.len))
+        cases_lies b = elim (cases_lt b extent.first) [
+          | inl lt ↦ inr (λ lies. absurd (omega (arith, lies.low)))
+          | inr ge ↦ elim (cases_lt b (extent.first + blocks_for extent.len)) [
+            | inl lt ↦ inl (record { low = ge; high = lt })
+            | inr ge' ↦ inr (λ lies. absurd (omega (arith, lies.high)))
+          ]
+        ]
+
+-- ---- the same for the entries of a hash map
+
+-- the placement of these entries and free runs
+abbrev pub placed : List (ℕ × Extent) → List Run → ℕ → Placement
+placed es free used = record { extents = from_entries {R = nat_cmp} es; free = free; used = used }
+
+pub added : (es fs : List (ℕ × Extent)) (free free' : List Run) (used name len i : ℕ) (run : Run)
+    → IsPlacement (placed es free used)
+    → ((q : ℕ) → lookup (eqb q) fs ≡ cond (eqb name q) (Some (record { first = run.first; len = len })) (lookup (eqb q) es))
+    → map.get (from_entries {R = nat_cmp} es) name ≡ None → IsTileLength len
+    → i < length free → run ≡ get_or free i run → ((d : Run) → blocks_for len ≤ (get_or free i d).count)
+    → IsRunList 0 (2 ^ 20) free' → ((d : Run) → Without free free' (get_or free i d).first (blocks_for len))
+    → IsPlacement (placed fs free' used)
+added es fs free free' used name len i run laws is none size lt read long runs without =
+    let first : (get_or free i run).first ≡ run.first = ap (λ (r : Run). r.first) (sym read) in
+    let same : from_entries {R = nat_cmp} fs ≡ map.insert (from_entries es) name (record { first = run.first; len = len }) =
+    entries-inserted es fs name (record { first = run.first; len = len }) is in
+    rw same
+    (named (placed es free used) laws name len free' run.first none size runs (rw first at (without run))
+    (λ b lies. HasBlock-at free i run b lt
+    (record { low = omega (arith, first, lies.low); high = omega (arith, first, long run, lies.high) })))
+
+pub none_there : (o : Option Extent) → is_some o ≡ false → o ≡ None
+none_there None is = refl
+none_there (Some e) is = absurd (true≢false is)
+
+pub room_after_added : (b : Bool) (n m : ℕ) → m ≡ n + cond b 0 1 → m ≤ n + 1
+room_after_added true n m is = omega arith
+room_after_added false n m is = omega arith
+
+pub removed : (es fs : List (ℕ × Extent)) (free free' : List Run) (used name : ℕ) (e : Extent)
+    → IsPlacement (placed es free used)
+    → ((q : ℕ) → lookup (eqb q) fs ≡ cond (eqb name q) None (lookup (eqb q) es))
+    → map.get (from_entries {R = nat_cmp} es) name ≡ Some e
+    → IsRunList 0 (2 ^ 20) free' → With free free' e.first (blocks_for e.len)
+    → IsPlacement (placed fs free' used)
+removed es fs free free' used name e laws is some runs with =
+    let same : from_entries {R = nat_cmp} fs ≡ map.remove (from_entries es) name = entries-removed es fs name is in
+    rw same (forgotten (placed es free used) laws name e some free' runs with)
+
+pub room_after_removed : (b : Bool) (n m : ℕ) → m + cond b 1 0 ≡ n → b ≡ true → m + 1 ≤ n
+room_after_removed true n m is found = omega arith
+room_after_removed false n m is found = absurd (false≢true found)
+
+-- ---- a placement of no names
+
+pub all_free : (used : ℕ) (b : ℕ) → HasBlock (record { first = 0; count = used } ∷ []) b ↔ (b < used)
+all_free used b = (elim [ inl l ↦ omega (arith, l.high) | inr none ↦ absurd none ], λ lt. inl (record { low = omega arith; high = omega arith }))
+
+pub none_free : (b : ℕ) → HasBlock [] b ↔ (b < 0)
+none_free b = (λ none. absurd none, λ lt. absurd (omega arith))
+
+pub all_free_runs : (used : ℕ) → used ≤ 2 ^ 20 → 1 ≤ used → IsRunList 0 (2 ^ 20) (record { first = 0; count = used } ∷ [])
+all_free_runs used bound some = (omega arith, some, omega arith, tt)

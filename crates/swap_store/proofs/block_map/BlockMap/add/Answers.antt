@@ -1,0 +1,33 @@
+use Rattle.std.proofs.Common.{◌≡◌, ◌<◌, length, get_or, arith, sym, ◌∙◌}
+use Rattle.std.proofs.lemmas.List.{get_or_default}
+use Rattle.swap_store.proofs.Names.{entries-inserted}
+use Rattle.swap_store.proofs.PlacementLaws.{added, none_there, room_after_added}
+use Rattle.swap_store.proofs.block_map.BlockMap.add.Goals as goal
+
+pub returns-clause-extents : goal.returns-clause-extents
+returns-clause-extents c = λ d.
+    let run = c.index.result.now in
+    let xs = c.self.inside.free.items in
+    let lt : c.args.index < length xs = rw (← c.self.view_is) at c.requires.known in
+    let same : get_or xs c.args.index d ≡ run = get_or_default xs c.args.index d run lt ∙ sym c.index.ensures in
+    rw (← c.self.view_is, same)
+    (entries-inserted c.self.inside.extents.entries c.insert.new.self.entries c.args.name
+    (record { first = run.first; len = c.args.len }) c.in_ok-insert.ensures.updates.0)
+
+pub invariant_of-self-2 : goal.invariant_of-self-2
+invariant_of-self-2 c = (
+  added c.self.inside.extents.entries c.insert.new.self.entries c.self.inside.free.items c.take_front.new.runs.items c.self.inside.used
+      c.args.name c.args.len c.args.index c.index.result.now c.self.invariant.0 c.in_ok-insert.ensures.updates.0
+      (none_there _ (rw (← c.self.view_is) at c.requires.absent)) c.requires.size
+      (rw (← c.self.view_is) at c.requires.known) c.index.ensures
+      (rw (← c.self.view_is) at c.requires.long) c.take_front.ensures.list
+      (rw (c.reserve.ensures.items, c.blocks_for-count.ensures) at c.take_front.ensures.blocks),
+  omega (
+    arith,
+    c.take_front.ensures.shorter,
+    c.take_front.ensures.capacity,
+    c.in_ok-reserve.ensures.ok,
+    c.len.ensures.len,
+    room_after_added _ _ _ c.in_ok-insert.ensures.len,
+  ),
+)

@@ -1,0 +1,11 @@
+use Rattle.std.proofs.Common.{◌≡◌, Option, Some, None, sym, ap, ◌∙◌, rules}
+use Rattle.std.specs.Option.{option_map}
+use Rattle.std.specs.FinMap as map
+use Rattle.swap_store.specs.declared.block_map.Extent.{Extent}
+use Rattle.swap_store.proofs.Contents.{get-map_values}
+use Rattle.swap_store.proofs.store.Store.len_of.Goals as goal
+
+pub returns : goal.returns
+returns g c =
+    let found : c.map.result ≡ option_map (λ (x : Extent). x.len) c.extent.result = search rules in
+    rw (← c.self.view_is, get-map_values, ← c.extent.ensures.value) found

@@ -1,0 +1,58 @@
+-- Where names lie on a disk.
+use Rattle.std.specs.Prelude.{◌≡◌, ◌≢◌, ℕ, ◌+◌, ◌<◌, ◌≤◌, ◌^◌, ◌↔◌, List, Some, refl}
+use Rattle.std.specs.Coded.{Coded, code_by, coded×, coded_list, coded_ℕ}
+use Rattle.std.specs.FinMap as map
+use Rattle.tile_cow.specs.Tile.{IsTileLength}
+use Rattle.swap_store.specs.declared.runs.Run.{Run}
+use Rattle.swap_store.specs.declared.block_map.Extent.{Extent}
+use Rattle.swap_store.specs.Run.{blocks_for, LiesIn, HasBlock, IsRunList, first_fit}
+use Rattle.swap_store.specs.Values.{Named}
+
+-- each name's extent, the free runs, and how many blocks of the disk are used
+pub record Placement : Type 0 where
+  pub extents : Named Extent
+  pub free : List Run
+  pub used : ℕ
+
+-- a placement is stored as its fields in pairs
+abbrev pub run_code : Coded Run
+run_code = code_by (ℕ × ℕ) (coded× coded_ℕ coded_ℕ) (λ run. (run.first, run.count)) (λ p. record { first = p.0; count = p.1 }) (λ _. refl)
+
+abbrev pub extent_code : Coded Extent
+extent_code = code_by (ℕ × ℕ) (coded× coded_ℕ coded_ℕ) (λ extent. (extent.first, extent.len)) (λ p. record { first = p.0; len = p.1 }) (λ _. refl)
+
+abbrev pub placement_code : Coded Placement
+placement_code =
+    code_by (Named Extent × (List Run × ℕ)) (coded× (map.code coded_ℕ extent_code) (coded× (coded_list run_code) coded_ℕ))
+    (λ p. (p.extents, (p.free, p.used)))
+    (λ parts. record { extents = parts.0; free = parts.1.0; used = parts.1.1 }) (λ _. refl)
+
+-- a block is one of an extent's
+abbrev pub LiesInExtent : ℕ → Extent → Type 0
+LiesInExtent block extent = LiesIn block extent.first (blocks_for extent.len)
+
+-- a block is no name's
+abbrev pub IsUnnamed : Named Extent → ℕ → Type 0
+IsUnnamed extents block = (name : ℕ) (extent : Extent) → map.get extents name ≡ Some extent → ¬ LiesInExtent block extent
+
+-- What holds of where names lie, at every moment.
+pub record IsPlacement (p : Placement) : Type 0 where
+  -- the free runs are in order, and neighbours are one run
+  pub runs : IsRunList 0 (2 ^ 20) p.free
+  -- they have exactly the blocks of no name
+  pub exact : (block : ℕ) → HasBlock p.free block ↔ ((block < p.used) × IsUnnamed p.extents block)
+  -- each name has 1 to 65,536 bytes, in blocks that are used
+  pub fits : (name : ℕ) (extent : Extent) → map.get p.extents name ≡ Some extent
+      → IsTileLength extent.len × (extent.first + blocks_for extent.len ≤ p.used)
+  -- no block is two names'
+  pub apart : (name other : ℕ) (extent extent' : Extent) → name ≢ other
+      → map.get p.extents name ≡ Some extent → map.get p.extents other ≡ Some extent'
+      → (block : ℕ) → LiesInExtent block extent → ¬ LiesInExtent block extent'
+  pub bounded : p.used ≤ 2 ^ 20
+
+-- the new placement has one name more, in the first blocks of the lowest free run that is long enough
+pub record AddsAtFirstFit (old new : Placement) (name len : ℕ) : Type 0 where
+  pub first : ℕ
+  pub lowest : first_fit old.free (blocks_for len) ≡ Some first
+  pub extents : new.extents ≡ map.insert old.extents name (record { first = first; len = len })
+  pub used : new.used ≡ old.used

@@ -1,0 +1,148 @@
+//! Where names lie on a disk.
+
+ghost use Rattle.std.specs.Prelude.{◌≡◌, ℕ, ◌+◌, ◌<◌, ◌≤◌, ◌^◌, ◌↔◌, [], Some, None, Err, IsSome, IsNone, IfOk, OnOk, OnErr, MatchResult, length, slice_index_or};
+ghost use Rattle.std.specs.FinMap as map;
+ghost use Rattle.tile_cow.specs.Tile.{IsTileLength};
+ghost use Rattle.swap_store.specs.Run.{IsFirstFit, blocks_for, longest};
+ghost use Rattle.swap_store.specs.Placement.{IsPlacement, Placement};
+
+use crate::refusal::SwapRefused;
+use crate::runs;
+use crate::runs::Run;
+use no_memory::NoMemory;
+use std::alloc::{AllocError, Global};
+use std::collections::HashMap;
+use std::marker::Model;
+
+/// The bytes of a block.
+pub(crate) const BLOCK_BYTES: usize = 4096;
+
+/// How many blocks so many bytes take.
+pub(crate) fn blocks_for(len: u32) -> u32
+    ensures { result ≡ blocks_for len }
+{
+    len.div_ceil(BLOCK_BYTES as u32)
+}
+
+/// Where the bytes of a name lie.
+#[derive(Clone, Copy, Debug, PartialEq, Eq)]
+pub(crate) struct Extent {
+    /// The number of the first block.
+    pub first: u32,
+    /// How many bytes there are.
+    pub len: u32,
+}
+
+/// The extents of names, and the free runs of blocks: those that no name has. There is room for one
+/// free run more for each name, so that to forget one takes no memory.
+#[derive(Drop)]
+pub(crate) struct BlockMap {
+    extents: HashMap<u64, Extent>,
+    free: Vec<Run>,
+    used: u32,
+}
+
+impl Model for BlockMap {
+    ghost use Rattle.std.specs.Prelude.{◌+◌, ◌≤◌, vec_len, vec_capacity};
+    ghost use Rattle.std.specs.Ordering.{nat_cmp};
+    ghost use Rattle.std.specs.HashMap.{IsUnique, hash_map_len};
+    ghost use Rattle.std.specs.FinMap as map;
+    ghost use Rattle.swap_store.specs.Placement.{Placement, placement_code, IsPlacement};
+
+    ghost Value = { Placement };
+
+    ghost coded = { placement_code };
+
+    ghost view = { λ a. record { extents = map.from_entries a.extents.entries; free = a.free.items; used = a.used } };
+
+    ghost invariant = { λ a. IsPlacement (record { extents = map.from_entries a.extents.entries; free = a.free.items; used = a.used })
+        × (vec_len a.free + hash_map_len a.extents ≤ vec_capacity a.free) };
+}
+
+impl BlockMap {
+    /// No names, and all of the first `used` blocks of a disk free.
+    pub fn new(alloc: Global, used: u32) -> Result<BlockMap, NoMemory>
+        requires { used ≤ 2 ^ 20 }
+        ensures used { IfOk result (λ made. made.used ≡ used) }
+        ensures empty { IfOk result (λ made. made.extents ≡ map.empty) }
+    {
+        let mut free = Vec::new(alloc);
+        if used > 0 {
+            free.push(Run {
+                first: 0,
+                count: used,
+            })?;
+        }
+        Ok(BlockMap {
+            extents: HashMap::new(alloc),
+            free,
+            used,
+        })
+    }
+
+    /// The free runs.
+    pub fn free_runs(&self) -> &[Run]
+        ensures value { result.now ≡ self.now.free }
+        ensures laws { IsPlacement self.now }
+    {
+        &self.free
+    }
+
+    /// How many blocks are used.
+    pub fn used_blocks(&self) -> u32
+        ensures { result ≡ self.now.used }
+    {
+        self.used
+    }
+
+    /// The extent of a name, where it has one.
+    pub fn extent(&self, name: u64) -> Option<Extent>
+        ensures value { result ≡ map.get self.now.extents name }
+        ensures laws { IsPlacement self.now }
+    {
+        self.extents.get(&name).copied()
+    }
+
+    /// The index of the lowest free run that so many bytes fit in.
+    pub fn fitting_run(&self, len: u32) -> Result<usize, SwapRefused>
+        requires { IsTileLength len }
+        ensures found { MatchResult result (IsFirstFit self.now.free (blocks_for len))
+            (λ refused. refused ≡ SwapRefused.SwapFull (blocks_for len) (longest self.now.free)) }
+        ensures full { OnErr result (longest self.now.free < blocks_for len) }
+    {
+        let needed = blocks_for(len);
+        runs::fitting_run(&self.free, needed).ok_or(SwapRefused::SwapFull {
+            needed,
+            longest: runs::longest_run(&self.free),
+        })
+    }
+
+    /// Gives a name the first blocks of the free run of this index, as many as `len` bytes take.
+    pub fn add(&mut self, name: u64, index: usize, len: u32) -> Result<(), NoMemory>
+        requires absent { IsNone (map.get self.old.extents name) }
+        requires size { IsTileLength len }
+        requires known { index < length self.old.free }
+        requires long { (d : Run) → blocks_for len ≤ (slice_index_or self.old.free index d).count }
+        ensures extents { OnOk result ((d : Run) → self.new.extents
+            ≡ map.insert self.old.extents name (record { first = (slice_index_or self.old.free index d).first; len = len })) }
+        ensures used { self.new.used ≡ self.old.used }
+        ensures unchanged { OnErr result (self.new ≡ self.old) }
+    {
+        let count = blocks_for(len);
+        let first = self.free[index].first;
+        self.free.reserve(self.extents.len() + 1)?;
+        self.extents.insert(name, Extent { first, len })?;
+        runs::take_front(&mut self.free, index, count);
+        Ok(())
+    }
+
+    /// Makes the blocks of a name free.
+    pub fn remove(&mut self, name: u64)
+        requires { IsSome (map.get self.old.extents name) }
+        ensures extents { self.new.extents ≡ map.remove self.old.extents name }
+        ensures used { self.new.used ≡ self.old.used }
+    {
+        let extent = self.extents.remove(&name).unwrap();
+        runs::give_back(&mut self.free, extent.first, blocks_for(extent.len));
+    }
+}

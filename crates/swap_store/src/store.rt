@@ -1,0 +1,185 @@
+//! Tiles under names on a swap disk.
+
+ghost use Rattle.std.specs.Prelude.{◌≡◌, ◌+◌, ◌*◌, ◌<◌, ◌≤◌, Some, Err, IfErr, IfOk, IfSome, OnErr, OnOk, IsNone, IsSome, length, min};
+ghost use Rattle.std.specs.Option.{option_map};
+ghost use Rattle.std.specs.FinMap as map;
+ghost use Rattle.swap_store.specs.Run.{blocks_for, longest};
+ghost use Rattle.swap_store.specs.Placement.{AddsAtFirstFit, IsPlacement};
+ghost use Rattle.swap_store.specs.Content.{content_of, lengths_of};
+ghost use Rattle.swap_store.specs.Store.{HasDiskCause, HasPutCause};
+
+use crate::block_map::BlockMap;
+use crate::extents;
+use crate::refusal::SwapRefused;
+use crate::runs::Run;
+use no_memory::NoMemory;
+use outside_io::{Lent, SwapDisk};
+use std::alloc::Global;
+use std::marker::Model;
+use tile_cow::Tile;
+
+/// Keeps tiles under names in runs of blocks of a disk that it owns.
+#[derive(Drop)]
+pub struct Store<D: SwapDisk> {
+    map: BlockMap,
+    disk: D,
+    spare: Vec<u8>,
+    alloc: Global,
+}
+
+/// A store over a disk that was lent to it.
+pub type SwapStore<'s, D> = Store<Lent<'s, D>>;
+
+impl<D: SwapDisk> Model for Store<D> {
+    ghost use Rattle.std.specs.Prelude.{◌≡◌, ◌≤◌, vec_len};
+    ghost use Rattle.swap_store.specs.Store.{StoreState, store_code};
+    ghost use Rattle.swap_store.specs.Placement.{IsPlacement};
+
+    ghost Value = { StoreState D };
+
+    ghost coded = { store_code D.code };
+
+    ghost view = { λ a. record { placement = a.map; disk = a.disk } };
+
+    ghost invariant = { λ a. (a.map.used ≤ D.block_count a.disk) × (vec_len a.spare ≡ 65536) };
+}
+
+impl<'s, D: SwapDisk> Store<Lent<'s, D>> {
+    /// A store without names, over the first `blocks` blocks of a disk, or all where it has fewer.
+    pub fn new(alloc: Global, disk: &'s mut D, blocks: u32) -> Result<Store<Lent<'s, D>>, NoMemory>
+        ensures used { IfOk result (λ store. store.placement.used ≡ min blocks (D.block_count disk.old)) }
+        ensures empty { IfOk result (λ store. store.placement.extents ≡ map.empty) }
+        ensures disk { IfOk result (λ store. store.disk.disk ≡ disk.entry) }
+    {
+        let spare = vec![in alloc; 0; 65_536]?;
+        let used = blocks.min(disk.size());
+        let map = BlockMap::new(alloc, used)?;
+        Ok(Store {
+            map,
+            disk: Lent { disk },
+            spare,
+            alloc,
+        })
+    }
+}
+
+impl<D: SwapDisk> Store<D> {
+    /// Whether a name is there.
+    pub fn has(&self, name: u64) -> bool
+        ensures { result ≡ map.contains_key self.now.placement.extents name }
+    {
+        self.map.extent(name).is_some()
+    }
+
+    /// How many bytes a name has, where it is there.
+    pub fn len_of(&self, name: u64) -> Option<u32>
+        ensures { result ≡ map.get (lengths_of self.now.placement.extents) name }
+    {
+        self.map.extent(name).map(|extent| extent.len)
+    }
+
+    /// The free runs, in order. They have exactly the blocks of no name, and neighbours are one run.
+    pub fn free_runs(&self) -> &[Run]
+        ensures value { result.now ≡ self.now.placement.free }
+        ensures laws { IsPlacement self.now.placement }
+    {
+        self.map.free_runs()
+    }
+
+    /// How many blocks of the disk are used, from block 0 on.
+    pub fn used_blocks(&self) -> u32
+        ensures used { result ≡ self.now.placement.used }
+        ensures known { result ≤ D.block_count self.now.disk }
+    {
+        self.map.used_blocks()
+    }
+
+    /// Where there are k names and at least 32·(k + 1) blocks are used, 16 blocks that lie beside
+    /// one another are free, which is room for every tile.
+    pub fn few_names_leave_room(&self)
+        requires { 32 * (map.len self.now.placement.extents + 1) ≤ self.now.placement.used }
+        ensures { 16 ≤ longest self.now.placement.free }
+    {
+        let _runs = self.map.free_runs();
+    }
+
+    /// Keeps the bytes of a tile under a name, in the lowest free run that is long enough for them.
+    /// After an error no name was changed, but blocks of no name may have other bytes.
+    pub fn put(&mut self, name: u64, tile: &Tile) -> Result<(), SwapRefused>
+        requires { IsNone (map.get self.old.placement.extents name) }
+        ensures placed { OnOk result
+            (AddsAtFirstFit self.old.placement self.new.placement name (length tile.now)) }
+        ensures lengths { OnOk result (lengths_of self.new.placement.extents
+            ≡ map.insert (lengths_of self.old.placement.extents) name (length tile.now)) }
+        ensures kept { OnOk result (content_of self.new.placement.extents (D.blocks self.new.disk)
+            ≡ option_map (λ content. map.insert content name tile.now)
+            (content_of self.old.placement.extents (D.blocks self.old.disk))) }
+
+        // An error leaves where names lie, and the bytes of each.
+        ensures err { OnErr result (self.new.placement ≡ self.old.placement) }
+        ensures unchanged { OnErr result (content_of self.new.placement.extents (D.blocks self.new.disk)
+            ≡ content_of self.old.placement.extents (D.blocks self.old.disk)) }
+
+        // It is full exactly where the longest free run is too short.
+        ensures full { longest self.old.placement.free < blocks_for (length tile.now)
+            → result ≡ Err (SwapRefused.SwapFull (blocks_for (length tile.now)) (longest self.old.placement.free)) }
+        ensures cause { IfErr result (HasPutCause self.old.placement.free (length tile.now)
+            (D.faults self.old.disk) (D.faults self.new.disk)) }
+        ensures later { D.faults self.old.disk ≤ D.faults self.new.disk }
+        ensures block_count { D.block_count self.new.disk ≡ D.block_count self.old.disk }
+        ensures loans { D.loans self.new.disk ≡ D.loans self.old.disk }
+    {
+        let bytes = tile.bytes();
+        let len = bytes.len() as u32;
+        let index = self.map.fitting_run(len)?;
+        let first = self.map.free_runs()[index].first;
+        extents::write_extent(&mut self.disk, first, bytes, &mut self.spare)?;
+        self.map.add(name, index, len)?;
+        Ok(())
+    }
+
+    /// The tile of a name.
+    pub fn get(&mut self, name: u64, len: u32) -> Result<Tile, SwapRefused>
+        requires { map.get (lengths_of self.old.placement.extents) name ≡ Some len }
+        ensures length { IfOk result (λ tile. length tile ≡ len) }
+        ensures bytes { IfOk result (λ tile. IfSome (content_of self.old.placement.extents (D.blocks self.old.disk))
+            (λ content. map.get content name ≡ Some tile)) }
+        ensures same { self.new.placement ≡ self.old.placement }
+        ensures blocks { D.blocks self.new.disk ≡ D.blocks self.old.disk }
+        ensures cause { IfErr result (HasDiskCause (D.faults self.old.disk) (D.faults self.new.disk)) }
+        ensures later { D.faults self.old.disk ≤ D.faults self.new.disk }
+        ensures block_count { D.block_count self.new.disk ≡ D.block_count self.old.disk }
+        ensures loans { D.loans self.new.disk ≡ D.loans self.old.disk }
+    {
+        let first = self.map.extent(name).unwrap().first;
+        extents::read_extent(&mut self.disk, first, len, &mut self.spare)?;
+        Ok(Tile::of(self.alloc, &self.spare[..len as usize])?)
+    }
+
+    /// Takes a name out, and makes its blocks free. Takes no memory.
+    pub fn forget(&mut self, name: u64)
+        requires { IsSome (map.get self.old.placement.extents name) }
+        ensures extents { self.new.placement.extents ≡ map.remove self.old.placement.extents name }
+        ensures used { self.new.placement.used ≡ self.old.placement.used }
+        ensures lengths { lengths_of self.new.placement.extents ≡ map.remove (lengths_of self.old.placement.extents) name }
+        ensures content { content_of self.new.placement.extents (D.blocks self.new.disk)
+            ≡ option_map (λ content. map.remove content name)
+            (content_of self.old.placement.extents (D.blocks self.old.disk)) }
+        ensures disk { self.new.disk ≡ self.old.disk }
+    {
+        self.map.remove(name);
+    }
+
+    /// The disk, as the last call left it.
+    pub fn end(self) -> D
+        ensures { result ≡ self.disk }
+    {
+        let Store {
+            map: _,
+            disk,
+            spare: _,
+            alloc: _,
+        } = self;
+        disk
+    }
+}
