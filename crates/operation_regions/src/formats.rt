@@ -1,0 +1,154 @@
+//! The formats that operations take and give.
+
+ghost use Rattle.std.specs.Prelude.{◌≡◌};
+ghost use Rattle.std.specs.List.{list_all};
+ghost use Rattle.operations.specs.Arguments.{in_range, is_area, is_between, is_move};
+ghost use Rattle.operations.specs.Formats.{are_samples, format_if, format_of, format_with, is_mask_of, is_sample};
+ghost use Rattle.operations.specs.Inputs.{input_count, input_format};
+
+use abyss_levels::Abyss;
+use operations::{IntOp, Samples};
+use sample_rows::Format;
+
+/// The greatest distance by which an image is moved, in places.
+const LONGEST_MOVE: u64 = 1 << 25;
+
+/// How many images an operation takes.
+pub fn input_count(op: &IntOp) -> usize
+    ensures { result ≡ input_count op.now }
+{
+    match op {
+        IntOp::Color { .. } | IntOp::Checker { .. } => 0,
+        IntOp::Convert { .. }
+        | IntOp::Invert
+        | IntOp::Threshold { .. }
+        | IntOp::Gain { .. }
+        | IntOp::Translate { .. }
+        | IntOp::Crop { .. }
+        | IntOp::Flip { .. }
+        | IntOp::BoxMean { .. }
+        | IntOp::Dilate { .. }
+        | IntOp::Erode { .. } => 1,
+        IntOp::Add | IntOp::Over | IntOp::Mask => 2,
+    }
+}
+
+/// The format that an operation gives of those of its inputs, and None exactly where their number or
+/// an argument is wrong, or where it does not take them.
+pub fn format_of(op: &IntOp, formats: &[Format]) -> Option<Format>
+    ensures { result ≡ format_of op.now formats.now }
+{
+    if formats.len() != input_count(op) || !in_range(op) {
+        return None;
+    }
+    format_with(op, input_format(formats, 0), input_format(formats, 1))
+}
+
+/// The format of an input, and Y8 where it lacks.
+fn input_format(formats: &[Format], input: usize) -> Format
+    ensures { result ≡ input_format formats.now input }
+{
+    formats.get(input).copied().unwrap_or(Format::Y8)
+}
+
+/// The format of arguments in their ranges and of inputs in these formats.
+fn format_with(op: &IntOp, a: Format, b: Format) -> Option<Format>
+    ensures { result ≡ format_with op.now a b }
+{
+    match op {
+        IntOp::Color {
+            format,
+            samples,
+            ..
+        } => format_if(are_samples(*format, samples), *format),
+        IntOp::Checker { format, v1, v2, .. } => {
+            format_if(is_sample(*format, *v1) && is_sample(*format, *v2), *format)
+        }
+        IntOp::Convert { format } => Some(*format),
+        IntOp::Threshold { at } => format_if(is_sample(a, *at), a),
+        IntOp::Add => format_if(a == b, a),
+        IntOp::Over => format_if(a == b && a.has_alpha(), a),
+        IntOp::Mask => format_if(is_mask_of(b, a), a),
+        IntOp::Invert
+        | IntOp::Gain { .. }
+        | IntOp::Translate { .. }
+        | IntOp::Crop { .. }
+        | IntOp::Flip { .. }
+        | IntOp::BoxMean { .. }
+        | IntOp::Dilate { .. }
+        | IntOp::Erode { .. } => Some(a),
+    }
+}
+
+/// The format, where something holds.
+fn format_if(holds: bool, format: Format) -> Option<Format>
+    ensures { result ≡ format_if holds format }
+{
+    if holds { Some(format) } else { None }
+}
+
+/// Whether there is a sample for each channel, and none is above the greatest.
+fn are_samples(format: Format, samples: &Samples) -> bool
+    ensures { result ≡ are_samples format samples.now }
+{
+    let samples = samples.as_slice();
+    samples.len() == format.channels() as usize && all_are_samples(format, samples)
+}
+
+/// Whether none of these is above the greatest sample.
+fn all_are_samples(format: Format, samples: &[u32]) -> bool
+    ensures { result ≡ list_all (is_sample format) samples.now }
+{
+    samples.iter().all(|sample| is_sample(format, *sample))
+}
+
+/// Whether a pixel of the format may have the sample.
+fn is_sample(format: Format, sample: u32) -> bool
+    ensures { result ≡ is_sample format sample }
+{
+    sample <= format.max()
+}
+
+/// Whether a format is Y of the depth of another.
+fn is_mask_of(mask: Format, format: Format) -> bool
+    ensures { result ≡ is_mask_of mask format }
+{
+    mask.channels() == 1 && mask.depth() == format.depth()
+}
+
+/// Whether each argument lies in its range. Those of samples depend on the format.
+fn in_range(op: &IntOp) -> bool
+    ensures { result ≡ in_range op.now }
+{
+    match op {
+        IntOp::Checker { size, .. } => 1 <= *size && *size <= 4096,
+        IntOp::Gain { num, den } => *num <= 0xFFFF && 1 <= *den && *den <= 0xFFFF,
+        IntOp::Translate { dx, dy } => is_move(*dx) && is_move(*dy),
+        IntOp::BoxMean { radius, abyss }
+        | IntOp::Dilate { radius, abyss }
+        | IntOp::Erode { radius, abyss } => is_area(*radius, *abyss),
+        IntOp::Color { .. }
+        | IntOp::Convert { .. }
+        | IntOp::Invert
+        | IntOp::Threshold { .. }
+        | IntOp::Crop { .. }
+        | IntOp::Flip { .. }
+        | IntOp::Add
+        | IntOp::Over
+        | IntOp::Mask => true,
+    }
+}
+
+/// Whether an image may be moved by so much.
+fn is_move(distance: i64) -> bool
+    ensures { result ≡ is_move distance }
+{
+    distance.unsigned_abs() <= LONGEST_MOVE
+}
+
+/// Whether an area has this radius and policy.
+fn is_area(radius: u32, abyss: Abyss) -> bool
+    ensures { result ≡ is_area radius abyss }
+{
+    1 <= radius && radius <= 64 && abyss != Abyss::Loop
+}

@@ -1,0 +1,15 @@
+//! What an operation answers of the formats and the boxes of its inputs, computed: formats, boxes,
+//! and the regions that it reads and that a change reaches.
+#![tactic(auto)]
+
+mod areas;
+mod boxes;
+mod copies;
+mod formats;
+mod moves;
+mod regions;
+
+pub use boxes::box_of;
+pub use copies::{copy, same};
+pub use formats::{format_of, input_count};
+pub use regions::{invalidated, required};

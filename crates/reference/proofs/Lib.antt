@@ -1,0 +1,5 @@
+pub mod Steps
+pub mod EditLaws
+pub mod Rows
+pub mod NeedLaws
+pub mod PairLaws

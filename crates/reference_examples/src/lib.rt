@@ -1,0 +1,10 @@
+//! Graphs whose regions and counts were worked out by hand, as tests of the plain program. All
+//! expected values were worked out from the definitions, none from the program.
+#![tactic(auto)]
+
+#[cfg(test)]
+mod refusals;
+#[cfg(test)]
+mod renders;
+#[cfg(test)]
+mod small_graphs;

@@ -1,0 +1,3 @@
+pub mod Pictures
+pub mod WindowSamples
+pub mod OperationSamples

@@ -1,0 +1,5 @@
+//! Small images that were worked out by hand, as tests of the plain program that computes images.
+#![tactic(auto)]
+
+#[cfg(test)]
+mod tests;
