@@ -1,0 +1,9 @@
+pub mod CommandsBack
+pub mod FieldsBack
+pub mod Fitting
+pub mod FormatLaws
+pub mod ListLaws
+pub mod NodesBack
+pub mod PrintLaws
+pub mod ReadBack
+pub mod ScriptLaws

@@ -1,0 +1,77 @@
+-- The limits that the fields of a script's commands keep.
+use Rattle.std.specs.Prelude.{ℕ, ℤ, pos, neg_ℤ, ◌≡◌, ◌≤◌, ◌≤ℤ◌, IsTrue, All, List, length, is_some}
+use Rattle.plane_rect.specs.Rectangle.{Rectangle, in_limits, scaled}
+use Rattle.abyss_levels.specs.declared.abyss.Abyss.{Abyss}
+use Rattle.script_read.specs.Commands.{greatest_level}
+use Rattle.script_read.specs.Fields.{furthest_move, greatest_sample, is_near, longest_prefix, may_watch}
+use Rattle.script_read.specs.Nodes.{greatest_radius, greatest_size}
+use Rattle.script_read.specs.declared.command.Command.{Command}
+use Rattle.script_read.specs.declared.command.Command.TheVariants.{Buffer, Sub, Load, Fill, Copy, Node, Render, Grab, Watch}
+use Rattle.script_read.specs.declared.command.OpWords.{OpWords}
+use Rattle.script_read.specs.declared.command.OpWords.TheVariants.{Source, Color, Checker, Threshold, Gain, Translate, Crop, BoxMean, Dilate, Erode, Add, Over, Mask}
+
+-- a number of a range
+abbrev pub IsIn : ℕ → ℕ → ℕ → Type 0
+IsIn low high value = (low ≤ value) × (value ≤ high)
+
+-- a sample of some format
+abbrev pub IsSample : ℕ → Type 0
+IsSample sample = sample ≤ greatest_sample
+
+-- 1 to 4 samples
+pub record ArePixel (samples : List ℕ) : Type 0 where
+  pub number : IsIn 1 4 (length samples)
+  pub each : All IsSample samples
+
+-- how far something may be moved along an axis
+abbrev pub IsMove : ℤ → Type 0
+IsMove d = (neg_ℤ (pos furthest_move) ≤ℤ d) × (d ≤ℤ pos furthest_move)
+
+-- the radius and the policy of an operation on squares of places
+abbrev pub IsSquare : ℕ → Abyss → Type 0
+IsSquare radius policy = IsIn 1 greatest_radius radius × IsTrue (is_near policy)
+
+-- a rectangle that is read at a level
+pub record IsLevelRect (level : ℕ) (rect : Rectangle) : Type 0 where
+  pub range : level ≤ greatest_level
+  pub limits : IsTrue (in_limits rect)
+  pub scaled : IsTrue (is_some (scaled level rect))
+
+-- how many inputs an operation has
+abbrev pub input_count : OpWords → ℕ
+input_count (Source buffer) = 0
+input_count (Color format rect samples) = 0
+input_count (Checker format rect size v1 v2) = 0
+input_count Add = 2
+input_count Over = 2
+input_count Mask = 2
+input_count op = 1
+
+-- the arguments of an operation are in their ranges
+abbrev pub InRange : OpWords → Type 0
+InRange (Color format rect samples) = IsTrue (in_limits rect) × ArePixel samples
+InRange (Checker format rect size v1 v2) =
+    IsTrue (in_limits rect) × IsIn 1 greatest_size size × IsSample v1 × IsSample v2
+InRange (Threshold at) = IsSample at
+InRange (Gain num den) = IsSample num × IsIn 1 greatest_sample den
+InRange (Translate dx dy) = IsMove dx × IsMove dy
+InRange (Crop rect) = IsTrue (in_limits rect)
+InRange (BoxMean radius policy) = IsSquare radius policy
+InRange (Dilate radius policy) = IsSquare radius policy
+InRange (Erode radius policy) = IsSquare radius policy
+InRange op = Unit {0}
+
+-- The numbers of a command are in their ranges, its rectangle is one that it may have, and a node has its inputs.
+abbrev pub KeepsLimits : Command → Type 0
+KeepsLimits (Buffer name format rect) = IsTrue (in_limits rect)
+KeepsLimits (Sub name parent rect) = IsTrue (in_limits rect)
+KeepsLimits (Load name rect file) = IsTrue (in_limits rect)
+KeepsLimits (Fill name rect samples) = IsTrue (in_limits rect) × ArePixel samples
+KeepsLimits (Copy from to rect dx dy) = IsTrue (in_limits rect) × IsMove dx × IsMove dy
+KeepsLimits (Node name op inputs) = InRange op × (length inputs ≡ input_count op)
+KeepsLimits (Render name level rect file) = IsLevelRect level rect
+KeepsLimits (Grab name level policy rect file) = IsLevelRect level rect
+KeepsLimits (Watch name rect viewers frames prefix) =
+    IsTrue (in_limits rect) × IsIn 1 16 viewers × IsIn 1 64 frames × IsTrue (may_watch viewers frames rect)
+    × (length prefix ≤ longest_prefix)
+KeepsLimits command = Unit {0}

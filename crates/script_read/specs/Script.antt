@@ -1,0 +1,127 @@
+-- The script that a text is: the commands of its lines, or the first line that has a cause with the lowest of its
+-- causes.
+use Rattle.std.specs.Prelude.{ℕ, ◌+◌, ◌==◌, nat_le, Bool, true, false, if◌then◌else◌, List, [], ◌∷◌, length, Option, Some, None, Result, Ok, Err}
+use Rattle.std.specs.Option.{ok_or}
+use Rattle.script_words.specs.Lines.{is_text, lines_of}
+use Rattle.script_words.specs.Words.{words_of}
+use Rattle.script_read.specs.Commands.{buffer, sub, dup, load, fill, copy, drop_node, alone, render, grab, watch}
+use Rattle.script_read.specs.Fields.{◌>>=◌, passed, word_at}
+use Rattle.script_read.specs.Keywords.{keyword_of}
+use Rattle.script_read.specs.Nodes.{node}
+use Rattle.script_read.specs.declared.cause.ScriptCause.{ScriptCause}
+use Rattle.script_read.specs.declared.cause.ScriptCause.TheVariants as causes
+use Rattle.script_read.specs.declared.command.Command.{Command}
+use Rattle.script_read.specs.declared.command.Command.TheVariants as commands
+use Rattle.script_read.specs.declared.command.Line.{Line}
+use Rattle.script_read.specs.declared.keyword.Keyword.{Keyword}
+use Rattle.script_read.specs.declared.keyword.Keyword.TheVariants.{Buffer, Sub, Dup, Load, Fill, Copy, Node, Drop, Commit, Undo, Redo, Render, Grab, Watch, EndWatch}
+use Rattle.script_read.specs.declared.reader.Step.{Step}
+
+-- the most bytes of a line, without its end
+abbrev pub longest_line : ℕ
+longest_line = 1024
+
+-- the most lines of a script
+abbrev pub most_lines : ℕ
+most_lines = 10000
+
+-- ---- one line
+
+-- the command that words spell, by the first of them
+unfoldable pub command_by : Keyword → List (List ℕ) → Result Command ScriptCause
+command_by Buffer words = buffer words
+command_by Sub words = sub words
+command_by Dup words = dup words
+command_by Load words = load words
+command_by Fill words = fill words
+command_by Copy words = copy words
+command_by Node words = node words
+command_by Drop words = drop_node words
+command_by Commit words = alone commands.Commit words
+command_by Undo words = alone commands.Undo words
+command_by Redo words = alone commands.Redo words
+command_by Render words = render words
+command_by Grab words = grab words
+command_by Watch words = watch words
+command_by EndWatch words = alone commands.EndWatch words
+
+-- the command that words spell
+unfoldable pub command_of : List (List ℕ) → Result Command ScriptCause
+command_of words = ok_or (keyword_of (word_at words 0)) causes.UnknownCommand >>= λ keyword. command_by keyword words
+
+-- a word that begins with `#`
+abbrev pub begins_comment : List ℕ → Bool
+begins_comment [] = false
+begins_comment (byte ∷ bytes) = byte == 35
+
+-- no words, or those of a comment
+abbrev pub is_silent : List (List ℕ) → Bool
+is_silent [] = true
+is_silent (word ∷ words) = begins_comment word
+
+-- the command of words, where they are neither none nor those of a comment
+unfoldable pub spoken : List (List ℕ) → Result (Option Command) ScriptCause
+spoken words = if is_silent words then Ok None else (command_of words >>= λ command. Ok (Some command))
+
+-- the command of the line of a number, where it has one
+unfoldable pub command_in : ℕ → List ℕ → Result (Option Command) ScriptCause
+command_in number line = do
+  _ ← passed {A = Unit {0}} (is_text line) causes.NotAscii tt
+  _ ← passed {A = Unit {0}} (nat_le (length line) longest_line) causes.LineTooLong tt
+  _ ← passed {A = Unit {0}} (nat_le number most_lines) causes.TooManyLines tt
+  spoken (words_of line)
+
+-- ---- watches
+
+-- The number of the line whose watch is open behind a command, of that which is open before it: none begins inside
+-- another, and none ends where none is open.
+abbrev pub open_behind : ℕ → Option ℕ → Command → Result (Option ℕ) ScriptCause
+open_behind number None (commands.Watch name rect viewers frames prefix) = Ok (Some number)
+open_behind number (Some line) (commands.Watch name rect viewers frames prefix) = Err causes.Order
+open_behind number None commands.EndWatch = Err causes.Order
+open_behind number (Some line) commands.EndWatch = Ok None
+open_behind number watching command = Ok watching
+
+-- the same behind a line that may have no command
+abbrev pub open_past : ℕ → Option ℕ → Option Command → Result (Option ℕ) ScriptCause
+open_past number watching None = Ok watching
+open_past number watching (Some command) = open_behind number watching command
+
+-- the command of a line, and the watch that is open behind it
+unfoldable pub step_of : ℕ → Option ℕ → List ℕ → Result Step ScriptCause
+step_of number watching line = do
+  command ← command_in number line
+  watching ← open_past number watching command
+  Ok (record { command = command; watching = watching })
+
+-- ---- all lines
+
+-- the first line that has a cause, and the lowest of its causes
+abbrev pub Refusal : Type 0
+Refusal = ℕ × ScriptCause
+
+-- the command of a line before those behind it
+abbrev pub before : ℕ → Option Command → Result (List Line) Refusal → Result (List Line) Refusal
+before number None read = read
+before number (Some command) (Ok lines) = Ok (record { number = number; command = command } ∷ lines)
+before number (Some command) (Err refusal) = Err refusal
+
+-- what is read from a line on, where this is read of the line, and this behind it
+abbrev pub from_step : ℕ → Result Step ScriptCause → (Option ℕ → Result (List Line) Refusal) → Result (List Line) Refusal
+from_step number (Ok step) behind = before number step.command (behind step.watching)
+from_step number (Err cause) behind = Err (number, cause)
+
+-- the end of the text: a watch that is still open is told of its own line
+abbrev pub ended : Option ℕ → Result (List Line) Refusal
+ended None = Ok []
+ended (Some line) = Err (line, causes.Order)
+
+-- what is read of lines from a number on, where that watch is open
+abbrev pub script_from : ℕ → Option ℕ → List (List ℕ) → Result (List Line) Refusal
+script_from number watching [] = ended watching
+script_from number watching (line ∷ lines) =
+    from_step number (step_of number watching line) (λ watching. script_from (number + 1) watching lines)
+
+-- what is read of a text
+unfoldable pub script_of : List ℕ → Result (List Line) Refusal
+script_of text = script_from 1 None (lines_of text)

@@ -1,0 +1,182 @@
+-- How commands are spelled: their words, with single spaces between them, each command on the line of its number.
+use Rattle.std.specs.Prelude.{ℕ, pos, ◌+◌, ◌-◌, IsTrue, true, false, List, [], ◌∷◌, ◌++◌, map, replicate, codes, decimal}
+use Rattle.std.specs.Fmt.{signed_decimal}
+use Rattle.plane_rect.specs.Rectangle.{IsRectangle, plane_coordinate}
+use Rattle.plane_rect.specs.Name.{is_name}
+use Rattle.outside_io.specs.FileName.{is_file_name}
+use Rattle.sample_rows.specs.Format.{word}
+use Rattle.script_words.specs.Lines.{text_of}
+use Rattle.script_words.specs.Words.{joined}
+use Rattle.script_read.specs.Keywords.{keyword_word}
+use Rattle.script_read.specs.OperationWords.{operation_word}
+use Rattle.script_read.specs.Policies.{policy_word}
+use Rattle.script_read.specs.declared.command.Command.{Command}
+use Rattle.script_read.specs.declared.command.Command.TheVariants.{Buffer, Sub, Dup, Load, Fill, Copy, Node, Drop, Commit, Undo, Redo, Render, Grab, Watch, EndWatch}
+use Rattle.script_read.specs.declared.command.OpWords.{OpWords}
+use Rattle.script_read.specs.declared.command.OpWords.TheVariants.{Source, Color, Checker, Convert, Invert, Threshold, Gain, Translate, Crop, Flip, BoxMean, Dilate, Erode, Add, Over, Mask}
+use Rattle.script_read.specs.declared.command.Line.{Line}
+use Rattle.script_read.specs.declared.keyword.Keyword.{Keyword}
+use Rattle.script_read.specs.declared.keyword.Keyword.TheVariants as keywords
+use Rattle.script_read.specs.declared.operation_word.OperationWord.{OperationWord}
+use Rattle.script_read.specs.declared.operation_word.OperationWord.TheVariants as operations
+use Rattle.script_read.specs.declared.field.Field.{Field}
+use Rattle.script_read.specs.declared.field.Field.TheVariants as fields
+
+-- the words of a field
+abbrev pub field_words : Field → List (List ℕ)
+field_words (fields.Name name) = name ∷ []
+field_words (fields.File name) = name ∷ []
+field_words (fields.Format format) = word format ∷ []
+field_words (fields.Policy policy) = policy_word policy ∷ []
+field_words (fields.Natural value) = decimal value ∷ []
+field_words (fields.Integer value) = signed_decimal value ∷ []
+field_words (fields.Sideways true) = codes "h" ∷ []
+field_words (fields.Sideways false) = codes "v" ∷ []
+field_words (fields.Rect rect) =
+    signed_decimal (plane_coordinate rect.left)
+    ∷ signed_decimal (plane_coordinate rect.top)
+    ∷ signed_decimal (pos rect.width)
+    ∷ signed_decimal (pos rect.height)
+    ∷ []
+
+-- those of some fields
+abbrev pub words_of_fields : List Field → List (List ℕ)
+words_of_fields [] = []
+words_of_fields (field ∷ others) = field_words field ++ words_of_fields others
+
+-- ---- operations
+
+-- the third word of a node
+abbrev pub word_of : OpWords → OperationWord
+word_of (Source buffer) = operations.Source
+word_of (Color format rect samples) = operations.Color
+word_of (Checker format rect size v1 v2) = operations.Checker
+word_of (Convert format) = operations.Convert
+word_of Invert = operations.Invert
+word_of (Threshold at) = operations.Threshold
+word_of (Gain num den) = operations.Gain
+word_of (Translate dx dy) = operations.Translate
+word_of (Crop rect) = operations.Crop
+word_of (Flip sideways) = operations.Flip
+word_of (BoxMean radius policy) = operations.BoxMean
+word_of (Dilate radius policy) = operations.Dilate
+word_of (Erode radius policy) = operations.Erode
+word_of Add = operations.Add
+word_of Over = operations.Over
+word_of Mask = operations.Mask
+
+-- the arguments, but samples
+abbrev pub arguments : OpWords → List Field
+arguments (Source buffer) = fields.Name buffer ∷ []
+arguments (Color format rect samples) = fields.Format format ∷ fields.Rect rect ∷ []
+arguments (Checker format rect size v1 v2) =
+    fields.Format format ∷ fields.Rect rect ∷ fields.Natural size ∷ fields.Natural v1 ∷ fields.Natural v2 ∷ []
+arguments (Convert format) = fields.Format format ∷ []
+arguments Invert = []
+arguments (Threshold at) = fields.Natural at ∷ []
+arguments (Gain num den) = fields.Natural num ∷ fields.Natural den ∷ []
+arguments (Translate dx dy) = fields.Integer dx ∷ fields.Integer dy ∷ []
+arguments (Crop rect) = fields.Rect rect ∷ []
+arguments (Flip sideways) = fields.Sideways sideways ∷ []
+arguments (BoxMean radius policy) = fields.Natural radius ∷ fields.Policy policy ∷ []
+arguments (Dilate radius policy) = fields.Natural radius ∷ fields.Policy policy ∷ []
+arguments (Erode radius policy) = fields.Natural radius ∷ fields.Policy policy ∷ []
+arguments Add = []
+arguments Over = []
+arguments Mask = []
+
+-- the samples
+abbrev pub samples_in : OpWords → List ℕ
+samples_in (Color format rect samples) = samples
+samples_in op = []
+
+-- the words of an operation and its arguments
+abbrev pub operation_spelled : OpWords → List (List ℕ)
+operation_spelled op = operation_word (word_of op) ∷ words_of_fields (arguments op) ++ map decimal (samples_in op)
+
+-- ---- commands
+
+-- the first word of a command
+abbrev pub keyword : Command → Keyword
+keyword (Buffer name format rect) = keywords.Buffer
+keyword (Sub name parent rect) = keywords.Sub
+keyword (Dup name from) = keywords.Dup
+keyword (Load name rect file) = keywords.Load
+keyword (Fill name rect samples) = keywords.Fill
+keyword (Copy from to rect dx dy) = keywords.Copy
+keyword (Node name op inputs) = keywords.Node
+keyword (Drop name) = keywords.Drop
+keyword Commit = keywords.Commit
+keyword Undo = keywords.Undo
+keyword Redo = keywords.Redo
+keyword (Render name level rect file) = keywords.Render
+keyword (Grab name level policy rect file) = keywords.Grab
+keyword (Watch name rect viewers frames prefix) = keywords.Watch
+keyword EndWatch = keywords.EndWatch
+
+-- the fields behind it, up to those that are lists
+abbrev pub fields_of : Command → List Field
+fields_of (Buffer name format rect) = fields.Name name ∷ fields.Format format ∷ fields.Rect rect ∷ []
+fields_of (Sub name parent rect) = fields.Name name ∷ fields.Name parent ∷ fields.Rect rect ∷ []
+fields_of (Dup name from) = fields.Name name ∷ fields.Name from ∷ []
+fields_of (Load name rect file) = fields.Name name ∷ fields.Rect rect ∷ fields.File file ∷ []
+fields_of (Fill name rect samples) = fields.Name name ∷ fields.Rect rect ∷ []
+fields_of (Copy from to rect dx dy) =
+    fields.Name from ∷ fields.Name to ∷ fields.Rect rect ∷ fields.Integer dx ∷ fields.Integer dy ∷ []
+fields_of (Node name op inputs) = fields.Name name ∷ []
+fields_of (Drop name) = fields.Name name ∷ []
+fields_of Commit = []
+fields_of Undo = []
+fields_of Redo = []
+fields_of (Render name level rect file) =
+    fields.Name name ∷ fields.Natural level ∷ fields.Rect rect ∷ fields.File file ∷ []
+fields_of (Grab name level policy rect file) =
+    fields.Name name ∷ fields.Natural level ∷ fields.Policy policy ∷ fields.Rect rect ∷ fields.File file ∷ []
+fields_of (Watch name rect viewers frames prefix) =
+    fields.Name name ∷ fields.Rect rect ∷ fields.Natural viewers ∷ fields.Natural frames ∷ fields.File prefix ∷ []
+fields_of EndWatch = []
+
+-- the words behind these: samples, or an operation and its inputs
+abbrev pub list_words : Command → List (List ℕ)
+list_words (Fill name rect samples) = map decimal samples
+list_words (Node name op inputs) = operation_spelled op ++ inputs
+list_words command = []
+
+-- the words of a command
+abbrev pub spelled : Command → List (List ℕ)
+spelled command = keyword_word (keyword command) ∷ words_of_fields (fields_of command) ++ list_words command
+
+-- ---- scripts
+
+-- the lines of commands from a number on: empty ones, and each command on the line of its number
+unfoldable pub lines_printed : ℕ → List Line → List (List ℕ)
+lines_printed number [] = []
+lines_printed number (line ∷ lines) =
+    replicate (line.number - number) [] ++ joined (spelled line.command) ∷ lines_printed (line.number + 1) lines
+
+-- the text of a script
+unfoldable pub printed : List Line → List ℕ
+printed lines = text_of (lines_printed 1 lines)
+
+-- ---- what the types of fields keep
+
+-- a name is a name, a name of a file one, and a rectangle one of the plane
+abbrev pub IsKept : Field → Type 0
+IsKept (fields.Name name) = IsTrue (is_name name)
+IsKept (fields.File name) = IsTrue (is_file_name name)
+IsKept (fields.Rect rect) = IsRectangle rect
+IsKept field = Unit {0}
+
+abbrev pub AreKept : List Field → Type 0
+AreKept [] = Unit {0}
+AreKept (field ∷ others) = IsKept field × AreKept others
+
+-- names are names
+abbrev pub AreNames : List (List ℕ) → Type 0
+AreNames [] = Unit {0}
+AreNames (name ∷ names) = IsTrue (is_name name) × AreNames names
+
+-- the fields of a command are what their types keep
+abbrev pub KeepsTypes : Command → Type 0
+KeepsTypes (Node name op inputs) = IsTrue (is_name name) × AreKept (arguments op) × AreNames inputs
+KeepsTypes command = AreKept (fields_of command)

@@ -1,0 +1,157 @@
+//! The commands of scripts.
+
+use crate::lists::Names;
+use abyss_levels::Abyss;
+use operations::Samples;
+use plane_rect::{Name, Rect};
+use sample_rows::Format;
+use script_words::FileName;
+
+/// A command, and the number of its line in the script, counted from 1.
+#[derive(Drop)]
+pub struct Line {
+    pub number: u32,
+    pub command: Command,
+}
+
+/// What a line of a script asks for. Coordinates and sizes are in places, samples count from 0 to the format's
+/// greatest, and a level halves the image so many times.
+#[derive(Drop)]
+pub enum Command {
+    /// A new buffer over a rectangle, all zeros.
+    Buffer {
+        name: Name,
+        format: Format,
+        rect: Rect,
+    },
+    /// A new name for a part of a buffer, which shares its samples.
+    Sub {
+        name: Name,
+        parent: Name,
+        rect: Rect,
+    },
+    /// A new buffer with the samples of another.
+    Dup {
+        name: Name,
+        from: Name,
+    },
+    /// A buffer's rectangle gets the samples of a file of raw bytes.
+    Load {
+        name: Name,
+        rect: Rect,
+        file: FileName,
+    },
+    /// A buffer's rectangle gets one pixel at each place.
+    Fill {
+        name: Name,
+        rect: Rect,
+        samples: Samples,
+    },
+    /// A buffer's rectangle is copied to another place of it or of another buffer, `dx` to the right and `dy` down.
+    Copy {
+        from: Name,
+        to: Name,
+        rect: Rect,
+        dx: i64,
+        dy: i64,
+    },
+    /// A node of the graph is made, or made anew.
+    Node {
+        name: Name,
+        op: OpWords,
+        inputs: Names,
+    },
+    /// A node is removed.
+    Drop {
+        name: Name,
+    },
+    /// The buffers and nodes as they stand become the graph's state.
+    Commit,
+    /// The state before the last commit comes back.
+    Undo,
+    /// The state that was undone comes back.
+    Redo,
+    /// A rectangle of a node at a level is written to a file of raw bytes.
+    Render {
+        name: Name,
+        level: u32,
+        rect: Rect,
+        file: FileName,
+    },
+    /// A rectangle of a buffer at a level is written to a file, with a policy for the places outside.
+    Grab {
+        name: Name,
+        level: u32,
+        abyss: Abyss,
+        rect: Rect,
+        file: FileName,
+    },
+    /// From here on viewers render a rectangle of a node, each so many frames, to files whose names begin with
+    /// `prefix`.
+    Watch {
+        name: Name,
+        rect: Rect,
+        viewers: u32,
+        frames: u32,
+        prefix: FileName,
+    },
+    /// The watch ends.
+    EndWatch,
+}
+
+/// What a node does, with its arguments: an operation as [`operations::IntOp`] has it, or a buffer's samples.
+#[derive(Drop)]
+pub enum OpWords {
+    /// The samples of a buffer.
+    Source {
+        buffer: Name,
+    },
+    Color {
+        format: Format,
+        rect: Rect,
+        samples: Samples,
+    },
+    Checker {
+        format: Format,
+        rect: Rect,
+        size: u32,
+        v1: u32,
+        v2: u32,
+    },
+    Convert {
+        format: Format,
+    },
+    Invert,
+    Threshold {
+        at: u32,
+    },
+    Gain {
+        num: u32,
+        den: u32,
+    },
+    Translate {
+        dx: i64,
+        dy: i64,
+    },
+    Crop {
+        rect: Rect,
+    },
+    Flip {
+        sideways: bool,
+    },
+    BoxMean {
+        radius: u32,
+        abyss: Abyss,
+    },
+    Dilate {
+        radius: u32,
+        abyss: Abyss,
+    },
+    Erode {
+        radius: u32,
+        abyss: Abyss,
+    },
+    Add,
+    Over,
+    Mask,
+}

@@ -1,0 +1,217 @@
+//! The commands that the words of a line spell, but those of nodes.
+//!
+//! Each counts its words, reads its numbers, then its names and choices, and then its rectangle, so
+//! that the lowest cause is told.
+
+ghost use Rattle.std.specs.Prelude.{◌≡◌, IfOk};
+ghost use Rattle.script_read.specs.Answers.{Answers};
+ghost use Rattle.script_read.specs.Commands.{alone, buffer, copy, drop_node, dup, fill, grab, greatest_level, load, render, sub, watch};
+ghost use Rattle.script_read.specs.Fields.{texts};
+ghost use Rattle.script_read.specs.Limits.{KeepsLimits};
+
+use crate::cause::LineAnswer;
+use crate::command::Command;
+use crate::fields::{
+    corner_at, count, count_in, file_at, format_at, move_at, name_at, natural_at, policy_at,
+    prefix_at,
+};
+use crate::lists::samples_from;
+use std::alloc::Global;
+
+/// The greatest level.
+pub(crate) const GREATEST_LEVEL: u32 = 8;
+
+/// `buffer B FORMAT X Y W H`
+pub(crate) fn buffer(words: &[&[u8]]) -> Result<Command, LineAnswer>
+    ensures value { Answers result (buffer (texts words.now)) }
+    ensures limits { IfOk result KeepsLimits }
+{
+    count(7, words)?;
+    let corner = corner_at(words, 3)?;
+    let name = name_at(words, 1)?;
+    let format = format_at(words, 2)?;
+    let rect = corner.rect()?;
+    Ok(Command::Buffer { name, format, rect })
+}
+
+/// `sub B PARENT X Y W H`
+pub(crate) fn sub(words: &[&[u8]]) -> Result<Command, LineAnswer>
+    ensures value { Answers result (sub (texts words.now)) }
+    ensures limits { IfOk result KeepsLimits }
+{
+    count(7, words)?;
+    let corner = corner_at(words, 3)?;
+    let name = name_at(words, 1)?;
+    let parent = name_at(words, 2)?;
+    let rect = corner.rect()?;
+    Ok(Command::Sub { name, parent, rect })
+}
+
+/// `dup B FROM`
+pub(crate) fn dup(words: &[&[u8]]) -> Result<Command, LineAnswer>
+    ensures value { Answers result (dup (texts words.now)) }
+    ensures limits { IfOk result KeepsLimits }
+{
+    count(3, words)?;
+    let name = name_at(words, 1)?;
+    let from = name_at(words, 2)?;
+    Ok(Command::Dup { name, from })
+}
+
+/// `load B X Y W H FILE`
+pub(crate) fn load(words: &[&[u8]]) -> Result<Command, LineAnswer>
+    ensures value { Answers result (load (texts words.now)) }
+    ensures limits { IfOk result KeepsLimits }
+{
+    count(7, words)?;
+    let corner = corner_at(words, 2)?;
+    let name = name_at(words, 1)?;
+    let file = file_at(words, 6)?;
+    let rect = corner.rect()?;
+    Ok(Command::Load { name, rect, file })
+}
+
+/// `fill B X Y W H S..`, 1 to 4 samples
+pub(crate) fn fill(alloc: Global, words: &[&[u8]]) -> Result<Command, LineAnswer>
+    ensures value { Answers result (fill (texts words.now)) }
+    ensures limits { IfOk result KeepsLimits }
+{
+    count_in(7, 10, words)?;
+    let corner = corner_at(words, 2)?;
+    let samples = samples_from(alloc, 6, words)?;
+    let name = name_at(words, 1)?;
+    let rect = corner.rect()?;
+    Ok(Command::Fill {
+        name,
+        rect,
+        samples,
+    })
+}
+
+/// `copy FROM TO X Y W H DX DY`
+pub(crate) fn copy(words: &[&[u8]]) -> Result<Command, LineAnswer>
+    ensures value { Answers result (copy (texts words.now)) }
+    ensures limits { IfOk result KeepsLimits }
+{
+    count(9, words)?;
+    let corner = corner_at(words, 3)?;
+    let dx = move_at(words, 7)?;
+    let dy = move_at(words, 8)?;
+    let from = name_at(words, 1)?;
+    let to = name_at(words, 2)?;
+    let rect = corner.rect()?;
+    Ok(Command::Copy {
+        from,
+        to,
+        rect,
+        dx,
+        dy,
+    })
+}
+
+/// `drop N`
+pub(crate) fn drop_node(words: &[&[u8]]) -> Result<Command, LineAnswer>
+    ensures value { Answers result (drop_node (texts words.now)) }
+    ensures limits { IfOk result KeepsLimits }
+{
+    count(2, words)?;
+    let name = name_at(words, 1)?;
+    Ok(Command::Drop { name })
+}
+
+/// `commit`
+pub(crate) fn commit(words: &[&[u8]]) -> Result<Command, LineAnswer>
+    ensures value { Answers result (alone Command.Commit (texts words.now)) }
+    ensures limits { IfOk result KeepsLimits }
+{
+    count(1, words)?;
+    Ok(Command::Commit)
+}
+
+/// `undo`
+pub(crate) fn undo(words: &[&[u8]]) -> Result<Command, LineAnswer>
+    ensures value { Answers result (alone Command.Undo (texts words.now)) }
+    ensures limits { IfOk result KeepsLimits }
+{
+    count(1, words)?;
+    Ok(Command::Undo)
+}
+
+/// `redo`
+pub(crate) fn redo(words: &[&[u8]]) -> Result<Command, LineAnswer>
+    ensures value { Answers result (alone Command.Redo (texts words.now)) }
+    ensures limits { IfOk result KeepsLimits }
+{
+    count(1, words)?;
+    Ok(Command::Redo)
+}
+
+/// `render N LEVEL X Y W H FILE`
+pub(crate) fn render(words: &[&[u8]]) -> Result<Command, LineAnswer>
+    ensures value { Answers result (render (texts words.now)) }
+    ensures limits { IfOk result KeepsLimits }
+{
+    count(8, words)?;
+    let level = natural_at(0, GREATEST_LEVEL, words, 2)?;
+    let corner = corner_at(words, 3)?;
+    let name = name_at(words, 1)?;
+    let file = file_at(words, 7)?;
+    let rect = corner.level_rect(level)?;
+    Ok(Command::Render {
+        name,
+        level,
+        rect,
+        file,
+    })
+}
+
+/// `grab B LEVEL ABYSS X Y W H FILE`
+pub(crate) fn grab(words: &[&[u8]]) -> Result<Command, LineAnswer>
+    ensures value { Answers result (grab (texts words.now)) }
+    ensures limits { IfOk result KeepsLimits }
+{
+    count(9, words)?;
+    let level = natural_at(0, GREATEST_LEVEL, words, 2)?;
+    let corner = corner_at(words, 4)?;
+    let name = name_at(words, 1)?;
+    let abyss = policy_at(words, 3)?;
+    let file = file_at(words, 8)?;
+    let rect = corner.level_rect(level)?;
+    Ok(Command::Grab {
+        name,
+        level,
+        abyss,
+        rect,
+        file,
+    })
+}
+
+/// `watch N X Y W H VIEWERS FRAMES PREFIX`
+pub(crate) fn watch(words: &[&[u8]]) -> Result<Command, LineAnswer>
+    ensures value { Answers result (watch (texts words.now)) }
+    ensures limits { IfOk result KeepsLimits }
+{
+    count(9, words)?;
+    let corner = corner_at(words, 2)?;
+    let viewers = natural_at(1, 16, words, 6)?;
+    let frames = natural_at(1, 64, words, 7)?;
+    let name = name_at(words, 1)?;
+    let prefix = prefix_at(words, 8)?;
+    let rect = corner.watched_rect(viewers, frames)?;
+    Ok(Command::Watch {
+        name,
+        rect,
+        viewers,
+        frames,
+        prefix,
+    })
+}
+
+/// `endwatch`
+pub(crate) fn end_watch(words: &[&[u8]]) -> Result<Command, LineAnswer>
+    ensures value { Answers result (alone Command.EndWatch (texts words.now)) }
+    ensures limits { IfOk result KeepsLimits }
+{
+    count(1, words)?;
+    Ok(Command::EndWatch)
+}

@@ -1,0 +1,154 @@
+//! Which lines are a script's.
+
+ghost use Rattle.std.specs.Prelude.{◌≡◌, ◌↔◌, ◌≤◌, IsTrue};
+ghost use Rattle.script_read.specs.IsScript.{IsScript};
+ghost use Rattle.script_read.specs.Limits.{ArePixel, InRange, IsIn, IsLevelRect, IsMove, IsSample, IsSquare, KeepsLimits, input_count};
+
+use crate::command::{Command, Line, OpWords};
+use crate::commands::GREATEST_LEVEL;
+use crate::fields::{FURTHEST_MOVE, GREATEST_SAMPLE, LONGEST_PREFIX, may_watch};
+use crate::nodes::{GREATEST_RADIUS, GREATEST_SIZE};
+use crate::reader::{MOST_LINES, open_behind};
+use abyss_levels::Abyss;
+use plane_rect::Rect;
+
+/// Whether lines are a script's: their numbers rise from 1 or more up to at most 10,000, the fields of their commands
+/// keep their limits, and each watch is ended before another begins.
+pub fn is_script(lines: &[Line]) -> bool
+    ensures { IsTrue result ↔ IsScript lines.now }
+{
+    let mut next = 1;
+    let mut watching = None;
+    for line in lines {
+        if line.number < next || line.number > MOST_LINES || !keeps_limits(&line.command) {
+            return false;
+        }
+        watching = match open_behind(line.number, watching, &line.command) {
+            Ok(after) => after,
+            Err(_) => return false,
+        };
+        next = line.number + 1;
+    }
+    watching.is_none()
+}
+
+/// Whether the numbers of a command are in their ranges, its rectangle is one that it may have, and a
+/// node has its inputs.
+fn keeps_limits(command: &Command) -> bool
+    ensures { IsTrue result ↔ KeepsLimits command.now }
+{
+    match command {
+        Command::Buffer { rect, .. } | Command::Sub { rect, .. } | Command::Load { rect, .. } => {
+            rect.in_limits()
+        }
+        Command::Fill { rect, samples, .. } => rect.in_limits() && are_pixel(samples.as_slice()),
+        Command::Copy { rect, dx, dy, .. } => rect.in_limits() && is_move(*dx) && is_move(*dy),
+        Command::Node { op, inputs, .. } => {
+            is_in_range(op) && inputs.as_slice().len() == input_count(op)
+        }
+        Command::Render { level, rect, .. } | Command::Grab { level, rect, .. } => {
+            is_level_rect(*level, rect)
+        }
+        Command::Watch {
+            rect,
+            viewers,
+            frames,
+            prefix,
+            ..
+        } => {
+            rect.in_limits()
+                && is_in(1, 16, *viewers)
+                && is_in(1, 64, *frames)
+                && may_watch(*viewers, *frames, rect)
+                && prefix.as_bytes().len() <= LONGEST_PREFIX
+        }
+        Command::Dup { .. }
+        | Command::Drop { .. }
+        | Command::Commit
+        | Command::Undo
+        | Command::Redo
+        | Command::EndWatch => true,
+    }
+}
+
+/// Whether the arguments of an operation are in their ranges.
+fn is_in_range(op: &OpWords) -> bool
+    ensures { IsTrue result ↔ InRange op.now }
+{
+    match op {
+        OpWords::Color { rect, samples, .. } => rect.in_limits() && are_pixel(samples.as_slice()),
+        OpWords::Checker {
+            rect,
+            size,
+            v1,
+            v2,
+            ..
+        } => {
+            rect.in_limits()
+                && is_in(1, GREATEST_SIZE, *size)
+                && *v1 <= GREATEST_SAMPLE
+                && *v2 <= GREATEST_SAMPLE
+        }
+        OpWords::Threshold { at } => *at <= GREATEST_SAMPLE,
+        OpWords::Gain { num, den } => *num <= GREATEST_SAMPLE && is_in(1, GREATEST_SAMPLE, *den),
+        OpWords::Translate { dx, dy } => is_move(*dx) && is_move(*dy),
+        OpWords::Crop { rect } => rect.in_limits(),
+        OpWords::BoxMean { radius, abyss }
+        | OpWords::Dilate { radius, abyss }
+        | OpWords::Erode { radius, abyss } => is_square(*radius, *abyss),
+        OpWords::Source { .. }
+        | OpWords::Convert { .. }
+        | OpWords::Invert
+        | OpWords::Flip { .. }
+        | OpWords::Add
+        | OpWords::Over
+        | OpWords::Mask => true,
+    }
+}
+
+/// How many inputs an operation has.
+fn input_count(op: &OpWords) -> usize
+    ensures { result ≡ input_count op.now }
+{
+    match op {
+        OpWords::Source { .. } | OpWords::Color { .. } | OpWords::Checker { .. } => 0,
+        OpWords::Add | OpWords::Over | OpWords::Mask => 2,
+        _ => 1,
+    }
+}
+
+fn is_in(low: u32, high: u32, value: u32) -> bool
+    ensures { IsTrue result ↔ IsIn low high value }
+{
+    low <= value && value <= high
+}
+
+/// Whether there are 1 to 4 samples.
+fn are_pixel(samples: &[u32]) -> bool
+    ensures { IsTrue result ↔ ArePixel samples.now }
+{
+    1 <= samples.len()
+        && samples.len() <= 4
+        && samples.iter().all(|sample| *sample <= GREATEST_SAMPLE)
+}
+
+/// Whether something may be moved so far along an axis.
+fn is_move(distance: i64) -> bool
+    ensures { IsTrue result ↔ IsMove distance }
+{
+    -FURTHEST_MOVE <= distance && distance <= FURTHEST_MOVE
+}
+
+/// Whether an operation on squares of places may have a radius and a policy.
+fn is_square(radius: u32, abyss: Abyss) -> bool
+    ensures { IsTrue result ↔ IsSquare radius abyss }
+{
+    is_in(1, GREATEST_RADIUS, radius) && abyss != Abyss::Loop
+}
+
+/// Whether a rectangle may be read at a level.
+fn is_level_rect(level: u32, rect: &Rect) -> bool
+    ensures { IsTrue result ↔ IsLevelRect level rect.now }
+{
+    level <= GREATEST_LEVEL && rect.in_limits() && rect.scaled(level).is_some()
+}

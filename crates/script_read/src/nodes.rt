@@ -1,0 +1,277 @@
+//! The nodes that the words of a line spell: `node N OP ARGUMENTS INPUTS`.
+//!
+//! Each operation counts the words, reads its numbers, then all names and choices, and then its
+//! rectangle, so that the lowest cause is told.
+
+ghost use Rattle.std.specs.Prelude.{◌≡◌, ◌+◌, ◌≤◌, ◌<◌, IfOk, length};
+ghost use Rattle.script_read.specs.Answers.{Answers};
+ghost use Rattle.script_read.specs.Fields.{texts};
+ghost use Rattle.script_read.specs.Limits.{InRange, KeepsLimits, input_count};
+ghost use Rattle.script_read.specs.Nodes.{bare, box_mean, checker, color, convert, crop, dilate, ends_from, erode, flip, gain, node, node_by, node_of, source, threshold, translate};
+
+use crate::cause::{LineAnswer, ScriptCause};
+use crate::command::{Command, OpWords};
+use crate::fields::{
+    corner_at, count, count_in, format_at, move_at, name_at, natural_at, near_policy_at, sample_at,
+    sideways_at, word_at,
+};
+use crate::lists::{Names, names_from, samples_from};
+use crate::operation_word::OperationWord;
+use plane_rect::Name;
+use std::alloc::Global;
+
+/// The greatest radius of a square of places around a place.
+pub(crate) const GREATEST_RADIUS: u32 = 64;
+
+/// The most places a side of a checker's squares.
+pub(crate) const GREATEST_SIZE: u32 = 4096;
+
+/// What a node has before and behind its operation.
+#[derive(Drop)]
+pub(crate) struct Ends {
+    pub name: Name,
+    pub inputs: Names,
+}
+
+impl Ends {
+    ghost use Rattle.std.specs.Prelude.{◌≡◌, ◌+◌, ◌≤◌, ◌<◌, ◌∷◌, IfOk, length};
+    ghost use Rattle.script_read.specs.Answers.{Answers};
+    ghost use Rattle.script_read.specs.Fields.{texts};
+    ghost use Rattle.script_read.specs.Limits.{InRange, KeepsLimits, input_count};
+    ghost use Rattle.script_read.specs.Nodes.{ends_from, node_of};
+
+    /// The name of the node, and its inputs from a word on.
+    #[tactic(auto, unfolding(crate::specs::Nodes::ends_from))]
+    fn parse(alloc: Global, index: usize, words: &[&[u8]]) -> Result<Ends, LineAnswer>
+        requires name { 1 < length words.now }
+        requires inputs { index ≤ length words.now }
+        ensures value { Answers result (ends_from index (texts words.now)) }
+        ensures length { IfOk result (λ ends. length ends.inputs + index ≡ length words.now) }
+    {
+        let name = name_at(words, 1)?;
+        let inputs = names_from(alloc, index, words)?;
+        Ok(Ends { name, inputs })
+    }
+
+    /// The node of an operation.
+    fn node(self, op: OpWords) -> Command
+        requires range { InRange op }
+        requires inputs { length self.inputs ≡ input_count op }
+        ensures value { result ≡ node_of self op }
+        ensures limits { KeepsLimits result }
+    {
+        Command::Node {
+            name: self.name,
+            op,
+            inputs: self.inputs,
+        }
+    }
+}
+
+/// `node N OP ARGUMENTS INPUTS`
+#[tactic(auto, unfolding(crate::specs::Nodes::node))]
+pub(crate) fn node(alloc: Global, words: &[&[u8]]) -> Result<Command, LineAnswer>
+    ensures value { Answers result (node (texts words.now)) }
+    ensures limits { IfOk result KeepsLimits }
+{
+    if words.len() < 3 {
+        return Err(LineAnswer::Refused(ScriptCause::Words));
+    }
+    let operation = OperationWord::parse(word_at(words, 2)).ok_or(ScriptCause::UnknownCommand)?;
+    node_by(alloc, operation, words)
+}
+
+/// The node that words spell, by its operation.
+#[tactic(auto, unfolding(crate::specs::Nodes::node_by))]
+fn node_by(alloc: Global, operation: OperationWord, words: &[&[u8]]) -> Result<Command, LineAnswer>
+    ensures value { Answers result (node_by operation (texts words.now)) }
+    ensures limits { IfOk result KeepsLimits }
+{
+    match operation {
+        OperationWord::Source => source(alloc, words),
+        OperationWord::Color => color(alloc, words),
+        OperationWord::Checker => checker(alloc, words),
+        OperationWord::Convert => convert(alloc, words),
+        OperationWord::Invert => bare(alloc, OpWords::Invert, 4, words),
+        OperationWord::Threshold => threshold(alloc, words),
+        OperationWord::Gain => gain(alloc, words),
+        OperationWord::Translate => translate(alloc, words),
+        OperationWord::Crop => crop(alloc, words),
+        OperationWord::Flip => flip(alloc, words),
+        OperationWord::BoxMean => box_mean(alloc, words),
+        OperationWord::Dilate => dilate(alloc, words),
+        OperationWord::Erode => erode(alloc, words),
+        OperationWord::Add => bare(alloc, OpWords::Add, 5, words),
+        OperationWord::Over => bare(alloc, OpWords::Over, 5, words),
+        OperationWord::Mask => bare(alloc, OpWords::Mask, 5, words),
+    }
+}
+
+/// `node N invert IN`, and `add`, `over` and `mask` of two inputs: an operation without arguments,
+/// and the number of its words.
+fn bare(alloc: Global, op: OpWords, number: usize, words: &[&[u8]]) -> Result<Command, LineAnswer>
+    requires range { InRange op }
+    requires number { number ≡ 3 + input_count op }
+    ensures value { Answers result (bare op number (texts words.now)) }
+    ensures limits { IfOk result KeepsLimits }
+{
+    count(number, words)?;
+    let ends = Ends::parse(alloc, 3, words)?;
+    Ok(ends.node(op))
+}
+
+/// `node N source BUFFER`
+fn source(alloc: Global, words: &[&[u8]]) -> Result<Command, LineAnswer>
+    ensures value { Answers result (source (texts words.now)) }
+    ensures limits { IfOk result KeepsLimits }
+{
+    count(4, words)?;
+    let ends = Ends::parse(alloc, 4, words)?;
+    let buffer = name_at(words, 3)?;
+    Ok(ends.node(OpWords::Source { buffer }))
+}
+
+/// `node N color FORMAT X Y W H S..`, 1 to 4 samples
+fn color(alloc: Global, words: &[&[u8]]) -> Result<Command, LineAnswer>
+    ensures value { Answers result (color (texts words.now)) }
+    ensures limits { IfOk result KeepsLimits }
+{
+    count_in(9, 12, words)?;
+    let corner = corner_at(words, 4)?;
+    let samples = samples_from(alloc, 8, words)?;
+    let ends = Ends::parse(alloc, words.len(), words)?;
+    let format = format_at(words, 3)?;
+    let rect = corner.rect()?;
+    Ok(ends.node(OpWords::Color {
+        format,
+        rect,
+        samples,
+    }))
+}
+
+/// `node N checker FORMAT X Y W H SIZE V1 V2`
+fn checker(alloc: Global, words: &[&[u8]]) -> Result<Command, LineAnswer>
+    ensures value { Answers result (checker (texts words.now)) }
+    ensures limits { IfOk result KeepsLimits }
+{
+    count(11, words)?;
+    let corner = corner_at(words, 4)?;
+    let size = natural_at(1, GREATEST_SIZE, words, 8)?;
+    let v1 = sample_at(words, 9)?;
+    let v2 = sample_at(words, 10)?;
+    let ends = Ends::parse(alloc, 11, words)?;
+    let format = format_at(words, 3)?;
+    let rect = corner.rect()?;
+    Ok(ends.node(OpWords::Checker {
+        format,
+        rect,
+        size,
+        v1,
+        v2,
+    }))
+}
+
+/// `node N convert FORMAT IN`
+fn convert(alloc: Global, words: &[&[u8]]) -> Result<Command, LineAnswer>
+    ensures value { Answers result (convert (texts words.now)) }
+    ensures limits { IfOk result KeepsLimits }
+{
+    count(5, words)?;
+    let ends = Ends::parse(alloc, 4, words)?;
+    let format = format_at(words, 3)?;
+    Ok(ends.node(OpWords::Convert { format }))
+}
+
+/// `node N threshold T IN`
+fn threshold(alloc: Global, words: &[&[u8]]) -> Result<Command, LineAnswer>
+    ensures value { Answers result (threshold (texts words.now)) }
+    ensures limits { IfOk result KeepsLimits }
+{
+    count(5, words)?;
+    let at = sample_at(words, 3)?;
+    let ends = Ends::parse(alloc, 4, words)?;
+    Ok(ends.node(OpWords::Threshold { at }))
+}
+
+/// `node N gain NUM DEN IN`
+fn gain(alloc: Global, words: &[&[u8]]) -> Result<Command, LineAnswer>
+    ensures value { Answers result (gain (texts words.now)) }
+    ensures limits { IfOk result KeepsLimits }
+{
+    count(6, words)?;
+    let num = sample_at(words, 3)?;
+    let den = natural_at(1, 65_535, words, 4)?;
+    let ends = Ends::parse(alloc, 5, words)?;
+    Ok(ends.node(OpWords::Gain { num, den }))
+}
+
+/// `node N translate DX DY IN`
+fn translate(alloc: Global, words: &[&[u8]]) -> Result<Command, LineAnswer>
+    ensures value { Answers result (translate (texts words.now)) }
+    ensures limits { IfOk result KeepsLimits }
+{
+    count(6, words)?;
+    let dx = move_at(words, 3)?;
+    let dy = move_at(words, 4)?;
+    let ends = Ends::parse(alloc, 5, words)?;
+    Ok(ends.node(OpWords::Translate { dx, dy }))
+}
+
+/// `node N crop X Y W H IN`
+fn crop(alloc: Global, words: &[&[u8]]) -> Result<Command, LineAnswer>
+    ensures value { Answers result (crop (texts words.now)) }
+    ensures limits { IfOk result KeepsLimits }
+{
+    count(8, words)?;
+    let corner = corner_at(words, 3)?;
+    let ends = Ends::parse(alloc, 7, words)?;
+    let rect = corner.rect()?;
+    Ok(ends.node(OpWords::Crop { rect }))
+}
+
+/// `node N flip h IN` and `node N flip v IN`
+fn flip(alloc: Global, words: &[&[u8]]) -> Result<Command, LineAnswer>
+    ensures value { Answers result (flip (texts words.now)) }
+    ensures limits { IfOk result KeepsLimits }
+{
+    count(5, words)?;
+    let ends = Ends::parse(alloc, 4, words)?;
+    let sideways = sideways_at(words, 3)?;
+    Ok(ends.node(OpWords::Flip { sideways }))
+}
+
+/// `node N box R ABYSS IN`
+fn box_mean(alloc: Global, words: &[&[u8]]) -> Result<Command, LineAnswer>
+    ensures value { Answers result (box_mean (texts words.now)) }
+    ensures limits { IfOk result KeepsLimits }
+{
+    count(6, words)?;
+    let radius = natural_at(1, GREATEST_RADIUS, words, 3)?;
+    let ends = Ends::parse(alloc, 5, words)?;
+    let abyss = near_policy_at(words, 4)?;
+    Ok(ends.node(OpWords::BoxMean { radius, abyss }))
+}
+
+/// `node N dilate R ABYSS IN`
+fn dilate(alloc: Global, words: &[&[u8]]) -> Result<Command, LineAnswer>
+    ensures value { Answers result (dilate (texts words.now)) }
+    ensures limits { IfOk result KeepsLimits }
+{
+    count(6, words)?;
+    let radius = natural_at(1, GREATEST_RADIUS, words, 3)?;
+    let ends = Ends::parse(alloc, 5, words)?;
+    let abyss = near_policy_at(words, 4)?;
+    Ok(ends.node(OpWords::Dilate { radius, abyss }))
+}
+
+/// `node N erode R ABYSS IN`
+fn erode(alloc: Global, words: &[&[u8]]) -> Result<Command, LineAnswer>
+    ensures value { Answers result (erode (texts words.now)) }
+    ensures limits { IfOk result KeepsLimits }
+{
+    count(6, words)?;
+    let radius = natural_at(1, GREATEST_RADIUS, words, 3)?;
+    let ends = Ends::parse(alloc, 5, words)?;
+    let abyss = near_policy_at(words, 4)?;
+    Ok(ends.node(OpWords::Erode { radius, abyss }))
+}

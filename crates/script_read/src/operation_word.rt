@@ -1,0 +1,89 @@
+//! The words of operations, the third of a node.
+
+ghost use Rattle.std.specs.Prelude.{◌≡◌};
+ghost use Rattle.std.specs.Str.{bytes_eq};
+ghost use Rattle.script_read.specs.OperationWords.{operation_of, operation_word};
+
+/// The third word of a node.
+#[derive(Clone, Copy, Debug, PartialEq, Eq)]
+pub(crate) enum OperationWord {
+    Source,
+    Color,
+    Checker,
+    Convert,
+    Invert,
+    Threshold,
+    Gain,
+    Translate,
+    Crop,
+    Flip,
+    BoxMean,
+    Dilate,
+    Erode,
+    Add,
+    Over,
+    Mask,
+}
+
+/// All of them.
+const OPERATION_WORDS: [OperationWord; 16] = [
+    OperationWord::Source,
+    OperationWord::Color,
+    OperationWord::Checker,
+    OperationWord::Convert,
+    OperationWord::Invert,
+    OperationWord::Threshold,
+    OperationWord::Gain,
+    OperationWord::Translate,
+    OperationWord::Crop,
+    OperationWord::Flip,
+    OperationWord::BoxMean,
+    OperationWord::Dilate,
+    OperationWord::Erode,
+    OperationWord::Add,
+    OperationWord::Over,
+    OperationWord::Mask,
+];
+
+impl OperationWord {
+    /// The one that a word spells, and None exactly where it spells none.
+    #[tactic(auto, unfolding(crate::specs::OperationWords::operation_of))]
+    pub fn parse(word: &[u8]) -> Option<OperationWord>
+        ensures { result ≡ operation_of word.now }
+    {
+        OPERATION_WORDS
+            .iter()
+            .copied()
+            .find(|spelled| spelled.is(word))
+    }
+
+    fn is(self, word: &[u8]) -> bool
+        ensures { result ≡ bytes_eq (operation_word self) word.now }
+    {
+        self.word().as_bytes() == word
+    }
+
+    /// Its spelling.
+    pub fn word(self) -> &'static str
+        ensures { result.now ≡ operation_word self }
+    {
+        match self {
+            OperationWord::Source => "source",
+            OperationWord::Color => "color",
+            OperationWord::Checker => "checker",
+            OperationWord::Convert => "convert",
+            OperationWord::Invert => "invert",
+            OperationWord::Threshold => "threshold",
+            OperationWord::Gain => "gain",
+            OperationWord::Translate => "translate",
+            OperationWord::Crop => "crop",
+            OperationWord::Flip => "flip",
+            OperationWord::BoxMean => "box",
+            OperationWord::Dilate => "dilate",
+            OperationWord::Erode => "erode",
+            OperationWord::Add => "add",
+            OperationWord::Over => "over",
+            OperationWord::Mask => "mask",
+        }
+    }
+}

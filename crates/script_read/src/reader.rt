@@ -1,0 +1,201 @@
+//! Scripts are read, line by line.
+
+ghost use Rattle.std.specs.Prelude.{◌≡◌, ◌+◌, ◌≤◌, ◌<◌, IfOk, IfSome, IsTrue, length};
+ghost use Rattle.script_words.specs.Lines.{is_text};
+ghost use Rattle.script_read.specs.Answers.{Answers, Reads};
+ghost use Rattle.script_read.specs.Fields.{texts};
+ghost use Rattle.script_read.specs.IsScript.{IsScript};
+ghost use Rattle.script_read.specs.Limits.{KeepsLimits};
+ghost use Rattle.script_read.specs.Script.{begins_comment, command_by, command_in, command_of, is_silent, most_lines, open_behind, open_past, script_of, spoken, step_of};
+
+use crate::cause::{LineAnswer, ScriptAnswer, ScriptCause};
+use crate::command::{Command, Line};
+use crate::fields::word_at;
+use crate::keyword::Keyword;
+use crate::{commands, nodes};
+use script_words::{is_text, next_line, split_words};
+use std::alloc::Global;
+
+/// The most bytes of a line, without its end.
+const LONGEST_LINE: usize = 1024;
+
+/// The most lines of a script.
+pub(crate) const MOST_LINES: u32 = 10_000;
+
+/// What is read of a line.
+#[derive(Drop)]
+pub(crate) struct Step {
+    /// Its command, if it has one.
+    pub command: Option<Command>,
+    /// The number of the line whose watch is open behind it.
+    pub watching: Option<u32>,
+}
+
+/// The commands of a script, each with the number of its line.
+///
+/// # Errors
+///
+/// `Refused` exactly where the text is no script: with the first line that has a cause, and the lowest
+/// of its causes. `NoMemory`.
+pub fn read_script(alloc: Global, text: &[u8]) -> Result<Vec<Line>, ScriptAnswer>
+    ensures reads { Reads result (script_of text.now) }
+    ensures script { IfOk result (λ lines. IsScript lines.items) }
+{
+    let mut lines = Vec::new(alloc);
+    let mut words = Vec::new(alloc);
+    let mut watching = None;
+    let mut number = 1;
+    let mut rest = text;
+    while let Some((line, behind)) = next_line(rest) {
+        let Step {
+            command,
+            watching: after,
+        } = match step_of(alloc, number, watching, line, &mut words) {
+            Ok(step) => step,
+            Err(answer) => return Err(answer.at(number)),
+        };
+        if let Some(command) = command {
+            lines.push(Line { number, command })?;
+        }
+        watching = after;
+        number += 1;
+        rest = behind;
+    }
+    match watching {
+        None => Ok(lines),
+        Some(line) => Err(ScriptAnswer::Refused {
+            line,
+            cause: ScriptCause::Order,
+        }),
+    }
+}
+
+/// What is read of a line, which is split into `words`, behind lines of which that watch is open.
+#[tactic(auto, unfolding(crate::specs::Script::step_of))]
+fn step_of<'t>(
+    alloc: Global,
+    number: u32,
+    watching: Option<u32>,
+    line: &'t [u8],
+    words: &mut Vec<&'t [u8]>,
+) -> Result<Step, LineAnswer>
+    ensures value { Answers result (step_of number watching line.now) }
+    ensures number { IfOk result (λ step. number ≤ most_lines) }
+    ensures watch { IfOk result (λ step. open_past number watching step.command ≡ Ok step.watching) }
+    ensures limits { IfOk result (λ step. IfSome step.command KeepsLimits) }
+{
+    let command = command_in(alloc, number, line, words)?;
+    let watching = match &command {
+        Some(command) => open_behind(number, watching, command)?,
+        None => watching,
+    };
+    Ok(Step { command, watching })
+}
+
+/// The number of the line whose watch is open behind a command.
+pub(crate) fn open_behind(
+    number: u32,
+    watching: Option<u32>,
+    command: &Command,
+) -> Result<Option<u32>, ScriptCause>
+    ensures { result ≡ open_behind number watching command.now }
+{
+    match (command, watching) {
+        (Command::Watch { .. }, None) => Ok(Some(number)),
+        (Command::EndWatch, Some(_)) => Ok(None),
+        (Command::Watch { .. } | Command::EndWatch, _) => Err(ScriptCause::Order),
+        _ => Ok(watching),
+    }
+}
+
+/// The command of a line, which is split into `words`, where it has one.
+#[tactic(auto, unfolding(crate::specs::Script::command_in))]
+fn command_in<'t>(
+    alloc: Global,
+    number: u32,
+    line: &'t [u8],
+    words: &mut Vec<&'t [u8]>,
+) -> Result<Option<Command>, LineAnswer>
+    ensures value { Answers result (command_in number line.now) }
+    ensures number { IfOk result (λ command. number ≤ most_lines) }
+    ensures limits { IfOk result (λ command. IfSome command KeepsLimits) }
+{
+    if !is_text(line) {
+        return Err(LineAnswer::Refused(ScriptCause::NotAscii));
+    }
+    if line.len() > LONGEST_LINE {
+        return Err(LineAnswer::Refused(ScriptCause::LineTooLong));
+    }
+    if number > MOST_LINES {
+        return Err(LineAnswer::Refused(ScriptCause::TooManyLines));
+    }
+    split_words(line, words)?;
+    spoken(alloc, words)
+}
+
+/// The command of words, where they are neither none nor those of a comment.
+#[tactic(auto, unfolding(crate::specs::Script::spoken))]
+fn spoken(alloc: Global, words: &[&[u8]]) -> Result<Option<Command>, LineAnswer>
+    ensures value { Answers result (spoken (texts words.now)) }
+    ensures limits { IfOk result (λ command. IfSome command KeepsLimits) }
+{
+    if is_silent(words) {
+        return Ok(None);
+    }
+    let command = command_of(alloc, words)?;
+    Ok(Some(command))
+}
+
+/// Whether there are no words, or those of a comment.
+fn is_silent(words: &[&[u8]]) -> bool
+    ensures value { result ≡ is_silent (texts words.now) }
+    ensures none { length words.now ≡ 0 → IsTrue result }
+{
+    match words.first() {
+        Some(word) => begins_comment(word),
+        None => true,
+    }
+}
+
+/// Whether a word begins with `#`.
+fn begins_comment(word: &[u8]) -> bool
+    ensures { result ≡ begins_comment word.now }
+{
+    word.first() == Some(&b'#')
+}
+
+/// The command that words spell.
+#[tactic(auto, unfolding(crate::specs::Script::command_of))]
+fn command_of(alloc: Global, words: &[&[u8]]) -> Result<Command, LineAnswer>
+    requires { 0 < length words.now }
+    ensures value { Answers result (command_of (texts words.now)) }
+    ensures limits { IfOk result KeepsLimits }
+{
+    let keyword = Keyword::parse(word_at(words, 0)).ok_or(ScriptCause::UnknownCommand)?;
+    command_by(alloc, keyword, words)
+}
+
+/// The command that words spell, by the first of them.
+#[tactic(auto, unfolding(crate::specs::Script::command_by))]
+fn command_by(alloc: Global, keyword: Keyword, words: &[&[u8]]) -> Result<Command, LineAnswer>
+    ensures value { Answers result (command_by keyword (texts words.now)) }
+    ensures limits { IfOk result KeepsLimits }
+{
+    match keyword {
+        Keyword::Buffer => commands::buffer(words),
+        Keyword::Sub => commands::sub(words),
+        Keyword::Dup => commands::dup(words),
+        Keyword::Load => commands::load(words),
+        Keyword::Fill => commands::fill(alloc, words),
+        Keyword::Copy => commands::copy(words),
+        Keyword::Node => nodes::node(alloc, words),
+        Keyword::Drop => commands::drop_node(words),
+        Keyword::Commit => commands::commit(words),
+        Keyword::Undo => commands::undo(words),
+        Keyword::Redo => commands::redo(words),
+        Keyword::Render => commands::render(words),
+        Keyword::Grab => commands::grab(words),
+        Keyword::Watch => commands::watch(words),
+        Keyword::EndWatch => commands::end_watch(words),
+    }
+}
