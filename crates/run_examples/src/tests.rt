@@ -1,21 +1,13 @@
 //! The examples. What each must leave was worked out by hand.
 
 use crate::cases::{Failing, NONE_FAILS, run_script, run_words};
+use crate::scripts::{COMMENTED, FORM, GRAMMAR, REGIONS, SCRIPT};
 use std::test::Fail;
 
 const RASTER: &[u8] = b"\x00\x40\x80\xff";
 
 /// The raster with each sample inverted.
 const INVERSE: &[u8] = b"\xff\xbf\x7f\x00";
-
-/// The form with one render line.
-const SCRIPT: &[u8] =
-    b"buffer a Y8 0 0 2 2\nload a 0 0 2 2 in.raw\nnode s source a\nnode i invert s\ncommit\nrender i 0 0 0 2 2 out.raw\n";
-
-/// The same, an empty region behind it, and a region that begins above the raster and ends right of it. No line feed
-/// stands at the end.
-const REGIONS: &[u8] =
-    b"buffer a Y8 0 0 2 2\nload a 0 0 2 2 in.raw\nnode s source a\nnode i invert s\ncommit\nrender i 0 0 0 2 2 out.raw\nrender i 0 0 0 0 0 none.raw\nrender i 0 0 -1 4 2 wide.raw";
 
 #[test]
 fn a_raster_is_inverted(rt: HostRuntime) -> Result<(), Fail> {
@@ -46,38 +38,38 @@ fn regions_outside_the_box_are_zero(rt: HostRuntime) -> Result<(), Fail> {
 }
 
 #[test]
-fn the_first_line_that_breaks_the_form_is_refused(rt: HostRuntime) -> Result<(), Fail> {
-    for (script, text) in [
-        (b"frob".as_slice(), b"line 1: UnknownCommand\n".as_slice()),
-        (b"buffer a Y8 0 0 2 2\n\n", b"line 2: UnknownCommand\n"),
-        (
-            b"buffer a Y8 0 0 2 2\nload a 0 0 2 1 in.raw\n",
-            b"line 2: UnknownCommand\n",
-        ),
-        (
-            b"buffer a Y8 0 0 2 2\nload a 0 0 2 2 in.raw\nnode s source a\nnode s invert s\n",
-            b"line 4: UnknownCommand\n",
-        ),
-        (b"buffer A Y8 0 0 1 1\n", b"line 1: UnknownCommand\n"),
-        (b"buffer a Y8 0 0 -1 1\n", b"line 1: UnknownCommand\n"),
-        (b"buffer a Y8 0 0 40000 1\n", b"line 1: UnknownCommand\n"),
-        (
-            b"buffer a Y8 00000000000 0 1 1\n",
-            b"line 1: UnknownCommand\n",
-        ),
-        (b"buffer a Y8 +1 0 1 1\n", b"line 1: UnknownCommand\n"),
-        (b"buffer a  Y8 0 0 1 1\n", b"line 1: UnknownCommand\n"),
-        (b"buffer a Y8 0 0 1 1\r\n", b"line 1: UnknownCommand\n"),
-        (
-            b"buffer a Y8 0 0 1 1\nload a 0 0 1 1 a/b\n",
-            b"line 2: UnknownCommand\n",
-        ),
-        (b"", b""),
-        (b"buffer a Y8 -0 00 2 2\n", b""),
-    ] {
+fn lines_may_be_spaced_and_commented(rt: HostRuntime) -> Result<(), Fail> {
+    let left = run_script(rt.alloc(), COMMENTED, RASTER, NONE_FAILS)?;
+    assert_eq!(rt; left.status, 0);
+    let text = b"render 12 commit 1 bytes 4\nrender 14 commit 1 bytes 8\n".as_slice();
+    assert_eq!(rt; left.text.as_slice(), text);
+    assert_eq!(rt; left.shelf.get("out.raw"), Some(INVERSE));
+    assert_eq!(rt;
+        left.shelf.get("wide.raw"),
+        Some(b"\x00\x00\x00\x00\xff\xbf\x00\x00".as_slice())
+    );
+    let short = run_script(rt.alloc(), COMMENTED, b"\x00", NONE_FAILS)?;
+    assert_eq!(rt; short.status, 2);
+    assert_eq!(rt; short.text.as_slice(), b"line 5: WrongSize\n".as_slice());
+    Ok(())
+}
+
+#[test]
+fn the_first_line_that_breaks_the_grammar_is_refused(rt: HostRuntime) -> Result<(), Fail> {
+    for (script, text) in GRAMMAR {
         let left = run_script(rt.alloc(), script, RASTER, NONE_FAILS)?;
         assert_eq!(rt; left.text.as_slice(), text);
         assert_eq!(rt; left.status, if text.is_empty() { 0 } else { 2 });
+    }
+    Ok(())
+}
+
+#[test]
+fn the_first_line_that_breaks_the_form_is_refused(rt: HostRuntime) -> Result<(), Fail> {
+    for (script, text) in FORM {
+        let left = run_script(rt.alloc(), script, RASTER, NONE_FAILS)?;
+        assert_eq!(rt; left.text.as_slice(), text);
+        assert_eq!(rt; left.status, 2);
     }
     Ok(())
 }

@@ -1,59 +1,62 @@
--- Reading the form, one line after another.
-use Rattle.std.proofs.Common.{◌≡◌, ℕ, ◌+◌, List, [], ◌∷◌, ◌++◌, Option, Some, None, Result, Ok, Err, refl, sym, ap, ◌∙◌, subst, append_assoc}
+-- Following the form, one line after another.
+use Rattle.std.proofs.Common.{◌≡◌, ℕ, List, [], ◌∷◌, ◌++◌, Option, Some, None, Result, Ok, Err, refl, sym, ap, ◌∙◌, subst, append_assoc}
 use Rattle.std.specs.Option.{option_map}
 use Rattle.std.proofs.lemmas.List.{append-nil}
-use Rattle.script_run.specs.declared.command.Command.{Command}
+use Rattle.script_read.specs.declared.command.Line.{Line}
+use Rattle.script_run.specs.declared.step.NumberedStep.{NumberedStep}
+use Rattle.script_run.specs.declared.step.Step.{Step}
 use Rattle.script_run.specs.declared.form.Stage.{Stage}
 use Rattle.script_run.specs.declared.form.Stage.TheVariants.{Empty}
-use Rattle.script_run.specs.Commands.{command_of, words_of}
-use Rattle.script_run.specs.Form.{commands_of, commands_from, from_step, before, step_of, paired, next_stage, Follows, GoOn}
+use Rattle.script_run.specs.Steps.{step_of}
+use Rattle.script_run.specs.Form.{steps_of, steps_from, from_taken, before, taken, paired, next_stage, Follows, GoOn}
 
--- commands before those that are read behind them
-abbrev pub before_all : List Command → Result (List Command) ℕ → Result (List Command) ℕ
-before_all commands (Ok rest) = Ok (commands ++ rest)
-before_all commands (Err line) = Err line
+-- steps before those that are taken behind them
+abbrev pub before_all : List NumberedStep → Result (List NumberedStep) ℕ → Result (List NumberedStep) ℕ
+before_all steps (Ok rest) = Ok (steps ++ rest)
+before_all steps (Err line) = Err line
 
-before_all-before : (commands : List Command) (command : Command) (read : Result (List Command) ℕ) → before_all commands (before command read) ≡ before_all (commands ++ command ∷ []) read
-before_all-before commands command (Ok rest) = ap Ok (sym (append_assoc commands (command ∷ []) rest))
-before_all-before commands command (Err line) = refl
+before_all-before : (steps : List NumberedStep) (step : NumberedStep) (read : Result (List NumberedStep) ℕ) → before_all steps (before step read) ≡ before_all (steps ++ step ∷ []) read
+before_all-before steps step (Ok rest) = ap Ok (sym (append_assoc steps (step ∷ []) rest))
+before_all-before steps step (Err line) = refl
 
-from_paired : (stage next : Stage) (command read : Command) (found : Option Stage) → next_stage stage command ≡ found →
-    option_map (paired command) found ≡ Some (read, next) → (command ≡ read) × (next_stage stage read ≡ Some next)
-from_paired stage next command read None is e = absurd (cc)
-from_paired stage next command read (Some other) is e =
-    let pair : paired command other ≡ (read, next) = cc in
-    let same : command ≡ read = ap (λ (p : Command × Stage). p.0) pair in
-    let on : other ≡ next = ap (λ (p : Command × Stage). p.1) pair in
-    (same, subst (λ (c : Command). next_stage stage c ≡ Some next) same (is ∙ ap Some on))
+from_paired : (stage next : Stage) (step read : Step) (found : Option Stage) → next_stage stage step ≡ found →
+    option_map (paired step) found ≡ Some (read, next) → (step ≡ read) × (next_stage stage read ≡ Some next)
+from_paired stage next step read None is e = absurd (cc)
+from_paired stage next step read (Some other) is e =
+    let pair : paired step other ≡ (read, next) = cc in
+    let same : step ≡ read = ap (λ (p : Step × Stage). p.0) pair in
+    let on : other ≡ next = ap (λ (p : Step × Stage). p.1) pair in
+    (same, subst (λ (s : Step). next_stage stage s ≡ Some next) same (is ∙ ap Some on))
 
-stage_of_step : (stage next : Stage) (spelled : Option Command) (command : Command) → step_of stage spelled ≡ Some (command, next) → next_stage stage command ≡ Some next
-stage_of_step stage next None command e = absurd (cc)
-stage_of_step stage next (Some spelled) command e = (from_paired stage next spelled command (next_stage stage spelled) refl e).1
+stage_of_step : (stage next : Stage) (found : Option Step) (step : Step) → taken stage found ≡ Some (step, next) → next_stage stage step ≡ Some next
+stage_of_step stage next None step e = absurd (cc)
+stage_of_step stage next (Some found) step e = (from_paired stage next found step (next_stage stage found) refl e).1
 
-pub read_more : (text : List ℕ) (commands : List Command) (number : ℕ) (stage next : Stage) (line : List ℕ) (lines : List (List ℕ)) (command : Command) →
-    commands_of text ≡ before_all commands (commands_from number stage (line ∷ lines)) → step_of stage (command_of (words_of line)) ≡ Some (command, next) →
-    commands_of text ≡ before_all (commands ++ command ∷ []) (commands_from (number + 1) next lines)
-read_more text commands number stage next line lines command read step =
+pub read_more : (all : List Line) (steps : List NumberedStep) (stage next : Stage) (line : Line) (lines : List Line) (step : Step) →
+    steps_of all ≡ before_all steps (steps_from stage (line ∷ lines)) → taken stage (step_of line.command) ≡ Some (step, next) →
+    steps_of all ≡ before_all (steps ++ record { number = line.number; step = step } ∷ []) (steps_from next lines)
+read_more all steps stage next line lines step read took =
     read
-    ∙ ap (λ (s : Option (Command × Stage)). before_all commands (from_step number s (λ (later : Stage). commands_from (number + 1) later lines))) step
-    ∙ before_all-before commands command (commands_from (number + 1) next lines)
+    ∙ ap (λ (t : Option (Step × Stage)). before_all steps (from_taken line.number t (λ (later : Stage). steps_from later lines))) took
+    ∙ before_all-before steps (record { number = line.number; step = step }) (steps_from next lines)
 
-pub read_break : (text : List ℕ) (commands : List Command) (number : ℕ) (stage : Stage) (line : List ℕ) (lines : List (List ℕ)) →
-    commands_of text ≡ before_all commands (commands_from number stage (line ∷ lines)) → step_of stage (command_of (words_of line)) ≡ None →
-    commands_of text ≡ Err number
-read_break text commands number stage line lines read step =
-    read ∙ ap (λ (s : Option (Command × Stage)). before_all commands (from_step number s (λ (later : Stage). commands_from (number + 1) later lines))) step
+pub read_break : (all : List Line) (steps : List NumberedStep) (stage : Stage) (line : Line) (lines : List Line) →
+    steps_of all ≡ before_all steps (steps_from stage (line ∷ lines)) → taken stage (step_of line.command) ≡ None →
+    steps_of all ≡ Err line.number
+read_break all steps stage line lines read took =
+    read ∙ ap (λ (t : Option (Step × Stage)). before_all steps (from_taken line.number t (λ (later : Stage). steps_from later lines))) took
 
--- the commands so far lead to the stage
-abbrev pub LeadsTo : List Command → Stage → Type 0
-LeadsTo commands stage = (rest : List Command) → Follows stage rest → Follows Empty (commands ++ rest)
+-- the steps so far lead to the stage
+abbrev pub LeadsTo : List NumberedStep → Stage → Type 0
+LeadsTo steps stage = (rest : List NumberedStep) → Follows stage rest → Follows Empty (steps ++ rest)
 
-pub leads_on : (commands : List Command) (stage next : Stage) (spelled : Option Command) (command : Command) →
-    LeadsTo commands stage → step_of stage spelled ≡ Some (command, next) → LeadsTo (commands ++ command ∷ []) next
-leads_on commands stage next spelled command leads step rest follows =
-    let on = stage_of_step stage next spelled command step in
-    let goes : GoOn (next_stage stage command) (λ (s : Stage). Follows s rest) = subst (λ (o : Option Stage). GoOn o (λ (s : Stage). Follows s rest)) (sym on) follows in
-    subst (λ (all : List Command). Follows Empty all) (sym (append_assoc commands (command ∷ []) rest)) (leads (command ∷ rest) goes)
+pub leads_on : (steps : List NumberedStep) (stage next : Stage) (found : Option Step) (number : ℕ) (step : Step) →
+    LeadsTo steps stage → taken stage found ≡ Some (step, next) → LeadsTo (steps ++ record { number = number; step = step } ∷ []) next
+leads_on steps stage next found number step leads took rest follows =
+    let numbered : NumberedStep = record { number = number; step = step } in
+    let on = stage_of_step stage next found step took in
+    let goes : GoOn (next_stage stage step) (λ (s : Stage). Follows s rest) = subst (λ (o : Option Stage). GoOn o (λ (s : Stage). Follows s rest)) (sym on) follows in
+    subst (λ (all : List NumberedStep). Follows Empty all) (sym (append_assoc steps (numbered ∷ []) rest)) (leads (numbered ∷ rest) goes)
 
-pub leads_nowhere_else : (commands : List Command) (stage : Stage) → LeadsTo commands stage → Follows Empty commands
-leads_nowhere_else commands stage leads = subst (λ (all : List Command). Follows Empty all) (append-nil commands) (leads [] tt)
+pub leads_nowhere_else : (steps : List NumberedStep) (stage : Stage) → LeadsTo steps stage → Follows Empty steps
+leads_nowhere_else steps stage leads = subst (λ (all : List NumberedStep). Follows Empty all) (append-nil steps) (leads [] tt)

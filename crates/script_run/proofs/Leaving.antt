@@ -1,40 +1,13 @@
 -- What parts of a run leave, one part after another.
-use Rattle.std.proofs.Common.{◌≡◌, ℕ, List, [], ◌∷◌, ◌++◌, Option, Some, None, Result, Ok, Err, IfSome, refl, sym, ◌∙◌, subst, inl, inr, arith}
+use Rattle.std.proofs.Common.{◌≡◌, ℕ, List, [], ◌∷◌, Option, Some, None, Result, Ok, Err, IfSome, refl, sym, ◌∙◌, subst, arith}
 use Rattle.std.specs.Result.{IsErrAnd}
 use Rattle.outside_io.specs.Files.{Files}
-use Rattle.images.specs.Image.{Image}
-use Rattle.script_run.specs.Rendering.{renders_outcome}
-use Rattle.script_run.specs.declared.command.Command.{Command}
 use Rattle.script_run.specs.declared.status.End.{End}
 use Rattle.script_run.specs.declared.status.End.TheVariants as ends
-use Rattle.script_run.specs.Outcome.{Event, Writes, Puts, Outcome, Refusal, events_alone, then_do}
-use Rattle.script_run.specs.Ending.{World, after, after_all, LeavesSome, MayTear, Leaves, Faults, HasCause, NoneFalls}
-
--- nothing has come
-pub none_yet : (torn : Type 0) (events : List Event) (world : World) → LeavesSome torn events world world
-none_yet torn [] world = refl
-none_yet torn (event ∷ events) world = inl refl
-
--- every event has come
-pub all_came : (torn : Type 0) (events : List Event) (world : World) → LeavesSome torn events world (after_all events world)
-all_came torn [] world = refl
-all_came torn (event ∷ events) world = inr (inr (all_came torn events (after event world)))
-
-after_all-append : (first rest : List Event) (world : World) → after_all (first ++ rest) world ≡ after_all rest (after_all first world)
-after_all-append [] rest world = refl
-after_all-append (event ∷ first) rest world = after_all-append first rest (after event world)
-
--- behind the first events, some of the rest
-some_behind : (torn : Type 0) (first rest : List Event) (old new : World) → LeavesSome torn rest (after_all first old) new → LeavesSome torn (first ++ rest) old new
-some_behind torn [] rest old new some = some
-some_behind torn (event ∷ first) rest old new some = inr (inr (some_behind torn first rest (after event old) new some))
-
--- some of the first events are some of all
-some_of_first : (torn : Type 0) (first rest : List Event) (old new : World) → LeavesSome torn first old new → LeavesSome torn (first ++ rest) old new
-some_of_first torn [] rest old new same = subst (λ (w : World). LeavesSome torn rest old w) (sym same) (none_yet torn rest old)
-some_of_first torn (event ∷ first) rest old new (inl same) = inl same
-some_of_first torn (event ∷ first) rest old new (inr (inl front)) = inr (inl front)
-some_of_first torn (event ∷ first) rest old new (inr (inr some)) = inr (inr (some_of_first torn first rest (after event old) new some))
+use Rattle.run_events.specs.Events.{Event, Writes, Puts, Outcome, Refusal, events_alone, then_do}
+use Rattle.run_events.specs.World.{World, after_all, LeavesSome}
+use Rattle.run_events.proofs.Leaving.{none_yet, all_came, after_all-append, some_behind, some_of_first}
+use Rattle.script_run.specs.Ending.{MayTear, Leaves, Faults, HasCause, NoneFalls}
 
 -- a part whose events have all come, and then the rest
 pub Leaves-then : (events : List Event) (rest : Outcome) (result : Result (Unit {0}) End) (old mid new : World) →
@@ -146,11 +119,6 @@ Leaves-same_bytes name a b result old new same leaves = subst (λ (bytes : List 
 
 pub falls_then : (old mid new : Faults) → NoneFalls old mid → NoneFalls mid new → NoneFalls old new
 falls_then old mid new first then = record { reads = omega arith; writes = omega arith; puts = omega arith }
-
--- the same line
-pub Leaves-same_line : (a b : ℕ) (image : Image) (commands : List Command) (result : Result (Unit {0}) End) (old new : World) → a ≡ b →
-    Leaves (renders_outcome a image commands) result old new → Leaves (renders_outcome b image commands) result old new
-Leaves-same_line a b image commands result old new same leaves = subst (λ (line : ℕ). Leaves (renders_outcome line image commands) result old new) same leaves
 
 -- the same files before
 pub Leaves-same_files : (outcome : Outcome) (result : Result (Unit {0}) End) (old mid : Option Files) (text : Option (List ℕ)) (new : World) → mid ≡ old →

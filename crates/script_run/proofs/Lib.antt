@@ -1,5 +1,3 @@
-pub mod FileNamesLemmas
-pub mod CommandsLemmas
 pub mod FormLemmas
 pub mod RasterLemmas
 pub mod RowsLemmas

@@ -1,10 +1,12 @@
 -- What a status says.
-use Rattle.std.proofs.Common.{◌≡◌, ℕ, ◌⊎◌, List, [], ◌∷◌, Option, Some, None, Result, Ok, Err, IfSome, refl, inl, inr}
+use Rattle.std.proofs.Common.{◌≡◌, ℕ, ◌⊎◌, List, Option, Some, None, Result, Ok, Err, IfSome, refl, inl, inr}
 use Rattle.outside_io.specs.Files.{Files}
 use Rattle.script_run.specs.declared.status.End.{End}
 use Rattle.script_run.specs.declared.status.End.TheVariants as ends
-use Rattle.script_run.specs.Outcome.{Event, Writes, Puts, Outcome}
-use Rattle.script_run.specs.Ending.{World, after, IsFront, LeavesSome, MayTear, Leaves}
+use Rattle.run_events.specs.Events.{Outcome}
+use Rattle.run_events.specs.World.{World, LeavesSome}
+use Rattle.run_events.proofs.Leaving.{some_weaker}
+use Rattle.script_run.specs.Ending.{MayTear, Leaves}
 use Rattle.script_run.specs.Status.{status_of}
 
 may_tear_at : (ended : Result (Unit {0}) End) → MayTear ended → (status_of ended ≡ 4) ⊎ (status_of ended ≡ 7)
@@ -15,16 +17,6 @@ may_tear_at (Err ends.WriteFault) torn = inl refl
 may_tear_at (Err ends.OutputFault) torn = absurd torn
 may_tear_at (Err ends.NoMemory) torn = inr refl
 
-front_weaker : (a b : Type 0) → (a → b) → (event : Event) (old new : World) → IsFront a event old new → IsFront b event old new
-front_weaker a b weaker (Writes name bytes) old new front = (weaker front.0, front.1)
-front_weaker a b weaker (Puts text) old new front = front
-
-LeavesSome-weaker : (a b : Type 0) → (a → b) → (events : List Event) (old new : World) → LeavesSome a events old new → LeavesSome b events old new
-LeavesSome-weaker a b weaker [] old new some = some
-LeavesSome-weaker a b weaker (event ∷ events) old new (inl same) = inl same
-LeavesSome-weaker a b weaker (event ∷ events) old new (inr (inl front)) = inr (inl (front_weaker a b weaker event old new front))
-LeavesSome-weaker a b weaker (event ∷ events) old new (inr (inr some)) = inr (inr (LeavesSome-weaker a b weaker events (after event old) new some))
-
 -- what the front clause says, where the files are told
 pub told_front : (told : Option Files) (outcome other : Files → Outcome) (ended : Result (Unit {0}) End) (status : ℕ) (text : Option (List ℕ)) (new : World) →
     status ≡ status_of ended → ((files : Files) → outcome files ≡ other files) →
@@ -33,4 +25,4 @@ pub told_front : (told : Option Files) (outcome other : Files → Outcome) (ende
 told_front None outcome other ended status text new is same leaves = tt
 told_front (Some files) outcome other ended status text new is same leaves =
     let old : World = record { files = Some files; text = text } in
-    rw (is, same files) (LeavesSome-weaker (MayTear ended) _ (may_tear_at ended) (other files).events old new leaves.some)
+    rw (is, same files) (some_weaker (MayTear ended) _ (may_tear_at ended) (other files).events old new leaves.some)

@@ -6,32 +6,28 @@
 --     node I invert S
 --     commit
 --     render I 0 Q FILE
-use Rattle.std.specs.Prelude.{ℕ, ◌+◌, ◌-◌, take, slice_index, ◌==◌, not, ◌&&◌, if◌then◌else◌, List, [], ◌∷◌, Option, Some, None, Result, Ok, Err, length, ◌≡◌, ⊤}
+-- Between them empty lines and comments may stand, which have no commands.
+use Rattle.std.specs.Prelude.{◌≡◌, ℕ, ⊤, Bool, not, ◌&&◌, if◌then◌else◌, List, [], ◌∷◌, Option, Some, None, option_and_then, Result, Ok, Err}
+use Rattle.std.specs.Global.{Vec}
+use Rattle.std.specs.Option.{option_map}
 use Rattle.std.specs.Str.{bytes_eq}
-use Rattle.std.specs.List.{slice_split}
 use Rattle.plane_rect.specs.Rectangle.{same_rectangle}
-use Rattle.script_run.specs.Commands.{words_of, command_of, if_passed}
-use Rattle.script_run.specs.declared.command.Command.{Command}
-use Rattle.script_run.specs.declared.command.Command.TheVariants.{Buffer, Load, Source, Invert, Commit, Render}
+use Rattle.script_read.specs.declared.command.Line.{Line}
+use Rattle.script_run.specs.Steps.{step_of}
+use Rattle.script_run.specs.declared.step.NumberedStep.{NumberedStep}
+use Rattle.script_run.specs.declared.step.Step.{Step}
+use Rattle.script_run.specs.declared.step.Step.TheVariants.{Buffer, Load, Source, Invert, Commit, Render}
 use Rattle.script_run.specs.declared.form.Stage.{Stage}
 use Rattle.script_run.specs.declared.form.Stage.TheVariants as stages
 use Rattle.script_run.specs.declared.form.FormRefused.{FormRefused}
 use Rattle.script_run.specs.declared.form.FormRefused.TheVariants as refusals
-use Rattle.script_run.specs.Numbers.{◌>>=◌}
-use Rattle.std.specs.Option.{option_map}
-use Rattle.std.specs.Global.{Vec}
 
--- the text without the line feed at its end
-abbrev pub without_last_feed : List ℕ → List ℕ
-without_last_feed text = if slice_index text (length text - 1) == 10 then take (length text - 1) text else text
+-- a value, where a test passes
+abbrev pub if_passed : {A : Type 0} → Bool → A → Option A
+if_passed test value = if test then Some value else None
 
--- the lines of a text, each ended by a line feed or by the end of the text
-abbrev pub lines_of : List ℕ → List (List ℕ)
-lines_of [] = []
-lines_of (byte ∷ bytes) = slice_split (λ byte. byte == 10) (without_last_feed (byte ∷ bytes))
-
--- where the form stands behind a command, None where the command breaks it
-abbrev pub next_stage : Stage → Command → Option Stage
+-- where the form stands behind a step, None where the step breaks it
+abbrev pub next_stage : Stage → Step → Option Stage
 next_stage stages.Empty (Buffer name rect) = Some (stages.Buffered name rect)
 next_stage (stages.Buffered name rect) (Load loaded part file) =
     if_passed (bytes_eq loaded name && same_rectangle part rect) (stages.Loaded name)
@@ -40,45 +36,46 @@ next_stage (stages.Sourced source) (Invert node input) =
     if_passed (bytes_eq input source && not (bytes_eq node source)) (stages.Inverted node)
 next_stage (stages.Inverted node) Commit = Some (stages.Committed node)
 next_stage (stages.Committed node) (Render rendered rect file) = if_passed (bytes_eq rendered node) (stages.Committed node)
-next_stage stage command = None
+next_stage stage step = None
 
--- a line's command, and where the form stands behind it
-abbrev pub paired : Command → Stage → Command × Stage
-paired command next = (command, next)
+-- a step, and where the form stands behind it
+abbrev pub paired : Step → Stage → Step × Stage
+paired step next = (step, next)
 
-abbrev pub step_of : Stage → Option Command → Option (Command × Stage)
-step_of stage command = command >>= λ command. option_map (paired command) (next_stage stage command)
+abbrev pub taken : Stage → Option Step → Option (Step × Stage)
+taken stage step = option_and_then (λ step. option_map (paired step) (next_stage stage step)) step
 
--- a command before those of the lines behind it
-abbrev pub before : Command → Result (List Command) ℕ → Result (List Command) ℕ
-before command (Ok commands) = Ok (command ∷ commands)
-before command (Err line) = Err line
+-- a step before those of the lines behind it
+abbrev pub before : NumberedStep → Result (List NumberedStep) ℕ → Result (List NumberedStep) ℕ
+before step (Ok steps) = Ok (step ∷ steps)
+before step (Err line) = Err line
 
--- the commands from a line on, whose number is refused where it makes no step
-abbrev pub from_step : ℕ → Option (Command × Stage) → (Stage → Result (List Command) ℕ) → Result (List Command) ℕ
-from_step number None rest = Err number
-from_step number (Some step) rest = before step.0 (rest step.1)
+-- the steps from a line on, whose number is refused where nothing of it is taken
+abbrev pub from_taken : ℕ → Option (Step × Stage) → (Stage → Result (List NumberedStep) ℕ) → Result (List NumberedStep) ℕ
+from_taken number None rest = Err number
+from_taken number (Some pair) rest = before (record { number = number; step = pair.0 }) (rest pair.1)
 
--- the commands of lines that go on with the form from a stage, and else the number of the first that breaks it
-abbrev pub commands_from : ℕ → Stage → List (List ℕ) → Result (List Command) ℕ
-commands_from number stage [] = Ok []
-commands_from number stage (line ∷ lines) =
-    from_step number (step_of stage (command_of (words_of line))) (λ next. commands_from (number + 1) next lines)
+-- the steps of lines that go on with the form from a stage, and else the number of the first that breaks it
+abbrev pub steps_from : Stage → List Line → Result (List NumberedStep) ℕ
+steps_from stage [] = Ok []
+steps_from stage (line ∷ lines) =
+    from_taken line.number (taken stage (step_of line.command)) (λ next. steps_from next lines)
 
-abbrev pub commands_of : List ℕ → Result (List Command) ℕ
-commands_of text = commands_from 1 stages.Empty (lines_of text)
+-- each step has the number of its line
+abbrev pub steps_of : List Line → Result (List NumberedStep) ℕ
+steps_of lines = steps_from stages.Empty lines
 
--- The commands go on with the form from a stage.
+-- The steps go on with the form from a stage.
 abbrev pub GoOn : Option Stage → (Stage → Type 0) → Type 0
 GoOn None rest = ⊥
 GoOn (Some stage) rest = rest stage
 
-abbrev pub Follows : Stage → List Command → Type 0
+abbrev pub Follows : Stage → List NumberedStep → Type 0
 Follows stage [] = Unit {0}
-Follows stage (command ∷ commands) = GoOn (next_stage stage command) (λ next. Follows next commands)
+Follows stage (step ∷ steps) = GoOn (next_stage stage step.step) (λ next. Follows next steps)
 
--- what reading a text answers, where this is read; want of memory may come whatever is read
-abbrev pub Reads : Result (Vec Command) FormRefused → Result (List Command) ℕ → Type 0
-Reads (Ok commands) read = read ≡ Ok commands.items
+-- what following the form answers, where this is followed; want of memory may come whatever it is
+abbrev pub Reads : Result (Vec NumberedStep) FormRefused → Result (List NumberedStep) ℕ → Type 0
+Reads (Ok steps) read = read ≡ Ok steps.items
 Reads (Err refusals.NoMemory) read = ⊤
 Reads (Err (refusals.Line line)) read = read ≡ Err line

@@ -1,14 +1,13 @@
 pub mod Words
-pub mod Numbers
-pub mod Commands
+pub mod Steps
 pub mod Form
-pub mod Texts
 pub mod Outcome
 pub mod Rendering
 pub mod Rows
 pub mod Ending
-pub mod FileNames
 pub mod Status
 pub use Rattle.outside_io.specs.Files
 pub use Rattle.outside_io.specs.Faults
 pub use Rattle.graphs.specs.Evaluation
+pub use Rattle.run_events.specs.Events
+pub use Rattle.run_events.specs.World

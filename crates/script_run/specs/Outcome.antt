@@ -1,4 +1,4 @@
--- What a run is to do: files to be written and texts to be put, one after another, up to a line that is refused.
+-- What a run is to do: the events of its lines, one after another, up to a line that is refused.
 use Rattle.std.specs.Prelude.{ℕ, ◌+◌, ◌==◌, nat_lt, if◌then◌else◌, List, [], ◌∷◌, ◌++◌, length, Option, Some, None, Result, Ok, Err}
 use Rattle.plane_rect.specs.Rectangle.{Rectangle, area}
 use Rattle.sample_rows.specs.declared.format.Format.TheVariants.{Y8}
@@ -10,49 +10,18 @@ use Rattle.graphs.specs.Node as graph
 use Rattle.graphs.specs.Operation.{Operation, result_of}
 use Rattle.graphs.specs.Operation as operations
 use Rattle.graphs.specs.Evaluation.{Buffers, buffer_image, evaluated}
-use Rattle.script_run.specs.declared.command.Command.{Command}
-use Rattle.script_run.specs.declared.command.Command.TheVariants.{Buffer, Load, Source, Invert, Commit, Render}
+use Rattle.script_read.specs.Script as reading
+use Rattle.script_read.specs.declared.cause.ScriptCause.TheVariants as grammar
+use Rattle.script_read.specs.declared.command.Line.{Line}
+use Rattle.run_events.specs.Events.{Event, Writes, Puts, Outcome, nothing, refusal, then_do}
+use Rattle.run_events.specs.Texts.{render_text}
+use Rattle.run_events.specs.declared.cause.Cause.{Cause}
+use Rattle.run_events.specs.declared.cause.Cause.TheVariants as causes
+use Rattle.script_run.specs.declared.step.NumberedStep.{NumberedStep}
+use Rattle.script_run.specs.declared.step.Step.{Step}
+use Rattle.script_run.specs.declared.step.Step.TheVariants.{Buffer, Load, Source, Invert, Commit, Render}
 use Rattle.script_run.specs.Words.{script_of, script_limit}
-use Rattle.script_run.specs.Texts.{refusal_text, render_text}
-use Rattle.script_run.specs.declared.texts.Cause.{Cause}
-use Rattle.script_run.specs.declared.texts.Cause.TheVariants as causes
-use Rattle.script_run.specs.Form.{commands_of}
-
--- a file that is made to hold these bytes, or a text that is put out
-pub data Event : Type 0 where
-  Writes : List ℕ → List ℕ → Event
-  Puts : List ℕ → Event
-
-pub record Refusal : Type 0 where
-  pub line : ℕ
-  pub cause : Cause
-
--- the events in their order, the text of a refusal among them, and the line that is refused
-pub record Outcome : Type 0 where
-  pub events : List Event
-  pub refused : Option Refusal
-
--- events, and no line that is refused
-abbrev pub events_alone : List Event → Outcome
-events_alone events = record { events = events; refused = None }
-
--- nothing is to be done
-abbrev pub nothing : Outcome
-nothing = events_alone []
-
--- a line is refused, and told so
-abbrev pub refusal : ℕ → Cause → Outcome
-refusal line cause =
-    record { events = Puts (refusal_text line cause) ∷ []; refused = Some (record { line = line; cause = cause }) }
-
--- these events, and then what is to be done behind them
-abbrev pub then_do : List Event → Outcome → Outcome
-then_do events rest = record { events = events ++ rest.events; refused = rest.refused }
-
--- the files, after an event
-abbrev pub files_after : Event → Files → Files
-files_after (Writes name bytes) files = filed files name bytes
-files_after (Puts text) files = files
+use Rattle.script_run.specs.Form.{steps_of}
 
 -- What a script has made so far: its buffers, the nodes that are noted for the next commit, and of the last
 -- commit its number, 0 before the first, and its buffers and nodes.
@@ -97,7 +66,7 @@ load state name rect (Some bytes) =
     then Leaves (record state { buffers = with_image state.buffers name (put_raw (buffer_image state.buffers name) rect bytes) })
     else IsRefused causes.WrongSize
 
-abbrev pub turn : State → Files → Command → Turn
+abbrev pub turn : State → Files → Step → Turn
 turn state files (Buffer name rect) = Leaves (record state { buffers = with_image state.buffers name (blank rect Y8) })
 turn state files (Load name rect source) = load state name rect (file files source)
 turn state files (Source name buffer) = Leaves (note state (record { name = name; body = graph.Source buffer }))
@@ -117,21 +86,26 @@ after_turn line state files (Renders target bytes) rest =
     then_do (rendered line state.number target bytes) (rest state (filed files target bytes))
 after_turn line state files (IsRefused cause) rest = refusal line cause
 
--- the lines from one number on, in their order
-abbrev pub lines_outcome : ℕ → State → Files → List Command → Outcome
-lines_outcome line state files [] = nothing
-lines_outcome line state files (command ∷ commands) =
-    after_turn line state files (turn state files command) (λ next later. lines_outcome (line + 1) next later commands)
+-- the steps in their order
+abbrev pub steps_outcome : State → Files → List NumberedStep → Outcome
+steps_outcome state files [] = nothing
+steps_outcome state files (step ∷ steps) =
+    after_turn step.number state files (turn state files step.step) (λ next later. steps_outcome next later steps)
 
 -- The first line that isn't of the form is refused before any line is carried out.
-abbrev pub commands_outcome : Files → Result (List Command) ℕ → Outcome
-commands_outcome files (Ok commands) = lines_outcome 1 empty_state files commands
-commands_outcome files (Err line) = refusal line causes.UnknownCommand
+abbrev pub form_outcome : Files → Result (List NumberedStep) ℕ → Outcome
+form_outcome files (Ok steps) = steps_outcome empty_state files steps
+form_outcome files (Err line) = refusal line (causes.Grammar grammar.UnknownCommand)
+
+-- The first line that isn't in the grammar is refused before that.
+abbrev pub lines_outcome : Files → Result (List Line) reading.Refusal → Outcome
+lines_outcome files (Ok lines) = form_outcome files (steps_of lines)
+lines_outcome files (Err refused) = refusal refused.0 (causes.Grammar refused.1)
 
 abbrev pub text_outcome : Files → Option (List ℕ) → Outcome
 text_outcome files None = refusal 0 causes.Absent
 text_outcome files (Some text) =
-    if nat_lt script_limit (length text) then refusal 0 causes.TooLong else commands_outcome files (commands_of text)
+    if nat_lt script_limit (length text) then refusal 0 causes.TooLong else lines_outcome files (reading.script_of text)
 
 abbrev pub script_outcome : Files → Option (List ℕ) → Outcome
 script_outcome files None = nothing

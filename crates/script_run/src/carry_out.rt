@@ -1,90 +1,111 @@
-//! Carrying out the commands of a script.
+//! Carrying out the steps of a script.
 
-ghost use Rattle.std.specs.Prelude.{◌≡◌, ◌+◌, ◌<◌, ◌^◌, [], ◌∷◌, Option, None, IfSome, List, ℕ, length};
+ghost use Rattle.std.specs.Prelude.{◌≡◌, [], ◌∷◌, Option, IfSome, List, ℕ};
 ghost use Rattle.outside_io.specs.Files.{Files, file as bytes_of};
 ghost use Rattle.images.specs.Raw.{raw};
 ghost use Rattle.script_run.specs.Ending.{Leaves, HasCause};
 ghost use Rattle.script_run.specs.Form.{Follows};
-ghost use Rattle.script_run.specs.Outcome.{Puts, Writes, events_alone, refusal, rendered, lines_outcome, empty_state};
-ghost use Rattle.script_run.specs.Texts.{render_text as text_of_render};
-ghost use Rattle.script_run.specs.Rendering.{file_outcome, raster_outcome, render_events, renders_outcome};
+ghost use Rattle.script_run.specs.Outcome.{rendered, steps_outcome, empty_state};
+ghost use Rattle.run_events.specs.Events.{Puts, Writes, events_alone, refusal};
+ghost use Rattle.run_events.specs.Texts.{render_text as text_of_render};
+ghost use Rattle.script_run.specs.Rendering.{load_outcome, file_outcome, raster_outcome, render_events, renders_outcome};
 
-use crate::command::Command;
-use crate::file_name::FileName;
 use crate::form::Stage;
 use crate::raster::Raster;
 use crate::status::End;
-use crate::texts::{Cause, refusal_text, render_text};
+use crate::step::{NumberedStep, Step};
 use outside_io::{Shelf, ShelfAnswer, Sink, SinkAnswer};
 use plane_rect::Rect;
+use run_events::{Cause, refusal_text, render_text};
+use script_read::FileName;
 use std::alloc::Global;
 
-/// How many lines stand before the first render line.
-const LINES_BEFORE_RENDERS: usize = 5;
-
-/// The line that loads the raster.
-const LOAD_LINE: u32 = 2;
+/// How many steps stand before the first render.
+const STEPS_BEFORE_RENDERS: usize = 5;
 
 /// The number of the only commit.
 const FIRST_COMMIT: u32 = 1;
 
-/// Carries out the commands of a script that has the form.
+/// Carries out the steps of a script that has the form.
 pub fn carry_out<F: Shelf, O: Sink>(
     alloc: Global,
-    commands: &[Command],
+    steps: &[NumberedStep],
     shelf: &mut F,
     out: &mut O,
 ) -> Result<(), End>
-    requires form { Follows Stage.Empty commands.now }
-    requires few { length commands.now < 2 ^ 31 }
-    ensures leaves { IfSome (F.files shelf.old) (λ files. Leaves (lines_outcome 1 empty_state files commands.now) result
+    requires { Follows Stage.Empty steps.now }
+    ensures leaves { IfSome (F.files shelf.old) (λ files. Leaves (steps_outcome empty_state files steps.now) result
         (record { files = F.files shelf.old; text = O.written out.old }) (record { files = F.files shelf.new; text = O.written out.new })) }
     ensures cause { HasCause result
         (record { reads = F.read_faults shelf.old; writes = F.write_faults shelf.old; puts = O.faults out.old })
         (record { reads = F.read_faults shelf.new; writes = F.write_faults shelf.new; puts = O.faults out.new }) }
 {
-    let Some(Command::Load(_, rect, file)) = commands.get(1) else {
+    let Some(second) = steps.get(1) else {
         return Ok(());
     };
-    let renders = &commands[LINES_BEFORE_RENDERS.min(commands.len())..];
-    load(alloc, rect, file, renders, shelf, out)
+    let renders = &steps[STEPS_BEFORE_RENDERS.min(steps.len())..];
+    load_line(alloc, second.number, &second.step, renders, shelf, out)
 }
 
-/// Loads a raster, and carries out the render lines.
-fn load<F: Shelf, O: Sink>(
+/// Carries out the second step, which loads a raster, and the renders behind the commit.
+fn load_line<F: Shelf, O: Sink>(
     alloc: Global,
-    rect: &Rect,
-    file: &FileName,
-    renders: &[Command],
+    line: u32,
+    step: &Step,
+    renders: &[NumberedStep],
     shelf: &mut F,
     out: &mut O,
 ) -> Result<(), End>
-    requires few { length renders.now < 2 ^ 31 }
-    ensures leaves { IfSome (F.files shelf.old) (λ files. Leaves (file_outcome rect.now (bytes_of files file.now) renders.now) result
+    ensures leaves { IfSome (F.files shelf.old) (λ files. Leaves (load_outcome files line step.now renders.now) result
+        (record { files = F.files shelf.old; text = O.written out.old }) (record { files = F.files shelf.new; text = O.written out.new })) }
+    ensures cause { HasCause result
+        (record { reads = F.read_faults shelf.old; writes = F.write_faults shelf.old; puts = O.faults out.old })
+        (record { reads = F.read_faults shelf.new; writes = F.write_faults shelf.new; puts = O.faults out.new }) }
+{
+    match step {
+        Step::Load(_, rect, file) => load(alloc, line, rect, file, renders, shelf, out),
+        _ => Ok(()),
+    }
+}
+
+/// Loads a raster at a line, and carries out the renders behind it.
+fn load<F: Shelf, O: Sink>(
+    alloc: Global,
+    line: u32,
+    rect: &Rect,
+    file: &FileName,
+    renders: &[NumberedStep],
+    shelf: &mut F,
+    out: &mut O,
+) -> Result<(), End>
+    ensures leaves { IfSome (F.files shelf.old) (λ files. Leaves (file_outcome line rect.now (bytes_of files file.now) renders.now) result
         (record { files = F.files shelf.old; text = O.written out.old }) (record { files = F.files shelf.new; text = O.written out.new })) }
     ensures cause { HasCause result
         (record { reads = F.read_faults shelf.old; writes = F.write_faults shelf.old; puts = O.faults out.old })
         (record { reads = F.read_faults shelf.new; writes = F.write_faults shelf.new; puts = O.faults out.new }) }
 {
     match shelf.read(file.as_str(), rect.area()) {
-        Ok(bytes) => render_raster(alloc, Raster::from_raw(*rect, bytes), renders, shelf, out),
-        Err(ShelfAnswer::TooLong { .. }) => refuse(alloc, LOAD_LINE, Cause::WrongSize, out),
-        Err(ShelfAnswer::Absent) => refuse(alloc, LOAD_LINE, Cause::Absent, out),
+        Ok(bytes) => {
+            let raster = Raster::from_raw(*rect, bytes);
+            render_raster(alloc, line, raster, renders, shelf, out)
+        }
+        Err(ShelfAnswer::TooLong { .. }) => refuse(alloc, line, Cause::WrongSize, out),
+        Err(ShelfAnswer::Absent) => refuse(alloc, line, Cause::Absent, out),
         Err(ShelfAnswer::Failed) => Err(End::ReadFault),
         Err(ShelfAnswer::NoMemory) => Err(End::NoMemory),
     }
 }
 
-/// Inverts a raster and carries out the render lines; None is a raster of a wrong size.
+/// Inverts a raster and carries out the renders; None is a raster of a wrong size, loaded at that line.
 fn render_raster<F: Shelf, O: Sink>(
     alloc: Global,
+    line: u32,
     raster: Option<Raster>,
-    renders: &[Command],
+    renders: &[NumberedStep],
     shelf: &mut F,
     out: &mut O,
 ) -> Result<(), End>
-    requires few { length renders.now < 2 ^ 31 }
-    ensures leaves { Leaves (raster_outcome raster renders.now) result
+    ensures leaves { Leaves (raster_outcome line raster renders.now) result
         (record { files = F.files shelf.old; text = O.written out.old }) (record { files = F.files shelf.new; text = O.written out.new }) }
     ensures cause { HasCause result
         (record { reads = F.read_faults shelf.old; writes = F.write_faults shelf.old; puts = O.faults out.old })
@@ -95,49 +116,47 @@ fn render_raster<F: Shelf, O: Sink>(
             let image = raster.inverted(alloc)?;
             render_all(alloc, &image, renders, shelf, out)
         }
-        None => refuse(alloc, LOAD_LINE, Cause::WrongSize, out),
+        None => refuse(alloc, line, Cause::WrongSize, out),
     }
 }
 
-/// Carries out the render lines behind the commit.
+/// Carries out the steps behind the commit.
 fn render_all<F: Shelf, O: Sink>(
     alloc: Global,
     image: &Raster,
-    commands: &[Command],
+    steps: &[NumberedStep],
     shelf: &mut F,
     out: &mut O,
 ) -> Result<(), End>
-    requires few { length commands.now < 2 ^ 31 }
-    ensures leaves { Leaves (renders_outcome 6 image.now commands.now) result
+    ensures leaves { Leaves (renders_outcome image.now steps.now) result
         (record { files = F.files shelf.old; text = O.written out.old }) (record { files = F.files shelf.new; text = O.written out.new }) }
     ensures cause { HasCause result
         (record { reads = F.read_faults shelf.old; writes = F.write_faults shelf.old; puts = O.faults out.old })
         (record { reads = F.read_faults shelf.new; writes = F.write_faults shelf.new; puts = O.faults out.new }) }
 {
-    for (index, command) in commands.iter().enumerate() {
-        let line = (LINES_BEFORE_RENDERS + 1 + index) as u32;
-        render_line(alloc, image, line, command, shelf, out)?;
+    for step in steps {
+        render_line(alloc, image, step.number, &step.step, shelf, out)?;
     }
     Ok(())
 }
 
-/// Carries out a line behind the commit.
+/// Carries out a step behind the commit.
 fn render_line<F: Shelf, O: Sink>(
     alloc: Global,
     image: &Raster,
     line: u32,
-    command: &Command,
+    step: &Step,
     shelf: &mut F,
     out: &mut O,
 ) -> Result<(), End>
-    ensures leaves { Leaves (events_alone (render_events line image.now command.now)) result
+    ensures leaves { Leaves (events_alone (render_events line image.now step.now)) result
         (record { files = F.files shelf.old; text = O.written out.old }) (record { files = F.files shelf.new; text = O.written out.new }) }
     ensures cause { HasCause result
         (record { reads = F.read_faults shelf.old; writes = F.write_faults shelf.old; puts = O.faults out.old })
         (record { reads = F.read_faults shelf.new; writes = F.write_faults shelf.new; puts = O.faults out.new }) }
 {
-    match command {
-        Command::Render(_, rect, file) => render(alloc, image, line, rect, file, shelf, out),
+    match step {
+        Step::Render(_, rect, file) => render(alloc, image, line, rect, file, shelf, out),
         _ => Ok(()),
     }
 }

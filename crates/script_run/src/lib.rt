@@ -2,14 +2,11 @@
 #![tactic(auto)]
 
 mod carry_out;
-mod command;
-mod file_name;
 mod form;
-mod numbers;
 mod program;
 mod raster;
 mod status;
-mod texts;
+mod step;
 mod words;
 
 pub use program::run;

@@ -6,17 +6,20 @@ ghost use Rattle.outside_io.specs.FileName.{is_file_name};
 ghost use Rattle.outside_io.specs.Files.{file};
 ghost use Rattle.outside_io.specs.Faults.{Rose};
 ghost use Rattle.script_run.specs.Words.{script_limit, script_of as script_of_words};
-ghost use Rattle.script_run.specs.Form.{commands_of};
-ghost use Rattle.script_run.specs.Outcome.{outcome, text_outcome, commands_outcome};
-ghost use Rattle.script_run.specs.Ending.{HasCause, IsRefusal, Leaves, LeavesSome, NoneFalls, after_all};
+ghost use Rattle.script_read.specs.Script.{script_of};
+ghost use Rattle.run_events.specs.World.{LeavesSome, after_all};
+ghost use Rattle.script_run.specs.Form.{steps_of};
+ghost use Rattle.script_run.specs.Outcome.{outcome, text_outcome, lines_outcome, form_outcome};
+ghost use Rattle.script_run.specs.Ending.{HasCause, IsRefusal, Leaves, NoneFalls};
 ghost use Rattle.script_run.specs.Status.{IsStatus, end_status};
 
 use crate::carry_out::{carry_out, refuse};
-use crate::form::{FormRefused, commands_of};
+use crate::form::{FormRefused, steps_of};
 use crate::status::{End, status_of};
-use crate::texts::Cause;
 use crate::words::script_of;
 use outside_io::{Gate, Shelf, ShelfAnswer, Sink, SwapDisk};
+use run_events::Cause;
+use script_read::{Line, ScriptAnswer, ScriptCause, read_script};
 use std::alloc::Global;
 
 /// The most bytes that a script may have.
@@ -108,16 +111,42 @@ fn run_text<F: Shelf, O: Sink>(
     shelf: &mut F,
     out: &mut O,
 ) -> Result<(), End>
-    requires { length text.now ≤ script_limit }
-    ensures leaves { IfSome (F.files shelf.old) (λ files. Leaves (commands_outcome files (commands_of text.now)) result
+    ensures leaves { IfSome (F.files shelf.old) (λ files. Leaves (lines_outcome files (script_of text.now)) result
         (record { files = F.files shelf.old; text = O.written out.old }) (record { files = F.files shelf.new; text = O.written out.new })) }
     ensures cause { HasCause result
         (record { reads = F.read_faults shelf.old; writes = F.write_faults shelf.old; puts = O.faults out.old })
         (record { reads = F.read_faults shelf.new; writes = F.write_faults shelf.new; puts = O.faults out.new }) }
 {
-    match commands_of(alloc, text) {
-        Ok(commands) => carry_out(alloc, &commands, shelf, out),
-        Err(FormRefused::Line(line)) => refuse(alloc, line, Cause::UnknownCommand, out),
+    match read_script(alloc, text) {
+        Ok(lines) => run_lines(alloc, &lines, shelf, out),
+        Err(ScriptAnswer::Refused { line, cause }) => {
+            refuse(alloc, line, Cause::Grammar(cause), out)
+        }
+        Err(ScriptAnswer::NoMemory) => Err(End::NoMemory),
+    }
+}
+
+/// Carries out the lines of a script.
+fn run_lines<F: Shelf, O: Sink>(
+    alloc: Global,
+    lines: &[Line],
+    shelf: &mut F,
+    out: &mut O,
+) -> Result<(), End>
+    ensures leaves { IfSome (F.files shelf.old) (λ files. Leaves (form_outcome files (steps_of lines.now)) result
+        (record { files = F.files shelf.old; text = O.written out.old }) (record { files = F.files shelf.new; text = O.written out.new })) }
+    ensures cause { HasCause result
+        (record { reads = F.read_faults shelf.old; writes = F.write_faults shelf.old; puts = O.faults out.old })
+        (record { reads = F.read_faults shelf.new; writes = F.write_faults shelf.new; puts = O.faults out.new }) }
+{
+    match steps_of(alloc, lines) {
+        Ok(steps) => carry_out(alloc, &steps, shelf, out),
+        Err(FormRefused::Line(line)) => refuse(
+            alloc,
+            line,
+            Cause::Grammar(ScriptCause::UnknownCommand),
+            out,
+        ),
         Err(FormRefused::NoMemory) => Err(End::NoMemory),
     }
 }

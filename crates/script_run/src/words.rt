@@ -5,7 +5,7 @@ ghost use Rattle.std.specs.Option.{option_map};
 ghost use Rattle.outside_io.specs.FileName.{is_file_name};
 ghost use Rattle.script_run.specs.Words.{script_of};
 
-use crate::file_name::is_file_name;
+use outside_io::is_file_name;
 
 /// The script that the words name, `run SCRIPT`, and None where they are no such words.
 pub fn script_of(words: &[String]) -> Option<&str>

@@ -7,13 +7,13 @@ use Rattle.script_run.proofs.carry_out.load.Goals as goal
 pub returns-in-Err-TooLong-clause-leaves : goal.returns-in-Err-TooLong-clause-leaves
 returns-in-Err-TooLong-clause-leaves g c =
     let long = rw (c.in-Err-TooLong.field-0-is, c.as_str.ensures.value, c.area.ensures.value) at c.in-Err-TooLong.ensures.gives in
-    told_outcome _ _ (λ files. file_outcome c.args.rect.now (file files c.args.file.now) c.args.renders.now) _ _ _ _ (λ files known. too_long _ _ _ known) long
+    told_outcome _ _ (λ files. file_outcome c.args.line c.args.rect.now (file files c.args.file.now) c.args.renders.now) _ _ _ _ (λ files known. too_long _ _ _ _ known) long
     (Leaves-same_files _ _ _ _ _ _ c.in-Err-TooLong.ensures.files (c.refuse.ensures.leaves _))
 
 pub returns-in-Err-Absent-clause-leaves : goal.returns-in-Err-Absent-clause-leaves
 returns-in-Err-Absent-clause-leaves g c =
     let none = rw (c.in-Err-Absent.field-0-is, c.as_str.ensures.value) at c.in-Err-Absent.ensures.gives in
-    told_outcome _ _ (λ files. file_outcome c.args.rect.now (file files c.args.file.now) c.args.renders.now) _ _ _ _ (λ files known. absent _ _ _ known) none
+    told_outcome _ _ (λ files. file_outcome c.args.line c.args.rect.now (file files c.args.file.now) c.args.renders.now) _ _ _ _ (λ files known. absent _ _ _ _ known) none
     (Leaves-same_files _ _ _ _ _ _ c.in-Err-Absent.ensures.files (c.refuse-in-Err-Absent.ensures.leaves _))
 
 pub returns-in-Err-Failed-clause-leaves : goal.returns-in-Err-Failed-clause-leaves

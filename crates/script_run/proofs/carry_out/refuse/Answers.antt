@@ -1,5 +1,5 @@
 use Rattle.std.proofs.Common.{◌≡◌, ◌∙◌}
-use Rattle.script_run.specs.Texts.{refusal_text}
+use Rattle.run_events.specs.Texts.{refusal_text}
 use Rattle.script_run.proofs.Leaving.{Leaves-same_text, Leaves-same_end, Leaves-told, Leaves-refused, HasCause-same_end, refused_cause, none_falls}
 use Rattle.script_run.proofs.carry_out.refuse.Goals as goal
 

@@ -1,7 +1,7 @@
 use Rattle.std.proofs.Common.{◌≡◌, ◌∙◌, [], ◌∷◌, length, ap, rules}
 use Rattle.images.specs.Raw.{raw}
-use Rattle.script_run.specs.Texts.{render_text}
-use Rattle.script_run.specs.Outcome.{Writes, Puts, events_alone}
+use Rattle.run_events.specs.Texts.{render_text}
+use Rattle.run_events.specs.Events.{Writes, Puts, events_alone}
 use Rattle.script_run.proofs.Leaving.{Leaves-same_end, Leaves-first, Leaves-then, Leaves-same_bytes, Leaves-same_text, HasCause-same_end, HasCause-then, none_falls}
 use Rattle.script_run.proofs.carry_out.render.Goals as goal
 

@@ -1,5 +1,5 @@
 use Rattle.std.proofs.Common.{◌≡◌, ◌∙◌}
-use Rattle.script_run.specs.Texts.{render_text}
+use Rattle.run_events.specs.Texts.{render_text}
 use Rattle.script_run.proofs.Leaving.{Leaves-same_text}
 use Rattle.script_run.proofs.carry_out.tell_render.Goals as goal
 

@@ -1,0 +1,3 @@
+mod CacheSizes
+mod FrameNumbers
+mod Loading
