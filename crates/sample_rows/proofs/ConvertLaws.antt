@@ -5,7 +5,7 @@ use Rattle.sample_rows.specs.declared.format.Format.TheVariants.{Y8, YA8, RGB8, 
 use Rattle.sample_rows.specs.Convert.{converted_pixel, rechannelled, rescaled}
 use Rattle.sample_rows.specs.Format.{channels, depth, greatest, greatest_of, pixel_bytes}
 use Rattle.sample_rows.specs.Groups.{Maps, groups}
-use Rattle.sample_rows.specs.Parts.{part_for, parts_of_grey, parts_of_grey_alpha, parts_of_colours, parts_of_colours_alpha}
+use Rattle.pixel_lanes.specs.Parts.{part_for, parts_of_grey, parts_of_grey_alpha, parts_of_colours, parts_of_colours_alpha}
 use Rattle.sample_rows.specs.Row.{sample_at, HasPixels, Pixel, pixel_at}
 use Rattle.sample_rows.proofs.SampleLaws.{HasPixels-from_samples}
 
@@ -28,18 +28,6 @@ grey_to Y16 Y8 is pixel =
 grey_to Y16 to is pixel =
     each_channel (λ i. parts_of_grey (greatest Y16) pixel (part_for (channels to) i) ≡ rechannelled Y16 to pixel i) (channels to) (omega arith) (λ lt. search rules) (λ lt. search rules) (λ lt. search rules) (λ lt. search rules)
 grey_to from to is pixel = λ i lt. absurd (omega arith)
-
--- grey pixels with alpha
-pub grey_alpha_to : (from to : Format) → channels from ≡ 2 → (pixel : Pixel) (i : ℕ) → i < channels to → parts_of_grey_alpha pixel (part_for (channels to) i) ≡ rechannelled from to pixel i
-grey_alpha_to YA8 Y8 is pixel =
-    each_channel (λ i. parts_of_grey_alpha pixel (part_for 1 i) ≡ rechannelled YA8 Y8 pixel i) 1 (omega arith) (λ lt. search rules) (λ lt. search rules) (λ lt. search rules) (λ lt. search rules)
-grey_alpha_to YA8 to is pixel =
-    each_channel (λ i. parts_of_grey_alpha pixel (part_for (channels to) i) ≡ rechannelled YA8 to pixel i) (channels to) (omega arith) (λ lt. search rules) (λ lt. search rules) (λ lt. search rules) (λ lt. search rules)
-grey_alpha_to YA16 Y8 is pixel =
-    each_channel (λ i. parts_of_grey_alpha pixel (part_for 1 i) ≡ rechannelled YA16 Y8 pixel i) 1 (omega arith) (λ lt. search rules) (λ lt. search rules) (λ lt. search rules) (λ lt. search rules)
-grey_alpha_to YA16 to is pixel =
-    each_channel (λ i. parts_of_grey_alpha pixel (part_for (channels to) i) ≡ rechannelled YA16 to pixel i) (channels to) (omega arith) (λ lt. search rules) (λ lt. search rules) (λ lt. search rules) (λ lt. search rules)
-grey_alpha_to from to is pixel = λ i lt. absurd (omega arith)
 
 -- pixels of three colours without alpha
 pub colours_to : (from to : Format) → channels from ≡ 3 → (pixel : Pixel) (i : ℕ) → i < channels to → parts_of_colours (greatest from) pixel (part_for (channels to) i) ≡ rechannelled from to pixel i

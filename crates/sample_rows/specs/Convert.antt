@@ -1,10 +1,11 @@
 -- A pixel in another format.
-use Rattle.std.specs.Prelude.{ℕ, zero, suc, ◌+◌, ◌*◌, ◌/◌, Bool, nat_lt, if◌then◌else◌}
+use Rattle.std.specs.Prelude.{ℕ, Bool, nat_lt, if◌then◌else◌}
 use Rattle.sample_rows.specs.declared.format.Format.{Format}
 use Rattle.sample_rows.specs.Average.{mean_of_three}
 use Rattle.sample_rows.specs.Format.{channels, depth}
 use Rattle.sample_rows.specs.Recolour.{cap, is_alpha}
 use Rattle.sample_rows.specs.Row.{Pixel}
+pub use Rattle.sample_lanes.specs.Samples.{rescaled}
 
 -- the format has one colour
 abbrev pub is_grey : Format → Bool
@@ -23,12 +24,6 @@ colour_of format pixel channel = if is_grey format then pixel 0 else pixel chann
 abbrev pub rechannelled : Format → Format → Pixel → Pixel
 rechannelled from to pixel = λ channel.
     if is_alpha to channel then cap from pixel else (if is_grey to then grey_of from pixel else colour_of from pixel channel)
-
--- a sample of the one depth at the other, rounded to the nearest
-abbrev pub rescaled : ℕ → ℕ → ℕ → ℕ
-rescaled (suc zero) (suc (suc zero)) sample = sample * 257
-rescaled (suc (suc zero)) (suc zero) sample = (sample * 255 + 32767) / 65535
-rescaled from to sample = sample
 
 -- the pixel in the other format: first its channels, then their depth
 abbrev pub converted_pixel : Format → Format → Pixel → Pixel

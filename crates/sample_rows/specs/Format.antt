@@ -1,7 +1,8 @@
 -- The formats of pixels. A pixel is its channels in order: Y, or R, G and B, and then alpha where the format has it.
-use Rattle.std.specs.Prelude.{ℕ, ◌*◌, ◌-◌, ◌^◌, ◌==◌, ◌&&◌, Bool, true, false, List, codes}
+use Rattle.std.specs.Prelude.{ℕ, ◌*◌, ◌==◌, ◌&&◌, Bool, true, false, List, codes}
 use Rattle.sample_rows.specs.declared.format.Format.{Format}
 use Rattle.sample_rows.specs.declared.format.Format.TheVariants.{Y8, YA8, RGB8, RGBA8, Y16, YA16, RGB16, RGBA16}
+pub use Rattle.sample_lanes.specs.Samples.{greatest_of}
 
 -- how many channels a pixel has, alpha among them
 abbrev pub channels : Format → ℕ
@@ -46,10 +47,6 @@ word Y16 = codes "Y16"
 word YA16 = codes "YA16"
 word RGB16 = codes "RGB16"
 word RGBA16 = codes "RGBA16"
-
--- the greatest sample of so many bytes
-abbrev pub greatest_of : ℕ → ℕ
-greatest_of bytes = 256 ^ bytes - 1
 
 -- the greatest sample
 abbrev pub greatest : Format → ℕ

@@ -1,7 +1,6 @@
 pub mod Format
 pub mod Row
 pub mod Groups
-pub mod Lanes
 pub mod Recolour
 pub mod Invert
 pub mod Threshold
@@ -11,10 +10,6 @@ pub mod Average
 pub mod SizeLaws
 pub mod Extremes
 pub mod Over
-pub mod Planes
 pub mod Averages
 pub mod Gain
 pub mod Convert
-pub mod Parts
-pub mod PartsLaws
-pub mod LayoutLaws

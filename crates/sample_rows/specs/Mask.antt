@@ -1,12 +1,9 @@
 -- Samples weighed by others.
-use Rattle.std.specs.Prelude.{ℕ, ◌+◌, ◌*◌, ◌/◌}
+use Rattle.std.specs.Prelude.{ℕ}
 use Rattle.sample_rows.specs.declared.format.Format.{Format}
 use Rattle.sample_rows.specs.Format.{greatest}
 use Rattle.sample_rows.specs.Row.{Pixel}
-
--- the part of a sample that a weight up to the greatest sample leaves, rounded to the nearest
-abbrev pub weighed : ℕ → ℕ → ℕ → ℕ
-weighed greatest sample weight = (sample * weight + greatest / 2) / greatest
+pub use Rattle.sample_lanes.specs.Samples.{weighed}
 
 -- the pixel with each sample weighed
 abbrev pub masked_pixel : Format → Pixel → ℕ → Pixel

@@ -1,14 +1,9 @@
 -- Rows of pixels. A row is a list of bytes: pixels from the left, the samples of each in the order of its channels,
 -- and of a sample of two bytes the less significant first.
-use Rattle.std.specs.Prelude.{◌≡◌, ℕ, zero, suc, ◌+◌, ◌*◌, ◌/◌, ◌<◌, List, length, slice_index}
+use Rattle.std.specs.Prelude.{◌≡◌, ℕ, ◌+◌, ◌*◌, ◌/◌, ◌<◌, List, length}
 use Rattle.sample_rows.specs.declared.format.Format.{Format}
 use Rattle.sample_rows.specs.Format.{channels, depth, pixel_bytes}
-
--- sample number i of a row whose samples have so many bytes; no format has others than one and two
-abbrev pub sample_at : ℕ → List ℕ → ℕ → ℕ
-sample_at (suc zero) row i = slice_index row i
-sample_at (suc (suc zero)) row i = slice_index row (2 * i) + 256 * slice_index row (2 * i + 1)
-sample_at _ row i = 0
+pub use Rattle.sample_lanes.specs.Samples.{sample_at}
 
 -- a pixel: its sample in each channel
 abbrev pub Pixel : Type 0

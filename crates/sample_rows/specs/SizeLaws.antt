@@ -1,6 +1,6 @@
 -- The bytes of groups and of blocks.
-use Rattle.std.proofs.Common.{◌≡◌, ℕ, ◌*◌, ◌<◌, ◌≤◌, ap, arith}
-use Rattle.std.proofs.Math.Nat.{mul-le-mul, mul-le-mul_left}
+use Rattle.std.proofs.Common.{◌≡◌, ℕ, ◌*◌, ◌<◌, ap, arith}
+use Rattle.std.proofs.Math.Nat.{mul-le-mul_left}
 
 -- a group of samples has bytes
 pub some_bytes : (size depth : ℕ) → 0 < size → 0 < depth → 0 < size * depth
@@ -9,13 +9,6 @@ some_bytes size depth some_size some_depth = omega (arith, mul-le-mul_left depth
 -- a vector of sixteen samples in groups
 pub vector_bytes : (bytes depth count size : ℕ) → bytes ≡ 16 * depth → count * size ≡ 16 → bytes ≡ count * (size * depth)
 vector_bytes bytes depth count size whole sixteen = omega (arith, ap (λ n. n * depth) sixteen)
-
--- planes of sixteen samples each
-pub planes_bytes : (n bytes of_one depth : ℕ) → bytes ≡ n * of_one → of_one ≡ 16 * depth → bytes ≡ 16 * (n * depth)
-planes_bytes n bytes of_one depth all whole = omega (arith, ap (λ k. n * k) whole)
-
-pub few_bytes : (n bytes of_one : ℕ) → bytes ≡ n * of_one → of_one ≤ 32 → n ≤ 4 → bytes ≤ 128
-few_bytes n bytes of_one all few planes = omega (arith, mul-le-mul planes few)
 
 -- twice as many samples
 pub twice_some : (n : ℕ) → 0 < n → 0 < 2 * n

@@ -6,17 +6,15 @@ ghost use Rattle.sample_rows.specs.Average.{mean_of_four, mean_pixel};
 ghost use Rattle.sample_rows.specs.Averages.{Averages};
 ghost use Rattle.sample_rows.specs.Format.{pixel_bytes};
 ghost use Rattle.sample_rows.specs.Groups.{MapsPairs, SameGroups, groups};
-ghost use Rattle.sample_rows.specs.Lanes.{HoldTwo};
+ghost use Rattle.sample_lanes.specs.Lanes.{HoldTwo};
 ghost use Rattle.sample_rows.specs.Row.{HasPixels, pixel_at, sample_at};
-ghost use Rattle.sample_rows.specs.SizeLaws.{few_bytes, pair_bytes, planes_bytes, some_bytes, twice_some, vector_bytes};
+ghost use Rattle.sample_rows.specs.SizeLaws.{pair_bytes, some_bytes, twice_some, vector_bytes};
+ghost use Rattle.pixel_lanes.specs.SizeLaws.{planes_bytes};
 
 use crate::blocks::{PairKernel, transform_rows};
-use crate::byte_lanes::ByteLanes;
 use crate::format::Format;
-use crate::lanes::Lanes;
-use crate::layout::{AlphaOfFour, AlphaOfTwo, Layout, Opaque};
-use crate::vectors::{load_three, load_two, store_three};
-use crate::word_lanes::WordLanes;
+use pixel_lanes::{AlphaOfFour, AlphaOfTwo, Layout, Opaque};
+use sample_lanes::{ByteLanes, Lanes, WordLanes, load_three, load_two, store_three};
 use std::marker::PhantomData;
 
 /// Writes to `dst` a row half as long as `up` and `down`, the row below it: each of its pixels is

@@ -4,13 +4,13 @@ ghost use Rattle.std.specs.Prelude.{◌≡◌, ℕ, ◌*◌, ◌/◌, ◌%◌, �
 ghost use Rattle.std.proofs.Common.{rules};
 ghost use Rattle.sample_rows.specs.Format.{depth, greatest, greatest_of, pixel_bytes};
 ghost use Rattle.sample_rows.specs.Groups.{MapsPairs, SameGroups, groups};
-ghost use Rattle.sample_rows.specs.Lanes.{Hold};
+ghost use Rattle.sample_lanes.specs.Lanes.{Hold};
 ghost use Rattle.sample_rows.specs.Row.{HasPixels, pixel_at};
 ghost use Rattle.sample_rows.specs.SizeLaws.{some_bytes, vector_bytes};
 
 use crate::blocks::{PairKernel, transform_rows};
 use crate::format::Format;
-use crate::lanes::Lanes;
+use sample_lanes::Lanes;
 use std::marker::PhantomData;
 
 /// What two samples become.

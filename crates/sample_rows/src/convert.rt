@@ -5,18 +5,14 @@ ghost use Rattle.std.proofs.Common.{rules};
 ghost use Rattle.sample_rows.specs.Convert.{converted_pixel, rescaled};
 ghost use Rattle.sample_rows.specs.Format.{channels, depth, greatest_of, pixel_bytes};
 ghost use Rattle.sample_rows.specs.Groups.{Maps, SameGroups, groups};
-ghost use Rattle.sample_rows.specs.Parts.{part_for};
+ghost use Rattle.pixel_lanes.specs.Parts.{part_for};
 ghost use Rattle.sample_rows.specs.Row.{HasPixels, pixel_at, pixel_count};
 ghost use Rattle.sample_rows.specs.SizeLaws.{some_bytes};
 
 use crate::blocks::{RowKernel, transform_row};
-use crate::byte_lanes::ByteLanes;
-use crate::depths::Rescale;
 use crate::format::Format;
-use crate::lanes::Lanes;
-use crate::parts::{FromParts, Parts};
-use crate::planes::{Colours, ColoursAlpha, Grey, GreyAlpha};
-use crate::word_lanes::WordLanes;
+use pixel_lanes::{Colours, ColoursAlpha, FromParts, Grey, GreyAlpha, Parts};
+use sample_lanes::{ByteLanes, Lanes, Rescale, WordLanes};
 use std::marker::PhantomData;
 
 /// Writes the row `src` of one format to `dst` in another: first the channels are converted, at

@@ -5,11 +5,9 @@ ghost use Rattle.sample_rows.specs.Extremes.{least_pixel, greatest_pixel};
 ghost use Rattle.sample_rows.specs.Format.{pixel_bytes};
 ghost use Rattle.sample_rows.specs.Row.{HasPixels, pixel_at};
 
-use crate::byte_lanes::ByteLanes;
 use crate::combine::{Combine, combine_rows};
 use crate::format::Format;
-use crate::lanes::Lanes;
-use crate::word_lanes::WordLanes;
+use sample_lanes::{ByteLanes, Lanes, WordLanes};
 
 /// The lesser of two samples.
 #[derive(Clone, Copy)]

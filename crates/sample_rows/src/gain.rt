@@ -2,16 +2,15 @@
 
 ghost use Rattle.std.specs.Prelude.{◌≡◌, ℕ, ◌+◌, ◌-◌, ◌*◌, ◌/◌, ◌%◌, ◌^◌, ◌<◌, ◌≤◌, length, min, nat_le, if◌then◌else◌, ⊤};
 ghost use Rattle.sample_rows.specs.Format.{greatest_of, pixel_bytes};
-ghost use Rattle.sample_rows.specs.Gain.{gained, gained_pixel, scaled, unit_of};
-ghost use Rattle.sample_rows.specs.Lanes.{Hold};
+ghost use Rattle.sample_rows.specs.Gain.{gained, gained_pixel, scaled};
+ghost use Rattle.sample_lanes.specs.Lanes.{Hold};
+ghost use Rattle.sample_lanes.specs.Samples.{unit_of};
 ghost use Rattle.sample_rows.specs.Row.{HasPixels, pixel_at};
 
-use crate::byte_lanes::ByteLanes;
 use crate::format::Format;
-use crate::lanes::Lanes;
-use crate::layout::Layout;
 use crate::recolour::{Recolour, recolour_row};
-use crate::word_lanes::WordLanes;
+use pixel_lanes::Layout;
+use sample_lanes::{ByteLanes, Lanes, WordLanes};
 use std::alloc::AllocError;
 use std::marker::PhantomData;
 

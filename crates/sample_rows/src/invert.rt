@@ -5,12 +5,10 @@ ghost use Rattle.sample_rows.specs.Format.{pixel_bytes};
 ghost use Rattle.sample_rows.specs.Invert.{inverted, inverted_pixel};
 ghost use Rattle.sample_rows.specs.Row.{HasPixels, pixel_at};
 
-use crate::byte_lanes::ByteLanes;
 use crate::format::Format;
-use crate::lanes::Lanes;
-use crate::layout::Layout;
 use crate::recolour::{Recolour, recolour_row};
-use crate::word_lanes::WordLanes;
+use pixel_lanes::Layout;
+use sample_lanes::{ByteLanes, Lanes, WordLanes};
 
 /// Counts each colour down from its cap.
 #[derive(Clone, Copy)]

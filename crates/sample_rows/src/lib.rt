@@ -4,25 +4,16 @@
 mod add;
 mod average;
 mod blocks;
-mod byte_lanes;
 mod combine;
 mod convert;
-mod depths;
 mod extremes;
 mod format;
 mod gain;
 mod invert;
-mod lanes;
-mod layout;
 mod mask;
 mod over;
-mod parts;
-mod planes;
-mod positions;
 mod recolour;
 mod threshold;
-mod vectors;
-mod word_lanes;
 
 pub use add::row_add;
 pub use average::row_average4;

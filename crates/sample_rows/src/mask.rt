@@ -9,11 +9,9 @@ ghost use Rattle.sample_rows.specs.Row.{HasPixels, pixel_at, pixel_count, sample
 ghost use Rattle.sample_rows.specs.SizeLaws.{some_bytes, vector_bytes};
 
 use crate::blocks::{PairKernel, transform_rows};
-use crate::byte_lanes::ByteLanes;
 use crate::format::Format;
-use crate::lanes::Lanes;
-use crate::planes::{Colours, ColoursAlpha, Grey, GreyAlpha, Planes};
-use crate::word_lanes::WordLanes;
+use pixel_lanes::{Colours, ColoursAlpha, Grey, GreyAlpha, Planes};
+use sample_lanes::{ByteLanes, Lanes, WordLanes};
 use std::marker::PhantomData;
 
 /// Pixels weighed each by a sample of its own.

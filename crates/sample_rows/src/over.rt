@@ -9,11 +9,9 @@ ghost use Rattle.sample_rows.specs.Row.{HasPixels, pixel_at};
 ghost use Rattle.sample_rows.specs.SizeLaws.{some_bytes, vector_bytes};
 
 use crate::blocks::{PairKernel, transform_rows};
-use crate::byte_lanes::ByteLanes;
 use crate::format::Format;
-use crate::lanes::Lanes;
-use crate::layout::{AlphaOfFour, AlphaOfTwo, Layout};
-use crate::word_lanes::WordLanes;
+use pixel_lanes::{AlphaOfFour, AlphaOfTwo, Layout};
+use sample_lanes::{ByteLanes, Lanes, WordLanes};
 use std::marker::PhantomData;
 
 /// Pixels of a layout over others.

@@ -10,9 +10,8 @@ ghost use Rattle.sample_rows.specs.Row.{HasPixels, pixel_at};
 
 use crate::blocks::{RowKernel, transform_row};
 use crate::format::Format;
-use crate::lanes::Lanes;
-use crate::layout::{AlphaOfFour, AlphaOfTwo, Layout, Opaque};
-use crate::vectors::{load_two, store_two};
+use pixel_lanes::{AlphaOfFour, AlphaOfTwo, Layout, Opaque};
+use sample_lanes::{Lanes, load_two, store_two};
 use std::marker::PhantomData;
 
 /// A change of colours, each by itself.

@@ -6,12 +6,10 @@ ghost use Rattle.sample_rows.specs.Recolour.{recoloured};
 ghost use Rattle.sample_rows.specs.Row.{HasPixels, pixel_at};
 ghost use Rattle.sample_rows.specs.Threshold.{thresholded, thresholded_pixel};
 
-use crate::byte_lanes::ByteLanes;
 use crate::format::Format;
-use crate::lanes::Lanes;
-use crate::layout::Layout;
 use crate::recolour::{Recolour, recolour_row};
-use crate::word_lanes::WordLanes;
+use pixel_lanes::Layout;
+use sample_lanes::{ByteLanes, Lanes, WordLanes};
 
 /// Puts each colour at its cap where it reaches the threshold, and else at 0.
 #[derive(Clone, Copy)]

@@ -1,6 +1,6 @@
 use Rattle.std.proofs.Common.{◌≡◌, ℕ, length, arith}
 use Rattle.sample_rows.specs.Format.{channels}
-use Rattle.sample_rows.specs.Parts.{part_for, parts_of_grey, parts_of_colours, parts_of_colours_alpha}
+use Rattle.pixel_lanes.specs.Parts.{part_for, parts_of_grey, parts_of_colours, parts_of_colours_alpha}
 use Rattle.sample_rows.specs.Row.{Pixel, pixel_count}
 use Rattle.sample_rows.proofs.ConvertLaws.{converted_by_parts, converted_by_samples, grey_to, colours_to, colours_alpha_to, four_channels, whole_pixels}
 use Rattle.sample_rows.proofs.convert.convert_layout.Goals as goal

@@ -1,8 +1,8 @@
 use Rattle.std.proofs.Common.{◌≡◌, ℕ, zero, suc, ◌+◌, ◌*◌, ◌<◌, sym, ap, ◌∙◌, arith}
 use Rattle.sample_rows.specs.Average.{mean_of_four}
-use Rattle.sample_rows.specs.Planes.{of_three}
+use Rattle.pixel_lanes.specs.Planes.{of_three}
 use Rattle.sample_rows.specs.Row.{sample_at}
-use Rattle.sample_rows.proofs.PlaneLaws.{woven, woven-at}
+use Rattle.pixel_lanes.proofs.PlaneLaws.{woven, woven-at}
 use Rattle.sample_rows.proofs.average.AverageColoursPairKernel.block.Goals as goal
 
 -- what a mean of one plane is of the samples of whole pixels
@@ -35,7 +35,7 @@ returns g c k i lt within =
     let blue = L.lane c.mean_of_pixels-blue.result in
     let planes = of_three red green blue in
     let samples = woven 3 planes in
-    c.store_three.ensures samples
+    c.store_three.ensures.here samples
     (c.join_thirds-first.ensures samples (λ j near. sym (woven-at 3 planes (3 * j) j 0 (omega arith) (omega arith))) (λ j near. sym (woven-at 3 planes (3 * j + 1) j 1 (omega arith) (omega arith)))
     (λ j near. sym (woven-at 3 planes (3 * j + 2) j 2 (omega arith) (omega arith))))
     (k * 3 + i) (omega arith)

@@ -15,4 +15,4 @@ returns g c =
     λ p q agree i within t. cond (P.is_alpha i) (agree i within t) (change (g.met.P.Layout.cap_of_pixel (greatest_of L.depth) p q agree t) (agree i within t)) in
     written_two P.channels P.pixels g.met.P.Layout.sixteen g.met.P.Layout.place value same
     (sample_at L.depth c.args.src.now) (L.lane c.load_two-first.result.0) (L.lane c.load_two-first.result.1) (L.lane c.recolour-changed.result) (L.lane c.recolour-next.result)
-    (sample_at L.depth c.store_two.new.dst) c.load_two-first.ensures c.store_two.ensures c.recolour-changed.ensures c.recolour-next.ensures
+    (sample_at L.depth c.store_two.new.dst) c.load_two-first.ensures c.store_two.ensures.here c.recolour-changed.ensures c.recolour-next.ensures

@@ -1,0 +1,5 @@
+pub mod Planes
+pub mod Parts
+pub mod PartsLaws
+pub mod LayoutLaws
+pub mod SizeLaws

@@ -1,0 +1,11 @@
+mod Pointwise
+mod Saturation
+mod Moves
+pub mod SliceLaws
+mod Shuffles
+mod Arithmetic
+mod Reached
+mod Interleaving
+mod VectorLaws
+mod Scaling
+mod DepthLaws

@@ -1,0 +1,15 @@
+//! Vectors of sixteen samples, of one byte or two bytes each, as kernels compute with them.
+#![tactic(auto)]
+
+mod byte_lanes;
+mod depths;
+mod lanes;
+mod positions;
+mod vectors;
+mod word_lanes;
+
+pub use byte_lanes::ByteLanes;
+pub use depths::Rescale;
+pub use lanes::Lanes;
+pub use vectors::{load_four, load_three, load_two, store_four, store_three, store_two};
+pub use word_lanes::WordLanes;
