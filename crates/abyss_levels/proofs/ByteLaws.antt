@@ -1,13 +1,12 @@
 -- The laws of raw bytes.
-use Rattle.std.proofs.Common.{◌≡◌, ℕ, zero, suc, ◌*◌, ◌/◌, ◌%◌, List, [], ◌∷◌, length, refl, sym, ap, ◌∙◌, arith, length-append}
+use Rattle.std.proofs.Common.{◌≡◌, ℕ, zero, suc, ◌*◌, ◌/◌, List, [], ◌∷◌, length, refl, sym, ap, ◌∙◌, arith, length-append}
 use Rattle.std.specs.List.{flat_map}
-use Rattle.std.proofs.lemmas.List.FromFn.{length-map-range_with_len}
 use Rattle.plane_rect.specs.Rectangle.{Rectangle, Includes, area}
 use Rattle.plane_rect.specs.Tile.{Tile, tile_square}
 use Rattle.sample_rows.specs.Format.{channels, depth, pixel_bytes}
-use Rattle.images.specs.Image.{Image, at, drawn, sampled, sample_count, column_of, row_of}
+use Rattle.images.specs.Image.{Image, at, drawn, sampled}
 use Rattle.images.specs.Raw.{raw, sample_bytes}
-use Rattle.images.proofs.Laws.{sampled_alike, at-drawn}
+use Rattle.images.proofs.Laws.{at-drawn, length-sampled, sampled_alike}
 use Rattle.abyss_levels.specs.declared.abyss.Abyss.{Abyss}
 use Rattle.abyss_levels.specs.declared.abyss.Abyss.TheVariants.{None}
 use Rattle.abyss_levels.specs.Abyss.{abyss_at, raw_with, tile_bytes}
@@ -35,11 +34,6 @@ length-samples_bytes n [] = omega arith
 length-samples_bytes n (v ∷ samples) =
     length-append (sample_bytes n v) (flat_map (sample_bytes n) samples)
     ∙ omega (arith, length-sample_bytes n v, length-samples_bytes n samples)
-
-pub length-sampled : (r : Rectangle) (n : ℕ) (f : ℕ → ℕ → ℕ → ℕ) → length (sampled r n f) ≡ sample_count r n
-length-sampled r n f =
-    let F : ℕ → ℕ = λ j. f (column_of r n j) (row_of r n j) (j % n) in
-    length-map-range_with_len F 0 (sample_count r n)
 
 pub length-raw_with : (image : Image) (policy : Abyss) (r : Rectangle) → length (raw_with image policy r) ≡ area r * pixel_bytes image.format
 unfolding raw_with

@@ -1,8 +1,7 @@
 -- The laws of levels.
-use Rattle.std.proofs.Common.{◌≡◌, ℕ, zero, suc, ◌+◌, ◌-◌, ◌/◌, ◌<◌, ◌≤◌, ◌↔◌, ◌⊎◌, inl, inr, refl, sym, ap, ◌∙◌, subst, arith, ◌&&◌, cond, ltb, get_or, true, false}
+use Rattle.std.proofs.Common.{◌≡◌, ℕ, zero, suc, ◌+◌, ◌-◌, ◌/◌, ◌<◌, ◌≤◌, ◌↔◌, ◌⊎◌, inl, inr, refl, sym, ap, ◌∙◌, subst, arith}
 use Rattle.std.proofs.lemmas.Nat.{mul-le}
 use Rattle.std.proofs.lemmas.Bool.{cases_lt}
-use Rattle.std.proofs.lemmas.Bool.Decides.{nat_tests}
 use Rattle.plane_rect.specs.Rectangle.{origin, Rectangle, Lies, LiesHalved, IsRectangle, InLimits, empty, half, halved, area, right, bottom}
 use Rattle.plane_rect.proofs.Moved.{halved-places}
 use Rattle.plane_rect.proofs.Rectangles.{Lies-spanning, rectangle-some, some_or_empty}
@@ -10,11 +9,10 @@ use Rattle.plane_rect.proofs.RectangleLaws.{IsRectangle-halved}
 use Rattle.sample_rows.specs.Format.{channels}
 use Rattle.sample_rows.specs.declared.format.Format.{Format}
 use Rattle.images.specs.Agreement.{AgreeOutside}
-use Rattle.images.specs.Image.{Image, IsImage, at, drawn, lies, sample_index}
-use Rattle.images.proofs.Laws.{at-drawn, at_outside}
+use Rattle.images.specs.Image.{Image, IsImage, at}
+use Rattle.images.proofs.Laws.{IsImage-drawn, at-drawn, at_no_channel, at_outside}
+use Rattle.images.proofs.Places.{by_places}
 use Rattle.abyss_levels.specs.Level.{doubled, mean_at, halved_image, level}
-use Rattle.abyss_levels.proofs.Places.{by_places}
-use Rattle.abyss_levels.proofs.ByteLaws.{length-sampled}
 
 pub level-zero : (image : Image) → level image 0 ≡ image
 unfolding level
@@ -23,9 +21,6 @@ level-zero image = refl
 pub level-next : (image : Image) (z : ℕ) → level image (z + 1) ≡ halved_image (level image z)
 unfolding level
 level-next image z = let next : z + 1 ≡ suc z = omega arith in ap (level image) next
-
-pub IsImage-drawn : (box : Rectangle) (format : Format) (f : ℕ → ℕ → ℕ → ℕ) → IsImage (drawn box format f)
-IsImage-drawn box format f = length-sampled box (channels format) f
 
 pub IsImage-level : (image : Image) (z : ℕ) → IsImage image → IsImage (level image z)
 unfolding level
@@ -73,7 +68,7 @@ halved-empty r is = elim (some_or_empty r is) [
   | inr none ↦ (λ _. none, λ _. subst (λ (q : Rectangle). halved q ≡ empty) (sym none) refl)
 ]
 
-InLimits-halved : (r : Rectangle) → IsRectangle r → InLimits r → InLimits (halved r)
+pub InLimits-halved : (r : Rectangle) → IsRectangle r → InLimits r → InLimits (halved r)
 InLimits-halved r is small = elim (some_or_empty r is) [
   | inl some ↦
       let less = halved-some r some.0 some.1 in
@@ -96,15 +91,6 @@ empty-level image (suc z) is =
     (λ e. before.0 (here.0 e), λ e. here.1 (before.1 e))
 
 -- ---- how great the samples are
-
-at_no_channel : (image : Image) (u v c : ℕ) → channels image.format ≤ c → at image u v c ≡ 0
-unfolding at
-at_no_channel image u v c beyond =
-    let none : ltb c (channels image.format) ≡ false = grind (arith, nat_tests) in
-    elim (lies u v image.box) as (λ b. cond (b && ltb c (channels image.format)) (get_or image.samples (sample_index image.box (channels image.format) u v c) 0) 0 ≡ 0) [
-      | true ↦ rw none refl
-      | false ↦ refl
-    ]
 
 halved_image-most : (image : Image) (c most : ℕ) → ((u v : ℕ) → at image u v c ≤ most) → (u v : ℕ) → at (halved_image image) u v c ≤ most
 halved_image-most image c most below u v = elim (cases_lt c (channels image.format)) [

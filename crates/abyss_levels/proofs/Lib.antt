@@ -1,4 +1,3 @@
-pub mod Places
 pub mod Sides
 pub mod PolicyLaws
 pub mod ByteLaws

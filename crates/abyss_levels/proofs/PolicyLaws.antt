@@ -9,7 +9,7 @@ use Rattle.images.proofs.Laws.{at_outside}
 use Rattle.abyss_levels.specs.declared.abyss.Abyss.{Abyss}
 use Rattle.abyss_levels.specs.declared.abyss.Abyss.TheVariants.{None, Clamp, Loop, Black, White}
 use Rattle.abyss_levels.specs.Abyss.{abyss_at, outside_at, black_sample, nearest, wrapped}
-use Rattle.abyss_levels.proofs.Places.{by_places, lies_not}
+use Rattle.images.proofs.Places.{by_places, lies_not}
 use Rattle.abyss_levels.proofs.Sides.{nearest-within, nearest-inside, wrapped-within, wrapped-inside, wrapped-periodic}
 
 pub abyss_at-inside : (image : Image) (policy : Abyss) (u v c : ℕ) → Lies u v image.box → abyss_at image policy u v c ≡ at image u v c

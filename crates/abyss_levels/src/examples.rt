@@ -1,4 +1,5 @@
 //! The definitions worked out by hand on small images.
+#![tactic(auto, unfolding(images::specs::Image::at, images::specs::Raw::raw, crate::specs::Abyss::abyss_at, crate::specs::Abyss::raw_with, crate::specs::Level::level))]
 
 ghost use Rattle.std.specs.Prelude.{◌≡◌, [], ◌∷◌, negsuc, pos};
 ghost use Rattle.images.specs.Raw.{raw};

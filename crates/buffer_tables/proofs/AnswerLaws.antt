@@ -1,5 +1,5 @@
 -- What the edits answer, by their causes one after another.
-use Rattle.std.proofs.Common.{◌≡◌, ◌≢◌, ℕ, ◌<◌, ◌≤◌, Bool, true, false, not, ◌&&◌, cond, ℤ, List, length, Option, Some, None, Result, Ok, Err, refl, sym, ap, ◌∙◌, subst, arith, eqb, leb}
+use Rattle.std.proofs.Common.{◌≡◌, ◌≢◌, ℕ, ◌<◌, ◌≤◌, Bool, true, false, not, ◌&&◌, cond, ℤ, List, length, Option, Some, None, Result, Ok, Err, refl, ap, arith, eqb, leb}
 use Rattle.std.specs.Prelude.{IsSome, MatchResult}
 use Rattle.std.specs.Bool.{Decides}
 use Rattle.std.specs.List.{list_all}
@@ -9,13 +9,13 @@ use Rattle.plane_rect.specs.declared.rect.RectRefused.{RectRefused}
 use Rattle.plane_rect.specs.Rectangle.{Rectangle, Lies, Includes, includes, is_empty, right, bottom, shifted}
 use Rattle.plane_rect.proofs.Differences.{reaches}
 use Rattle.sample_rows.specs.declared.format.Format.{Format}
-use Rattle.sample_rows.specs.declared.format.Format.TheVariants.{Y8, YA8, RGB8, RGBA8, Y16, YA16, RGB16, RGBA16}
-use Rattle.sample_rows.specs.Format.{channels, depth, greatest}
+use Rattle.sample_rows.specs.Format.{channels, greatest, same_format}
+use Rattle.images.proofs.Tests.{Decides-same_format, both}
+use Rattle.images.specs.Spelled.{byte_count, spelled_pixels}
 use Rattle.buffer_tables.specs.declared.refused.EditRefused.{EditRefused}
 use Rattle.buffer_tables.specs.declared.refused.EditRefused.TheVariants.{UnknownBuffer, NameTaken, OutOfBounds, WrongSize, Formats, TooManyBuffers}
 use Rattle.buffer_tables.specs.Table.{Table, View, find, root_image, image_of, most_buffers}
-use Rattle.sample_rows.specs.Format.{same_format}
-use Rattle.buffer_tables.specs.Edits.{Edited, if_known, if_free, if_placed, is_pixel, IsPixel, byte_count, written, evenly, spelled, moved_samples, filled, put, copied}
+use Rattle.buffer_tables.specs.Edits.{Edited, if_known, if_free, if_placed, is_pixel, IsPixel, written, evenly, moved_samples, filled, put, copied}
 
 -- ---- tests
 
@@ -38,55 +38,12 @@ pub Decides-is_pixel : (format : Format) (samples : List ℕ) → Decides (is_pi
 Decides-is_pixel format samples = (
   λ t. (
     grind (arith, nat_tests),
-    λ k d h. let all : list_all (λ sample. leb sample (greatest format)) samples ≡ true = both t in
+    λ k d h. let all : list_all (λ sample. leb sample (greatest format)) samples ≡ true = (both (eqb (length samples) (channels format)) _ t).1 in
         let one = AllPass-from_list_all (λ sample. leb sample (greatest format)) samples all k d h in grind (arith, nat_tests),
   ),
   λ p. let all = list_all-from_AllPass (λ sample. leb sample (greatest format)) samples (λ k d h. let one = p.1 k d h in grind (arith, nat_tests)) in
       let count : eqb (length samples) (channels format) ≡ true = grind (arith, nat_tests, p.0) in rw (count, all) refl,
 )
-  where
-    both : is_pixel format samples ≡ true → list_all (λ sample. leb sample (greatest format)) samples ≡ true
-    both t = second (eqb (length samples) (channels format)) _ t
-      where
-        second : (a b : Bool) → (a && b) ≡ true → b ≡ true
-        second true b h = h
-        second false b h = absurd (cc)
-
--- the format of so many channels, whose samples have so many bytes
-format_of : ℕ → ℕ → Format
-format_of n d =
-    cond (eqb d 1)
-    (cond (eqb n 1) Y8 (cond (eqb n 2) YA8 (cond (eqb n 3) RGB8 RGBA8)))
-    (cond (eqb n 1) Y16 (cond (eqb n 2) YA16 (cond (eqb n 3) RGB16 RGBA16)))
-
-format-again : (format : Format) → format_of (channels format) (depth format) ≡ format
-unfolding format_of
-format-again Y8 = refl
-format-again YA8 = refl
-format-again RGB8 = refl
-format-again RGBA8 = refl
-format-again Y16 = refl
-format-again YA16 = refl
-format-again RGB16 = refl
-format-again RGBA16 = refl
-
-pub Decides-same_format : (a b : Format) → Decides (same_format a b) (a ≡ b)
-Decides-same_format a b = (
-  λ t. let n : channels a ≡ channels b = grind (arith, nat_tests) in
-      let d : depth a ≡ depth b = grind (arith, nat_tests) in
-      sym (format-again a) ∙ ap (λ (n : ℕ). format_of n (depth a)) n ∙ ap (λ (d : ℕ). format_of (channels b) d) d ∙ format-again b,
-  λ e. subst (λ (f : Format). same_format a f ≡ true) e (same a),
-)
-  where
-    same : (f : Format) → same_format f f ≡ true
-    same Y8 = refl
-    same YA8 = refl
-    same RGB8 = refl
-    same RGBA8 = refl
-    same Y16 = refl
-    same YA16 = refl
-    same RGB16 = refl
-    same RGBA16 = refl
 
 -- ---- one cause after another
 
@@ -139,16 +96,16 @@ module _ (A : Table → Type 0) (R : EditRefused → Type 0) where
 
     pub put_bytes : (bytes : List ℕ) → (find table.buffers name ≡ None → R UnknownBuffer)
         → ((view : View) → find table.buffers name ≡ Some view → ¬ Includes view.extent rectangle → R OutOfBounds)
-        → ((view : View) → find table.buffers name ≡ Some view → Includes view.extent rectangle → length bytes ≢ byte_count (format_of_view view) rectangle
-        → R (WrongSize (length bytes) (byte_count (format_of_view view) rectangle)))
-        → ((view : View) → find table.buffers name ≡ Some view → Includes view.extent rectangle → length bytes ≡ byte_count (format_of_view view) rectangle
-        → A (written table view.root rectangle (spelled (format_of_view view) rectangle bytes)))
+        → ((view : View) → find table.buffers name ≡ Some view → Includes view.extent rectangle → length bytes ≢ byte_count rectangle (format_of_view view)
+        → R (WrongSize (length bytes) (byte_count rectangle (format_of_view view))))
+        → ((view : View) → find table.buffers name ≡ Some view → Includes view.extent rectangle → length bytes ≡ byte_count rectangle (format_of_view view)
+        → A (written table view.root rectangle (spelled_pixels rectangle (format_of_view view) bytes)))
         → MatchResult (put table name rectangle bytes) A R
     put_bytes bytes absent outside other_size done =
         known (find table.buffers name) _ absent (λ view e.
         tested (includes view.extent rectangle) (Includes view.extent rectangle) _ OutOfBounds (Decides-includes view.extent rectangle) (outside view e) (λ inside.
-        tested (eqb (length bytes) (byte_count (format_of_view view) rectangle)) (length bytes ≡ byte_count (format_of_view view) rectangle) _
-        (WrongSize (length bytes) (byte_count (format_of_view view) rectangle)) (Decides-eqb (length bytes) (byte_count (format_of_view view) rectangle)) (other_size view e inside) (done view e inside)))
+        tested (eqb (length bytes) (byte_count rectangle (format_of_view view))) (length bytes ≡ byte_count rectangle (format_of_view view)) _
+        (WrongSize (length bytes) (byte_count rectangle (format_of_view view))) (Decides-eqb (length bytes) (byte_count rectangle (format_of_view view))) (other_size view e inside) (done view e inside)))
 
   module _ (table : Table) (from to : List ℕ) (rectangle : Rectangle) (dx dy : ℤ) where
     -- the buffers of a copy are there, and the rectangle lies in the first

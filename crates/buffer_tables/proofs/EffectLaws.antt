@@ -7,9 +7,10 @@ use Rattle.plane_rect.proofs.RectangleLaws.{IsRectangle-meet}
 use Rattle.sample_rows.specs.declared.format.Format.{Format}
 use Rattle.images.specs.Image.{Image}
 use Rattle.images.specs.Paint.{blank}
-use Rattle.abyss_levels.proofs.LevelLaws.{IsImage-drawn}
+use Rattle.images.specs.Spelled.{spelled_pixels}
+use Rattle.images.proofs.Laws.{IsImage-drawn}
 use Rattle.buffer_tables.specs.Table.{Table, View, find, root_image, cut, image_of, root_of, IsKept, IsRooted, IsTable, most_buffers}
-use Rattle.buffer_tables.specs.Edits.{created, sub_buffer, duplicated, filled, put, copied, with_root, with_view, evenly, spelled, moved_samples}
+use Rattle.buffer_tables.specs.Edits.{created, sub_buffer, duplicated, filled, put, copied, with_root, with_view, evenly, moved_samples}
 use Rattle.buffer_tables.specs.Effects.{IsAdded, HasOwnRoot, IsWritten}
 use Rattle.buffer_tables.proofs.TableLaws.{by_option, of_some, IsTable-written, IsWritten-written}
 use Rattle.buffer_tables.proofs.AddingLaws.{IsAdded-with_view, root-with_view, IsTable-with_view, IsAdded-with_root, HasOwnRoot-with_root, IsTable-with_root}
@@ -135,12 +136,12 @@ module _ (table : Table) (is : IsTable table) where
   pub put-table : (name : List ℕ) (r : Rectangle) (bytes : List ℕ) → IfOk (put table name r bytes) IsTable
   put-table name r bytes =
       put_bytes IsTable Any table name r bytes (λ _. tt) (λ _ _ _. tt) (λ _ _ _ _. tt) (λ view e inside size.
-      IsTable-written table view.root r (spelled (root_image table view.root).format r bytes) is)
+      IsTable-written table view.root r (spelled_pixels r (root_image table view.root).format bytes) is)
 
-  pub put-images : (name : List ℕ) (r : Rectangle) (bytes : List ℕ) → IfOk (put table name r bytes) (IsWritten table name r (spelled (image_of table name).format r bytes))
+  pub put-images : (name : List ℕ) (r : Rectangle) (bytes : List ℕ) → IfOk (put table name r bytes) (IsWritten table name r (spelled_pixels r (image_of table name).format bytes))
   put-images name r bytes =
-      put_bytes (IsWritten table name r (spelled (image_of table name).format r bytes)) Any table name r bytes (λ _. tt) (λ _ _ _. tt) (λ _ _ _ _. tt) (λ view e inside size.
-      let f = spelled (root_image table view.root).format r bytes in
+      put_bytes (IsWritten table name r (spelled_pixels r (image_of table name).format bytes)) Any table name r bytes (λ _. tt) (λ _ _ _. tt) (λ _ _ _ _. tt) (λ view e inside size.
+      let f = spelled_pixels r (root_image table view.root).format bytes in
       rw (format-seen table name view e) (IsWritten-written table view.root r f is name (written_name name view e) (rw (box-seen table name view e) inside)))
 
   pub copied-table : (from to : List ℕ) (r : Rectangle) (dx dy : ℤ) → IfOk (copied table from to r dx dy) IsTable

@@ -21,9 +21,6 @@ apart_test a b apart =
     ] refl
 
 module _ {X : Type 0} where
-  pub find-head : (k : List ℕ) (v : X) (entries : List (List ℕ × X)) → find ((k, v) ∷ entries) k ≡ Some v
-  find-head k v entries = rw (same_name k) refl
-
   -- a name that is there stays when an entry is added
   pub find-kept : (entries : List (List ℕ × X)) (q k : List ℕ) (v x : X) → find entries q ≡ Some x → find (entries ++ (k, v) ∷ []) q ≡ Some x
   find-kept [] q k v x there = absurd (cc)

@@ -9,7 +9,7 @@ use Rattle.plane_rect.proofs.Rectangles.{some_or_empty}
 use Rattle.plane_rect.proofs.RectangleLaws.{IsRectangle-empty}
 use Rattle.sample_rows.specs.declared.format.Format.TheVariants.{Y8}
 use Rattle.images.specs.Image.{at}
-use Rattle.abyss_levels.proofs.LevelLaws.{IsImage-drawn}
+use Rattle.images.proofs.Laws.{IsImage-drawn}
 use Rattle.buffer_tables.specs.Table.{Table, View, find, root_image, seen, image_of, IsKept, IsRooted, IsTable}
 use Rattle.buffer_tables.proofs.EffectLaws.{kept_root}
 

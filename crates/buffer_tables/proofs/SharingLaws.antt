@@ -3,7 +3,7 @@ use Rattle.std.proofs.Common.{◌≡◌, ◌≢◌, ℕ, List, Some, None, refl,
 use Rattle.std.specs.Prelude.{IfOk}
 use Rattle.plane_rect.specs.Rectangle.{Rectangle, IsRectangle, meet}
 use Rattle.buffer_tables.specs.Table.{Table, View, find, root_image, image_of, root_of, IsTable}
-use Rattle.buffer_tables.specs.Edits.{sub_buffer, duplicated, with_root, with_view}
+use Rattle.buffer_tables.specs.Edits.{sub_buffer, duplicated, with_view}
 use Rattle.buffer_tables.specs.Effects.{IsWritten, ShowsOver}
 use Rattle.buffer_tables.proofs.AddingLaws.{IsAdded-with_view, root-with_view, IsAdded-with_root, HasOwnRoot-with_root}
 use Rattle.buffer_tables.proofs.EffectLaws.{if_sub_buffer, if_duplicated, rooted_view, part-rooted}
@@ -35,9 +35,6 @@ module _ (table : Table) (is : IsTable table) (name parent : List ℕ) (part : R
       name parent part (λ view e none room r f after done. done.shown parent (sym (same_root view e none)))
 
 module _ (table : Table) (is : IsTable table) (name from : List ℕ) where
-  abbrev Duplicated : View → Table
-  Duplicated view = with_root table name (root_image table view.root) view.extent
-
   pub keeps-duplicate : IfOk (duplicated table name from) (λ both.
       (r : Rectangle) (f : ℕ → ℕ → ℕ → ℕ) (after : Table) → IsWritten both from r f after → image_of after name ≡ image_of table from)
   keeps-duplicate =

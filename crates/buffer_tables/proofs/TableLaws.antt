@@ -9,13 +9,13 @@ use Rattle.sample_rows.specs.Format.{channels}
 use Rattle.images.specs.Agreement.{AgreeOutside}
 use Rattle.images.specs.Image.{Image, at, lies}
 use Rattle.images.specs.Paint.{painted}
-use Rattle.abyss_levels.proofs.LevelLaws.{IsImage-drawn}
+use Rattle.images.proofs.Laws.{AgreeOutside-refl, IsImage-drawn}
 use Rattle.images.specs.Paint.{no_image}
 use Rattle.buffer_tables.specs.Table.{Table, View, find, root_image, cut, seen, image_of, root_of, IsKept, IsRooted, IsTable}
 use Rattle.buffer_tables.specs.Edits.{written}
 use Rattle.buffer_tables.specs.Effects.{IsWritten, ShowsOver}
 use Rattle.buffer_tables.proofs.FindLaws.{same_name, apart_test, find-mapped, AreDistinct-mapped}
-use Rattle.buffer_tables.proofs.CutLaws.{at-cut, at-painted, AgreeOutside-refl, AgreeOutside-painted, AgreeOutside-cut}
+use Rattle.buffer_tables.proofs.CutLaws.{at-cut, at-painted, AgreeOutside-painted, AgreeOutside-cut}
 
 -- what holds of a value that is there, and where there is none, holds of each option
 pub by_option : {X : Type 0} (P : Type 0) (o : Option X) → ((x : X) → o ≡ Some x → P) → (o ≡ None → P) → P

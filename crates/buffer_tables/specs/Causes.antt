@@ -2,9 +2,10 @@
 use Rattle.std.specs.Prelude.{◌≡◌, ◌≢◌, ℕ, ◌<◌, ◌≤◌, ◌⊎◌, ℤ, List, length, None, IsSome, Result, Ok, Err}
 use Rattle.plane_rect.specs.declared.rect.RectRefused.{RectRefused}
 use Rattle.plane_rect.specs.Rectangle.{Rectangle, Includes, shifted}
+use Rattle.images.specs.Spelled.{byte_count}
 use Rattle.buffer_tables.specs.declared.refused.EditRefused.{EditRefused}
 use Rattle.buffer_tables.specs.declared.refused.EditRefused.TheVariants.{UnknownBuffer, NameTaken, OutOfBounds, WrongSize, Formats, TooManyBuffers}
-use Rattle.buffer_tables.specs.Edits.{IsPixel, byte_count}
+use Rattle.buffer_tables.specs.Edits.{IsPixel}
 use Rattle.buffer_tables.specs.Table.{Table, find, image_of, most_buffers}
 
 -- a buffer has the name
@@ -52,7 +53,7 @@ FillRefused table name rectangle samples _ = ⊥
 
 -- the bytes of the rectangle in the buffer's format
 abbrev pub wanted_bytes : Table → List ℕ → Rectangle → ℕ
-wanted_bytes table name rectangle = byte_count (image_of table name).format rectangle
+wanted_bytes table name rectangle = byte_count rectangle (image_of table name).format
 
 abbrev pub IsPuttable : Table → List ℕ → Rectangle → List ℕ → Type 0
 IsPuttable table name rectangle bytes = HasPlaces table name rectangle × (length bytes ≡ wanted_bytes table name rectangle)

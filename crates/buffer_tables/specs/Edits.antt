@@ -1,15 +1,16 @@
 -- The edits of tables. Each gives the table after it, or the first cause why it is refused.
-use Rattle.std.specs.Prelude.{◌≡◌, ℕ, ◌+◌, ◌-◌, ◌*◌, ◌≤◌, ◌==◌, ◌&&◌, nat_le, Bool, if◌then◌else◌, ℤ, List, [], ◌∷◌, ◌++◌, map, length, slice_index, Option, Some, None, Result, Ok, Err}
+use Rattle.std.specs.Prelude.{◌≡◌, ℕ, ◌+◌, ◌-◌, ◌≤◌, ◌==◌, ◌&&◌, nat_le, Bool, if◌then◌else◌, ℤ, List, [], ◌∷◌, ◌++◌, map, length, slice_index, Option, Some, None, Result, Ok, Err}
 use Rattle.std.specs.List.{All, list_all}
 use Rattle.std.specs.Option.{is_some}
 use Rattle.std.specs.Str.{bytes_eq}
 use Rattle.plane_rect.specs.declared.rect.RectRefused.{RectRefused}
-use Rattle.plane_rect.specs.Rectangle.{Rectangle, area, includes, meet, shifted}
+use Rattle.plane_rect.specs.Rectangle.{Rectangle, includes, meet, shifted}
 use Rattle.sample_rows.specs.declared.format.Format.{Format}
-use Rattle.sample_rows.specs.Format.{channels, depth, greatest, pixel_bytes, same_format}
-use Rattle.sample_rows.specs.Row.{Pixel, sample_at}
-use Rattle.images.specs.Image.{Image, at, sample_index}
+use Rattle.sample_rows.specs.Format.{channels, greatest, same_format}
+use Rattle.sample_rows.specs.Row.{Pixel}
+use Rattle.images.specs.Image.{Image, at}
 use Rattle.images.specs.Paint.{blank, painted}
+use Rattle.images.specs.Spelled.{byte_count, spelled_pixels}
 use Rattle.buffer_tables.specs.declared.refused.EditRefused.{EditRefused}
 use Rattle.buffer_tables.specs.declared.refused.EditRefused.TheVariants.{UnknownBuffer, NameTaken, OutOfBounds, WrongSize, Formats, TooManyBuffers}
 use Rattle.buffer_tables.specs.Table.{Table, View, find, root_image, image_of, most_buffers}
@@ -69,19 +70,11 @@ is_pixel format samples = length samples == channels format && list_all (λ samp
 abbrev pub IsPixel : Format → List ℕ → Type 0
 IsPixel format samples = (length samples ≡ channels format) × All (λ sample. sample ≤ greatest format) samples
 
--- how many bytes a rectangle has in a format
-abbrev pub byte_count : Format → Rectangle → ℕ
-byte_count format rectangle = area rectangle * pixel_bytes format
-
 -- ---- samples
 
 -- the same pixel at each place
 abbrev pub evenly : List ℕ → ℕ → ℕ → Pixel
 evenly samples u v c = slice_index samples c
-
--- the samples that the raw bytes of a rectangle spell
-abbrev pub spelled : Format → Rectangle → List ℕ → ℕ → ℕ → Pixel
-spelled format rectangle bytes u v c = sample_at (depth format) bytes (sample_index rectangle (channels format) u v c)
 
 -- the samples of an image over a rectangle, at the places of the rectangle once it is moved
 abbrev pub moved_samples : Image → Rectangle → Rectangle → ℕ → ℕ → Pixel
@@ -118,9 +111,9 @@ put table name rectangle bytes =
     if_known (find table.buffers name) (λ view.
     if_inside view.extent rectangle (
     let format = (root_image table view.root).format in
-    if length bytes == byte_count format rectangle
-    then Ok (written table view.root rectangle (spelled format rectangle bytes))
-    else Err (WrongSize (length bytes) (byte_count format rectangle))))
+    if length bytes == byte_count rectangle format
+    then Ok (written table view.root rectangle (spelled_pixels rectangle format bytes))
+    else Err (WrongSize (length bytes) (byte_count rectangle format))))
 
 -- The samples of a rectangle of one buffer, over the moved rectangle of another or the same: all are taken from the
 -- table as it is, and then written.

@@ -1,4 +1,5 @@
 //! The edits worked out by hand on small tables.
+#![tactic(auto, unfolding(images::specs::Image::at, abyss_levels::specs::Abyss::abyss_at, abyss_levels::specs::Abyss::raw_with))]
 
 ghost use Rattle.std.specs.Prelude.{◌≡◌, [], ◌∷◌, negsuc, pos, Err};
 ghost use Rattle.plane_rect.specs.Rectangle.{placed};

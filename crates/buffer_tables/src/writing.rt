@@ -4,7 +4,8 @@ ghost use Rattle.std.specs.Prelude.{◌≡◌, ℤ, ◌+ℤ◌, ◌<◌, List, �
 ghost use Rattle.plane_rect.specs.Rectangle.{Lies, Rectangle, plane_coordinate, shifted};
 ghost use Rattle.sample_rows.specs.Format.{channels};
 ghost use Rattle.images.specs.Image.{at};
-ghost use Rattle.buffer_tables.specs.Edits.{copied, evenly, filled, moved_samples, put, spelled};
+ghost use Rattle.images.specs.Spelled.{spelled_pixels};
+ghost use Rattle.buffer_tables.specs.Edits.{copied, evenly, filled, moved_samples, put};
 ghost use Rattle.buffer_tables.specs.Effects.{IsWritten};
 ghost use Rattle.buffer_tables.specs.Table.{IsTable, Table, image_of};
 
@@ -18,7 +19,7 @@ pub fn filled_rectangle()
 pub fn put_rectangle()
     ensures { (table : Table) (name : List ℕ) (rectangle : Rectangle) (bytes : List ℕ) →
         IsTable table → IfOk (put table name rectangle bytes)
-        (IsWritten table name rectangle (spelled (image_of table name).format rectangle bytes)) }
+        (IsWritten table name rectangle (spelled_pixels rectangle (image_of table name).format bytes)) }
 {}
 
 /// A moved rectangle has the samples that the rectangle had before the copy, and nothing else changes.

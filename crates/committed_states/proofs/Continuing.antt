@@ -10,11 +10,12 @@ use Rattle.plane_rect.proofs.RectangleLaws.{Includes-hull_left, Includes-hull_ri
 use Rattle.images.specs.Agreement.{AgreeOutside}
 use Rattle.images.specs.Image.{Image}
 use Rattle.images.specs.Paint.{blank}
-use Rattle.buffer_tables.specs.Edits.{Edited, copied, evenly, moved_samples, spelled}
+use Rattle.images.specs.Spelled.{spelled_pixels}
+use Rattle.images.proofs.Laws.{AgreeOutside-refl}
+use Rattle.buffer_tables.specs.Edits.{Edited, copied, evenly, moved_samples}
 use Rattle.buffer_tables.specs.Effects.{IsAdded, IsWritten}
 use Rattle.buffer_tables.specs.Table.{IsTable, Table, View, find, image_of, root_of}
 use Rattle.buffer_tables.proofs.AnswerLaws.{copy}
-use Rattle.buffer_tables.proofs.CutLaws.{AgreeOutside-refl}
 use Rattle.buffer_tables.proofs.EffectLaws.{Any, copied-images, copied-table, created-image, created-table, duplicated-image, duplicated-table, filled-images, filled-table, put-images, put-table, sub_buffer-image, sub_buffer-table}
 use Rattle.buffer_tables.proofs.FindLaws.{apart_test, name_from_test, same_name}
 use Rattle.graph_states.specs.History.{Rectangles, rectangle_of, with_written}
@@ -104,7 +105,7 @@ edit-continues table (Fill name r samples) is proper =
     (filled-images table is name r samples)
 edit-continues table (Put name r bytes) is proper =
     if_then (edited_table table (Put name r bytes))
-    (λ after written. written-continues table name r (spelled (image_of table name).format r bytes) after written)
+    (λ after written. written-continues table name r (spelled_pixels r (image_of table name).format bytes) after written)
     (put-images table is name r bytes)
 edit-continues table (Copy from to r dx dy) is proper = copied-continues table is from to r dx dy (shifted dx dy r) refl
 

@@ -10,7 +10,7 @@ use Rattle.plane_rect.specs.Rectangle.{Rectangle, empty}
 use Rattle.images.specs.Agreement.{AgreeOutside}
 use Rattle.images.specs.Image.{Image, at}
 use Rattle.images.specs.Paint.{no_image}
-use Rattle.abyss_levels.proofs.LevelLaws.{IsImage-drawn}
+use Rattle.images.proofs.Laws.{IsImage-drawn}
 use Rattle.buffer_tables.specs.Table.{AreDistinct, IsTable, Table, View, find, image_of, root_image, root_of, seen}
 use Rattle.graphs.specs.Evaluation.{buffer_image}
 use Rattle.graph_states.proofs.Shapes.{buffer_image-is}

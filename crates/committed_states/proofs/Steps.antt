@@ -1,18 +1,20 @@
 -- Steps keep histories.
-use Rattle.std.proofs.Common.{◌≡◌, ℕ, zero, suc, Bool, true, false, cond, List, [], ◌∷◌, ◌++◌, take, refl, sym, ◌∙◌, subst, arith, Option, Some, None, Result, Ok, Err, IfOk}
+use Rattle.std.proofs.Common.{◌≡◌, ℕ, zero, suc, List, [], ◌∷◌, ◌++◌, take, refl, sym, ◌∙◌, subst, arith, Option, Some, None, Result, Ok, Err, IfOk}
 use Rattle.std.specs.Prelude.{slice_get, ◌==◌, fold}
 use Rattle.std.specs.List.{AllByRecursion, IsDistinct}
 use Rattle.std.specs.Result.{result_unwrap_or}
+use Rattle.std.proofs.lemmas.Option.{same_Some}
 use Rattle.plane_rect.specs.Rectangle.{Rectangle}
 use Rattle.buffer_tables.specs.Edits.{Edited}
 use Rattle.buffer_tables.specs.Table.{IsTable, Table}
 use Rattle.graphs.specs.Node.{Node}
-use Rattle.graph_states.specs.Edits.{NodeEdit, StateRefused, TooManyCommits, edited}
+use Rattle.graph_states.specs.Edits.{NodeEdit, StateRefused, edited}
 use Rattle.graph_states.specs.History.{History, Parted, committed, committed_states, commit_of, last_number, left_behind, most_undoable, new_history, number_of, redo_to, redone, undo_to, undone, with_state}
 use Rattle.operation_meanings.specs.Meanings.{Meanings}
 use Rattle.graph_states.specs.State.{State}
 use Rattle.graph_states.specs.Valid.{AreValid}
 use Rattle.graph_states.proofs.EditLaws.{edits_leave_valid}
+use Rattle.graph_states.proofs.HistoryLaws.{at_last}
 use Rattle.committed_states.specs.Histories.{AreInTurn, ArePartedBy, IsHistory, IsTrail, IsValidState}
 use Rattle.committed_states.specs.Steps.{AreProper, BufferEdit, Commit, EditBuffer, EditNode, IsProper, IsProperEdit, Redo, Step, Undo, after_step, edited_table, made_by, no_buffers, only, with_buffer_edit, with_working, written_by}
 use Rattle.committed_states.specs.Tables.{Continues, sources_of}
@@ -28,13 +30,6 @@ all_push P (first ∷ xs) x all p = (all.0, all_push P xs x all.1 p)
 all_last : {X : Type 0} (P : X → Type 0) (xs : List X) (x : X) → AllByRecursion P (xs ++ x ∷ []) → P x
 all_last P [] x all = all.0
 all_last P (first ∷ xs) x all = all_last P xs x all.1
-
-some_only : {X : Type 0} (a b : X) → Some a ≡ Some b → a ≡ b
-some_only a b e = cc
-
-at_last : {A : Type 0} (P : A → Type 0) (last : Bool) (r : Result A StateRefused) → IfOk r P → IfOk (cond last (Err TooManyCommits) r) P
-at_last P true r h = tt
-at_last P false r h = h
 
 none_at : {X : Type 0} (x after : X) (k : ℕ) → slice_get (x ∷ []) (suc k) ≡ Some after → ⊥
 none_at x after k found = cc
@@ -59,8 +54,8 @@ module _ {Op : Type 0} where
 
   turn_push : (xs : List (Parted Table Op)) (x y : Parted Table Op) → AreInTurn (xs ++ x ∷ []) → ArePartedBy x y → AreInTurn (xs ++ x ∷ [] ++ y ∷ [])
   turn_push [] x y turn parted zero before after found next =
-      subst (λ (p : Parted Table Op). ArePartedBy p after) (some_only x before found)
-      (subst (λ (p : Parted Table Op). ArePartedBy x p) (some_only y after next) parted)
+      subst (λ (p : Parted Table Op). ArePartedBy p after) (same_Some x before found)
+      (subst (λ (p : Parted Table Op). ArePartedBy x p) (same_Some y after next) parted)
   turn_push [] x y turn parted (suc k) before after found next = absurd (cc)
   turn_push (z ∷ xs) x y turn parted zero before after found next = turn zero before after found (sym (first_same xs x y) ∙ next)
   turn_push (z ∷ xs) x y turn parted (suc k) before after found next =

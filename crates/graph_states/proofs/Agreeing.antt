@@ -1,5 +1,5 @@
 -- Images that agree outside a rectangle.
-use Rattle.std.proofs.Common.{◌≡◌, false, refl, sym, ap, ◌∙◌, subst}
+use Rattle.std.proofs.Common.{◌≡◌, false, sym, ap, ◌∙◌, subst}
 use Rattle.std.specs.List.{flat_map}
 use Rattle.plane_rect.specs.Rectangle.{Rectangle, Lies, hull, meet}
 use Rattle.plane_rect.specs.Tile.{Tile, tile_square}
@@ -12,12 +12,9 @@ use Rattle.images.specs.Image.{Image, at, sampled}
 use Rattle.images.specs.Raw.{raw, sample_bytes}
 use Rattle.images.specs.Agreement.{AgreeOutside}
 use Rattle.images.proofs.Laws.{at_outside, sampled_alike}
+use Rattle.images.proofs.Places.{by_places}
 use Rattle.graph_states.specs.Regions.{meets}
 use Rattle.graph_states.specs.Damage.{SamplesAgreeOutside}
-use Rattle.operation_meanings.proofs.ChangeLaws.{by_places}
-
-pub agree-itself : (a : Image) (r : Rectangle) → AgreeOutside a a r
-agree-itself a r = record { box = refl; format = refl; samples = λ u v c out. refl }
 
 -- outside their box all images are 0
 pub agree-meet : (a b : Image) (r : Rectangle) → AgreeOutside a b r → AgreeOutside a b (meet r b.box)

@@ -48,7 +48,7 @@ same_pair-true a b e = by (bytes_eq a.node b.node) refl (same_tile a.tile b.tile
     by false n t' t h = absurd (cc)
 
 -- what is taken for a pair is of that pair
-cached_or-pair : (pair : Pair) (list : List Cached) (bytes : List ℕ) → (cached_or pair list bytes).pair ≡ pair
+pub cached_or-pair : (pair : Pair) (list : List Cached) (bytes : List ℕ) → (cached_or pair list bytes).pair ≡ pair
 cached_or-pair pair [] bytes = refl
 cached_or-pair pair (c ∷ list) bytes = by (same_pair pair c.pair) refl (cached_or-pair pair list bytes)
   where

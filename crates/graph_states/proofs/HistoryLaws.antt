@@ -8,7 +8,7 @@ use Rattle.graph_states.specs.Edits.{StateRefused, TooManyCommits, edited}
 use Rattle.graph_states.specs.History.{History, Parted, Appends, Returns, committed, commit_of, with_commit, undone, undo_to, redone, redo_to, with_state, left_behind, number_of, last_number}
 
 -- a result that is refused at the last number
-at_last : {A : Type 0} (P : A → Type 0) (last : Bool) (r : Result A StateRefused) → IfOk r P → IfOk (cond last (Err TooManyCommits) r) P
+pub at_last : {A : Type 0} (P : A → Type 0) (last : Bool) (r : Result A StateRefused) → IfOk r P → IfOk (cond last (Err TooManyCommits) r) P
 at_last P true r h = tt
 at_last P false r h = h
 

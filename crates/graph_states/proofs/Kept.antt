@@ -1,12 +1,12 @@
 -- What the tests that a node is kept tell.
-use Rattle.std.proofs.Common.{◌≡◌, ℕ, Bool, true, false, ◌&&◌, List, [], ◌∷◌, refl, ap, ◌∙◌, Option, Some, None}
+use Rattle.std.proofs.Common.{◌≡◌, ℕ, Bool, true, List, [], ◌∷◌, refl, ap, ◌∙◌, Option, Some, None}
 use Rattle.std.specs.List.{AllByRecursion, list_all}
 use Rattle.std.specs.Str.{bytes_eq}
 use Rattle.std.proofs.lemmas.Slice.Eq.{bytes_eq-Decides}
 use Rattle.plane_rect.specs.Rectangle.{Rectangle, same_rectangle}
 use Rattle.plane_rect.specs.SameRectangle.{same_rectangle-true}
 use Rattle.sample_rows.specs.Format.{same_format}
-use Rattle.operation_meanings.proofs.SameFormat.{Decides-same_format}
+use Rattle.images.proofs.Tests.{both, Decides-same_format}
 use Rattle.sample_rows.specs.declared.format.Format.{Format}
 use Rattle.graphs.specs.Node.{Node, Body, Source, Compute}
 use Rattle.graph_states.specs.Damage.{Change, inputs_of, is_kept, same_body, same_names, same_shape}
@@ -14,10 +14,6 @@ use Rattle.operation_meanings.specs.Laws.{TellsApart}
 use Rattle.operation_meanings.specs.Meanings.{Meanings}
 use Rattle.graph_states.specs.State.{shape_of}
 use Rattle.graph_states.specs.Valid.{Shape}
-
-pub both : (a b : Bool) → (a && b) ≡ true → (a ≡ true) × (b ≡ true)
-both true b h = (refl, h)
-both false b h = absurd (cc)
 
 pub same_shape-true : (a b : Shape) → same_shape a b ≡ true → a ≡ b
 same_shape-true a b e =

@@ -34,9 +34,6 @@ all_pairs-map f P R S d xs step all pairs i j e before below =
     rw (get_or-map f xs i d e sooner, get_or-map f xs j d e later)
     (step (get_or xs i d) (get_or xs j d) (all i d sooner) (all j d later) (pairs i j d before later))
 
-all_where : {X : Type 0} (P : X → Type 0) (xs : List X) → ((x : X) → P x) → All P xs
-all_where P xs each k d below = each (get_or xs k d)
-
 all-map : {X Y : Type 0} (f : X → Y) (P : Y → Type 0) (d : X) (xs : List X) → ((x : X) → P (f x)) → All P (map f xs)
 all-map f P d xs each k e below =
     let count = length-map xs f in

@@ -6,7 +6,7 @@ use Rattle.std.proofs.Math.Seq.{take-suc}
 use Rattle.std.proofs.lemmas.Bool.{cases_lt}
 use Rattle.std.proofs.lemmas.Bool.Decides.{nat_tests}
 use Rattle.std.proofs.lemmas.List.{get_or-map, length-reverse, length-take-le, reverse-append, take_all}
-use Rattle.std.proofs.lemmas.Option.{get_or_from_slice_get, slice_get-get_or, slice_get-map}
+use Rattle.std.proofs.lemmas.Option.{get_or_from_slice_get, same_Some, slice_get-get_or, slice_get-map}
 use Rattle.plane_rect.specs.Rectangle.{Rectangle, Includes, empty, meet}
 use Rattle.plane_rect.specs.Tile.{Tile, tile_square, tiles}
 use Rattle.plane_rect.proofs.Rectangles.{Lies-meet}
@@ -46,9 +46,6 @@ all-flat_map P f (x ∷ xs) each = all-append P (f x) (flat_map f xs) (each x) (
 all_of : {X : Type 0} (P Q : X → Type 0) (xs : List X) → ((x : X) → P x → Q x) → AllByRecursion P xs → AllByRecursion Q xs
 all_of P Q [] step all = tt
 all_of P Q (x ∷ xs) step all = (step x all.0, all_of P Q xs step all.1)
-
-some_only : {A : Type 0} (a b : A) → Some a ≡ Some b → a ≡ b
-some_only a b e = cc
 
 -- ---- tiles of what is asked of a box
 
@@ -200,7 +197,7 @@ module _ {Op : Type 0} (meanings : Meanings Op) (boxed : IsBoxed meanings) where
       by : (o : Option (Node Op)) → slice_get nodes n.0 ≡ o → option_map (λ (node : Node Op). step_of nodes node.body) o ≡ Some (Apply wanted.operation wanted.inputs) →
           IsRight meanings scene (with_bytes meanings scene (pair_of nodes n))
       by None e is = absurd (cc)
-      by (Some node) e is = right node e (some_only (step_of nodes node.body) (Apply wanted.operation wanted.inputs) is)
+      by (Some node) e is = right node e (same_Some (step_of nodes node.body) (Apply wanted.operation wanted.inputs) is)
 
   strip_wanted : (scene : Scene Op) (node : ℕ) (rectangle : Rectangle) →
       AllByRecursion (IsWanted (node_shapes meanings scene) (steps_of scene.nodes)) (strip_of meanings scene node rectangle).needed

@@ -4,10 +4,10 @@ use Rattle.std.specs.Prelude.{slice_get}
 use Rattle.std.specs.List.{AllByRecursion, IsDistinct, enumerate_from, list_all}
 use Rattle.std.specs.Str.{bytes_eq}
 use Rattle.std.proofs.lemmas.Bool.Decides.{nat_tests}
-use Rattle.std.proofs.lemmas.Slice.Eq.{bytes_eq-Decides}
 use Rattle.plane_rect.specs.Rectangle.{Rectangle, empty, hull, meet, is_empty}
 use Rattle.plane_rect.specs.SameRectangle.{same_rectangle-itself}
 use Rattle.graphs.specs.Node.{Node, Body, Source, Compute, index_of}
+use Rattle.graphs.proofs.Evaluating.{same_bytes}
 use Rattle.operation_meanings.specs.Laws.{KeepsNothing}
 use Rattle.graph_states.specs.Samples.{samples_change}
 use Rattle.operation_meanings.specs.Meanings.{Meanings}
@@ -17,7 +17,7 @@ use Rattle.graph_states.specs.State.{node_of, shape_of}
 use Rattle.graph_states.specs.Regions.{hull_of, HaveNoPlace}
 use Rattle.sample_rows.specs.Format.{same_format}
 use Rattle.graph_states.specs.Damage.{AreNeighbours, IsSteady, same_shape, same_names, same_body, inputs_of, is_kept, damage_passed_on, damage_of_node, damages_after, damages, new_shape}
-use Rattle.graph_states.proofs.Agreeing.{agree-itself}
+use Rattle.images.proofs.Laws.{AgreeOutside-refl}
 use Rattle.graph_states.proofs.PrefixLaws.{before_name, index_of-is}
 
 -- ---- neighbours
@@ -28,12 +28,9 @@ some_only o a b e f = cc
 pub own_neighbour : (sources : Sources) → AreNeighbours sources sources []
 own_neighbour sources = λ name a b found again.
     subst (λ (b : SourceBuffer). IsSteady a b []) (some_only (source_of sources name) a b found again)
-    (record { root = refl; extent = refl; images = agree-itself a.image _ })
+    (record { root = refl; extent = refl; images = AgreeOutside-refl a.image _ })
 
 -- ---- tests of a thing against itself
-
-same_bytes : (name : List ℕ) → bytes_eq name name ≡ true
-same_bytes name = (bytes_eq-Decides name name).1 refl
 
 same_shape-itself : (s : Shape) → same_shape s s ≡ true
 same_shape-itself s =

@@ -2,6 +2,7 @@
 use Rattle.std.proofs.Common.{◌≡◌, ℕ, zero, suc, ◌+◌, ◌<◌, List, [], ◌∷◌, ◌++◌, map, length, get_or, refl, sym, ap, ◌∙◌, subst, arith, Some}
 use Rattle.std.specs.Prelude.{All, slice_get}
 use Rattle.std.proofs.lemmas.List.{length-append, get_or_at, length-map, map-append}
+use Rattle.std.proofs.lemmas.Option.{same_Some}
 use Rattle.images.specs.Image.{Image}
 use Rattle.graphs.specs.Node.{Node, Body, Source, Compute, Step, index_of, step_of}
 use Rattle.images.specs.Paint.{no_image}
@@ -47,9 +48,6 @@ body_known meanings sources nodes known all (Compute operation inputs) keeps val
     (inputs_known known all (places_of nodes inputs) keeps
     (subst (λ n. All (λ i. i < n) (places_of nodes inputs)) (length-map known shape) valid.inputs_earlier))
 
-same_node : {A : Type 0} (a b : A) → Some a ≡ Some b → a ≡ b
-same_node a b e = cc
-
 unrolled : {Op : Type 0} (meanings : Meanings Op) (sources : Sources) (nodes : List (Node Op)) (known : List Image) (rest : List (Node Op)) →
     AreValidSteps meanings sources (map shape known) (map (λ (node : Node Op). step_of nodes node.body) rest) →
     (i : ℕ) (node : Node Op) → slice_get rest i ≡ Some node →
@@ -67,7 +65,7 @@ unrolled {Op} meanings sources nodes known (first ∷ rest) valid zero node foun
     ∙ images_after-keeps (result_of meanings) (images_of sources) longer (map step rest) (length known) no_image inside
     ∙ get_or_at known y [] no_image (length known) refl
     ∙ body_known meanings sources nodes known all first.body (λ k less. images_after-keeps (result_of meanings) (images_of sources) known (map step (first ∷ rest)) k no_image less) valid.0
-    ∙ ap (λ (node : Node Op). body_of_all meanings sources nodes all node.body) (same_node first node found)
+    ∙ ap (λ (node : Node Op). body_of_all meanings sources nodes all node.body) (same_Some first node found)
 unrolled {Op} meanings sources nodes known (first ∷ rest) valid (suc i) node found =
     let step : Node Op → Step Op = λ (node : Node Op). step_of nodes node.body in
     let y = body_of_all meanings sources nodes known first.body in

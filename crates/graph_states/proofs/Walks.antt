@@ -1,10 +1,11 @@
 -- The walk over steps refuses none exactly where each is valid.
-use Rattle.std.proofs.Common.{◌≡◌, ◌↔◌, ℕ, zero, suc, ◌<◌, Bool, true, false, not, ◌&&◌, List, [], ◌∷◌, ◌++◌, length, get_or, cond, refl, ap, ◌∙◌, arith, Option, Some, None, IsSome, IsSomeAnd, is_none}
+use Rattle.std.proofs.Common.{◌≡◌, ◌↔◌, ℕ, zero, suc, ◌<◌, Bool, true, false, not, List, [], ◌∷◌, ◌++◌, length, get_or, cond, refl, ap, ◌∙◌, arith, Option, Some, None, IsSome, IsSomeAnd, is_none}
 use Rattle.std.specs.Prelude.{All, nat_lt, ◌==◌}
 use Rattle.std.specs.List.{list_all}
 use Rattle.std.specs.Option.{option_or}
 use Rattle.std.proofs.lemmas.Bool.Decides.{nat_tests}
 use Rattle.plane_rect.specs.Rectangle.{Rectangle, InLimits}
+use Rattle.images.proofs.Tests.{both}
 use Rattle.graphs.specs.Node.{Step, FromBuffer, Apply}
 use Rattle.graph_states.specs.Edits.{StateRefused, UnknownInput, Arity, Formats, Bounds, is_kept_box, step_refused, steps_refused}
 use Rattle.operation_meanings.specs.Meanings.{Meanings}
@@ -12,10 +13,6 @@ use Rattle.graph_states.specs.Sources.{Sources, source_of}
 use Rattle.graph_states.specs.Valid.{Shape, IsValidStep, AreValidSteps, step_shape, input_boxes, input_formats}
 
 -- ---- the tests
-
-both : (a b : Bool) → (a && b) ≡ true → (a ≡ true) × (b ≡ true)
-both true b h = (refl, h)
-both false b h = absurd (cc)
 
 below-from_test : (n : ℕ) (xs : List ℕ) → list_all (λ i. nat_lt i n) xs ≡ true → All (λ i. i < n) xs
 below-from_test n [] h = λ k d less. absurd (omega arith)

@@ -1,4 +1,5 @@
 pub mod Image
+pub mod Spelled
 pub mod Raw
 pub mod Paint
 pub mod Agreement

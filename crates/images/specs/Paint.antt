@@ -1,12 +1,12 @@
 -- Images that are made of others.
 use Rattle.std.specs.Prelude.{ℕ, if◌then◌else◌, List}
 use Rattle.plane_rect.specs.Rectangle.{Rectangle, empty}
-use Rattle.sample_rows.specs.Format.{channels, depth}
-use Rattle.sample_rows.specs.Row.{Pixel, sample_at}
+use Rattle.sample_rows.specs.Row.{Pixel}
 use Rattle.sample_rows.specs.Invert.{inverted_pixel}
 use Rattle.sample_rows.specs.declared.format.Format.{Format}
 use Rattle.sample_rows.specs.declared.format.Format.TheVariants.{Y8}
-use Rattle.images.specs.Image.{Image, at, drawn, lies, sample_index}
+use Rattle.images.specs.Image.{Image, at, drawn, lies}
+use Rattle.images.specs.Spelled.{spelled_pixels}
 
 -- the image of zeros
 abbrev pub blank : Rectangle → Format → Image
@@ -23,8 +23,7 @@ painted image rectangle f =
 
 -- the image, with the samples that the raw bytes of a rectangle spell in place of its own there
 abbrev pub put_raw : Image → Rectangle → List ℕ → Image
-put_raw image rectangle bytes =
-    painted image rectangle (λ u v c. sample_at (depth image.format) bytes (sample_index rectangle (channels image.format) u v c))
+put_raw image rectangle bytes = painted image rectangle (spelled_pixels rectangle image.format bytes)
 
 -- the image of the same box and format, each pixel changed by itself
 abbrev pub recoloured_image : (Format → Pixel → Pixel) → Image → Image

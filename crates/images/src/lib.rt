@@ -1,12 +1,14 @@
 //! What images are, and the laws by which every other crate reasons about them.
 #![tactic(auto)]
 
-ghost use Rattle.std.specs.Prelude.{◌≡◌, ℕ, ◌<◌};
+ghost use Rattle.std.specs.Prelude.{◌≡◌, ℕ, ◌<◌, List, length};
 ghost use Rattle.plane_rect.specs.Rectangle.{Lies, Rectangle, empty};
 ghost use Rattle.sample_rows.specs.Format.{channels};
 ghost use Rattle.sample_rows.specs.declared.format.Format.{Format};
 ghost use Rattle.images.specs.Agreement.{AgreeOutside};
 ghost use Rattle.images.specs.Image.{Image, IsImage, at, drawn};
+ghost use Rattle.images.specs.Raw.{raw};
+ghost use Rattle.images.specs.Spelled.{AreBytes, byte_count, spelled};
 
 /// A drawn image has the sample that was drawn, at each place of its box and each of its channels.
 pub fn drawn_inside()
@@ -33,4 +35,10 @@ pub fn drawn_again()
 /// Images that agree outside the rectangle of no place are equal.
 pub fn agreed_everywhere()
     ensures { (a b : Image) → IsImage a → IsImage b → AgreeOutside a b empty → a ≡ b }
+{}
+
+/// Raw bytes that are as many as those of a rectangle are the raw bytes of the image that they spell.
+pub fn spelled_again()
+    ensures { (box : Rectangle) (format : Format) (bytes : List ℕ) →
+        AreBytes bytes → length bytes ≡ byte_count box format → raw (spelled box format bytes) box ≡ bytes }
 {}

@@ -4,22 +4,14 @@ use Rattle.std.proofs.lemmas.Bool.Decides.{nat_tests}
 use Rattle.plane_rect.specs.Rectangle.{Includes, Lies, Rectangle}
 use Rattle.sample_rows.specs.declared.format.Format.{Format}
 use Rattle.images.specs.Agreement.{AgreeOutside}
-use Rattle.images.specs.Image.{Image, at, lies}
+use Rattle.images.specs.Image.{Image, at}
 use Rattle.images.proofs.Laws.{at_outside}
-use Rattle.images.proofs.Samples.{Lies_from, lies_where}
+use Rattle.images.proofs.Places.{by_places}
 use Rattle.operation_meanings.specs.Changes.{AreAlike, ChangedWithin, image_of}
 use Rattle.operation_meanings.specs.Laws.{AgreeInside, IsDual, IsLocal, one_place}
 use Rattle.operation_meanings.specs.Meanings.{Meanings, boxes_of, result_box, result_format, result_of}
 
 -- ---- places
-
--- what holds of the places of a rectangle, and of the others, holds of each
-pub by_places : (P : Type 0) (u v : ℕ) (r : Rectangle) → (Lies u v r → P) → (¬ Lies u v r → P) → P
-by_places P u v r inside outside =
-    elim (lies u v r) as (λ b. lies u v r ≡ b → P) [
-      | true ↦ λ e. inside (Lies_from u v r e)
-      | false ↦ λ e. outside (λ h. cc (lies_where u v r h))
-    ] refl
 
 pub place_lies : (u v : ℕ) → Lies u v (one_place u v)
 place_lies u v = record { column = (omega arith, omega arith); row = (omega arith, omega arith) }

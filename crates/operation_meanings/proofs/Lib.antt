@@ -1,2 +1,1 @@
-pub mod SameFormat
 pub mod ChangeLaws

@@ -1,7 +1,6 @@
-//! Operations compared and copied.
+//! Operations copied.
 
-ghost use Rattle.std.specs.Prelude.{◌≡◌, ◌↔◌, IsTrue, IfOk};
-ghost use Rattle.operations.specs.Meanings.{same_operation};
+ghost use Rattle.std.specs.Prelude.{◌≡◌, IfOk};
 
 use no_memory::NoMemory;
 use operations::{IntOp, Samples};
@@ -67,53 +66,4 @@ fn copy_color(
         rect,
         samples,
     })
-}
-
-/// Whether two operations are one, with the same arguments.
-pub fn same(a: &IntOp, b: &IntOp) -> bool
-    ensures { result ≡ same_operation a.now b.now }
-{
-    match a {
-        IntOp::Color {
-            format,
-            rect,
-            samples,
-        } => {
-            matches!(b, IntOp::Color { format: f, rect: r, samples: s }
-                if f == format && r == rect && s.as_slice() == samples.as_slice())
-        }
-        IntOp::Checker {
-            format,
-            rect,
-            size,
-            v1,
-            v2,
-        } => {
-            matches!(b, IntOp::Checker { format: f, rect: r, size: s, v1: v, v2: w }
-                if f == format && r == rect && s == size && v == v1 && w == v2)
-        }
-        IntOp::Convert { format } => matches!(b, IntOp::Convert { format: f } if f == format),
-        IntOp::Invert => matches!(b, IntOp::Invert),
-        IntOp::Threshold { at } => matches!(b, IntOp::Threshold { at: n } if n == at),
-        IntOp::Gain { num, den } => {
-            matches!(b, IntOp::Gain { num: n, den: d } if n == num && d == den)
-        }
-        IntOp::Translate { dx, dy } => {
-            matches!(b, IntOp::Translate { dx: x, dy: y } if x == dx && y == dy)
-        }
-        IntOp::Crop { rect } => matches!(b, IntOp::Crop { rect: r } if r == rect),
-        IntOp::Flip { sideways } => matches!(b, IntOp::Flip { sideways: s } if s == sideways),
-        IntOp::BoxMean { radius, abyss } => {
-            matches!(b, IntOp::BoxMean { radius: r, abyss: p } if r == radius && p == abyss)
-        }
-        IntOp::Dilate { radius, abyss } => {
-            matches!(b, IntOp::Dilate { radius: r, abyss: p } if r == radius && p == abyss)
-        }
-        IntOp::Erode { radius, abyss } => {
-            matches!(b, IntOp::Erode { radius: r, abyss: p } if r == radius && p == abyss)
-        }
-        IntOp::Add => matches!(b, IntOp::Add),
-        IntOp::Over => matches!(b, IntOp::Over),
-        IntOp::Mask => matches!(b, IntOp::Mask),
-    }
 }

@@ -10,6 +10,6 @@ mod moves;
 mod regions;
 
 pub use boxes::box_of;
-pub use copies::{copy, same};
+pub use copies::copy;
 pub use formats::{format_of, input_count};
 pub use regions::{invalidated, required};

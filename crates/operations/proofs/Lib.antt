@@ -3,3 +3,4 @@ pub mod RegionLaws
 pub mod WindowLaws
 pub mod RangeLaws
 pub mod BoxLaws
+pub mod Equality

@@ -14,7 +14,9 @@ use Rattle.sample_rows.specs.Recolour.{cap, is_alpha, recoloured}
 use Rattle.sample_rows.specs.Row.{Pixel}
 use Rattle.sample_rows.specs.declared.format.Format.{Format}
 use Rattle.sample_rows.specs.declared.format.Format.TheVariants.{Y8, YA8, RGB8, RGBA8, Y16, YA16, RGB16, RGBA16}
-use Rattle.images.proofs.Laws.{at-drawn, at_outside}
+use Rattle.images.proofs.Laws.{at-drawn, at_no_channel, at_outside}
+use Rattle.images.proofs.Places.{by_places}
+use Rattle.images.proofs.Tests.{both}
 use Rattle.images.specs.Image.{Image, at, column_of, drawn, row_of, sample_count}
 use Rattle.abyss_levels.proofs.PolicyLaws.{abyss_at-most}
 use Rattle.abyss_levels.specs.Abyss.{abyss_at, outside_at}
@@ -31,13 +33,10 @@ use Rattle.operations.specs.Values.{checker_pixel, flipped_pixel, value_at, valu
 use Rattle.operations.specs.Windows.{greatest_of_all, least_of_all, mean_of, read_before, window, window_side, window_square}
 use Rattle.operations.specs.declared.operation.IntOp.{IntOp}
 use Rattle.operations.specs.declared.operation.IntOp.TheVariants.{Color, Checker, Convert, Invert, Threshold, Gain, Translate, Crop, Flip, BoxMean, Dilate, Erode, Add, Over, Mask}
-use Rattle.operations.specs.Lawful.Inputs.{at_beyond, by_places, input_format-image}
+use Rattle.operations.specs.Lawful.Inputs.{input_format-image}
 use Rattle.operations.proofs.WindowLaws.{greatest-among, least-among, length-window}
 
 -- ---- formats
-
-one_or_two : ℕ → Type 0
-one_or_two n = (n ≡ 1) ⊎ (n ≡ 2)
 
 depth-cases : (f : Format) → (depth f ≡ 1) ⊎ (depth f ≡ 2)
 depth-cases Y8 = inl refl
@@ -158,10 +157,6 @@ window-some radius = omega arith
 
 -- ---- operations
 
-both : (a b : Bool) → (a && b) ≡ true → (a ≡ true) × (b ≡ true)
-both true b h = (refl, h)
-both false b h = absurd (cc h)
-
 same-greatest : (f g : Format) → eqb (depth f) (depth g) ≡ true → greatest f ≡ greatest g
 same-greatest f g h = let same : depth f ≡ depth g = grind (arith, nat_tests) in ap greatest_of same
 
@@ -255,7 +250,7 @@ drawn-most box format f most u v c below =
     by_places _ u v box
     (λ inside. elim (cases_lt c (channels format)) [
       | inl known ↦ subst (λ (n : ℕ). n ≤ most) (sym (at-drawn box format f u v c inside known)) below
-      | inr out ↦ subst (λ (n : ℕ). n ≤ most) (sym (at_beyond (drawn box format f) u v c out)) (omega arith)
+      | inr out ↦ subst (λ (n : ℕ). n ≤ most) (sym (at_no_channel (drawn box format f) u v c out)) (omega arith)
     ])
     (λ out. subst (λ (n : ℕ). n ≤ most) (sym (at_outside (drawn box format f) u v c out)) (omega arith))
 

@@ -6,7 +6,7 @@ use Rattle.sample_rows.specs.declared.format.Format.{Format}
 use Rattle.sample_rows.specs.declared.format.Format.TheVariants.{Y8}
 use Rattle.images.proofs.Laws.{at-drawn}
 use Rattle.images.specs.Image.{Image, IsImage, at}
-use Rattle.abyss_levels.proofs.ByteLaws.{length-sampled}
+use Rattle.images.proofs.Laws.{length-sampled}
 use Rattle.operations.specs.Boxes.{box_of, result_box}
 use Rattle.operations.specs.Formats.{format_of}
 use Rattle.operations.specs.Inputs.{boxes_of, formats_of}

@@ -6,7 +6,7 @@ use Rattle.std.proofs.lemmas.List.FromFn.{get_or-map-range_with_len}
 use Rattle.plane_rect.specs.Rectangle.{Lies}
 use Rattle.images.proofs.Samples.{place_of_index, sample_index_below}
 use Rattle.images.specs.Image.{Image, column_of, row_of, sample_count, sample_index}
-use Rattle.abyss_levels.proofs.ByteLaws.{length-sampled}
+use Rattle.images.proofs.Laws.{length-sampled}
 use Rattle.abyss_levels.specs.Abyss.{abyss_at, outside_at}
 use Rattle.abyss_levels.specs.declared.abyss.Abyss.{Abyss}
 use Rattle.operations.specs.Windows.{Has, greatest_of_all, least_of_all, least_with, read_before, window, window_side, window_square}

@@ -1,4 +1,5 @@
 //! The operations worked out by hand on small images.
+#![tactic(auto, unfolding(images::specs::Image::at, images::specs::Raw::raw, abyss_levels::specs::Abyss::abyss_at))]
 
 ghost use Rattle.std.specs.Prelude.{◌≡◌, [], ◌∷◌, negsuc, pos, Some, None, false, true};
 ghost use Rattle.abyss_levels.specs.Examples.{places_from, row_image};

@@ -8,7 +8,7 @@ use sample_rows::Format;
 /// An operation on whole images, with its arguments. Coordinates, sizes and radii are in places,
 /// and samples count from 0 to the format's greatest. A colour is at most its cap: the alpha of its
 /// pixel, or the greatest sample where the format has none.
-#[derive(Drop)]
+#[derive(Drop, PartialEq, Eq)]
 pub enum IntOp {
     /// One pixel over a rectangle, a sample for each channel. GEGL's `gegl:color`.
     Color {

@@ -1,6 +1,9 @@
 //! The samples of one pixel.
 
 ghost use Rattle.std.specs.Prelude.{◌≡◌};
+ghost use Rattle.std.specs.Cmp.Rules.{comparing};
+ghost use Rattle.std.specs.Str.{bytes_eq};
+ghost use Rattle.std.proofs.Common.{rules};
 
 use std::marker::Model;
 
@@ -39,4 +42,18 @@ impl Samples {
     {
         self.values
     }
+}
+
+impl PartialEq for Samples {
+    ghost eq = { bytes_eq };
+
+    ghost laws = { Prim.search (comparing, rules) };
+
+    fn eq(&self, other: &Samples) -> bool {
+        self.values == other.values
+    }
+}
+
+impl Eq for Samples {
+    ghost laws = { Prim.search (comparing, rules) };
 }

@@ -240,7 +240,12 @@ fn the_current_folder(rt: HostRuntime) -> Result<(), Fail> {
     shelf.write("folder_shelf.five", &[])?;
     assert_eq!(rt; shelf.read("folder_shelf.five", 0)?.len(), 0);
     fs::remove_file(&rt, "folder_shelf.five")?;
+    Ok(())
+}
 
+#[test]
+fn a_folder_is_no_file(rt: HostRuntime) -> Result<(), Fail> {
+    let mut shelf = FolderShelf::new(&rt);
     fs::create_dir(&rt, "folder_shelf.folder")?;
     assert_eq!(rt;
         shelf.read("folder_shelf.folder", 5),
@@ -251,7 +256,12 @@ fn the_current_folder(rt: HostRuntime) -> Result<(), Fail> {
         Err(ShelfAnswer::Failed)
     );
     fs::remove_dir(&rt, "folder_shelf.folder")?;
+    Ok(())
+}
 
+#[test]
+fn a_file_of_unknown_length(rt: HostRuntime) -> Result<(), Fail> {
+    let mut shelf = FolderShelf::new(&rt);
     // The system says that this file has no bytes, and then gives some.
     symlink(&rt, "/proc/self/status", "folder_shelf.link")?;
     assert_eq!(rt;

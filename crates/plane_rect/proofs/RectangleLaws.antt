@@ -1,5 +1,5 @@
 -- Laws of rectangles and of the order of their places.
-use Rattle.std.proofs.Common.{◌*◌, ◌≡◌, ℕ, ◌+◌, ◌-◌, ◌/◌, ◌%◌, ◌<◌, ◌≤◌, ◌↔◌, inl, inr, Bool, true, false, not, if◌then◌else◌, min, max, refl, ap, sym, ◌∙◌, arith, mul_comm, ◌^◌}
+use Rattle.std.proofs.Common.{◌*◌, ◌≡◌, ℕ, ◌+◌, ◌-◌, ◌/◌, ◌%◌, ◌<◌, ◌≤◌, inl, inr, Bool, true, false, not, if◌then◌else◌, min, max, refl, ap, arith, mul_comm, ◌^◌}
 use Rattle.std.proofs.lemmas.Bool.{cases_lt}
 use Rattle.std.proofs.lemmas.Bool.Decides.{nat_tests}
 use Rattle.std.proofs.lemmas.Nat.{row_fits, mul-le, mul-add-lt, div-mul-add, mod-mul-add, div_below, mod_below, div-add-mod'}
@@ -34,43 +34,9 @@ IsRectangle-meet a b p q = IsRectangle-spanning (max a.left b.left) (max a.top b
 abbrev around : Rectangle → Rectangle → Rectangle
 around a b = spanning (min a.left b.left) (min a.top b.top) (max (right a) (right b)) (max (bottom a) (bottom b))
 
-pub IsRectangle-hull : (a b : Rectangle) → IsRectangle a → IsRectangle b → IsRectangle (hull a b)
-IsRectangle-hull a b p q = cases (is_empty a) (is_empty b)
-  where
-    cases : (s t : Bool) → IsRectangle (if s then b else if t then a else around a b)
-    cases true t = q
-    cases false true = p
-    cases false false =
-        IsRectangle-spanning (min a.left b.left) (min a.top b.top) (max (right a) (right b)) (max (bottom a) (bottom b))
-        (omega (arith, p.columns, q.columns)) (omega (arith, p.rows, q.rows))
-
 pub IsRectangle-halved : (r : Rectangle) → IsRectangle r → IsRectangle (halved r)
 IsRectangle-halved r p =
     IsRectangle-spanning (half r.left) (half r.top) (half (right r + 1)) (half (bottom r + 1)) (omega (arith, p.columns)) (omega (arith, p.rows))
-
-same_fields : (a b : Rectangle) → a.left ≡ b.left → a.top ≡ b.top → a.width ≡ b.width → a.height ≡ b.height → a ≡ b
-same_fields a b left top width height =
-    let joined : (of : ℕ → ℕ → ℕ → ℕ → Rectangle) → of a.left a.top a.width a.height ≡ of b.left b.top b.width b.height = λ of. cc in
-    joined (λ l t w h. record { left = l; top = t; width = w; height = h })
-
-first_place : (r : Rectangle) → (0 < r.width) × (0 < r.height) → Lies r.left r.top r
-first_place r some = record { column = (omega arith, omega (arith, some)); row = (omega arith, omega (arith, some)) }
-
--- two rectangles of the plane with the same places are one
-pub rectangle-by_places : (a b : Rectangle) → IsRectangle a → IsRectangle b → ((u v : ℕ) → Lies u v a ↔ Lies u v b) → a ≡ b
-rectangle-by_places a b p q same = elim (some_or_empty a p) [
-  | inl s ↦ elim (some_or_empty b q) [
-    | inl t ↦
-        let x = reaches a b (grind (arith, nat_tests, t)) (λ u v h. (same u v).1 h) in
-        let y = reaches b a (grind (arith, nat_tests, s)) (λ u v h. (same u v).0 h) in
-        same_fields a b (omega (arith, x, y)) (omega (arith, x, y)) (omega (arith, x, y)) (omega (arith, x, y))
-    | inr t ↦ absurd (no_places a.left a.top b (rw t refl) ((same a.left a.top).0 (first_place a s)))
-  ]
-  | inr s ↦ elim (some_or_empty b q) [
-    | inl t ↦ absurd (no_places b.left b.top a (rw s refl) ((same b.left b.top).1 (first_place b t)))
-    | inr t ↦ s ∙ sym t
-  ]
-]
 
 -- ---- hulls
 

@@ -90,10 +90,7 @@ pub refuses_size : (x y w h : ℤ) (r : Result Rectangle RectRefused) → r ≡ 
     → (r ≡ Err Size) ↔ (BeginsInside x y × EndsOutside x y w h)
 refuses_size x y w h r e = rw e (size_refused x y w h)
 
--- a rectangle of no column or no row is the empty one
-pub rectangle-no_columns : (left top height : ℕ) → rectangle left top 0 height ≡ empty
-rectangle-no_columns left top height = refl
-
+-- a rectangle of no row is the empty one
 pub rectangle-no_rows : (left top width : ℕ) → rectangle left top width 0 ≡ empty
 rectangle-no_rows left top width = grind (arith, nat_tests)
 

@@ -1,10 +1,10 @@
 -- The tiles that meet a rectangle, and the tile of a place.
-use Rattle.std.proofs.Common.{◌≡◌, ℕ, zero, suc, ◌+◌, ◌-◌, ◌*◌, ◌^◌, length, length-append, ◌<◌, ◌≤◌, ◌↔◌, inl, inr, nat_lt, true, false, max, refl, ap, sym, subst, arith, All, AllPairs, Contains, ◌%◌}
+use Rattle.std.proofs.Common.{◌≡◌, ℕ, zero, suc, ◌+◌, ◌-◌, ◌*◌, ◌^◌, length, length-append, ◌<◌, ◌≤◌, ◌↔◌, inl, inr, nat_lt, true, false, max, refl, ap, sym, subst, arith, All, AllPairs, Contains}
 use Rattle.std.proofs.lemmas.Bool.{cases_lt, lt-ltb, le-ltb}
 use Rattle.std.proofs.lemmas.List.Elements.{Contains-append_left, Contains-append_right, Contains-append_cases}
 use Rattle.std.proofs.lemmas.List.Kept.{AllPairs-cons}
 use Rattle.std.proofs.lemmas.Nat.{mul-le}
-use Rattle.plane_rect.specs.Rectangle.{Rectangle, Lies, offset, Within, IsRectangle}
+use Rattle.plane_rect.specs.Rectangle.{Rectangle, Lies, Within, IsRectangle}
 use Rattle.plane_rect.specs.Tile.{Tile, IsBefore, IsWhole, Meets, tile_at, tile_of, tile_end, tile_columns, tile_lines, tile_row, tile_rows, tile_square, tiles, tiles_left}
 use Rattle.plane_rect.proofs.Lists.{All-from_contains, AllPairs-nil, AllPairs-append, Contains-cases, Contains-first, Contains-later}
 use Rattle.plane_rect.proofs.Rectangles.{some_or_empty}
@@ -150,7 +150,3 @@ Lies-tile_square u v t = (
       let row : t.row ≡ tile_of v = ap (λ (t : Tile). t.row) e in
       record { column = (omega arith, omega arith); row = (omega arith, omega arith) },
 )
-
--- where a place stands among those of its tile
-pub offset-tile_square : (u v : ℕ) → offset (tile_square (tile_at u v)) u v ≡ v % 64 * 64 + u % 64
-offset-tile_square u v = omega arith

@@ -11,6 +11,7 @@ mod tests;
 mod tile;
 
 pub use name::Name;
+pub use plane::{PLANE_ORIGIN, PLANE_SIDE, plane_index};
 pub use rect::{Rect, RectRefused};
 pub use sets::Parts;
 pub use tile::{TILE_SIDE, TileAt, Tiles};

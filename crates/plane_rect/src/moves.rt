@@ -3,7 +3,7 @@
 ghost use Rattle.std.specs.Prelude.{◌≡◌, ◌≢◌, ℕ, ℤ, ◌+◌, ◌<◌, ◌≤◌, ◌↔◌, ◌⊎◌, pos, ◌+ℤ◌, ◌*ℤ◌, ◌^◌, unsigned_abs, IfOk, IfSome};
 ghost use Rattle.plane_rect.specs.Rectangle.{BeginsInside, BeginsOutside, EndsOutside, InLimits, Lies, LiesAt, LiesHalved, LiesNear, bottom, coarse, empty, enlarged, grown, half, halved, moved_x, moved_y, plane_side, right, scaled, shifted};
 
-use crate::plane::{ORIGIN, SIDE};
+use crate::plane::{PLANE_ORIGIN, PLANE_SIDE};
 use crate::rect::{Rect, RectRefused};
 
 impl Rect {
@@ -59,7 +59,7 @@ impl Rect {
             return Err(RectRefused::Place);
         }
         let (right, bottom) = (self.right() + by, self.bottom() + by);
-        if right > SIDE || bottom > SIDE {
+        if right > PLANE_SIDE || bottom > PLANE_SIDE {
             return Err(RectRefused::Size);
         }
         Ok(Rect::spanning(left - by, top - by, right, bottom))
@@ -126,5 +126,5 @@ fn half(index: u32) -> u32
     requires { index ≤ plane_side + 1 }
     ensures { result ≡ half index }
 {
-    index / 2 + ORIGIN as u32 / 2
+    index / 2 + PLANE_ORIGIN / 2
 }

@@ -6,18 +6,18 @@
 ghost use Rattle.std.specs.Prelude.{◌≡◌, ◌≤◌};
 ghost use Rattle.plane_rect.specs.Rectangle.{IsBehindCorner, plane_coordinate as coordinate_of, plane_index as index_of, plane_side};
 
-/// How far the plane reaches from the origin, to each side.
-pub(crate) const ORIGIN: i32 = 1 << 24;
+/// The column, and the row, of the origin: how far the plane reaches from it, to each side.
+pub const PLANE_ORIGIN: u32 = 1 << 24;
 
 /// How many columns, and how many rows, the plane has.
-pub(crate) const SIDE: u32 = 1 << 25;
+pub const PLANE_SIDE: u32 = 1 << 25;
 
-/// The column of an x, or the row of a y.
-pub(crate) fn plane_index(coordinate: i32) -> u32
+/// The column of an x, or the row of a y, which is not below -2^24.
+pub fn plane_index(coordinate: i32) -> u32
     requires { IsBehindCorner coordinate }
     ensures { result ≡ index_of coordinate }
 {
-    (i64::from(coordinate) + i64::from(ORIGIN)) as u32
+    (i64::from(coordinate) + i64::from(PLANE_ORIGIN)) as u32
 }
 
 /// The x of a column, or the y of a row.
@@ -25,5 +25,5 @@ pub(crate) fn plane_coordinate(index: u32) -> i32
     requires { index ≤ plane_side }
     ensures { result ≡ coordinate_of index }
 {
-    index as i32 - ORIGIN
+    index as i32 - PLANE_ORIGIN as i32
 }

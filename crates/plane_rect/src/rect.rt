@@ -9,7 +9,7 @@ ghost use Rattle.std.proofs.Common.{rules};
 ghost use Rattle.plane_rect.specs.SameRectangle.{same_rectangle-laws};
 ghost use Rattle.plane_rect.specs.Rectangle.{BeginsInside, BeginsOutside, EndsInside, EndsOutside, InLimits, IsCoordinate, IsExtent, IsRectangle, Includes, Lies, LiesAt, Within, WithinSigned, area, begins_inside, bottom, empty, ends_inside, in_limits, is_coordinate, is_empty, is_extent, new_rectangle, offset, origin, plane_coordinate as coordinate_of, plane_index as index_of, plane_side, rectangle, right, same_rectangle, spanning};
 
-use crate::plane::{ORIGIN, plane_coordinate, plane_index};
+use crate::plane::{PLANE_ORIGIN, plane_coordinate, plane_index};
 use std::hash::{Hash, Hasher};
 use std::marker::Model;
 use std::ops::Range;
@@ -278,7 +278,7 @@ fn is_coordinate(z: i64) -> bool
     ensures value { result ≡ is_coordinate z }
     ensures inside { OnTrue result (IsCoordinate z) }
 {
-    let reach = i64::from(ORIGIN);
+    let reach = i64::from(PLANE_ORIGIN);
     -reach <= z && z <= reach
 }
 
@@ -288,7 +288,7 @@ fn is_extent(z: i64, len: i64) -> bool
     ensures value { result ≡ is_extent z len }
     ensures inside { OnTrue result (IsExtent z len) }
 {
-    0 <= len && len <= i64::from(ORIGIN) - z
+    0 <= len && len <= i64::from(PLANE_ORIGIN) - z
 }
 
 /// Whether a number is one of the `len` numbers from `start` on.

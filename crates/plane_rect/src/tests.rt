@@ -1,6 +1,6 @@
 //! Answers that were worked out by hand, and those of GEGL's rectangles.
 
-use crate::{Name, Rect, RectRefused, TileAt};
+use crate::{Name, PLANE_ORIGIN, PLANE_SIDE, Rect, RectRefused, TileAt, plane_index};
 use std::test::Fail;
 
 fn rect(fields: [i64; 4]) -> Result<Rect, RectRefused> {
@@ -15,6 +15,13 @@ fn fields(rect: &Rect) -> [i64; 4] {
         i64::from(rect.w),
         i64::from(rect.h),
     ]
+}
+
+#[test]
+fn columns_count_from_the_corner(rt: HostRuntime) {
+    assert_eq!(rt; plane_index(-16_777_216), 0);
+    assert_eq!(rt; plane_index(0), PLANE_ORIGIN);
+    assert_eq!(rt; plane_index(16_777_215), PLANE_SIDE - 1);
 }
 
 #[test]

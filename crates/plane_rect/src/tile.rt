@@ -11,7 +11,7 @@ ghost use Rattle.plane_rect.specs.Rectangle.{IsCoordinate, Lies, plane_index as 
 ghost use Rattle.plane_rect.specs.SameTile.{same_tile-laws};
 ghost use Rattle.plane_rect.specs.Tile.{IsBefore, IsTile, IsWhole, Meets, Tile, last_tile, plane, same_tile, tile_at, tile_cmp, tile_columns, tile_lines, tile_rectangle, tile_square, tiles};
 
-use crate::plane::{SIDE, plane_index};
+use crate::plane::{PLANE_SIDE, plane_index};
 use crate::rect::Rect;
 use std::cmp::Ordering;
 use std::hash::{Hash, Hasher};
@@ -103,8 +103,8 @@ impl TileAt {
         Rect::spanning(
             left,
             top,
-            SIDE.min(left + TILE_SIDE),
-            SIDE.min(top + TILE_SIDE),
+            PLANE_SIDE.min(left + TILE_SIDE),
+            PLANE_SIDE.min(top + TILE_SIDE),
         )
     }
 }

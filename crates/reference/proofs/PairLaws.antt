@@ -1,40 +1,11 @@
 -- Cached pairs with and without their bytes.
-use Rattle.std.proofs.Common.{◌≡◌, ℕ, zero, suc, ◌+◌, Bool, true, false, not, ◌&&◌, ◌||◌, cond, List, [], ◌∷◌, filter, find, take, unwrap_or, Some, refl, sym, ap, ◌∙◌}
+use Rattle.std.proofs.Common.{◌≡◌, ℕ, zero, suc, ◌+◌, Bool, true, false, not, ◌||◌, cond, List, [], ◌∷◌, filter, take, refl, sym, ap, ◌∙◌}
 use Rattle.std.specs.List.{list_any}
-use Rattle.std.specs.Str.{bytes_eq}
-use Rattle.std.proofs.lemmas.Slice.Eq.{bytes_eq-Decides}
 use Rattle.plane_rect.specs.Rectangle.{Rectangle}
-use Rattle.plane_rect.specs.Tile.{Tile, same_tile}
-use Rattle.plane_rect.specs.SameTile.{same_tile-true}
 use Rattle.graph_states.specs.Cache.{Cached, Counted, Pair, cached_or, is_cached, looked_up, pairs_of, same_pair, with_recent, without_damaged, without_pair}
 use Rattle.graph_states.specs.Regions.{meets}
+use Rattle.graph_states.proofs.CacheLaws.{cached_or-pair}
 use Rattle.reference.specs.Counts.{PairCounts, counts_of, undamaged}
-
--- pairs that pass the test are one
-same_pair-true : (a b : Pair) → same_pair a b ≡ true → a ≡ b
-same_pair-true a b e = by (bytes_eq a.node b.node) refl (same_tile a.tile b.tile) refl e
-  where
-    joined : a.node ≡ b.node → a.tile ≡ b.tile → a ≡ b
-    joined node tile =
-        let of : List ℕ → Tile → Pair = λ n t. record { node = n; tile = t } in
-        let both : (of : List ℕ → Tile → Pair) → of a.node a.tile ≡ of b.node b.tile = λ of. cc in
-        both of
-
-    by : (n : Bool) → bytes_eq a.node b.node ≡ n → (t : Bool) → same_tile a.tile b.tile ≡ t → (n && t) ≡ true → a ≡ b
-    by true n true t h = joined ((bytes_eq-Decides a.node b.node).0 n) (same_tile-true a.tile b.tile t)
-    by true n false t h = absurd (cc)
-    by false n t' t h = absurd (cc)
-
-cached_or-pair : (pair : Pair) (list : List Cached) (bytes : List ℕ) → (cached_or pair list bytes).pair ≡ pair
-cached_or-pair pair [] bytes = refl
-cached_or-pair pair (c ∷ list) bytes = by (same_pair pair c.pair) refl (cached_or-pair pair list bytes)
-  where
-    fresh : Cached
-    fresh = record { pair = pair; bytes = bytes }
-
-    by : (b : Bool) → same_pair pair c.pair ≡ b → (cached_or pair list bytes).pair ≡ pair → (unwrap_or (cond b (Some c) (find (λ (cached : Cached). same_pair pair cached.pair) list)) fresh).pair ≡ pair
-    by true e rest = sym (same_pair-true pair c.pair e)
-    by false e rest = rest
 
 pairs_of-filter : (test : Pair → Bool) (list : List Cached) → pairs_of (filter (λ (cached : Cached). test cached.pair) list) ≡ filter test (pairs_of list)
 pairs_of-filter test [] = refl

@@ -24,7 +24,7 @@ use crate::names::{index_of, source_of};
 use crate::shapes::{shape_at, shapes_of};
 use crate::tiles::{hull_of, meets};
 use no_memory::NoMemory;
-use operation_regions::{invalidated, same};
+use operation_regions::invalidated;
 use operations::IntOp;
 use plane_rect::{Name, Rect};
 use std::alloc::Global;
@@ -325,7 +325,7 @@ fn same_body(a: &Body, b: &Body) -> bool
     match (a, b) {
         (Body::Source { buffer: a }, Body::Source { buffer: b }) => a == b,
         (Body::Compute { op: f, inputs: a }, Body::Compute { op: g, inputs: b }) => {
-            same(f, g) && same_names(a, b)
+            f == g && same_names(a, b)
         }
         _ => false,
     }

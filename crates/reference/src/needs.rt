@@ -20,12 +20,9 @@ use crate::tiles::{tile_part, tiles_of_any};
 use no_memory::NoMemory;
 use operation_regions::required;
 use operations::IntOp;
-use plane_rect::{Rect, TILE_SIDE, TileAt};
+use plane_rect::{PLANE_SIDE, Rect, TILE_SIDE, TileAt};
 use std::alloc::Global;
 use std::marker::Model;
-
-/// How many columns the plane has.
-const PLANE_SIDE: u32 = 1 << 25;
 
 /// A part of a request, and the tiles that are needed for it, each with the place of its node.
 #[derive(Drop)]

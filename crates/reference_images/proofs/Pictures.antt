@@ -8,11 +8,10 @@ use Rattle.plane_rect.specs.Rectangle.{InLimits, halved}
 use Rattle.sample_rows.specs.Format.{channels, greatest}
 use Rattle.sample_rows.specs.declared.format.Format.{Format}
 use Rattle.images.specs.Image.{Image, at}
-use Rattle.images.proofs.Laws.{at_inside, at_outside}
+use Rattle.images.proofs.Laws.{at_inside, at_no_channel, at_outside}
+use Rattle.images.proofs.Places.{by_places}
 use Rattle.abyss_levels.proofs.LevelLaws.{InLimits-level}
-use Rattle.abyss_levels.proofs.Places.{by_places}
 use Rattle.abyss_levels.specs.Level.{level}
-use Rattle.operations.specs.Lawful.Inputs.{at_beyond}
 use Rattle.reference_images.specs.Picture.{AreSamples, IsPicture}
 
 -- no sample of a picture is above the greatest of its format
@@ -21,7 +20,7 @@ at-most image is u v c =
     by_places _ u v image.box
     (λ there. elim (cases_lt c (channels image.format)) [
       | inl known ↦ subst (λ (n : ℕ). n ≤ greatest image.format) (sym (at_inside image u v c there known)) (is.range _)
-      | inr beyond ↦ subst (λ (n : ℕ). n ≤ greatest image.format) (sym (at_beyond image u v c beyond)) (omega arith)
+      | inr beyond ↦ subst (λ (n : ℕ). n ≤ greatest image.format) (sym (at_no_channel image u v c beyond)) (omega arith)
     ])
     (λ out. subst (λ (n : ℕ). n ≤ greatest image.format) (sym (at_outside image u v c out)) (omega arith))
 

@@ -7,11 +7,9 @@ ghost use Rattle.abyss_levels.specs.Level.{doubled, halved_image, level, mean_at
 use crate::formulas::mean_of_four;
 use crate::picture::{Picture, Samples, draw};
 use no_memory::NoMemory;
+use plane_rect::PLANE_ORIGIN;
 use sample_rows::Format;
 use std::alloc::Global;
-
-/// How far the plane's corner is from the origin, in columns and in rows.
-const ORIGIN: u32 = 1 << 24;
 
 /// The means of the places of an image, four by four.
 #[derive(Drop)]
@@ -67,5 +65,5 @@ fn doubled(n: u32) -> u32
     ensures value { result ≡ doubled n }
     ensures side { result < 2 * plane_side }
 {
-    (2 * n).saturating_sub(ORIGIN)
+    (2 * n).saturating_sub(PLANE_ORIGIN)
 }

@@ -15,10 +15,8 @@ ghost use Rattle.operations.specs.Values.{checker_pixel, flipped_pixel, square_n
 use crate::formulas::{laid_over, mean_of_three, rescaled, weighed};
 use crate::picture::{Picture, Samples};
 use crate::policies::is_alpha;
+use plane_rect::PLANE_ORIGIN;
 use sample_rows::Format;
-
-/// How far the plane's corner is from the origin, in columns and in rows.
-const ORIGIN: u64 = 1 << 24;
 
 /// What a colour of a pixel is at most: its alpha, or the greatest sample where there is none.
 pub(crate) fn cap_at(picture: &Picture, column: u32, row: u32) -> u32
@@ -173,7 +171,8 @@ fn square_number(size: u32, n: u32) -> u64
     ensures value { result ≡ square_number size n }
     ensures small { result < 2 ^ 63 }
 {
-    (u64::from(n) + ORIGIN * u64::from(size) - ORIGIN) / u64::from(size)
+    let origin = u64::from(PLANE_ORIGIN);
+    (u64::from(n) + origin * u64::from(size) - origin) / u64::from(size)
 }
 
 /// The sample of one pixel laid over another.

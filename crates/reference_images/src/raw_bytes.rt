@@ -6,8 +6,8 @@ ghost use Rattle.plane_rect.specs.Rectangle.{InLimits};
 ghost use Rattle.sample_rows.specs.Format.{depth, greatest};
 ghost use Rattle.sample_rows.specs.Row.{sample_at};
 ghost use Rattle.images.specs.Raw.{raw, sample_bytes};
+ghost use Rattle.images.specs.Spelled.{byte_count, spelled, spelled_pixels};
 ghost use Rattle.abyss_levels.specs.Abyss.{raw_with};
-ghost use Rattle.patch_abyss.specs.Spelled.{byte_count, spelled, spelled_pixels};
 ghost use Rattle.reference_images.specs.Picture.{AreSamples};
 
 use crate::picture::{Picture, Samples, draw, sample_all};

@@ -159,7 +159,7 @@ fn levels(rt: HostRuntime) -> Result<(), Fail> {
 
 #[test]
 fn changes_of_samples(rt: HostRuntime) -> Result<(), Fail> {
-    let (place, two) = ([0, 0, 1, 1], [0, 0, 2, 1]);
+    let two = [0, 0, 2, 1];
     let table = [
         Case {
             op: IntOp::Gain { num: 5, den: 4 },
@@ -176,6 +176,17 @@ fn changes_of_samples(rt: HostRuntime) -> Result<(), Fail> {
             before: (two, Format::YA8, &[30, 100, 120, 100]),
             after: (two, Format::YA8, &[70, 100, 0, 100]),
         },
+    ];
+    for case in &table {
+        assert!(rt; passes(rt.alloc(), case)?);
+    }
+    Ok(())
+}
+
+#[test]
+fn conversions(rt: HostRuntime) -> Result<(), Fail> {
+    let place = [0, 0, 1, 1];
+    let table = [
         Case {
             op: IntOp::Convert {
                 format: Format::Y16,
@@ -250,8 +261,8 @@ fn moves(rt: HostRuntime) -> Result<(), Fail> {
 }
 
 #[test]
-fn areas(rt: HostRuntime) -> Result<(), Fail> {
-    let (place, three) = ([0, 0, 1, 1], [0, 0, 3, 1]);
+fn means_of_areas(rt: HostRuntime) -> Result<(), Fail> {
+    let place = [0, 0, 1, 1];
     let radius = 1;
     let table = [
         Case {
@@ -270,6 +281,18 @@ fn areas(rt: HostRuntime) -> Result<(), Fail> {
             before: (place, Format::Y8, &[9]),
             after: (place, Format::Y8, &[9]),
         },
+    ];
+    for case in &table {
+        assert!(rt; passes(rt.alloc(), case)?);
+    }
+    Ok(())
+}
+
+#[test]
+fn extremes_of_areas(rt: HostRuntime) -> Result<(), Fail> {
+    let three = [0, 0, 3, 1];
+    let radius = 1;
+    let table = [
         Case {
             op: IntOp::Dilate {
                 radius,

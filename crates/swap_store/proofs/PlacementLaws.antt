@@ -25,9 +25,6 @@ absent o e none some = absurd (let no_such : None ≡ Some e = sym none ∙ some
 pub blocks_for-some : (len : ℕ) → 1 ≤ len → 1 ≤ blocks_for len
 blocks_for-some len some = omega arith
 
-pub blocks_for-few : (len : ℕ) → len ≤ 65536 → blocks_for len ≤ 16
-blocks_for-few len few = omega arith
-
 -- ---- no names
 
 pub fresh : (used : ℕ) (free : List Run) → used ≤ 2 ^ 20 → IsRunList 0 (2 ^ 20) free → ((b : ℕ) → HasBlock free b ↔ (b < used))

@@ -51,11 +51,6 @@ HasBlock-low low end [] b runs h = absurd h
 HasBlock-low low end (x ∷ xs) b runs (inl h) = omega (arith, runs.0, h.low)
 HasBlock-low low end (x ∷ xs) b runs (inr h) = omega (arith, runs.0, HasBlock-low (x.first + x.count + 1) end xs b runs.3 h)
 
-pub HasBlock-high : (low end : ℕ) (xs : List Run) (b : ℕ) → IsRunList low end xs → HasBlock xs b → b < end
-HasBlock-high low end [] b runs h = absurd h
-HasBlock-high low end (x ∷ xs) b runs (inl h) = omega (arith, runs.2, h.high)
-HasBlock-high low end (x ∷ xs) b runs (inr h) = HasBlock-high (x.first + x.count + 1) end xs b runs.3 h
-
 pub after-low : (low end : ℕ) (xs : List Run) → IsRunList low end xs → low ≤ after low xs
 after-low low end [] runs = omega arith
 after-low low end (x ∷ xs) runs = omega (arith, runs.0, after-low (x.first + x.count + 1) end xs runs.3)

@@ -186,9 +186,3 @@ pub read-more : (told : Option Blocks) (first k at end : ℕ) (into into' part :
 read-more None first k at end into into' part joins there front = tt
 read-more (Some blocks) first k at end into into' part joins there front =
     joins ∙ ap (λ ys. ys ++ part) front ∙ sym (front-more blocks first k part there)
-
-pub extent_read : (told : Option Blocks) (first count len : ℕ) (into : List ℕ) → len ≤ 4096 * count
-    → IfSome told (λ blocks. take (4096 * count) into ≡ front_of blocks first count)
-    → IfSome told (λ blocks. take len into ≡ take len (front_of blocks first count))
-extent_read told first count len into le front =
-    told_weaker told _ _ (λ blocks same. sym (take-take len (4096 * count) into le) ∙ ap (take len) same) front

@@ -1,9 +1,11 @@
 -- What the results of operations depend on.
 use Rattle.std.proofs.Common.{◌≡◌, ℕ, zero, suc, ◌<◌, Bool, true, false, cond, eqb, List, length, Option, Some, None, unwrap_or, refl, sym, subst, ap, ◌∙◌, arith}
+use Rattle.plane_rect.proofs.Differences.{no_places}
 use Rattle.plane_rect.proofs.Rectangles.{Lies-meet}
 use Rattle.plane_rect.specs.Rectangle.{Includes, Lies, Rectangle, empty, meet}
 use Rattle.sample_rows.specs.declared.format.Format.{Format}
 use Rattle.images.proofs.Laws.{at_outside}
+use Rattle.images.proofs.Places.{by_places}
 use Rattle.images.specs.Image.{Image, at, drawn}
 use Rattle.operations.specs.Boxes.{box_with, result_box}
 use Rattle.operations.specs.Inputs.{boxes_of, formats_of, image_of, input_box, input_count, input_format}
@@ -14,7 +16,7 @@ use Rattle.operation_meanings.specs.Changes.{AreAlike}
 use Rattle.operation_meanings.specs.Laws.{AgreeInside}
 use Rattle.operations.specs.Values.{value_at}
 use Rattle.operations.specs.declared.operation.IntOp.{IntOp}
-use Rattle.operations.specs.Lawful.Inputs.{AgreeIn, by_places, drawn_same, input_box-image, input_format-image}
+use Rattle.operations.specs.Lawful.Inputs.{AgreeIn, drawn_same, input_box-image, input_format-image}
 use Rattle.operations.specs.Lawful.Reaching.{first-reaches, input_count-most, second-reaches}
 use Rattle.operations.specs.Lawful.Reading.{value-read}
 
@@ -30,9 +32,6 @@ invalidated-inside op boxes i region u v there =
 
 -- ---- the box of a result that has a place
 
-nowhere : (u v : ℕ) → Lies u v empty → ⊥
-nowhere u v there = omega (arith, there.column)
-
 -- a place of the box of a result lies in one that the operation gives
 abbrev HasBox : IntOp → Rectangle → Rectangle → ℕ → ℕ → Type 0
 HasBox op a b u v = (r : Rectangle) × (box_with op a b ≡ Some r) × Lies u v r
@@ -40,8 +39,8 @@ HasBox op a b u v = (r : Rectangle) × (box_with op a b ≡ Some r) × Lies u v 
 some_box : (op : IntOp) (a b : Rectangle) (counted : Bool) (u v : ℕ) (made : Option Rectangle) → box_with op a b ≡ made
     → Lies u v (unwrap_or (cond counted made None) empty) → HasBox op a b u v
 some_box op a b true u v (Some r) is there = (r, is, there)
-some_box op a b true u v None is there = absurd (nowhere u v there)
-some_box op a b false u v made is there = absurd (nowhere u v there)
+some_box op a b true u v None is there = absurd (no_places u v empty refl there)
+some_box op a b false u v made is there = absurd (no_places u v empty refl there)
 
 has_box : (op : IntOp) (boxes : List Rectangle) (u v : ℕ) → Lies u v (result_box op boxes) → HasBox op (input_box boxes 0) (input_box boxes 1) u v
 has_box op boxes u v there =

@@ -1,25 +1,16 @@
 -- Inputs, and images that are drawn alike.
-use Rattle.std.proofs.Common.{◌≡◌, ℕ, ◌≤◌, inl, inr, true, false, ◌&&◌, List, ltb, refl, sym, ◌∙◌, arith}
+use Rattle.std.proofs.Common.{◌≡◌, ℕ, inl, inr, List, sym, ◌∙◌}
 use Rattle.std.proofs.Math.ListN.{get_or-map}
 use Rattle.std.proofs.lemmas.Bool.{cases_lt}
-use Rattle.std.proofs.lemmas.Bool.Decides.{nat_tests}
 use Rattle.plane_rect.proofs.Rectangles.{Lies-meet}
 use Rattle.plane_rect.specs.Rectangle.{Lies, Rectangle, meet}
 use Rattle.sample_rows.specs.Format.{channels}
 use Rattle.sample_rows.specs.declared.format.Format.{Format}
-use Rattle.images.proofs.Laws.{at-drawn, at_outside}
-use Rattle.images.proofs.Samples.{Lies_from, lies_where}
-use Rattle.images.specs.Image.{Image, at, drawn, lies}
+use Rattle.images.proofs.Laws.{at-drawn, at_no_channel, at_outside}
+use Rattle.images.proofs.Places.{by_places}
+use Rattle.images.specs.Image.{Image, at, drawn}
 use Rattle.images.specs.Paint.{no_image}
 use Rattle.operations.specs.Inputs.{boxes_of, formats_of, image_of, input_box, input_format}
-
--- what holds of the places of a rectangle, and of the others, holds of each
-pub by_places : (P : Type 0) (u v : ℕ) (r : Rectangle) → (Lies u v r → P) → ((Lies u v r → ⊥) → P) → P
-by_places P u v r inside outside =
-    elim (lies u v r) as (λ b. lies u v r ≡ b → P) [
-      | true ↦ λ e. inside (Lies_from u v r e)
-      | false ↦ λ e. outside (λ h. cc (sym (lies_where u v r h) ∙ e))
-    ] refl
 
 pub input_box-image : (images : List Image) (i : ℕ) → input_box (boxes_of images) i ≡ (image_of images i).box
 input_box-image images i = get_or-map (λ (image : Image). image.box) images i no_image
@@ -27,19 +18,12 @@ input_box-image images i = get_or-map (λ (image : Image). image.box) images i n
 pub input_format-image : (images : List Image) (i : ℕ) → input_format (formats_of images) i ≡ (image_of images i).format
 input_format-image images i = get_or-map (λ (image : Image). image.format) images i no_image
 
--- a channel that the format lacks is 0
-pub at_beyond : (image : Image) (u v c : ℕ) → channels image.format ≤ c → at image u v c ≡ 0
-unfolding at
-at_beyond image u v c out =
-    let none : (lies u v image.box && ltb c (channels image.format)) ≡ false = grind (arith, nat_tests) in
-    rw none refl
-
 -- images that are drawn alike at a place have the same samples there
 pub drawn_same : (box : Rectangle) (format : Format) (f g : ℕ → ℕ → ℕ → ℕ) (u v c : ℕ) → Lies u v box → f u v c ≡ g u v c
     → at (drawn box format f) u v c ≡ at (drawn box format g) u v c
 drawn_same box format f g u v c there same = elim (cases_lt c (channels format)) [
   | inl known ↦ at-drawn box format f u v c there known ∙ same ∙ sym (at-drawn box format g u v c there known)
-  | inr out ↦ at_beyond (drawn box format f) u v c out ∙ sym (at_beyond (drawn box format g) u v c out)
+  | inr out ↦ at_no_channel (drawn box format f) u v c out ∙ sym (at_no_channel (drawn box format g) u v c out)
 ]
 
 -- two images have the same samples at the places of a rectangle that lie in the box of the first

@@ -12,6 +12,7 @@ use Rattle.sample_rows.specs.Row.{Pixel}
 use Rattle.sample_rows.specs.Threshold.{thresholded_pixel}
 use Rattle.sample_rows.specs.declared.format.Format.{Format}
 use Rattle.images.proofs.Laws.{at_outside, sampled_alike}
+use Rattle.images.proofs.Places.{by_places}
 use Rattle.images.specs.Image.{Image, at}
 use Rattle.abyss_levels.proofs.PolicyLaws.{abyss_at-inside, abyss_at-outside, clamp-everywhere}
 use Rattle.abyss_levels.specs.Abyss.{abyss_at, nearest, outside_at}
@@ -27,7 +28,7 @@ use Rattle.operations.specs.Values.{flipped_pixel, value_with}
 use Rattle.operations.specs.Windows.{greatest_of_all, least_of_all, mean_of, read_before, window, window_side, window_square}
 use Rattle.operations.specs.declared.operation.IntOp.{IntOp}
 use Rattle.operations.specs.declared.operation.IntOp.TheVariants.{Color, Checker, Convert, Invert, Threshold, Gain, Translate, Crop, Flip, BoxMean, Dilate, Erode, Add, Over, Mask}
-use Rattle.operations.specs.Lawful.Inputs.{AgreeIn, agreed_at, by_places}
+use Rattle.operations.specs.Lawful.Inputs.{AgreeIn, agreed_at}
 use Rattle.operations.specs.Lawful.Sides.{mirrored_column, mirrored_part-lies, mirrored_row, moved_back-lies, moved_into-lies, surrounded-lies}
 
 -- a pixel of an input alone

@@ -9,17 +9,13 @@ use Rattle.plane_rect.specs.SameRectangle.{same_rectangle-itself, same_rectangle
 use Rattle.sample_rows.specs.Format.{same_format}
 use Rattle.abyss_levels.specs.declared.abyss.Abyss.{Abyss}
 use Rattle.abyss_levels.specs.declared.abyss.Abyss.TheVariants as policies
-use Rattle.operation_meanings.proofs.SameFormat.{Decides-same_format}
+use Rattle.images.proofs.Tests.{both, Decides-same_format}
 use Rattle.operations.specs.declared.operation.IntOp.{IntOp}
 use Rattle.operations.specs.declared.operation.IntOp.TheVariants.{Color, Checker, Convert, Invert, Threshold, Gain, Translate, Crop, Flip, BoxMean, Dilate, Erode, Add, Over, Mask}
 use Rattle.operation_meanings.specs.Laws.{IsEquality}
 use Rattle.operations.specs.Meanings.{same_direction, same_operation, same_policy}
 
 -- ---- arguments
-
-both : (a b : Bool) → (a && b) ≡ true → (a ≡ true) × (b ≡ true)
-both true b h = (refl, h)
-both false b h = absurd (cc)
 
 policy-told : (a b : Abyss) → same_policy a b ≡ true → a ≡ b
 policy-told policies.None policies.None e = refl

@@ -2,7 +2,7 @@ use Rattle.std.proofs.Common.{sym, subst, ap, ◌∙◌}
 use Rattle.sample_rows.specs.Format.{channels}
 use Rattle.sample_rows.specs.declared.format.Format.{Format}
 use Rattle.images.specs.Image.{sample_count}
-use Rattle.abyss_levels.proofs.ByteLaws.{length-sampled}
+use Rattle.images.proofs.Laws.{length-sampled}
 use Rattle.std.proofs.Common.{length}
 use Rattle.reference_images.specs.Picture.{AreSamples}
 use Rattle.reference_images.proofs.picture.draw.Goals as goal

@@ -1,8 +1,8 @@
 use Rattle.std.proofs.Common.{◌≡◌, IfOk, Result, Ok, Err, ap, ◌∙◌}
 use Rattle.images.specs.Image.{Image}
 use Rattle.images.specs.Raw.{raw}
-use Rattle.patch_abyss.proofs.Spelling.{are_bytes, raw-spelled}
-use Rattle.patch_abyss.specs.Spelled.{spelled}
+use Rattle.images.proofs.Spelling.{are_bytes, raw-spelled}
+use Rattle.images.specs.Spelled.{spelled}
 use Rattle.reference_images.proofs.raw_bytes.from_raw.Goals as goal
 
 -- what follows from a fact of the value in an Ok

@@ -4,9 +4,8 @@ use Rattle.sample_rows.specs.Format.{channels, greatest}
 use Rattle.images.specs.Image.{Image, sample_index}
 use Rattle.std.proofs.lemmas.Grind.{get_or_default_zero}
 use Rattle.images.proofs.Samples.{sample_index_below}
-use Rattle.images.proofs.Laws.{at_inside, at_outside}
+use Rattle.images.proofs.Laws.{at_inside, at_no_channel, at_outside}
 use Rattle.reference_images.proofs.Pictures.{at-most}
-use Rattle.operations.specs.Lawful.Inputs.{at_beyond}
 use Rattle.reference_images.proofs.picture.Picture.at.Goals as goal
 use Rattle.reference_images.proofs.picture.Picture.at.Goals.{then-not-has_place-via-then-not-has_place, then-not-has_place-via-else-not-has_place+then-channel-channels}
 
@@ -18,7 +17,7 @@ returns-then-not-has_place-clause-value c =
       | then-not-has_place-via-then-not-has_place w ↦
           sym (at_outside image c.args.column c.args.row c.args.channel (search (rules, w.if-not-has_place)))
       | then-not-has_place-via-else-not-has_place+then-channel-channels w ↦
-          sym (at_beyond image c.args.column c.args.row c.args.channel (omega (arith, w.if-channel-channels, c.channels-channels.ensures)))
+          sym (at_no_channel image c.args.column c.args.row c.args.channel (omega (arith, w.if-channel-channels, c.channels-channels.ensures)))
     ])
 
 pub returns-clause-value : goal.returns-clause-value

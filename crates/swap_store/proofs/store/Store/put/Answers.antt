@@ -1,11 +1,9 @@
-use Rattle.std.proofs.Common.{◌≡◌, ◌+◌, ◌<◌, ◌≤◌, ◌^◌, ℕ, List, length, get_or, refl, arith, sym, ap, ◌∙◌, OnErr, Option}
-use Rattle.std.specs.FinMap as map
+use Rattle.std.proofs.Common.{◌≡◌, length, get_or, arith}
 use Rattle.tile_cow.specs.Tile.{IsTileLength}
-use Rattle.outside_io.specs.Swap.{Blocks}
 use Rattle.swap_store.specs.declared.runs.Run.{Run}
 use Rattle.swap_store.specs.declared.block_map.Extent.{Extent}
-use Rattle.swap_store.specs.Run.{blocks_for, longest, IsFirstFit}
-use Rattle.swap_store.specs.Placement.{Placement, IsPlacement}
+use Rattle.swap_store.specs.Run.{blocks_for, IsFirstFit}
+use Rattle.swap_store.specs.Placement.{Placement}
 use Rattle.swap_store.specs.Content.{content_of, StandsOutside}
 use Rattle.swap_store.proofs.FoundRoom.{room-free, room-used, fit-longest}
 use Rattle.swap_store.proofs.PlacementLaws.{blocks_for-some}

@@ -1,9 +1,15 @@
--- The test that two formats are one.
-use Rattle.std.proofs.Common.{◌≡◌, ℕ, true, cond, eqb, Decides, sym, subst, ap, ◌∙◌, refl, arith}
+-- What follows where tests pass.
+use Rattle.std.proofs.Common.{◌≡◌, ℕ, Bool, true, ◌&&◌, cond, eqb, Decides, sym, subst, ap, ◌∙◌, refl, arith}
+use Rattle.std.specs.Cmp.{first_so, second_so}
 use Rattle.std.proofs.lemmas.Bool.Decides.{nat_tests}
 use Rattle.sample_rows.specs.Format.{channels, depth, same_format}
 use Rattle.sample_rows.specs.declared.format.Format.{Format}
 use Rattle.sample_rows.specs.declared.format.Format.TheVariants.{Y8, YA8, RGB8, RGBA8, Y16, YA16, RGB16, RGBA16}
+
+pub both : (a b : Bool) → (a && b) ≡ true → (a ≡ true) × (b ≡ true)
+both a b h = (first_so a b h, second_so a b h)
+
+-- ---- the test that two formats are one
 
 -- the format of so many channels and so many bytes a sample
 format_of : ℕ → ℕ → Format
