@@ -1,7 +1,7 @@
 -- The texts of a run, each a line.
 use Rattle.std.specs.Prelude.{ℕ, List, ◌++◌, codes}
 use Rattle.std.specs.Fmt.{decimal}
-use Rattle.script_read.specs.Causes as grammar
+use Rattle.script_fields.specs.Causes as grammar
 use Rattle.run_events.specs.declared.cause.Cause.{Cause}
 use Rattle.run_events.specs.declared.cause.Cause.TheVariants as causes
 

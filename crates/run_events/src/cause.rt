@@ -1,6 +1,6 @@
 //! Why a line of a script is refused.
 
-use script_read::ScriptCause;
+use script_fields::ScriptCause;
 use std::fmt;
 
 /// Why a line of a script is refused, or the script as a whole, which is line 0. Displayed as it is

@@ -1,5 +1,5 @@
 -- What a whole run is to do.
-use Rattle.std.specs.Prelude.{ℕ, ◌^◌, nat_lt, if◌then◌else◌, List, [], ◌∷◌, ◌++◌, flat_map, fold, length, map, sum, is_none, Option, Some, None, Result, Ok, Err}
+use Rattle.std.specs.Prelude.{ℕ, nat_lt, if◌then◌else◌, List, [], ◌∷◌, ◌++◌, flat_map, fold, length, map, sum, is_none, Option, Some, None, Result, Ok, Err}
 use Rattle.std.specs.Option.{option_map}
 use Rattle.std.specs.List.{filter_map}
 use Rattle.outside_io.specs.Files.{Files, file}
@@ -59,10 +59,6 @@ outcome_of_turns turns =
 
 -- ---- a script
 
--- the most bytes that a script may have
-abbrev pub script_limit : ℕ
-script_limit = 2 ^ 20
-
 -- the turns of a script's lines, whose tiles of nodes fit a cache of so many, and whose frames show these commits
 abbrev pub turns_of : ℕ → Numbers → Files → List Line → List Turn
 turns_of capacity numbers files lines = turns capacity (first_state numbers) files lines
@@ -77,7 +73,7 @@ turns_or_refusal capacity numbers files (Err refused) =
 abbrev pub script_turns : ℕ → Numbers → Files → Option (List ℕ) → Result (List Turn) Refusal
 script_turns capacity numbers files None = Err (record { line = 0; cause = causes.Absent })
 script_turns capacity numbers files (Some text) =
-    if nat_lt script_limit (length text) then Err (record { line = 0; cause = causes.TooLong })
+    if nat_lt grammar.script_limit (length text) then Err (record { line = 0; cause = causes.TooLong })
     else turns_or_refusal capacity numbers files (grammar.script_of text)
 
 abbrev pub outcome_or_refusal : Result (List Turn) Refusal → Outcome

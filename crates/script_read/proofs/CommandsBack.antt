@@ -1,14 +1,35 @@
 -- What a command is spelled as is read as the command.
-use Rattle.std.proofs.Common.{◌≡◌, ◌≤◌, Ok, decimal, length, map, refl, arith}
+use Rattle.std.proofs.Common.{◌≡◌, ◌≤◌, Some, Ok, decimal, length, map, refl, arith}
 use Rattle.std.proofs.lemmas.List.{length-map}
-use Rattle.script_read.proofs.FieldsBack.{corner_at-rect, count_in-of, file_at-name, format_at-word, keyword_of-word, level_rect_of-corner, move_at-signed, name_of-name, natural_at-decimal, policy_at-word, prefix_at-name, rect_of-corner, samples_of-decimal, watched_rect_of-corner}
+use Rattle.script_fields.proofs.FieldsBack.{corner_at-rect, count_in-of, file_at-name, format_at-word, level_rect_of-corner, move_at-signed, name_of-name, natural_at-decimal, policy_at-word, prefix_at-name, rect_of-corner, samples_of-decimal, watched_rect_of-corner}
 use Rattle.script_read.proofs.NodesBack.{node_read}
-use Rattle.script_read.specs.Commands.{greatest_level}
+use Rattle.script_fields.specs.Limits.{greatest_level}
+use Rattle.script_read.specs.Keywords.{keyword_of, keyword_word}
 use Rattle.script_read.specs.Limits.{KeepsLimits}
 use Rattle.script_read.specs.Script.{command_by, command_of}
 use Rattle.script_read.specs.Spelling.{KeepsTypes, keyword, spelled}
 use Rattle.script_read.specs.declared.command.Command.{Command}
 use Rattle.script_read.specs.declared.command.Command.TheVariants.{Buffer, Sub, Dup, Load, Fill, Copy, Node, Drop, Commit, Undo, Redo, Render, Grab, Watch, EndWatch}
+use Rattle.script_read.specs.declared.keyword.Keyword.{Keyword}
+use Rattle.script_read.specs.declared.keyword.Keyword.TheVariants as keywords
+
+keyword_of-word : (keyword : Keyword) → keyword_of (keyword_word keyword) ≡ Some keyword
+unfolding keyword_of
+keyword_of-word keywords.Buffer = refl
+keyword_of-word keywords.Sub = refl
+keyword_of-word keywords.Dup = refl
+keyword_of-word keywords.Load = refl
+keyword_of-word keywords.Fill = refl
+keyword_of-word keywords.Copy = refl
+keyword_of-word keywords.Node = refl
+keyword_of-word keywords.Drop = refl
+keyword_of-word keywords.Commit = refl
+keyword_of-word keywords.Undo = refl
+keyword_of-word keywords.Redo = refl
+keyword_of-word keywords.Render = refl
+keyword_of-word keywords.Grab = refl
+keyword_of-word keywords.Watch = refl
+keyword_of-word keywords.EndWatch = refl
 
 command_by-spelled : (command : Command) → KeepsLimits command → KeepsTypes command → command_by (keyword command) (spelled command) ≡ Ok command
 unfolding command_by

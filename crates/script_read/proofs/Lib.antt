@@ -1,8 +1,5 @@
 pub mod CommandsBack
-pub mod FieldsBack
 pub mod Fitting
-pub mod FormatLaws
-pub mod ListLaws
 pub mod NodesBack
 pub mod PrintLaws
 pub mod ReadBack

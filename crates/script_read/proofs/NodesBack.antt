@@ -1,19 +1,51 @@
 -- What a node is spelled as is read as the node.
-use Rattle.std.proofs.Common.{◌≡◌, ℕ, ◌≤◌, List, [], ◌∷◌, ◌++◌, true, false, Ok, IsTrue, decimal, length, map, refl, ap, ◌∙◌, arith}
+use Rattle.std.proofs.Common.{◌≡◌, ℕ, ◌≤◌, Some, drop, List, [], ◌∷◌, ◌++◌, true, false, Ok, IsTrue, decimal, length, map, refl, ap, ◌∙◌, arith}
 use Rattle.std.proofs.Math.Seq.{drop-length}
 use Rattle.std.proofs.lemmas.Bool.{le-leb}
 use Rattle.std.proofs.lemmas.List.{append-nil, length-map}
 use Rattle.plane_rect.specs.Name.{is_name}
-use Rattle.script_read.proofs.FieldsBack.{corner_at-rect, count_in-of, ends_from-ends, format_at-word, move_at-signed, name_of-name, natural_at-decimal, near_policy_at-word, operation_of-word, rect_of-corner, sample_of-decimal, samples_of-decimal, sideways_at-word}
-use Rattle.script_read.specs.Fields.{samples_of}
+use Rattle.script_fields.proofs.FieldsBack.{corner_at-rect, count_in-of, format_at-word, move_at-signed, name_of-name, names_of-names, natural_at-decimal, near_policy_at-word, rect_of-corner, sample_of-decimal, samples_of-decimal, sideways_at-word}
+use Rattle.script_fields.specs.Fields.{name_of, names_of, samples_of, word_at}
+use Rattle.script_fields.specs.Limits.{greatest_radius, greatest_size}
 use Rattle.script_read.specs.Keywords.{keyword_word}
 use Rattle.script_read.specs.Limits.{InRange, input_count}
-use Rattle.script_read.specs.Nodes.{greatest_radius, greatest_size, node, node_by}
-use Rattle.script_read.specs.Spelling.{AreKept, AreNames, arguments, operation_spelled, word_of}
+use Rattle.script_read.specs.Nodes.{ends_from, node, node_by}
+use Rattle.script_read.specs.OperationWords.{operation_of, operation_word}
+use Rattle.script_fields.specs.Spelling.{AreKept, AreNames}
+use Rattle.script_read.specs.Spelling.{arguments, operation_spelled, word_of}
 use Rattle.script_read.specs.declared.command.Command.TheVariants.{Node}
 use Rattle.script_read.specs.declared.command.OpWords.{OpWords}
 use Rattle.script_read.specs.declared.command.OpWords.TheVariants.{Source, Color, Checker, Convert, Invert, Threshold, Gain, Translate, Crop, Flip, BoxMean, Dilate, Erode, Add, Over, Mask}
 use Rattle.script_read.specs.declared.keyword.Keyword.TheVariants as keywords
+use Rattle.script_read.specs.declared.operation_word.OperationWord.{OperationWord}
+use Rattle.script_read.specs.declared.operation_word.OperationWord.TheVariants as operations
+
+operation_of-word : (operation : OperationWord) → operation_of (operation_word operation) ≡ Some operation
+unfolding operation_of
+operation_of-word operations.Source = refl
+operation_of-word operations.Color = refl
+operation_of-word operations.Checker = refl
+operation_of-word operations.Convert = refl
+operation_of-word operations.Invert = refl
+operation_of-word operations.Threshold = refl
+operation_of-word operations.Gain = refl
+operation_of-word operations.Translate = refl
+operation_of-word operations.Crop = refl
+operation_of-word operations.Flip = refl
+operation_of-word operations.BoxMean = refl
+operation_of-word operations.Dilate = refl
+operation_of-word operations.Erode = refl
+operation_of-word operations.Add = refl
+operation_of-word operations.Over = refl
+operation_of-word operations.Mask = refl
+
+ends_from-ends : (index : ℕ) (words : List (List ℕ)) (name : List ℕ) (inputs : List (List ℕ)) → word_at words 1 ≡ name → drop index words ≡ inputs →
+    IsTrue (is_name name) → AreNames inputs → ends_from index words ≡ Ok (record { name = name; inputs = inputs })
+unfolding ends_from
+ends_from-ends index words name inputs is rest named are =
+    let read : name_of (word_at words 1) ≡ Ok name = ap name_of is ∙ name_of-name name named in
+    let others : names_of (drop index words) ≡ Ok inputs = ap names_of rest ∙ names_of-names inputs are in
+    rw (read, others) refl
 
 -- the words of a node
 abbrev pub node_words : List ℕ → OpWords → List (List ℕ) → List (List ℕ)

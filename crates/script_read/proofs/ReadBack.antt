@@ -16,7 +16,7 @@ use Rattle.script_read.specs.Keywords.{keyword_word}
 use Rattle.script_read.specs.Limits.{KeepsLimits}
 use Rattle.script_read.specs.Script.{Refusal, before, begins_comment, command_in, ended, from_step, longest_line, most_lines, open_behind, script_from, script_of, spoken, step_of}
 use Rattle.script_read.specs.Spelling.{KeepsTypes, keyword, lines_printed, printed, spelled}
-use Rattle.script_read.specs.declared.cause.ScriptCause.{ScriptCause}
+use Rattle.script_fields.specs.declared.cause.ScriptCause.{ScriptCause}
 use Rattle.script_read.specs.declared.command.Command.{Command}
 use Rattle.script_read.specs.declared.command.Line.{Line}
 use Rattle.script_read.specs.declared.keyword.Keyword.{Keyword}

@@ -6,7 +6,7 @@ use Rattle.script_words.specs.Words.{words_of}
 use Rattle.script_read.specs.IsScript.{IsScript, MayFollow, MayStand}
 use Rattle.script_read.specs.Limits.{KeepsLimits}
 use Rattle.script_read.specs.Script.{Refusal, before, command_in, ended, from_step, longest_line, most_lines, open_behind, open_past, script_from, script_of, spoken, step_of}
-use Rattle.script_read.specs.declared.cause.ScriptCause.{ScriptCause}
+use Rattle.script_fields.specs.declared.cause.ScriptCause.{ScriptCause}
 use Rattle.script_read.specs.declared.command.Command.{Command}
 use Rattle.script_read.specs.declared.command.Line.{Line}
 use Rattle.script_read.specs.declared.reader.Step.{Step}
@@ -46,11 +46,6 @@ pub reads_on : (lines : List Line) (number : ℕ) (watching : Option ℕ) (line 
 reads_on lines number watching line rest step is =
     ap (λ (read : Result Step ScriptCause). ahead lines (from_step number read (λ (after : Option ℕ). script_from (number + 1) after rest))) is
     ∙ ahead-before lines number step.command (script_from (number + 1) step.watching rest)
-
-pub reads_refused : (lines : List Line) (number : ℕ) (watching : Option ℕ) (line : List ℕ) (rest : List (List ℕ)) (cause : ScriptCause) → step_of number watching line ≡ Err cause →
-    ahead lines (script_from number watching (line ∷ rest)) ≡ Err (number, cause)
-reads_refused lines number watching line rest cause is =
-    ap (λ (read : Result Step ScriptCause). ahead lines (from_step number read (λ (after : Option ℕ). script_from (number + 1) after rest))) is
 
 -- what may follow the next line may follow this one
 MayFollow-earlier : (number : ℕ) (watching : Option ℕ) (rest : List Line) → MayFollow (number + 1) watching rest → MayFollow number watching rest

@@ -1,26 +1,13 @@
--- What reading answers.
+-- What reading a text answers.
 use Rattle.std.specs.Prelude.{◌≡◌, ℕ, ⊤, List, Result, Ok, Err}
 use Rattle.std.specs.Global.{Vec}
-use Rattle.script_read.specs.declared.cause.ScriptCause.{ScriptCause}
-use Rattle.script_read.specs.declared.cause.LineAnswer.{LineAnswer}
-use Rattle.script_read.specs.declared.cause.LineAnswer.TheVariants.{Refused, NoMemory}
-use Rattle.script_read.specs.declared.cause.ScriptAnswer.{ScriptAnswer}
-use Rattle.script_read.specs.declared.cause.ScriptAnswer.TheVariants as script_answers
+use Rattle.script_fields.specs.declared.cause.ScriptCause.{ScriptCause}
+use Rattle.script_fields.specs.declared.cause.ScriptAnswer.{ScriptAnswer}
+use Rattle.script_fields.specs.declared.cause.ScriptAnswer.TheVariants.{Refused, NoMemory}
 use Rattle.script_read.specs.declared.command.Line.{Line}
 
--- what is answered where this is read; want of memory may come whatever is read
-abbrev pub Answers : {A : Type 0} → Result A LineAnswer → Result A ScriptCause → Type 0
-Answers (Ok value) read = read ≡ Ok value
-Answers (Err (Refused cause)) read = read ≡ Err cause
-Answers (Err NoMemory) read = ⊤
-
--- the same, told of a line
-abbrev pub at_line : ℕ → LineAnswer → ScriptAnswer
-at_line line (Refused cause) = script_answers.Refused line cause
-at_line line NoMemory = script_answers.NoMemory
-
--- the same of a whole text
+-- what is answered where this is read of a text; want of memory may come whatever is read
 abbrev pub Reads : Result (Vec Line) ScriptAnswer → Result (List Line) (ℕ × ScriptCause) → Type 0
 Reads (Ok lines) read = read ≡ Ok lines.items
-Reads (Err (script_answers.Refused line cause)) read = read ≡ Err (line, cause)
-Reads (Err script_answers.NoMemory) read = ⊤
+Reads (Err (Refused line cause)) read = read ≡ Err (line, cause)
+Reads (Err NoMemory) read = ⊤

@@ -1,14 +1,11 @@
 -- The commands that the words of a line spell, but those of nodes. Of the causes of a line the lowest is told: its
 -- words are counted, then its numbers are read, then its names and choices, and then its rectangle.
 use Rattle.std.specs.Prelude.{ℕ, List, Result, Ok}
-use Rattle.script_read.specs.Fields.{◌>>=◌, count, count_in, natural_at, move_at, corner_at, name_at, file_at, prefix_at, format_at, policy_at, rect_of, level_rect_of, watched_rect_of, samples_from}
-use Rattle.script_read.specs.declared.cause.ScriptCause.{ScriptCause}
+use Rattle.script_fields.specs.Fields.{◌>>=◌, count, count_in, natural_at, move_at, corner_at, name_at, file_at, prefix_at, format_at, policy_at, rect_of, level_rect_of, watched_rect_of, samples_from}
+use Rattle.script_fields.specs.declared.cause.ScriptCause.{ScriptCause}
+use Rattle.script_fields.specs.Limits.{greatest_level}
 use Rattle.script_read.specs.declared.command.Command.{Command}
 use Rattle.script_read.specs.declared.command.Command.TheVariants.{Buffer, Sub, Dup, Load, Fill, Copy, Drop, Render, Grab, Watch}
-
--- the greatest level
-abbrev pub greatest_level : ℕ
-greatest_level = 8
 
 -- `buffer B FORMAT X Y W H`
 abbrev pub buffer : List (List ℕ) → Result Command ScriptCause

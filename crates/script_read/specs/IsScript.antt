@@ -2,7 +2,7 @@
 use Rattle.std.specs.Prelude.{ℕ, ◌+◌, ◌≡◌, ◌≤◌, List, [], ◌∷◌, Option, None, Result, Ok, Err}
 use Rattle.script_read.specs.Limits.{KeepsLimits}
 use Rattle.script_read.specs.Script.{most_lines, open_behind}
-use Rattle.script_read.specs.declared.cause.ScriptCause.{ScriptCause}
+use Rattle.script_fields.specs.declared.cause.ScriptCause.{ScriptCause}
 use Rattle.script_read.specs.declared.command.Line.{Line}
 
 -- a command may stand where a watch is open so, and what stands behind it may

@@ -1,12 +1,9 @@
 pub mod Answers
-pub mod Causes
 pub mod Commands
-pub mod Fields
 pub mod IsScript
 pub mod Keywords
 pub mod Limits
 pub mod Nodes
 pub mod OperationWords
-pub mod Policies
 pub mod Script
 pub mod Spelling

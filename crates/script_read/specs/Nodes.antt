@@ -1,25 +1,18 @@
 -- The nodes that the words of a line spell: `node N OP ARGUMENTS INPUTS`.
 use Rattle.std.specs.Prelude.{ℕ, nat_lt, List, length, Result, Ok}
 use Rattle.std.specs.Option.{ok_or}
-use Rattle.script_read.specs.Fields.{◌>>=◌, word_at, passed, count, count_in, natural_at, sample_at, move_at, corner_at, name_at, format_at, near_policy_at, sideways_at, rect_of, names_from, samples_from}
+use Rattle.script_fields.specs.Fields.{◌>>=◌, word_at, passed, count, count_in, natural_at, sample_at, move_at, corner_at, name_at, format_at, near_policy_at, sideways_at, rect_of, names_from, samples_from}
+use Rattle.script_fields.specs.Limits.{greatest_radius, greatest_size}
 use Rattle.script_read.specs.OperationWords.{operation_of}
 use Rattle.script_read.specs.declared.operation_word.OperationWord.{OperationWord}
 use Rattle.script_read.specs.declared.operation_word.OperationWord.TheVariants as words_of
 use Rattle.script_read.specs.declared.nodes.Ends.{Ends}
-use Rattle.script_read.specs.declared.cause.ScriptCause.{ScriptCause}
-use Rattle.script_read.specs.declared.cause.ScriptCause.TheVariants as causes
+use Rattle.script_fields.specs.declared.cause.ScriptCause.{ScriptCause}
+use Rattle.script_fields.specs.declared.cause.ScriptCause.TheVariants as causes
 use Rattle.script_read.specs.declared.command.Command.{Command}
 use Rattle.script_read.specs.declared.command.Command.TheVariants.{Node}
 use Rattle.script_read.specs.declared.command.OpWords.{OpWords}
 use Rattle.script_read.specs.declared.command.OpWords.TheVariants.{Source, Color, Checker, Convert, Invert, Threshold, Gain, Translate, Crop, Flip, BoxMean, Dilate, Erode, Add, Over, Mask}
-
--- the greatest radius of a square of places around a place
-abbrev pub greatest_radius : ℕ
-greatest_radius = 64
-
--- the most places a side of a checker's squares
-abbrev pub greatest_size : ℕ
-greatest_size = 4096
 
 -- the name of the node, and its inputs from a word on
 unfoldable pub ends_from : ℕ → List (List ℕ) → Result Ends ScriptCause

@@ -1,21 +1,25 @@
 -- The script that a text is: the commands of its lines, or the first line that has a cause with the lowest of its
 -- causes.
-use Rattle.std.specs.Prelude.{ℕ, ◌+◌, ◌==◌, nat_le, Bool, true, false, if◌then◌else◌, List, [], ◌∷◌, length, Option, Some, None, Result, Ok, Err}
+use Rattle.std.specs.Prelude.{ℕ, ◌+◌, ◌^◌, ◌==◌, nat_le, Bool, true, false, if◌then◌else◌, List, [], ◌∷◌, length, Option, Some, None, Result, Ok, Err}
 use Rattle.std.specs.Option.{ok_or}
 use Rattle.script_words.specs.Lines.{is_text, lines_of}
 use Rattle.script_words.specs.Words.{words_of}
 use Rattle.script_read.specs.Commands.{buffer, sub, dup, load, fill, copy, drop_node, alone, render, grab, watch}
-use Rattle.script_read.specs.Fields.{◌>>=◌, passed, word_at}
+use Rattle.script_fields.specs.Fields.{◌>>=◌, passed, word_at}
 use Rattle.script_read.specs.Keywords.{keyword_of}
 use Rattle.script_read.specs.Nodes.{node}
-use Rattle.script_read.specs.declared.cause.ScriptCause.{ScriptCause}
-use Rattle.script_read.specs.declared.cause.ScriptCause.TheVariants as causes
+use Rattle.script_fields.specs.declared.cause.ScriptCause.{ScriptCause}
+use Rattle.script_fields.specs.declared.cause.ScriptCause.TheVariants as causes
 use Rattle.script_read.specs.declared.command.Command.{Command}
 use Rattle.script_read.specs.declared.command.Command.TheVariants as commands
 use Rattle.script_read.specs.declared.command.Line.{Line}
 use Rattle.script_read.specs.declared.keyword.Keyword.{Keyword}
 use Rattle.script_read.specs.declared.keyword.Keyword.TheVariants.{Buffer, Sub, Dup, Load, Fill, Copy, Node, Drop, Commit, Undo, Redo, Render, Grab, Watch, EndWatch}
 use Rattle.script_read.specs.declared.reader.Step.{Step}
+
+-- the most bytes that a script may have
+abbrev pub script_limit : ℕ
+script_limit = 2 ^ 20
 
 -- the most bytes of a line, without its end
 abbrev pub longest_line : ℕ

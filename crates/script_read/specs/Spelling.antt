@@ -1,15 +1,13 @@
 -- How commands are spelled: their words, with single spaces between them, each command on the line of its number.
-use Rattle.std.specs.Prelude.{ℕ, pos, ◌+◌, ◌-◌, IsTrue, true, false, List, [], ◌∷◌, ◌++◌, map, replicate, codes, decimal}
-use Rattle.std.specs.Fmt.{signed_decimal}
-use Rattle.plane_rect.specs.Rectangle.{IsRectangle, plane_coordinate}
+use Rattle.std.specs.Prelude.{ℕ, ◌+◌, ◌-◌, IsTrue, List, [], ◌∷◌, ◌++◌, map, replicate, decimal}
 use Rattle.plane_rect.specs.Name.{is_name}
-use Rattle.outside_io.specs.FileName.{is_file_name}
-use Rattle.sample_rows.specs.Format.{word}
 use Rattle.script_words.specs.Lines.{text_of}
 use Rattle.script_words.specs.Words.{joined}
+use Rattle.script_fields.specs.Spelling.{AreKept, AreNames, words_of_fields}
+use Rattle.script_fields.specs.declared.field.Field.{Field}
+use Rattle.script_fields.specs.declared.field.Field.TheVariants as fields
 use Rattle.script_read.specs.Keywords.{keyword_word}
 use Rattle.script_read.specs.OperationWords.{operation_word}
-use Rattle.script_read.specs.Policies.{policy_word}
 use Rattle.script_read.specs.declared.command.Command.{Command}
 use Rattle.script_read.specs.declared.command.Command.TheVariants.{Buffer, Sub, Dup, Load, Fill, Copy, Node, Drop, Commit, Undo, Redo, Render, Grab, Watch, EndWatch}
 use Rattle.script_read.specs.declared.command.OpWords.{OpWords}
@@ -19,30 +17,6 @@ use Rattle.script_read.specs.declared.keyword.Keyword.{Keyword}
 use Rattle.script_read.specs.declared.keyword.Keyword.TheVariants as keywords
 use Rattle.script_read.specs.declared.operation_word.OperationWord.{OperationWord}
 use Rattle.script_read.specs.declared.operation_word.OperationWord.TheVariants as operations
-use Rattle.script_read.specs.declared.field.Field.{Field}
-use Rattle.script_read.specs.declared.field.Field.TheVariants as fields
-
--- the words of a field
-abbrev pub field_words : Field → List (List ℕ)
-field_words (fields.Name name) = name ∷ []
-field_words (fields.File name) = name ∷ []
-field_words (fields.Format format) = word format ∷ []
-field_words (fields.Policy policy) = policy_word policy ∷ []
-field_words (fields.Natural value) = decimal value ∷ []
-field_words (fields.Integer value) = signed_decimal value ∷ []
-field_words (fields.Sideways true) = codes "h" ∷ []
-field_words (fields.Sideways false) = codes "v" ∷ []
-field_words (fields.Rect rect) =
-    signed_decimal (plane_coordinate rect.left)
-    ∷ signed_decimal (plane_coordinate rect.top)
-    ∷ signed_decimal (pos rect.width)
-    ∷ signed_decimal (pos rect.height)
-    ∷ []
-
--- those of some fields
-abbrev pub words_of_fields : List Field → List (List ℕ)
-words_of_fields [] = []
-words_of_fields (field ∷ others) = field_words field ++ words_of_fields others
 
 -- ---- operations
 
@@ -114,7 +88,17 @@ keyword (Grab name level policy rect file) = keywords.Grab
 keyword (Watch name rect viewers frames prefix) = keywords.Watch
 keyword EndWatch = keywords.EndWatch
 
--- the fields behind it, up to those that are lists
+-- the fields of the commands that write files
+abbrev pub output_fields : Command → List Field
+output_fields (Render name level rect file) =
+    fields.Name name ∷ fields.Natural level ∷ fields.Rect rect ∷ fields.File file ∷ []
+output_fields (Grab name level policy rect file) =
+    fields.Name name ∷ fields.Natural level ∷ fields.Policy policy ∷ fields.Rect rect ∷ fields.File file ∷ []
+output_fields (Watch name rect viewers frames prefix) =
+    fields.Name name ∷ fields.Rect rect ∷ fields.Natural viewers ∷ fields.Natural frames ∷ fields.File prefix ∷ []
+output_fields command = []
+
+-- the fields behind the first word, up to those that are lists
 abbrev pub fields_of : Command → List Field
 fields_of (Buffer name format rect) = fields.Name name ∷ fields.Format format ∷ fields.Rect rect ∷ []
 fields_of (Sub name parent rect) = fields.Name name ∷ fields.Name parent ∷ fields.Rect rect ∷ []
@@ -125,16 +109,7 @@ fields_of (Copy from to rect dx dy) =
     fields.Name from ∷ fields.Name to ∷ fields.Rect rect ∷ fields.Integer dx ∷ fields.Integer dy ∷ []
 fields_of (Node name op inputs) = fields.Name name ∷ []
 fields_of (Drop name) = fields.Name name ∷ []
-fields_of Commit = []
-fields_of Undo = []
-fields_of Redo = []
-fields_of (Render name level rect file) =
-    fields.Name name ∷ fields.Natural level ∷ fields.Rect rect ∷ fields.File file ∷ []
-fields_of (Grab name level policy rect file) =
-    fields.Name name ∷ fields.Natural level ∷ fields.Policy policy ∷ fields.Rect rect ∷ fields.File file ∷ []
-fields_of (Watch name rect viewers frames prefix) =
-    fields.Name name ∷ fields.Rect rect ∷ fields.Natural viewers ∷ fields.Natural frames ∷ fields.File prefix ∷ []
-fields_of EndWatch = []
+fields_of command = output_fields command
 
 -- the words behind these: samples, or an operation and its inputs
 abbrev pub list_words : Command → List (List ℕ)
@@ -159,22 +134,6 @@ unfoldable pub printed : List Line → List ℕ
 printed lines = text_of (lines_printed 1 lines)
 
 -- ---- what the types of fields keep
-
--- a name is a name, a name of a file one, and a rectangle one of the plane
-abbrev pub IsKept : Field → Type 0
-IsKept (fields.Name name) = IsTrue (is_name name)
-IsKept (fields.File name) = IsTrue (is_file_name name)
-IsKept (fields.Rect rect) = IsRectangle rect
-IsKept field = Unit {0}
-
-abbrev pub AreKept : List Field → Type 0
-AreKept [] = Unit {0}
-AreKept (field ∷ others) = IsKept field × AreKept others
-
--- names are names
-abbrev pub AreNames : List (List ℕ) → Type 0
-AreNames [] = Unit {0}
-AreNames (name ∷ names) = IsTrue (is_name name) × AreNames names
 
 -- the fields of a command are what their types keep
 abbrev pub KeepsTypes : Command → Type 0

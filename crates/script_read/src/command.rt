@@ -1,11 +1,12 @@
 //! The commands of scripts.
 
-use crate::lists::Names;
+use crate::keyword::Keyword;
+use crate::operation_word::OperationWord;
 use abyss_levels::Abyss;
 use operations::Samples;
 use plane_rect::{Name, Rect};
 use sample_rows::Format;
-use script_words::FileName;
+use script_fields::{FileName, Names};
 
 /// A command, and the number of its line in the script, counted from 1.
 #[derive(Drop)]
@@ -99,6 +100,34 @@ pub enum Command {
     EndWatch,
 }
 
+impl Command {
+    ghost use Rattle.std.specs.Prelude.{◌≡◌};
+    ghost use Rattle.script_read.specs.Spelling.{keyword};
+
+    /// Its first word.
+    pub(crate) fn keyword(&self) -> Keyword
+        ensures { result ≡ keyword self.now }
+    {
+        match self {
+            Command::Buffer { .. } => Keyword::Buffer,
+            Command::Sub { .. } => Keyword::Sub,
+            Command::Dup { .. } => Keyword::Dup,
+            Command::Load { .. } => Keyword::Load,
+            Command::Fill { .. } => Keyword::Fill,
+            Command::Copy { .. } => Keyword::Copy,
+            Command::Node { .. } => Keyword::Node,
+            Command::Drop { .. } => Keyword::Drop,
+            Command::Commit => Keyword::Commit,
+            Command::Undo => Keyword::Undo,
+            Command::Redo => Keyword::Redo,
+            Command::Render { .. } => Keyword::Render,
+            Command::Grab { .. } => Keyword::Grab,
+            Command::Watch { .. } => Keyword::Watch,
+            Command::EndWatch => Keyword::EndWatch,
+        }
+    }
+}
+
 /// What a node does, with its arguments: an operation as [`operations::IntOp`] has it, or a buffer's samples.
 #[derive(Drop)]
 pub enum OpWords {
@@ -154,4 +183,33 @@ pub enum OpWords {
     Add,
     Over,
     Mask,
+}
+
+impl OpWords {
+    ghost use Rattle.std.specs.Prelude.{◌≡◌};
+    ghost use Rattle.script_read.specs.Spelling.{word_of};
+
+    /// The third word of its node.
+    pub(crate) fn word(&self) -> OperationWord
+        ensures { result ≡ word_of self.now }
+    {
+        match self {
+            OpWords::Source { .. } => OperationWord::Source,
+            OpWords::Color { .. } => OperationWord::Color,
+            OpWords::Checker { .. } => OperationWord::Checker,
+            OpWords::Convert { .. } => OperationWord::Convert,
+            OpWords::Invert => OperationWord::Invert,
+            OpWords::Threshold { .. } => OperationWord::Threshold,
+            OpWords::Gain { .. } => OperationWord::Gain,
+            OpWords::Translate { .. } => OperationWord::Translate,
+            OpWords::Crop { .. } => OperationWord::Crop,
+            OpWords::Flip { .. } => OperationWord::Flip,
+            OpWords::BoxMean { .. } => OperationWord::BoxMean,
+            OpWords::Dilate { .. } => OperationWord::Dilate,
+            OpWords::Erode { .. } => OperationWord::Erode,
+            OpWords::Add => OperationWord::Add,
+            OpWords::Over => OperationWord::Over,
+            OpWords::Mask => OperationWord::Mask,
+        }
+    }
 }

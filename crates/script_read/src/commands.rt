@@ -4,22 +4,18 @@
 //! that the lowest cause is told.
 
 ghost use Rattle.std.specs.Prelude.{◌≡◌, IfOk};
-ghost use Rattle.script_read.specs.Answers.{Answers};
-ghost use Rattle.script_read.specs.Commands.{alone, buffer, copy, drop_node, dup, fill, grab, greatest_level, load, render, sub, watch};
-ghost use Rattle.script_read.specs.Fields.{texts};
+ghost use Rattle.script_fields.specs.Answers.{Answers};
+ghost use Rattle.script_fields.specs.Limits.{greatest_level};
+ghost use Rattle.script_read.specs.Commands.{alone, buffer, copy, drop_node, dup, fill, grab, load, render, sub, watch};
+ghost use Rattle.script_fields.specs.Fields.{texts};
 ghost use Rattle.script_read.specs.Limits.{KeepsLimits};
 
-use crate::cause::LineAnswer;
 use crate::command::Command;
-use crate::fields::{
-    corner_at, count, count_in, file_at, format_at, move_at, name_at, natural_at, policy_at,
-    prefix_at,
+use script_fields::{
+    GREATEST_LEVEL, LineAnswer, corner_at, count, count_in, file_at, format_at, move_at, name_at,
+    natural_at, policy_at, prefix_at, samples_from,
 };
-use crate::lists::samples_from;
 use std::alloc::Global;
-
-/// The greatest level.
-pub(crate) const GREATEST_LEVEL: u32 = 8;
 
 /// `buffer B FORMAT X Y W H`
 pub(crate) fn buffer(words: &[&[u8]]) -> Result<Command, LineAnswer>
@@ -119,31 +115,14 @@ pub(crate) fn drop_node(words: &[&[u8]]) -> Result<Command, LineAnswer>
     Ok(Command::Drop { name })
 }
 
-/// `commit`
-pub(crate) fn commit(words: &[&[u8]]) -> Result<Command, LineAnswer>
-    ensures value { Answers result (alone Command.Commit (texts words.now)) }
+/// `commit`, `undo`, `redo`, `endwatch`: the command alone
+pub(crate) fn alone(command: Command, words: &[&[u8]]) -> Result<Command, LineAnswer>
+    requires { KeepsLimits command }
+    ensures value { Answers result (alone command (texts words.now)) }
     ensures limits { IfOk result KeepsLimits }
 {
     count(1, words)?;
-    Ok(Command::Commit)
-}
-
-/// `undo`
-pub(crate) fn undo(words: &[&[u8]]) -> Result<Command, LineAnswer>
-    ensures value { Answers result (alone Command.Undo (texts words.now)) }
-    ensures limits { IfOk result KeepsLimits }
-{
-    count(1, words)?;
-    Ok(Command::Undo)
-}
-
-/// `redo`
-pub(crate) fn redo(words: &[&[u8]]) -> Result<Command, LineAnswer>
-    ensures value { Answers result (alone Command.Redo (texts words.now)) }
-    ensures limits { IfOk result KeepsLimits }
-{
-    count(1, words)?;
-    Ok(Command::Redo)
+    Ok(command)
 }
 
 /// `render N LEVEL X Y W H FILE`
@@ -205,13 +184,4 @@ pub(crate) fn watch(words: &[&[u8]]) -> Result<Command, LineAnswer>
         frames,
         prefix,
     })
-}
-
-/// `endwatch`
-pub(crate) fn end_watch(words: &[&[u8]]) -> Result<Command, LineAnswer>
-    ensures value { Answers result (alone Command.EndWatch (texts words.now)) }
-    ensures limits { IfOk result KeepsLimits }
-{
-    count(1, words)?;
-    Ok(Command::EndWatch)
 }

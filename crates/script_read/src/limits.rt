@@ -2,15 +2,15 @@
 
 ghost use Rattle.std.specs.Prelude.{◌≡◌, ◌↔◌, ◌≤◌, IsTrue};
 ghost use Rattle.script_read.specs.IsScript.{IsScript};
-ghost use Rattle.script_read.specs.Limits.{ArePixel, InRange, IsIn, IsLevelRect, IsMove, IsSample, IsSquare, KeepsLimits, input_count};
+ghost use Rattle.script_fields.specs.Limits.{ArePixel, IsIn, IsLevelRect, IsMove, IsSample, IsSquare};
+ghost use Rattle.script_read.specs.Limits.{InRange, KeepsLimits, input_count};
 
 use crate::command::{Command, Line, OpWords};
-use crate::commands::GREATEST_LEVEL;
-use crate::fields::{FURTHEST_MOVE, GREATEST_SAMPLE, LONGEST_PREFIX, may_watch};
-use crate::nodes::{GREATEST_RADIUS, GREATEST_SIZE};
 use crate::reader::{MOST_LINES, open_behind};
-use abyss_levels::Abyss;
-use plane_rect::Rect;
+use script_fields::{
+    GREATEST_SAMPLE, GREATEST_SIZE, LONGEST_PREFIX, are_pixel, is_in, is_level_rect, is_move,
+    is_square, may_watch,
+};
 
 /// Whether lines are a script's: their numbers rise from 1 or more up to at most 10,000, the fields of their commands
 /// keep their limits, and each watch is ended before another begins.
@@ -115,40 +115,4 @@ fn input_count(op: &OpWords) -> usize
         OpWords::Add | OpWords::Over | OpWords::Mask => 2,
         _ => 1,
     }
-}
-
-fn is_in(low: u32, high: u32, value: u32) -> bool
-    ensures { IsTrue result ↔ IsIn low high value }
-{
-    low <= value && value <= high
-}
-
-/// Whether there are 1 to 4 samples.
-fn are_pixel(samples: &[u32]) -> bool
-    ensures { IsTrue result ↔ ArePixel samples.now }
-{
-    1 <= samples.len()
-        && samples.len() <= 4
-        && samples.iter().all(|sample| *sample <= GREATEST_SAMPLE)
-}
-
-/// Whether something may be moved so far along an axis.
-fn is_move(distance: i64) -> bool
-    ensures { IsTrue result ↔ IsMove distance }
-{
-    -FURTHEST_MOVE <= distance && distance <= FURTHEST_MOVE
-}
-
-/// Whether an operation on squares of places may have a radius and a policy.
-fn is_square(radius: u32, abyss: Abyss) -> bool
-    ensures { IsTrue result ↔ IsSquare radius abyss }
-{
-    is_in(1, GREATEST_RADIUS, radius) && abyss != Abyss::Loop
-}
-
-/// Whether a rectangle may be read at a level.
-fn is_level_rect(level: u32, rect: &Rect) -> bool
-    ensures { IsTrue result ↔ IsLevelRect level rect.now }
-{
-    level <= GREATEST_LEVEL && rect.in_limits() && rect.scaled(level).is_some()
 }

@@ -4,27 +4,20 @@
 //! rectangle, so that the lowest cause is told.
 
 ghost use Rattle.std.specs.Prelude.{◌≡◌, ◌+◌, ◌≤◌, ◌<◌, IfOk, length};
-ghost use Rattle.script_read.specs.Answers.{Answers};
-ghost use Rattle.script_read.specs.Fields.{texts};
+ghost use Rattle.script_fields.specs.Answers.{Answers};
+ghost use Rattle.script_fields.specs.Fields.{texts};
 ghost use Rattle.script_read.specs.Limits.{InRange, KeepsLimits, input_count};
 ghost use Rattle.script_read.specs.Nodes.{bare, box_mean, checker, color, convert, crop, dilate, ends_from, erode, flip, gain, node, node_by, node_of, source, threshold, translate};
 
-use crate::cause::{LineAnswer, ScriptCause};
 use crate::command::{Command, OpWords};
-use crate::fields::{
-    corner_at, count, count_in, format_at, move_at, name_at, natural_at, near_policy_at, sample_at,
-    sideways_at, word_at,
-};
-use crate::lists::{Names, names_from, samples_from};
 use crate::operation_word::OperationWord;
 use plane_rect::Name;
+use script_fields::{
+    GREATEST_RADIUS, GREATEST_SIZE, LineAnswer, Names, ScriptCause, corner_at, count, count_in,
+    format_at, move_at, name_at, names_from, natural_at, near_policy_at, sample_at, samples_from,
+    sideways_at, word_at,
+};
 use std::alloc::Global;
-
-/// The greatest radius of a square of places around a place.
-pub(crate) const GREATEST_RADIUS: u32 = 64;
-
-/// The most places a side of a checker's squares.
-pub(crate) const GREATEST_SIZE: u32 = 4096;
 
 /// What a node has before and behind its operation.
 #[derive(Drop)]
@@ -35,8 +28,8 @@ pub(crate) struct Ends {
 
 impl Ends {
     ghost use Rattle.std.specs.Prelude.{◌≡◌, ◌+◌, ◌≤◌, ◌<◌, ◌∷◌, IfOk, length};
-    ghost use Rattle.script_read.specs.Answers.{Answers};
-    ghost use Rattle.script_read.specs.Fields.{texts};
+    ghost use Rattle.script_fields.specs.Answers.{Answers};
+    ghost use Rattle.script_fields.specs.Fields.{texts};
     ghost use Rattle.script_read.specs.Limits.{InRange, KeepsLimits, input_count};
     ghost use Rattle.script_read.specs.Nodes.{ends_from, node_of};
 

@@ -1,19 +1,16 @@
 //! Scripts are printed, command by command.
 
-ghost use Rattle.std.specs.Prelude.{◌≡◌, [], ◌∷◌, ◌++◌, IfOk, OnOk, Ok, replicate};
+ghost use Rattle.std.specs.Prelude.{◌≡◌, ◌++◌, IfOk, OnOk, Ok, map, decimal, replicate};
 ghost use Rattle.script_words.specs.Words.{joined, spaced};
+ghost use Rattle.script_fields.specs.Spelling.{AreKept, words_of_fields};
 ghost use Rattle.script_read.specs.IsScript.{IsScript};
-ghost use Rattle.script_read.specs.Keywords.{keyword_word};
-ghost use Rattle.script_read.specs.OperationWords.{operation_word};
 ghost use Rattle.script_read.specs.Script.{script_of};
-ghost use Rattle.script_read.specs.Spelling.{AreKept, KeepsTypes, arguments, operation_spelled, printed, spelled, words_of_fields};
+ghost use Rattle.script_read.specs.Spelling.{KeepsTypes, arguments, fields_of, list_words, operation_spelled, output_fields, printed, samples_in, spelled};
 
 use crate::command::{Command, Line, OpWords};
-use crate::field::{Field, put_fields, put_names, put_samples};
-use crate::keyword::Keyword;
-use crate::operation_word::OperationWord;
-use abyss_levels::Abyss;
 use no_memory::NoMemory;
+use script_fields::Field::{File, Format, Integer, Name, Natural, Policy, Rect, Sideways};
+use script_fields::{put_fields, put_names, put_samples};
 use script_words::push_word;
 use std::alloc::Global;
 
@@ -49,243 +46,152 @@ fn put_feeds(text: &mut Vec<u8>, count: u32) -> Result<(), NoMemory>
 }
 
 /// Puts the words of a command behind a text, with single spaces between them.
+#[tactic(auto, using(crate::proofs::PrintLaws::command_put))]
 fn put_command(text: &mut Vec<u8>, command: &Command) -> Result<(), NoMemory>
     ensures text { OnOk result (text.new.items ≡ text.old.items ++ joined (spelled command.now)) }
     ensures kept { OnOk result (KeepsTypes command.now) }
 {
+    text.extend_from_slice(command.keyword().word().as_bytes())?;
+    put_fields_of(text, command)?;
+    put_lists_of(text, command)
+}
+
+/// Puts the fields of a command behind a text, up to those that are lists, each word behind a space.
+fn put_fields_of(text: &mut Vec<u8>, command: &Command) -> Result<(), NoMemory>
+    ensures text { OnOk result (text.new.items ≡ text.old.items ++ spaced (words_of_fields (fields_of command.now))) }
+    ensures kept { OnOk result (AreKept (fields_of command.now)) }
+{
     match command {
-        Command::Buffer { name, format, rect } => put(
-            text,
-            Keyword::Buffer,
-            &[
-                Field::Name(*name),
-                Field::Format(*format),
-                Field::Rect(*rect),
-            ],
-        ),
-        Command::Sub { name, parent, rect } => put(
-            text,
-            Keyword::Sub,
-            &[Field::Name(*name), Field::Name(*parent), Field::Rect(*rect)],
-        ),
-        Command::Dup { name, from } => put(
-            text,
-            Keyword::Dup,
-            &[Field::Name(*name), Field::Name(*from)],
-        ),
-        Command::Load { name, rect, file } => put(
-            text,
-            Keyword::Load,
-            &[Field::Name(*name), Field::Rect(*rect), Field::File(*file)],
-        ),
-        Command::Fill {
-            name,
-            rect,
-            samples,
-        } => {
-            put(
-                text,
-                Keyword::Fill,
-                &[Field::Name(*name), Field::Rect(*rect)],
-            )?;
-            put_samples(text, samples.as_slice())
+        Command::Buffer { name, format, rect } => {
+            put_fields(text, &[Name(*name), Format(*format), Rect(*rect)])
         }
+        Command::Sub { name, parent, rect } => {
+            put_fields(text, &[Name(*name), Name(*parent), Rect(*rect)])
+        }
+        Command::Dup { name, from } => put_fields(text, &[Name(*name), Name(*from)]),
+        Command::Load { name, rect, file } => {
+            put_fields(text, &[Name(*name), Rect(*rect), File(*file)])
+        }
+        Command::Fill { name, rect, .. } => put_fields(text, &[Name(*name), Rect(*rect)]),
         Command::Copy {
             from,
             to,
             rect,
             dx,
             dy,
-        } => put(
-            text,
-            Keyword::Copy,
-            &[
-                Field::Name(*from),
-                Field::Name(*to),
-                Field::Rect(*rect),
-                Field::Integer(*dx),
-                Field::Integer(*dy),
-            ],
-        ),
-        Command::Node { name, op, inputs } => {
-            put(text, Keyword::Node, &[Field::Name(*name)])?;
-            put_operation(text, op)?;
-            put_names(text, inputs.as_slice())
+        } => {
+            put_fields(text, &[Name(*from), Name(*to)])?;
+            put_fields(text, &[Rect(*rect), Integer(*dx), Integer(*dy)])
         }
-        Command::Drop { name } => put(text, Keyword::Drop, &[Field::Name(*name)]),
-        Command::Commit => put(text, Keyword::Commit, &[]),
-        Command::Undo => put(text, Keyword::Undo, &[]),
-        Command::Redo => put(text, Keyword::Redo, &[]),
+        Command::Node { name, .. } | Command::Drop { name } => put_fields(text, &[Name(*name)]),
+        _ => put_output_fields(text, command),
+    }
+}
+
+/// The same of a command that writes files. Others put nothing.
+fn put_output_fields(text: &mut Vec<u8>, command: &Command) -> Result<(), NoMemory>
+    ensures text { OnOk result (text.new.items ≡ text.old.items ++ spaced (words_of_fields (output_fields command.now))) }
+    ensures kept { OnOk result (AreKept (output_fields command.now)) }
+{
+    match command {
         Command::Render {
             name,
             level,
             rect,
             file,
-        } => put(
-            text,
-            Keyword::Render,
-            &[
-                Field::Name(*name),
-                Field::Natural(*level),
-                Field::Rect(*rect),
-                Field::File(*file),
-            ],
-        ),
+        } => {
+            put_fields(text, &[Name(*name), Natural(*level)])?;
+            put_fields(text, &[Rect(*rect), File(*file)])
+        }
         Command::Grab {
             name,
             level,
             abyss,
             rect,
             file,
-        } => put(
-            text,
-            Keyword::Grab,
-            &[
-                Field::Name(*name),
-                Field::Natural(*level),
-                Field::Policy(*abyss),
-                Field::Rect(*rect),
-                Field::File(*file),
-            ],
-        ),
+        } => {
+            put_fields(text, &[Name(*name), Natural(*level), Policy(*abyss)])?;
+            put_fields(text, &[Rect(*rect), File(*file)])
+        }
         Command::Watch {
             name,
             rect,
             viewers,
             frames,
             prefix,
-        } => put(
-            text,
-            Keyword::Watch,
-            &[
-                Field::Name(*name),
-                Field::Rect(*rect),
-                Field::Natural(*viewers),
-                Field::Natural(*frames),
-                Field::File(*prefix),
-            ],
-        ),
-        Command::EndWatch => put(text, Keyword::EndWatch, &[]),
+        } => {
+            put_fields(text, &[Name(*name), Rect(*rect)])?;
+            put_fields(text, &[Natural(*viewers), Natural(*frames), File(*prefix)])
+        }
+        _ => Ok(()),
     }
 }
 
-/// Puts the first word of a command and fields behind a text, with single spaces between them.
-fn put(text: &mut Vec<u8>, keyword: Keyword, fields: &[Field]) -> Result<(), NoMemory>
-    ensures text { OnOk result (text.new.items
-        ≡ text.old.items ++ joined (keyword_word keyword ∷ words_of_fields fields.now)) }
-    ensures kept { OnOk result (AreKept fields.now) }
+/// Puts the words behind the fields of a command, each behind a space: samples, or an operation and its inputs.
+fn put_lists_of(text: &mut Vec<u8>, command: &Command) -> Result<(), NoMemory>
+    ensures text { OnOk result (text.new.items ≡ text.old.items ++ spaced (list_words command.now)) }
+    ensures kept { OnOk result (AreKept (fields_of command.now) → KeepsTypes command.now) }
 {
-    text.extend_from_slice(keyword.word().as_bytes())?;
-    put_fields(text, fields)
+    match command {
+        Command::Fill { samples, .. } => put_samples(text, samples.as_slice()),
+        Command::Node { op, inputs, .. } => {
+            put_operation(text, op)?;
+            put_names(text, inputs.as_slice())
+        }
+        _ => Ok(()),
+    }
 }
 
 /// Puts the words of an operation and its arguments behind a text, each behind a space.
+#[tactic(auto, using(script_fields::proofs::PrintLaws::spaced_put))]
 fn put_operation(text: &mut Vec<u8>, op: &OpWords) -> Result<(), NoMemory>
     ensures text { OnOk result (text.new.items ≡ text.old.items ++ spaced (operation_spelled op.now)) }
     ensures kept { OnOk result (AreKept (arguments op.now)) }
 {
+    push_word(text, op.word().word().as_bytes())?;
+    put_arguments(text, op)?;
+    put_samples_in(text, op)
+}
+
+/// Puts the arguments of an operation behind a text, but samples, each word behind a space.
+fn put_arguments(text: &mut Vec<u8>, op: &OpWords) -> Result<(), NoMemory>
+    ensures text { OnOk result (text.new.items ≡ text.old.items ++ spaced (words_of_fields (arguments op.now))) }
+    ensures kept { OnOk result (AreKept (arguments op.now)) }
+{
     match op {
-        OpWords::Source { buffer } => {
-            put_argued(text, OperationWord::Source, &[Field::Name(*buffer)])
-        }
-        OpWords::Color {
-            format,
-            rect,
-            samples,
-        } => {
-            put_argued(
-                text,
-                OperationWord::Color,
-                &[Field::Format(*format), Field::Rect(*rect)],
-            )?;
-            put_samples(text, samples.as_slice())
-        }
+        OpWords::Source { buffer } => put_fields(text, &[Name(*buffer)]),
+        OpWords::Color { format, rect, .. } => put_fields(text, &[Format(*format), Rect(*rect)]),
         OpWords::Checker {
             format,
             rect,
             size,
             v1,
             v2,
-        } => put_argued(
-            text,
-            OperationWord::Checker,
-            &[
-                Field::Format(*format),
-                Field::Rect(*rect),
-                Field::Natural(*size),
-                Field::Natural(*v1),
-                Field::Natural(*v2),
-            ],
-        ),
-        OpWords::Convert { format } => {
-            put_argued(text, OperationWord::Convert, &[Field::Format(*format)])
+        } => {
+            put_fields(text, &[Format(*format), Rect(*rect)])?;
+            put_fields(text, &[Natural(*size), Natural(*v1), Natural(*v2)])
         }
-        OpWords::Invert => put_argued(text, OperationWord::Invert, &[]),
-        OpWords::Threshold { at } => {
-            put_argued(text, OperationWord::Threshold, &[Field::Natural(*at)])
+        OpWords::Convert { format } => put_fields(text, &[Format(*format)]),
+        OpWords::Threshold { at } => put_fields(text, &[Natural(*at)]),
+        OpWords::Gain { num, den } => put_fields(text, &[Natural(*num), Natural(*den)]),
+        OpWords::Translate { dx, dy } => put_fields(text, &[Integer(*dx), Integer(*dy)]),
+        OpWords::Crop { rect } => put_fields(text, &[Rect(*rect)]),
+        OpWords::Flip { sideways } => put_fields(text, &[Sideways(*sideways)]),
+        OpWords::BoxMean { radius, abyss }
+        | OpWords::Dilate { radius, abyss }
+        | OpWords::Erode { radius, abyss } => {
+            put_fields(text, &[Natural(*radius), Policy(*abyss)])
         }
-        OpWords::Gain { num, den } => put_argued(
-            text,
-            OperationWord::Gain,
-            &[Field::Natural(*num), Field::Natural(*den)],
-        ),
-        OpWords::Translate { dx, dy } => put_translate(text, *dx, *dy),
-        OpWords::Crop { rect } => put_argued(text, OperationWord::Crop, &[Field::Rect(*rect)]),
-        OpWords::Flip { sideways } => {
-            put_argued(text, OperationWord::Flip, &[Field::Sideways(*sideways)])
-        }
-        OpWords::BoxMean { radius, abyss } => {
-            put_square(text, OperationWord::BoxMean, *radius, *abyss)
-        }
-        OpWords::Dilate { radius, abyss } => {
-            put_square(text, OperationWord::Dilate, *radius, *abyss)
-        }
-        OpWords::Erode { radius, abyss } => put_square(text, OperationWord::Erode, *radius, *abyss),
-        OpWords::Add => put_argued(text, OperationWord::Add, &[]),
-        OpWords::Over => put_argued(text, OperationWord::Over, &[]),
-        OpWords::Mask => put_argued(text, OperationWord::Mask, &[]),
+        OpWords::Invert | OpWords::Add | OpWords::Over | OpWords::Mask => Ok(()),
     }
 }
 
-/// Puts the word of an operation and arguments behind a text, each behind a space.
-fn put_argued(
-    text: &mut Vec<u8>,
-    operation: OperationWord,
-    arguments: &[Field],
-) -> Result<(), NoMemory>
-    ensures text { OnOk result (text.new.items
-        ≡ text.old.items ++ spaced (operation_word operation ∷ words_of_fields arguments.now)) }
-    ensures kept { OnOk result (AreKept arguments.now) }
+/// Puts the samples of an operation behind a text, each behind a space.
+fn put_samples_in(text: &mut Vec<u8>, op: &OpWords) -> Result<(), NoMemory>
+    ensures { OnOk result (text.new.items ≡ text.old.items ++ spaced (map decimal (samples_in op.now))) }
 {
-    push_word(text, operation.word().as_bytes())?;
-    put_fields(text, arguments)
-}
-
-/// The same of a translation.
-fn put_translate(text: &mut Vec<u8>, dx: i64, dy: i64) -> Result<(), NoMemory>
-    ensures { OnOk result (text.new.items ≡ text.old.items ++ spaced
-        (operation_word OperationWord.Translate ∷ words_of_fields (Field.Integer dx ∷ Field.Integer dy ∷ []))) }
-{
-    put_argued(
-        text,
-        OperationWord::Translate,
-        &[Field::Integer(dx), Field::Integer(dy)],
-    )
-}
-
-/// The same of an operation on squares of places.
-fn put_square(
-    text: &mut Vec<u8>,
-    operation: OperationWord,
-    radius: u32,
-    abyss: Abyss,
-) -> Result<(), NoMemory>
-    ensures { OnOk result (text.new.items ≡ text.old.items ++ spaced
-        (operation_word operation ∷ words_of_fields (Field.Natural radius ∷ Field.Policy abyss ∷ []))) }
-{
-    put_argued(
-        text,
-        operation,
-        &[Field::Natural(radius), Field::Policy(abyss)],
-    )
+    match op {
+        OpWords::Color { samples, .. } => put_samples(text, samples.as_slice()),
+        _ => Ok(()),
+    }
 }

@@ -2,17 +2,17 @@
 
 ghost use Rattle.std.specs.Prelude.{◌≡◌, ◌+◌, ◌≤◌, ◌<◌, IfOk, IfSome, IsTrue, length};
 ghost use Rattle.script_words.specs.Lines.{is_text};
-ghost use Rattle.script_read.specs.Answers.{Answers, Reads};
-ghost use Rattle.script_read.specs.Fields.{texts};
+ghost use Rattle.script_fields.specs.Answers.{Answers};
+ghost use Rattle.script_read.specs.Answers.{Reads};
+ghost use Rattle.script_fields.specs.Fields.{texts};
 ghost use Rattle.script_read.specs.IsScript.{IsScript};
 ghost use Rattle.script_read.specs.Limits.{KeepsLimits};
 ghost use Rattle.script_read.specs.Script.{begins_comment, command_by, command_in, command_of, is_silent, most_lines, open_behind, open_past, script_of, spoken, step_of};
 
-use crate::cause::{LineAnswer, ScriptAnswer, ScriptCause};
 use crate::command::{Command, Line};
-use crate::fields::word_at;
 use crate::keyword::Keyword;
 use crate::{commands, nodes};
+use script_fields::{LineAnswer, ScriptAnswer, ScriptCause, word_at};
 use script_words::{is_text, next_line, split_words};
 use std::alloc::Global;
 
@@ -190,12 +190,12 @@ fn command_by(alloc: Global, keyword: Keyword, words: &[&[u8]]) -> Result<Comman
         Keyword::Copy => commands::copy(words),
         Keyword::Node => nodes::node(alloc, words),
         Keyword::Drop => commands::drop_node(words),
-        Keyword::Commit => commands::commit(words),
-        Keyword::Undo => commands::undo(words),
-        Keyword::Redo => commands::redo(words),
+        Keyword::Commit => commands::alone(Command::Commit, words),
+        Keyword::Undo => commands::alone(Command::Undo, words),
+        Keyword::Redo => commands::alone(Command::Redo, words),
         Keyword::Render => commands::render(words),
         Keyword::Grab => commands::grab(words),
         Keyword::Watch => commands::watch(words),
-        Keyword::EndWatch => commands::end_watch(words),
+        Keyword::EndWatch => commands::alone(Command::EndWatch, words),
     }
 }

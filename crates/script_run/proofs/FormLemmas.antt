@@ -40,12 +40,6 @@ read_more all steps stage next line lines step read took =
     ∙ ap (λ (t : Option (Step × Stage)). before_all steps (from_taken line.number t (λ (later : Stage). steps_from later lines))) took
     ∙ before_all-before steps (record { number = line.number; step = step }) (steps_from next lines)
 
-pub read_break : (all : List Line) (steps : List NumberedStep) (stage : Stage) (line : Line) (lines : List Line) →
-    steps_of all ≡ before_all steps (steps_from stage (line ∷ lines)) → taken stage (step_of line.command) ≡ None →
-    steps_of all ≡ Err line.number
-read_break all steps stage line lines read took =
-    read ∙ ap (λ (t : Option (Step × Stage)). before_all steps (from_taken line.number t (λ (later : Stage). steps_from later lines))) took
-
 -- the steps so far lead to the stage
 abbrev pub LeadsTo : List NumberedStep → Stage → Type 0
 LeadsTo steps stage = (rest : List NumberedStep) → Follows stage rest → Follows Empty (steps ++ rest)
@@ -57,6 +51,3 @@ leads_on steps stage next found number step leads took rest follows =
     let on = stage_of_step stage next found step took in
     let goes : GoOn (next_stage stage step) (λ (s : Stage). Follows s rest) = subst (λ (o : Option Stage). GoOn o (λ (s : Stage). Follows s rest)) (sym on) follows in
     subst (λ (all : List NumberedStep). Follows Empty all) (sym (append_assoc steps (numbered ∷ []) rest)) (leads (numbered ∷ rest) goes)
-
-pub leads_nowhere_else : (steps : List NumberedStep) (stage : Stage) → LeadsTo steps stage → Follows Empty steps
-leads_nowhere_else steps stage leads = subst (λ (all : List NumberedStep). Follows Empty all) (append-nil steps) (leads [] tt)

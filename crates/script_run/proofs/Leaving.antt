@@ -74,17 +74,6 @@ HasCause-then result old mid new first cause = record {
   puts = omega arith;
 }
 
--- want of memory has no cause
-pub memory_cause : (old new : Faults) → NoneFalls old new → HasCause (Err ends.NoMemory) old new
-memory_cause old new first = record {
-  read = λ e. absurd (cc);
-  write = λ e. absurd (cc);
-  put = λ e. absurd (cc);
-  reads = first.reads;
-  writes = first.writes;
-  puts = first.puts;
-}
-
 -- a refusal is no fault
 pub refused_cause : (old new : Faults) → NoneFalls old new → HasCause (Err ends.Refused) old new
 refused_cause old new first = record {

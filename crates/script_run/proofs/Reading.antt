@@ -4,7 +4,7 @@ use Rattle.std.proofs.lemmas.Bool.Decides.{nat_tests}
 use Rattle.outside_io.specs.Files.{Files}
 use Rattle.run_events.specs.declared.cause.Cause.TheVariants as causes
 use Rattle.run_events.specs.Events.{refusal}
-use Rattle.script_run.specs.Words.{script_limit}
+use Rattle.script_read.specs.Script.{script_limit}
 use Rattle.script_run.specs.Outcome.{text_outcome}
 
 pub script_too_long : (files : Files) (found : Option (List ℕ)) → (text : List ℕ) × (found ≡ Some text) × (script_limit < length text) → text_outcome files found ≡ refusal 0 causes.TooLong

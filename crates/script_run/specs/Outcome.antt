@@ -11,7 +11,7 @@ use Rattle.graphs.specs.Operation.{Operation, result_of}
 use Rattle.graphs.specs.Operation as operations
 use Rattle.graphs.specs.Evaluation.{Buffers, buffer_image, evaluated}
 use Rattle.script_read.specs.Script as reading
-use Rattle.script_read.specs.declared.cause.ScriptCause.TheVariants as grammar
+use Rattle.script_fields.specs.declared.cause.ScriptCause.TheVariants as grammar
 use Rattle.script_read.specs.declared.command.Line.{Line}
 use Rattle.run_events.specs.Events.{Event, Writes, Puts, Outcome, nothing, refusal, then_do}
 use Rattle.run_events.specs.Texts.{render_text}
@@ -20,7 +20,7 @@ use Rattle.run_events.specs.declared.cause.Cause.TheVariants as causes
 use Rattle.script_run.specs.declared.step.NumberedStep.{NumberedStep}
 use Rattle.script_run.specs.declared.step.Step.{Step}
 use Rattle.script_run.specs.declared.step.Step.TheVariants.{Buffer, Load, Source, Invert, Commit, Render}
-use Rattle.script_run.specs.Words.{script_of, script_limit}
+use Rattle.script_run.specs.Words.{script_of}
 use Rattle.script_run.specs.Form.{steps_of}
 
 -- What a script has made so far: its buffers, the nodes that are noted for the next commit, and of the last
@@ -105,7 +105,7 @@ lines_outcome files (Err refused) = refusal refused.0 (causes.Grammar refused.1)
 abbrev pub text_outcome : Files → Option (List ℕ) → Outcome
 text_outcome files None = refusal 0 causes.Absent
 text_outcome files (Some text) =
-    if nat_lt script_limit (length text) then refusal 0 causes.TooLong else lines_outcome files (reading.script_of text)
+    if nat_lt reading.script_limit (length text) then refusal 0 causes.TooLong else lines_outcome files (reading.script_of text)
 
 abbrev pub script_outcome : Files → Option (List ℕ) → Outcome
 script_outcome files None = nothing

@@ -1,5 +1,5 @@
 -- The words of the command line.
-use Rattle.std.specs.Prelude.{ℕ, ◌^◌, List, [], ◌∷◌, Option, Some, None, ◌&&◌, if◌then◌else◌, codes}
+use Rattle.std.specs.Prelude.{ℕ, List, [], ◌∷◌, Option, Some, None, ◌&&◌, if◌then◌else◌, codes}
 use Rattle.std.specs.Str.{bytes_eq}
 use Rattle.outside_io.specs.FileName.{is_file_name}
 
@@ -9,7 +9,3 @@ script_of [] = None
 script_of (command ∷ []) = None
 script_of (command ∷ script ∷ []) = if bytes_eq command (codes "run") && is_file_name script then Some script else None
 script_of (command ∷ script ∷ word ∷ more) = None
-
--- the most bytes that a script may have
-abbrev pub script_limit : ℕ
-script_limit = 2 ^ 20

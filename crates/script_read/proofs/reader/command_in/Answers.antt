@@ -3,7 +3,7 @@ use Rattle.std.proofs.lemmas.Bool.Decides.{nat_tests}
 use Rattle.script_words.specs.Lines.{is_text}
 use Rattle.script_words.specs.Words.{words_of}
 use Rattle.script_read.proofs.ScriptLaws.{command_in-of_words}
-use Rattle.script_read.specs.Fields.{texts}
+use Rattle.script_fields.specs.Fields.{texts}
 use Rattle.script_read.proofs.reader.command_in.Goals as goal
 
 pub returns-clause-value : goal.returns-clause-value

@@ -1,0 +1,5 @@
+pub mod FieldsBack
+pub mod Fitting
+pub mod FormatLaws
+pub mod ListLaws
+pub mod PrintLaws

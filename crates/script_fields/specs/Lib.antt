@@ -1,0 +1,6 @@
+pub mod Answers
+pub mod Causes
+pub mod Fields
+pub mod Limits
+pub mod Policies
+pub mod Spelling

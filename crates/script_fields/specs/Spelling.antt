@@ -1,0 +1,48 @@
+-- How fields are spelled, and what their types keep.
+use Rattle.std.specs.Prelude.{ℕ, pos, IsTrue, true, false, List, [], ◌∷◌, ◌++◌, codes, decimal}
+use Rattle.std.specs.Fmt.{signed_decimal}
+use Rattle.plane_rect.specs.Rectangle.{IsRectangle, plane_coordinate}
+use Rattle.plane_rect.specs.Name.{is_name}
+use Rattle.outside_io.specs.FileName.{is_file_name}
+use Rattle.sample_rows.specs.Format.{word}
+use Rattle.script_fields.specs.Policies.{policy_word}
+use Rattle.script_fields.specs.declared.field.Field.{Field}
+use Rattle.script_fields.specs.declared.field.Field.TheVariants as fields
+
+-- the words of a field
+abbrev pub field_words : Field → List (List ℕ)
+field_words (fields.Name name) = name ∷ []
+field_words (fields.File name) = name ∷ []
+field_words (fields.Format format) = word format ∷ []
+field_words (fields.Policy policy) = policy_word policy ∷ []
+field_words (fields.Natural value) = decimal value ∷ []
+field_words (fields.Integer value) = signed_decimal value ∷ []
+field_words (fields.Sideways true) = codes "h" ∷ []
+field_words (fields.Sideways false) = codes "v" ∷ []
+field_words (fields.Rect rect) =
+    signed_decimal (plane_coordinate rect.left)
+    ∷ signed_decimal (plane_coordinate rect.top)
+    ∷ signed_decimal (pos rect.width)
+    ∷ signed_decimal (pos rect.height)
+    ∷ []
+
+-- those of some fields
+abbrev pub words_of_fields : List Field → List (List ℕ)
+words_of_fields [] = []
+words_of_fields (field ∷ others) = field_words field ++ words_of_fields others
+
+-- a name is a name, a name of a file one, and a rectangle one of the plane
+abbrev pub IsKept : Field → Type 0
+IsKept (fields.Name name) = IsTrue (is_name name)
+IsKept (fields.File name) = IsTrue (is_file_name name)
+IsKept (fields.Rect rect) = IsRectangle rect
+IsKept field = Unit {0}
+
+abbrev pub AreKept : List Field → Type 0
+AreKept [] = Unit {0}
+AreKept (field ∷ others) = IsKept field × AreKept others
+
+-- names are names
+abbrev pub AreNames : List (List ℕ) → Type 0
+AreNames [] = Unit {0}
+AreNames (name ∷ names) = IsTrue (is_name name) × AreNames names

@@ -1,0 +1,95 @@
+//! The fields of commands as they are printed. Where no memory is left, some of the words may stand behind the text.
+
+ghost use Rattle.std.specs.Prelude.{◌≡◌, ◌∷◌, ◌++◌, decimal, map, IsTrue, OnOk};
+ghost use Rattle.std.specs.Fmt.{signed_decimal};
+ghost use Rattle.script_words.specs.Words.{spaced};
+ghost use Rattle.plane_rect.specs.Rectangle.{IsRectangle};
+ghost use Rattle.script_fields.specs.Spelling.{field_words, AreKept, AreNames, words_of_fields};
+
+use crate::policy::policy_word;
+use abyss_levels::Abyss;
+use no_memory::NoMemory;
+use plane_rect::{Name, Rect};
+use sample_rows::Format;
+use script_words::{FileName, push_integer, push_natural, push_word};
+
+/// A field of a command: one word, or a rectangle's four.
+#[derive(Clone, Copy, Debug)]
+pub enum Field {
+    Name(Name),
+    File(FileName),
+    Format(Format),
+    Policy(Abyss),
+    Natural(u32),
+    Integer(i64),
+    Sideways(bool),
+    Rect(Rect),
+}
+
+impl Field {
+    ghost use Rattle.std.specs.Prelude.{◌≡◌, ◌++◌, OnOk};
+    ghost use Rattle.script_words.specs.Words.{spaced};
+    ghost use Rattle.script_fields.specs.Spelling.{IsKept, field_words};
+
+    /// Puts its words behind a text, each behind a space.
+    fn put(&self, text: &mut Vec<u8>) -> Result<(), NoMemory>
+        ensures text { OnOk result (text.new.items ≡ text.old.items ++ spaced (field_words self.now)) }
+        ensures kept { OnOk result (IsKept self.now) }
+    {
+        match self {
+            Field::Name(name) => push_word(text, name.as_bytes()),
+            Field::File(file) => push_word(text, file.as_bytes()),
+            Field::Format(format) => push_word(text, format.word().as_bytes()),
+            Field::Policy(policy) => push_word(text, policy_word(*policy).as_bytes()),
+            Field::Natural(value) => push_natural(text, *value),
+            Field::Integer(value) => push_integer(text, *value),
+            Field::Sideways(true) => push_word(text, b"h"),
+            Field::Sideways(false) => push_word(text, b"v"),
+            Field::Rect(rect) => put_rect(text, rect),
+        }
+    }
+}
+
+/// Puts the four numbers of a rectangle behind a text, each behind a space.
+fn put_rect(text: &mut Vec<u8>, rect: &Rect) -> Result<(), NoMemory>
+    ensures text { OnOk result (text.new.items ≡ text.old.items ++ spaced (field_words (Field.Rect rect.now))) }
+    ensures kept { OnOk result (IsRectangle rect.now) }
+{
+    push_integer(text, i64::from(rect.x))?;
+    push_integer(text, i64::from(rect.y))?;
+    push_integer(text, i64::from(rect.w))?;
+    push_integer(text, i64::from(rect.h))?;
+    Ok(())
+}
+
+/// Puts the words of fields behind a text, each behind a space.
+pub fn put_fields(text: &mut Vec<u8>, fields: &[Field]) -> Result<(), NoMemory>
+    ensures text { OnOk result (text.new.items ≡ text.old.items ++ spaced (words_of_fields fields.now)) }
+    ensures kept { OnOk result (AreKept fields.now) }
+{
+    for field in fields {
+        field.put(text)?;
+    }
+    Ok(())
+}
+
+/// Puts names behind a text, each behind a space.
+pub fn put_names(text: &mut Vec<u8>, names: &[Name]) -> Result<(), NoMemory>
+    ensures text { OnOk result (text.new.items ≡ text.old.items ++ spaced names.now) }
+    ensures kept { OnOk result (AreNames names.now) }
+{
+    for name in names {
+        push_word(text, name.as_bytes())?;
+    }
+    Ok(())
+}
+
+/// Puts samples behind a text, each behind a space.
+pub fn put_samples(text: &mut Vec<u8>, samples: &[u32]) -> Result<(), NoMemory>
+    ensures { OnOk result (text.new.items ≡ text.old.items ++ spaced (map decimal samples.now)) }
+{
+    for sample in samples {
+        push_natural(text, *sample)?;
+    }
+    Ok(())
+}

@@ -1,0 +1,25 @@
+use mir.Syntax.{w64}
+use mir.Val.{SFits}
+use Rattle.std.proofs.Common.{◌≡◌, ℕ, List, [], ◌∷◌, ◌++◌, OnOk, ap, ◌∙◌, rules}
+use Rattle.std.proofs.lemmas.Int.{to_z-of_z}
+use Rattle.std.proofs.lemmas.Result.{on_ok_weaker}
+use Rattle.script_words.specs.Words.{spaced}
+use Rattle.script_fields.proofs.PrintLaws.{spaced_put}
+use Rattle.script_fields.specs.Spelling.{words_of_fields}
+use Rattle.script_fields.specs.declared.field.Field.TheVariants.{Integer, Rect}
+use Rattle.script_read.proofs.printer.put_fields_of.Goals as goal
+
+pub returns-in_ok-put_fields-in-Copy-clause-text : goal.returns-in_ok-put_fields-in-Copy-clause-text
+returns-in_ok-put_fields-in-Copy-clause-text c =
+    let text = c.args.text.now.items in
+    let names = c.in-Copy.from ∷ c.in-Copy.to ∷ [] in
+    let moved = words_of_fields (Rect c.in-Copy.rect ∷ Integer c.in-Copy.dx ∷ Integer c.in-Copy.dy ∷ []) in
+    let dx : SFits w64 c.in-Copy.dx = search rules in
+    let dy : SFits w64 c.in-Copy.dy = search rules in
+    let second : OnOk c.put_fields-in-Copy-2.result (c.put_fields-in-Copy-2.new.text.items ≡ c.put_fields-in-Copy.new.text.items ++ spaced moved) =
+    simp to_z-of_z at c.put_fields-in-Copy-2.ensures.text in
+    rw c.in-Copy.is
+    (on_ok_weaker c.put_fields-in-Copy-2.result
+    (λ (put : c.put_fields-in-Copy-2.new.text.items ≡ c.put_fields-in-Copy.new.text.items ++ spaced moved).
+    put ∙ ap (λ (front : List ℕ). front ++ spaced moved) c.in_ok-put_fields-in-Copy.ensures.text ∙ spaced_put text names moved)
+    second)
