@@ -5,8 +5,8 @@ use Rattle.std.proofs.lemmas.Bool.{cases_lt}
 use Rattle.std.proofs.lemmas.Nat.{mul-add-lt}
 use Rattle.std.proofs.lemmas.List.{get_or-drop, get_or_append_left, get_or-append_right, get_or-take, length-take}
 use Rattle.std.proofs.Math.ListN.{length-append, length-drop}
-use Rattle.plane_rect.specs.Rectangle.{Rectangle, IsRectangle, Lies, Includes, offset, right, bottom}
-use Rattle.patch_abyss.specs.Spelled.{AreBytes}
+use Rattle.plane_rect.specs.Rectangle.{Rectangle, IsRectangle, Lies, Includes, area, offset, right, bottom}
+use Rattle.images.specs.Spelled.{AreBytes}
 use Rattle.patch_abyss.specs.Copied.{HasPart, byte_at}
 use borrow.Rule.Slice.PartMut.{put_mid, post_of}
 
@@ -178,3 +178,23 @@ module _ (xs : List ℕ) (s e w n : ℕ) (long : e ≡ s + w) (room : e * n ≤ 
 pub record Done (to from part : Rectangle) (j n : ℕ) (source old new : List ℕ) : Type 0 where
   pub part_done : HasPart to from (rows_of part j) n source old new
   pub small : AreBytes new
+
+-- ---- where the rows of a part stand
+
+module _ (r part : Rectangle) (n : ℕ) (inside : Includes r part) (wide : 0 < part.width) (high : 0 < part.height) where
+  corner : Lies part.left part.top r
+  corner = inside part.left part.top (record { column = (omega arith, omega arith); row = (omega arith, omega arith) })
+
+  far : Lies (part.left + part.width - 1) (part.top + part.height - 1) r
+  far = inside (part.left + part.width - 1) (part.top + part.height - 1) (record { column = (omega arith, omega arith); row = (omega arith, omega arith) })
+
+  pub row_at : (j : ℕ) → offset r part.left part.top * n + j * (r.width * n) ≡ row_start r n part j
+  row_at j =
+      let down : part.top + j - r.top ≡ part.top - r.top + j = omega (arith, corner.row) in
+      omega (arith, ap (λ (i : ℕ). i * r.width * n) down)
+
+  pub row_room : (j len : ℕ) → j < part.height → len ≡ area r * n → offset r part.left part.top * n + j * (r.width * n) + part.width * n ≤ len
+  row_room j len below long =
+      let rows : part.top - r.top + j + 1 ≤ r.height = omega (arith, corner.row, far.row) in
+      let columns : part.left - r.left + part.width ≤ r.width = omega (arith, corner.column, far.column) in
+      omega (arith, long, mul-le-mul_right (r.width * n) rows, mul-le-mul_right n columns)

@@ -1,23 +1,17 @@
 -- Rows that are averaged to the rows of a halved image.
-use Rattle.std.proofs.Common.{◌≡◌, ℕ, ◌+◌, ◌-◌, ◌*◌, ◌/◌, ◌%◌, ◌<◌, ◌≤◌, List, [], inl, inr, refl, sym, ap, ◌∙◌, subst, arith}
-use Rattle.plane_rect.specs.Rectangle.{Rectangle, IsRectangle, InLimits, Within, halved, half, right, bottom, origin, plane_side}
+use Rattle.std.proofs.Common.{◌≡◌, ℕ, ◌+◌, ◌-◌, ◌*◌, ◌/◌, ◌%◌, ◌<◌, ◌≤◌, List, inl, inr, refl, sym, ap, ◌∙◌, subst, arith}
+use Rattle.plane_rect.specs.Rectangle.{Rectangle, IsRectangle, Within, halved, half, right, bottom, origin, plane_side}
 use Rattle.std.proofs.lemmas.Nat.{mod-mul-add, div-mul-add}
 use Rattle.std.proofs.Math.Nat.{mod-add-div'}
 use Rattle.plane_rect.proofs.Rectangles.{rectangle-some, some_or_empty}
 use Rattle.sample_rows.specs.Average.{mean_pixel}
 use Rattle.sample_rows.specs.Format.{channels}
 use Rattle.sample_rows.specs.Row.{HasPixels, pixel_at, pixel_count}
-use Rattle.sample_rows.specs.declared.format.Format.TheVariants.{Y8}
 use Rattle.images.specs.Image.{Image, at}
 use Rattle.abyss_levels.specs.declared.abyss.Abyss.TheVariants.{None}
 use Rattle.abyss_levels.specs.Abyss.{abyss_at}
-use Rattle.abyss_levels.specs.Level.{doubled, mean_at, level}
-use Rattle.abyss_levels.proofs.LevelLaws.{InLimits-level}
+use Rattle.abyss_levels.specs.Level.{doubled, mean_at}
 use Rattle.abyss_levels.proofs.PolicyLaws.{none-everywhere}
-
-pub halved-limits : (r : Rectangle) → IsRectangle r → InLimits r → InLimits (halved r)
-unfolding level
-halved-limits r is small = InLimits-level (record { box = r; format = Y8; samples = [] }) 1 is small
 
 -- what is halved does not begin before the place of half the plane's corner
 pub halved-behind : (r : Rectangle) → IsRectangle r → origin ≤ 2 * (halved r).left

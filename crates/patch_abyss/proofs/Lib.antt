@@ -1,5 +1,3 @@
-pub mod Spelling
-pub mod Places
 pub mod CopiedRows
 pub mod Repeated
 pub mod Parts
@@ -9,5 +7,6 @@ pub mod RowPixels
 pub mod Surrounded
 pub mod Edged
 pub mod ReadPixels
+pub mod Bands
 pub mod DrawnRows
 pub mod HalvedRows

@@ -8,9 +8,10 @@ use Rattle.images.specs.Image.{at, lies, sample_index}
 use Rattle.images.specs.Paint.{painted}
 use Rattle.images.proofs.Samples.{Lies_from, lies_where}
 use Rattle.images.proofs.Laws.{drawn_alike, at_outside}
-use Rattle.patch_abyss.specs.Spelled.{spelled, spelled_pixels}
+use Rattle.images.specs.Spelled.{spelled, spelled_pixels}
 use Rattle.patch_abyss.specs.Copied.{HasPart, byte_at}
-use Rattle.patch_abyss.proofs.Spelling.{sample_alike, sample_zero, zeros-at, at-spelled}
+use Rattle.sample_rows.proofs.GroupLaws.{get_or-zeros}
+use Rattle.images.proofs.Spelling.{sample_alike, sample_zero, at-spelled}
 
 -- where the bytes of a sample stand
 pub byte_index : (o m d c k : ℕ) → d * (o * m + c) + k ≡ o * (m * d) + (d * c + k)
@@ -30,7 +31,7 @@ pixels_alike a b format xs ys u v c known same =
     (λ k within. rw (byte_index (offset a u v) m d c k, byte_index (offset b u v) m d c k) (same (d * c + k) (byte_within m d c k known within)))
 
 pub pixels_zero : (a : Rectangle) (format : Format) (n u v c : ℕ) → spelled_pixels a format (replicate n 0) u v c ≡ 0
-pixels_zero a format n u v c = sample_zero (depth format) (replicate n 0) (sample_index a (channels format) u v c) (λ k below. zeros-at n _)
+pixels_zero a format n u v c = sample_zero (depth format) (replicate n 0) (sample_index a (channels format) u v c) (λ k below. get_or-zeros n _)
 
 -- the bytes of a rectangle, with those of an image where it has places
 module _ (to from part : Rectangle) (format : Format) (source old new : List ℕ)

@@ -1,13 +1,11 @@
 -- The pixels of rows that read a row of an image.
-use Rattle.std.proofs.Common.{◌≡◌, ℕ, zero, suc, ◌+◌, ◌-◌, ◌*◌, ◌/◌, ◌%◌, ◌<◌, ◌≤◌, List, length, take, drop, get_or, inl, inr, sym, ap, ◌∙◌, arith}
-use Rattle.std.proofs.Math.Nat.{mod-add-mod, mul-le-mul_right}
+use Rattle.std.proofs.Common.{◌≡◌, ℕ, ◌+◌, ◌-◌, ◌*◌, ◌%◌, ◌<◌, ◌≤◌, List, length, take, drop, get_or, inl, inr, sym, ap, ◌∙◌, arith}
+use Rattle.std.proofs.Math.Nat.{mul-le-mul_right}
 use Rattle.std.proofs.lemmas.List.{get_or-take, get_or-drop}
 use Rattle.std.proofs.lemmas.Bool.{cases_lt}
-use Rattle.std.proofs.lemmas.Nat.{div-mul-add}
 use Rattle.plane_rect.specs.Rectangle.{Within}
 use Rattle.sample_rows.specs.Format.{channels, pixel_bytes}
-use Rattle.sample_rows.specs.Row.{pixel_at, pixel_count}
-use Rattle.sample_rows.specs.declared.format.Format.{Format}
+use Rattle.sample_rows.specs.Row.{pixel_at}
 use Rattle.images.specs.Image.{Image, at}
 use Rattle.abyss_levels.specs.declared.abyss.Abyss.{Abyss}
 use Rattle.abyss_levels.specs.declared.abyss.Abyss.TheVariants.{Clamp, Loop}
@@ -15,18 +13,9 @@ use Rattle.abyss_levels.specs.Abyss.{abyss_at, nearest, wrapped}
 use Rattle.abyss_levels.proofs.PolicyLaws.{abyss_at-inside, clamp-everywhere, loop-everywhere}
 use Rattle.abyss_levels.proofs.Sides.{nearest-inside, wrapped-within, wrapped-inside}
 use Rattle.patch_abyss.specs.Fetched.{SamePixel, outside_sample}
-use Rattle.patch_abyss.proofs.RowPixels.{pixel_moved}
-use Rattle.patch_abyss.proofs.ReadRows.{outside-still}
-use Rattle.patch_abyss.proofs.TilesOfPatches.{few_bytes}
-
-pub count_pixels : (format : Format) (row : List ℕ) (w : ℕ) → length row ≡ w * pixel_bytes format → pixel_count format row ≡ w
-count_pixels format row w long =
-    let some = few_bytes format in
-    ap (λ (l : ℕ). l / pixel_bytes format) (long ∙ omega arith) ∙ div-mul-add w (pixel_bytes format) 0 (omega (arith, some.0))
-
-pub wrapped_alike : (a b len width m n : ℕ) → a ≡ b → len ≡ width → m ≡ n → wrapped a len m ≡ wrapped b width n
-wrapped_alike a b len width m n start many number =
-    ap (λ (i : ℕ). wrapped i len m) start ∙ ap (λ (i : ℕ). wrapped b i m) many ∙ ap (λ (i : ℕ). wrapped b width i) number
+use Rattle.patch_abyss.proofs.CopiedRows.{before_place}
+use Rattle.patch_abyss.proofs.RowPixels.{pixel_moved, cycled_place}
+use Rattle.patch_abyss.proofs.ReadRows.{outside-still, wrapped-more}
 
 -- the first pixel of a row, and the last
 pub first_pixel : (n p : ℕ) (row : List ℕ) → p ≡ n → SamePixel n (take p row) 0 row 0
@@ -42,20 +31,6 @@ last_pixel n p w row is wide long = λ b within.
     ∙ get_or-drop (length row - p) row (0 * n + b) 0
     ∙ ap (λ (i : ℕ). get_or row i 0) (omega (arith, rest))
 
--- a number further on, wrapped
-wrapped-more : (start len n k : ℕ) → 0 < len → wrapped start len (n + k) - start ≡ (wrapped start len n - start + k) % len
-wrapped-more start zero n k some = absurd (omega arith)
-wrapped-more start (suc j) n k some =
-    let len = suc j in
-    let m = n + start * len - start in
-    let further : n + k + start * len - start ≡ m + k = omega arith in
-    let whole : start + (n + k + start * len - start) % len - start ≡ (n + k + start * len - start) % len = omega arith in
-    let rest : m % len ≡ start + m % len - start = omega arith in
-    whole
-    ∙ ap (λ (i : ℕ). i % len) further
-    ∙ sym (mod-add-mod m len k)
-    ∙ ap (λ (i : ℕ). (i + k) % len) rest
-
 module _ (image : Image) (v : ℕ) (from : List ℕ) (here : Within image.box.top image.box.height v)
     (samples : (u c : ℕ) → Within image.box.left image.box.width u → c < channels image.format → pixel_at image.format from (u - image.box.left) c ≡ at image u v c) where
   abbrev n : ℕ
@@ -67,7 +42,7 @@ module _ (image : Image) (v : ℕ) (from : List ℕ) (here : Within image.box.to
   abbrev len : ℕ
   len = image.box.width
 
-  pub looped_pixel : (to : List ℕ) (left first k c : ℕ) → 0 < len → first ≡ wrapped start len left - start → c < channels image.format →
+  looped_pixel : (to : List ℕ) (left first k c : ℕ) → 0 < len → first ≡ wrapped start len left - start → c < channels image.format →
       SamePixel n to k from ((first + k) % len) → pixel_at image.format to k c ≡ abyss_at image Loop (left + k) v c
   looped_pixel to left first k c wide at_first known same =
       let w = wrapped start len (left + k) in
@@ -77,6 +52,18 @@ module _ (image : Image) (v : ℕ) (from : List ℕ) (here : Within image.box.to
       ∙ samples w c (wrapped-within start len (left + k) wide) known
       ∙ ap (λ (b : ℕ). at image w b c) (sym (wrapped-inside image.box.top image.box.height v here))
       ∙ sym (loop-everywhere image (left + k) v c)
+
+  -- a row that has the bytes of the image's row over and over
+  pub looped_row : (to : List ℕ) (left width first p : ℕ) → 0 < len → first ≡ wrapped start len left - start → p ≡ first * n → length from ≡ len * n → length to ≡ width * n →
+      ((i : ℕ) → i < length to → get_or to i 0 ≡ get_or from ((p + i) % length from) 0) →
+      (k c : ℕ) → k < width → c < channels image.format → pixel_at image.format to k c ≡ abyss_at image Loop (left + k) v c
+  looped_row to left width first p wide at_first is long_from long again k c inside known =
+      looped_pixel to left first k c wide at_first known
+      (λ b within.
+      again (k * n + b) (omega (arith, before_place k width n b inside within, long))
+      ∙ ap (λ (s : ℕ). get_or from ((s + (k * n + b)) % length from) 0) is
+      ∙ ap (λ (l : ℕ). get_or from ((first * n + (k * n + b)) % l) 0) long_from
+      ∙ ap (λ (i : ℕ). get_or from i 0) (cycled_place n len first k b within wide))
 
   -- a column left of the box, one of it, and one right of it
   module _ (to ahead behind : List ℕ) (left k c : ℕ) (known : c < channels image.format) (at_left : left + k < start → SamePixel n to k ahead 0)

@@ -1,8 +1,8 @@
 -- Which row of a box a row reads under a policy.
-use Rattle.std.proofs.Common.{◌≡◌, ℕ, ◌+◌, ◌*◌, ◌<◌, replicate, take, get_or, Option, ◌⊎◌, inl, inr, refl, sym, ap, ◌∙◌, subst, arith, length-take}
+use Rattle.std.proofs.Common.{◌≡◌, ℕ, zero, suc, ◌+◌, ◌-◌, ◌*◌, ◌%◌, ◌<◌, ◌≤◌, max, replicate, take, get_or, ◌⊎◌, inl, inr, refl, sym, ap, ◌∙◌, subst, arith, rules, length-take}
+use Rattle.std.proofs.Math.Nat.{mod-add-mod, add-mod-mod, add-mod_left, mod-eq_of_lt}
 use Rattle.std.proofs.lemmas.Bool.{cases_lt}
 use Rattle.std.proofs.lemmas.List.{get_or-take, get_or_past}
-use Rattle.std.specs.Prelude.{Some, None as Nothing}
 use Rattle.plane_rect.specs.Rectangle.{Rectangle, Lies, Within}
 use Rattle.sample_rows.specs.Format.{channels, depth}
 use Rattle.sample_rows.specs.Row.{pixel_at}
@@ -14,8 +14,9 @@ use Rattle.abyss_levels.specs.Abyss.{abyss_at, nearest, wrapped}
 use Rattle.abyss_levels.proofs.PolicyLaws.{abyss_at-outside, clamp-everywhere, loop-everywhere, none-empty, clamp-empty, loop-empty, black-empty, white-empty}
 use Rattle.abyss_levels.proofs.Sides.{nearest-within, nearest-inside, wrapped-within, wrapped-inside}
 use Rattle.patch_abyss.specs.Fetched.{outside_sample}
-use Rattle.patch_abyss.specs.Rows.{Reads, AlikeRows, read_from}
-use Rattle.patch_abyss.proofs.Spelling.{sample_zero, zeros-at}
+use Rattle.patch_abyss.specs.Rows.{ReadsNothing, AlikeRows, ReadsInOrder, OnOneSide}
+use Rattle.sample_rows.proofs.GroupLaws.{get_or-zeros}
+use Rattle.images.proofs.Spelling.{sample_zero}
 
 -- an image without a place
 outside-empty : (image : Image) (policy : Abyss) (u v c : ℕ) → ((u v : ℕ) → Lies u v image.box → ⊥) → abyss_at image policy u v c ≡ outside_sample policy image.format c
@@ -25,8 +26,8 @@ outside-empty image Loop u v c nowhere = loop-empty image nowhere u v c
 outside-empty image Black u v c nowhere = black-empty image nowhere u v c
 outside-empty image White u v c nowhere = white-empty image nowhere u v c
 
-pub Reads-nothing : (box : Rectangle) (policy : Abyss) (v : ℕ) → ((u v : ℕ) → Lies u v box → ⊥) → Reads box policy v Nothing
-Reads-nothing box policy v nowhere = λ image u c is.
+pub nothing_read : (box : Rectangle) (policy : Abyss) (v : ℕ) → ((u v : ℕ) → Lies u v box → ⊥) → ReadsNothing box policy v
+nothing_read box policy v nowhere = λ image u c is.
     outside-empty image policy u v c (λ a b there. nowhere a b (subst (Lies a b) is there))
 
 -- a policy that does not move places into the box
@@ -37,12 +38,15 @@ outside-still image Loop u v c clamp loop out = absurd (loop refl)
 outside-still image Black u v c clamp loop out = abyss_at-outside image Black u v c out
 outside-still image White u v c clamp loop out = abyss_at-outside image White u v c out
 
-pub Reads-beyond : (box : Rectangle) (policy : Abyss) (v : ℕ) → (policy ≡ Clamp → ⊥) → (policy ≡ Loop → ⊥) → (Within box.top box.height v → ⊥) → Reads box policy v Nothing
-Reads-beyond box policy v clamp loop out = λ image u c is.
+pub nothing_beyond : (box : Rectangle) (policy : Abyss) (v : ℕ) → (policy ≡ Clamp → ⊥) → (policy ≡ Loop → ⊥) → (Within box.top box.height v → ⊥) → ReadsNothing box policy v
+nothing_beyond box policy v clamp loop out = λ image u c is.
     outside-still image policy u v c clamp loop (λ there. out (subst (Lies u v) is there).row)
 
-pub Reads-nearest : (box : Rectangle) (v : ℕ) → 0 < box.height → Reads box Clamp v (Some (nearest box.top box.height v))
-Reads-nearest box v high = λ image u c is.
+both_nothing : (box : Rectangle) (policy : Abyss) (a b : ℕ) → ReadsNothing box policy a → ReadsNothing box policy b → AlikeRows box policy a b
+both_nothing box policy a b first second = λ image u c is. first image u c is ∙ sym (second image u c is)
+
+read_nearest : (box : Rectangle) (v : ℕ) → 0 < box.height → AlikeRows box Clamp v (nearest box.top box.height v)
+read_nearest box v high = λ image u c is.
     let tall : 0 < image.box.height = subst (λ (r : Rectangle). 0 < r.height) (sym is) high in
     let top = image.box.top in
     let height = image.box.height in
@@ -51,8 +55,8 @@ Reads-nearest box v high = λ image u c is.
     ∙ sym (clamp-everywhere image u (nearest top height v) c)
     ∙ ap (λ (r : Rectangle). abyss_at image Clamp u (nearest r.top r.height v) c) is
 
-pub Reads-wrapped : (box : Rectangle) (v : ℕ) → 0 < box.height → Reads box Loop v (Some (wrapped box.top box.height v))
-Reads-wrapped box v high = λ image u c is.
+read_wrapped : (box : Rectangle) (v : ℕ) → 0 < box.height → AlikeRows box Loop v (wrapped box.top box.height v)
+read_wrapped box v high = λ image u c is.
     let tall : 0 < image.box.height = subst (λ (r : Rectangle). 0 < r.height) (sym is) high in
     let top = image.box.top in
     let height = image.box.height in
@@ -61,17 +65,120 @@ Reads-wrapped box v high = λ image u c is.
     ∙ sym (loop-everywhere image u (wrapped top height v) c)
     ∙ ap (λ (r : Rectangle). abyss_at image Loop u (wrapped r.top r.height v) c) is
 
--- rows that read alike
-pub Reads-alike : (box : Rectangle) (policy : Abyss) (a b : ℕ) (s t : Option ℕ) → s ≡ t → Reads box policy a s → Reads box policy b t → AlikeRows box policy a b
-Reads-alike box policy a b s t same first second = λ image u c is.
-    first image u c is ∙ ap (λ (source : Option ℕ). read_from image policy source u c) same ∙ sym (second image u c is)
+-- two rows that have the samples of a third
+through : (box : Rectangle) (policy : Abyss) (a b s t : ℕ) → s ≡ t → AlikeRows box policy a s → AlikeRows box policy b t → AlikeRows box policy a b
+through box policy a b s t same first second = λ image u c is.
+    first image u c is ∙ ap (λ (v : ℕ). abyss_at image policy u v c) same ∙ sym (second image u c is)
+
+-- ---- rows that follow one another
+
+pub in_order-nearest : (box : Rectangle) (v source many : ℕ) → 0 < box.height → source ≡ nearest box.top box.height v → many ≡ 1 → ReadsInOrder box Clamp v source many
+in_order-nearest box v source many high at once = λ i below.
+    let none : i ≡ 0 = omega arith in
+    through box Clamp (v + i) (source + i) (nearest box.top box.height (v + i)) (nearest box.top box.height (source + i)) (omega (arith, at, none, nearest-within box.top box.height v high))
+    (read_nearest box (v + i) high) (read_nearest box (source + i) high)
+
+-- a number further on, wrapped
+pub wrapped-more : (start len n k : ℕ) → 0 < len → wrapped start len (n + k) - start ≡ (wrapped start len n - start + k) % len
+wrapped-more start zero n k some = absurd (omega arith)
+wrapped-more start (suc j) n k some =
+    let len = suc j in
+    let m = n + start * len - start in
+    let further : n + k + start * len - start ≡ m + k = omega arith in
+    let whole : start + (n + k + start * len - start) % len - start ≡ (n + k + start * len - start) % len = omega arith in
+    let rest : m % len ≡ start + m % len - start = omega arith in
+    whole
+    ∙ ap (λ (i : ℕ). i % len) further
+    ∙ sym (mod-add-mod m len k)
+    ∙ ap (λ (i : ℕ). (i + k) % len) rest
+
+pub in_order-wrapped : (box : Rectangle) (v source many : ℕ) → 0 < box.height → source ≡ wrapped box.top box.height v → source + many ≤ box.top + box.height → ReadsInOrder box Loop v source many
+in_order-wrapped box v source many high at room = λ i below.
+    let start = box.top in
+    let len = box.height in
+    let w = wrapped start len v in
+    let here = wrapped-within start len v high in
+    let there = wrapped-within start len (v + i) high in
+    let moved : wrapped start len (v + i) ≡ source + i =
+    omega (arith, at, here.0, there.0, wrapped-more start len v i high ∙ mod-eq_of_lt (omega (arith, at, here.0))) in
+    λ image u c is. read_wrapped box (v + i) high image u c is ∙ ap (λ (b : ℕ). abyss_at image Loop u b c) moved
+
+-- ---- rows that are alike
+
+pub alike-nowhere : (box : Rectangle) (policy : Abyss) (a b : ℕ) → ((u v : ℕ) → Lies u v box → ⊥) → AlikeRows box policy a b
+alike-nowhere box policy a b nowhere = both_nothing box policy a b (nothing_read box policy a nowhere) (nothing_read box policy b nowhere)
+
+-- beside a box, under a policy that does not move places into it
+still_aside : (box : Rectangle) (policy : Abyss) (a b : ℕ) → (policy ≡ Clamp → ⊥) → (policy ≡ Loop → ⊥) → OnOneSide box a b → AlikeRows box policy a b
+still_aside box policy a b clamp loop side =
+    let out : (Within box.top box.height a → ⊥) × (Within box.top box.height b → ⊥) =
+    elim side [
+      | inl none ↦ (λ w. omega (arith, none, w.0, w.1), λ w. omega (arith, none, w.0, w.1))
+      | inr rest ↦
+          elim rest [
+            | inl h ↦ (λ w. omega (arith, h.0, w.0), λ w. omega (arith, h.1, w.0))
+            | inr h ↦ (λ w. omega (arith, h.0, w.1), λ w. omega (arith, h.1, w.1))
+          ]
+    ] in
+    both_nothing box policy a b (nothing_beyond box policy a clamp loop out.0) (nothing_beyond box policy b clamp loop out.1)
+
+clamped_aside : (box : Rectangle) (a b : ℕ) → 0 < box.height → OnOneSide box a b → AlikeRows box Clamp a b
+clamped_aside box a b high side =
+    let same : nearest box.top box.height a ≡ nearest box.top box.height b =
+    elim side [
+      | inl none ↦ absurd (omega (arith, none, high))
+      | inr rest ↦ elim rest [ inl h ↦ omega (arith, h.0, h.1) | inr h ↦ omega (arith, h.0, h.1) ]
+    ] in
+    through box Clamp a b (nearest box.top box.height a) (nearest box.top box.height b) same (read_nearest box a high) (read_nearest box b high)
+
+no_rows : (box : Rectangle) → box.height ≡ 0 → (u v : ℕ) → Lies u v box → ⊥
+no_rows box none u v there = omega (arith, none, there.row)
+
+-- two rows beside a box
+pub alike-aside : (box : Rectangle) (policy : Abyss) (a b : ℕ) → (policy ≡ Loop → ⊥) → OnOneSide box a b → AlikeRows box policy a b
+alike-aside box None a b loop side = still_aside box None a b (search rules) loop side
+alike-aside box Clamp a b loop side =
+    elim (cases_lt 0 box.height) [
+      | inl high ↦ clamped_aside box a b high side
+      | inr low ↦ alike-nowhere box Clamp a b (no_rows box (omega arith))
+    ]
+alike-aside box Loop a b loop side = absurd (loop refl)
+alike-aside box Black a b loop side = still_aside box Black a b (search rules) loop side
+alike-aside box White a b loop side = still_aside box White a b (search rules) loop side
+
+-- a whole number of heights apart
+pub alike-wrapped : (box : Rectangle) (v i : ℕ) → 0 < box.height → box.height ≤ v → AlikeRows box Loop (v - box.height + i % box.height) (v + i)
+alike-wrapped box v i high above =
+    let start = box.top in
+    let len = box.height in
+    let base = v - len in
+    let w = wrapped start len base - start in
+    let a = base + i % len in
+    let further : v + i ≡ base + (len + i) = omega arith in
+    let first : wrapped start len a - start ≡ (w + i) % len = wrapped-more start len base (i % len) high ∙ add-mod-mod w i len in
+    let second : wrapped start len (v + i) - start ≡ (w + i) % len =
+    ap (λ (n : ℕ). wrapped start len n - start) further ∙ wrapped-more start len base (len + i) high
+    ∙ ap (λ (n : ℕ). n % len) (omega arith) ∙ add-mod_left len (w + i) in
+    let one = wrapped-within start len a high in
+    let two = wrapped-within start len (v + i) high in
+    through box Loop a (v + i) (wrapped start len a) (wrapped start len (v + i)) (omega (arith, first, second, one.0, two.0)) (read_wrapped box a high) (read_wrapped box (v + i) high)
+
+-- a box without a place included
+pub alike-looped : (box : Rectangle) (v i period : ℕ) → period ≡ max box.height 1 → period ≤ v → AlikeRows box Loop (v - period + i % period) (v + i)
+alike-looped box v i period is above =
+    elim (cases_lt 0 box.height) [
+      | inl high ↦
+          let same : period ≡ box.height = omega arith in
+          rw same (alike-wrapped box v i high (omega arith))
+      | inr low ↦ alike-nowhere box Loop (v - period + i % period) (v + i) (no_rows box (omega arith))
+    ]
 
 -- ---- pixels of zeros
 
 zero_byte : (n many k : ℕ) → ◌≡◌ {A = ℕ} (get_or (take n (replicate many 0)) k 0) 0
 zero_byte n many k =
     elim (cases_lt k n) [
-      | inl lt ↦ get_or-take n (replicate many 0) k 0 lt ∙ zeros-at many k
+      | inl lt ↦ get_or-take n (replicate many 0) k 0 lt ∙ get_or-zeros many k
       | inr past ↦ get_or_past (take n (replicate many 0)) k 0 (omega (arith, length-take {A = ℕ} n (replicate many 0)))
     ]
 

@@ -7,9 +7,9 @@ use Rattle.sample_rows.specs.Format.{channels, depth, pixel_bytes}
 use Rattle.sample_rows.specs.Row.{pixel_at}
 use Rattle.sample_rows.specs.declared.format.Format.{Format}
 use Rattle.images.specs.Image.{at}
-use Rattle.patch_abyss.specs.Spelled.{spelled}
+use Rattle.images.specs.Spelled.{spelled}
 use Rattle.patch_abyss.specs.Fetched.{SamePixel}
-use Rattle.patch_abyss.proofs.Spelling.{sample_alike, at-spelled}
+use Rattle.images.proofs.Spelling.{sample_alike, at-spelled}
 use Rattle.patch_abyss.proofs.Parts.{byte_index, byte_within}
 
 -- pixels of equal bytes have equal samples

@@ -1,8 +1,9 @@
 -- Tiles of patches. A tile that begins behind the plane has no place there.
-use Rattle.std.proofs.Common.{◌≡◌, ℕ, ◌*◌, ◌/◌, ◌<◌, ◌≤◌, ◌↔◌, true, false, cond, List, replicate, refl, sym, ap, ◌∙◌, arith}
+use Rattle.std.proofs.Common.{◌≡◌, ℕ, ◌*◌, ◌<◌, ◌≤◌, ◌↔◌, true, false, cond, List, replicate, refl, sym, ap, ◌∙◌, arith}
 use Rattle.std.proofs.lemmas.Simd.{length-replicate}
 use Rattle.plane_rect.specs.Rectangle.{Rectangle, IsRectangle, Includes, Lies, empty, is_empty}
 use Rattle.plane_rect.specs.Tile.{Tile, IsWhole, plane, tile_at, tile_square}
+use Rattle.plane_rect.proofs.TileLists.{Lies-tile_square}
 use Rattle.sample_rows.specs.Format.{channels, depth, pixel_bytes}
 use Rattle.sample_rows.specs.declared.format.Format.{Format}
 use Rattle.sample_rows.specs.declared.format.Format.TheVariants.{Y8, YA8, RGB8, RGBA8, Y16, YA16, RGB16, RGBA16}
@@ -14,8 +15,8 @@ use Rattle.images.specs.Raw.{raw, sample_bytes}
 use Rattle.images.proofs.Samples.{Lies_from}
 use Rattle.images.proofs.Laws.{at_outside, at-drawn, drawn_alike, sampled_alike}
 use Rattle.abyss_levels.specs.Abyss.{tile_bytes}
-use Rattle.patch_abyss.specs.Spelled.{spelled, spelled_pixels}
-use Rattle.patch_abyss.proofs.Spelling.{raw-is, at-spelled, zeros_are_bytes}
+use Rattle.images.specs.Spelled.{spelled, spelled_pixels}
+use Rattle.images.proofs.Spelling.{raw-is, at-spelled, zeros_are_bytes}
 use Rattle.patch_abyss.proofs.Parts.{pixels_zero}
 
 -- the places of the plane that lie in a tile
@@ -31,19 +32,12 @@ whole_tile r t places wide high =
     let row = ap (λ (t : Tile). t.row) h.1 in
     (omega (arith, column, h.0.column), omega (arith, row, h.0.row))
 
-in_tile : (u v : ℕ) (t : Tile) → Lies u v (tile_square t) → t ≡ tile_at u v
-in_tile u v t there =
-    let column : t.column ≡ u / 64 = omega (arith, there.column) in
-    let row : t.row ≡ v / 64 = omega (arith, there.row) in
-    let joined : (of : ℕ → ℕ → Tile) → of t.column t.row ≡ of (u / 64) (v / 64) = λ of. cc in
-    joined (λ column row. record { column = column; row = row })
-
 -- a tile has no place of a rectangle of the plane where what it has of the plane has none
 pub no_common_place : (r box : Rectangle) (t : Tile) → HasTilePlaces r t → IsRectangle box → ((u v : ℕ) → Lies u v r → Lies u v box → ⊥) →
     (u v : ℕ) → Lies u v (tile_square t) → Lies u v box → ⊥
 no_common_place r box t places is apart u v there inside =
     let on_plane : Lies u v plane = record { column = (omega arith, omega (arith, inside.column, is.columns)); row = (omega arith, omega (arith, inside.row, is.rows)) } in
-    apart u v ((places u v).1 (on_plane, in_tile u v t there)) inside
+    apart u v ((places u v).1 (on_plane, (Lies-tile_square u v t).0 there)) inside
 
 -- a tile without a place has none of a rectangle of the plane
 pub no_tile_place : (r box : Rectangle) (t : Tile) → HasTilePlaces r t → r ≡ empty → IsRectangle box → (u v : ℕ) → Lies u v (tile_square t) → Lies u v box → ⊥

@@ -7,7 +7,7 @@ use Rattle.sample_rows.specs.declared.format.Format.{Format}
 use Rattle.abyss_levels.specs.declared.abyss.Abyss.{Abyss}
 use Rattle.abyss_levels.specs.declared.abyss.Abyss.TheVariants.{None, Clamp, Loop, Black, White}
 use Rattle.abyss_levels.specs.Abyss.{black_sample}
-use Rattle.patch_abyss.specs.Spelled.{spelled_pixels}
+use Rattle.images.specs.Spelled.{spelled_pixels}
 
 -- the sample that a policy gives for a channel where it reads nothing of the image
 abbrev pub outside_sample : Abyss → Format → ℕ → ℕ

@@ -1,4 +1,3 @@
-pub mod Spelled
 pub mod Copied
 pub mod Fetched
 pub mod Rows

@@ -1,23 +1,38 @@
 -- The rows of an image that other rows read.
-use Rattle.std.specs.Prelude.{◌≡◌, ℕ, Option, Some, None}
-use Rattle.plane_rect.specs.Rectangle.{Rectangle}
-use Rattle.sample_rows.specs.Row.{Pixel}
+use Rattle.std.specs.Prelude.{◌≡◌, ℕ, ◌+◌, ◌-◌, ◌%◌, ◌<◌, ◌≤◌, ◌⊎◌}
+use Rattle.plane_rect.specs.Rectangle.{Rectangle, bottom}
 use Rattle.images.specs.Image.{Image}
 use Rattle.abyss_levels.specs.declared.abyss.Abyss.{Abyss}
 use Rattle.abyss_levels.specs.Abyss.{abyss_at}
 use Rattle.patch_abyss.specs.Fetched.{outside_sample}
+use Rattle.patch_abyss.specs.declared.outside.Alike.{Alike}
 
--- the samples of a row that reads a row of the image's box, or nothing of the image
-abbrev pub read_from : Image → Abyss → Option ℕ → ℕ → Pixel
-read_from image policy (Some v) u c = abyss_at image policy u v c
-read_from image policy None u c = outside_sample policy image.format c
-
--- each image of a box has in a row the samples that such a row has
-abbrev pub Reads : Rectangle → Abyss → ℕ → Option ℕ → Type 0
-Reads box policy v source =
-    (image : Image) (u c : ℕ) → image.box ≡ box → abyss_at image policy u v c ≡ read_from image policy source u c
+-- each image of a box has in a row the samples that stand for what lies outside it
+abbrev pub ReadsNothing : Rectangle → Abyss → ℕ → Type 0
+ReadsNothing box policy v =
+    (image : Image) (u c : ℕ) → image.box ≡ box → abyss_at image policy u v c ≡ outside_sample policy image.format c
 
 -- each image of a box has the same samples in two rows
 abbrev pub AlikeRows : Rectangle → Abyss → ℕ → ℕ → Type 0
 AlikeRows box policy a b =
     (image : Image) (u c : ℕ) → image.box ≡ box → abyss_at image policy u a c ≡ abyss_at image policy u b c
+
+-- so many rows from one on have the samples of as many rows of the box from another on
+abbrev pub ReadsInOrder : Rectangle → Abyss → ℕ → ℕ → ℕ → Type 0
+ReadsInOrder box policy v source many = (i : ℕ) → i < many → AlikeRows box policy (v + i) (source + i)
+
+-- rows of a rectangle from one on have the samples of those above it, over and over
+pub record AreAlike (box : Rectangle) (policy : Abyss) (rect : Rectangle) (v : ℕ) (alike : Alike) : Type 0 where
+  pub some : 0 < alike.period
+  pub above : rect.top + alike.period ≤ v
+  pub further : v < alike.end
+  pub within : alike.end ≤ bottom rect
+  pub same : (i : ℕ) → v + i < alike.end → AlikeRows box policy (v - alike.period + i % alike.period) (v + i)
+
+-- a box has no row, or two rows are both above it or both below it
+abbrev pub OnOneSide : Rectangle → ℕ → ℕ → Type 0
+OnOneSide box a b = (box.height ≡ 0) ⊎ ((a < box.top) × (b < box.top)) ⊎ ((bottom box ≤ a) × (bottom box ≤ b))
+
+-- a rectangle as it stands from another row on
+abbrev pub moved_to : ℕ → Rectangle → Rectangle
+moved_to top r = record r { top = top }

@@ -2,6 +2,8 @@
 
 ghost use Rattle.std.specs.Prelude.{◌≡◌, ℕ, ◌+◌, ◌%◌, ◌<◌, ◌≤◌, ◌⊎◌, length, slice_index};
 
+use crate::rows::copy_row;
+
 /// Writes the bytes of a slice over and over, the first time from an index on.
 pub(crate) fn cycle(to: &mut [u8], from: &[u8], start: usize)
     requires { start < length from.now }
@@ -15,12 +17,12 @@ pub(crate) fn cycle(to: &mut [u8], from: &[u8], start: usize)
     }
     let len = to.len();
     let front = len.min(from.len() - start);
-    to[..front].copy_from_slice(&from[start..start + front]);
+    copy_row(&mut to[..front], &from[start..start + front]);
     if front == len {
         return;
     }
     let both = len.min(from.len());
-    to[front..both].copy_from_slice(&from[..both - front]);
+    copy_row(&mut to[front..both], &from[..both - front]);
     repeat(to, from.len());
 }
 
@@ -39,12 +41,12 @@ pub(crate) fn surround(to: &mut [u8], start: usize, bytes: &[u8], ahead: &[u8], 
 {
     let end = start + bytes.len();
     cycle(&mut to[..start], ahead, 0);
-    to[start..end].copy_from_slice(bytes);
+    copy_row(&mut to[start..end], bytes);
     cycle(&mut to[end..], behind, 0);
 }
 
 /// Writes the first bytes, as many as the period, over and over behind them.
-fn repeat(bytes: &mut [u8], period: usize)
+pub(crate) fn repeat(bytes: &mut [u8], period: usize)
     requires { 0 < period }
     ensures len { length bytes.new ≡ length bytes.old }
     ensures bytes { (i : ℕ) → i < length bytes.old →
@@ -59,7 +61,7 @@ fn repeat(bytes: &mut [u8], period: usize)
 }
 
 /// Copies so many bytes to a place behind them.
-pub(crate) fn copy_back(bytes: &mut [u8], from: usize, to: usize, count: usize)
+fn copy_back(bytes: &mut [u8], from: usize, to: usize, count: usize)
     requires before { from + count ≤ to }
     requires room { to + count ≤ length bytes.old }
     ensures len { length bytes.new ≡ length bytes.old }
@@ -69,5 +71,5 @@ pub(crate) fn copy_back(bytes: &mut [u8], from: usize, to: usize, count: usize)
         slice_index bytes.new i ≡ slice_index bytes.old i }
 {
     let (front, back) = bytes.split_at_mut(to);
-    back[..count].copy_from_slice(&front[from..from + count]);
+    copy_row(&mut back[..count], &front[from..from + count]);
 }

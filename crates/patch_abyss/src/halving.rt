@@ -8,18 +8,15 @@ ghost use Rattle.sample_rows.specs.Row.{HasPixels};
 ghost use Rattle.images.specs.Image.{at};
 ghost use Rattle.abyss_levels.specs.Level.{doubled, halved_image, mean_at};
 ghost use Rattle.patch_abyss.specs.Fetched.{RowsDrawn};
-ghost use Rattle.patch_abyss.specs.Spelled.{byte_count};
+ghost use Rattle.images.specs.Spelled.{byte_count};
 
 use crate::patch::{Patch, byte_count};
 use crate::reading::read_row;
 use abyss_levels::Abyss;
 use no_memory::NoMemory;
-use plane_rect::Rect;
+use plane_rect::{PLANE_ORIGIN, Rect};
 use sample_rows::row_average4;
 use std::alloc::Global;
-
-/// The column or row at which the plane's origin stands.
-const ORIGIN: u32 = 1 << 24;
 
 /// The patch over half the image's rectangle: each sample is the mean of four of the image's,
 /// rounded to the nearest, where samples outside its rectangle are 0.
@@ -55,7 +52,7 @@ fn halve_rows(image: &Patch, rect: &Rect, up: &mut [u8], down: &mut [u8], bytes:
     for row in rect.top()..rect.bottom() {
         let start = (row - rect.top()) as usize * count;
         let to = &mut bytes[start..start + count];
-        halve_row(image, &columns, 2 * row - ORIGIN, up, down, to);
+        halve_row(image, &columns, 2 * row - PLANE_ORIGIN, up, down, to);
     }
 }
 

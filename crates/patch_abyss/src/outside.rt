@@ -1,52 +1,108 @@
 //! What is read outside an image's rectangle: which row, which column, which pixel.
 
-ghost use Rattle.std.specs.Prelude.{◌≡◌, ℕ, ◌+◌, ◌<◌, ◌≤◌, IfSome, length};
-ghost use Rattle.plane_rect.specs.Rectangle.{Within, plane_side};
+ghost use Rattle.std.specs.Prelude.{◌≡◌, ◌≢◌, ℕ, ◌+◌, ◌-◌, ◌<◌, ◌≤◌, IfSome, MatchOption, length};
+ghost use Rattle.plane_rect.specs.Rectangle.{Within, bottom, plane_side};
 ghost use Rattle.sample_rows.specs.Format.{channels, pixel_bytes};
 ghost use Rattle.sample_rows.specs.Row.{pixel_at};
 ghost use Rattle.abyss_levels.specs.Abyss.{black_sample, wrapped};
+ghost use Rattle.abyss_levels.specs.declared.abyss.Abyss.TheVariants.{Loop};
 ghost use Rattle.patch_abyss.specs.Fetched.{outside_sample};
-ghost use Rattle.patch_abyss.specs.Rows.{AlikeRows, Reads};
+ghost use Rattle.patch_abyss.specs.Rows.{AreAlike, OnOneSide, ReadsInOrder, ReadsNothing};
 
 use abyss_levels::Abyss;
 use plane_rect::Rect;
 use sample_rows::Format;
+use std::ops::Range;
 
-/// The row of a box that a row of the plane reads, and None where it reads nothing of the box.
-pub(crate) fn source_row(bounds: &Rect, abyss: Abyss, row: u32) -> Option<u32>
-    ensures row { IfSome result (Within bounds.now.top bounds.now.height) }
-    ensures reads { Reads bounds.now abyss row result }
+/// Rows that read a box as rows above them do.
+#[derive(Clone, Copy)]
+pub(crate) struct Alike {
+    /// How many rows above the first of them they repeat, over and over.
+    pub period: u32,
+    /// The row behind them.
+    pub end: u32,
+}
+
+/// The rows of a box that a row of the plane and the rows below it read, as many as follow one
+/// another, and None where the row reads nothing of the box.
+pub(crate) fn source_rows(bounds: &Rect, abyss: Abyss, row: u32) -> Option<Range<u32>>
+    ensures top { IfSome result (λ rows. bounds.now.top ≤ rows.start) }
+    ensures some { IfSome result (λ rows. rows.start < rows.end) }
+    ensures bottom { IfSome result (λ rows. rows.end ≤ bottom bounds.now) }
+    ensures reads { MatchOption result (ReadsNothing bounds.now abyss row)
+        (λ rows. ReadsInOrder bounds.now abyss row rows.start (rows.end - rows.start)) }
 {
     if bounds.is_empty() {
         return None;
     }
     let (top, bottom) = (bounds.top(), bounds.bottom());
+    if top <= row && row < bottom {
+        return Some(row..bottom);
+    }
     match abyss {
-        Abyss::Clamp => Some(row.min(bottom - 1).max(top)),
-        Abyss::Loop => Some(wrapped(top, bounds.h, row)),
-        _ if top <= row && row < bottom => Some(row),
+        Abyss::Loop => Some(wrapped(top, bounds.h, row)..bottom),
+        Abyss::Clamp => {
+            let nearest = row.min(bottom - 1).max(top);
+            Some(nearest..nearest + 1)
+        }
         _ => None,
     }
 }
 
-/// A row of a rectangle above a row of it that reads the box as that row does.
-pub(crate) fn row_alike(bounds: &Rect, abyss: Abyss, rect: &Rect, row: u32) -> Option<u32>
+/// The rows of a rectangle from one on that read a box as those above them do, and None where that
+/// row has none above it that it reads alike.
+pub(crate) fn alike_rows(bounds: &Rect, abyss: Abyss, rect: &Rect, row: u32) -> Option<Alike>
     requires { Within rect.now.top rect.now.height row }
-    ensures above { IfSome result (λ earlier. (rect.now.top ≤ earlier) × (earlier < row)) }
-    ensures alike { IfSome result (λ earlier. AlikeRows bounds.now abyss earlier row) }
+    ensures { IfSome result (AreAlike bounds.now abyss rect.now row) }
 {
-    let period = match abyss {
-        Abyss::Loop => bounds.h.max(1),
-        _ => 1,
-    };
+    match abyss {
+        Abyss::Loop => wrapped_rows(bounds, rect, row),
+        _ => rows_aside(bounds, abyss, rect, row),
+    }
+}
+
+/// The rows of a rectangle from one on that read a box under `Loop` as those above them do.
+fn wrapped_rows(bounds: &Rect, rect: &Rect, row: u32) -> Option<Alike>
+    requires { Within rect.now.top rect.now.height row }
+    ensures { IfSome result (AreAlike bounds.now Loop rect.now row) }
+{
+    let period = bounds.h.max(1);
     if row - rect.top() < period {
         return None;
     }
-    let earlier = row - period;
-    if source_row(bounds, abyss, earlier) != source_row(bounds, abyss, row) {
+    Some(Alike {
+        period,
+        end: rect.bottom(),
+    })
+}
+
+/// The rows of a rectangle from one on that read a box under another policy as the row above them
+/// does.
+fn rows_aside(bounds: &Rect, abyss: Abyss, rect: &Rect, row: u32) -> Option<Alike>
+    requires still { abyss ≢ Loop }
+    requires row { Within rect.now.top rect.now.height row }
+    ensures { IfSome result (AreAlike bounds.now abyss rect.now row) }
+{
+    if row == rect.top() {
         return None;
     }
-    Some(earlier)
+    let end = end_aside(bounds, rect, row - 1);
+    if end <= row {
+        return None;
+    }
+    Some(Alike { period: 1, end })
+}
+
+/// The row behind those of a rectangle that lie with one on the same side of a box.
+fn end_aside(bounds: &Rect, rect: &Rect, row: u32) -> u32
+    requires { Within rect.now.top rect.now.height row }
+    ensures within { result ≤ bottom rect.now }
+    ensures aside { (v : ℕ) → row ≤ v → v < result → OnOneSide bounds.now row v }
+{
+    if bounds.is_empty() || bounds.bottom() <= row {
+        return rect.bottom();
+    }
+    bounds.top().min(rect.bottom())
 }
 
 /// Of the `len` numbers from `start` on, the one that is a whole multiple of `len` away from a

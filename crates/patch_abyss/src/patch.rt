@@ -1,7 +1,7 @@
 //! Images in memory.
 
 ghost use Rattle.std.specs.Prelude.{◌≡◌, ◌≢◌, ◌<◌, ◌≤◌, ◌+◌, ◌-◌, ◌*◌, ℕ, ◌↔◌, ◌⊎◌, IfErr, IfOk, length};
-ghost use Rattle.plane_rect.specs.Rectangle.{InLimits, Includes, IsBehindCorner, IsRectangle, LiesAt, Within, plane_index as index_of};
+ghost use Rattle.plane_rect.specs.Rectangle.{InLimits, Includes, IsRectangle, LiesAt, Within, plane_index as index_of};
 ghost use Rattle.plane_rect.specs.Tile.{tile_square};
 ghost use Rattle.sample_rows.specs.Format.{channels, depth, pixel_bytes};
 ghost use Rattle.sample_rows.specs.Row.{pixel_at, sample_at};
@@ -9,20 +9,20 @@ ghost use Rattle.images.specs.Image.{IsImage, at, drawn};
 ghost use Rattle.images.specs.Paint.{blank, painted, put_raw};
 ghost use Rattle.images.specs.Raw.{raw};
 ghost use Rattle.abyss_levels.specs.Abyss.{tile_bytes};
-ghost use Rattle.patch_abyss.specs.Spelled.{byte_count, spelled};
+ghost use Rattle.images.specs.Spelled.{byte_count, spelled};
 ghost use Rattle.patch_abyss.specs.declared.patch.PatchRefused.TheVariants.{NoMemory, WrongSize};
 
 use crate::rows::copy_meet;
 use no_memory::NoMemory;
-use plane_rect::{Rect, TileAt};
+use plane_rect::{Rect, TileAt, plane_index};
 use sample_rows::Format;
 use std::alloc::{AllocError, Global};
 use std::marker::Model;
 use thiserror::Error;
 use tile_cow::Tile;
 
-/// How far the plane's corner is from the origin, in columns and in rows.
-const ORIGIN: i64 = 1 << 24;
+/// From how many bytes on appending a row to a vector costs less than zeroing its memory.
+const LONG_ROW: usize = 256;
 
 /// How many places a tile has.
 const TILE_PLACES: u32 = 64 * 64;
@@ -38,7 +38,7 @@ pub struct Patch {
 
 impl Model for Patch {
     ghost use Rattle.images.specs.Image.{Image};
-    ghost use Rattle.patch_abyss.specs.Spelled.{Spells, spelled};
+    ghost use Rattle.images.specs.Spelled.{Spells, spelled};
 
     ghost Value = { Image };
 
@@ -153,17 +153,17 @@ impl Patch {
         requires { InLimits rect }
         ensures { IfOk result (λ patch. patch ≡ drawn rect self.now.format (at self.now)) }
     {
-        if self.rect.contains(&rect) {
-            return self.cut(alloc, rect);
-        }
         let format = self.format;
         let pixel = format.pixel_bytes() as usize;
+        if rect.w as usize * pixel >= LONG_ROW && self.rect.contains(&rect) {
+            return self.cut(alloc, rect);
+        }
         let mut bytes = vec![in alloc; 0; byte_count(&rect, format)]?;
         copy_meet(&mut bytes, &rect, &self.bytes, &self.rect, pixel);
         Ok(Patch::from_bytes(rect, format, bytes))
     }
 
-    /// The patch over a part of the rectangle.
+    /// The patch over a part of the rectangle, whose memory is written once.
     fn cut(&self, alloc: Global, part: Rect) -> Result<Patch, NoMemory>
         requires limits { InLimits part }
         requires part { Includes self.now.box part }
@@ -266,14 +266,6 @@ pub(crate) fn byte_count(rect: &Rect, format: Format) -> usize
     ensures rectangle { IsRectangle rect.now }
 {
     rect.area() as usize * format.pixel_bytes() as usize
-}
-
-/// The column of an x, or the row of a y, counted from the plane's corner.
-fn plane_index(coordinate: i32) -> u32
-    requires { IsBehindCorner coordinate }
-    ensures { result ≡ index_of coordinate }
-{
-    (i64::from(coordinate) + ORIGIN) as u32
 }
 
 /// A sample of raw bytes, by its index.

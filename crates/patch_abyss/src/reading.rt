@@ -1,21 +1,23 @@
 //! Images read under a policy.
 
-ghost use Rattle.std.specs.Prelude.{◌≡◌, ℕ, ◌+◌, ◌-◌, ◌*◌, ◌<◌, ◌≤◌, IfOk, IfSome, length, max, min};
-ghost use Rattle.plane_rect.specs.Rectangle.{InLimits, IsRectangle, Within, area, right};
+ghost use Rattle.std.specs.Prelude.{◌≡◌, ◌≢◌, ℕ, ◌+◌, ◌-◌, ◌*◌, ◌<◌, ◌≤◌, IfOk, IfSome, length, max, min};
+ghost use Rattle.plane_rect.specs.Rectangle.{InLimits, IsRectangle, Within, area, bottom, right};
 ghost use Rattle.sample_rows.specs.Format.{pixel_bytes};
 ghost use Rattle.sample_rows.specs.Row.{HasPixels};
 ghost use Rattle.images.specs.Image.{drawn};
-ghost use Rattle.abyss_levels.specs.Abyss.{abyss_at};
-ghost use Rattle.patch_abyss.specs.Fetched.{RowsDrawn, SamePixel};
-ghost use Rattle.patch_abyss.specs.Rows.{read_from};
-ghost use Rattle.patch_abyss.specs.Spelled.{AreBytes, byte_count};
+ghost use Rattle.abyss_levels.specs.Abyss.{abyss_at, wrapped};
+ghost use Rattle.abyss_levels.specs.declared.abyss.Abyss.TheVariants.{Loop};
+ghost use Rattle.patch_abyss.specs.Fetched.{RowsDrawn, SamePixel, outside_sample};
+ghost use Rattle.patch_abyss.specs.Rows.{AreAlike, moved_to};
+ghost use Rattle.images.specs.Spelled.{AreBytes, byte_count};
 
-use crate::fill::{copy_back, cycle, surround};
-use crate::outside::{outside_pixel, row_alike, source_row, wrapped};
+use crate::fill::{cycle, repeat, surround};
+use crate::outside::{Alike, alike_rows, outside_pixel, source_rows, wrapped};
 use crate::patch::{Patch, byte_count};
 use abyss_levels::Abyss;
 use no_memory::NoMemory;
 use plane_rect::Rect;
+use sample_rows::Format;
 use std::alloc::Global;
 use std::ops::Range;
 
@@ -38,34 +40,78 @@ pub fn fetch(alloc: Global, image: &Patch, abyss: Abyss, rect: Rect) -> Result<P
     Ok(Patch::from_bytes(rect, format, bytes))
 }
 
-/// Writes the samples of a rectangle, row by row.
+/// Writes the samples of a rectangle, band by band from the top.
 fn fetch_rows(image: &Patch, abyss: Abyss, rect: &Rect, bytes: &mut [u8])
     requires { length bytes.old ≡ byte_count rect.now image.now.format }
     ensures len { length bytes.new ≡ length bytes.old }
     ensures drawn { RowsDrawn rect.now image.now.format (abyss_at image.now abyss) rect.now.height bytes.new }
 {
-    for row in rect.top()..rect.bottom() {
-        fetch_row(image, abyss, rect, row, bytes);
+    let mut row = rect.top();
+    while row < rect.bottom() {
+        row = match alike_rows(&image.rect(), abyss, rect, row) {
+            Some(alike) => repeat_rows(image, abyss, rect, row, &alike, bytes),
+            None => fetch_band(image, abyss, rect, row, bytes),
+        };
     }
 }
 
-/// Writes the samples of a row of a rectangle, where those of the rows above it are written.
-fn fetch_row(image: &Patch, abyss: Abyss, rect: &Rect, row: u32, bytes: &mut [u8])
+/// Writes rows of a rectangle that read the image as rows above them do, from one on, where those
+/// above it are written. Gives the row behind them.
+fn repeat_rows(
+    image: &Patch,
+    abyss: Abyss,
+    rect: &Rect,
+    row: u32,
+    alike: &Alike,
+    bytes: &mut [u8],
+) -> u32
+    requires row { Within rect.now.top rect.now.height row }
+    requires alike { AreAlike image.now.box abyss rect.now row alike.now }
+    requires count { length bytes.old ≡ byte_count rect.now image.now.format }
+    requires above { RowsDrawn rect.now image.now.format (abyss_at image.now abyss) (row - rect.now.top) bytes.old }
+    ensures end { result ≡ alike.now.end }
+    ensures len { length bytes.new ≡ length bytes.old }
+    ensures drawn { RowsDrawn rect.now image.now.format (abyss_at image.now abyss) (result - rect.now.top) bytes.new }
+{
+    let count = rect.w as usize * image.format().pixel_bytes() as usize;
+    let period = alike.period as usize * count;
+    let start = (row - rect.top()) as usize * count;
+    let end = (alike.end - rect.top()) as usize * count;
+    repeat(&mut bytes[start - period..end], period);
+    alike.end
+}
+
+/// Writes rows of a rectangle that read rows of the image which follow one another, or a row that
+/// reads nothing of it, where those above it are written. Gives the row behind them.
+fn fetch_band(image: &Patch, abyss: Abyss, rect: &Rect, row: u32, bytes: &mut [u8]) -> u32
     requires row { Within rect.now.top rect.now.height row }
     requires count { length bytes.old ≡ byte_count rect.now image.now.format }
     requires above { RowsDrawn rect.now image.now.format (abyss_at image.now abyss) (row - rect.now.top) bytes.old }
+    ensures further { row < result }
+    ensures within { result ≤ bottom rect.now }
     ensures len { length bytes.new ≡ length bytes.old }
-    ensures drawn { RowsDrawn rect.now image.now.format (abyss_at image.now abyss) (row + 1 - rect.now.top) bytes.new }
+    ensures drawn { RowsDrawn rect.now image.now.format (abyss_at image.now abyss) (result - rect.now.top) bytes.new }
 {
-    let bounds = image.rect();
-    let pixel = image.format().pixel_bytes() as usize;
-    let count = rect.w as usize * pixel;
+    let format = image.format();
+    let count = rect.w as usize * format.pixel_bytes() as usize;
     let start = (row - rect.top()) as usize * count;
-    if let Some(earlier) = row_alike(&bounds, abyss, rect, row) {
-        copy_back(bytes, (earlier - rect.top()) as usize * count, start, count);
-        return;
-    }
-    read_row(image, abyss, rect, row, &mut bytes[start..start + count]);
+    let Some(sources) = source_rows(&image.rect(), abyss, row) else {
+        write_outside(abyss, format, &mut bytes[start..start + count]);
+        return row + 1;
+    };
+    let rows = (sources.end - sources.start).min(rect.bottom() - row);
+    let end = (row + rows - rect.top()) as usize * count;
+    let to = &mut bytes[start..end];
+    write_rows(image, abyss, rect, sources.start..sources.start + rows, to);
+    row + rows
+}
+
+/// Writes pixels that read nothing of an image.
+fn write_outside(abyss: Abyss, format: Format, to: &mut [u8])
+    ensures len { length to.new ≡ length to.old }
+    ensures pixels { HasPixels format to.new (λ _. outside_sample abyss format) }
+{
+    cycle(to, outside_pixel(abyss, format), 0);
 }
 
 /// Writes the samples of a row over the columns of a rectangle.
@@ -74,31 +120,92 @@ pub(crate) fn read_row(image: &Patch, abyss: Abyss, rect: &Rect, row: u32, to: &
     ensures len { length to.new ≡ length to.old }
     ensures pixels { HasPixels image.now.format to.new (λ k. abyss_at image.now abyss (rect.now.left + k) row) }
 {
-    let source = source_row(&image.rect(), abyss, row);
-    write_row(image, abyss, rect, source, to);
+    let Some(sources) = source_rows(&image.rect(), abyss, row) else {
+        write_outside(abyss, image.format(), to);
+        return;
+    };
+    write_rows(image, abyss, rect, sources.start..sources.start + 1, to);
 }
 
-/// Writes a row over the columns of a rectangle that reads a row of the image, or nothing of it.
-fn write_row(image: &Patch, abyss: Abyss, rect: &Rect, source: Option<u32>, to: &mut [u8])
-    requires count { length to.old ≡ rect.now.width * pixel_bytes image.now.format }
-    requires source { IfSome source (Within image.now.box.top image.now.box.height) }
+/// Writes rows over the columns of a rectangle, one for each of these rows of the image.
+fn write_rows(image: &Patch, abyss: Abyss, rect: &Rect, sources: Range<u32>, to: &mut [u8])
+    requires some { sources.start < sources.end }
+    requires top { image.now.box.top ≤ sources.start }
+    requires bottom { sources.end ≤ bottom image.now.box }
+    requires count { length to.old ≡ (sources.end - sources.start) * (rect.now.width * pixel_bytes image.now.format) }
     ensures len { length to.new ≡ length to.old }
-    ensures pixels { HasPixels image.now.format to.new (λ k. read_from image.now abyss source (rect.now.left + k)) }
+    ensures drawn { RowsDrawn (moved_to sources.start rect.now) image.now.format (abyss_at image.now abyss)
+        (sources.end - sources.start) to.new }
+{
+    match abyss {
+        Abyss::Loop => loop_rows(image, rect, sources, to),
+        _ => edge_rows(image, abyss, rect, sources, to),
+    }
+}
+
+/// Writes rows under `Loop`, which begins each at the same column of the image.
+fn loop_rows(image: &Patch, rect: &Rect, sources: Range<u32>, to: &mut [u8])
+    requires some { sources.start < sources.end }
+    requires top { image.now.box.top ≤ sources.start }
+    requires bottom { sources.end ≤ bottom image.now.box }
+    requires count { length to.old ≡ (sources.end - sources.start) * (rect.now.width * pixel_bytes image.now.format) }
+    ensures len { length to.new ≡ length to.old }
+    ensures drawn { RowsDrawn (moved_to sources.start rect.now) image.now.format (abyss_at image.now Loop)
+        (sources.end - sources.start) to.new }
+{
+    let (top, bottom) = (sources.start, sources.end);
+    let pixel = image.format().pixel_bytes() as usize;
+    let count = rect.w as usize * pixel;
+    let first = first_column(&image.rect(), rect) as usize * pixel;
+    for row in top..bottom {
+        let start = (row - top) as usize * count;
+        cycle(&mut to[start..start + count], image.row(row), first);
+    }
+}
+
+/// How many columns right of a box's first one the column stands that a rectangle's first one reads
+/// under `Loop`.
+fn first_column(bounds: &Rect, rect: &Rect) -> u32
+    requires { 0 < bounds.now.width }
+    ensures { result ≡ wrapped bounds.now.left bounds.now.width rect.now.left - bounds.now.left }
+{
+    wrapped(bounds.left(), bounds.w, rect.left()) - bounds.left()
+}
+
+/// Writes rows under another policy, whose columns left and right of the image read its edge or
+/// nothing of it.
+fn edge_rows(image: &Patch, abyss: Abyss, rect: &Rect, sources: Range<u32>, to: &mut [u8])
+    requires still { abyss ≢ Loop }
+    requires some { sources.start < sources.end }
+    requires top { image.now.box.top ≤ sources.start }
+    requires bottom { sources.end ≤ bottom image.now.box }
+    requires count { length to.old ≡ (sources.end - sources.start) * (rect.now.width * pixel_bytes image.now.format) }
+    ensures len { length to.new ≡ length to.old }
+    ensures drawn { RowsDrawn (moved_to sources.start rect.now) image.now.format (abyss_at image.now abyss)
+        (sources.end - sources.start) to.new }
+{
+    let (top, bottom) = (sources.start, sources.end);
+    let count = rect.w as usize * image.format().pixel_bytes() as usize;
+    for row in top..bottom {
+        let start = (row - top) as usize * count;
+        edge_row(image, abyss, rect, row, &mut to[start..start + count]);
+    }
+}
+
+/// Writes a row under another policy than `Loop`.
+fn edge_row(image: &Patch, abyss: Abyss, rect: &Rect, row: u32, to: &mut [u8])
+    requires still { abyss ≢ Loop }
+    requires row { Within image.now.box.top image.now.box.height row }
+    requires count { length to.old ≡ rect.now.width * pixel_bytes image.now.format }
+    ensures len { length to.new ≡ length to.old }
+    ensures pixels { HasPixels image.now.format to.new (λ k. abyss_at image.now abyss (rect.now.left + k) row) }
 {
     let format = image.format();
     let pixel = format.pixel_bytes() as usize;
     let outside = outside_pixel(abyss, format);
-    let Some(row) = source else {
-        cycle(to, outside, 0);
-        return;
-    };
     let bounds = image.rect();
     let from = image.row(row);
     match abyss {
-        Abyss::Loop => {
-            let first = wrapped(bounds.left(), bounds.w, rect.left()) - bounds.left();
-            cycle(to, from, first as usize * pixel);
-        }
         Abyss::Clamp => {
             let last = &from[from.len() - pixel..];
             write_edged(to, rect, from, &bounds, &from[..pixel], last);

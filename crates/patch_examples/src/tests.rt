@@ -147,6 +147,23 @@ fn reads_under_each_policy(rt: HostRuntime) -> Result<(), Fail> {
 }
 
 #[test]
+fn long_rows_are_cut(rt: HostRuntime) -> Result<(), Fail> {
+    let alloc = rt.alloc();
+    let mut bytes = vec![in alloc; 0; 600]?;
+    for (place, byte) in bytes.iter_mut().enumerate() {
+        *byte = (place % 251) as u8;
+    }
+    let image = Patch::from_raw(alloc, rect([0, 0, 300, 2]), Format::Y8, &bytes)?;
+    for abyss in POLICIES {
+        let part = fetch(alloc, &image, abyss, rect([20, 0, 260, 2]))?;
+        assert_eq!(rt; part.raw_bytes().len(), 520);
+        assert!(rt; part.raw_bytes().starts_with(&bytes[20..280]));
+        assert!(rt; part.raw_bytes().ends_with(&bytes[320..580]));
+    }
+    Ok(())
+}
+
+#[test]
 fn halves(rt: HostRuntime) -> Result<(), Fail> {
     let alloc = rt.alloc();
     for case in HALVED {

@@ -3,18 +3,18 @@ use Rattle.std.proofs.lemmas.List.{with_items_is}
 use Rattle.plane_rect.specs.Rectangle.{Rectangle, InLimits, halved}
 use Rattle.images.specs.Image.{drawn}
 use Rattle.abyss_levels.specs.Level.{mean_at}
-use Rattle.patch_abyss.specs.Spelled.{spelled}
+use Rattle.images.specs.Spelled.{spelled}
 use Rattle.patch_abyss.proofs.DrawnRows.{RowsDrawn-all}
-use Rattle.patch_abyss.proofs.HalvedRows.{halved-limits}
+use Rattle.abyss_levels.proofs.LevelLaws.{InLimits-halved}
 use Rattle.patch_abyss.proofs.halving.halve.Goals as goal
 
 pub byte_count-requires : goal.byte_count-requires
 byte_count-requires c =
-    subst InLimits (sym c.halved-rect.ensures.value) (halved-limits c.rect.result c.rect.ensures.rectangle c.rect.ensures.limits)
+    subst InLimits (sym c.halved-rect.ensures.value) (InLimits-halved c.rect.result c.rect.ensures.rectangle c.rect.ensures.limits)
 
 pub from_bytes-requires-clause-limits : goal.from_bytes-requires-clause-limits
 from_bytes-requires-clause-limits c =
-    subst InLimits (sym c.halved-rect.ensures.value) (halved-limits c.rect.result c.rect.ensures.rectangle c.rect.ensures.limits)
+    subst InLimits (sym c.halved-rect.ensures.value) (InLimits-halved c.rect.result c.rect.ensures.rectangle c.rect.ensures.limits)
 
 pub returns : goal.returns
 returns c =

@@ -3,8 +3,8 @@ use Rattle.plane_rect.specs.Rectangle.{Rectangle}
 use Rattle.sample_rows.specs.Average.{mean_pixel}
 use Rattle.sample_rows.specs.Format.{pixel_bytes}
 use Rattle.sample_rows.specs.Row.{HasPixels, pixel_at}
+use Rattle.sample_rows.proofs.RowLaws.{pixel_count_of}
 use Rattle.patch_abyss.proofs.HalvedRows.{shows_own, shows_read, mean_row, pair_count}
-use Rattle.patch_abyss.proofs.ReadPixels.{count_pixels}
 use Rattle.patch_abyss.proofs.TilesOfPatches.{few_bytes}
 use Rattle.patch_abyss.proofs.halving.halve_row.Goals as goal
 
@@ -39,8 +39,8 @@ returns-clause-pixels c = λ k channel inside known.
     let to = c.row_average4-2.new.dst in
     let pairs = pair_count n (length c.args.to.now) columns.width (few_bytes image.format).0 c.requires.whole c.requires.count in
     let below : k < length c.args.to.now / n = subst (λ (l : ℕ). k < l / n) c.row_average4-2.auto.dst inside in
-    let many_up = count_pixels image.format up columns.width (c.read_row.ensures.len ∙ c.requires.up ∙ c.requires.count) in
-    let many_down = count_pixels image.format down columns.width (c.read_row-2.ensures.len ∙ c.requires.down ∙ c.requires.count) in
+    let many_up = pixel_count_of image.format up columns.width (c.read_row.ensures.len ∙ c.requires.up ∙ c.requires.count) in
+    let many_down = pixel_count_of image.format down columns.width (c.read_row-2.ensures.len ∙ c.requires.down ∙ c.requires.count) in
     let means : HasPixels image.format to (λ k. mean_pixel (pixel_at image.format up (2 * k)) (pixel_at image.format up (2 * k + 1)) (pixel_at image.format down (2 * k)) (pixel_at image.format down (2 * k + 1))) =
     rw c.format-format.ensures at c.row_average4-2.ensures in
     means k channel inside known

@@ -4,7 +4,7 @@ use Rattle.plane_rect.specs.Rectangle.{Rectangle, IsRectangle, halved, origin, p
 use Rattle.sample_rows.specs.Format.{pixel_bytes}
 use Rattle.abyss_levels.specs.Level.{mean_at, doubled}
 use Rattle.patch_abyss.specs.Fetched.{RowsDrawn}
-use Rattle.patch_abyss.proofs.DrawnRows.{RowsDrawn-none, RowsDrawn-written}
+use Rattle.patch_abyss.proofs.DrawnRows.{RowsDrawn-none, RowsDrawn-row}
 use Rattle.patch_abyss.proofs.HalvedRows.{halved-behind, halved-rows, whole_pixels, mean_doubled}
 use Rattle.patch_abyss.proofs.TilesOfPatches.{few_bytes}
 use borrow.Rule.Slice.PartMut.{put_mid}
@@ -207,7 +207,7 @@ loop-row-preserved c =
     let stands : row ≡ rect.top + j = omega (arith, first) in
     let next : j + 1 ≡ row + 1 - rect.top = omega (arith, first) in
     subst (λ (rows : ℕ). RowsDrawn rect image.format (mean_at image) rows (put_mid start len c.loop-row.bytes piece)) next
-    (RowsDrawn-written rect image.format (mean_at image) j c.loop-row.bytes (put_mid start len c.loop-row.bytes piece) c.loop-row.invariant count is_count
+    (RowsDrawn-row rect image.format (mean_at image) j c.loop-row.bytes (put_mid start len c.loop-row.bytes piece) c.loop-row.invariant count is_count
     start len piece at_start at_len room fits refl
     (λ k channel inside known.
     c.halve_row.ensures.pixels k channel inside known

@@ -5,7 +5,7 @@ use Rattle.plane_rect.specs.Rectangle.{Rectangle, Includes}
 use Rattle.images.specs.Image.{Image, at, drawn}
 use Rattle.abyss_levels.specs.declared.abyss.Abyss.TheVariants.{None}
 use Rattle.abyss_levels.specs.Abyss.{abyss_at}
-use Rattle.patch_abyss.specs.Spelled.{spelled}
+use Rattle.images.specs.Spelled.{spelled}
 use Rattle.patch_abyss.proofs.DrawnRows.{RowsDrawn-all, drawn-none, drawn-inside}
 use Rattle.patch_abyss.proofs.reading.fetch.Goals as goal
 use Rattle.patch_abyss.proofs.reading.fetch.Goals.{then-eq-via-then-eq, then-eq-via-else-eq+then-contains}

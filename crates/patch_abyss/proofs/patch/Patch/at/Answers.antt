@@ -1,7 +1,7 @@
 use Rattle.std.proofs.Common.{◌≡◌, ◌∙◌, sym, rules}
 use Rattle.plane_rect.specs.Rectangle.{LiesAt, plane_index}
-use Rattle.patch_abyss.proofs.Spelling.{at-spelled}
-use Rattle.patch_abyss.proofs.Places.{Lies-from_signed}
+use Rattle.images.proofs.Spelling.{at-spelled}
+use Rattle.plane_rect.proofs.Rectangles.{LiesAt-index}
 use Rattle.patch_abyss.proofs.patch.Patch.at.Goals as goal
 
 pub offset-place-requires : goal.offset-place-requires
@@ -10,7 +10,7 @@ offset-place-requires c =
     let there : LiesAt c.args.x c.args.y c.self.inside.rect = search rules in
     let column : c.plane_index.result ≡ plane_index c.args.x = search rules in
     let row : c.plane_index-2.result ≡ plane_index c.args.y = search rules in
-    rw (column, row) (Lies-from_signed c.args.x c.args.y c.self.inside.rect there)
+    rw (column, row) (((LiesAt-index c.args.x c.args.y c.self.inside.rect).0 there).2)
 
 pub returns-clause-inside : goal.returns-clause-inside
 returns-clause-inside c there =
@@ -19,6 +19,6 @@ returns-clause-inside c there =
     let lies : LiesAt c.args.x c.args.y patch.rect = search rules in
     let column : c.plane_index.result ≡ plane_index c.args.x = search rules in
     let row : c.plane_index-2.result ≡ plane_index c.args.y = search rules in
-    let is = at-spelled patch.rect patch.format patch.bytes.items (plane_index c.args.x) (plane_index c.args.y) c.args.c (Lies-from_signed c.args.x c.args.y patch.rect lies) (search rules) in
+    let is = at-spelled patch.rect patch.format patch.bytes.items (plane_index c.args.x) (plane_index c.args.y) c.args.c (((LiesAt-index c.args.x c.args.y patch.rect).0 lies).2) (search rules) in
     rw (← c.self.view_is)
     (c.sample_at.ensures ∙ rw (c.deref.ensures.value, c.offset-place.ensures.value, column, row, c.channels.ensures) (sym is))

@@ -2,7 +2,7 @@ use Rattle.std.proofs.Common.{◌≡◌, ℕ, List, ◌∙◌, sym, ap}
 use Rattle.sample_rows.specs.declared.format.Format.{Format}
 use Rattle.images.specs.Image.{Image, at}
 use Rattle.images.specs.Paint.{painted}
-use Rattle.patch_abyss.specs.Spelled.{spelled}
+use Rattle.images.specs.Spelled.{spelled}
 use Rattle.patch_abyss.proofs.patch.Patch.blit.Goals as goal
 
 pub returns : goal.returns

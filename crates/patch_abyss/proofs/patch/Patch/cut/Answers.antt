@@ -4,10 +4,10 @@ use Rattle.plane_rect.specs.Rectangle.{Includes, Within, area}
 use Rattle.sample_rows.specs.Format.{pixel_bytes}
 use Rattle.sample_rows.specs.Row.{HasPixels}
 use Rattle.images.specs.Image.{Image, at, drawn}
-use Rattle.patch_abyss.specs.Spelled.{spelled}
+use Rattle.images.specs.Spelled.{spelled}
+use Rattle.sample_rows.proofs.RowLaws.{pixel_count_of}
 use Rattle.patch_abyss.proofs.CopiedRows.{get_or-cut, length-cut}
 use Rattle.patch_abyss.proofs.DrawnRows.{Appended, RowsDrawn-appended, RowsDrawn-all}
-use Rattle.patch_abyss.proofs.ReadPixels.{count_pixels}
 use Rattle.patch_abyss.proofs.RowPixels.{cut_samples}
 use Rattle.patch_abyss.proofs.patch.Patch.cut.Goals as goal
 
@@ -45,7 +45,7 @@ loop-row-preserved c =
     let stands : row ≡ part.top + j = omega (arith, first) in
     let pixels : HasPixels patch.format piece (λ k. at image (part.left + k) (part.top + j)) =
     λ k channel below known.
-    cut_samples patch.rect part patch.format row s patch.bytes.items piece inside here places.ensures.start cut k channel (rw (count_pixels patch.format piece part.width long) at below) known
+    cut_samples patch.rect part patch.format row s patch.bytes.items piece inside here places.ensures.start cut k channel (rw (pixel_count_of patch.format piece part.width long) at below) known
     ∙ ap (λ (v : ℕ). at image (part.left + k) v channel) stands in
     let before : Appended part patch.format (at image) j c.loop-row.bytes.items =
     subst (λ (shown : Image). Appended part shown.format (at shown) j c.loop-row.bytes.items) (sym c.self.view_is) c.loop-row.invariant in

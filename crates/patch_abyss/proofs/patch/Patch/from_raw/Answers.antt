@@ -1,7 +1,7 @@
 use Rattle.std.proofs.Common.{◌≡◌, ◌∙◌, ap, rules, length}
 use Rattle.images.specs.Raw.{raw}
-use Rattle.patch_abyss.specs.Spelled.{byte_count, spelled}
-use Rattle.patch_abyss.proofs.Spelling.{raw-spelled, are_bytes}
+use Rattle.images.specs.Spelled.{byte_count, spelled}
+use Rattle.images.proofs.Spelling.{raw-spelled, are_bytes}
 use Rattle.patch_abyss.proofs.patch.Patch.from_raw.Goals as goal
 
 pub returns-clause-raw : goal.returns-clause-raw

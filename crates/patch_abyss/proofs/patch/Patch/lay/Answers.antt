@@ -3,7 +3,7 @@ use Rattle.std.proofs.lemmas.List.{with_items_is}
 use Rattle.plane_rect.specs.Rectangle.{meet}
 use Rattle.plane_rect.proofs.Rectangles.{Lies-meet}
 use Rattle.sample_rows.specs.Format.{pixel_bytes}
-use Rattle.patch_abyss.specs.Spelled.{spelled, AreBytes}
+use Rattle.images.specs.Spelled.{spelled, AreBytes}
 use Rattle.patch_abyss.specs.Copied.{HasPart}
 use Rattle.patch_abyss.proofs.Parts.{blitted}
 use Rattle.patch_abyss.proofs.patch.Patch.lay.Goals as goal

@@ -5,7 +5,7 @@ use Rattle.plane_rect.proofs.Rectangles.{Lies-meet}
 use Rattle.sample_rows.specs.Format.{pixel_bytes}
 use Rattle.images.specs.Image.{at}
 use Rattle.images.proofs.Laws.{drawn_alike}
-use Rattle.patch_abyss.specs.Spelled.{spelled, spelled_pixels}
+use Rattle.images.specs.Spelled.{spelled, spelled_pixels}
 use Rattle.patch_abyss.specs.Copied.{HasPart}
 use Rattle.patch_abyss.proofs.Parts.{part_drawn}
 use Rattle.patch_abyss.proofs.patch.Patch.part.Goals as goal

@@ -3,7 +3,7 @@ use Rattle.plane_rect.specs.Rectangle.{Rectangle}
 use Rattle.plane_rect.specs.Tile.{tile_square}
 use Rattle.images.specs.Image.{at}
 use Rattle.images.specs.Paint.{painted}
-use Rattle.patch_abyss.specs.Spelled.{spelled}
+use Rattle.images.specs.Spelled.{spelled}
 use Rattle.patch_abyss.proofs.TilesOfPatches.{no_common_place, put_nowhere, put_spelled, met_tile}
 use Rattle.patch_abyss.proofs.patch.Patch.put_tile.Goals as goal
 

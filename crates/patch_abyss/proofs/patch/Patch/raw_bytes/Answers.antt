@@ -1,5 +1,5 @@
 use Rattle.std.proofs.Common.{sym, ◌∙◌}
-use Rattle.patch_abyss.proofs.Spelling.{raw-spelled}
+use Rattle.images.proofs.Spelling.{raw-spelled}
 use Rattle.patch_abyss.proofs.patch.Patch.raw_bytes.Goals as goal
 
 pub returns-clause-value : goal.returns-clause-value

@@ -3,7 +3,7 @@ use Rattle.std.proofs.Math.Nat.{mul-le-mul_right}
 use Rattle.plane_rect.specs.Rectangle.{Within, area}
 use Rattle.sample_rows.specs.Format.{channels, pixel_bytes}
 use Rattle.images.specs.Image.{Image, at}
-use Rattle.patch_abyss.specs.Spelled.{spelled}
+use Rattle.images.specs.Spelled.{spelled}
 use Rattle.patch_abyss.proofs.CopiedRows.{get_or-cut}
 use Rattle.patch_abyss.proofs.RowPixels.{cut_samples}
 use Rattle.patch_abyss.proofs.patch.Patch.row.Goals as goal

@@ -1,6 +1,6 @@
 use Rattle.std.proofs.Common.{◌≡◌, ap, ◌∙◌, replicate, rules}
-use Rattle.patch_abyss.specs.Spelled.{spelled}
-use Rattle.patch_abyss.proofs.Spelling.{spelled-zeros}
+use Rattle.images.specs.Spelled.{spelled}
+use Rattle.images.proofs.Spelling.{spelled-zeros}
 use Rattle.patch_abyss.proofs.patch.Patch.zero.Goals as goal
 
 pub returns : goal.returns
