@@ -10,13 +10,14 @@ use std::rt::Clock;
 use std::time::Instant;
 
 /// How many columns and rows the patches have, their format, how many rounds each loop has, and the
-/// speed of a copy.
+/// speeds of a copy into memory that is there and into memory that is asked for.
 #[derive(Clone, Copy)]
 pub struct Bench {
     side: u32,
     format: Format,
     rounds: u32,
-    copy: Speed,
+    ready: Speed,
+    afresh: Speed,
 }
 
 /// A loop that reads a square of an image.
@@ -42,20 +43,23 @@ impl Bench {
             .saturating_mul(u64::from(format.pixel_bytes()));
         let mut from = pictures::bytes(alloc, count)?;
         let mut to = vec![in alloc; 0; from.len()]?;
+        let made = count.saturating_mul(u64::from(rounds));
         let start = Instant::now(rt)?;
-        let found = loops::copy(&mut from, &mut to, rounds);
-        let copy = Speed::since(rt, start, count.saturating_mul(u64::from(rounds)))?;
+        let copied = loops::copy(&mut from, &mut to, rounds);
+        let ready = Speed::since(rt, start, made)?;
+        let start = Instant::now(rt)?;
+        let copied_afresh = loops::copy_afresh(alloc, &mut from, rounds)?;
+        let afresh = Speed::since(rt, start, made)?;
         let bench = Bench {
             side,
             format,
             rounds,
-            copy,
+            ready,
+            afresh,
         };
-        bench.print(rt, "copy", found.wrapping_add(loops::sum(&to)), copy)?;
-
-        let start = Instant::now(rt)?;
-        let found = loops::copy_afresh(alloc, &mut from, rounds)?;
-        bench.report(rt, "copy afresh", start, found, &from)?;
+        bench.print(rt, "copy", copied.wrapping_add(loops::sum(&to)), ready)?;
+        let sum = loops::sum(&from);
+        bench.print(rt, "copy afresh", copied_afresh.wrapping_add(sum), afresh)?;
         Ok(bench)
     }
 
@@ -135,8 +139,9 @@ impl Bench {
         let (side, format) = (self.side, self.format.word());
         println!(rt; "{side} {format}: {name} {found}")?;
         eprintln!(rt;
-            "{side} {format}: {name} {speed}, {}% of a copy",
-            speed.percent_of(self.copy)
+            "{side} {format}: {name} {speed}, {}% of a copy, {}% of one afresh",
+            speed.percent_of(self.ready),
+            speed.percent_of(self.afresh)
         )?;
         Ok(())
     }

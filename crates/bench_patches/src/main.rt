@@ -3,7 +3,8 @@
 //! The word on its command line is how many rounds a patch of 512 by 512 places is made; smaller
 //! ones have as many more rounds. It prints a checksum of what each call gave, which is the same at
 //! each run of as many rounds. The speeds go to standard error: gigabytes of output a second, and
-//! what part of a copy's speed that is.
+//! what part that is of a copy's speed into memory that is there, and into memory that is asked for,
+//! as each of the calls asks for its own.
 #![tactic(auto)]
 
 mod bench;
