@@ -31,6 +31,14 @@ fn a_write_is_seen_by_its_owner_alone(rt: HostRuntime) -> Result<(), Fail> {
 }
 
 #[test]
+fn a_vector_becomes_a_tile(rt: HostRuntime) -> Result<(), Fail> {
+    let alloc = rt.alloc();
+    let tile = Tile::from_vec(alloc, vec![in alloc; 5; 3]?)?;
+    assert_eq!(rt; tile.bytes(), [5, 5, 5].as_slice());
+    Ok(())
+}
+
+#[test]
 fn a_shared_block_is_copied_and_a_lone_one_is_not(rt: HostRuntime) -> Result<(), Fail> {
     let alloc = rt.alloc();
     let mut tile = Tile::zero(alloc, 4)?;

@@ -42,9 +42,7 @@ impl Tile {
         requires { IsTileLength len }
         ensures { IfOk result (λ tile. tile ≡ replicate len 0) }
     {
-        let bytes = vec![in alloc; 0; len as usize]?;
-        let block = Arc::new(alloc, bytes)?;
-        Ok(Tile { block })
+        Tile::from_vec(alloc, vec![in alloc; 0; len as usize]?)
     }
 
     /// A tile of a copy of these bytes.
@@ -52,7 +50,14 @@ impl Tile {
         requires { IsTileLength (length bytes.now) }
         ensures { IfOk result (λ tile. tile ≡ bytes.now) }
     {
-        let bytes = bytes.to_vec(alloc)?;
+        Tile::from_vec(alloc, Vec::from_slice(alloc, bytes)?)
+    }
+
+    /// A tile of these bytes, which are not copied.
+    pub fn from_vec(alloc: Global, bytes: Vec<u8>) -> Result<Tile, NoMemory>
+        requires { IsTileLength (length bytes.items) }
+        ensures { IfOk result (λ tile. tile ≡ bytes.items) }
+    {
         let block = Arc::new(alloc, bytes)?;
         Ok(Tile { block })
     }
