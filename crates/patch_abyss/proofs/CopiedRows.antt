@@ -6,8 +6,8 @@ use Rattle.std.proofs.lemmas.Nat.{mul-add-lt}
 use Rattle.std.proofs.lemmas.List.{get_or-drop, get_or_append_left, get_or-append_right, get_or-take, length-take}
 use Rattle.std.proofs.Math.ListN.{length-append, length-drop}
 use Rattle.plane_rect.specs.Rectangle.{Rectangle, IsRectangle, Lies, Includes, area, offset, right, bottom}
-use Rattle.images.specs.Spelled.{AreBytes}
-use Rattle.patch_abyss.specs.Copied.{HasPart, byte_at}
+use Rattle.patch_abyss.specs.Copied.{AreRows, HasPart, HasRows, HaveRoom, bytes_of, row_byte}
+use Rattle.patch_abyss.specs.declared.rows.Rows.{Rows}
 use borrow.Rule.Slice.PartMut.{put_mid, post_of}
 
 -- ---- a row with a part written
@@ -34,9 +34,6 @@ module _ (row part : List ℕ) (a k : ℕ) (room : a + k ≤ length row) (long :
       ∙ get_or-drop a row (k + (p - a - k)) 0
       ∙ ap (λ (n : ℕ). get_or row n 0) (omega arith)
 
-  pub length-written : length (put_mid a k row part) ≡ length row
-  length-written = omega (arith, length-append (take a row) (part ++ post_of a k row), length-append part (post_of a k row), front, length-drop k (drop a row), length-drop a row)
-
 -- ---- places before and behind others
 
 pub before_place : (p q n k : ℕ) → p < q → k < n → p * n + k < q * n
@@ -55,102 +52,158 @@ row_below r u v left row w top first last below =
     let rows : (row - r.top + 1) * r.width ≤ (v - r.top) * r.width = mul-le-mul_right r.width (omega arith) in
     omega (arith, rows)
 
--- ---- a part copied row by row
+-- ---- rows copied one after the other
 
--- the first rows of a rectangle
-abbrev pub rows_of : Rectangle → ℕ → Rectangle
-rows_of r j = record r { height = j }
-
--- where a row of a part begins among the bytes of a rectangle
-abbrev pub row_start : Rectangle → ℕ → Rectangle → ℕ → ℕ
-row_start r n part j = offset r part.left (part.top + j) * n
-
-pub HasPart-none : (to from part : Rectangle) (n j : ℕ) (source old : List ℕ) → j ≡ 0 → HasPart to from (rows_of part j) n source old old
-HasPart-none to from part n j source old none = record {
-  copied = λ u v k there within. absurd (omega (arith, there.row));
-  kept = λ u v k there out within. refl;
+pub HasRows-none : (rows : Rows) (n : ℕ) (f : ℕ → ℕ → ℕ) (old : List ℕ) → HasRows rows n 0 f old old
+HasRows-none rows n f old = record {
+  written = λ j k below within. absurd (omega arith);
+  kept = λ i beside. refl;
 }
 
-module _ (to from part : Rectangle) (n j : ℕ) (source old now piece : List ℕ) (a len : ℕ)
-    (in_to : Includes to part) (in_from : Includes from part) (wide : 0 < part.width) (high : j < part.height)
-    (at_a : a ≡ row_start to n part j) (of_len : len ≡ part.width * n) (room : a + len ≤ length now)
-    (long : length piece ≡ len) (same : (q : ℕ) → q < len → get_or piece q 0 ≡ get_or source (row_start from n part j + q) 0)
-    (before : HasPart to from (rows_of part j) n source old now) where
-  abbrev row : ℕ
-  row = part.top + j
+-- rows without bytes
+pub HasRows-no_bytes : (rows : Rows) (n many : ℕ) (f : ℕ → ℕ → ℕ) (old : List ℕ) → n ≡ 0 → HasRows rows n many f old old
+HasRows-no_bytes rows n many f old none = record {
+  written = λ j k below within. absurd (omega arith);
+  kept = λ i beside. refl;
+}
 
-  first : Lies part.left row part
+-- no row begins before the one above it ends
+pub row_behind : (rows : Rows) (n j m : ℕ) → n ≤ rows.stride → j < m → row_byte rows j n ≤ row_byte rows m 0
+row_behind rows n j m apart below = omega (arith, mul-le-mul_right rows.stride below)
+
+-- one row more is written where it stands
+pub HasRows-next : (rows : Rows) (n j : ℕ) (f : ℕ → ℕ → ℕ) (old now piece : List ℕ) (a e : ℕ) → n ≤ rows.stride → a ≡ row_byte rows j 0 → e ≡ row_byte rows j n →
+    row_byte rows j n ≤ length now → length piece ≡ n → ((k : ℕ) → k < n → get_or piece k 0 ≡ f j k) → HasRows rows n j f old now →
+    HasRows rows n (j + 1) f old (put_mid a (e - a) now piece)
+HasRows-next rows n j f old now piece a e apart at_a at_e room long same before =
+    let fits : a + (e - a) ≤ length now = omega (arith, at_a, at_e, room) in
+    let whole : length piece ≡ e - a = omega (arith, at_a, at_e, long) in
+    record {
+      written = λ m k below within.
+          elim (cases_lt m j) [
+            | inl above ↦
+                written-before now piece a (e - a) fits whole (row_byte rows m k) (omega (arith, at_a, row_behind rows n m j apart above))
+                ∙ before.written m k above within
+            | inr here ↦
+                let is_last : m ≡ j = omega arith in
+                rw is_last (written-there now piece a (e - a) fits whole (row_byte rows j k) k (omega (arith, at_a)) (omega (arith, at_a, at_e)) ∙ same k within)
+          ];
+      kept = λ i beside.
+          elim (beside j (omega arith)) [
+            | inl lt ↦ written-before now piece a (e - a) fits whole i (omega (arith, at_a, lt))
+            | inr le ↦ written-behind now piece a (e - a) fits whole i (omega (arith, at_a, at_e, le))
+          ]
+          ∙ before.kept i (λ m below. beside m (omega arith));
+    }
+
+-- a row of other bytes
+module _ (rows : Rows) (n j b f : ℕ) (source : List ℕ) (at_b : b ≡ row_byte rows j 0) (at_f : f ≡ row_byte rows j n) (inside : row_byte rows j n ≤ length source) where
+  abbrev cut_row : List ℕ
+  cut_row = take (f - b) (drop b source)
+
+  pub length-row : length cut_row ≡ n
+  length-row = omega (arith, at_b, at_f, inside, length-take (f - b) (drop b source), length-drop b source)
+
+  pub get_or-row : (k : ℕ) → k < n → get_or cut_row k 0 ≡ bytes_of rows source j k
+  get_or-row k within =
+      get_or-take (f - b) (drop b source) k 0 (omega (arith, at_b, at_f)) ∙ get_or-drop b source k 0 ∙ ap (λ (i : ℕ). get_or source i 0) (omega (arith, at_b))
+
+-- rows that are appended to others
+pub AreRows-none : (rows : Rows) (n : ℕ) (source bytes : List ℕ) → length bytes ≡ 0 → AreRows rows n 0 source bytes
+AreRows-none rows n source bytes none = record {
+  whole = omega (arith, none);
+  cut = λ j k below within. absurd (omega arith);
+}
+
+pub AreRows-next : (rows : Rows) (n j : ℕ) (source now piece new : List ℕ) → length piece ≡ n → ((k : ℕ) → k < n → get_or piece k 0 ≡ bytes_of rows source j k) →
+    new ≡ now ++ piece → AreRows rows n j source now → AreRows rows n (j + 1) source new
+AreRows-next rows n j source now piece new long same is before = record {
+  whole = ap length is ∙ omega (arith, length-append now piece, before.whole, long);
+  cut = λ m k below within.
+      ap (λ (xs : List ℕ). get_or xs (m * n + k) 0) is
+      ∙ elim (cases_lt m j) [
+        | inl above ↦
+            get_or_append_left now piece 0 (m * n + k) (omega (arith, before.whole, before_place m j n k above within)) ∙ before.cut m k above within
+        | inr here ↦
+            let is_last : m ≡ j = omega arith in
+            rw is_last
+            (get_or-append_right now piece (j * n) (j * n + k) 0 before.whole (omega arith) ∙ ap (λ (i : ℕ). get_or piece i 0) (omega arith) ∙ same k within)
+      ];
+}
+
+-- ---- the rows of a part of a rectangle
+
+-- where a byte of a place of the part stands
+pub byte_of_part : (r part : Rectangle) (n : ℕ) (s : Rows) (u v k : ℕ) → Lies part.left part.top r → s.start ≡ offset r part.left part.top * n → s.stride ≡ r.width * n →
+    part.left ≤ u → part.top ≤ v → offset r u v * n + k ≡ row_byte s (v - part.top) ((u - part.left) * n + k)
+byte_of_part r part n s u v k corner begins apart column row =
+    let down : v - r.top ≡ part.top - r.top + (v - part.top) = omega (arith, corner.row) in
+    let aside : u - r.left ≡ part.left - r.left + (u - part.left) = omega (arith, corner.column) in
+    omega (arith, begins, ap (λ (i : ℕ). (v - part.top) * i) apart, ap (λ (i : ℕ). i * r.width * n) down, ap (λ (i : ℕ). i * n) aside)
+
+module _ (to from part : Rectangle) (n count : ℕ) (targets sources : Rows) (source old new : List ℕ)
+    (in_to : Includes to part) (in_from : Includes from part) (wide : 0 < part.width) (high : 0 < part.height)
+    (to_start : targets.start ≡ offset to part.left part.top * n) (to_stride : targets.stride ≡ to.width * n)
+    (from_start : sources.start ≡ offset from part.left part.top * n) (from_stride : sources.stride ≡ from.width * n)
+    (of_count : count ≡ part.width * n) (rows : HasRows targets count part.height (bytes_of sources source) old new) where
+  abbrev first : Lies part.left part.top part
   first = record { column = (omega arith, omega arith); row = (omega arith, omega arith) }
 
-  last : Lies (part.left + part.width - 1) row part
+  abbrev last : Lies (part.left + part.width - 1) part.top part
   last = record { column = (omega arith, omega arith); row = (omega arith, omega arith) }
 
-  abbrev new : List ℕ
-  new = put_mid a len now piece
+  row_at : (j : ℕ) → row_byte targets j 0 ≡ offset to part.left (part.top + j) * n
+  row_at j =
+      let corner = in_to _ _ first in
+      let down : part.top + j - to.top ≡ part.top - to.top + j = omega (arith, corner.row) in
+      omega (arith, to_start, ap (λ (i : ℕ). j * i) to_stride, ap (λ (i : ℕ). i * to.width * n) down)
 
-  place_in_row : (r : Rectangle) (u v k : ℕ) → Lies u v part → v ≡ row → Lies part.left row r → {b : ℕ} → b ≡ row_start r n part j → offset r u v * n + k ≡ b + ((u - part.left) * n + k)
-  place_in_row r u v k there here corner at_b =
-      let sum : offset r u v ≡ offset r part.left row + (u - part.left) = rw here (omega (arith, there.column, corner.column)) in
-      omega (arith, at_b, ap (λ (i : ℕ). i * n) sum)
+  ahead : (u v k j : ℕ) → offset to u v < offset to part.left (part.top + j) → k < n → offset to u v * n + k < row_byte targets j 0
+  ahead u v k j lt within = omega (arith, row_at j, before_place (offset to u v) (offset to part.left (part.top + j)) n k lt within)
 
-  untouched : (u v k : ℕ) → (offset to u v < offset to part.left row) ⊎ (offset to part.left row + part.width ≤ offset to u v) → k < n → byte_at to n new u v k ≡ byte_at to n now u v k
-  untouched u v k side within =
-      elim side [
-        | inl lt ↦
-            written-before now piece a len room long (offset to u v * n + k) (omega (arith, before_place (offset to u v) (offset to part.left row) n k lt within))
-        | inr le ↦
-            written-behind now piece a len room long (offset to u v * n + k) (omega (arith, behind_place (offset to part.left row + part.width) (offset to u v) n k le))
-      ]
+  behind : (u v k j : ℕ) → offset to part.left (part.top + j) + part.width ≤ offset to u v → row_byte targets j count ≤ offset to u v * n + k
+  behind u v k j le =
+      omega (arith, row_at j, of_count, behind_place (offset to part.left (part.top + j) + part.width) (offset to u v) n k le)
 
-  outside : (u v k : ℕ) → Lies u v to → (Lies u v (rows_of part (j + 1)) → ⊥) → k < n → byte_at to n new u v k ≡ byte_at to n now u v k
-  outside u v k there out within =
+  beside_in_row : (u v k j : ℕ) → Lies u v to → (Lies u v part → ⊥) → k < n → j < part.height → v ≡ part.top + j →
+      (offset to u v * n + k < row_byte targets j 0) ⊎ (row_byte targets j count ≤ offset to u v * n + k)
+  beside_in_row u v k j there out within below here =
       let begin = in_to _ _ first in
-      let end = in_to _ _ last in
-      elim (cases_lt v row) [
-        | inl above ↦ untouched u v k (inl (row_above to u v part.left row there above)) within
-        | inr from_here ↦
-            elim (cases_lt row v) [
-              | inl below ↦ untouched u v k (inr (row_below to u v part.left row part.width begin.row.0 begin.column.0 (omega (arith, end.column)) below)) within
-              | inr here ↦
-                  let same_row : v ≡ row = omega arith in
-                  elim (cases_lt u part.left) [
-                    | inl lt ↦ untouched u v k (inl (rw same_row (omega (arith, there.column)))) within
-                    | inr le ↦
-                        elim (cases_lt u (part.left + part.width)) [
-                          | inl inside ↦ absurd (out (record { column = (le, inside); row = (omega arith, omega arith) }))
-                          | inr past ↦ untouched u v k (inr (rw same_row (omega (arith, begin.column)))) within
-                        ]
-                  ]
+      elim (cases_lt u part.left) [
+        | inl lt ↦ inl (ahead u v k j (rw here (omega (arith, there.column))) within)
+        | inr le ↦
+            elim (cases_lt u (part.left + part.width)) [
+              | inl inside ↦ absurd (out (record { column = (le, inside); row = (omega arith, omega arith) }))
+              | inr past ↦ inr (behind u v k j (rw here (omega (arith, begin.column))))
             ]
       ]
 
-  copied : (u v k : ℕ) → Lies u v (rows_of part (j + 1)) → k < n → byte_at to n new u v k ≡ byte_at from n source u v k
-  copied u v k there within =
-      elim (cases_lt v row) [
-        | inl above ↦
-            let done : Lies u v (rows_of part j) = record { column = there.column; row = (there.row.0, above) } in
-            let inside : Lies u v part = record { column = there.column; row = (there.row.0, omega arith) } in
-            let index = before_place (offset to u v) (offset to part.left row) n k (row_above to u v part.left row (in_to u v inside) above) within in
-            written-before now piece a len room long (offset to u v * n + k) (omega (arith, index)) ∙ before.copied u v k done within
-        | inr behind ↦
-            let here : v ≡ row = omega (arith, there.row) in
-            let q = (u - part.left) * n + k in
-            let within_row : q < len = omega (arith, mul-add-lt (u - part.left) n k part.width (omega (arith, there.column)) within) in
-            let inside : Lies u v part = record { column = there.column; row = (there.row.0, omega arith) } in
-            written-there now piece a len room long (offset to u v * n + k) q (place_in_row to u v k inside here (in_to _ _ first) at_a) within_row
-            ∙ same q within_row
-            ∙ ap (λ (i : ℕ). get_or source i 0) (sym (place_in_row from u v k inside here (in_from _ _ first) refl))
+  beside : (u v k : ℕ) → Lies u v to → (Lies u v part → ⊥) → k < n → (j : ℕ) → j < part.height →
+      (offset to u v * n + k < row_byte targets j 0) ⊎ (row_byte targets j count ≤ offset to u v * n + k)
+  beside u v k there out within j below =
+      let begin = in_to _ _ first in
+      let end = in_to _ _ last in
+      elim (cases_lt v (part.top + j)) [
+        | inl above ↦ inl (ahead u v k j (row_above to u v part.left (part.top + j) there above) within)
+        | inr from_here ↦
+            elim (cases_lt (part.top + j) v) [
+              | inl under ↦
+                  inr (behind u v k j (row_below to u v part.left (part.top + j) part.width (omega (arith, begin.row)) begin.column.0 (omega (arith, end.column)) under))
+              | inr here ↦ beside_in_row u v k j there out within below (omega arith)
+            ]
       ]
 
-  kept : (u v k : ℕ) → Lies u v to → (Lies u v (rows_of part (j + 1)) → ⊥) → k < n → byte_at to n new u v k ≡ byte_at to n old u v k
-  kept u v k there out within =
-      outside u v k there out within
-      ∙ before.kept u v k there (λ h. out (record { column = h.column; row = (h.row.0, omega (arith, h.row)) })) within
-
-  pub HasPart-row : HasPart to from (rows_of part (j + 1)) n source old new
-  HasPart-row = record { copied = copied; kept = kept }
-
--- ---- rows of bytes as the code cuts them
+  pub HasPart-rows : HasPart to from part n source old new
+  HasPart-rows = record {
+    copied = λ u v k there within.
+        let j = v - part.top in
+        let q = (u - part.left) * n + k in
+        let in_row : q < count = omega (arith, mul-add-lt (u - part.left) n k part.width (omega (arith, there.column)) within) in
+        ap (λ (i : ℕ). get_or new i 0) (byte_of_part to part n targets u v k (in_to _ _ first) to_start to_stride there.column.0 there.row.0)
+        ∙ rows.written j q (omega (arith, there.row)) in_row
+        ∙ ap (λ (i : ℕ). get_or source i 0) (sym (byte_of_part from part n sources u v k (in_from _ _ first) from_start from_stride there.column.0 there.row.0));
+    kept = λ u v k there out within. rows.kept (offset to u v * n + k) (beside u v k there out within);
+  }
 
 -- a rectangle that has a row has columns
 pub some_columns : (r : Rectangle) (row : ℕ) → IsRectangle r → r.top ≤ row → row < bottom r → 0 < r.width
@@ -159,25 +212,6 @@ some_columns r row is above below =
       | inl some ↦ some
       | inr none ↦ absurd (omega (arith, ap (λ (r : Rectangle). r.height) (is.empty_width (omega arith))))
     ]
-
-module _ (xs : List ℕ) (s e w n : ℕ) (long : e ≡ s + w) (room : e * n ≤ length xs) where
-  abbrev cut : List ℕ
-  cut = take (e * n - s * n) (drop (s * n) xs)
-
-  many : e * n - s * n ≡ w * n
-  many = omega (arith, ap (λ (i : ℕ). i * n) long)
-
-  pub length-cut : length cut ≡ w * n
-  length-cut = omega (arith, many, length-take (e * n - s * n) (drop (s * n) xs), length-drop (s * n) xs, ap (λ (i : ℕ). i * n) long)
-
-  pub get_or-cut : (q : ℕ) → q < w * n → get_or cut q 0 ≡ get_or xs (s * n + q) 0
-  get_or-cut q lt =
-      get_or-take (e * n - s * n) (drop (s * n) xs) q 0 (omega (arith, many)) ∙ get_or-drop (s * n) xs q 0
-
--- the first rows of a part are copied, and all numbers are bytes
-pub record Done (to from part : Rectangle) (j n : ℕ) (source old new : List ℕ) : Type 0 where
-  pub part_done : HasPart to from (rows_of part j) n source old new
-  pub small : AreBytes new
 
 -- ---- where the rows of a part stand
 
@@ -188,13 +222,9 @@ module _ (r part : Rectangle) (n : ℕ) (inside : Includes r part) (wide : 0 < p
   far : Lies (part.left + part.width - 1) (part.top + part.height - 1) r
   far = inside (part.left + part.width - 1) (part.top + part.height - 1) (record { column = (omega arith, omega arith); row = (omega arith, omega arith) })
 
-  pub row_at : (j : ℕ) → offset r part.left part.top * n + j * (r.width * n) ≡ row_start r n part j
-  row_at j =
-      let down : part.top + j - r.top ≡ part.top - r.top + j = omega (arith, corner.row) in
-      omega (arith, ap (λ (i : ℕ). i * r.width * n) down)
-
-  pub row_room : (j len : ℕ) → j < part.height → len ≡ area r * n → offset r part.left part.top * n + j * (r.width * n) + part.width * n ≤ len
-  row_room j len below long =
-      let rows : part.top - r.top + j + 1 ≤ r.height = omega (arith, corner.row, far.row) in
-      let columns : part.left - r.left + part.width ≤ r.width = omega (arith, corner.column, far.column) in
-      omega (arith, long, mul-le-mul_right (r.width * n) rows, mul-le-mul_right n columns)
+  pub rows_have_room : (rows : Rows) (count : ℕ) (bytes : List ℕ) → rows.start ≡ offset r part.left part.top * n → rows.stride ≡ r.width * n → count ≡ part.width * n →
+      length bytes ≡ area r * n → HaveRoom rows count part.height bytes
+  rows_have_room rows count bytes begins apart of_count long j below =
+      let down : part.top - r.top + j + 1 ≤ r.height = omega (arith, corner.row, far.row) in
+      let aside : part.left - r.left + part.width ≤ r.width = omega (arith, corner.column, far.column) in
+      omega (arith, begins, ap (λ (i : ℕ). j * i) apart, of_count, long, mul-le-mul_right (r.width * n) down, mul-le-mul_right n aside)

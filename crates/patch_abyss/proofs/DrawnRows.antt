@@ -1,8 +1,7 @@
 -- Rows that are drawn one after the other.
-use Rattle.std.proofs.Common.{◌≡◌, ℕ, ◌+◌, ◌-◌, ◌*◌, ◌%◌, ◌<◌, ◌≤◌, List, ◌++◌, length, get_or, inl, inr, refl, sym, ap, ◌∙◌, arith}
+use Rattle.std.proofs.Common.{◌≡◌, ℕ, ◌+◌, ◌-◌, ◌*◌, ◌%◌, ◌<◌, ◌≤◌, List, length, get_or, inl, inr, sym, ap, ◌∙◌, arith}
 use Rattle.std.proofs.Math.Nat.{add-mod_left, mod-eq_of_lt}
 use Rattle.std.proofs.lemmas.Bool.{cases_lt}
-use Rattle.std.proofs.lemmas.List.{get_or_append_left, get_or-append_right}
 use Rattle.std.proofs.lemmas.Nat.{mul-add-lt, mod_below}
 use Rattle.plane_rect.specs.Rectangle.{Rectangle, Includes, bottom, offset}
 use Rattle.sample_rows.specs.Format.{channels, pixel_bytes}
@@ -159,29 +158,18 @@ module _ (box : Rectangle) (format : Format) (f : ℕ → ℕ → Pixel) (j : �
         ∙ before.drawn (box.left + k) (box.top + e) c (record { column = (omega arith, omega arith); row = (omega arith, omega arith) }) known
         ∙ alike i (box.left + k) c below)
 
-    -- a row that is appended
-    pub RowsDrawn-appended : (piece : List ℕ) → length now ≡ j * count → length piece ≡ count → HasPixels format piece (λ k. f (box.left + k) (box.top + j)) →
-        new ≡ now ++ piece → RowsDrawn box format f (j + 1) new
-    RowsDrawn-appended piece all long pixels is =
-        let stands : length now ≡ j * (box.width * n) = all ∙ ap (λ (m : ℕ). j * m) is_count in
-        next_rows 1
-        (λ i lt. ap (λ (xs : List ℕ). get_or xs i 0) is ∙ get_or_append_left now piece 0 i (omega (arith, stands)))
-        (λ i k c below inside known.
-        let first : j + i ≡ j = omega arith in
-        ap (λ (a : ℕ). pixel_at format new (a * box.width + k) c) first
-        ∙ (
-        pixel_moved format new piece (j * box.width + k) k c known
-        (λ b within.
-        ap (λ (xs : List ℕ). get_or xs ((j * box.width + k) * n + b) 0) is
-        ∙ get_or-append_right now piece (length now) ((j * box.width + k) * n + b) 0 refl (omega (arith, stands))
-        ∙ ap (λ (i : ℕ). get_or piece i 0) (omega (arith, stands)))
-        ∙ pixels k c (rw (pixel_count_of format piece box.width (long ∙ is_count)) inside) known)
-        ∙ ap (λ (a : ℕ). f (box.left + k) (box.top + a) c) (sym first))
-
--- so many rows are drawn, and no more bytes stand than theirs
-pub record Appended (box : Rectangle) (format : Format) (f : ℕ → ℕ → Pixel) (rows : ℕ) (bytes : List ℕ) : Type 0 where
-  pub many : length bytes ≡ rows * (box.width * pixel_bytes format)
-  pub rows_drawn : RowsDrawn box format f rows bytes
+-- rows that are drawn pixel by pixel
+pub RowsDrawn-by_pixels : (box : Rectangle) (format : Format) (f : ℕ → ℕ → Pixel) (many : ℕ) (bytes : List ℕ) →
+    ((j k c : ℕ) → j < many → k < box.width → c < channels format → pixel_at format bytes (j * box.width + k) c ≡ f (box.left + k) (box.top + j) c) →
+    RowsDrawn box format f many bytes
+RowsDrawn-by_pixels box format f many bytes pixels = record {
+  drawn = λ u v c there known.
+      let j = v - box.top in
+      let k = u - box.left in
+      pixels j k c (omega (arith, there.row)) (omega (arith, there.column)) known
+      ∙ ap (λ (a : ℕ). f a (box.top + j) c) (omega (arith, there.column))
+      ∙ ap (λ (b : ℕ). f u b c) (omega (arith, there.row));
+}
 
 -- the rows of a box above one of them, or all, are drawn
 pub record DrawnAbove (box : Rectangle) (format : Format) (f : ℕ → ℕ → Pixel) (row : ℕ) (bytes : List ℕ) : Type 0 where

@@ -1,80 +1,164 @@
--- Rows of a box that are written over other columns, with a pixel over and over on each side.
-use Rattle.std.proofs.Common.{◌≡◌, ℕ, ◌+◌, ◌-◌, ◌*◌, ◌%◌, ◌<◌, ◌≤◌, min, max, List, length, take, drop, get_or, ap, ◌∙◌, arith}
+-- Rows over the columns of a rectangle whose middle parts are columns of a box, with a pixel over and over on each side.
+use Rattle.std.proofs.Common.{◌≡◌, ℕ, ◌+◌, ◌-◌, ◌*◌, ◌%◌, ◌<◌, ◌≤◌, min, max, List, length, get_or, ap, ◌∙◌, arith}
 use Rattle.std.proofs.Math.Nat.{mul-le-mul_right}
 use Rattle.std.proofs.lemmas.Nat.{mod-mul-add}
-use Rattle.plane_rect.specs.Rectangle.{Within}
+use Rattle.plane_rect.specs.Rectangle.{Rectangle, Within, right}
+use Rattle.patch_abyss.specs.Copied.{HasRows, HasSides, HaveRoom, bytes_of, row_byte}
 use Rattle.patch_abyss.specs.Fetched.{SamePixel}
-use Rattle.patch_abyss.proofs.CopiedRows.{before_place, length-cut, get_or-cut}
+use Rattle.patch_abyss.specs.declared.fill.RowParts.{RowParts}
+use Rattle.patch_abyss.specs.declared.rows.Rows.{Rows}
+use Rattle.patch_abyss.proofs.CopiedRows.{before_place, behind_place}
 
-module _ (left width start len before first last : ℕ) (at_before : before ≡ min (max start left) (left + width) - left)
-    (at_first : first ≡ min (max left start) (start + len) - start) (at_last : last ≡ min (max (left + width) start) (start + len) - start) where
+-- The numbers that the code counts with are those of a rectangle and a box: how many columns of the first stand left of the shared ones, which of the second's these are,
+-- how many bytes a pixel has, and the two widths.
+pub record AreColumns (rect box : Rectangle) (n before first last p w v : ℕ) : Type 0 where
+  pub at_before : before ≡ min (max box.left rect.left) (right rect) - rect.left
+  pub at_first : first ≡ min (max rect.left box.left) (right box) - box.left
+  pub at_last : last ≡ min (max (right rect) box.left) (right box) - box.left
+  pub is_n : p ≡ n
+  pub is_width : w ≡ rect.width
+  pub is_len : v ≡ box.width
+
+-- where the code has the box under another name
+pub AreColumns-of : {rect bounds box : Rectangle} {n before first last p w v : ℕ} → bounds ≡ box → before ≡ min (max bounds.left rect.left) (right rect) - rect.left →
+    first ≡ min (max rect.left bounds.left) (right bounds) - bounds.left → last ≡ min (max (right rect) bounds.left) (right bounds) - bounds.left →
+    p ≡ n → w ≡ rect.width → v ≡ bounds.width → AreColumns rect box n before first last p w v
+AreColumns-of {rect} {bounds} {box} is_box at_before at_first at_last is_n is_width is_len = record {
+  at_before = at_before ∙ ap (λ (r : Rectangle). min (max r.left rect.left) (right rect) - rect.left) is_box;
+  at_first = at_first ∙ ap (λ (r : Rectangle). min (max rect.left r.left) (right r) - r.left) is_box;
+  at_last = at_last ∙ ap (λ (r : Rectangle). min (max (right rect) r.left) (right r) - r.left) is_box;
+  is_n = is_n;
+  is_width = is_width;
+  is_len = is_len ∙ ap (λ (r : Rectangle). r.width) is_box;
+}
+
+module _ {rect box : Rectangle} {n before first last p w v : ℕ} (columns : AreColumns rect box n before first last p w v) where
   -- how many columns lie in both
   abbrev both : ℕ
   both = last - first
 
-  to_last : last ≡ first + both
-  to_last = omega (arith, at_first, at_last)
+  in_from : first + both ≤ box.width
+  in_from = omega (arith, columns.at_first, columns.at_last)
 
-  in_from : last ≤ len
-  in_from = omega (arith, at_last)
+  in_to : before + both ≤ rect.width
+  in_to = omega (arith, columns.at_before, columns.at_first, columns.at_last)
 
-  in_to : before + both ≤ width
-  in_to = omega (arith, at_before, at_first, at_last)
+  is_before : (k : ℕ) → rect.left + k < box.left → k < rect.width → k < before
+  is_before k lt inside = omega (arith, columns.at_before)
 
-  is_before : (k : ℕ) → left + k < start → k < width → k < before
-  is_before k lt inside = omega (arith, at_before)
+  is_within : (k : ℕ) → Within box.left box.width (rect.left + k) → k < rect.width → (before ≤ k) × (k < before + both) × (first + (k - before) ≡ rect.left + k - box.left)
+  is_within k there inside =
+      (omega (arith, columns.at_before, there.0), omega (arith, columns.at_before, columns.at_first, columns.at_last, there.0, there.1), omega (arith, columns.at_before, columns.at_first, there.0, there.1))
 
-  is_within : (k : ℕ) → Within start len (left + k) → k < width → (before ≤ k) × (k < before + both) × (first + (k - before) ≡ left + k - start)
-  is_within k there inside = (omega (arith, at_before, there.0), omega (arith, at_before, at_first, at_last, there.0, there.1), omega (arith, at_before, at_first, there.0, there.1))
+  is_behind : (k : ℕ) → box.left + box.width ≤ rect.left + k → k < rect.width → before + both ≤ k
+  is_behind k le inside = omega (arith, columns.at_before, columns.at_first, columns.at_last)
 
-  is_behind : (k : ℕ) → start + len ≤ left + k → k < width → before + both ≤ k
-  is_behind k le inside = omega (arith, at_before, at_first, at_last)
+  abbrev parts : RowParts
+  parts = record { count = w * p; start = before * p; end = before * p + both * p }
 
-  module _ (to from ahead behind : List ℕ) (some : 0 < length ahead) (same : length behind ≡ length ahead) (long_to : length to ≡ width * length ahead)
-      (long_from : length from ≡ len * length ahead) where
-    abbrev n : ℕ
-    n = length ahead
+  is_count : w * p ≡ rect.width * n
+  is_count = ap (λ (m : ℕ). m * p) columns.is_width ∙ ap (λ (q : ℕ). rect.width * q) columns.is_n
 
-    abbrev middle : List ℕ
-    middle = take (last * n - first * n) (drop (first * n) from)
+  is_period : v * p ≡ box.width * n
+  is_period = ap (λ (m : ℕ). m * p) columns.is_len ∙ ap (λ (q : ℕ). box.width * q) columns.is_n
 
-    room_from : last * n ≤ length from
-    room_from = omega (arith, mul-le-mul_right n in_from, long_from)
+  is_start : before * p ≡ before * n
+  is_start = ap (λ (q : ℕ). before * q) columns.is_n
 
-    long_middle : length middle ≡ both * n
-    long_middle = length-cut from first last both n to_last room_from
+  is_both : both * p ≡ both * n
+  is_both = ap (λ (q : ℕ). both * q) columns.is_n
 
-    pub room : before * n + length middle ≤ length to
-    room = omega (arith, long_middle, long_to, mul-le-mul_right n in_to)
+  -- ---- the columns that both have
 
-    module _ (new : List ℕ) where
-      pub edged-left : ((i : ℕ) → i < before * n → get_or new i 0 ≡ get_or ahead (i % n) 0) →
-          (k : ℕ) → k < width → left + k < start → SamePixel n new k ahead 0
-      edged-left written k inside lt = λ b within.
-          written (k * n + b) (before_place k before n b (is_before k lt inside) within)
-          ∙ ap (λ (i : ℕ). get_or ahead i 0) (mod-mul-add k n b within ∙ omega arith)
+  module _ {targets middle : Rows} (is_targets : targets ≡ record { start = before * p; stride = w * p }) (is_middle : middle ≡ record { start = first * p; stride = v * p }) where
+    target_byte : (j k : ℕ) → row_byte targets j k ≡ before * n + j * (rect.width * n) + k
+    target_byte j k = ap (λ (r : Rows). row_byte r j k) is_targets ∙ omega (arith, is_start, ap (λ (m : ℕ). j * m) is_count)
 
-      pub edged-inside : ((i : ℕ) → i < length middle → get_or new (before * n + i) 0 ≡ get_or middle i 0) →
-          (k : ℕ) → k < width → Within start len (left + k) → SamePixel n new k from (left + k - start)
-      edged-inside written k inside there = λ b within.
-          let h = is_within k there inside in
-          let i = (k - before) * n + b in
-          let at_k : before + (k - before) ≡ k = omega (arith, h.0) in
-          let in_middle : i < both * n = before_place (k - before) both n b (omega (arith, h.0, h.1)) within in
-          ap (λ (p : ℕ). get_or new p 0) (omega (arith, ap (λ (p : ℕ). p * n) at_k))
-          ∙ written i (omega (arith, long_middle, in_middle))
-          ∙ get_or-cut from first last both n to_last room_from i in_middle
-          ∙ ap (λ (p : ℕ). get_or from p 0) (omega (arith, ap (λ (p : ℕ). p * n) h.2))
+    middle_byte : (j k : ℕ) → row_byte middle j k ≡ first * n + j * (box.width * n) + k
+    middle_byte j k = ap (λ (r : Rows). row_byte r j k) is_middle ∙ omega (arith, ap (λ (q : ℕ). first * q) columns.is_n, ap (λ (m : ℕ). j * m) is_period)
 
-      pub edged-right : ((i : ℕ) → before * n + length middle + i < length to → get_or new (before * n + length middle + i) 0 ≡ get_or behind (i % length behind) 0) →
-          (k : ℕ) → k < width → start + len ≤ left + k → SamePixel n new k behind 0
-      edged-right written k inside le = λ b within.
-          let past = is_behind k le inside in
-          let i = (k - (before + both)) * n + b in
-          let at_k : before + both + (k - (before + both)) ≡ k = omega (arith, past) in
-          let index : k * n + b ≡ before * n + length middle + i = omega (arith, long_middle, ap (λ (p : ℕ). p * n) at_k) in
-          let below : k * n + b < width * n = before_place k width n b inside within in
-          ap (λ (p : ℕ). get_or new p 0) index
-          ∙ written i (omega (arith, index, below, long_to))
-          ∙ ap (λ (p : ℕ). get_or behind (i % p) 0) same
-          ∙ ap (λ (p : ℕ). get_or behind p 0) (mod-mul-add (k - (before + both)) n b within ∙ omega arith)
+    pub targets_room : (many : ℕ) (to : List ℕ) → length to ≡ many * (rect.width * n) → HaveRoom targets (parts.end - parts.start) many to
+    targets_room many to long j below =
+        let rows : (j + 1) * (rect.width * n) ≤ many * (rect.width * n) = mul-le-mul_right (rect.width * n) (omega arith) in
+        omega (arith, target_byte j (parts.end - parts.start), is_both, long, rows, mul-le-mul_right n in_to)
+
+    pub middle_room : (many : ℕ) (from : List ℕ) → length from ≡ many * (box.width * n) → HaveRoom middle (parts.end - parts.start) many from
+    middle_room many from long j below =
+        let rows : (j + 1) * (box.width * n) ≤ many * (box.width * n) = mul-le-mul_right (box.width * n) (omega arith) in
+        omega (arith, middle_byte j (parts.end - parts.start), is_both, long, rows, mul-le-mul_right n in_from)
+
+    pub edged-inside : (many : ℕ) (f g : ℕ → ℕ → ℕ) (from old mid new : List ℕ) → HasRows targets (parts.end - parts.start) many (bytes_of middle from) old mid → HasSides parts many p f g mid new →
+        (j k : ℕ) → j < many → k < rect.width → Within box.left box.width (rect.left + k) → SamePixel n new (j * rect.width + k) from (j * box.width + (rect.left + k - box.left))
+    edged-inside many f g from old mid new rows sides j k below inside there = λ b within.
+        let h = is_within k there inside in
+        let q = (k - before) * n + b in
+        let at_k : before + (k - before) ≡ k = omega (arith, h.0) in
+        let place : k * n + b ≡ before * n + q = omega (arith, ap (λ (i : ℕ). i * n) at_k) in
+        let in_middle : q < both * n = before_place (k - before) both n b (omega (arith, h.0, h.1)) within in
+        let column : first * n + (k - before) * n ≡ (rect.left + k - box.left) * n = omega (arith, ap (λ (i : ℕ). i * n) h.2) in
+        ap (λ (i : ℕ). get_or new i 0) (omega (arith, ap (λ (m : ℕ). j * m) is_count))
+        ∙ sides.between j (k * n + b) below (omega (arith, is_start, place)) (omega (arith, is_start, is_both, place, in_middle))
+        ∙ ap (λ (i : ℕ). get_or mid i 0) (omega (arith, target_byte j q, place, ap (λ (m : ℕ). j * m) is_count))
+        ∙ rows.written j q below (omega (arith, is_both, in_middle))
+        ∙ ap (λ (i : ℕ). get_or from i 0) (omega (arith, middle_byte j q, column))
+
+  -- ---- the columns left and right of them
+
+  module _ {many : ℕ} {f g : ℕ → ℕ → ℕ} {mid new : List ℕ} (sides : HasSides parts many p f g mid new) (j k : ℕ) (below : j < many) (inside : k < rect.width) where
+    pub edged-left : (other : List ℕ) (i : ℕ) → ((b : ℕ) → f j b ≡ get_or other (i * n + b) 0) → rect.left + k < box.left → SamePixel n new (j * rect.width + k) other i
+    edged-left other i same lt = λ b within.
+        ap (λ (q : ℕ). get_or new q 0) (omega (arith, ap (λ (m : ℕ). j * m) is_count))
+        ∙ sides.ahead j (k * n + b) below (omega (arith, is_start, before_place k before n b (is_before k lt inside) within))
+        ∙ ap (λ (m : ℕ). f j ((k * n + b) % m)) columns.is_n
+        ∙ ap (λ (q : ℕ). f j q) (mod-mul-add k n b within)
+        ∙ same b
+
+    pub edged-right : (other : List ℕ) (i : ℕ) → ((b : ℕ) → g j b ≡ get_or other (i * n + b) 0) → box.left + box.width ≤ rect.left + k → SamePixel n new (j * rect.width + k) other i
+    edged-right other i same le = λ b within.
+        let past = is_behind k le inside in
+        let more = k - (before + both) in
+        let at_k : before + both + more ≡ k = omega (arith, past) in
+        let place : k * n + b - parts.end ≡ more * n + b = omega (arith, is_start, is_both, ap (λ (i : ℕ). i * n) at_k) in
+        ap (λ (q : ℕ). get_or new q 0) (omega (arith, ap (λ (m : ℕ). j * m) is_count))
+        ∙ sides.behind j (k * n + b) below (omega (arith, is_start, is_both, behind_place (before + both) k n b past)) (omega (arith, is_count, before_place k rect.width n b inside within))
+        ∙ ap (λ (q : ℕ). g j (q % p)) place
+        ∙ ap (λ (m : ℕ). g j ((more * n + b) % m)) columns.is_n
+        ∙ ap (λ (q : ℕ). g j q) (mod-mul-add more n b within)
+        ∙ same b
+
+  -- ---- the first pixels of whole rows of the box
+
+  module _ {pixels : Rows} (is_pixels : pixels ≡ record { start = 0; stride = v * p }) where
+    first_place : (j b : ℕ) → row_byte pixels j b ≡ j * box.width * n + b
+    first_place j b = ap (λ (r : Rows). row_byte r j b) is_pixels ∙ omega (arith, ap (λ (m : ℕ). j * m) is_period)
+
+    pub first_room : (many : ℕ) (from : List ℕ) → 0 < box.width → length from ≡ many * (box.width * n) → HaveRoom pixels p many from
+    first_room many from some long j below =
+        let rows : (j + 1) * (box.width * n) ≤ many * (box.width * n) = mul-le-mul_right (box.width * n) (omega arith) in
+        omega (arith, first_place j p, columns.is_n, mul-le-mul_right n some, long, rows)
+
+    pub first_bytes : (from : List ℕ) (j b : ℕ) → bytes_of pixels from j b ≡ get_or from (j * box.width * n + b) 0
+    first_bytes from j b = ap (λ (i : ℕ). get_or from i 0) (first_place j b)
+
+  -- ---- the last pixels of whole rows of the box
+
+  module _ {pixels : Rows} (is_pixels : pixels ≡ record { start = v * p - p; stride = v * p }) (some : 0 < box.width) where
+    last_column : (box.width - 1) * n + n ≡ box.width * n
+    last_column =
+        let back : box.width - 1 + 1 ≡ box.width = omega (arith, some) in
+        omega (arith, ap (λ (i : ℕ). i * n) back)
+
+    last_place : (j b : ℕ) → row_byte pixels j b ≡ (j * box.width + (box.width - 1)) * n + b
+    last_place j b = ap (λ (r : Rows). row_byte r j b) is_pixels ∙ omega (arith, columns.is_n, is_period, last_column, ap (λ (m : ℕ). j * m) is_period)
+
+    pub last_room : (many : ℕ) (from : List ℕ) → length from ≡ many * (box.width * n) → HaveRoom pixels p many from
+    last_room many from long j below =
+        let rows : (j + 1) * (box.width * n) ≤ many * (box.width * n) = mul-le-mul_right (box.width * n) (omega arith) in
+        omega (arith, last_place j p, columns.is_n, long, rows, last_column)
+
+    pub last_bytes : (from : List ℕ) (j b : ℕ) → bytes_of pixels from j b ≡ get_or from ((j * box.width + (box.width - 1)) * n + b) 0
+    last_bytes from j b = ap (λ (i : ℕ). get_or from i 0) (last_place j b)
+
+-- rows that are all the same one
+pub once_bytes : {once : Rows} (from : List ℕ) (n j b : ℕ) → once ≡ record { start = 0; stride = 0 } → bytes_of once from j b ≡ get_or from (0 * n + b) 0
+once_bytes from n j b is_once = ap (λ (r : Rows). bytes_of r from j b) is_once ∙ ap (λ (i : ℕ). get_or from i 0) (omega arith)

@@ -4,7 +4,9 @@ pub mod Parts
 pub mod TilesOfPatches
 pub mod ReadRows
 pub mod RowPixels
-pub mod Surrounded
+pub mod WrappedRows
+pub mod LoopedRows
+pub mod Sides
 pub mod Edged
 pub mod ReadPixels
 pub mod Bands

@@ -36,3 +36,11 @@ OnOneSide box a b = (box.height ≡ 0) ⊎ ((a < box.top) × (b < box.top)) ⊎ 
 -- a rectangle as it stands from another row on
 abbrev pub moved_to : ℕ → Rectangle → Rectangle
 moved_to top r = record r { top = top }
+
+-- a rectangle is some whole rows of a box
+pub record AreRowsOf (box rows : Rectangle) : Type 0 where
+  pub left : rows.left ≡ box.left
+  pub width : rows.width ≡ box.width
+  pub some : rows.top < bottom rows
+  pub top : box.top ≤ rows.top
+  pub bottom : bottom rows ≤ bottom box

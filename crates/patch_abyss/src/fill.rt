@@ -1,48 +1,136 @@
 //! Bytes that are written over and over.
 
-ghost use Rattle.std.specs.Prelude.{◌≡◌, ℕ, ◌+◌, ◌%◌, ◌<◌, ◌≤◌, ◌⊎◌, length, slice_index};
+ghost use Rattle.std.specs.Prelude.{◌≡◌, ℕ, ◌+◌, ◌-◌, ◌*◌, ◌%◌, ◌<◌, ◌≤◌, ◌⊎◌, length, slice_index};
+ghost use Rattle.patch_abyss.specs.Copied.{HasRows, HasSides, HaveRoom, bytes_of};
 
-use crate::rows::copy_row;
+use crate::rows::{Rows, copy_rows};
 
-/// Writes the bytes of a slice over and over, the first time from an index on.
-pub(crate) fn cycle(to: &mut [u8], from: &[u8], start: usize)
-    requires { start < length from.now }
+/// A row of bytes whose middle part is another row's.
+#[derive(Clone, Copy)]
+pub(crate) struct RowParts {
+    /// How many bytes the row has.
+    pub count: usize,
+    /// Where the middle part begins.
+    pub start: usize,
+    /// Where it ends.
+    pub end: usize,
+}
+
+/// Writes rows of `count` bytes, each with those of a row of `period` bytes over and over, the first
+/// time from an index on.
+pub(crate) fn wrap_rows(
+    to: &mut [u8],
+    count: usize,
+    from: &[u8],
+    period: usize,
+    first: usize,
+    many: usize,
+)
+    requires first { first < period }
+    requires to { length to.old ≡ many * count }
+    requires from { length from.now ≡ many * period }
+    ensures len { length to.new ≡ length to.old }
+    ensures bytes { (j k : ℕ) → j < many → k < count →
+        slice_index to.new (j * count + k) ≡ slice_index from.now (j * period + (first + k) % period) }
+{
+    let front = count.min(period - first);
+    let both = count.min(period);
+    let (left, right) = (Rows::new(0, count), Rows::new(front, count));
+    copy_rows(to, left, from, Rows::new(first, period), front, many);
+    copy_rows(to, right, from, Rows::new(0, period), both - front, many);
+    if period < count {
+        repeat_in_rows(to, left, count, period, many);
+    }
+}
+
+/// Writes what is left and right of the middle parts of rows: pixels of so many bytes, one over and
+/// over ahead of the middle part, and one behind it.
+pub(crate) fn fill_sides(
+    to: &mut [u8],
+    parts: RowParts,
+    from: &[u8],
+    ahead: Rows,
+    behind: Rows,
+    pixel: usize,
+    many: usize,
+)
+    requires some { 0 < pixel }
+    requires start { parts.start ≤ parts.end }
+    requires end { parts.end ≤ parts.count }
+    requires to { length to.old ≡ many * parts.count }
+    requires ahead { HaveRoom ahead pixel many from.now }
+    requires behind { HaveRoom behind pixel many from.now }
+    ensures len { length to.new ≡ length to.old }
+    ensures sides { HasSides parts many pixel (bytes_of ahead from.now) (bytes_of behind from.now) to.old to.new }
+{
+    let (left, right) = (Rows::new(0, parts.count), Rows::new(parts.end, parts.count));
+    cycle_rows(to, left, parts.start, from, ahead, pixel, many);
+    cycle_rows(
+        to,
+        right,
+        parts.count - parts.end,
+        from,
+        behind,
+        pixel,
+        many,
+    );
+}
+
+/// Writes rows of `count` bytes, each with those of a row of `period` bytes over and over.
+fn cycle_rows(
+    to: &mut [u8],
+    targets: Rows,
+    count: usize,
+    from: &[u8],
+    sources: Rows,
+    period: usize,
+    many: usize,
+)
+    requires some { 0 < period }
+    requires apart { count ≤ targets.stride }
+    requires to { HaveRoom targets count many to.old }
+    requires from { HaveRoom sources period many from.now }
+    ensures len { length to.new ≡ length to.old }
+    ensures rows { HasRows targets count many (λ j k. bytes_of sources from.now j (k % period)) to.old to.new }
+{
+    if count == 0 {
+        return;
+    }
+    for row in 0..many {
+        cycle(
+            &mut to[targets.row(row, count)],
+            &from[sources.row(row, period)],
+        );
+    }
+}
+
+/// Writes the first bytes of each row, as many as the period, over and over behind them.
+fn repeat_in_rows(to: &mut [u8], rows: Rows, count: usize, period: usize, many: usize)
+    requires some { 0 < period }
+    requires apart { count ≤ rows.stride }
+    requires to { HaveRoom rows count many to.old }
+    ensures len { length to.new ≡ length to.old }
+    ensures rows { HasRows rows count many (λ j k. bytes_of rows to.old j (k % period)) to.old to.new }
+{
+    for row in 0..many {
+        repeat(&mut to[rows.row(row, count)], period);
+    }
+}
+
+/// Writes the bytes of a slice over and over.
+pub(crate) fn cycle(to: &mut [u8], from: &[u8])
+    requires { 0 < length from.now }
     ensures len { length to.new ≡ length to.old }
     ensures bytes { (i : ℕ) → i < length to.old →
-        slice_index to.new i ≡ slice_index from.now ((start + i) % length from.now) }
+        slice_index to.new i ≡ slice_index from.now (i % length from.now) }
 {
     if from.len() == 1 {
         to.fill(from[0]);
         return;
     }
-    let len = to.len();
-    let front = len.min(from.len() - start);
-    copy_row(&mut to[..front], &from[start..start + front]);
-    if front == len {
-        return;
-    }
-    let both = len.min(from.len());
-    copy_row(&mut to[front..both], &from[..both - front]);
+    let front = to.len().min(from.len());
+    to[..front].copy_from_slice(&from[..front]);
     repeat(to, from.len());
-}
-
-/// Writes bytes from an index on, and one slice over and over before them, another behind them.
-pub(crate) fn surround(to: &mut [u8], start: usize, bytes: &[u8], ahead: &[u8], behind: &[u8])
-    requires room { start + length bytes.now ≤ length to.old }
-    requires ahead { 0 < length ahead.now }
-    requires behind { 0 < length behind.now }
-    ensures len { length to.new ≡ length to.old }
-    ensures before { (i : ℕ) → i < start →
-        slice_index to.new i ≡ slice_index ahead.now (i % length ahead.now) }
-    ensures bytes { (i : ℕ) → i < length bytes.now →
-        slice_index to.new (start + i) ≡ slice_index bytes.now i }
-    ensures behind { (i : ℕ) → start + length bytes.now + i < length to.old →
-        slice_index to.new (start + length bytes.now + i) ≡ slice_index behind.now (i % length behind.now) }
-{
-    let end = start + bytes.len();
-    cycle(&mut to[..start], ahead, 0);
-    copy_row(&mut to[start..end], bytes);
-    cycle(&mut to[end..], behind, 0);
 }
 
 /// Writes the first bytes, as many as the period, over and over behind them.
@@ -71,5 +159,5 @@ fn copy_back(bytes: &mut [u8], from: usize, to: usize, count: usize)
         slice_index bytes.new i ≡ slice_index bytes.old i }
 {
     let (front, back) = bytes.split_at_mut(to);
-    copy_row(&mut back[..count], &front[from..from + count]);
+    back[..count].copy_from_slice(&front[from..from + count]);
 }

@@ -1,7 +1,7 @@
 //! Images in memory.
 
-ghost use Rattle.std.specs.Prelude.{◌≡◌, ◌≢◌, ◌<◌, ◌≤◌, ◌+◌, ◌-◌, ◌*◌, ℕ, ◌↔◌, ◌⊎◌, IfErr, IfOk, length};
-ghost use Rattle.plane_rect.specs.Rectangle.{InLimits, Includes, IsRectangle, LiesAt, Within, plane_index as index_of};
+ghost use Rattle.std.specs.Prelude.{◌≡◌, ◌≢◌, ◌<◌, ◌≤◌, ◌+◌, ◌-◌, ◌*◌, ℕ, ◌↔◌, ◌⊎◌, IfErr, IfOk, IsTrue, false, length};
+ghost use Rattle.plane_rect.specs.Rectangle.{InLimits, Includes, IsRectangle, LiesAt, Within, bottom, is_empty, plane_index as index_of, plane_side};
 ghost use Rattle.plane_rect.specs.Tile.{tile_square};
 ghost use Rattle.sample_rows.specs.Format.{channels, depth, pixel_bytes};
 ghost use Rattle.sample_rows.specs.Row.{pixel_at, sample_at};
@@ -10,19 +10,18 @@ ghost use Rattle.images.specs.Paint.{blank, painted, put_raw};
 ghost use Rattle.images.specs.Raw.{raw};
 ghost use Rattle.abyss_levels.specs.Abyss.{tile_bytes};
 ghost use Rattle.images.specs.Spelled.{byte_count, spelled};
+ghost use Rattle.patch_abyss.specs.Rows.{AreRowsOf};
 ghost use Rattle.patch_abyss.specs.declared.patch.PatchRefused.TheVariants.{NoMemory, WrongSize};
 
-use crate::rows::copy_meet;
+use crate::rows::{LONG_ROW, Rows, copy_meet, cut_rows};
 use no_memory::NoMemory;
 use plane_rect::{Rect, TileAt, plane_index};
 use sample_rows::Format;
 use std::alloc::{AllocError, Global};
 use std::marker::Model;
+use std::ops::Range;
 use thiserror::Error;
 use tile_cow::Tile;
-
-/// From how many bytes on appending a row to a vector costs less than zeroing its memory.
-const LONG_ROW: usize = 256;
 
 /// How many places a tile has.
 const TILE_PLACES: u32 = 64 * 64;
@@ -109,7 +108,7 @@ impl Patch {
         Ok(Patch {
             rect,
             format,
-            bytes: bytes.to_vec(alloc)?,
+            bytes: Vec::from_slice(alloc, bytes)?,
         })
     }
 
@@ -155,6 +154,9 @@ impl Patch {
     {
         let format = self.format;
         let pixel = format.pixel_bytes() as usize;
+        if has_rows(&self.rect, &rect) {
+            return self.band(alloc, rect);
+        }
         if rect.w as usize * pixel >= LONG_ROW && self.rect.contains(&rect) {
             return self.cut(alloc, rect);
         }
@@ -163,19 +165,29 @@ impl Patch {
         Ok(Patch::from_bytes(rect, format, bytes))
     }
 
+    /// The patch over whole rows of the rectangle, whose bytes follow one another.
+    fn band(&self, alloc: Global, rows: Rect) -> Result<Patch, NoMemory>
+        requires limits { InLimits rows }
+        requires rectangle { IsRectangle rows }
+        requires rows { AreRowsOf self.now.box rows }
+        ensures { IfOk result (λ patch. patch ≡ drawn rows self.now.format (at self.now)) }
+    {
+        let bytes = Vec::from_slice(alloc, self.rows(rows.top()..rows.bottom()))?;
+        Ok(Patch::from_bytes(rows, self.format, bytes))
+    }
+
     /// The patch over a part of the rectangle, whose memory is written once.
     fn cut(&self, alloc: Global, part: Rect) -> Result<Patch, NoMemory>
         requires limits { InLimits part }
         requires part { Includes self.now.box part }
+        requires some { false ≡ is_empty part }
         ensures { IfOk result (λ patch. patch ≡ drawn part self.now.format (at self.now)) }
     {
         let format = self.format;
         let pixel = format.pixel_bytes() as usize;
-        let mut bytes = Vec::with_capacity(alloc, byte_count(&part, format))?;
-        for row in part.top()..part.bottom() {
-            let places = self.rect.part_row(&part, row);
-            bytes.extend_from_slice(&self.bytes[places.start * pixel..places.end * pixel])?;
-        }
+        let rows = Rows::of_part(&self.rect, &part, pixel);
+        let (count, many) = (part.w as usize * pixel, part.h as usize);
+        let bytes = cut_rows(alloc, &self.bytes, rows, count, many)?;
         Ok(Patch::from_bytes(part, format, bytes))
     }
 
@@ -209,7 +221,7 @@ impl Patch {
             return Tile::zero(alloc, TILE_PLACES * self.format.pixel_bytes());
         }
         let part = self.part(alloc, rect)?;
-        Tile::of(alloc, part.raw_bytes())
+        Tile::from_vec(alloc, part.into_raw())
     }
 
     /// Takes the samples of a tile at the places that lie in the rectangle.
@@ -240,14 +252,37 @@ impl Patch {
 
     /// The raw bytes of a row of the rectangle.
     pub(crate) fn row(&self, row: u32) -> &[u8]
-        requires { Within self.now.box.top self.now.box.height row }
+        requires plane { row < plane_side }
+        requires row { Within self.now.box.top self.now.box.height row }
         ensures len { length result.now ≡ self.now.box.width * pixel_bytes self.now.format }
         ensures samples { (u c : ℕ) → Within self.now.box.left self.now.box.width u → c < channels self.now.format
             → pixel_at self.now.format result.now (u - self.now.box.left) c ≡ at self.now u row c }
     {
+        self.rows(row..row + 1)
+    }
+
+    /// The raw bytes of rows of the rectangle that follow one another.
+    pub(crate) fn rows(&self, rows: Range<u32>) -> &[u8]
+        requires some { rows.start < rows.end }
+        requires top { self.now.box.top ≤ rows.start }
+        requires bottom { rows.end ≤ bottom self.now.box }
+        ensures len { length result.now ≡ (rows.end - rows.start) * (self.now.box.width * pixel_bytes self.now.format) }
+        ensures samples { (u v c : ℕ) → Within self.now.box.left self.now.box.width u → rows.start ≤ v → v < rows.end
+            → c < channels self.now.format
+            → pixel_at self.now.format result.now ((v - rows.start) * self.now.box.width + (u - self.now.box.left)) c ≡ at self.now u v c }
+    {
         let pixel = self.format.pixel_bytes() as usize;
-        let places = self.rect.part_row(&self.rect, row);
-        &self.bytes[places.start * pixel..places.end * pixel]
+        let first = self.rect.part_row(&self.rect, rows.start);
+        let last = self.rect.part_row(&self.rect, rows.end - 1);
+        &self.bytes[first.start * pixel..last.end * pixel]
+    }
+
+    /// The raw bytes, without a copy.
+    fn into_raw(self) -> Vec<u8>
+        ensures value { result.items ≡ raw self self.box }
+        ensures count { length result.items ≡ byte_count self.box self.format }
+    {
+        self.bytes
     }
 
     /// The raw bytes of the rectangle: its places row by row, each row from the left.
@@ -257,6 +292,17 @@ impl Patch {
     {
         &self.bytes
     }
+}
+
+/// Whether a rectangle is some whole rows of another.
+fn has_rows(rect: &Rect, rows: &Rect) -> bool
+    ensures { IsTrue result → AreRowsOf rect.now rows.now }
+{
+    rows.left() == rect.left()
+        && rows.w == rect.w
+        && !rows.is_empty()
+        && rect.top() <= rows.top()
+        && rows.bottom() <= rect.bottom()
 }
 
 /// How many raw bytes a rectangle has.

@@ -11,9 +11,10 @@ ghost use Rattle.patch_abyss.specs.Fetched.{RowsDrawn, SamePixel, outside_sample
 ghost use Rattle.patch_abyss.specs.Rows.{AreAlike, moved_to};
 ghost use Rattle.images.specs.Spelled.{AreBytes, byte_count};
 
-use crate::fill::{cycle, repeat, surround};
+use crate::fill::{RowParts, cycle, fill_sides, repeat, wrap_rows};
 use crate::outside::{Alike, alike_rows, outside_pixel, source_rows, wrapped};
 use crate::patch::{Patch, byte_count};
+use crate::rows::{Rows, copy_rows};
 use abyss_levels::Abyss;
 use no_memory::NoMemory;
 use plane_rect::Rect;
@@ -111,7 +112,7 @@ fn write_outside(abyss: Abyss, format: Format, to: &mut [u8])
     ensures len { length to.new ≡ length to.old }
     ensures pixels { HasPixels format to.new (λ _. outside_sample abyss format) }
 {
-    cycle(to, outside_pixel(abyss, format), 0);
+    cycle(to, outside_pixel(abyss, format));
 }
 
 /// Writes the samples of a row over the columns of a rectangle.
@@ -153,14 +154,11 @@ fn loop_rows(image: &Patch, rect: &Rect, sources: Range<u32>, to: &mut [u8])
     ensures drawn { RowsDrawn (moved_to sources.start rect.now) image.now.format (abyss_at image.now Loop)
         (sources.end - sources.start) to.new }
 {
-    let (top, bottom) = (sources.start, sources.end);
     let pixel = image.format().pixel_bytes() as usize;
-    let count = rect.w as usize * pixel;
-    let first = first_column(&image.rect(), rect) as usize * pixel;
-    for row in top..bottom {
-        let start = (row - top) as usize * count;
-        cycle(&mut to[start..start + count], image.row(row), first);
-    }
+    let (bounds, many) = (image.rect(), (sources.end - sources.start) as usize);
+    let (count, period) = (rect.w as usize * pixel, bounds.w as usize * pixel);
+    let first = first_column(&bounds, rect) as usize * pixel;
+    wrap_rows(to, count, image.rows(sources), period, first, many);
 }
 
 /// How many columns right of a box's first one the column stands that a rectangle's first one reads
@@ -184,55 +182,26 @@ fn edge_rows(image: &Patch, abyss: Abyss, rect: &Rect, sources: Range<u32>, to: 
     ensures drawn { RowsDrawn (moved_to sources.start rect.now) image.now.format (abyss_at image.now abyss)
         (sources.end - sources.start) to.new }
 {
-    let (top, bottom) = (sources.start, sources.end);
-    let count = rect.w as usize * image.format().pixel_bytes() as usize;
-    for row in top..bottom {
-        let start = (row - top) as usize * count;
-        edge_row(image, abyss, rect, row, &mut to[start..start + count]);
-    }
-}
-
-/// Writes a row under another policy than `Loop`.
-fn edge_row(image: &Patch, abyss: Abyss, rect: &Rect, row: u32, to: &mut [u8])
-    requires still { abyss ≢ Loop }
-    requires row { Within image.now.box.top image.now.box.height row }
-    requires count { length to.old ≡ rect.now.width * pixel_bytes image.now.format }
-    ensures len { length to.new ≡ length to.old }
-    ensures pixels { HasPixels image.now.format to.new (λ k. abyss_at image.now abyss (rect.now.left + k) row) }
-{
-    let format = image.format();
-    let pixel = format.pixel_bytes() as usize;
-    let outside = outside_pixel(abyss, format);
-    let bounds = image.rect();
-    let from = image.row(row);
+    let pixel = image.format().pixel_bytes() as usize;
+    let (bounds, many) = (image.rect(), (sources.end - sources.start) as usize);
+    let (count, period) = (rect.w as usize * pixel, bounds.w as usize * pixel);
+    let from = image.rows(sources);
+    let (before, shared) = shared_columns(rect, &bounds);
+    let start = before * pixel;
+    let end = start + (shared.end - shared.start) * pixel;
+    let middle = Rows::new(shared.start * pixel, period);
+    copy_rows(to, Rows::new(start, count), from, middle, end - start, many);
+    let parts = RowParts { count, start, end };
     match abyss {
         Abyss::Clamp => {
-            let last = &from[from.len() - pixel..];
-            write_edged(to, rect, from, &bounds, &from[..pixel], last);
+            let (first, last) = (Rows::new(0, period), Rows::new(period - pixel, period));
+            fill_sides(to, parts, from, first, last, pixel, many);
         }
-        _ => write_edged(to, rect, from, &bounds, outside, outside),
+        _ => {
+            let (outside, once) = (outside_pixel(abyss, image.format()), Rows::new(0, 0));
+            fill_sides(to, parts, outside, once, once, pixel, many);
+        }
     }
-}
-
-/// Writes pixels over the columns of a rectangle: those of a row of a box, one pixel at each column
-/// left of it, and another at each column right of it.
-fn write_edged(to: &mut [u8], rect: &Rect, from: &[u8], bounds: &Rect, ahead: &[u8], behind: &[u8])
-    requires some { 0 < length ahead.now }
-    requires same { length behind.now ≡ length ahead.now }
-    requires to { length to.old ≡ rect.now.width * length ahead.now }
-    requires from { length from.now ≡ bounds.now.width * length ahead.now }
-    ensures len { length to.new ≡ length to.old }
-    ensures left { (k : ℕ) → k < rect.now.width → rect.now.left + k < bounds.now.left
-        → SamePixel (length ahead.now) to.new k ahead.now 0 }
-    ensures inside { (k : ℕ) → k < rect.now.width → Within bounds.now.left bounds.now.width (rect.now.left + k)
-        → SamePixel (length ahead.now) to.new k from.now (rect.now.left + k - bounds.now.left) }
-    ensures right { (k : ℕ) → k < rect.now.width → right bounds.now ≤ rect.now.left + k
-        → SamePixel (length ahead.now) to.new k behind.now 0 }
-{
-    let pixel = ahead.len();
-    let (before, shared) = shared_columns(rect, bounds);
-    let middle = &from[shared.start * pixel..shared.end * pixel];
-    surround(to, before * pixel, middle, ahead, behind);
 }
 
 /// How many columns of a rectangle stand left of those that it shares with a box, and which of the

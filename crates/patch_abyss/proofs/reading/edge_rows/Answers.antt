@@ -1,52 +1,133 @@
-use Rattle.std.proofs.Common.{◌≡◌, ℕ, ◌+◌, ◌-◌, ◌*◌, ◌≤◌, length, drop, refl, ap, ◌∙◌, subst, arith, length-take, length-drop}
-use Rattle.std.proofs.Math.Nat.{mul-le-mul_right}
-use Rattle.plane_rect.specs.Rectangle.{Rectangle}
+use Rattle.std.proofs.Common.{◌≡◌, ℕ, ◌+◌, ◌-◌, ◌*◌, ◌<◌, sym, ap, ◌∙◌, subst, arith}
+use Rattle.plane_rect.specs.Rectangle.{Rectangle, IsRectangle, Within}
 use Rattle.sample_rows.specs.Format.{pixel_bytes}
+use Rattle.sample_rows.specs.Row.{pixel_at}
+use Rattle.abyss_levels.specs.declared.abyss.Abyss.{Abyss}
 use Rattle.abyss_levels.specs.Abyss.{abyss_at}
-use Rattle.patch_abyss.specs.Fetched.{RowsDrawn}
+use Rattle.patch_abyss.specs.Copied.{bytes_of}
+use Rattle.patch_abyss.specs.Fetched.{outside_sample}
 use Rattle.patch_abyss.specs.Rows.{moved_to}
-use Rattle.patch_abyss.proofs.DrawnRows.{RowsDrawn-row}
+use Rattle.patch_abyss.proofs.CopiedRows.{some_columns}
+use Rattle.patch_abyss.proofs.DrawnRows.{RowsDrawn-by_pixels}
+use Rattle.patch_abyss.proofs.Edged.{AreColumns, AreColumns-of, targets_room, middle_room, edged-left, edged-inside, edged-right, first_room, last_room, first_bytes, last_bytes, once_bytes}
+use Rattle.patch_abyss.proofs.ReadPixels.{clamped_pixel, still_pixel}
 use Rattle.patch_abyss.proofs.reading.edge_rows.Goals as goal
-use borrow.Rule.Slice.PartMut.{put_mid}
 
-pub slice_bounds-edge_row-end : goal.slice_bounds-edge_row-end
-slice_bounds-edge_row-end c =
+pub copy_rows-requires-clause-to : goal.copy_rows-requires-clause-to
+copy_rows-requires-clause-to c =
     let image = c.args.image.now in
+    let box = image.box in
     let rect = c.args.rect.now in
-    let count = c.rect.inside.w * c.pixel_bytes.result in
-    let pixel : c.pixel_bytes.result ≡ pixel_bytes image.format = c.pixel_bytes.ensures ∙ ap pixel_bytes c.format.ensures in
-    let is_count : count ≡ rect.width * pixel_bytes image.format =
-    ap (λ (r : Rectangle). r.width * c.pixel_bytes.result) c.rect.view_is ∙ ap (λ (p : ℕ). rect.width * p) pixel in
-    let j = c.loop-row.row - c.args.sources.start in
-    let all = c.args.sources.end - c.args.sources.start in
-    let below : j + 1 ≤ all = omega arith in
-    let room : j * count + count ≤ length c.loop-row.to =
-    omega (arith, mul-le-mul_right count below, ap (λ (m : ℕ). all * m) is_count, c.requires.count, c.loop-row.auto.to) in
-    room
+    let n = pixel_bytes image.format in
+    let shared = c.shared_columns-before in
+    let columns : AreColumns rect box n shared.result.0 shared.result.1.start shared.result.1.end c.pixel_bytes-pixel.result c.rect.inside.w c.bounds.inside.w =
+    AreColumns-of c.rect-bounds.ensures.value shared.ensures.before shared.ensures.start shared.ensures.end
+    (c.pixel_bytes-pixel.ensures ∙ ap pixel_bytes c.format.ensures) (ap (λ (r : Rectangle). r.width) c.rect.view_is) (ap (λ (r : Rectangle). r.width) c.bounds.view_is) in
+    targets_room columns c.new.ensures c.new-middle.ensures (c.args.sources.end - c.args.sources.start) c.args.to.now c.requires.count
 
-pub loop-row-preserved : goal.loop-row-preserved
-loop-row-preserved c =
+pub copy_rows-requires-clause-from : goal.copy_rows-requires-clause-from
+copy_rows-requires-clause-from c =
     let image = c.args.image.now in
+    let box = image.box in
     let rect = c.args.rect.now in
-    let count = c.rect.inside.w * c.pixel_bytes.result in
-    let pixel : c.pixel_bytes.result ≡ pixel_bytes image.format = c.pixel_bytes.ensures ∙ ap pixel_bytes c.format.ensures in
-    let is_count : count ≡ rect.width * pixel_bytes image.format =
-    ap (λ (r : Rectangle). r.width * c.pixel_bytes.result) c.rect.view_is ∙ ap (λ (p : ℕ). rect.width * p) pixel in
-    let top = c.args.sources.start in
-    let row = c.loop-row.row in
-    let j = row - top in
-    let all = c.args.sources.end - top in
-    let below : j + 1 ≤ all = omega arith in
-    let now = c.loop-row.to in
-    let start = j * count in
-    let len = start + count - start in
-    let room : start + count ≤ length now = omega (arith, mul-le-mul_right count below, ap (λ (m : ℕ). all * m) is_count, c.requires.count, c.loop-row.auto.to) in
-    let piece = c.edge_row.new.to in
-    let long : length piece ≡ count = c.edge_row.ensures.len ∙ omega (arith, length-take len (drop start now), length-drop start now, room) in
-    let here : row ≡ top + j = omega arith in
-    let next : j + 1 ≡ row + 1 - top = omega arith in
-    let f = abyss_at image c.args.abyss in
-    subst (λ (rows : ℕ). RowsDrawn (moved_to top rect) image.format f rows (put_mid start len now piece)) next
-    (RowsDrawn-row (moved_to top rect) image.format f j now (put_mid start len now piece) c.loop-row.invariant count is_count
-    start len piece refl (omega arith) room long refl
-    (λ k channel inside known. c.edge_row.ensures.pixels k channel inside known ∙ ap (λ (v : ℕ). f (rect.left + k) v channel) here))
+    let n = pixel_bytes image.format in
+    let shared = c.shared_columns-before in
+    let columns : AreColumns rect box n shared.result.0 shared.result.1.start shared.result.1.end c.pixel_bytes-pixel.result c.rect.inside.w c.bounds.inside.w =
+    AreColumns-of c.rect-bounds.ensures.value shared.ensures.before shared.ensures.start shared.ensures.end
+    (c.pixel_bytes-pixel.ensures ∙ ap pixel_bytes c.format.ensures) (ap (λ (r : Rectangle). r.width) c.rect.view_is) (ap (λ (r : Rectangle). r.width) c.bounds.view_is) in
+    middle_room columns c.new.ensures c.new-middle.ensures (c.args.sources.end - c.args.sources.start) c.rows-from.result.now c.rows-from.ensures.len
+
+pub fill_sides-requires-clause-ahead : goal.fill_sides-requires-clause-ahead
+fill_sides-requires-clause-ahead c =
+    let image = c.args.image.now in
+    let box = image.box in
+    let rect = c.args.rect.now in
+    let n = pixel_bytes image.format in
+    let shared = c.shared_columns-before in
+    let columns : AreColumns rect box n shared.result.0 shared.result.1.start shared.result.1.end c.pixel_bytes-pixel.result c.rect.inside.w c.bounds.inside.w =
+    AreColumns-of c.rect-bounds.ensures.value shared.ensures.before shared.ensures.start shared.ensures.end
+    (c.pixel_bytes-pixel.ensures ∙ ap pixel_bytes c.format.ensures) (ap (λ (r : Rectangle). r.width) c.rect.view_is) (ap (λ (r : Rectangle). r.width) c.bounds.view_is) in
+    let some : 0 < box.width =
+    some_columns box c.args.sources.start (subst IsRectangle c.rect-bounds.ensures.value c.rect-bounds.ensures.rectangle) c.requires.top (omega (arith, c.requires.bottom)) in
+    first_room columns c.new-first.ensures (c.args.sources.end - c.args.sources.start) c.rows-from.result.now some c.rows-from.ensures.len
+
+pub fill_sides-requires-clause-behind : goal.fill_sides-requires-clause-behind
+fill_sides-requires-clause-behind c =
+    let image = c.args.image.now in
+    let box = image.box in
+    let rect = c.args.rect.now in
+    let n = pixel_bytes image.format in
+    let shared = c.shared_columns-before in
+    let columns : AreColumns rect box n shared.result.0 shared.result.1.start shared.result.1.end c.pixel_bytes-pixel.result c.rect.inside.w c.bounds.inside.w =
+    AreColumns-of c.rect-bounds.ensures.value shared.ensures.before shared.ensures.start shared.ensures.end
+    (c.pixel_bytes-pixel.ensures ∙ ap pixel_bytes c.format.ensures) (ap (λ (r : Rectangle). r.width) c.rect.view_is) (ap (λ (r : Rectangle). r.width) c.bounds.view_is) in
+    let some : 0 < box.width =
+    some_columns box c.args.sources.start (subst IsRectangle c.rect-bounds.ensures.value c.rect-bounds.ensures.rectangle) c.requires.top (omega (arith, c.requires.bottom)) in
+    last_room columns c.new-last.ensures some (c.args.sources.end - c.args.sources.start) c.rows-from.result.now c.rows-from.ensures.len
+
+pub returns-in-Clamp-clause-drawn : goal.returns-in-Clamp-clause-drawn
+returns-in-Clamp-clause-drawn c =
+    let image = c.args.image.now in
+    let box = image.box in
+    let rect = c.args.rect.now in
+    let n = pixel_bytes image.format in
+    let shared = c.shared_columns-before in
+    let columns : AreColumns rect box n shared.result.0 shared.result.1.start shared.result.1.end c.pixel_bytes-pixel.result c.rect.inside.w c.bounds.inside.w =
+    AreColumns-of c.rect-bounds.ensures.value shared.ensures.before shared.ensures.start shared.ensures.end
+    (c.pixel_bytes-pixel.ensures ∙ ap pixel_bytes c.format.ensures) (ap (λ (r : Rectangle). r.width) c.rect.view_is) (ap (λ (r : Rectangle). r.width) c.bounds.view_is) in
+    let some : 0 < box.width =
+    some_columns box c.args.sources.start (subst IsRectangle c.rect-bounds.ensures.value c.rect-bounds.ensures.rectangle) c.requires.top (omega (arith, c.requires.bottom)) in
+    let first = c.args.sources.start in
+    let from = c.rows-from.result.now in
+    let new = c.fill_sides.new.to in
+    let sides = c.fill_sides.ensures.sides in
+    RowsDrawn-by_pixels (moved_to first rect) image.format (abyss_at image c.args.abyss) (c.args.sources.end - first) new
+    (λ j k channel below inside known.
+    let here : Within box.top box.height (first + j) = (omega (arith, c.requires.top), omega (arith, c.requires.bottom)) in
+    let down : first + j - first ≡ j = omega arith in
+    clamped_pixel image (first + j) from (j * box.width) here
+    (λ u channel there known.
+    ap (λ (i : ℕ). pixel_at image.format from (i * box.width + (u - box.left)) channel) (sym down)
+    ∙ c.rows-from.ensures.samples u (first + j) channel there (omega arith) (omega arith) known)
+    new (j * rect.width + k) rect.left k channel known
+    (edged-inside columns c.new.ensures c.new-middle.ensures (c.args.sources.end - first) (bytes_of c.new-first.result from) (bytes_of c.new-last.result from)
+    from c.args.to.now c.copy_rows.new.to new c.copy_rows.ensures.rows sides j k below inside)
+    some
+    (edged-left columns sides j k below inside from (j * box.width) (first_bytes columns c.new-first.ensures from j))
+    (edged-right columns sides j k below inside from (j * box.width + (box.width - 1)) (last_bytes columns c.new-last.ensures some from j))
+    ∙ ap (λ (policy : Abyss). abyss_at image policy (rect.left + k) (first + j) channel) (sym c.in-Clamp.is))
+
+pub returns-in_default : goal.returns-in_default
+returns-in_default c =
+    let image = c.args.image.now in
+    let box = image.box in
+    let rect = c.args.rect.now in
+    let n = pixel_bytes image.format in
+    let shared = c.shared_columns-before in
+    let columns : AreColumns rect box n shared.result.0 shared.result.1.start shared.result.1.end c.pixel_bytes-pixel.result c.rect.inside.w c.bounds.inside.w =
+    AreColumns-of c.rect-bounds.ensures.value shared.ensures.before shared.ensures.start shared.ensures.end
+    (c.pixel_bytes-pixel.ensures ∙ ap pixel_bytes c.format.ensures) (ap (λ (r : Rectangle). r.width) c.rect.view_is) (ap (λ (r : Rectangle). r.width) c.bounds.view_is) in
+    let first = c.args.sources.start in
+    let from = c.rows-from.result.now in
+    let new = c.fill_sides-in_default.new.to in
+    let sides = c.fill_sides-in_default.ensures.sides in
+    let outside = c.outside_pixel-outside.result.now in
+    let once = bytes_of c.new-once.result outside in
+    record {
+      len = c.fill_sides-in_default.ensures.len ∙ c.copy_rows.ensures.len;
+      drawn =
+          RowsDrawn-by_pixels (moved_to first rect) image.format (abyss_at image c.args.abyss) (c.args.sources.end - first) new
+          (λ j k channel below inside known.
+          let here : Within box.top box.height (first + j) = (omega (arith, c.requires.top), omega (arith, c.requires.bottom)) in
+          let down : first + j - first ≡ j = omega arith in
+          let sample : pixel_at image.format outside 0 channel ≡ outside_sample c.args.abyss image.format channel = rw c.format-in_default.ensures at c.outside_pixel-outside.ensures.samples channel known in
+          still_pixel image (first + j) from (j * box.width) here
+          (λ u channel there known.
+          ap (λ (i : ℕ). pixel_at image.format from (i * box.width + (u - box.left)) channel) (sym down)
+          ∙ c.rows-from.ensures.samples u (first + j) channel there (omega arith) (omega arith) known)
+          new (j * rect.width + k) rect.left k channel known
+          (edged-inside columns c.new.ensures c.new-middle.ensures (c.args.sources.end - first) once once from c.args.to.now c.copy_rows.new.to new c.copy_rows.ensures.rows sides j k below inside)
+          c.args.abyss outside c.in_default.not-Clamp c.requires.still sample
+          (edged-left columns sides j k below inside outside 0 (λ b. once_bytes outside n j b c.new-once.ensures))
+          (edged-right columns sides j k below inside outside 0 (λ b. once_bytes outside n j b c.new-once.ensures)));
+    }

@@ -25,13 +25,13 @@ part-requires c =
     let square : c.rect-rect.result ≡ tile_square c.args.at = c.rect-rect.ensures.whole (whole_tile c.rect-rect.result c.args.at c.rect-rect.ensures.places some.0 some.1) in
     rw square (omega arith, omega arith, omega arith)
 
-pub of-requires : goal.of-requires
-of-requires c =
+pub from_vec-requires : goal.from_vec-requires
+from_vec-requires c =
     let some = some_places c.rect-rect.result c.if-is_empty.ensures.value in
     let square : c.rect-rect.result ≡ tile_square c.args.at = c.rect-rect.ensures.whole (whole_tile c.rect-rect.result c.args.at c.rect-rect.ensures.places some.0 some.1) in
     let few = few_bytes c.args.self.now.format in
-    let count : length c.raw_bytes.result.now ≡ 4096 * pixel_bytes c.args.self.now.format =
-    c.raw_bytes.ensures.count ∙ ap (λ (image : Image). byte_count image.box image.format) c.in_ok-part.ensures
+    let count : length c.into_raw.result.items ≡ 4096 * pixel_bytes c.args.self.now.format =
+    c.into_raw.ensures.count ∙ ap (λ (image : Image). byte_count image.box image.format) c.in_ok-part.ensures
     ∙ rw square (omega arith) in
     (omega (arith, count, few.0), omega (arith, count, few.1))
 
@@ -40,7 +40,7 @@ returns c =
     let some = some_places c.rect-rect.result c.if-is_empty.ensures.value in
     let square : c.rect-rect.result ≡ tile_square c.args.at = c.rect-rect.ensures.whole (whole_tile c.rect-rect.result c.args.at c.rect-rect.ensures.places some.0 some.1) in
     let image = c.args.self.now in
-    let bytes : c.raw_bytes.result.now ≡ tile_bytes image c.args.at =
-    c.raw_bytes.ensures.value ∙ ap (λ (image : Image). raw image image.box) c.in_ok-part.ensures
+    let bytes : c.into_raw.result.items ≡ tile_bytes image c.args.at =
+    c.into_raw.ensures.value ∙ ap (λ (image : Image). raw image image.box) c.in_ok-part.ensures
     ∙ raw-part image c.rect-rect.result ∙ ap (raw image) square in
-    rw (← bytes) c.of.ensures
+    rw (← bytes) c.from_vec.ensures

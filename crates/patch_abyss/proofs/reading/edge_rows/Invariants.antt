@@ -1,8 +1,0 @@
-use Rattle.std.proofs.Common.{◌-◌}
-use Rattle.abyss_levels.specs.Abyss.{abyss_at}
-use Rattle.patch_abyss.specs.Fetched.{RowsDrawn}
-use Rattle.patch_abyss.specs.Rows.{moved_to}
-use Rattle.patch_abyss.proofs.reading.edge_rows.Given as goal
-
-abbrev pub invariant-loop-row : goal.invariant-loop-row
-invariant-loop-row l = RowsDrawn (moved_to l.top l.rect) l.image.format (abyss_at l.image l.abyss) (l.row - l.top) l.to
