@@ -146,19 +146,70 @@ fn reads_under_each_policy(rt: HostRuntime) -> Result<(), Fail> {
     Ok(())
 }
 
-#[test]
-fn long_rows_are_cut(rt: HostRuntime) -> Result<(), Fail> {
-    let alloc = rt.alloc();
-    let mut bytes = vec![in alloc; 0; 600]?;
+/// How many bytes a row has: one block of each size by which rows are copied, one byte less and one
+/// more, and rows that are long.
+const LENGTHS: [u16; 19] = [
+    1, 3, 4, 5, 15, 16, 17, 31, 63, 64, 65, 127, 128, 129, 200, 255, 256, 257, 300,
+];
+
+/// The bytes 0, 1, 2 and so on.
+fn counted(alloc: Global, count: u16) -> Result<Vec<u8>, Fail> {
+    let mut bytes = vec![in alloc; 0; usize::from(count)]?;
     for (place, byte) in bytes.iter_mut().enumerate() {
         *byte = (place % 251) as u8;
     }
-    let image = Patch::from_raw(alloc, rect([0, 0, 300, 2]), Format::Y8, &bytes)?;
-    for abyss in POLICIES {
-        let part = fetch(alloc, &image, abyss, rect([20, 0, 260, 2]))?;
-        assert_eq!(rt; part.raw_bytes().len(), 520);
-        assert!(rt; part.raw_bytes().starts_with(&bytes[20..280]));
-        assert!(rt; part.raw_bytes().ends_with(&bytes[320..580]));
+    Ok(bytes)
+}
+
+#[test]
+fn parts_of_each_length(rt: HostRuntime) -> Result<(), Fail> {
+    let alloc = rt.alloc();
+    let bytes = counted(alloc, 800)?;
+    let image = Patch::from_raw(alloc, rect([0, 0, 400, 2]), Format::Y8, &bytes)?;
+    for length in LENGTHS {
+        let part = image.part(alloc, rect([20, 0, i64::from(length), 2]))?;
+        let count = usize::from(length);
+        let first = bytes.iter().skip(20).take(count);
+        let second = bytes.iter().skip(420).take(count);
+        assert_eq!(rt; part.raw_bytes().len(), 2 * count);
+        for (byte, expected) in part.raw_bytes().iter().zip(first.chain(second)) {
+            assert_eq!(rt; byte, expected, "{length}");
+        }
+    }
+    Ok(())
+}
+
+/// What a row of 40 samples from the origin on gives under a policy, sample by sample.
+fn plain_sample(abyss: Abyss, row: &[u8], x: i64) -> u8 {
+    let place = match abyss {
+        Abyss::Clamp => x.clamp(0, 39),
+        Abyss::Loop => x.rem_euclid(40),
+        _ => x,
+    };
+    let outside = if abyss == Abyss::White { 255 } else { 0 };
+    usize::try_from(place)
+        .ok()
+        .and_then(|place| row.get(place).copied())
+        .unwrap_or(outside)
+}
+
+#[test]
+fn reads_of_each_length(rt: HostRuntime) -> Result<(), Fail> {
+    let alloc = rt.alloc();
+    let bytes = counted(alloc, 40)?;
+    let image = Patch::from_raw(alloc, rect([0, 0, 40, 1]), Format::Y8, &bytes)?;
+    for length in LENGTHS {
+        for abyss in POLICIES {
+            let read = fetch(alloc, &image, abyss, rect([-30, 0, i64::from(length), 1]))?;
+            assert_eq!(rt; read.raw_bytes().len(), usize::from(length));
+            for (x, byte) in (-30..).zip(read.raw_bytes()) {
+                assert_eq!(rt;
+                    *byte,
+                    plain_sample(abyss, &bytes, x),
+                    "{abyss:?} of {length} at {x}"
+                );
+            }
+        }
     }
     Ok(())
 }
