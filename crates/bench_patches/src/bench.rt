@@ -1,13 +1,17 @@
 //! The loops over patches of one size and format.
 
-use crate::report::Speed;
 use crate::{loops, pictures};
 use anyhow::Result;
+use bench_speed::Speed;
 use patch_abyss::{Abyss, Patch, fetch, halve};
 use sample_rows::Format;
 use std::alloc::Global;
 use std::rt::Clock;
 use std::time::Instant;
+
+/// By how many bytes the copied ones stand behind the beginning of their memory: a copy is slowed
+/// where it reads and writes at addresses that differ by little more than whole pages.
+const HALF_PAGE: usize = 2_048;
 
 /// How many columns and rows the patches have, their format, how many rounds each loop has, and the
 /// speeds of a copy into memory that is there and into memory that is asked for.
@@ -41,14 +45,16 @@ impl Bench {
         let count = pictures::square(0, side)
             .area()
             .saturating_mul(u64::from(format.pixel_bytes()));
-        let mut from = pictures::bytes(alloc, count)?;
+        let mut memory = vec![in alloc; 0; HALF_PAGE]?;
+        memory.extend_from_slice(&pictures::bytes(alloc, count)?)?;
+        let from = &mut memory[HALF_PAGE..];
         let mut to = vec![in alloc; 0; from.len()]?;
         let made = count.saturating_mul(u64::from(rounds));
         let start = Instant::now(rt)?;
-        let copied = loops::copy(&mut from, &mut to, rounds);
+        let copied = loops::copy(from, &mut to, rounds);
         let ready = Speed::since(rt, start, made)?;
         let start = Instant::now(rt)?;
-        let copied_afresh = loops::copy_afresh(alloc, &mut from, rounds)?;
+        let copied_afresh = loops::copy_afresh(alloc, from, rounds)?;
         let afresh = Speed::since(rt, start, made)?;
         let bench = Bench {
             side,
@@ -58,7 +64,7 @@ impl Bench {
             afresh,
         };
         bench.print(rt, "copy", copied.wrapping_add(loops::sum(&to)), ready)?;
-        let sum = loops::sum(&from);
+        let sum = loops::sum(from);
         bench.print(rt, "copy afresh", copied_afresh.wrapping_add(sum), afresh)?;
         Ok(bench)
     }
@@ -77,6 +83,7 @@ impl Bench {
             ("white outside", Abyss::White, 3 * side),
         ];
         let image = pictures::image(rt.alloc(), self.side.saturating_mul(2), self.format)?;
+        self.time_rows(rt, &image)?;
         for (name, abyss, corner) in readings {
             let reading = Reading {
                 name,
@@ -93,6 +100,20 @@ impl Bench {
             corner: -side / 2,
         };
         self.time_reading(rt, &small, reading)
+    }
+
+    /// Times the plain copy of the rows that are read inside the image.
+    fn time_rows<R: Clock + Print + Eprint + Alloc<A = Global>>(
+        self,
+        rt: &R,
+        image: &Patch,
+    ) -> Result<()> {
+        let alloc = rt.alloc();
+        let square = pictures::square(i64::from(self.side / 2 + 1), self.side);
+        let start = Instant::now(rt)?;
+        let found = loops::copy_rows(alloc, image, square, self.rounds)?;
+        let patch = fetch(alloc, image, Abyss::None, square)?;
+        self.report(rt, "rows copied", start, found, patch.raw_bytes())
     }
 
     fn time_reading<R: Clock + Print + Eprint + Alloc<A = Global>>(
@@ -139,9 +160,9 @@ impl Bench {
         let (side, format) = (self.side, self.format.word());
         println!(rt; "{side} {format}: {name} {found}")?;
         eprintln!(rt;
-            "{side} {format}: {name} {speed}, {}% of a copy, {}% of one afresh",
-            speed.percent_of(self.ready),
-            speed.percent_of(self.afresh)
+            "{side} {format}: {name} {speed}, {} of a copy, {} of one afresh",
+            speed.part_of(self.ready),
+            speed.part_of(self.afresh)
         )?;
         Ok(())
     }

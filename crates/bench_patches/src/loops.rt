@@ -26,7 +26,32 @@ pub fn copy_afresh(alloc: Global, from: &mut [u8], rounds: u32) -> Result<u64, A
     let mut found = 0u64;
     for round in 0..rounds {
         mark(from, round);
-        let copy = from.to_vec(alloc)?;
+        let copy = Vec::from_slice(alloc, from)?;
+        found = found.wrapping_add(last(&copy));
+    }
+    Ok(found)
+}
+
+/// Copies the rows of a square of an image that begins at the origin, one by one, into memory that is
+/// asked for.
+pub fn copy_rows(
+    alloc: Global,
+    image: &Patch,
+    square: Rect,
+    rounds: u32,
+) -> Result<u64, AllocError> {
+    let pixel = image.format().pixel_bytes() as usize;
+    let stride = (image.rect().w as usize).saturating_mul(pixel).max(1);
+    let count = (square.w as usize).saturating_mul(pixel);
+    let first = usize::try_from(square.x).unwrap_or(0).saturating_mul(pixel);
+    let above = usize::try_from(square.y).unwrap_or(0);
+    let mut found = 0u64;
+    for _ in 0..rounds {
+        let mut copy = Vec::with_capacity(alloc, count.saturating_mul(square.h as usize))?;
+        let rows = image.raw_bytes().chunks(stride).skip(above);
+        for row in rows.take(square.h as usize) {
+            copy.extend_from_slice(row.get(first..first.saturating_add(count)).unwrap_or(&[]))?;
+        }
         found = found.wrapping_add(last(&copy));
     }
     Ok(found)

@@ -4,13 +4,13 @@
 //! ones have as many more rounds. It prints a checksum of what each call gave, which is the same at
 //! each run of as many rounds. The speeds go to standard error: gigabytes of output a second, and
 //! what part that is of a copy's speed into memory that is there, and into memory that is asked for,
-//! as each of the calls asks for its own.
+//! as each of the calls asks for its own. A plain copy of the rows that are read inside an image has
+//! a line of its own.
 #![tactic(auto)]
 
 mod bench;
 mod loops;
 mod pictures;
-mod report;
 
 use anyhow::Result;
 use bench::Bench;

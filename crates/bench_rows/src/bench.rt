@@ -3,10 +3,11 @@
 ghost use Rattle.std.specs.Prelude.{◌≡◌, ◌≤◌, IsTrue};
 ghost use Rattle.sample_rows.specs.Format.{has_alpha};
 
+use crate::label::Label;
 use crate::loops::{self, Kernel};
-use crate::report::{Label, Speed};
 use crate::rows;
 use anyhow::Result;
+use bench_speed::Speed;
 use sample_rows::Format;
 use std::alloc::Global;
 use std::rt::Clock;
@@ -197,17 +198,15 @@ impl Bench {
     ) -> Result<()> {
         let written = (dst.len() as u64).saturating_mul(u64::from(self.rounds));
         let speed = Speed::since(rt, start, written)?;
-        let part = speed.thousandths_of(self.copy);
         println!(rt;
             "{} bytes: {label} {}",
             self.length,
             found.wrapping_add(loops::sum(dst))
         )?;
         eprintln!(rt;
-            "{} bytes: {label} {speed}, {}.{}% of a copy",
+            "{} bytes: {label} {speed}, {} of a copy",
             self.length,
-            part / 10,
-            part % 10
+            speed.part_of(self.copy)
         )?;
         Ok(())
     }

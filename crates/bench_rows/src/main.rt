@@ -7,8 +7,8 @@
 #![tactic(auto)]
 
 mod bench;
+mod label;
 mod loops;
-mod report;
 mod rows;
 
 use anyhow::Result;

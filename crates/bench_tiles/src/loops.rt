@@ -80,7 +80,7 @@ pub fn copy_afresh(alloc: Global, row: &mut [u8], rounds: u32) -> Result<u64, Al
     let mut found = 0u64;
     for round in 0..rounds {
         mark(row, round);
-        let copy = row.to_vec(alloc)?;
+        let copy = Vec::from_slice(alloc, row)?;
         found = found.wrapping_add(last(&copy));
     }
     Ok(found)

@@ -1,10 +1,11 @@
-//! What is printed of a loop.
+//! How fast a loop of a benchmark wrote.
+#![tactic(auto)]
 
 use std::rt::Clock;
 use std::time::Instant;
 use std::{fmt, io};
 
-/// Megabytes a second.
+/// Megabytes a second. It is printed as gigabytes a second.
 #[derive(Clone, Copy)]
 pub struct Speed(u64);
 
@@ -16,14 +17,24 @@ impl Speed {
         Ok(Speed(bytes.saturating_mul(1_000) / nanoseconds.max(1)))
     }
 
-    /// How many hundredths of another speed it is.
-    pub fn percent_of(self, other: Speed) -> u64 {
-        self.0.saturating_mul(100) / other.0.max(1)
+    /// What part of another speed it is.
+    pub fn part_of(self, other: Speed) -> Part {
+        Part(self.0.saturating_mul(1_000) / other.0.max(1))
     }
 }
+
+/// Thousandths of a speed. They are printed as hundredths.
+#[derive(Clone, Copy)]
+pub struct Part(u64);
 
 impl fmt::Display for Speed {
     fn fmt<W: fmt::Write>(&self, f: &mut fmt::Formatter<W>) -> fmt::Result {
         write!(f, "{}.{:02} GB/s", self.0 / 1_000, self.0 % 1_000 / 10)
+    }
+}
+
+impl fmt::Display for Part {
+    fn fmt<W: fmt::Write>(&self, f: &mut fmt::Formatter<W>) -> fmt::Result {
+        write!(f, "{}.{}%", self.0 / 10, self.0 % 10)
     }
 }
