@@ -4,10 +4,10 @@ use Rattle.std.proofs.Math.Nat.{mul-le-mul_right}
 use Rattle.std.proofs.lemmas.Nat.{mod-mul-add}
 use Rattle.plane_rect.specs.Rectangle.{Rectangle, Within, right}
 use Rattle.patch_abyss.specs.Copied.{HasRows, HasSides, HaveRoom, bytes_of, row_byte}
-use Rattle.patch_abyss.specs.Fetched.{SamePixel}
 use Rattle.patch_abyss.specs.declared.fill.RowParts.{RowParts}
 use Rattle.patch_abyss.specs.declared.rows.Rows.{Rows}
 use Rattle.patch_abyss.proofs.CopiedRows.{before_place, behind_place}
+use Rattle.patch_abyss.proofs.RowPixels.{SamePixel}
 
 -- The numbers that the code counts with are those of a rectangle and a box: how many columns of the first stand left of the shared ones, which of the second's these are,
 -- how many bytes a pixel has, and the two widths.

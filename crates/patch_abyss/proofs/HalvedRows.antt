@@ -46,11 +46,15 @@ abbrev pub Shows : Image → List ℕ → ℕ → ℕ → ℕ → Type 0
 Shows image row columns left v =
     (i c : ℕ) → i < columns → c < channels image.format → pixel_at image.format row i c ≡ at image (left + i) v c
 
-pub shows_own : (image : Image) (row : List ℕ) (columns left v : ℕ) → image.box.left ≡ left → image.box.width ≡ columns →
-    ((u c : ℕ) → Within image.box.left image.box.width u → c < channels image.format → pixel_at image.format row (u - image.box.left) c ≡ at image u v c) →
+pub shows_own : (image : Image) (row : List ℕ) (columns left v end : ℕ) → image.box.left ≡ left → image.box.width ≡ columns → v < end →
+    ((u w c : ℕ) → Within image.box.left image.box.width u → v ≤ w → w < end → c < channels image.format →
+    pixel_at image.format row ((w - v) * image.box.width + (u - image.box.left)) c ≡ at image u w c) →
     Shows image row columns left v
-shows_own image row columns left v start many samples i c below known =
-    ap (λ (k : ℕ). pixel_at image.format row k c) (omega (arith, start)) ∙ samples (left + i) c (omega (arith, start), omega (arith, start, many)) known
+shows_own image row columns left v end start many some samples i c below known =
+    let level : v - v ≡ 0 = omega arith in
+    let index : i ≡ (v - v) * image.box.width + (left + i - image.box.left) = omega (arith, start, ap (λ (j : ℕ). j * image.box.width) level) in
+    ap (λ (k : ℕ). pixel_at image.format row k c) index
+    ∙ samples (left + i) v c (omega (arith, start), omega (arith, start, many)) (omega arith) some known
 
 pub shows_read : (image : Image) (row : List ℕ) (columns left v : ℕ) → pixel_count image.format row ≡ columns →
     HasPixels image.format row (λ k. abyss_at image None (left + k) v) → Shows image row columns left v

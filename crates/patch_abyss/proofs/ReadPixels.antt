@@ -10,8 +10,8 @@ use Rattle.abyss_levels.specs.declared.abyss.Abyss.TheVariants.{Clamp, Loop}
 use Rattle.abyss_levels.specs.Abyss.{abyss_at, nearest, wrapped}
 use Rattle.abyss_levels.proofs.PolicyLaws.{abyss_at-inside, clamp-everywhere, loop-everywhere}
 use Rattle.abyss_levels.proofs.Sides.{nearest-inside, wrapped-within, wrapped-inside}
-use Rattle.patch_abyss.specs.Fetched.{SamePixel, outside_sample}
-use Rattle.patch_abyss.proofs.RowPixels.{pixel_moved}
+use Rattle.patch_abyss.specs.Fetched.{outside_sample}
+use Rattle.patch_abyss.proofs.RowPixels.{SamePixel, pixel_moved}
 use Rattle.patch_abyss.proofs.ReadRows.{outside-still, wrapped-more}
 
 -- a row of the image's bytes whose first pixel has the number base among those of a list

@@ -10,11 +10,14 @@ use Rattle.sample_rows.specs.declared.format.Format.{Format}
 use Rattle.images.specs.Image.{at}
 use Rattle.images.specs.Spelled.{spelled}
 use Rattle.patch_abyss.specs.Copied.{AreRows, row_byte}
-use Rattle.patch_abyss.specs.Fetched.{SamePixel}
 use Rattle.patch_abyss.specs.declared.rows.Rows.{Rows}
 use Rattle.patch_abyss.proofs.CopiedRows.{before_place, byte_of_part}
 use Rattle.images.proofs.Spelling.{sample_alike, at-spelled}
 use Rattle.patch_abyss.proofs.Parts.{byte_index, byte_within}
+
+-- pixel number k of one row has the bytes of pixel number j of another, n each
+abbrev pub SamePixel : ℕ → List ℕ → ℕ → List ℕ → ℕ → Type 0
+SamePixel n row k other j = (b : ℕ) → b < n → get_or row (k * n + b) 0 ≡ get_or other (j * n + b) 0
 
 -- pixels of equal bytes have equal samples
 pub pixel_moved : (format : Format) (xs ys : List ℕ) (a b c : ℕ) → c < channels format → SamePixel (pixel_bytes format) xs a ys b → pixel_at format xs a c ≡ pixel_at format ys b c

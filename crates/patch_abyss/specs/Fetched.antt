@@ -1,5 +1,5 @@
 -- Rows that are read under a policy, and rows that are drawn one after the other.
-use Rattle.std.specs.Prelude.{◌≡◌, ℕ, ◌+◌, ◌*◌, ◌<◌, List, slice_index}
+use Rattle.std.specs.Prelude.{◌≡◌, ℕ, ◌<◌, List}
 use Rattle.plane_rect.specs.Rectangle.{Rectangle, Lies}
 use Rattle.sample_rows.specs.Format.{channels, greatest}
 use Rattle.sample_rows.specs.Row.{Pixel}
@@ -16,10 +16,6 @@ outside_sample Clamp format c = 0
 outside_sample Loop format c = 0
 outside_sample Black format c = black_sample format c
 outside_sample White format c = greatest format
-
--- pixel number k of one row has the bytes of pixel number j of another, n each
-abbrev pub SamePixel : ℕ → List ℕ → ℕ → List ℕ → ℕ → Type 0
-SamePixel n row k other j = (b : ℕ) → b < n → slice_index row (k * n + b) ≡ slice_index other (j * n + b)
 
 -- The bytes of a rectangle spell, in so many rows from its top, what f gives for their places.
 pub record RowsDrawn (box : Rectangle) (format : Format) (f : ℕ → ℕ → Pixel) (rows : ℕ) (bytes : List ℕ) : Type 0 where

@@ -37,10 +37,10 @@ OnOneSide box a b = (box.height ≡ 0) ⊎ ((a < box.top) × (b < box.top)) ⊎ 
 abbrev pub moved_to : ℕ → Rectangle → Rectangle
 moved_to top r = record r { top = top }
 
--- a rectangle is some whole rows of a box
-pub record AreRowsOf (box rows : Rectangle) : Type 0 where
-  pub left : rows.left ≡ box.left
-  pub width : rows.width ≡ box.width
-  pub some : rows.top < bottom rows
-  pub top : box.top ≤ rows.top
-  pub bottom : bottom rows ≤ bottom box
+-- a box has just the columns of a rectangle, and the rows from one to before another, of which there is one
+pub record HasWholeRows (box columns : Rectangle) (start end : ℕ) : Type 0 where
+  pub left : box.left ≡ columns.left
+  pub width : box.width ≡ columns.width
+  pub some : start < end
+  pub top : box.top ≤ start
+  pub bottom : end ≤ bottom box

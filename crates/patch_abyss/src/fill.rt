@@ -143,21 +143,21 @@ pub(crate) fn repeat(bytes: &mut [u8], period: usize)
     let mut done = period;
     while done < bytes.len() {
         let more = done.min(bytes.len() - done);
-        copy_back(bytes, 0, done, more);
+        copy_front(bytes, done, more);
         done += more;
     }
 }
 
-/// Copies so many bytes to a place behind them.
-fn copy_back(bytes: &mut [u8], from: usize, to: usize, count: usize)
-    requires before { from + count ≤ to }
+/// Copies the first bytes, so many, to a place behind them.
+fn copy_front(bytes: &mut [u8], to: usize, count: usize)
+    requires before { count ≤ to }
     requires room { to + count ≤ length bytes.old }
     ensures len { length bytes.new ≡ length bytes.old }
     ensures copied { (i : ℕ) → i < count →
-        slice_index bytes.new (to + i) ≡ slice_index bytes.old (from + i) }
+        slice_index bytes.new (to + i) ≡ slice_index bytes.old i }
     ensures kept { (i : ℕ) → (i < to) ⊎ (to + count ≤ i) →
         slice_index bytes.new i ≡ slice_index bytes.old i }
 {
     let (front, back) = bytes.split_at_mut(to);
-    back[..count].copy_from_slice(&front[from..from + count]);
+    back[..count].copy_from_slice(&front[..count]);
 }

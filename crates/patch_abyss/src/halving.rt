@@ -1,7 +1,7 @@
 //! Images halved.
 
-ghost use Rattle.std.specs.Prelude.{◌≡◌, ◌+◌, ◌*◌, ◌%◌, ◌<◌, IfOk, IsTrue, length};
-ghost use Rattle.plane_rect.specs.Rectangle.{Within, halved, plane_side};
+ghost use Rattle.std.specs.Prelude.{◌≡◌, ◌+◌, ◌*◌, ◌%◌, ◌<◌, IfOk, length};
+ghost use Rattle.plane_rect.specs.Rectangle.{halved, plane_side};
 ghost use Rattle.sample_rows.specs.Average.{mean_pixel};
 ghost use Rattle.sample_rows.specs.Format.{pixel_bytes};
 ghost use Rattle.sample_rows.specs.Row.{HasPixels};
@@ -10,7 +10,7 @@ ghost use Rattle.abyss_levels.specs.Level.{doubled, halved_image, mean_at};
 ghost use Rattle.patch_abyss.specs.Fetched.{RowsDrawn};
 ghost use Rattle.images.specs.Spelled.{byte_count};
 
-use crate::patch::{Patch, byte_count};
+use crate::patch::{Patch, byte_count, has_rows};
 use crate::reading::read_row;
 use abyss_levels::Abyss;
 use no_memory::NoMemory;
@@ -73,27 +73,14 @@ fn halve_row(image: &Patch, columns: &Rect, row: u32, up: &mut [u8], down: &mut 
         (at image.now (columns.now.left + (2 * k + 1)) (row + 1))) }
 {
     let format = image.format();
-    if has_rows(&image.rect(), columns, row) {
-        row_average4(format, image.row(row), image.row(row + 1), to);
+    if has_rows(&image.rect(), columns, row..row + 2) {
+        let (above, below) = (image.rows(row..row + 1), image.rows(row + 1..row + 2));
+        row_average4(format, above, below, to);
         return;
     }
     read_row(image, Abyss::None, columns, row, up);
     read_row(image, Abyss::None, columns, row + 1, down);
     row_average4(format, up, down, to);
-}
-
-/// Whether a rectangle has just these columns, and a row and the row below it.
-fn has_rows(rect: &Rect, columns: &Rect, row: u32) -> bool
-    requires { row + 1 < plane_side }
-    ensures left { IsTrue result → rect.now.left ≡ columns.now.left }
-    ensures width { IsTrue result → rect.now.width ≡ columns.now.width }
-    ensures row { IsTrue result → Within rect.now.top rect.now.height row }
-    ensures below { IsTrue result → Within rect.now.top rect.now.height (row + 1) }
-{
-    rect.left() == columns.left()
-        && rect.w == columns.w
-        && rect.top() <= row
-        && row + 1 < rect.bottom()
 }
 
 /// The rectangle with a column more on each side where the first is odd or the last is even, so that

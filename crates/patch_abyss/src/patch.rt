@@ -1,7 +1,7 @@
 //! Images in memory.
 
 ghost use Rattle.std.specs.Prelude.{◌≡◌, ◌≢◌, ◌<◌, ◌≤◌, ◌+◌, ◌-◌, ◌*◌, ℕ, ◌↔◌, ◌⊎◌, IfErr, IfOk, IsTrue, false, length};
-ghost use Rattle.plane_rect.specs.Rectangle.{InLimits, Includes, IsRectangle, LiesAt, Within, bottom, is_empty, plane_index as index_of, plane_side};
+ghost use Rattle.plane_rect.specs.Rectangle.{InLimits, Includes, IsRectangle, LiesAt, Within, bottom, is_empty, plane_index as index_of};
 ghost use Rattle.plane_rect.specs.Tile.{tile_square};
 ghost use Rattle.sample_rows.specs.Format.{channels, depth, pixel_bytes};
 ghost use Rattle.sample_rows.specs.Row.{pixel_at, sample_at};
@@ -10,7 +10,7 @@ ghost use Rattle.images.specs.Paint.{blank, painted, put_raw};
 ghost use Rattle.images.specs.Raw.{raw};
 ghost use Rattle.abyss_levels.specs.Abyss.{tile_bytes};
 ghost use Rattle.images.specs.Spelled.{byte_count, spelled};
-ghost use Rattle.patch_abyss.specs.Rows.{AreRowsOf};
+ghost use Rattle.patch_abyss.specs.Rows.{HasWholeRows};
 ghost use Rattle.patch_abyss.specs.declared.patch.PatchRefused.TheVariants.{NoMemory, WrongSize};
 
 use crate::rows::{LONG_ROW, Rows, copy_meet, cut_rows};
@@ -154,7 +154,7 @@ impl Patch {
     {
         let format = self.format;
         let pixel = format.pixel_bytes() as usize;
-        if has_rows(&self.rect, &rect) {
+        if has_rows(&self.rect, &rect, rect.top()..rect.bottom()) {
             return self.band(alloc, rect);
         }
         if rect.w as usize * pixel >= LONG_ROW && self.rect.contains(&rect) {
@@ -169,7 +169,7 @@ impl Patch {
     fn band(&self, alloc: Global, rows: Rect) -> Result<Patch, NoMemory>
         requires limits { InLimits rows }
         requires rectangle { IsRectangle rows }
-        requires rows { AreRowsOf self.now.box rows }
+        requires rows { HasWholeRows self.now.box rows rows.top (bottom rows) }
         ensures { IfOk result (λ patch. patch ≡ drawn rows self.now.format (at self.now)) }
     {
         let bytes = Vec::from_slice(alloc, self.rows(rows.top()..rows.bottom()))?;
@@ -250,17 +250,6 @@ impl Patch {
         }
     }
 
-    /// The raw bytes of a row of the rectangle.
-    pub(crate) fn row(&self, row: u32) -> &[u8]
-        requires plane { row < plane_side }
-        requires row { Within self.now.box.top self.now.box.height row }
-        ensures len { length result.now ≡ self.now.box.width * pixel_bytes self.now.format }
-        ensures samples { (u c : ℕ) → Within self.now.box.left self.now.box.width u → c < channels self.now.format
-            → pixel_at self.now.format result.now (u - self.now.box.left) c ≡ at self.now u row c }
-    {
-        self.rows(row..row + 1)
-    }
-
     /// The raw bytes of rows of the rectangle that follow one another.
     pub(crate) fn rows(&self, rows: Range<u32>) -> &[u8]
         requires some { rows.start < rows.end }
@@ -294,15 +283,15 @@ impl Patch {
     }
 }
 
-/// Whether a rectangle is some whole rows of another.
-fn has_rows(rect: &Rect, rows: &Rect) -> bool
-    ensures { IsTrue result → AreRowsOf rect.now rows.now }
+/// Whether a rectangle has just these columns, and these rows, of which there is one.
+pub(crate) fn has_rows(rect: &Rect, columns: &Rect, rows: Range<u32>) -> bool
+    ensures { IsTrue result → HasWholeRows rect.now columns.now rows.start rows.end }
 {
-    rows.left() == rect.left()
-        && rows.w == rect.w
-        && !rows.is_empty()
-        && rect.top() <= rows.top()
-        && rows.bottom() <= rect.bottom()
+    rect.left() == columns.left()
+        && rect.w == columns.w
+        && rows.start < rows.end
+        && rect.top() <= rows.start
+        && rows.end <= rect.bottom()
 }
 
 /// How many raw bytes a rectangle has.

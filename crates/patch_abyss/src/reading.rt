@@ -1,15 +1,15 @@
 //! Images read under a policy.
 
-ghost use Rattle.std.specs.Prelude.{◌≡◌, ◌≢◌, ℕ, ◌+◌, ◌-◌, ◌*◌, ◌<◌, ◌≤◌, IfOk, IfSome, length, max, min};
-ghost use Rattle.plane_rect.specs.Rectangle.{InLimits, IsRectangle, Within, area, bottom, right};
+ghost use Rattle.std.specs.Prelude.{◌≡◌, ◌≢◌, ◌+◌, ◌-◌, ◌*◌, ◌<◌, ◌≤◌, IfOk, length, max, min};
+ghost use Rattle.plane_rect.specs.Rectangle.{InLimits, Within, bottom, right};
 ghost use Rattle.sample_rows.specs.Format.{pixel_bytes};
 ghost use Rattle.sample_rows.specs.Row.{HasPixels};
 ghost use Rattle.images.specs.Image.{drawn};
 ghost use Rattle.abyss_levels.specs.Abyss.{abyss_at, wrapped};
 ghost use Rattle.abyss_levels.specs.declared.abyss.Abyss.TheVariants.{Loop};
-ghost use Rattle.patch_abyss.specs.Fetched.{RowsDrawn, SamePixel, outside_sample};
+ghost use Rattle.patch_abyss.specs.Fetched.{RowsDrawn, outside_sample};
 ghost use Rattle.patch_abyss.specs.Rows.{AreAlike, moved_to};
-ghost use Rattle.images.specs.Spelled.{AreBytes, byte_count};
+ghost use Rattle.images.specs.Spelled.{byte_count};
 
 use crate::fill::{RowParts, cycle, fill_sides, repeat, wrap_rows};
 use crate::outside::{Alike, alike_rows, outside_pixel, source_rows, wrapped};

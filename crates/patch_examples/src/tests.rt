@@ -152,7 +152,7 @@ const LENGTHS: [u16; 19] = [
     1, 3, 4, 5, 15, 16, 17, 31, 63, 64, 65, 127, 128, 129, 200, 255, 256, 257, 300,
 ];
 
-/// The bytes 0, 1, 2 and so on.
+/// The bytes 0, 1, 2 and so on to 250, over and over.
 fn counted(alloc: Global, count: u16) -> Result<Vec<u8>, Fail> {
     let mut bytes = vec![in alloc; 0; usize::from(count)]?;
     for (place, byte) in bytes.iter_mut().enumerate() {

@@ -12,12 +12,12 @@ pub returns-then-has_rows-clause-pixels : goal.returns-then-has_rows-clause-pixe
 returns-then-has_rows-clause-pixels c = λ k channel inside known.
     let image = c.args.image.now in
     let columns = c.args.columns.now in
-    let h = c.if-has_rows.ensures in
+    let h = c.if-has_rows.ensures refl in
     let box = c.rect.ensures.value in
-    let start : image.box.left ≡ columns.left = sym (ap (λ (r : Rectangle). r.left) box) ∙ h.left refl in
-    let many : image.box.width ≡ columns.width = sym (ap (λ (r : Rectangle). r.width) box) ∙ h.width refl in
-    let up = c.row.result.now in
-    let down = c.row-then-has_rows.result.now in
+    let start : image.box.left ≡ columns.left = sym (ap (λ (r : Rectangle). r.left) box) ∙ h.left in
+    let many : image.box.width ≡ columns.width = sym (ap (λ (r : Rectangle). r.width) box) ∙ h.width in
+    let up = c.rows-above.result.now in
+    let down = c.rows-below.result.now in
     let to = c.row_average4.new.dst in
     let pairs = pair_count (pixel_bytes image.format) (length c.args.to.now) columns.width (few_bytes image.format).0 c.requires.whole c.requires.count in
     let below : k < length c.args.to.now / pixel_bytes image.format = subst (λ (l : ℕ). k < l / pixel_bytes image.format) c.row_average4.auto.dst inside in
@@ -25,8 +25,8 @@ returns-then-has_rows-clause-pixels c = λ k channel inside known.
     rw c.format-format.ensures at c.row_average4.ensures in
     means k channel inside known
     ∙ mean_row image up down columns.width columns.left c.args.row
-    (shows_own image up columns.width columns.left c.args.row start many c.row.ensures.samples)
-    (shows_own image down columns.width columns.left (c.args.row + 1) start many c.row-then-has_rows.ensures.samples)
+    (shows_own image up columns.width columns.left c.args.row (c.args.row + 1) start many (omega arith) c.rows-above.ensures.samples)
+    (shows_own image down columns.width columns.left (c.args.row + 1) (c.args.row + 2) start many (omega arith) c.rows-below.ensures.samples)
     k channel (omega (arith, below, pairs)) known
 
 pub returns-clause-pixels : goal.returns-clause-pixels

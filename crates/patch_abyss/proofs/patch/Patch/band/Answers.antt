@@ -16,7 +16,7 @@ from_bytes-requires-clause-count c =
     ap length c.in_ok-bytes.ensures.items
     ∙ c.rows.ensures.len
     ∙ ap (λ (m : ℕ). m * (image.box.width * n)) high
-    ∙ ap (λ (m : ℕ). rows.height * (m * n)) (sym c.requires.rows.width)
+    ∙ ap (λ (m : ℕ). rows.height * (m * n)) c.requires.rows.width
     ∙ omega arith in
     whole ∙ ap (λ (shown : Image). byte_count rows shown.format) (sym c.self.view_is)
 
