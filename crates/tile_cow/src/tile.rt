@@ -1,18 +1,21 @@
 //! A tile and its owners.
 
-ghost use Rattle.std.specs.Prelude.{◌≡◌, ◌+◌, ◌≤◌, IfOk, OnErr, OnOk, length, replicate};
+ghost use Rattle.std.specs.Prelude.{◌≡◌, ◌+◌, ◌≤◌, ◌^◌, ◌<◌, IfOk, IfSome, IsTrue, OnErr, OnOk, length, replicate, ℕ, List};
 ghost use Rattle.tile_cow.specs.Tile.{IsTileLength, overwritten};
+ghost use Rattle.tile_cow.specs.Block.{IsWritten};
 
+use crate::block::Block;
+use crate::owner::Owner;
 use no_memory::NoMemory;
-use std::alloc::{AllocError, Global};
+use std::alloc::Global;
 use std::marker::Model;
-use std::sync::Arc;
+use core::mem;
 
 /// From 1 to 65,536 bytes. Tiles may share the memory of equal bytes until one of them is written,
 /// and no owner sees another's writes. Dropping a tile takes no memory.
-#[derive(Drop)]
 pub struct Tile {
-    block: Arc<Vec<u8>>,
+    owner: Owner,
+    alloc: Global,
 }
 
 impl Model for Tile {
@@ -21,9 +24,9 @@ impl Model for Tile {
 
     ghost Value = { List ℕ };
 
-    ghost view = { λ tile. tile.block.value.items };
+    ghost view = { λ tile. tile.owner.bytes };
 
-    ghost invariant = { λ tile. IsTileLength (length tile.block.value.items) };
+    ghost invariant = { λ tile. IsTileLength (length tile.owner.bytes) };
 }
 
 /// Where a write put its bytes.
@@ -36,13 +39,17 @@ pub enum Wrote {
     Copied,
 }
 
+/// Up to this many owners a block takes one owner more.
+const MAX_OWNERS: u64 = 1 << 40;
+
 impl Tile {
     /// A tile of `len` bytes, all zero.
     pub fn zero(alloc: Global, len: u32) -> Result<Tile, NoMemory>
         requires { IsTileLength len }
         ensures { IfOk result (λ tile. tile ≡ replicate len 0) }
     {
-        Tile::from_vec(alloc, vec![in alloc; 0; len as usize]?)
+        let block = Block::new(alloc, len as usize)?.zeroed();
+        Ok(Tile::from_block(alloc, block))
     }
 
     /// A tile of a copy of these bytes.
@@ -50,7 +57,8 @@ impl Tile {
         requires { IsTileLength (length bytes.now) }
         ensures { IfOk result (λ tile. tile ≡ bytes.now) }
     {
-        Tile::from_vec(alloc, Vec::from_slice(alloc, bytes)?)
+        let block = Block::new(alloc, bytes.len())?.overwrite(0, bytes);
+        Ok(Tile::from_block(alloc, block))
     }
 
     /// A tile of these bytes, which are not copied.
@@ -58,8 +66,15 @@ impl Tile {
         requires { IsTileLength (length bytes.items) }
         ensures { IfOk result (λ tile. tile ≡ bytes.items) }
     {
-        let block = Arc::new(alloc, bytes)?;
-        Ok(Tile { block })
+        Tile::of(alloc, &bytes)
+    }
+
+    fn from_block(alloc: Global, block: Block) -> Tile
+        requires { (block.owners ≡ 1) × IsWritten block.bytes block.filled × IsTileLength (length block.bytes) }
+        ensures { result ≡ block.bytes }
+    {
+        let owner = Owner::first(block);
+        Tile { owner, alloc }
     }
 
     /// Another owner of the same bytes. They are copied only where the block can't take one owner
@@ -67,9 +82,23 @@ impl Tile {
     pub fn share(&self, alloc: Global) -> Result<Tile, NoMemory>
         ensures { IfOk result (λ tile. tile ≡ self.now) }
     {
-        match Arc::try_clone(&self.block) {
-            Ok(block) => Ok(Tile { block }),
-            Err(_) => Tile::of(alloc, &self.block),
+        match self.another_owner() {
+            Some(owner) => Ok(Tile {
+                owner,
+                alloc: self.alloc,
+            }),
+            None => Tile::of(alloc, self.bytes()),
+        }
+    }
+
+    fn another_owner(&self) -> Option<Owner>
+        ensures { IfSome result (λ owner. owner.bytes ≡ self.now) }
+    {
+        let seen = self.owner.load();
+        if seen < MAX_OWNERS {
+            self.owner.join(seen)
+        } else {
+            None
         }
     }
 
@@ -78,7 +107,7 @@ impl Tile {
         ensures value { result.now ≡ self.now }
         ensures size { IsTileLength (length self.now) }
     {
-        self.block.as_slice()
+        self.owner.bytes()
     }
 
     /// Writes these bytes into the range that begins at byte `at`: in place where this is the only
@@ -91,33 +120,28 @@ impl Tile {
         ensures same_length { length self.new ≡ length self.old }
     {
         let at = at as usize;
-        match Arc::get_mut(&mut self.block) {
-            Some(own) => {
-                own[at..at + bytes.len()].copy_from_slice(bytes);
-                Ok(Wrote::InPlace)
-            }
-            None => {
-                let copy = overwritten_copy(alloc, &self.block, at, bytes)?;
-                self.block = Arc::new(alloc, copy)?;
-                Ok(Wrote::Copied)
-            }
+        if mem::replace_with(&mut self.owner, (at, bytes), write_alone) {
+            return Ok(Wrote::InPlace);
         }
+        let copy = Block::new(alloc, self.bytes().len())?.overwrite(0, self.bytes());
+        *self = Tile::from_block(alloc, copy.overwrite(at, bytes));
+        Ok(Wrote::Copied)
     }
 }
 
-/// A copy of the old bytes with these in the range that begins at byte `at`.
-fn overwritten_copy(
-    alloc: Global,
-    old: &[u8],
-    at: usize,
-    bytes: &[u8],
-) -> Result<Vec<u8>, AllocError>
-    requires { at + length bytes.now ≤ length old.now }
-    ensures { IfOk result (λ copy. copy.items ≡ overwritten old.now at bytes.now) }
-{
-    let mut copy = Vec::with_capacity(alloc, old.len())?;
-    copy.extend_from_slice(&old[..at])?;
-    copy.extend_from_slice(bytes)?;
-    copy.extend_from_slice(&old[at + bytes.len()..])?;
-    Ok(copy)
+/// Writes the bytes into the block where it has no other owner, and returns whether it had none.
+fn write_alone(owner: Owner, (at, bytes): (usize, &[u8])) -> (Owner, bool) {
+    match owner.claim() {
+        Ok(block) => (Owner::first(block.overwrite(at, bytes)), true),
+        Err(owner) => (owner, false),
+    }
+}
+
+impl Drop for Tile {
+    fn drop(self) {
+        let Tile { owner, alloc } = self;
+        if let Some(block) = owner.leave() {
+            block.free(alloc);
+        }
+    }
 }

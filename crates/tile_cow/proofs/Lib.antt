@@ -1,0 +1,6 @@
+mod Contents
+mod Fields
+mod Names
+mod Rooms
+mod Rows
+mod Sent
