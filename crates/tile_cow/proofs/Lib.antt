@@ -4,3 +4,4 @@ mod Names
 mod Rooms
 mod Rows
 mod Sent
+mod Steps

@@ -1,9 +1,8 @@
 -- The names that the walks cite.
-pub use Rattle.std.proofs.Common.{◌≡◌, ℕ, ◌+◌, ◌-◌, ◌*◌, ◌/◌, ◌%◌, ◌^◌, ◌<◌, ◌≤◌, Bool, true, false, List, [], ◌∷◌, ◌++◌, length, replicate, refl, sym, ap, ◌∙◌, subst, lit<, w64, arith, T}
+pub use Rattle.std.proofs.Common.{◌≡◌, ◌≢◌, ℕ, ◌+◌, ◌-◌, ◌*◌, ◌/◌, ◌%◌, ◌^◌, ◌<◌, ◌≤◌, Bool, true, false, List, [], ◌∷◌, ◌++◌, length, replicate, refl, sym, ap, ◌∙◌, subst, lit<, w64, arith, T}
 pub use mir.Syntax.{w8, Ty, ty_int, ty_array, ty_struct, tcons, tnil, named}
 pub use mir.Val.{Val, vint, vptr, vstruct, vcons, vnil, WT, has_ty, vunit}
 pub use base.Fraction.{full_share}
-pub use base.Share
 pub use base.Logic.{SProp, ent, sep, wand, emp, id⊢, never, fst∗, apply∗, via}
 pub use base.Fml.{Lft, Share, Fml, ftrue, fsep, fex, fat, froom, flft, finv, fhide, feq}
 pub use prog.Wp.{Env, WpFn}
@@ -28,3 +27,12 @@ pub use denote.Triple.Walked.{Stays, stay_dropped, walk_of, Goes-dropped}
 pub use Rattle.core.proofs.alloc.Shapes.{after}
 pub use Rattle.std.proofs.raw_atomic.Walks.{proved, proved_at, leaves}
 pub use Rattle.std_alloc.proofs.Pairs.{pair_val, pair_of}
+pub use base.Logic.{all_e}
+pub use lib.Dec.{eqb→eq, eqb}
+pub use types.Tokens.{lent_back}
+pub use denote.Ref.{shr_vals, shr_Tells}
+pub use Rattle.atomic_table.proofs.Calls.{fm, seq_cst, found, finds, loads, subs, exchanges}
+pub use Rattle.core.specs.declared.option.Option.TheVariants.{Some, None}
+pub use Rattle.core.specs.declared.result.Result.TheVariants.{Ok, Err}
+pub use Rattle.std_alloc.proofs.RcSteps.{some_Good, first_Good, Some-of, none_of, is_not}
+pub use Rattle.std_alloc.proofs.ResultValues.{ok_of, err_of}
