@@ -1,15 +1,22 @@
 -- The machine values of the crate's structs. Assumes `Logic`.
-use Rattle.std.proofs.Common.{◌≡◌, ℕ, List, [], ◌∷◌, ◌++◌, refl, ◌∙◌, lit<}
+use Rattle.std.proofs.Common.{◌≡◌, ℕ, List, [], ◌∷◌, ◌++◌, refl, subst, ◌∙◌, lit<}
 use seplogic.Ra.Ura.{Ura}
-use mir.Syntax.{Sym, ty_ptr, ty_struct, tcons, tnil}
+use mir.Raw.{raw as bare}
+use mir.Syntax.{Sym, Ty, ty_ptr, ty_struct, tcons, tnil}
 use mir.Val.{Val, vstruct, vcons, vnil, of_list}
 use base.Logic.{ent, emp}
-use base.Fml.{Fml}
+use base.Fml.{Lft, Share, Fml, fat, flft}
 use types.Logic.{Logic, sem}
-use denote.RattleType.{RattleType}
-use denote.RawPtr.{Ptr, RawPtr, block_ptr, null_ptr, ptr_val}
+use types.Kit.{Item, Goal, Seq, Step, Soaks, step, ‵, ◌$◌, move, drop, use1, rewrite, fsplit, fjoin, fpick, fpack, feq_i, feq_l}
+use denote.Copied.{Copied, plain_Copied, Struct-Copied}
+use denote.Memory.{cell_at, part_at, hidden_shr}
+use denote.Opens.{Shut}
+use denote.RattleType.{RattleType, Valss}
+use denote.RawPtr.{Ptr, RawPtr, block_ptr, null_ptr, ptr_val, coded_ptr, ptr_own, rawptr_pure}
 use denote.Shadow.{shadow, makes_shadow}
-use denote.Struct.Struct.{Struct}
+use denote.Steps.{nothing, looks, shuts}
+use denote.Struct.Laws.{RawPtr-laws}
+use denote.Struct.Struct.{Shape, Struct, within}
 use Rattle.core.proofs.cell.Inside.{Good}
 
 -- a struct by its fields alone: what it owns does not read its name
@@ -53,3 +60,32 @@ marked_made 𝓛 p = makes_shadow 𝓛 (marked_own p (marked p ∷ [])) (λ _. (
 pub marked_good : (p : Ptr) → Good (ty_struct [] (tcons ty_ptr (tcons (ty_struct [] tnil) tnil))) (marked p)
 marked_good (block_ptr b o) = (tt, (tt, (tt, tt)))
 marked_good null_ptr = (tt, (record { fits = lit< tt }, (tt, tt)))
+
+-- a struct of one pointer behind a `&`
+module _ (ν : Sym) where
+  abbrev one_field : Shape
+  one_field = record { name = ν; args = []; types = []; fields = RawPtr ∷ [] }
+
+  abbrev pub Pointer : RattleType
+  Pointer = Struct one_field
+
+  abbrev pub pointer_ty : Ty
+  pointer_ty = ty_struct ν (tcons ty_ptr tnil)
+
+  module _ (c : Ptr) {M : Type 1} {𝓤 : Ura M} {𝓛 : Logic 𝓤} {K : Type 0} {Γ : List (Item 𝓤)} {G : Goal 𝓤 𝓛.H} where
+    -- [the pointer; what shuts]
+    pub reads : K → Soaks G → {κ : Lft} {q : Share} (b o : ℕ) → ((q' : Share) → Seq K 𝓛 (‵ (fat q' pointer_ty b o (pointer c)) ∷ Shut 𝓛 κ q (part_at Pointer q' (c, tt) b o) ∷ Γ) G)
+        → Seq K 𝓛 (‵ (hidden_shr Pointer κ (c, tt) b o) ∷ ‵ (flft κ q) ∷ Γ) G
+    reads t z b o k =
+        let raw_copied : Copied 𝓛 RawPtr = plain_Copied 𝓛 Ptr coded_ptr (ty_ptr ∷ []) ptr_own rawptr_pure ptr_val RawPtr-laws.tells in
+        let copied : Copied 𝓛 Pointer = Struct-Copied 𝓛 one_field (refl, tt) (raw_copied, tt) in
+        looks t z Pointer copied.opens (c, tt) b o (λ q' vs. move t (3 ∷ []) $ drop t $ move t (1 ∷ []) $ fpick t (λ vss. fsplit t $ feq_l t (λ ev. fsplit t $ feq_l t (λ e. drop t $
+        rewrite t 0 (λ (us : List Val). ‵ (cell_at q' (pointer_ty ∷ []) us b o)) (subst (λ (ws : List Val). vs ≡ vstruct (of_list (ws ++ [])) ∷ []) e ev) refl $
+        use1 𝓛 (‵ (fat q' pointer_ty b o (pointer c))) (𝓛.laws.raw_at q' pointer_ty b o (pointer c)) $ k q'))))
+
+    pub reads_back : K → Soaks G → {κ : Lft} {q : Share} (b o : ℕ) (q' : Share)
+        → Step K 𝓛 (‵ (flft κ q) ∷ Γ) G (‵ (fat q' pointer_ty b o (pointer c)) ∷ Shut 𝓛 κ q (part_at Pointer q' (c, tt) b o) ∷ Γ) G
+    reads_back t z b o q' = step (λ s.
+        use1 𝓛 (‵ (fat q' (bare pointer_ty) b o (pointer c))) (𝓛.laws.at_raw q' pointer_ty b o (pointer c)) $
+        nothing t $ feq_i t (List Val) (ptr_val c ∷ []) (ptr_val c ∷ []) refl $ fjoin t $ feq_i t (List Val) (pointer c ∷ []) (pointer c ∷ []) refl $ fjoin t $
+        fpack t (Valss (RawPtr ∷ [])) (within one_field (c, tt) (pointer c ∷ [])) (ptr_val c ∷ [], tt) $ move t (1 ∷ 0 ∷ []) $ shuts t z Pointer q' (c, tt) (pointer c ∷ []) b o $ s)
