@@ -1,14 +1,15 @@
 -- The machine values of the crate's structs. Assumes `Logic`.
-use Rattle.std.proofs.Common.{◌≡◌, ℕ, List, [], ◌∷◌, ◌++◌, refl, subst, ◌∙◌, lit<}
+use Rattle.std.proofs.Common.{◌≡◌, ℕ, ◌^◌, ◌<◌, List, [], ◌∷◌, ◌++◌, refl, subst, ◌∙◌, lit<}
 use seplogic.Ra.Ura.{Ura}
 use mir.Raw.{raw as bare}
-use mir.Syntax.{Sym, Ty, ty_ptr, ty_struct, tcons, tnil}
-use mir.Val.{Val, vstruct, vcons, vnil, of_list}
+use mir.Syntax.{Sym, Ty, w64, ty_int, ty_ptr, ty_struct, tcons, tnil}
+use mir.Val.{Val, vint, vstruct, vcons, vnil, of_list}
 use base.Logic.{ent, emp}
 use base.Fml.{Lft, Share, Fml, fat, flft}
 use types.Logic.{Logic, sem}
-use types.Kit.{Item, Goal, Seq, Step, Soaks, step, ‵, ◌$◌, move, drop, use1, rewrite, fsplit, fjoin, fpick, fpack, feq_i, feq_l}
-use denote.Copied.{Copied, plain_Copied, Struct-Copied}
+use types.Kit.{Item, Goal, Seq, Step, Soaks, step, ‵, ◌$◌, move, drop, use1, rewrite, fsplit, fjoin, fpick, fpack, feq_i, feq_l, flt_i, flt_l}
+use denote.Builtin.{u64}
+use denote.Copied.{Copied, plain_Copied, Struct-Copied, uint_Copied}
 use denote.Memory.{cell_at, part_at, hidden_shr}
 use denote.Opens.{Shut}
 use denote.RattleType.{RattleType, Valss}
@@ -89,3 +90,16 @@ module _ (ν : Sym) where
         use1 𝓛 (‵ (fat q' (bare pointer_ty) b o (pointer c))) (𝓛.laws.at_raw q' pointer_ty b o (pointer c)) $
         nothing t $ feq_i t (List Val) (ptr_val c ∷ []) (ptr_val c ∷ []) refl $ fjoin t $ feq_i t (List Val) (pointer c ∷ []) (pointer c ∷ []) refl $ fjoin t $
         fpack t (Valss (RawPtr ∷ [])) (within one_field (c, tt) (pointer c ∷ [])) (ptr_val c ∷ [], tt) $ move t (1 ∷ 0 ∷ []) $ shuts t z Pointer q' (c, tt) (pointer c ∷ []) b o $ s)
+
+-- a `u64` that is lent
+module _ (n : ℕ) {M : Type 1} {𝓤 : Ura M} {𝓛 : Logic 𝓤} {K : Type 0} {Γ : List (Item 𝓤)} {G : Goal 𝓤 𝓛.H} where
+  -- [the word; what shuts]
+  pub size_reads : K → Soaks G → {κ : Lft} {q : Share} (b o : ℕ) → ((q' : Share) → n < 2 ^ 64 → Seq K 𝓛 (‵ (fat q' (ty_int w64) b o (vint w64 n)) ∷ Shut 𝓛 κ q (part_at u64 q' n b o) ∷ Γ) G)
+      → Seq K 𝓛 (‵ (hidden_shr u64 κ n b o) ∷ ‵ (flft κ q) ∷ Γ) G
+  size_reads t z b o k = looks t z u64 (uint_Copied 𝓛 w64).opens n b o (λ q' vs. move t (3 ∷ []) $ drop t $ move t (1 ∷ []) $ fsplit t $ feq_l t (λ e. flt_l t (λ small.
+      rewrite t 0 (λ (us : List Val). ‵ (cell_at q' (ty_int w64 ∷ []) us b o)) e refl $ k q' small)))
+
+  pub size_reads_back : K → Soaks G → {κ : Lft} {q : Share} (b o : ℕ) (q' : Share) → n < 2 ^ 64
+      → Step K 𝓛 (‵ (flft κ q) ∷ Γ) G (‵ (fat q' (ty_int w64) b o (vint w64 n)) ∷ Shut 𝓛 κ q (part_at u64 q' n b o) ∷ Γ) G
+  size_reads_back t z b o q' small = step (λ s.
+      flt_i t n (2 ^ 64) small $ feq_i t (List Val) (vint w64 n ∷ []) (vint w64 n ∷ []) refl $ fjoin t $ move t (1 ∷ 0 ∷ []) $ shuts t z u64 q' n (vint w64 n ∷ []) b o $ s)

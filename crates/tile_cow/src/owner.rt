@@ -1,5 +1,5 @@
 //! One of the owners of a block, and the four kinds of step on its count.
-ghost use Rattle.std.specs.Prelude.{◌≡◌, ◌<◌, ◌^◌, ℕ, List, IfSome, MatchResult};
+ghost use Rattle.std.specs.Prelude.{◌≡◌, ◌<◌, ◌^◌, ℕ, List, length, IfSome, MatchResult};
 ghost use Rattle.tile_cow.specs.Tile.{IsTileLength};
 ghost use Rattle.tile_cow.specs.Block.{IsWritten};
 ghost use Rattle.tile_cow.specs.Owner.{owner_has, owner_lends};
@@ -79,6 +79,7 @@ impl Owner {
 
     /// Returns the bytes.
     pub(crate) fn bytes(&self) -> &[u8]
+        requires { IsTileLength (length self.now.bytes) }
         ensures { result.now ≡ self.now.bytes }
     {
         unsafe {
