@@ -1,5 +1,6 @@
 mod Contents
 mod Fields
+mod Layouts
 mod Names
 mod Rooms
 mod Rows
