@@ -15,7 +15,7 @@ use denote.Struct.Struct.{exits_of}
 use denote.Struct.Owning.{shape, fields, to}
 use denote.Param.Send.{IsSend, IsSync, Common, AllSend, part_keyless, owning_send, struct_send, struct_sync, sendable}
 use Rattle.core.specs.Thread.Scope.{refcount_if_alive}
-use Rattle.std_heap.proofs.GlobalAllocator.TheSendSync.FreesAnywhere as Global
+use Rattle.std.proofs.Crossing as Crossing
 use Rattle.std_alloc.proofs.SendSync.{seen, quiet}
 use Rattle.tile_cow.specs.Block.{block_type}
 use Rattle.tile_cow.specs.Owner.{content, lent, owner_has, owner_lends}
@@ -41,7 +41,7 @@ bytes_sync n = search sendable
 
 content_keyless : (b o : ℕ) (xs : List ℕ) → Keyless (content b o xs)
 content_keyless b o xs = let n = length xs in
-    ((part_keyless u64 size_send full_share n b (8 + o), part_keyless (Array u8 n) (bytes_send n) full_share xs b (16 + o)), ((λ _. tt), (Global.frees.frees (record { memory = record { seal = tt } }) (block_type n) (block_ptr b o), tt)))
+    ((part_keyless u64 size_send full_share n b (8 + o), part_keyless (Array u8 n) (bytes_send n) full_share xs b (16 + o)), ((λ _. tt), (Crossing.frees.frees (record { memory = record { seal = tt } }) (block_type n) (block_ptr b o), ((tt, (tt, tt)), tt))))
 
 lent_common : (b o : ℕ) (xs : List ℕ) (κ : Lft) → Keyless (lent b o xs κ)
 lent_common b o xs κ = (seen u64 size_sync (block_ptr b (8 + o)) (length xs) κ, seen (Array u8 (length xs)) (bytes_sync (length xs)) (block_ptr b (16 + o)) xs κ)

@@ -1,6 +1,6 @@
 //! A tile and its owners.
 
-ghost use Rattle.std.specs.Prelude.{◌≡◌, ◌+◌, ◌≤◌, ◌^◌, ◌<◌, IfOk, IfSome, IsTrue, OnErr, OnOk, length, replicate, ℕ, List};
+ghost use Rattle.std.specs.Prelude.{◌≡◌, ◌+◌, ◌≤◌, ◌^◌, ◌<◌, IfOk, IfSome, IsTrue, OnErr, OnOk, length, replicate, ℕ, List, true, false};
 ghost use Rattle.tile_cow.specs.Tile.{IsTileLength, overwritten};
 ghost use Rattle.tile_cow.specs.Block.{IsWritten};
 
@@ -130,9 +130,13 @@ impl Tile {
 }
 
 /// Writes the bytes into the block where it has no other owner, and returns whether it had none.
-fn write_alone(owner: Owner, (at, bytes): (usize, &[u8])) -> (Owner, bool) {
+fn write_alone(owner: Owner, patch: (usize, &[u8])) -> (Owner, bool)
+    requires { patch.0 + length patch.1.now ≤ length owner.bytes }
+    ensures written { result.1 ≡ true → result.0.bytes ≡ overwritten owner.bytes patch.entry.0 patch.entry.1.now }
+    ensures unchanged { result.1 ≡ false → result.0.bytes ≡ owner.bytes }
+{
     match owner.claim() {
-        Ok(block) => (Owner::first(block.overwrite(at, bytes)), true),
+        Ok(block) => (Owner::first(block.overwrite(patch.0, patch.1)), true),
         Err(owner) => (owner, false),
     }
 }
