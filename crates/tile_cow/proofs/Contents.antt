@@ -1,26 +1,26 @@
 -- A whole block becomes one that an owner shares, and comes back from the last owner. Assumes `Logic`.
-use mathlib.Core.Path.{◌≡◌, refl, sym}
+use mathlib.Core.Path.{◌≡◌, refl}
 use mathlib.Core.Bool.{Bool, true, false}
 use mathlib.Core.List.{List, [], ◌∷◌}
-use Prim.Native.Nat.{ℕ, ◌+◌, ◌<◌, ◌≤◌}
-use lib.ListN.{length, replicate, get_or, length-replicate, get_or-replicate}
+use Prim.Native.Nat.{ℕ, ◌+◌}
+use lib.ListN.{length, replicate, length-replicate, get_or-replicate}
 use seplogic.Ra.Ura.{Ura}
 use base.Fraction.{full_share}
-use base.Logic.{SProp, ent, sep}
-use base.Fml.{Fml, ftrue, fsep, fex, flft, Incl-refl}
+use base.Logic.{ent, sep}
+use base.Fml.{ftrue, flft, Incl-refl}
 use types.Logic.{Logic, sem}
-use types.Kit.{‵, raw, ◌⊛◌, later, ◌$◌, ◌∵◌, !, qed, by, move, keep, drop, use0, use1, use2, split, fsplit, fsplit3, fjoin, fjoin3, fpick, fpack, await, updating, now, done}
+use types.Kit.{‵, ◌⊛◌, later, ◌$◌, ◌∵◌, !, qed, move, keep, drop, use0, use1, use2, split, fsplit, fsplit3, fjoin, fjoin3, fpick, fpack, await, updating, now, done}
 use denote.Builtin.{u8, u64}
 use denote.Array.{Array}
 use denote.Memory.{part_at}
-use denote.RawPtr.{Ptr, block_ptr}
+use denote.RawPtr.{block_ptr}
 use denote.Steps.{nothing}
 use Rattle.core.specs.Mem.Slots.Ownership.{slots}
 use Rattle.core.proofs.mem.Param.{El}
 use Rattle.core.proofs.slots.Runs.{to_values, of_values}
 use Rattle.core.proofs.tally.Steps.{word_out, word_in}
 use Rattle.std_alloc.proofs.ArcSteps.{counted}
-use Rattle.tile_cow.specs.Block.{fact, IsWritten, count, size, freed_by, frame_owns, block_owns}
+use Rattle.tile_cow.specs.Block.{IsWritten, count, size, block_owns}
 use Rattle.tile_cow.specs.Owner.{content, lent, owner_has}
 use Rattle.tile_cow.proofs.Rows.{byte_laws, lent_laws, content_lends}
 

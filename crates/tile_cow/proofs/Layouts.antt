@@ -1,6 +1,6 @@
 -- How many bytes a block takes, and how it is aligned.
 use mathlib.Core.Path.{◌≡◌, refl, ap, ◌∙◌}
-use Prim.Native.Nat.{ℕ, ◌+◌, ◌*◌, ◌/◌, ◌≤◌, ◌<◌, ◌^◌}
+use Prim.Native.Nat.{ℕ, ◌+◌, ◌*◌, ◌/◌, ◌≤◌}
 use native.Mathlib.Omega.{arith}
 use prog.Memory.{size, align, capped}
 use prog.Capped.{capped_is}

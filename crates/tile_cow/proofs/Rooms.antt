@@ -1,16 +1,15 @@
 -- Room for a block is cut into its three parts, which give the room back. Assumes `Logic`.
-use mathlib.Core.Path.{◌≡◌, refl, sym}
+use mathlib.Core.Path.{◌≡◌, refl}
 use mathlib.Core.List.{[], ◌∷◌}
-use Prim.Native.Nat.{ℕ, zero, ◌+◌, ◌*◌, ◌/◌, ◌≤◌, ◌<◌, ◌^◌}
+use Prim.Native.Nat.{ℕ, zero, ◌+◌}
 use native.Mathlib.Omega.{arith}
 use seplogic.Ra.Ura.{Ura}
-use mir.Syntax.{Ty, Tys, tnil, tcons, w8, w64, ty_int, ty_array}
+use mir.Syntax.{Tys, tnil, tcons, w8, w64, ty_int, ty_array}
 use base.Logic.{SProp, ent, sep, wand, apply∗}
-use base.Fml.{Fml, ftrue, fsep, froom}
-use prog.Memory.{size, align, capped}
+use base.Fml.{ftrue, froom}
 use prog.Model.{rooms_at}
 use types.Logic.{Logic, sem}
-use types.Kit.{‵, raw, ◌⊛◌, ◌$◌, ◌∵◌, !, qed, by, move, keep, group, use1, use2, split, split3, rewrite, assume, done}
+use types.Kit.{‵, raw, ◌⊛◌, ◌$◌, ◌∵◌, !, qed, by, move, keep, group, use1, split, split3, rewrite, assume, done}
 use denote.Steps.{nothing}
 use Rattle.tile_cow.specs.Block.{block_type, rejoins}
 

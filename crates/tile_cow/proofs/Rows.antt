@@ -4,7 +4,7 @@ use mathlib.Core.Path.{refl}
 use mathlib.Core.List.{List, [], ◌∷◌}
 use lib.ListN.{length}
 use base.Fraction.{full_share}
-use base.Fml.{Lft, Fml, ffalse, fsep, flft}
+use base.Fml.{ffalse, fsep, flft}
 use types.Logic.{Logic}
 use seplogic.Ra.Ura.{Ura}
 use denote.Builtin.{u8, u64}
@@ -14,7 +14,7 @@ use denote.Param.Laws.{Laws, of_field, array_laws}
 use denote.Param.Shared.{copy_shared}
 use denote.Struct.Field.{u8-field, u64-field}
 use denote.Struct.Laws.{u8-laws, u8-copy, u64-laws, u64-copy}
-use denote.Sharing.{ShrLaws, said, beside, some, one, held, always}
+use denote.Sharing.{ShrLaws, beside, one, held, always}
 use denote.SharingLaws.{said_shr_laws, some_shr_laws, beside_shr_laws, one_shr_laws, always_shr_laws, held_shr_laws}
 use denote.Struct.Lending.{Lends, Lends-lies, Lends-first, Lends-both, Lends-false, lent_at, lent_at_shr_laws}
 use Rattle.core.specs.Thread.Scope.{refcount_invariant}

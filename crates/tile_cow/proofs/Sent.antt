@@ -4,16 +4,14 @@ use mathlib.Core.List.{List, [], ◌∷◌}
 use Prim.Native.Nat.{ℕ, ◌+◌}
 use lib.ListN.{length}
 use base.Fraction.{full_share}
-use base.Fml.{Lft, Fml}
+use base.Fml.{Lft}
 use base.Shift.{Keyless}
-use denote.Exit.{Exit, unchanged, leaves, hidden, under}
-use denote.RattleType.{RattleType}
 use denote.Builtin.{RawPtr, u8, u64}
 use denote.Array.{Array}
 use denote.RawPtr.{Ptr, block_ptr, null_ptr}
 use denote.Struct.Struct.{exits_of}
 use denote.Struct.Owning.{shape, fields, to}
-use denote.Param.Send.{IsSend, IsSync, Common, AllSend, part_keyless, owning_send, struct_send, struct_sync, sendable}
+use denote.Param.Send.{IsSend, IsSync, AllSend, part_keyless, owning_send, struct_send, struct_sync, sendable}
 use Rattle.core.specs.Thread.Scope.{refcount_if_alive}
 use Rattle.std.proofs.Crossing as Crossing
 use Rattle.std_alloc.proofs.SendSync.{seen, quiet}

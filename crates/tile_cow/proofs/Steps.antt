@@ -3,14 +3,14 @@
 --     joins      and adds one to it, where it is the number that the caller has seen
 --     claims     an owner that reads 1 has the block
 --     leaves     an owner takes one off, and who finds 1 has the block
-use Rattle.std.proofs.Common.{◌≡◌, ◌≢◌, ℕ, ◌+◌, ◌-◌, ◌%◌, ◌^◌, ◌<◌, eqb, Bool, true, false, List, [], ◌∷◌, sym, refl, subst, arith, eq-eqb, ne_eqb, lit<}
+use Rattle.std.proofs.Common.{◌≡◌, ◌≢◌, ℕ, ◌+◌, ◌-◌, ◌%◌, ◌^◌, ◌<◌, eqb, Bool, true, false, List, [], ◌∷◌, sym, refl, subst, arith, eq-eqb, ne_eqb}
 use mathlib.Core.Logic.{dite}
 use mathlib.Core.List.{Mem, not-mem-nil}
 use native.Mathlib.Decide.{ℕ_discrete}
 use seplogic.Ra.Ura.{Ura}
 use base.Fraction.{full_share}
 use base.Logic.{SProp, ent, sep, wand, ex, all, guard, upd, upd_i, ex_i, ex∗, via, never, never_e, emp}
-use base.Fml.{Lft, Share, Fml, ftrue, fsep, fex, fall, fat, flft, fdead, flent, finv, fnamed}
+use base.Fml.{Share, Fml, fsep, fex, fall, flft, fdead, flent, finv, fnamed}
 use prog.Atomic.{either}
 use types.Logic.{Logic, sem}
 use types.Kit.{‵, raw, ◌⊛◌, some, given, ◌$◌, ◌∵◌, !, qed, by, move, keep, drop, split, split3, fsplit, fsplit3, fjoin, fjoin3, fpick, fpack, pick, learn, show, check, frame, each, assume, suffices, use1, use2, rewrite, done}
@@ -95,8 +95,9 @@ module _ (P : Fml) (b o a : ℕ) where
     -- who holds a share of the token finds the count
     finds : (X G : Pr) → A.dead (a ∷ []) ∗ X ⊢ never 𝓤 → ((n : ℕ) → ⟦ state n ⟧ ∗ X ⊢ G) → ⟦ Count ⟧ ∗ X ⊢ G
     finds X G none h = ex∗ 𝓤 (λ (y : Bool). ⟦ refcount_if_alive P b o a y ⟧) X (λ y. elim y as (λ y. ⟦ refcount_if_alive P b o a y ⟧ ∗ X ⊢ G) [
-        true ↦ ex∗ 𝓤 (λ (n : ℕ). ⟦ state n ⟧) X h
-      | false ↦ via 𝓤 (never 𝓤) none (never_e 𝓤 G) ])
+      | true ↦ ex∗ 𝓤 (λ (n : ℕ). ⟦ state n ⟧) X h
+      | false ↦ via 𝓤 (never 𝓤) none (never_e 𝓤 G)
+    ])
 
     not_ended : (s : Share) → A.dead (a ∷ []) ∗ A.lft (a ∷ []) s ⊢ never 𝓤
     not_ended s = qed 𝓛 (‵ (fdead (a ∷ [])) ∷ ‵ (flft (a ∷ []) s) ∷ []) ∵ move ! (1 ∷ []) $ by ! (𝓛.lfts.lft-dead (a ∷ []) s)

@@ -1,5 +1,5 @@
 -- What the owner of a whole block owns. A block begins with the count of its owners and its length, each of 8 bytes. The bytes follow.
-use Rattle.std.specs.Prelude.{◌≡◌, ℕ, ◌+◌, ◌<◌, Bool, false, true, List, [], ◌∷◌, length, slice_index_or}
+use Rattle.std.specs.Prelude.{◌≡◌, ℕ, ◌+◌, Bool, List, [], length}
 use mir.Syntax.{Ty, w8, w64, ty_int, ty_array, ty_struct, tcons, tnil}
 use mir.Val.{vint}
 use base.Fraction.{full_share}

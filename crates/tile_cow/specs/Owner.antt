@@ -1,7 +1,7 @@
 -- What an owner of a block owns and lends. Each owner has one part in 2 ^ 63 of the token of a lifetime, for which the bytes are shared. An invariant has the count and the other parts, and the last owner gets the whole block.
-use Rattle.std.specs.Prelude.{◌≡◌, ℕ, ◌+◌, List, length}
+use Rattle.std.specs.Prelude.{ℕ, ◌+◌, List, length}
 use base.Fraction.{full_share}
-use base.Fml.{Lft, Fml, ftrue, ffalse, fsep, fex}
+use base.Fml.{Lft, Fml, ffalse, fsep, fex}
 use denote.RawPtr.{Ptr, block_ptr, null_ptr, lies_at}
 use denote.Builtin.{u8, u64}
 use denote.Array.{Array}

@@ -6,10 +6,10 @@ ghost use Rattle.tile_cow.specs.Block.{IsWritten};
 
 use crate::block::Block;
 use crate::owner::Owner;
+use core::mem;
 use no_memory::NoMemory;
 use std::alloc::Global;
 use std::marker::Model;
-use core::mem;
 
 /// From 1 to 65,536 bytes. Tiles may share the memory of equal bytes until one of them is written,
 /// and no owner sees another's writes. Dropping a tile takes no memory.

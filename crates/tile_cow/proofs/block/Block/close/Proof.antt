@@ -1,5 +1,5 @@
 -- `close` takes the places back from the slots.
-use Rattle.tile_cow.proofs.Names.{◌≡◌, ℕ, ◌+◌, ◌*◌, ◌^◌, ◌<◌, ◌≤◌, Bool, false, List, [], ◌∷◌, ◌++◌, length, replicate, refl, sym, ap, ◌∙◌, subst, lit<, w64, arith, w8, Ty, ty_int, ty_array, Val, vint, SProp, ent, emp, id⊢, never, fst∗, apply∗, Fml, ftrue, fsep, fat, flft, froom, Env, WpFn, sem, ‵, raw, ◌⊛◌, some, given, later, at_ret, ◌$◌, ◌∵◌, !, qed, by, move, keep, drop, group, learn, pick, await, join, use0, use1, use2, split, split3, rewrite, fsplit, fsplit3, fjoin, fjoin3, fpick, fpack, feq_i, flt_i, suffices, whole, sub, agg, stop, fld, load, look, lit, of_opd, bin, init, no_more, and_then, assigns, assigns_last, first, blocks, exec, returns, enter, alloc_all, pass_all, free_all, look_at, get, get_in, through, is, sets, sets_last, lands_last, env, fact, fact_i, tables, RattleType, owns, u8, plain, types_at, Ptr, block_ptr, null_ptr, ptr_val, in_a_block, Tuple, heard, nothing, calls_at_last, Stays, stay_dropped, walk_of, Goes-dropped, after, proved_at, leaves, pair_val, pair_of, sep, T, has_ty, WT, full_share}
+use Rattle.tile_cow.proofs.Names.{◌≡◌, ℕ, ◌+◌, Bool, List, [], ◌∷◌, ◌++◌, length, refl, sym, ap, ◌∙◌, subst, Val, SProp, ent, emp, id⊢, never, ftrue, flft, WpFn, ‵, raw, ◌⊛◌, given, later, at_ret, ◌$◌, ◌∵◌, !, qed, by, move, keep, drop, learn, await, use0, use1, use2, split, rewrite, fsplit, fsplit3, fjoin, fpack, suffices, whole, sub, agg, stop, fld, of_opd, no_more, and_then, first, blocks, exec, returns, enter, alloc_all, pass_all, free_all, look_at, get, get_in, is, sets, lands_last, env, fact, fact_i, tables, RattleType, owns, u8, plain, types_at, Ptr, block_ptr, ptr_val, in_a_block, heard, nothing, calls_at_last, Stays, stay_dropped, walk_of, Goes-dropped, after, proved_at, leaves, WT, full_share}
 use contract.BorrowLft.{⊑_static}
 use Rattle.core.specs.Mem.Slots.{slots_items, slots_filled, slots_ptr, slots_len, slots_counts}
 use Rattle.core.specs.Mem.Slots.Ownership.{slots}
@@ -8,12 +8,12 @@ use Rattle.core.proofs.slots.Opens.{row_val}
 use Rattle.core.proofs.slots.Slots.into_raw_parts.Met as callee
 use Rattle.atomic_table.proofs.Calls.{fm}
 use Rattle.atomic_table.proofs.Raw.{Row, parts_typed, Row-seen, Into, at_into, Into-goes, Into-gives}
-use Rattle.tile_cow.specs.Block.{freed_by, frame_owns, block_owns, bytes_at}
+use Rattle.tile_cow.specs.Block.{frame_owns, bytes_at}
 use Rattle.tile_cow.specs.contracts.block.Block as Block
 use Rattle.tile_cow.specs.contracts.block.Frame as Frame
 use Rattle.tile_cow.specs.contracts.block.Block.close.{ended, clauses, signature}
 use Rattle.tile_cow.specs.contracts.block.Block.close.Key.{name as #self}
-use Rattle.tile_cow.proofs.Fields.{pointer, pointer_told, pointer_own, pointer_made, pointer_good, ptr_good}
+use Rattle.tile_cow.proofs.Fields.{pointer, pointer_told, pointer_own, pointer_made, pointer_good}
 use Rattle.tile_cow.proofs.Rows.{byte_laws}
 use Rattle.tile_cow.proofs.Contents.{Byte}
 use Rattle.tile_cow.proofs.block.Block.close.Statement.{statement}

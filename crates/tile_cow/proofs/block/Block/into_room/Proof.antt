@@ -1,15 +1,15 @@
 -- `into_room` reads the length, and joins the parts of the block.
-use Rattle.tile_cow.proofs.Names.{◌≡◌, ℕ, ◌+◌, ◌^◌, ◌<◌, Bool, false, List, [], ◌∷◌, length, replicate, refl, sym, ap, ◌∙◌, subst, lit<, w64, arith, w8, Ty, ty_int, ty_array, Val, vint, SProp, emp, id⊢, never, fst∗, apply∗, Fml, ftrue, fsep, fat, froom, Env, sem, ‵, raw, ◌⊛◌, given, at_ret, ◌$◌, ◌∵◌, !, qed, by, move, keep, drop, group, learn, use0, use1, use2, split, split3, rewrite, fsplit, fsplit3, fjoin, fjoin3, fpick, fpack, feq_i, flt_i, whole, sub, agg, stop, fld, load, look, lit, of_opd, bin, init, no_more, and_then, assigns, assigns_last, first, blocks, exec, returns, enter, alloc_all, pass_all, free_all, look_at, get, get_in, through, is, sets, sets_last, env, fact, fact_i, tables, RattleType, owns, usize, plain, types_at, Ptr, block_ptr, null_ptr, ptr_val, room_for, in_a_block, Tuple, heard, nothing, Stays, stay_dropped, walk_of, Goes-dropped, after, proved, leaves, pair_val, pair_of, sep, T, has_ty, WT, full_share}
+use Rattle.tile_cow.proofs.Names.{◌≡◌, ℕ, ◌+◌, ◌^◌, Bool, List, [], ◌∷◌, length, refl, ap, w64, w8, Ty, ty_int, ty_array, Val, vint, SProp, emp, id⊢, never, apply∗, ftrue, fat, froom, ‵, raw, ◌⊛◌, given, at_ret, ◌$◌, ◌∵◌, !, qed, by, move, keep, drop, group, learn, use0, use1, use2, split, fsplit, fsplit3, fjoin, fpick, fpack, feq_i, flt_i, whole, sub, agg, stop, fld, load, look, lit, of_opd, bin, no_more, and_then, first, blocks, exec, returns, enter, alloc_all, pass_all, free_all, look_at, get, get_in, through, is, sets, sets_last, env, fact, fact_i, tables, RattleType, owns, usize, plain, types_at, Ptr, block_ptr, ptr_val, in_a_block, Tuple, nothing, Stays, stay_dropped, walk_of, Goes-dropped, after, proved, leaves, pair_val, pair_of, sep, T, has_ty, WT, full_share}
 use Rattle.core.proofs.slots.Runs.{to_space}
 use Rattle.std_heap.specs.contracts.Global as Global
 use Rattle.std_heap.specs.contracts.GlobalAllocator.TheImpl as TheImpl
 use Rattle.tile_cow.specs.Tile.{IsTileLength}
-use Rattle.tile_cow.specs.Block.{block_type, room_owns, frees, rejoins, block_owns}
+use Rattle.tile_cow.specs.Block.{block_type, block_owns}
 use Rattle.tile_cow.specs.contracts.room.Room as Room
 use Rattle.tile_cow.specs.contracts.block.Block as Block
 use Rattle.tile_cow.specs.contracts.block.Block.into_room.{ended, clauses, signature}
 use Rattle.tile_cow.specs.contracts.block.Block.into_room.Key.{name as #self}
-use Rattle.tile_cow.proofs.Fields.{pointer, pointer_told, pointer_good, ptr_good, marked, marked_own, marked_made, marked_good}
+use Rattle.tile_cow.proofs.Fields.{pointer, pointer_told, pointer_good, marked, marked_own, marked_made, marked_good}
 use Rattle.tile_cow.proofs.Contents.{Byte}
 use Rattle.tile_cow.proofs.block.Block.into_room.Statement.{statement}
 use Rattle.tile_cow.proofs.block.Block.into_room.Code as code

@@ -1,17 +1,17 @@
 -- `make` writes the two words, and the bytes are empty places.
-use Rattle.tile_cow.proofs.Names.{◌≡◌, ℕ, ◌+◌, ◌^◌, ◌<◌, Bool, false, List, [], ◌∷◌, length, replicate, refl, sym, ap, ◌∙◌, subst, lit<, w64, arith, w8, Ty, ty_int, ty_array, Val, vint, SProp, emp, id⊢, never, fst∗, Fml, ftrue, fsep, froom, Env, sem, ‵, raw, ◌⊛◌, at_ret, ◌$◌, ◌∵◌, !, qed, by, move, keep, drop, use0, use1, split, split3, rewrite, fsplit, fsplit3, fjoin, fjoin3, fpick, fpack, whole, sub, agg, stop, fld, lit, of_opd, bin, init, no_more, and_then, assigns, assigns_last, first, blocks, exec, returns, enter, alloc_all, pass_all, free_all, look_at, get, get_in, through, is, sets, env, fact, fact_i, tables, RattleType, owns, usize, plain, types_at, Ptr, block_ptr, null_ptr, ptr_val, room_for, in_a_block, uint_vals, uint_Tells, heard, nothing, Stays, stay_dropped, walk_of, Goes-dropped, after, proved, leaves}
+use Rattle.tile_cow.proofs.Names.{◌≡◌, ℕ, ◌+◌, ◌^◌, ◌<◌, Bool, false, List, [], ◌∷◌, length, replicate, refl, sym, ap, ◌∙◌, lit<, w64, w8, Ty, ty_int, ty_array, Val, vint, SProp, emp, never, fst∗, ftrue, fsep, froom, sem, ‵, raw, ◌⊛◌, at_ret, ◌$◌, ◌∵◌, !, qed, by, move, keep, drop, use0, use1, split, split3, rewrite, fsplit, fjoin, fpick, fpack, whole, sub, agg, stop, fld, lit, of_opd, bin, init, no_more, and_then, assigns, assigns_last, first, blocks, exec, returns, enter, alloc_all, pass_all, free_all, look_at, get, get_in, through, is, sets, env, fact, fact_i, tables, RattleType, owns, usize, plain, types_at, Ptr, block_ptr, null_ptr, ptr_val, room_for, in_a_block, uint_vals, uint_Tells, heard, nothing, Stays, stay_dropped, walk_of, Goes-dropped, after, proved, leaves}
 use lib.ListN.{length-replicate}
 use Rattle.core.specs.Mem.Slots.Ownership.{slots}
 use Rattle.core.proofs.slots.Runs.{of_space}
 use Rattle.std_heap.specs.contracts.Global as Global
 use Rattle.std_heap.specs.contracts.GlobalAllocator.TheImpl as TheImpl
 use Rattle.tile_cow.specs.Tile.{IsTileLength}
-use Rattle.tile_cow.specs.Block.{block_type, room_owns, frees, rejoins, frame_owns, block_owns}
+use Rattle.tile_cow.specs.Block.{block_type, room_owns, frees, rejoins, frame_owns}
 use Rattle.tile_cow.specs.contracts.room.Room as Room
 use Rattle.tile_cow.specs.contracts.block.Block as Block
 use Rattle.tile_cow.specs.contracts.block.Block.make.{ended, clauses, signature}
 use Rattle.tile_cow.specs.contracts.block.Block.make.Key.{name as #self}
-use Rattle.tile_cow.proofs.Fields.{pointer, pointer_own, pointer_made, pointer_good, ptr_good, marked, marked_told, marked_good}
+use Rattle.tile_cow.proofs.Fields.{pointer, pointer_own, pointer_made, pointer_good, marked, marked_told, marked_good}
 use Rattle.tile_cow.proofs.Contents.{Byte}
 use Rattle.tile_cow.proofs.Rooms.{room_parts}
 use Rattle.tile_cow.proofs.block.Block.make.Statement.{statement}

@@ -1,5 +1,5 @@
 -- `open` reads the length, and makes slots of the bytes.
-use Rattle.tile_cow.proofs.Names.{◌≡◌, ℕ, ◌+◌, ◌*◌, ◌^◌, ◌<◌, ◌≤◌, Bool, false, List, [], ◌∷◌, length, replicate, refl, sym, ap, ◌∙◌, subst, lit<, w64, arith, w8, Ty, ty_int, ty_array, Val, vint, SProp, emp, id⊢, never, fst∗, apply∗, Fml, ftrue, fsep, fat, flft, froom, Env, sem, ‵, raw, ◌⊛◌, some, given, later, at_ret, ◌$◌, ◌∵◌, !, qed, by, move, keep, drop, group, learn, pick, await, join, use0, use1, use2, split, split3, rewrite, fsplit, fsplit3, fjoin, fjoin3, fpick, fpack, feq_i, flt_i, whole, sub, agg, stop, fld, load, look, lit, of_opd, bin, init, no_more, and_then, assigns, assigns_last, first, blocks, exec, returns, enter, alloc_all, pass_all, free_all, look_at, get, get_in, through, is, sets, sets_last, env, fact, fact_i, tables, RattleType, owns, u8, plain, types_at, Ptr, block_ptr, null_ptr, ptr_val, in_a_block, Tuple, heard, nothing, calls_at, Stays, stay_dropped, walk_of, Goes-dropped, after, proved, leaves, pair_val, pair_of, sep, T, has_ty, WT, full_share}
+use Rattle.tile_cow.proofs.Names.{◌≡◌, ℕ, ◌+◌, Bool, List, [], ◌∷◌, length, refl, sym, ap, w64, arith, ty_int, Val, vint, SProp, emp, id⊢, never, ftrue, fat, flft, ‵, raw, ◌⊛◌, some, given, later, at_ret, ◌$◌, ◌∵◌, !, qed, by, move, keep, drop, learn, pick, await, join, use0, use1, use2, split, fsplit, fsplit3, fjoin, fpick, fpack, whole, sub, agg, stop, fld, load, look, lit, of_opd, bin, no_more, and_then, first, blocks, exec, returns, enter, alloc_all, pass_all, free_all, look_at, get, get_in, through, is, sets, sets_last, env, fact, fact_i, tables, RattleType, owns, u8, plain, types_at, Ptr, block_ptr, ptr_val, in_a_block, Tuple, nothing, calls_at, Stays, stay_dropped, walk_of, Goes-dropped, after, proved, leaves, pair_val, pair_of, T, has_ty, WT, full_share}
 use contract.BorrowLft.{⊑_static}
 use types.ByLocal.{lands_as}
 use Rattle.core.specs.Mem.Slots.{slots_items, slots_filled, slots_ptr, slots_len}
@@ -8,7 +8,7 @@ use Rattle.core.proofs.slots.Slots.from_raw_parts.Met as callee
 use Rattle.atomic_table.proofs.Calls.{fm}
 use Rattle.atomic_table.proofs.Raw.{Row, From, at_from, Made, from_goes, from_gives}
 use Rattle.tile_cow.specs.Tile.{IsTileLength}
-use Rattle.tile_cow.specs.Block.{freed_by, frame_owns, block_owns}
+use Rattle.tile_cow.specs.Block.{block_owns}
 use Rattle.tile_cow.specs.contracts.block.Block as Block
 use Rattle.tile_cow.specs.contracts.block.Frame as Frame
 use Rattle.tile_cow.specs.contracts.block.Block.open.{ended, clauses, signature}

@@ -1,8 +1,6 @@
-use Rattle.std.proofs.Common.{◌≡◌, ◌+◌, ◌≤◌, ℕ, List, Bool, IfOk, length, replicate, false, ◌-◌, ◌*◌, ◌<◌}
-use Rattle.std.specs.Mem.Slots.{SamePlaces, slots_items, slots_filled, slots_ptr, slots_len}
-use Rattle.std.specs.Mem.Slots.Ownership.{Filled, SameOutside}
-use Rattle.tile_cow.specs.Tile.{IsTileLength, overwritten}
-use Rattle.tile_cow.specs.Block.{block_owns, frame_owns, bytes_at, IsWritten}
+use Rattle.std.proofs.Common.{◌≡◌, length, replicate}
+use Rattle.std.specs.Mem.Slots.{SamePlaces, slots_items, slots_filled}
+use Rattle.std.specs.Mem.Slots.Ownership.{Filled}
 use Rattle.tile_cow.proofs.block.Block.zeroed.Given as goal
 
 abbrev pub invariant-loop-at : goal.invariant-loop-at

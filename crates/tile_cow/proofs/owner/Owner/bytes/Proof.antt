@@ -1,10 +1,8 @@
 -- `bytes` reads the length, and lends the bytes behind it.
-use Rattle.tile_cow.proofs.Names.{◌≡◌, ◌≢◌, ℕ, ◌+◌, ◌-◌, ◌*◌, ◌/◌, ◌%◌, ◌^◌, ◌<◌, ◌≤◌, Bool, true, false, List, [], ◌∷◌, ◌++◌, length, replicate, refl, sym, ap, ◌∙◌, subst, lit<, w64, arith, T, w8, Ty, ty_int, ty_array, ty_struct, tcons, tnil, named, Val, vint, vptr, vstruct, vcons, vnil, WT, has_ty, vunit, full_share, SProp, ent, sep, wand, emp, id⊢, never, fst∗, apply∗, via, Lft, Share, Fml, ftrue, fsep, fex, fat, froom, flft, finv, fhide, feq, Env, WpFn, Logic, sem, ‵, raw, ◌⊛◌, some, given, later, mean, at_ret, ◌$◌, ◌∵◌, !, qed, by, move, keep, drop, group, use0, use1, use2, use3, split, split3, join, pick, learn, rewrite, assume, fsplit, fsplit3, fjoin, fjoin3, fpick, fpack, feq_i, feq_l, flt_i, flt_l, suffices, await, done, whole, sub, agg, look_in, stop, fld, hop, load, addr, lit, of_opd, bin, look, init, store, no_more, and_then, assigns, assigns_last, first, blocks, exec, returns, enter, branches, Calls-last, alloc_all, pass_all, free_all, look_at, get, get_in, through, is, sets, sets_last, lands_last, env, live, fact, fact_i, tables, yes, no, RattleType, owns, RefOf, usize, u64, u8, plain, types_at, Ptr, RawPtr, block_ptr, null_ptr, ptr_val, room_for, in_a_block, uint_vals, uint_Tells, heard, nothing, only, Tuple, calls_at, calls_at_last, Stays, stay_dropped, walk_of, Goes-dropped, after, proved, proved_at, leaves, pair_val, pair_of, all_e, eqb→eq, eqb, lent_back, shr_vals, shr_Tells, fm, seq_cst, found, finds, loads, subs, exchanges, Some, None, Ok, Err, some_Good, first_Good, Some-of, none_of, is_not, ok_of, err_of}
+use Rattle.tile_cow.proofs.Names.{◌≡◌, ℕ, ◌+◌, ◌*◌, ◌^◌, List, [], ◌∷◌, length, refl, ap, w64, arith, named, Val, vint, vptr, WT, SProp, emp, id⊢, never, Lft, Share, Fml, ftrue, flft, fhide, ‵, raw, ◌⊛◌, at_ret, ◌$◌, ◌∵◌, !, qed, by, move, keep, drop, use0, use1, split, join, fsplit, fjoin, feq_i, flt_i, whole, sub, agg, look_in, stop, fld, load, lit, of_opd, bin, look, no_more, and_then, first, blocks, exec, returns, enter, alloc_all, pass_all, free_all, look_at, get, through, is, sets, sets_last, env, fact, fact_i, tables, RattleType, owns, RefOf, u8, plain, types_at, Ptr, ptr_val, in_a_block, heard, nothing, Stays, stay_dropped, walk_of, Goes-dropped, after, proved, leaves, shr_vals, shr_Tells}
 use denote.Memory.{hidden_shr}
-use denote.Array.{Array}
 use denote.Opens.{hide, unhide}
 use denote.Slice.{ShrSlice, slice_val, elements_shared}
-use denote.Struct.Lending.{lent_at}
 use Rattle.std_alloc.proofs.ArcSteps.{arc_sees}
 use Rattle.tile_cow.specs.Tile.{IsTileLength}
 use Rattle.tile_cow.proofs.Rows.{lent_laws}
@@ -12,8 +10,7 @@ use Rattle.tile_cow.specs.Owner.{content, lent, owner_lends}
 use Rattle.tile_cow.specs.contracts.owner.Owner as Owner
 use Rattle.tile_cow.specs.contracts.owner.Owner.bytes.{ended, clauses, signature}
 use Rattle.tile_cow.specs.contracts.owner.Owner.bytes.Key.{name as #self}
-use Rattle.tile_cow.proofs.Fields.{pointer, ptr_good, Pointer, reads, reads_back, size_reads, size_reads_back}
-use Rattle.tile_cow.proofs.Steps as steps
+use Rattle.tile_cow.proofs.Fields.{Pointer, reads, reads_back, size_reads, size_reads_back}
 use Rattle.tile_cow.proofs.owner.Owner.bytes.Statement.{statement}
 use Rattle.tile_cow.proofs.owner.Owner.bytes.Code as code
 

@@ -1,15 +1,15 @@
 -- `load` is one step on the count, through a `&`.
-use Rattle.tile_cow.proofs.Names.{◌≡◌, ◌≢◌, ℕ, ◌+◌, ◌-◌, ◌*◌, ◌/◌, ◌%◌, ◌^◌, ◌<◌, ◌≤◌, Bool, true, false, List, [], ◌∷◌, ◌++◌, length, replicate, refl, sym, ap, ◌∙◌, subst, lit<, w64, arith, T, w8, Ty, ty_int, ty_array, ty_struct, tcons, tnil, named, Val, vint, vptr, vstruct, vcons, vnil, WT, has_ty, vunit, full_share, SProp, ent, sep, wand, emp, id⊢, never, fst∗, apply∗, via, Lft, Share, Fml, ftrue, fsep, fex, fat, froom, flft, finv, fhide, feq, Env, WpFn, Logic, sem, ‵, raw, ◌⊛◌, some, given, later, mean, at_ret, ◌$◌, ◌∵◌, !, qed, by, move, keep, drop, group, use0, use1, use2, use3, split, split3, join, pick, learn, rewrite, assume, fsplit, fsplit3, fjoin, fjoin3, fpick, fpack, feq_i, feq_l, flt_i, flt_l, suffices, await, done, whole, sub, agg, look_in, stop, fld, hop, load, addr, lit, of_opd, bin, look, init, store, no_more, and_then, assigns, assigns_last, first, blocks, exec, returns, enter, branches, Calls-last, alloc_all, pass_all, free_all, look_at, get, get_in, through, is, sets, sets_last, lands_last, env, live, fact, fact_i, tables, yes, no, RattleType, owns, RefOf, usize, u64, u8, plain, types_at, Ptr, RawPtr, block_ptr, null_ptr, ptr_val, room_for, in_a_block, uint_vals, uint_Tells, heard, nothing, only, Tuple, calls_at, calls_at_last, Stays, stay_dropped, walk_of, Goes-dropped, after, proved, proved_at, leaves, pair_val, pair_of, all_e, eqb→eq, eqb, lent_back, shr_vals, shr_Tells, fm, seq_cst, found, finds, loads, subs, exchanges, Some, None, Ok, Err, some_Good, first_Good, Some-of, none_of, is_not, ok_of, err_of}
+use Rattle.tile_cow.proofs.Names.{ℕ, ◌^◌, List, [], ◌∷◌, refl, ap, lit<, w64, named, Val, vint, vptr, SProp, id⊢, never, via, Lft, Share, Fml, ftrue, flft, fhide, ‵, raw, ◌⊛◌, mean, at_ret, ◌$◌, ◌∵◌, !, qed, by, move, keep, drop, use1, use2, split, join, fsplit, fsplit3, fjoin, fpick, feq_i, flt_i, whole, sub, agg, look_in, stop, fld, load, lit, of_opd, no_more, and_then, first, blocks, exec, returns, enter, Calls-last, alloc_all, pass_all, free_all, look_at, get, through, is, sets, lands_last, env, tables, RattleType, owns, RefOf, plain, types_at, Ptr, block_ptr, ptr_val, in_a_block, nothing, Stays, stay_dropped, walk_of, Goes-dropped, after, proved, leaves, shr_vals, shr_Tells, fm, seq_cst, found, finds, loads}
 use base.Share
 use denote.Memory.{hidden_shr}
 use denote.Opens.{unhide}
 use types.Tokens.{shr_bor-open, obor_close}
 use types.Within.{tokens_halve}
-use Rattle.tile_cow.specs.Owner.{content, lent, owner_lends}
+use Rattle.tile_cow.specs.Owner.{content, owner_lends}
 use Rattle.tile_cow.specs.contracts.owner.Owner as Owner
 use Rattle.tile_cow.specs.contracts.owner.Owner.load.{ended, clauses, signature}
 use Rattle.tile_cow.specs.contracts.owner.Owner.load.Key.{name as #self}
-use Rattle.tile_cow.proofs.Fields.{pointer, ptr_good, Pointer, reads, reads_back}
+use Rattle.tile_cow.proofs.Fields.{Pointer, reads, reads_back}
 use Rattle.tile_cow.proofs.Steps as steps
 use Rattle.tile_cow.proofs.owner.Owner.load.Statement.{statement}
 use Rattle.tile_cow.proofs.owner.Owner.load.Code as code

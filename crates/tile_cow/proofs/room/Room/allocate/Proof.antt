@@ -1,18 +1,16 @@
 -- `allocate` asks the allocator for a block, and keeps what comes back.
-use Rattle.std.proofs.Common.{◌≡◌, ℕ, ◌+◌, ◌/◌, ◌*◌, ◌^◌, ◌<◌, true, false, [], ◌∷◌, sym, refl, ap, subst, arith, lit<, w64, IfOk, Ok, Err}
+use Rattle.std.proofs.Common.{◌≡◌, ℕ, ◌+◌, ◌/◌, ◌*◌, ◌^◌, ◌<◌, true, false, [], ◌∷◌, refl, arith, lit<, w64, IfOk, Ok, Err}
 use mir.Syntax.{Ty, Body, named}
 use mir.Val.{Val, vint, vptr, vstruct, vcons, vnil, WT}
 use mir.MapTy.{inst_fn}
 use base.Logic.{SProp, emp}
 use base.Fml.{Fml, ftrue, fsep, flft, Incl-trans}
-use prog.Memory.{align, capped}
-use prog.Capped.{capped_fits}
 use prog.Wp.{Wp, after_seq, at_return}
 use types.Kit.{Post as After, any_q, ‵, raw, ◌⊛◌, given, later, at_ret, ◌$◌, ◌∵◌, !, qed, by, move, keep, drop, use0, use1, use2, split, join, learn, fsplit, fjoin, fjoin3, fpack, await}
 use types.Part.{whole, agg}
 use types.Match.{live, vrt, in_variant}
-use types.Run.{stop, fld, lit, size_word, align_word, no_more, and_then, of_opd, bin, first, switches_on, exec, returns, enter}
-use types.ByLocal.{alloc_all, pass_all, free_all, look_at, get, get_in, get_tag, is, sets, sets_last, lands_as, env}
+use types.Run.{stop, fld, lit, no_more, and_then, of_opd, bin, first, switches_on, exec, returns, enter}
+use types.ByLocal.{alloc_all, pass_all, free_all, look_at, get, get_in, get_tag, sets, sets_last, lands_as, env}
 use contract.BorrowLft.{◌⊑◌}
 use contract.Monad.{fact, fact_i}
 use contract.Running.{tables}

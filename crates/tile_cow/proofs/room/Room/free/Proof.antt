@@ -5,22 +5,19 @@ use mir.Val.{Val, vunit, vint, vptr, has_ty, WT}
 use mir.MapTy.{inst_fn}
 use base.Logic.{SProp, never, fst∗}
 use base.Fml.{Fml, ftrue, fsep, flft, Incl-trans}
-use prog.Memory.{align, capped}
-use prog.Capped.{capped_fits}
 use types.Logic.{sem}
 use types.Kit.{‵, raw, ◌⊛◌, given, later, at_ret, ◌$◌, ◌∵◌, !, qed, by, move, keep, drop, use1, use3, split, join, learn, rewrite, fsplit, fsplit3, fjoin, fjoin3, fpick, feq_i, await}
 use types.Part.{whole, sub}
-use types.Run.{stop, fld, unit_lit, size_word, align_word, no_more, and_then, of_opd, bin, first, blocks, exec, returns, enter}
+use types.Run.{stop, fld, unit_lit, no_more, and_then, of_opd, bin, first, blocks, exec, returns, enter}
 use types.ByLocal.{alloc_all, pass_all, free_all, look_at, get, get_in, is, sets, lands_last, env}
 use contract.BorrowLft.{◌⊑◌}
-use contract.Monad.{fact}
 use contract.Running.{tables}
 use denote.Exit.{yes, no}
 use denote.RattleType.{RattleType, owns}
 use denote.Signature.{plain, types_at}
 use denote.Param.{param}
 use denote.Builtin.{RefOf, usize}
-use denote.RawPtr.{Ptr, null_ptr, ptr_val, InBlock, room_for, in_a_block}
+use denote.RawPtr.{Ptr, null_ptr, ptr_val, room_for, in_a_block}
 use denote.Ref.{shr_vals, shr_Tells}
 use denote.Plain.{uint_vals, uint_Tells}
 use denote.Steps.{nothing}
