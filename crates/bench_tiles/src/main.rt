@@ -1,4 +1,4 @@
-//! Times of the calls of tiles, beside copies of as many bytes.
+//! Times of the calls of tiles, beside the same of a vector behind `Arc` and copies of as many bytes.
 //!
 //! It prints what each loop found, which is the same at each run. With a number of rounds on its
 //! command line it also prints the time of a round, on standard error.
@@ -6,6 +6,7 @@
 
 ghost use Rattle.tile_cow.specs.Tile.{IsTileLength};
 
+mod arcs;
 mod loops;
 
 use anyhow::Result;
@@ -54,6 +55,7 @@ fn main(rt: HostRuntime) -> Result<()> {
             eprintln!(rt; "{length} bytes")?;
         }
         time_tiles(&rt, bench, length)?;
+        time_arcs(&rt, bench, length)?;
         time_copies(&rt, bench, length)?;
     }
     Ok(())
@@ -91,6 +93,10 @@ fn time_tiles<R: Clock + Print + Eprint + Alloc<A = Global>>(
     bench.report(rt, "share and drop", start, found)?;
 
     let start = Instant::now(rt)?;
+    let found = loops::of_and_drop(alloc, &mut row, bench.rounds)?;
+    bench.report(rt, "of and drop", start, found)?;
+
+    let start = Instant::now(rt)?;
     let found = loops::read(&tile, &mut row, bench.rounds);
     bench.report(rt, "read", start, found)?;
 
@@ -102,6 +108,30 @@ fn time_tiles<R: Clock + Print + Eprint + Alloc<A = Global>>(
     let start = Instant::now(rt)?;
     let found = loops::write_shared(alloc, &mut tile, &mut row, bench.rounds)?;
     bench.report(rt, "share and write", start, found)?;
+    Ok(())
+}
+
+/// Times the same calls of a vector of so many bytes behind `Arc`.
+fn time_arcs<R: Clock + Print + Eprint + Alloc<A = Global>>(
+    rt: &R,
+    bench: Bench,
+    length: u32,
+) -> Result<()> {
+    let alloc = rt.alloc();
+    let mut row = vec![in alloc; 7; length as usize]?;
+    let mut shared = arcs::counted(alloc, &row)?;
+
+    let start = Instant::now(rt)?;
+    let found = arcs::share_and_drop(&shared, bench.rounds)?;
+    bench.report(rt, "Arc: share and drop", start, found)?;
+
+    let start = Instant::now(rt)?;
+    let found = arcs::of_and_drop(alloc, &mut row, bench.rounds)?;
+    bench.report(rt, "Arc: of and drop", start, found)?;
+
+    let start = Instant::now(rt)?;
+    let found = arcs::write(&mut shared, &mut row, bench.rounds);
+    bench.report(rt, "Arc: write in place", start, found)?;
     Ok(())
 }
 
