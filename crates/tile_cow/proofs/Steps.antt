@@ -10,7 +10,7 @@ use native.Mathlib.Decide.{ℕ_discrete}
 use seplogic.Ra.Ura.{Ura}
 use base.Fraction.{full_share}
 use base.Logic.{SProp, ent, sep, wand, ex, all, guard, upd, upd_i, ex_i, ex∗, via, never, never_e, emp}
-use base.Fml.{Share, Fml, fsep, fex, fall, flft, fdead, flent, finv, fnamed}
+use base.Fml.{Share, Fml, ftrue, fsep, fex, fall, flft, fdead, flent, finv, fnamed}
 use prog.Atomic.{either}
 use types.Logic.{Logic, sem}
 use types.Kit.{‵, raw, ◌⊛◌, some, given, ◌$◌, ◌∵◌, !, qed, by, move, keep, drop, split, split3, fsplit, fsplit3, fjoin, fjoin3, fpick, fpack, pick, learn, show, check, frame, each, assume, suffices, use1, use2, rewrite, done}
@@ -26,6 +26,9 @@ module _ (P : Fml) (b o a : ℕ) where
   -- what the last owner has, with the count at w
   abbrev pub last : ℕ → Fml
   last w = fsep (word b o w) (fsep (fdead (a ∷ [])) (flent (a ∷ []) P))
+
+  abbrev pub after_look : Share → ℕ → Fml
+  after_look s n = fsep (flft (a ∷ []) s) (fex (0 < n) (λ _. ftrue))
 
   abbrev pub after_join : ℕ → Share → ℕ → Fml
   after_join seen s n = fsep (flft (a ∷ []) s) (fall (n ≡ seen) (λ _. part 63 a))
@@ -112,10 +115,12 @@ module _ (P : Fml) (b o a : ℕ) where
       abbrev Token : Pr
       Token = A.lft (a ∷ []) s
 
-      pub looks : A.inv Count ∗ Token ⊢ asks 𝓛 (block_ptr b o) (λ n. n) always (λ _. flft (a ∷ []) s)
-      looks = let f : ℕ → ℕ = λ n. n in let after : ℕ → Fml = λ _. flft (a ∷ []) s in steps f after Token (λ j. finds Token (upd 𝓤 (ex 𝓤 (Found j f after))) (not_ended s) (λ n.
-          qed 𝓛 (‵ (state n) ∷ ‵ (flft (a ∷ []) s) ∷ []) ∵ suffices ! _ (upd_i 𝓤 (ex 𝓤 (Found j f after))) $ fsplit ! $ show ! (Found j f after) n $ frame ! $
-          each ! (λ (_ : Unit {0}). back 𝓛 (opened j) b o f after n) (λ _. assume ! (‵ (word b o n)) $ fjoin ! $ use1 𝓛 (‵ Count) (packs n) $ by ! (closes j Token))))
+      pub looks : A.inv Count ∗ Token ⊢ asks 𝓛 (block_ptr b o) (λ n. n) always (after_look s)
+      looks = let f : ℕ → ℕ = λ n. n in let after : ℕ → Fml = after_look s in steps f after Token (λ j. finds Token (upd 𝓤 (ex 𝓤 (Found j f after))) (not_ended s) (λ n.
+          qed 𝓛 (‵ (state n) ∷ ‵ (flft (a ∷ []) s) ∷ []) ∵ suffices ! _ (upd_i 𝓤 (ex 𝓤 (Found j f after))) $ fsplit3 ! $ show ! (Found j f after) n $ frame ! $
+          use1 𝓛 (given ((0 < n) × (n < 2 ^ 63)) (‵ (rest 63 a n))) (below n) $ learn ! (λ fine.
+          each ! (λ (_ : Unit {0}). back 𝓛 (opened j) b o f after n) (λ _. assume ! (‵ (word b o n)) $ fjoin3 ! $ use1 𝓛 (‵ Count) (packs n) $ suffices ! _ (closes j ⟦ after n ⟧) $ frame ! $ frame ! $
+          types.Kit.use0 𝓛 (‵ ftrue) (base.Logic.id⊢ 𝓤 (emp 𝓤)) $ fpack ! (0 < n) (λ _. ftrue) fine.0 $ done !))))
 
       module _ (seen : ℕ) (room : seen + 1 < 2 ^ 63) where
         abbrev next : ℕ → ℕ

@@ -10,7 +10,8 @@ use core::slots::Slots;
 use std::alloc::{AllocError, Global};
 use std::marker::{Model, PhantomData};
 
-/// A block that one owner has whole. `filled` says which of the bytes are written.
+/// A block that one owner has whole. It can't be let go but by `free` and as an owner. `filled`
+/// says which of the bytes are written.
 pub(crate) struct Block {
     pub(crate) words: *mut u64,
     pub(crate) ghost owners: { ℕ },
@@ -85,10 +86,10 @@ impl Block {
         Block { words }
     }
 
-    /// Takes the bytes out of the block, as slots.
+    /// Takes the block apart into its bytes, as slots, and the rest.
     pub(crate) fn open(self) -> (Frame, Slots<u8>)
         ensures frame { (result.0.owners ≡ self.owners) × (result.0.len ≡ length self.bytes) }
-        ensures place { (slots_ptr result.1 ≡ bytes_at result.0.words) × (slots_len result.1 ≡ length self.bytes) }
+        ensures position { (slots_ptr result.1 ≡ bytes_at result.0.words) × (slots_len result.1 ≡ length self.bytes) }
         ensures bytes { (slots_items result.1 ≡ self.bytes) × (slots_filled result.1 ≡ self.filled) }
     {
         let Block { words } = self;
@@ -111,7 +112,7 @@ impl Block {
         Block { words }
     }
 
-    /// Makes room of the block again, with the length that it had.
+    /// Returns the memory of the block as room again, with the length that it had.
     pub(crate) fn into_room(self) -> (Room<Global>, usize)
         ensures { (result.0.len ≡ length self.bytes) × (result.1 ≡ length self.bytes) }
     {

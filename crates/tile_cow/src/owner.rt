@@ -11,8 +11,9 @@ use std::slice;
 use std::sync::atomic::Ordering::SeqCst;
 use std::sync::atomic::raw;
 
-/// An owner of a block. No one writes the block while it has more owners than one, and the last one
-/// gets it whole.
+/// An owner of a block. It can't be let go but by `claim` and `leave`. No one writes the block while
+/// it has more owners than one, and the last one gets it whole. A clause sees an owner as its
+/// `bytes`.
 pub(crate) struct Owner {
     words: *mut u64,
     pub(crate) ghost bytes: { List ℕ },
@@ -35,11 +36,13 @@ impl Owner {
     }
 
     /// Returns how many owners the block has at this moment.
-    pub(crate) fn load(&self) -> u64 {
+    pub(crate) fn load(&self) -> u64
+        ensures { 0 < result }
+    {
         unsafe { raw::load::<Brand>(self.words, SeqCst) }
     }
 
-    /// Becomes one owner more, if there are still `seen` owners.
+    /// Returns one owner more, if there are still `seen` owners.
     pub(crate) fn join(&self, seen: u64) -> Option<Owner>
         requires { seen < 2 ^ 40 }
         ensures { IfSome result (λ owner. owner.bytes ≡ self.now.bytes) }
@@ -53,7 +56,7 @@ impl Owner {
         }
     }
 
-    /// Takes the whole block, if this is its only owner.
+    /// Returns the whole block, if this is its only owner, else the owner.
     pub(crate) fn claim(self) -> Result<Block, Owner>
         ensures { MatchResult result (λ block. (block.owners ≡ 1) × (block.bytes ≡ self.bytes) × IsWritten block.bytes block.filled) (λ owner. owner ≡ self) }
     {
@@ -66,8 +69,10 @@ impl Owner {
         }
     }
 
-    /// Counts one owner less. The last one gets the whole block.
-    pub(crate) fn leave(self) -> Option<Block> {
+    /// Counts one owner less. The last one gets the whole block, which then counts none.
+    pub(crate) fn leave(self) -> Option<Block>
+        ensures { IfSome result (λ block. (block.owners ≡ 0) × (block.bytes ≡ self.bytes)) }
+    {
         let Owner { words } = self;
         let owners = unsafe { raw::fetch_sub::<Brand>(words, 1, SeqCst) };
         if owners == 1 {

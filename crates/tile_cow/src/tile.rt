@@ -12,7 +12,8 @@ use std::alloc::Global;
 use std::marker::Model;
 
 /// From 1 to 65,536 bytes. Tiles may share the memory of equal bytes until one of them is written,
-/// and no owner sees another's writes. Dropping a tile takes no memory.
+/// and no owner sees another's writes. Dropping a tile takes no memory, and the last owner frees the
+/// block. A clause sees a tile as the list of its bytes.
 pub struct Tile {
     owner: Owner,
     alloc: Global,
@@ -39,11 +40,11 @@ pub enum Wrote {
     Copied,
 }
 
-/// Up to this many owners a block takes one owner more.
+/// A block with fewer owners than this takes one owner more.
 const MAX_OWNERS: u64 = 1 << 40;
 
 impl Tile {
-    /// A tile of `len` bytes, all zero.
+    /// Returns a tile of `len` bytes, all zero.
     pub fn zero(alloc: Global, len: u32) -> Result<Tile, NoMemory>
         requires { IsTileLength len }
         ensures { IfOk result (λ tile. tile ≡ replicate len 0) }
@@ -52,7 +53,7 @@ impl Tile {
         Ok(Tile::from_block(alloc, block))
     }
 
-    /// A tile of a copy of these bytes.
+    /// Returns a tile of a copy of these bytes.
     pub fn of(alloc: Global, bytes: &[u8]) -> Result<Tile, NoMemory>
         requires { IsTileLength (length bytes.now) }
         ensures { IfOk result (λ tile. tile ≡ bytes.now) }
@@ -61,7 +62,7 @@ impl Tile {
         Ok(Tile::from_block(alloc, block))
     }
 
-    /// A tile of these bytes, which are not copied.
+    /// Returns a tile of a copy of these bytes, and frees the vector.
     pub fn from_vec(alloc: Global, bytes: Vec<u8>) -> Result<Tile, NoMemory>
         requires { IsTileLength (length bytes.items) }
         ensures { IfOk result (λ tile. tile ≡ bytes.items) }
@@ -69,6 +70,7 @@ impl Tile {
         Tile::of(alloc, &bytes)
     }
 
+    /// Returns the only owner of a block.
     fn from_block(alloc: Global, block: Block) -> Tile
         requires { (block.owners ≡ 1) × IsWritten block.bytes block.filled × IsTileLength (length block.bytes) }
         ensures { result ≡ block.bytes }
@@ -77,8 +79,9 @@ impl Tile {
         Tile { owner, alloc }
     }
 
-    /// Another owner of the same bytes. They are copied only where the block can't take one owner
-    /// more.
+    /// Returns another owner of the same bytes. It tries once to become an owner of the block, and
+    /// copies the bytes where the block has too many owners, or where another owner came or left
+    /// between the two steps of the try.
     pub fn share(&self, alloc: Global) -> Result<Tile, NoMemory>
         ensures { IfOk result (λ tile. tile ≡ self.now) }
     {
@@ -91,6 +94,7 @@ impl Tile {
         }
     }
 
+    /// Tries once to make one owner more of the block.
     fn another_owner(&self) -> Option<Owner>
         ensures { IfSome result (λ owner. owner.bytes ≡ self.now) }
     {
@@ -102,7 +106,7 @@ impl Tile {
         }
     }
 
-    /// The bytes.
+    /// Returns the bytes.
     pub fn bytes(&self) -> &[u8]
         ensures value { result.now ≡ self.now }
         ensures size { IsTileLength (length self.now) }
@@ -111,8 +115,8 @@ impl Tile {
     }
 
     /// Writes these bytes into the range that begins at byte `at`: in place where this is the only
-    /// owner of its block, else in a copy. Other owners' bytes stay. At an error the tile is as it
-    /// was.
+    /// owner of its block, else in a copy. Other owners' bytes are unchanged, and at an error this
+    /// one's are too.
     pub fn write(&mut self, alloc: Global, at: u32, bytes: &[u8]) -> Result<Wrote, NoMemory>
         requires { at + length bytes.now ≤ length self.old }
         ensures written { OnOk result (self.new ≡ overwritten self.old at bytes.now) }
@@ -129,7 +133,8 @@ impl Tile {
     }
 }
 
-/// Writes the bytes into the block where it has no other owner, and returns whether it had none.
+/// Writes the bytes of a patch, which begins at a byte of the block, where the block has no other
+/// owner. Returns whether it had none.
 fn write_alone(owner: Owner, patch: (usize, &[u8])) -> (Owner, bool)
     requires { patch.0 + length patch.1.now ≤ length owner.bytes }
     ensures written { result.1 ≡ true → result.0.bytes ≡ overwritten owner.bytes patch.entry.0 patch.entry.1.now }

@@ -1,5 +1,5 @@
 -- `leave` is one step on the count, and the last owner has the block.
-use Rattle.tile_cow.proofs.Names.{◌≡◌, ℕ, List, [], ◌∷◌, refl, ap, lit<, w64, Val, vint, vptr, vcons, vnil, SProp, id⊢, never, via, Fml, ftrue, sem, ‵, raw, ◌⊛◌, mean, at_ret, ◌$◌, ◌∵◌, !, qed, by, move, keep, drop, use0, use1, use2, split, fsplit, fsplit3, fjoin, fpick, whole, sub, agg, stop, fld, lit, of_opd, bin, no_more, and_then, first, blocks, exec, returns, enter, branches, Calls-last, alloc_all, pass_all, free_all, look_at, get, get_in, is, sets, sets_last, lands_last, env, live, tables, RattleType, owns, plain, types_at, Ptr, block_ptr, ptr_val, in_a_block, nothing, Stays, stay_dropped, walk_of, Goes-dropped, after, proved, leaves, all_e, eqb→eq, lent_back, fm, seq_cst, found, finds, subs, Some, None, some_Good, Some-of, none_of}
+use Rattle.tile_cow.proofs.Names.{◌≡◌, ℕ, List, [], ◌∷◌, refl, ap, lit<, w64, Val, vint, vptr, vcons, vnil, SProp, id⊢, never, via, Fml, ftrue, sem, ‵, raw, ◌⊛◌, mean, at_ret, ◌$◌, ◌∵◌, !, qed, by, move, keep, drop, use0, use1, use2, split, fsplit, fsplit3, fjoin, fpick, whole, sub, agg, stop, fld, lit, of_opd, bin, no_more, and_then, first, blocks, exec, returns, enter, branches, Calls-last, alloc_all, pass_all, free_all, look_at, get, get_in, is, sets, sets_last, lands_last, env, live, tables, RattleType, owns, plain, types_at, Ptr, block_ptr, ptr_val, in_a_block, nothing, Stays, stay_dropped, walk_of, Goes-dropped, after, proved, leaves, all_e, eqb→eq, lent_back, fm, seq_cst, found, finds, subs, Some, None, some_Good, Some-of, none_of, fact, fact_i, emp}
 use denote.Param.{layout}
 use Rattle.core.specs.contracts.option.Option as Opt
 use Rattle.tile_cow.specs.Block.{block_owns}
@@ -40,9 +40,11 @@ leave_spec 𝓤 𝓛 𝓜 𝓡 wired =
     exec ! 𝓣.C 𝓣.Λ Ev (after 5 fn.body) (at_ret Ev Post) $ sets ! (of_opd ! (get ! refl)) refl (some_Good (layout B) (pointer m) (pointer_good [] m)) $
     let new : B.Denot = record { words = m; owners = 0; bytes = xs; filled = written xs } in
     use0 𝓛 (‵ (pointer_own m (pointer m ∷ []))) (pointer_made 𝓛 m) $ fjoin ! $ use1 𝓛 (‵ ((Opt.the_row B).own_val (Some new) (live 1 (vcons (pointer m) vnil) ∷ []))) (Some-of 𝓛 B new (pointer m)) $
-    nothing ! $ nothing ! $ nothing ! $ fjoin ! $ nothing ! $ returns ! (look_at ! 0 refl) $ free_all ! refl $ keep ! (0 ∷ 1 ∷ 3 ∷ 2 ∷ []) $
+    let Told : Type 0 = (0 ≡ 0) × (xs ≡ xs) in use0 𝓛 (raw (fact 𝓤 Told)) (fact_i 𝓤 Told (emp 𝓤) (refl, refl)) $
+    nothing ! $ nothing ! $ fjoin ! $ nothing ! $ returns ! (look_at ! 0 refl) $ free_all ! refl $ keep ! (0 ∷ 1 ∷ 3 ∷ 2 ∷ []) $
     by ! (leaves 𝓛 ended hs c y (live 1 (vcons (pointer m) vnil)) (Some new) (tt, tt) (tt, tt)))
     (λ more. sets_last ! (agg ! (and_then ! (lit ! tt) (no_more !))) refl (tt, (record { fits = lit< tt }, tt)) $ exec ! 𝓣.C 𝓣.Λ Ev (after 5 fn.body) (at_ret Ev Post) $
     sets ! (of_opd ! (get ! refl)) refl (tt, (record { fits = lit< tt }, tt)) $ use0 𝓛 (‵ ((Opt.the_row B).own_val None (live 0 vnil ∷ []))) (none_of 𝓛 B) $
-    nothing ! $ nothing ! $ nothing ! $ fjoin ! $ nothing ! $ returns ! (look_at ! 0 refl) $ free_all ! refl $ keep ! (0 ∷ 1 ∷ 3 ∷ 2 ∷ []) $
+    use0 𝓛 (raw (fact 𝓤 (Unit {0}))) (fact_i 𝓤 (Unit {0}) (emp 𝓤) tt) $
+    nothing ! $ nothing ! $ fjoin ! $ nothing ! $ returns ! (look_at ! 0 refl) $ free_all ! refl $ keep ! (0 ∷ 1 ∷ 3 ∷ 2 ∷ []) $
     by ! (leaves 𝓛 ended hs c y (live 0 vnil) None (tt, tt) (tt, tt)))))))))

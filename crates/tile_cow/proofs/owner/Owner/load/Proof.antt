@@ -1,5 +1,5 @@
 -- `load` is one step on the count, through a `&`.
-use Rattle.tile_cow.proofs.Names.{ℕ, ◌^◌, List, [], ◌∷◌, refl, ap, lit<, w64, named, Val, vint, vptr, SProp, id⊢, never, via, Lft, Share, Fml, ftrue, flft, fhide, ‵, raw, ◌⊛◌, mean, at_ret, ◌$◌, ◌∵◌, !, qed, by, move, keep, drop, use1, use2, split, join, fsplit, fsplit3, fjoin, fpick, feq_i, flt_i, whole, sub, agg, look_in, stop, fld, load, lit, of_opd, no_more, and_then, first, blocks, exec, returns, enter, Calls-last, alloc_all, pass_all, free_all, look_at, get, through, is, sets, lands_last, env, tables, RattleType, owns, RefOf, plain, types_at, Ptr, block_ptr, ptr_val, in_a_block, nothing, Stays, stay_dropped, walk_of, Goes-dropped, after, proved, leaves, shr_vals, shr_Tells, fm, seq_cst, found, finds, loads}
+use Rattle.tile_cow.proofs.Names.{use0, ℕ, ◌^◌, List, [], ◌∷◌, refl, ap, lit<, w64, named, Val, vint, vptr, SProp, id⊢, never, via, Lft, Share, Fml, ftrue, flft, fhide, ‵, raw, ◌⊛◌, mean, at_ret, ◌$◌, ◌∵◌, !, qed, by, move, keep, drop, use1, use2, split, join, fsplit, fsplit3, fjoin, fpick, feq_i, flt_i, whole, sub, agg, look_in, stop, fld, load, lit, of_opd, no_more, and_then, first, blocks, exec, returns, enter, Calls-last, alloc_all, pass_all, free_all, look_at, get, through, is, sets, lands_last, env, tables, RattleType, owns, RefOf, plain, types_at, Ptr, block_ptr, ptr_val, in_a_block, nothing, Stays, stay_dropped, walk_of, Goes-dropped, after, proved, leaves, shr_vals, shr_Tells, fm, seq_cst, found, finds, loads, fact, fact_i, emp, ◌<◌}
 use base.Share
 use denote.Memory.{hidden_shr}
 use denote.Opens.{unhide}
@@ -30,7 +30,7 @@ load_spec 𝓤 𝓛 𝓜 𝓡 wired =
     -- [the share of the token; the invariant; what is lent; the pointer; the token of the `&`]
     move ! (4 ∷ []) $ use1 𝓛 (‵ (flft κ (Share.left q)) ⊛ ‵ (flft κ (Share.right q))) (𝓛.lfts.lft_split κ q) $ split ! $
     enter ! _ _ _ (vptr b o ∷ []) Post $ alloc_all ! (λ l. pass_all ! refl ((tt, tt), tt) $ let Ev = env fn.locals l in
-    move ! (2 ∷ 0 ∷ []) $ shr_bor-open ! tt (tokens_halve 𝓛 (i ∷ [])) (λ s. let then : ℕ → Fml = λ _. flft (i ∷ []) s in
+    move ! (2 ∷ 0 ∷ []) $ shr_bor-open ! tt (tokens_halve 𝓛 (i ∷ [])) (λ s. let then : ℕ → Fml = steps.after_look P b' o' i s in
     -- [the open share; its token; a half; the invariant; what is lent; the pointer]
     first ! $ blocks ! $ move ! (5 ∷ 2 ∷ []) $ reads ν p ! tt b o (λ q'.
     sets ! (is ! (of_opd ! (load ! (through ! refl (fld ! refl (stop !))) (look_in ! 0 (sub ! 0 refl (whole !))))) (ap ptr_val at)) refl (tt, tt) $ reads_back ν p ! tt b o q' $
@@ -40,7 +40,7 @@ load_spec 𝓤 𝓛 𝓜 𝓡 wired =
     Calls-last ! (fm 𝓛 𝓜 𝓡) (found then) (and_then ! (get ! refl) (and_then ! (get ! refl) (no_more !))) (λ u. finds ! then (λ n fits.
     lands_last ! refl (tt, record { fits = fits }) $ exec ! 𝓣.C 𝓣.Λ Ev (after 1 fn.body) (at_ret Ev Post) $ sets ! (of_opd ! (get ! refl)) refl (tt, record { fits = fits }) $
     -- [its token; a half; the open share; what is lent]
-    move ! (2 ∷ 0 ∷ []) $ obor_close ! tt $ drop ! $ move ! (0 ∷ 1 ∷ []) $ use2 𝓛 (‵ (flft κ q)) (𝓛.lfts.lft_join κ q) $
-    nothing ! $ move ! (1 ∷ 0 ∷ []) $ join ! $ nothing ! $ nothing ! $ nothing ! $ fjoin ! $ flt_i ! n (2 ^ 64) fits $ feq_i ! (List Val) (vint w64 n ∷ []) (vint w64 n ∷ []) refl $ fjoin ! $
-    -- [the result; nothing left; nothing to say; the tokens]
-    returns ! (look_at ! 0 refl) $ free_all ! refl $ keep ! (3 ∷ 1 ∷ 0 ∷ 2 ∷ []) $ by ! (leaves 𝓛 ended hs c y (vint w64 n) n (tt, tt) (tt, tt))))))))))
+    fsplit ! $ move ! (1 ∷ []) $ fpick ! (λ positive. drop ! $ move ! (2 ∷ 0 ∷ []) $ obor_close ! tt $ drop ! $ move ! (0 ∷ 1 ∷ []) $ use2 𝓛 (‵ (flft κ q)) (𝓛.lfts.lft_join κ q) $
+    nothing ! $ move ! (1 ∷ 0 ∷ []) $ join ! $ use0 𝓛 (raw (fact 𝓤 (0 < n))) (fact_i 𝓤 (0 < n) (emp 𝓤) positive) $ nothing ! $ nothing ! $ fjoin ! $ flt_i ! n (2 ^ 64) fits $ feq_i ! (List Val) (vint w64 n ∷ []) (vint w64 n ∷ []) refl $ fjoin ! $
+    -- [the result; nothing left; the fact; the tokens]
+    returns ! (look_at ! 0 refl) $ free_all ! refl $ keep ! (3 ∷ 1 ∷ 0 ∷ 2 ∷ []) $ by ! (leaves 𝓛 ended hs c y (vint w64 n) n (tt, tt) (tt, tt)))))))))))
