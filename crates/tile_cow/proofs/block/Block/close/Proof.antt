@@ -1,4 +1,4 @@
--- `close` takes the places back from the slots.
+-- `close` takes the bytes back from the slots.
 use Rattle.tile_cow.proofs.Names.{◌≡◌, ℕ, ◌+◌, Bool, List, [], ◌∷◌, ◌++◌, length, refl, sym, ap, ◌∙◌, subst, Val, SProp, ent, emp, id⊢, never, ftrue, flft, WpFn, ‵, raw, ◌⊛◌, given, later, at_ret, ◌$◌, ◌∵◌, !, qed, by, move, keep, drop, learn, await, use0, use1, use2, split, rewrite, fsplit, fsplit3, fjoin, fpack, suffices, whole, sub, agg, stop, fld, of_opd, no_more, and_then, first, blocks, exec, returns, enter, alloc_all, pass_all, free_all, look_at, get, get_in, is, sets, lands_last, env, fact, fact_i, tables, RattleType, owns, u8, plain, types_at, Ptr, block_ptr, ptr_val, in_a_block, heard, nothing, calls_at_last, Stays, stay_dropped, walk_of, Goes-dropped, after, proved_at, leaves, WT, full_share}
 use contract.BorrowLft.{⊑_static}
 use Rattle.core.specs.Mem.Slots.{slots_items, slots_filled, slots_ptr, slots_len, slots_counts}
@@ -42,7 +42,7 @@ close_spec 𝓤 𝓛 𝓜 𝓡 wired =
     use1 𝓛 (later (given (v ≡ row_val b' o' m) (‵ (slots u8 (block_ptr b' o') xs fs) ⊛ ‵ (flft [] full_share)))) (Into-gives Byte 𝓛 𝓜.mem 𝓡.returns [] full_share r b' o' v at') $ await ! tt $ learn ! (λ ev. split ! $
     lands_last ! refl (parts_typed v b' o' m ev small) $ exec ! 𝓣.C 𝓣.Λ Ev (after 2 fn.body) (at_ret Ev Post) $
     sets ! (is ! (of_opd ! (get ! refl)) ev) refl (tt, words) $ sets ! (agg ! (and_then ! (get ! refl) (no_more !))) refl (pointer_good [] q) $
-    -- [the places; the token; the frame]
+    -- [the slots; the token; the frame]
     rewrite ! 0 (λ (π : Ptr). ‵ (slots u8 π xs fs)) place refl $ nothing ! $ fpack ! (length fs ≡ length xs) (λ _. ftrue) (sym (slots_counts r).1 ∙ (slots_counts r).0) $ fjoin ! $
     move ! (2 ∷ 0 ∷ []) $ rewrite ! 0 (λ (j : ℕ). ‵ (frame_owns q k j)) long refl $ fjoin ! $ use0 𝓛 (‵ (pointer_own q (pointer q ∷ []))) (pointer_made 𝓛 q) $ fjoin ! $
     let new : B.Denot = record { words = q; owners = k; bytes = xs; filled = fs } in let Told : Type 0 = (k ≡ k) × (xs ≡ xs) × (fs ≡ fs) in

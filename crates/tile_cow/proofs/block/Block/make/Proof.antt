@@ -1,4 +1,4 @@
--- `make` writes the two words, and the bytes are empty places.
+-- `make` writes the two words, and none of the bytes is written yet.
 use Rattle.tile_cow.proofs.Names.{◌≡◌, ℕ, ◌+◌, ◌^◌, ◌<◌, Bool, false, List, [], ◌∷◌, length, replicate, refl, sym, ap, ◌∙◌, lit<, w64, w8, Ty, ty_int, ty_array, Val, vint, SProp, emp, never, fst∗, ftrue, fsep, froom, sem, ‵, raw, ◌⊛◌, at_ret, ◌$◌, ◌∵◌, !, qed, by, move, keep, drop, use0, use1, split, split3, rewrite, fsplit, fjoin, fpick, fpack, whole, sub, agg, stop, fld, lit, of_opd, bin, init, no_more, and_then, assigns, assigns_last, first, blocks, exec, returns, enter, alloc_all, pass_all, free_all, look_at, get, get_in, through, is, sets, env, fact, fact_i, tables, RattleType, owns, usize, plain, types_at, Ptr, block_ptr, null_ptr, ptr_val, room_for, in_a_block, uint_vals, uint_Tells, heard, nothing, Stays, stay_dropped, walk_of, Goes-dropped, after, proved, leaves}
 use lib.ListN.{length-replicate}
 use Rattle.core.specs.Mem.Slots.Ownership.{slots}
@@ -32,7 +32,7 @@ make_spec 𝓤 𝓛 𝓜 𝓡 wired =
     in_a_block ! p (λ r. fsep (room_for τ r) (frees τ r)) (fst∗ 𝓤 (never 𝓤) (sem 𝓛 (frees τ null_ptr))) (λ b o at. fsplit ! $
     use1 𝓛 (‵ (froom (ty_int w64) b o) ⊛ ‵ (froom (ty_int w64) b (8 + o)) ⊛ ‵ (froom (ty_array (ty_int w8) n) b (16 + o)) ⊛ ‵ (rejoins b o n)) (room_parts 𝓛 b o n) $ split3 ! $ move ! (2 ∷ []) $ split ! $
     use1 𝓛 (‵ (slots (Rattle.core.proofs.mem.Param.R Byte) (block_ptr b (16 + o)) xs fs)) (of_space Byte 𝓛 b (16 + o) n xs (length-replicate n 0)) $
-    -- [the places; the way back; the two words; the right to free]
+    -- [the slots; the way back; the two words; the right to free]
     enter ! _ _ _ (marked p ∷ vint w64 n ∷ []) Post $ alloc_all ! (λ l. pass_all ! refl (marked_good p, ((tt, record { fits = small }), tt)) $ let Ev = env fn.locals l in
     sets ! (is ! (of_opd ! (get_in ! (fld ! refl (stop !)) (sub ! 0 refl (whole !)))) (ap ptr_val at)) refl (tt, tt) $ first ! $ blocks ! $
     assigns ! (of_opd ! (lit ! tt)) (through ! refl (stop !)) (init ! 2 refl (tt, record { fits = lit< tt })) $

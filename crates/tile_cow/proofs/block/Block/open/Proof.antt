@@ -32,7 +32,7 @@ open_spec 𝓤 𝓛 𝓜 𝓡 wired =
     split ! $ drop ! $ fsplit ! $ fsplit ! $ move ! (1 ∷ []) $ keep ! (0 ∷ []) $
     in_a_block ! p (λ r. block_owns r k xs fs) (id⊢ 𝓤 (never 𝓤)) (λ b o at. fsplit ! $ fsplit3 ! $ move ! (2 ∷ []) $ fsplit ! $ fpick ! (λ fits. fpack ! (IsTileLength n) (λ _. ftrue) fits $ fjoin ! $
     move ! (3 ∷ []) $ fsplit ! $ fpick ! (λ long. drop ! $
-    -- [the places; the right to free; the count; the length]
+    -- [the slots; the right to free; the count; the length]
     move ! (3 ∷ []) $ use1 𝓛 (given (T (has_ty (ty_int w64) (vint w64 n)) × WT (vint w64 n)) (‵ (fat full_share (ty_int w64) b (8 + o) (vint w64 n)))) (𝓛.laws.at_wt full_share (ty_int w64) b (8 + o) (vint w64 n)) $ learn ! (λ small.
     enter ! _ _ _ (pointer p ∷ []) Post $ alloc_all ! (λ l. pass_all ! refl (pointer_good [] p, tt) $ let Ev = env fn.locals l in let m : Ptr = block_ptr b o in
     sets ! (is ! (of_opd ! (get_in ! (fld ! refl (stop !)) (sub ! 0 refl (whole !)))) (ap ptr_val at)) refl (tt, tt) $ first ! $ blocks ! $

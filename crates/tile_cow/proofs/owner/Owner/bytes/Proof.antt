@@ -1,4 +1,4 @@
--- `bytes` reads the length, and lends the bytes behind it.
+-- `bytes` reads the length, and lends the bytes after it.
 use Rattle.tile_cow.proofs.Names.{◌≡◌, ℕ, ◌+◌, ◌*◌, ◌^◌, List, [], ◌∷◌, length, refl, ap, w64, arith, named, Val, vint, vptr, WT, SProp, emp, id⊢, never, Lft, Share, Fml, ftrue, flft, fhide, ‵, raw, ◌⊛◌, at_ret, ◌$◌, ◌∵◌, !, qed, by, move, keep, drop, use0, use1, split, join, fsplit, fjoin, feq_i, flt_i, whole, sub, agg, look_in, stop, fld, load, lit, of_opd, bin, look, no_more, and_then, first, blocks, exec, returns, enter, alloc_all, pass_all, free_all, look_at, get, through, is, sets, sets_last, env, fact, fact_i, tables, RattleType, owns, RefOf, u8, plain, types_at, Ptr, ptr_val, in_a_block, heard, nothing, Stays, stay_dropped, walk_of, Goes-dropped, after, proved, leaves, shr_vals, shr_Tells}
 use denote.Memory.{hidden_shr}
 use denote.Opens.{hide, unhide}
