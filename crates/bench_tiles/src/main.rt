@@ -1,4 +1,4 @@
-//! Times of the calls of tiles, beside the same of a vector behind `Arc` and copies of as many bytes.
+//! Times of the calls of tiles, beside the same of a vector after `Arc` and copies of as many bytes.
 //!
 //! It prints what each loop found, which is the same at each run. With a number of rounds on its
 //! command line it also prints the time of a round, on standard error.
@@ -111,7 +111,7 @@ fn time_tiles<R: Clock + Print + Eprint + Alloc<A = Global>>(
     Ok(())
 }
 
-/// Times the same calls of a vector of so many bytes behind `Arc`.
+/// Times the same calls of a vector of so many bytes after `Arc`.
 fn time_arcs<R: Clock + Print + Eprint + Alloc<A = Global>>(
     rt: &R,
     bench: Bench,
