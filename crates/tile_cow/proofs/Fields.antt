@@ -62,7 +62,7 @@ pub marked_good : (p : Ptr) → Good (ty_struct [] (tcons ty_ptr (tcons (ty_stru
 marked_good (block_ptr b o) = (tt, (tt, (tt, tt)))
 marked_good null_ptr = (tt, (record { fits = lit< tt }, (tt, tt)))
 
--- a struct of one pointer after a `&`
+-- a struct of one pointer behind a `&`
 module _ (ν : Sym) where
   abbrev one_field : Shape
   one_field = record { name = ν; args = []; types = []; fields = RawPtr ∷ [] }

@@ -1,4 +1,4 @@
--- The laws of the rows that are in a block, and of what an owner lends of them. Assumes `Logic`.
+-- The laws of the rows that lie in a block, and of what an owner lends of them. Assumes `Logic`.
 use Prim.Native.Nat.{ℕ, ◌+◌}
 use mathlib.Core.Path.{refl}
 use mathlib.Core.List.{List, [], ◌∷◌}
@@ -9,14 +9,14 @@ use types.Logic.{Logic}
 use seplogic.Ra.Ura.{Ura}
 use denote.Builtin.{u8, u64}
 use denote.Array.{Array}
-use denote.RawPtr.{Ptr, block_ptr, null_ptr, is_inside_at}
+use denote.RawPtr.{Ptr, block_ptr, null_ptr, lies_at}
 use denote.Param.Laws.{Laws, of_field, array_laws}
 use denote.Param.Shared.{copy_shared}
 use denote.Struct.Field.{u8-field, u64-field}
 use denote.Struct.Laws.{u8-laws, u8-copy, u64-laws, u64-copy}
 use denote.Sharing.{ShrLaws, beside, one, held, always}
 use denote.SharingLaws.{said_shr_laws, some_shr_laws, beside_shr_laws, one_shr_laws, always_shr_laws, held_shr_laws}
-use denote.Struct.Lending.{Lends, Lends-is_inside, Lends-first, Lends-both, Lends-false, lent_at, lent_at_shr_laws}
+use denote.Struct.Lending.{Lends, Lends-lies, Lends-first, Lends-both, Lends-false, lent_at, lent_at_shr_laws}
 use Rattle.core.specs.Thread.Scope.{refcount_invariant}
 use Rattle.std_alloc.specs.Arc.Ownership.{owner_shares}
 use Rattle.std_alloc.proofs.ArcSteps.{Lends-arc}
@@ -45,11 +45,11 @@ shares_laws (block_ptr b o) xs = let P = content b o xs in let s = lent b o xs i
 module _ {M : Type 1} {𝓤 : Ura M} (𝓛 : Logic 𝓤) where
   pub content_lends : (b o : ℕ) (xs : List ℕ) → Lends 𝓛 (content b o xs) (lent b o xs) []
   content_lends b o xs = let size = block_ptr b (8 + o) in let bytes = block_ptr b (16 + o) in let n = length xs in
-      let F = is_inside_at u64 full_share size n in let G = is_inside_at (Array u8 n) full_share bytes xs in
+      let F = lies_at u64 full_share size n in let G = lies_at (Array u8 n) full_share bytes xs in
       Lends-first 𝓛 (fsep F G) (freed_by b o n) (lent b o xs) []
       (Lends-both 𝓛 F G (lent_at u64 size n) (lent_at (Array u8 n) bytes xs) []
-      (Lends-is_inside 𝓛 u64 [] size n (size_laws.shares 𝓛 n))
-      (Lends-is_inside 𝓛 (Array u8 n) [] bytes xs ((bytes_laws n).shares 𝓛 xs)))
+      (Lends-lies 𝓛 u64 [] size n (size_laws.shares 𝓛 n))
+      (Lends-lies 𝓛 (Array u8 n) [] bytes xs ((bytes_laws n).shares 𝓛 xs)))
 
   pub owner_lent : (p : Ptr) (xs : List ℕ) → Lends 𝓛 (owner_has p xs) (owner_lends p xs) []
   owner_lent null_ptr xs = Lends-false 𝓛 (owner_lends null_ptr xs) []

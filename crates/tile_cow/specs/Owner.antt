@@ -2,7 +2,7 @@
 use Rattle.std.specs.Prelude.{ℕ, ◌+◌, List, length}
 use base.Fraction.{full_share}
 use base.Fml.{Lft, Fml, ffalse, fsep, fex}
-use denote.RawPtr.{Ptr, block_ptr, null_ptr, is_inside_at}
+use denote.RawPtr.{Ptr, block_ptr, null_ptr, lies_at}
 use denote.Builtin.{u8, u64}
 use denote.Array.{Array}
 use denote.Sharing.{said, beside, some}
@@ -13,7 +13,7 @@ use Rattle.tile_cow.specs.Block.{freed_by}
 module _ (b o : ℕ) (xs : List ℕ) where
   -- what the last owner gets: the length, the bytes, and the right to free them
   abbrev pub content : Fml
-  content = fsep (fsep (is_inside_at u64 full_share (block_ptr b (8 + o)) (length xs)) (is_inside_at (Array u8 (length xs)) full_share (block_ptr b (16 + o)) xs)) (freed_by b o (length xs))
+  content = fsep (fsep (lies_at u64 full_share (block_ptr b (8 + o)) (length xs)) (lies_at (Array u8 (length xs)) full_share (block_ptr b (16 + o)) xs)) (freed_by b o (length xs))
 
   -- what every owner may read
   abbrev pub lent : Lft → Fml
