@@ -4,7 +4,7 @@ use crate::{loops, pictures};
 use anyhow::Result;
 use bench_speed::Speed;
 use patch_abyss::{Abyss, Patch, fetch, halve};
-use sample_rows::Format;
+use pixel_formats::Format;
 use std::alloc::Global;
 use std::rt::Clock;
 use std::time::Instant;

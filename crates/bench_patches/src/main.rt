@@ -14,7 +14,7 @@ mod pictures;
 
 use anyhow::Result;
 use bench::Bench;
-use sample_rows::Format;
+use pixel_formats::Format;
 use std::alloc::Global;
 use std::rt::Env;
 

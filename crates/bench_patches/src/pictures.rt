@@ -4,7 +4,7 @@ ghost use Rattle.plane_rect.specs.Rectangle.{InLimits};
 
 use patch_abyss::{Patch, PatchRefused};
 use plane_rect::Rect;
-use sample_rows::Format;
+use pixel_formats::Format;
 use std::alloc::{AllocError, Global};
 
 /// The square of so many columns and rows from x = y = `corner` on, and else the rectangle without

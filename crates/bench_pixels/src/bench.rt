@@ -8,7 +8,7 @@ use crate::loops::{self, Kernel};
 use crate::rows;
 use anyhow::Result;
 use bench_speed::Speed;
-use sample_rows::Format;
+use pixel_formats::Format;
 use std::alloc::Global;
 use std::rt::Clock;
 use std::time::Instant;

@@ -1,6 +1,6 @@
 //! What a loop is called where it is printed.
 
-use sample_rows::Format;
+use pixel_formats::Format;
 use std::fmt;
 
 /// A kernel, and the formats that it is run on.

@@ -6,7 +6,7 @@ ghost use Rattle.model_images.specs.Abyss.{nearest};
 ghost use Rattle.model_operations.specs.Moves.{moved_into, surrounded};
 ghost use Rattle.model_operations.specs.Regions.{area_read};
 
-use model_images::Abyss;
+use pixel_formats::Abyss;
 use plane_rect::Rect;
 
 /// What is in `within` of the positions from which the windows of a part are read, of an input over

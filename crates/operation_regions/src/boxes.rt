@@ -6,7 +6,7 @@ ghost use Rattle.model_operations.specs.Boxes.{area_box, box_in_limits, box_of, 
 ghost use Rattle.model_operations.specs.Inputs.{input_box};
 
 use crate::formats::input_count;
-use model_images::Abyss;
+use pixel_formats::Abyss;
 use model_operations::IntOp;
 use plane_rect::{Rect, RectRefused};
 

@@ -9,9 +9,8 @@ ghost use Rattle.pixel_formats.specs.declared.abyss.Abyss.TheVariants.{Loop};
 ghost use Rattle.patch_abyss.specs.Fetched.{outside_sample};
 ghost use Rattle.patch_abyss.specs.Rows.{AreRepeated, OnOneSide, ReadsInOrder, ReadsNothing};
 
-use model_images::Abyss;
+use pixel_formats::{Abyss, Format};
 use plane_rect::Rect;
-use sample_rows::Format;
 use std::ops::Range;
 
 /// Rows that read a box as rows above them do.

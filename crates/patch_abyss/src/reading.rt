@@ -15,10 +15,9 @@ use crate::fill::{RowParts, cycle, fill_sides, repeat, wrap_rows};
 use crate::outside::{Repetition, repeated_rows, outside_pixel, source_rows, wrapped};
 use crate::patch::{Patch, byte_count};
 use crate::rows::{Rows, copy_rows};
-use model_images::Abyss;
+use pixel_formats::{Abyss, Format};
 use no_memory::NoMemory;
 use plane_rect::Rect;
-use sample_rows::Format;
 use std::alloc::Global;
 use std::ops::Range;
 

@@ -2,7 +2,7 @@
 
 use crate::body::Body;
 use plane_rect::{Name, Rect};
-use sample_rows::Format;
+use pixel_formats::Format;
 use std::marker::Model;
 
 /// What a graph is reported of a buffer: its name, the buffer at the root of its views, what it sees of

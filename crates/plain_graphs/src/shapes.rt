@@ -14,7 +14,7 @@ use no_memory::NoMemory;
 use operation_regions::{box_of, format_of};
 use model_operations::IntOp;
 use plane_rect::{Name, Rect};
-use sample_rows::Format;
+use pixel_formats::Format;
 use std::alloc::Global;
 
 /// The shape of the image of no position.

@@ -8,7 +8,7 @@ use crate::formulas::mean_of_four;
 use crate::picture::{Picture, Samples, draw};
 use no_memory::NoMemory;
 use plane_rect::PLANE_ORIGIN;
-use sample_rows::Format;
+use pixel_formats::Format;
 use std::alloc::Global;
 
 /// The means of the positions of an image, four by four.

@@ -11,7 +11,7 @@ ghost use Rattle.plain_images.specs.Picture.{AreSamples, IsPicture, IsPosition};
 
 use no_memory::NoMemory;
 use plane_rect::Rect;
-use sample_rows::Format;
+use pixel_formats::Format;
 use std::alloc::Global;
 use std::marker::Model;
 

@@ -8,7 +8,7 @@ ghost use Rattle.pixel_formats.specs.Mask.{masked_pixel};
 ghost use Rattle.pixel_formats.specs.Over.{over_pixel};
 ghost use Rattle.pixel_formats.specs.Recolor.{cap, is_alpha};
 ghost use Rattle.model_images.specs.Image.{at};
-ghost use Rattle.model_operations.specs.Arguments.{is_move};
+ghost use Rattle.pixel_formats.specs.Limits.{is_move};
 ghost use Rattle.model_operations.specs.Moves.{source_index, mirrored};
 ghost use Rattle.model_operations.specs.Values.{checker_pixel, flipped_pixel, square_number};
 
@@ -16,7 +16,7 @@ use crate::formulas::{composited, mean_of_three, rescaled, scaled_by};
 use crate::picture::{Picture, Samples};
 use crate::policies::is_alpha;
 use plane_rect::PLANE_ORIGIN;
-use sample_rows::Format;
+use pixel_formats::Format;
 
 /// What a color of a pixel is at most: its alpha, or the largest sample where there is none.
 pub(crate) fn cap_at(picture: &Picture, column: u32, row: u32) -> u32

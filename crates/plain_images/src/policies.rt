@@ -7,8 +7,7 @@ ghost use Rattle.pixel_formats.specs.Recolor.{is_alpha};
 ghost use Rattle.model_images.specs.Abyss.{abyss_at, nearest, outside_at, wrapped};
 
 use crate::picture::{Picture, Samples};
-use model_images::Abyss;
-use sample_rows::Format;
+use pixel_formats::{Abyss, Format};
 
 /// The samples of an image under a policy.
 #[derive(Drop)]

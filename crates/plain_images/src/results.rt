@@ -18,7 +18,7 @@ use no_memory::NoMemory;
 use operation_regions::{box_of, format_of};
 use model_operations::IntOp;
 use plane_rect::Rect;
-use sample_rows::Format;
+use pixel_formats::Format;
 use std::alloc::Global;
 
 /// The samples that an operation gives of images, in the format that it tells of theirs.

@@ -1,10 +1,9 @@
 //! Edits of nodes, and nodes, that are refused.
 
 use crate::small_graphs::{name, node, rect};
-use model_images::Abyss;
-use model_operations::{IntOp, PixelSamples};
+use pixel_formats::{Abyss, Format, PixelSamples};
+use model_operations::IntOp;
 use plain_graphs::{Graph, Node, NodeEdit, Refused, walk_refused, with_edits};
-use sample_rows::Format;
 use std::alloc::{AllocError, Global};
 use std::test::Fail;
 

@@ -3,11 +3,10 @@
 use crate::small_graphs::{
     buffer, name, node, nothing_cached, rect, render, source, step, strip_counts,
 };
-use model_images::Abyss;
+use pixel_formats::{Abyss, Format};
 use model_operations::IntOp;
 use plane_rect::{Name, Rect};
 use plain_graphs::Graph;
-use sample_rows::Format;
 use std::alloc::Global;
 use std::test::Fail;
 

@@ -3,7 +3,7 @@
 use model_operations::IntOp;
 use plane_rect::{Name, Rect};
 use plain_graphs::{Body, Buffer, Change, Graph, Lookups, Node, need, needed_pairs};
-use sample_rows::Format;
+use pixel_formats::Format;
 use std::alloc::{AllocError, Global};
 use std::test::Fail;
 

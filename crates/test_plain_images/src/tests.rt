@@ -2,13 +2,12 @@
 
 ghost use Rattle.plane_rect.specs.Rectangle.{InLimits};
 
-use model_images::Abyss;
-use model_operations::{IntOp, PixelSamples as Pixel};
+use pixel_formats::{Abyss, Format, PixelSamples as Pixel};
+use model_operations::IntOp;
 use plane_rect::{Name, Rect};
 use plain_images::{
     Buffer, Picture, PixelSamples, Step, evaluate, from_raw, level, raw_with, result_of,
 };
-use sample_rows::Format;
 use std::alloc::Global;
 use std::test::Fail;
 
