@@ -2,8 +2,8 @@
 
 ghost use Rattle.std.specs.Prelude.{◌≡◌, IfOk};
 
-use no_memory::NoMemory;
 use model_operations::IntOp;
+use no_memory::NoMemory;
 use pixel_formats::{Format, PixelSamples};
 use plane_rect::Rect;
 use std::alloc::Global;

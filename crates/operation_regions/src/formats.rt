@@ -7,9 +7,9 @@ ghost use Rattle.pixel_formats.specs.Limits.{is_area, is_in, is_move};
 ghost use Rattle.model_operations.specs.Formats.{are_samples, format_if, format_of, format_with, is_mask_of, is_sample};
 ghost use Rattle.model_operations.specs.Inputs.{input_count, input_format};
 
+use model_operations::IntOp;
 use pixel_formats::limits::{MAX_CHECKER_SIZE, MAX_SAMPLE, is_area, is_in, is_move};
 use pixel_formats::{Format, PixelSamples};
-use model_operations::IntOp;
 
 /// How many images an operation takes.
 pub fn input_count(op: &IntOp) -> usize
