@@ -50,7 +50,12 @@ pub(crate) fn source_rows(bounds: &Rect, abyss: Abyss, row: u32) -> Option<Range
 
 /// The rows of a rectangle from one on that read a box as those above them do, and None where that
 /// row has none above it that it reads equal.
-pub(crate) fn repeated_rows(bounds: &Rect, abyss: Abyss, rect: &Rect, row: u32) -> Option<Repetition>
+pub(crate) fn repeated_rows(
+    bounds: &Rect,
+    abyss: Abyss,
+    rect: &Rect,
+    row: u32,
+) -> Option<Repetition>
     requires { Within rect.now.first_row rect.now.height row }
     ensures { IfSome result (AreRepeated bounds.now abyss rect.now row) }
 {

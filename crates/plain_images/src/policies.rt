@@ -85,7 +85,11 @@ fn looped_at(picture: &Picture, column: u32, row: u32, channel: u32) -> u32
         return 0;
     }
     picture.at(
-        wrapped(rect.first_column(), rect.end_column() - rect.first_column(), column),
+        wrapped(
+            rect.first_column(),
+            rect.end_column() - rect.first_column(),
+            column,
+        ),
         wrapped(rect.first_row(), rect.end_row() - rect.first_row(), row),
         channel,
     )

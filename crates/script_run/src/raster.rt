@@ -1,8 +1,8 @@
 //! Images of format Y8.
 
+use pixel_formats::Format;
 use plane_rect::Rect;
 use sample_rows::row_invert;
-use pixel_formats::Format;
 use std::alloc::{AllocError, Global};
 use std::marker::Model;
 

@@ -3,8 +3,8 @@
 ghost use Rattle.std.specs.Prelude.{◌≡◌};
 ghost use Rattle.script_run.specs.Steps.{node_step, step_of};
 
-use plane_rect::{Name, Rect};
 use pixel_formats::Format;
+use plane_rect::{Name, Rect};
 use script_read::{Command, FileName, Names, OpWords};
 
 /// A command that is carried out.
