@@ -36,22 +36,8 @@ pub(crate) fn wrap_rows(
     let prefix = count.min(period - first);
     let both = count.min(period);
     let (left, right) = (Rows::new(0, count), Rows::new(prefix, count));
-    copy_rows(
-        to,
-        left,
-        from,
-        Rows::new(first, period),
-        prefix,
-        many,
-    );
-    copy_rows(
-        to,
-        right,
-        from,
-        Rows::new(0, period),
-        both - prefix,
-        many,
-    );
+    copy_rows(to, left, from, Rows::new(first, period), prefix, many);
+    copy_rows(to, right, from, Rows::new(0, period), both - prefix, many);
     if period < count {
         repeat_in_rows(to, left, count, period, many);
     }
