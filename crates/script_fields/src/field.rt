@@ -6,8 +6,8 @@ ghost use Rattle.script_words.specs.Words.{spaced};
 ghost use Rattle.plane_rect.specs.Rectangle.{IsRectangle};
 ghost use Rattle.script_fields.specs.Spelling.{field_words, AreValid, AreNames, words_of_fields};
 
-use pixel_formats::{Abyss, Format};
 use no_memory::NoMemory;
+use pixel_formats::{Abyss, Format};
 use plane_rect::{Name, Rect};
 use script_words::{FileName, push_integer, push_natural, push_word};
 

@@ -87,7 +87,11 @@ fn samples_of(alloc: Global, words: &[&[u8]]) -> Result<PixelSamples, LineAnswer
 }
 
 /// The samples from a word on, or `Number`.
-pub fn samples_from(alloc: Global, index: usize, words: &[&[u8]]) -> Result<PixelSamples, LineAnswer>
+pub fn samples_from(
+    alloc: Global,
+    index: usize,
+    words: &[&[u8]],
+) -> Result<PixelSamples, LineAnswer>
     requires { index ≤ length words.now }
     ensures value { Answers result (samples_from index (texts words.now)) }
     ensures length { IfOk result (λ samples. length samples + index ≡ length words.now) }

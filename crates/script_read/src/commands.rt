@@ -11,8 +11,11 @@ ghost use Rattle.script_fields.specs.Fields.{texts};
 ghost use Rattle.script_read.specs.Limits.{IsInLimits};
 
 use crate::command::Command;
-use script_fields::{LineAnswer, rect_numbers_at, count, count_in, file_at, format_at, move_at, name_at, natural_at, policy_at, prefix_at, samples_from};
 use pixel_formats::limits::{MAX_FRAMES, MAX_LEVEL, MAX_VIEWERS};
+use script_fields::{
+    LineAnswer, count, count_in, file_at, format_at, move_at, name_at, natural_at, policy_at,
+    prefix_at, rect_numbers_at, samples_from,
+};
 use std::alloc::Global;
 
 /// `buffer B FORMAT X Y W H`

@@ -8,8 +8,11 @@ ghost use Rattle.script_read.specs.Limits.{InRange, IsInLimits, input_count};
 
 use crate::command::{Command, Line, OpWords};
 use crate::reader::open_after;
+use pixel_formats::limits::{
+    MAX_CHECKER_SIZE, MAX_FRAMES, MAX_LINES, MAX_PREFIX_BYTES, MAX_SAMPLE, MAX_VIEWERS, are_pixel,
+    is_area, is_in, is_move,
+};
 use script_fields::{is_level_rect, may_watch};
-use pixel_formats::limits::{MAX_CHECKER_SIZE, MAX_FRAMES, MAX_LINES, MAX_PREFIX_BYTES, MAX_SAMPLE, MAX_VIEWERS, are_pixel, is_area, is_in, is_move};
 
 /// Whether lines are a script's: their numbers rise from 1 or more up to at most 10,000, the fields of their commands
 /// keep their limits, and each watch is ended before another begins.

@@ -11,9 +11,12 @@ ghost use Rattle.script_read.specs.Nodes.{bare, box_mean, checker, color, conver
 
 use crate::command::{Command, OpWords};
 use crate::operation_word::OperationWord;
-use plane_rect::Name;
-use script_fields::{LineAnswer, Names, ScriptCause, rect_numbers_at, count, count_in, format_at, move_at, name_at, names_from, natural_at, near_policy_at, sample_at, samples_from, sideways_at, word_at};
 use pixel_formats::limits::{MAX_CHECKER_SIZE, MAX_RADIUS, MAX_SAMPLE};
+use plane_rect::Name;
+use script_fields::{
+    LineAnswer, Names, ScriptCause, count, count_in, format_at, move_at, name_at, names_from,
+    natural_at, near_policy_at, rect_numbers_at, sample_at, samples_from, sideways_at, word_at,
+};
 use std::alloc::Global;
 
 /// What a node has before and after its operation.

@@ -13,7 +13,7 @@ ghost use Rattle.pixel_formats.specs.Limits.{max_lines};
 use crate::command::{Command, Line};
 use crate::keyword::Keyword;
 use crate::{commands, nodes};
-use pixel_formats::limits::{MAX_LINES, MAX_LINE_BYTES};
+use pixel_formats::limits::{MAX_LINE_BYTES, MAX_LINES};
 use script_fields::{LineAnswer, ScriptAnswer, ScriptCause, word_at};
 use script_words::{is_text, next_line, split_words};
 use std::alloc::Global;
