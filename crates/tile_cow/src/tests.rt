@@ -96,43 +96,44 @@ const ROUNDS: u32 = 10_000;
 /// rounds in which every owner read its own bytes. The second write is in place, since the first
 /// one left the owner alone. The first one is too where another thread counted between the load and
 /// the exchange of `share`, which then copied.
-fn good_rounds(tile: &Tile, alloc: Global, mark: u8) -> Result<u32, NoMemory> {
+fn good_rounds(mine: &Tile, lent: &Tile, alloc: Global, mark: u8) -> Result<u32, NoMemory> {
     let mut good = 0u32;
     for _ in 0..ROUNDS {
-        let mut own = tile.share(alloc)?;
+        let mut own = lent.share(alloc)?;
         let last = own.bytes().len() - 1;
         own.write(alloc, last as u32, &[mark])?;
         let is_alone = own.write(alloc, 0, &[mark])? == Wrote::InPlace;
         let is_own = own.bytes() == [mark, 2, mark].as_slice();
-        if is_alone && is_own && tile.bytes() == [1, 2, 3].as_slice() {
+        if is_alone && is_own && lent.bytes() == mine.bytes() {
             good = good.wrapping_add(1);
         }
     }
     Ok(good)
 }
 
-/// Four owners of one block, each with the number of its thread.
-fn four_owners(alloc: Global) -> Result<Vec<(Tile, u8)>, NoMemory> {
-    let tile = Tile::of(alloc, &[1, 2, 3])?;
+/// Four more owners of one block, each with the number of its thread.
+fn four_owners(tile: &Tile, alloc: Global) -> Result<Vec<(Tile, u8)>, NoMemory> {
     let mut owners = Vec::new(alloc);
-    for mark in 4..7 {
+    for mark in 4..8 {
         owners.push((tile.share(alloc)?, mark))?;
     }
-    owners.push((tile, 7))?;
     Ok(owners)
 }
 
 #[test]
 fn four_threads_share_read_write_and_drop(rt: HostRuntime) -> Result<(), Fail> {
     let alloc = rt.alloc();
-    let owners = four_owners(alloc)?;
+    let tile = Tile::of(alloc, &[1, 2, 3])?;
+    let owners = four_owners(&tile, alloc)?;
+    let lent = &tile;
     let work = move |job: (Tile, u8)| -> Result<u32, NoMemory> {
-        good_rounds(&job.0, alloc, job.1)
+        good_rounds(&job.0, lent, alloc, job.1)
     };
     let counts = thread::map_vec(&rt, owners, &work)?;
     assert_eq!(rt; counts.len(), 4);
     for count in counts {
         assert_eq!(rt; count.ok(), Some(ROUNDS));
     }
+    assert_eq!(rt; tile.bytes(), [1, 2, 3].as_slice());
     Ok(())
 }
