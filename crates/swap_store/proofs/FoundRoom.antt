@@ -1,7 +1,7 @@
 -- The free run that was found for a tile.
 use Rattle.std.proofs.Common.{ℕ, suc, zero, ◌+◌, ◌-◌, ◌<◌, ◌≤◌, List, [], ◌∷◌, length, get_or, arith}
 use Rattle.tile_cow.specs.Tile.{IsTileLength}
-use Rattle.swap_store.specs.declared.runs.Run.{Run}
+use Rattle.chain_owners.specs.declared.run.Run.{Run}
 use Rattle.swap_store.specs.Run.{blocks_for, LiesIn, HasBlock, IsFirstFit, longest}
 use Rattle.swap_store.specs.Placement.{Placement, IsPlacement}
 use Rattle.swap_store.proofs.RunLists.{HasBlock-at}

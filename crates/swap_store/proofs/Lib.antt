@@ -1,7 +1,6 @@
 pub mod RunLists
 pub mod GivenBack
 pub mod Fits
-pub mod Names
 pub mod PlacementLaws
 pub mod Told
 pub mod Contents

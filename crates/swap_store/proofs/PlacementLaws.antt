@@ -7,12 +7,12 @@ use Rattle.std.specs.Map.{lookup}
 use Rattle.std.specs.Option.{is_some}
 use Rattle.std.proofs.lemmas.Bool.{cases_eq, cases_lt, false≢true, true≢false}
 use Rattle.tile_cow.specs.Tile.{IsTileLength}
-use Rattle.swap_store.specs.declared.runs.Run.{Run}
+use Rattle.chain_owners.specs.declared.run.Run.{Run}
 use Rattle.swap_store.specs.declared.block_map.Extent.{Extent}
-use Rattle.swap_store.specs.Values.{Named}
+use Rattle.chain_owners.specs.Values.{Named}
 use Rattle.swap_store.specs.Run.{blocks_for, LiesIn, HasBlock, IsRunList}
 use Rattle.swap_store.specs.Placement.{Placement, IsPlacement, IsUnnamed, LiesInExtent}
-use Rattle.swap_store.proofs.Names.{get_here, get_elsewhere, get_gone, get_left, entries-inserted, entries-removed}
+use Rattle.chain_owners.proofs.Names.{get_here, get_elsewhere, get_gone, get_left, entries-inserted, entries-removed}
 use Rattle.swap_store.proofs.RunLists.{Without, HasBlock-at}
 use Rattle.swap_store.proofs.GivenBack.{With}
 

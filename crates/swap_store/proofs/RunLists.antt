@@ -5,7 +5,7 @@ use Rattle.std.proofs.Math.ListN.{set}
 use Rattle.std.proofs.lemmas.Bool.{cases_lt, lt-ltb}
 use Rattle.std.specs.List.Sorted.{IsPartitionedBy}
 use borrow.Author.Tests.{ltb-true}
-use Rattle.swap_store.specs.declared.runs.Run.{Run}
+use Rattle.chain_owners.specs.declared.run.Run.{Run}
 use Rattle.swap_store.specs.Run.{LiesIn, HasBlock, IsRunList}
 
 -- the first block that a run behind these may have

@@ -3,10 +3,10 @@ use Rattle.std.specs.Prelude.{◌≡◌, ◌≢◌, ℕ, ◌+◌, ◌<◌, ◌�
 use Rattle.std.specs.Coded.{Coded, code_by, coded×, coded_list, coded_ℕ}
 use Rattle.std.specs.FinMap as map
 use Rattle.tile_cow.specs.Tile.{IsTileLength}
-use Rattle.swap_store.specs.declared.runs.Run.{Run}
+use Rattle.chain_owners.specs.declared.run.Run.{Run}
 use Rattle.swap_store.specs.declared.block_map.Extent.{Extent}
 use Rattle.swap_store.specs.Run.{blocks_for, LiesIn, HasBlock, IsRunList, first_fit}
-use Rattle.swap_store.specs.Values.{Named}
+use Rattle.chain_owners.specs.Values.{Named}
 
 -- each name's extent, the free runs, and how many blocks of the disk are used
 pub record Placement : Type 0 where

@@ -8,7 +8,7 @@ ghost use Rattle.swap_store.specs.Placement.{IsPlacement, Placement};
 
 use crate::refusal::SwapRefused;
 use crate::runs;
-use crate::runs::Run;
+use chain_owners::Run;
 use no_memory::NoMemory;
 use std::alloc::{AllocError, Global};
 use std::collections::HashMap;

@@ -3,14 +3,7 @@
 ghost use Rattle.std.specs.Prelude.{◌≡◌, ℕ, ◌+◌, ◌<◌, ◌≤◌, ◌^◌, ◌↔◌, ◌⊎◌, length, slice_index_or, vec_len, vec_capacity, IsTrue, position, nat_le};
 ghost use Rattle.swap_store.specs.Run.{BeginsWith, EndsBefore, HasBlock, IsRunList, LiesIn, longest};
 
-/// Blocks that lie beside one another.
-#[derive(Clone, Copy, Debug, PartialEq, Eq)]
-pub struct Run {
-    /// The number of the first block.
-    pub first: u32,
-    /// How many blocks there are.
-    pub count: u32,
-}
+use chain_owners::Run;
 
 /// How many blocks the longest of these runs has; 0 where there is none.
 pub(crate) fn longest_run(runs: &[Run]) -> u32

@@ -11,7 +11,7 @@ ghost use Rattle.swap_store.specs.Store.{HasDiskCause, HasPutCause};
 use crate::block_map::BlockMap;
 use crate::extents;
 use crate::refusal::SwapRefused;
-use crate::runs::Run;
+use chain_owners::Run;
 use no_memory::NoMemory;
 use outside_io::{Lent, SwapDisk};
 use std::alloc::Global;

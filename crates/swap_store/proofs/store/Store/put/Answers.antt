@@ -1,13 +1,14 @@
 use Rattle.std.proofs.Common.{◌≡◌, length, get_or, arith}
 use Rattle.tile_cow.specs.Tile.{IsTileLength}
-use Rattle.swap_store.specs.declared.runs.Run.{Run}
+use Rattle.chain_owners.specs.declared.run.Run.{Run}
 use Rattle.swap_store.specs.declared.block_map.Extent.{Extent}
 use Rattle.swap_store.specs.Run.{blocks_for, IsFirstFit}
 use Rattle.swap_store.specs.Placement.{Placement}
 use Rattle.swap_store.specs.Content.{content_of, StandsOutside}
 use Rattle.swap_store.proofs.FoundRoom.{room-free, room-used, fit-longest}
 use Rattle.swap_store.proofs.PlacementLaws.{blocks_for-some}
-use Rattle.swap_store.proofs.Contents.{content-stands, content-put, map_values-insert, OnErr-always}
+use Rattle.swap_store.proofs.Contents.{content-stands, content-put, OnErr-always}
+use Rattle.chain_owners.proofs.MapValues.{map_values-insert}
 use Rattle.swap_store.proofs.store.Store.put.Goals as goal
 
 pub write_extent-requires-clause-known : goal.write_extent-requires-clause-known
