@@ -49,20 +49,15 @@ content-stands p laws first count some free (Some old) None stands = absurd stan
 content-stands p laws first count some free (Some old) (Some new) stands =
     ap (λ m. Some m) (map_values-same (bytes_in new) (bytes_in old) p.extents (bytes-stand p laws first count some free old new stands))
 
-pub content-put : (p : Placement) → IsPlacement p → (name : ℕ) (extent : Extent) (bytes : List ℕ) → 1 ≤ blocks_for extent.len
-    → ((b : ℕ) → LiesInExtent b extent → HasBlock p.free b)
-    → (old new : Option Blocks) → StandsOutside extent.first (blocks_for extent.len) old new → IfSome new (λ blocks. bytes_in blocks extent ≡ bytes)
-    → content_of (map.insert p.extents name extent) new ≡ option_map (λ content. map.insert content name bytes) (content_of p.extents old)
-content-put p laws name extent bytes some free None None stands written = refl
-content-put p laws name extent bytes some free None (Some new) stands written = absurd stands
-content-put p laws name extent bytes some free (Some old) None stands written = absurd stands
-content-put p laws name extent bytes some free (Some old) (Some new) stands written =
+-- a name that has other blocks has the bytes that are there
+pub content-put : (extents : Named Extent) (name : ℕ) (extent : Extent) (bytes : List ℕ) (known : Option Blocks)
+    → IfSome known (λ blocks. bytes_in blocks extent ≡ bytes)
+    → content_of (map.insert extents name extent) known ≡ option_map (λ content. map.insert content name bytes) (content_of extents known)
+content-put extents name extent bytes None written = refl
+content-put extents name extent bytes (Some blocks) written =
     ap (λ m. Some m)
-    (map_values-insert (bytes_in new) p.extents name extent
-    ∙ ap (λ v. map.insert (map_values (bytes_in new) p.extents) name v) written
-    ∙ ap (λ m. map.insert m name bytes)
-    (map_values-same (bytes_in new) (bytes_in old) p.extents
-    (bytes-stand p laws extent.first (blocks_for extent.len) some free old new stands)))
+    (map_values-insert (bytes_in blocks) extents name extent
+    ∙ ap (λ v. map.insert (map_values (bytes_in blocks) extents) name v) written)
 
 pub content-forget : (extents : Named Extent) (name : ℕ) (told : Option Blocks)
     → content_of (map.remove extents name) told ≡ option_map (λ content. map.remove content name) (content_of extents told)

@@ -6,3 +6,4 @@ pub mod Told
 pub mod Contents
 pub mod Windows
 pub mod FoundRoom
+pub mod Putting

@@ -136,6 +136,27 @@ impl BlockMap {
         Ok(())
     }
 
+    /// Moves a name to the first blocks of the free run of this index, as many as `len` bytes take, and
+    /// makes its old blocks free.
+    pub fn replace(&mut self, name: u64, index: usize, len: u32) -> Result<(), NoMemory>
+        requires present { IsSome (map.get self.old.extents name) }
+        requires size { IsTileLength len }
+        requires known { index < length self.old.free }
+        requires long { (d : Run) → blocks_for len ≤ (slice_index_or self.old.free index d).count }
+        ensures extents { OnOk result ((d : Run) → self.new.extents
+            ≡ map.insert self.old.extents name (record { first = (slice_index_or self.old.free index d).first; len = len })) }
+        ensures used { self.new.used ≡ self.old.used }
+        ensures unchanged { OnErr result (self.new ≡ self.old) }
+    {
+        let count = blocks_for(len);
+        let first = self.free[index].first;
+        self.free.reserve(self.extents.len() + 1)?;
+        let old = self.extents.insert(name, Extent { first, len })?.unwrap();
+        runs::take_front(&mut self.free, index, count);
+        runs::give_back(&mut self.free, old.first, blocks_for(old.len));
+        Ok(())
+    }
+
     /// Makes the blocks of a name free.
     pub fn remove(&mut self, name: u64)
         requires { IsSome (map.get self.old.extents name) }
