@@ -31,7 +31,7 @@ abbrev pub IsFullOver : Option ℕ → ℕ → ℕ → ℕ → ℕ → Type 0
 IsFullOver None capacity names needed longest = ⊥
 IsFullOver (Some used) capacity names needed longest = IsFull used capacity names needed longest
 
--- What no call changes is unchanged, and no fault is forgotten.
+-- What no call changes is unchanged, and no I/O error is forgotten.
 pub record Continues (old new : Counts) : Type 0 where
   pub used : new.used ≡ old.used
   pub capacity : new.capacity ≡ old.capacity

@@ -3,10 +3,10 @@ use Rattle.std.proofs.Common.{◌≡◌, ℕ, suc, zero, ◌+◌, ◌-◌, ◌<�
 use Rattle.outside_io.specs.Swap.{Blocks}
 use Rattle.tile_cow.specs.Tile.{IsTileLength}
 use Rattle.chain_owners.specs.declared.run.Run.{Run}
-use Rattle.swap_store.specs.Run.{blocks_for, LiesIn, HasBlock, IsFirstFit, longest}
+use Rattle.swap_store.specs.Run.{blocks_for, InBlocks, HasBlock, IsFirstFit, longest}
 use Rattle.swap_store.specs.Placement.{Placement, IsPlacement}
-use Rattle.swap_store.specs.Content.{StandsOutside, content_of}
-use Rattle.swap_store.proofs.Contents.{content-stands}
+use Rattle.swap_store.specs.Content.{UnchangedOutside, content_of}
+use Rattle.swap_store.proofs.Contents.{content-unchanged}
 use Rattle.swap_store.proofs.RunLists.{HasBlock-at}
 use Rattle.swap_store.proofs.PlacementLaws.{blocks_for-some}
 
@@ -25,8 +25,8 @@ fit-longest runs needed i fit =
     omega (arith, run_at_most runs i no_run fit.within, fit.long no_run)
 
 module _ (p : Placement) (laws : IsPlacement p) (len i : ℕ) (d : Run) (size : IsTileLength len) (fit : IsFirstFit p.free (blocks_for len) i) where
-  pub room-free : (b : ℕ) → LiesIn b (get_or p.free i d).first (blocks_for len) → HasBlock p.free b
-  room-free b lies = HasBlock-at p.free i d b fit.within (record { low = lies.low; high = omega (arith, lies.high, fit.long d) })
+  pub room-free : (b : ℕ) → InBlocks b (get_or p.free i d).first (blocks_for len) → HasBlock p.free b
+  room-free b is_inside = HasBlock-at p.free i d b fit.within (record { low = is_inside.low; high = omega (arith, is_inside.high, fit.long d) })
 
   pub room-used : (get_or p.free i d).first + blocks_for len ≤ p.used
   room-used =
@@ -39,7 +39,7 @@ module _ (p : Placement) (laws : IsPlacement p) (len i : ℕ) (d : Run) (size : 
       )
 
   -- the bytes of names are unchanged where that run was written
-  pub content-beside : (old new : Option Blocks) → StandsOutside (get_or p.free i d).first (blocks_for len) old new
+  pub content-beside : (old new : Option Blocks) → UnchangedOutside (get_or p.free i d).first (blocks_for len) old new
       → content_of p.extents new ≡ content_of p.extents old
-  content-beside old new stands =
-      content-stands p laws (get_or p.free i d).first (blocks_for len) (blocks_for-some len size.0) room-free old new stands
+  content-beside old new unchanged =
+      content-unchanged p laws (get_or p.free i d).first (blocks_for len) (blocks_for-some len size.0) room-free old new unchanged

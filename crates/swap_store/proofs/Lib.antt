@@ -2,7 +2,7 @@ pub mod RunLists
 pub mod GivenBack
 pub mod Fits
 pub mod PlacementLaws
-pub mod Told
+pub mod Exposed
 pub mod Contents
 pub mod Windows
 pub mod FoundRoom

@@ -10,8 +10,8 @@ use Rattle.tile_cow.specs.Tile.{IsTileLength}
 use Rattle.chain_owners.specs.declared.run.Run.{Run}
 use Rattle.swap_store.specs.declared.block_map.Extent.{Extent}
 use Rattle.chain_owners.specs.Values.{Named}
-use Rattle.swap_store.specs.Run.{blocks_for, LiesIn, HasBlock, IsRunList}
-use Rattle.swap_store.specs.Placement.{Placement, IsPlacement, IsUnnamed, LiesInExtent}
+use Rattle.swap_store.specs.Run.{blocks_for, InBlocks, HasBlock, IsRunList}
+use Rattle.swap_store.specs.Placement.{Placement, IsPlacement, IsUnnamed, InExtent}
 use Rattle.chain_owners.proofs.Names.{get_here, get_elsewhere, get_gone, get_left, entries-inserted, entries-removed}
 use Rattle.swap_store.proofs.RunLists.{Without, HasBlock-at}
 use Rattle.swap_store.proofs.GivenBack.{With}
@@ -25,12 +25,12 @@ absent o e none some = absurd (let no_such : None ≡ Some e = sym none ∙ some
 pub blocks_for-some : (len : ℕ) → 1 ≤ len → 1 ≤ blocks_for len
 blocks_for-some len some = omega arith
 
-cases_lies : (b first count : ℕ) → LiesIn b first count ⊎ (¬ LiesIn b first count)
-cases_lies b first count = elim (cases_lt b first) [
-  | inl lt ↦ inr (λ lies. absurd (omega (arith, lies.low)))
+cases_in_blocks : (b first count : ℕ) → InBlocks b first count ⊎ (¬ InBlocks b first count)
+cases_in_blocks b first count = elim (cases_lt b first) [
+  | inl lt ↦ inr (λ is_inside. absurd (omega (arith, is_inside.low)))
   | inr ge ↦ elim (cases_lt b (first + count)) [
     | inl lt ↦ inl (record { low = ge; high = lt })
-    | inr ge' ↦ inr (λ lies. absurd (omega (arith, lies.high)))
+    | inr ge' ↦ inr (λ is_inside. absurd (omega (arith, is_inside.high)))
   ]
 ]
 
@@ -49,7 +49,7 @@ fresh used free bounded runs all = record {
 -- ---- a name that has blocks which were free
 
 module _ (p : Placement) (laws : IsPlacement p) (name len first : ℕ) (size : IsTileLength len)
-    (were_free : (b : ℕ) → LiesIn b first (blocks_for len) → HasBlock p.free b) where
+    (were_free : (b : ℕ) → InBlocks b first (blocks_for len) → HasBlock p.free b) where
   abbrev extent : Extent
   extent = record { first = first; len = len }
 
@@ -63,8 +63,8 @@ module _ (p : Placement) (laws : IsPlacement p) (name len first : ℕ) (size : I
     | inr ne ↦ inr (ne, sym (get_elsewhere p.extents name extent q ne) ∙ some)
   ]
 
-  was_free : (b : ℕ) → LiesIn b first (blocks_for len) → (b < p.used) × IsUnnamed p.extents b
-  was_free b lies = (laws.exact b).0 (were_free b lies)
+  was_free : (b : ℕ) → InBlocks b first (blocks_for len) → (b < p.used) × IsUnnamed p.extents b
+  was_free b is_inside = (laws.exact b).0 (were_free b is_inside)
 
   in_used : first + blocks_for len ≤ p.used
   in_used =
@@ -79,14 +79,14 @@ module _ (p : Placement) (laws : IsPlacement p) (name len first : ℕ) (size : I
   ]
 
   apart_after : (q r : ℕ) (e f : Extent) → q ≢ r → map.get extents q ≡ Some e → map.get extents r ≡ Some f
-      → (b : ℕ) → LiesInExtent b e → ¬ LiesInExtent b f
+      → (b : ℕ) → InExtent b e → ¬ InExtent b f
   apart_after q r e f ne some some' b in_e in_f = elim (which q e some) [
-    | inl is ↦ let P : Extent → Type 0 = λ e. LiesInExtent b e in
+    | inl is ↦ let P : Extent → Type 0 = λ e. InExtent b e in
         elim (which r f some') [
           | inl is' ↦ absurd (ne (is.0 ∙ sym is'.0))
           | inr old ↦ (was_free b (subst P is.1 in_e)).1 r f old.1 in_f
         ]
-    | inr old ↦ let P : Extent → Type 0 = λ e. LiesInExtent b e in
+    | inr old ↦ let P : Extent → Type 0 = λ e. InExtent b e in
         elim (which r f some') [
           | inl is' ↦ (was_free b (subst P is'.1 in_f)).1 q e old.1 in_e
           | inr old' ↦ laws.apart q r e f ne old.1 old'.1 b in_e in_f
@@ -97,13 +97,13 @@ module _ (p : Placement) (laws : IsPlacement p) (name len first : ℕ) (size : I
 
   module _ (none : map.get p.extents name ≡ None) (free : List Run) (runs : IsRunList 0 (2 ^ 20) free)
       (without : Without p.free free first (blocks_for len)) where
-    still_unnamed : (b : ℕ) → IsUnnamed p.extents b → ¬ LiesIn b first (blocks_for len) → IsUnnamed extents b
+    still_unnamed : (b : ℕ) → IsUnnamed p.extents b → ¬ InBlocks b first (blocks_for len) → IsUnnamed extents b
     still_unnamed b unnamed out q e some = elim (which q e some) [
-      | inl is ↦ let P : Extent → Type 0 = λ e. ¬ LiesInExtent b e in subst P (sym is.1) out
+      | inl is ↦ let P : Extent → Type 0 = λ e. ¬ InExtent b e in subst P (sym is.1) out
       | inr old ↦ unnamed q e old.1
     ]
 
-    was_unnamed : (b : ℕ) → IsUnnamed extents b → IsUnnamed p.extents b × ¬ LiesIn b first (blocks_for len)
+    was_unnamed : (b : ℕ) → IsUnnamed extents b → IsUnnamed p.extents b × ¬ InBlocks b first (blocks_for len)
     was_unnamed b unnamed = (
       λ q e some. elim (cases_eq q name) [
         | inl is ↦ absent (map.get p.extents q) e (ap (map.get p.extents) is ∙ none) some
@@ -130,20 +130,20 @@ module _ (p : Placement) (laws : IsPlacement p) (name len first : ℕ) (size : I
 
   module _ (old : Extent) (some_old : map.get p.extents name ≡ Some old) (middle free : List Run) (runs : IsRunList 0 (2 ^ 20) free)
       (without : Without p.free middle first (blocks_for len)) (with : With middle free old.first (blocks_for old.len)) where
-    unnamed_elsewhere : (b : ℕ) → ¬ LiesIn b first (blocks_for len)
-        → ((q : ℕ) (e : Extent) → q ≢ name → map.get p.extents q ≡ Some e → ¬ LiesInExtent b e) → IsUnnamed extents b
+    unnamed_elsewhere : (b : ℕ) → ¬ InBlocks b first (blocks_for len)
+        → ((q : ℕ) (e : Extent) → q ≢ name → map.get p.extents q ≡ Some e → ¬ InExtent b e) → IsUnnamed extents b
     unnamed_elsewhere b out others q e some = elim (which q e some) [
-      | inl is ↦ let P : Extent → Type 0 = λ e. ¬ LiesInExtent b e in subst P (sym is.1) out
+      | inl is ↦ let P : Extent → Type 0 = λ e. ¬ InExtent b e in subst P (sym is.1) out
       | inr was ↦ others q e was.0 was.1
     ]
 
     -- what is unnamed now was the name's, or nobody's
-    was_unnamed_or_old : (b : ℕ) → IsUnnamed extents b → LiesInExtent b old ⊎ (IsUnnamed p.extents b × ¬ LiesIn b first (blocks_for len))
-    was_unnamed_or_old b unnamed = elim (cases_lies b old.first (blocks_for old.len)) [
-      | inl lies ↦ inl lies
+    was_unnamed_or_old : (b : ℕ) → IsUnnamed extents b → InExtent b old ⊎ (IsUnnamed p.extents b × ¬ InBlocks b first (blocks_for len))
+    was_unnamed_or_old b unnamed = elim (cases_in_blocks b old.first (blocks_for old.len)) [
+      | inl is_inside ↦ inl is_inside
       | inr out ↦ inr (
         λ q e some. elim (cases_eq q name) [
-          | inl is ↦ let P : Extent → Type 0 = λ e. ¬ LiesInExtent b e in
+          | inl is ↦ let P : Extent → Type 0 = λ e. ¬ InExtent b e in
               subst P (same_extent old e (sym some_old ∙ ap (map.get p.extents) (sym is) ∙ some)) out
           | inr ne ↦ unnamed q e (get_elsewhere p.extents name extent q ne ∙ some)
         ],
@@ -159,16 +159,16 @@ module _ (p : Placement) (laws : IsPlacement p) (name len first : ℕ) (size : I
           | inl mid ↦ let (was, out) = (without b).0 mid in
               let (lt, unnamed) = (laws.exact b).0 was in
               (lt, unnamed_elsewhere b out (λ q e ne some. unnamed q e some))
-          | inr lies ↦ (
-            omega (arith, (laws.fits name old some_old).1, lies.high),
+          | inr is_inside ↦ (
+            omega (arith, (laws.fits name old some_old).1, is_inside.high),
             unnamed_elsewhere b
-            (λ new. (was_free b new).1 name old some_old lies)
-            (λ q e ne some. laws.apart name q old e (λ is. ne (sym is)) some_old some b lies),
+            (λ new. (was_free b new).1 name old some_old is_inside)
+            (λ q e ne some. laws.apart name q old e (λ is. ne (sym is)) some_old some b is_inside),
           )
         ],
         λ h. (with b).1
             (elim (was_unnamed_or_old b h.1) [
-              | inl lies ↦ inr lies
+              | inl is_inside ↦ inr is_inside
               | inr was ↦ inl ((without b).1 ((laws.exact b).1 (h.0, was.0), was.1))
             ]),
       );
@@ -191,8 +191,8 @@ module _ (p : Placement) (laws : IsPlacement p) (name : ℕ) (extent : Extent) (
     ]
 
     -- the blocks of the name are no other's, and not free
-    pub not_free : (b : ℕ) → LiesIn b extent.first (blocks_for extent.len) → ¬ HasBlock p.free b
-    not_free b lies free = ((laws.exact b).0 free).1 name extent some_extent lies
+    pub not_free : (b : ℕ) → InBlocks b extent.first (blocks_for extent.len) → ¬ HasBlock p.free b
+    not_free b is_inside free = ((laws.exact b).0 free).1 name extent some_extent is_inside
 
     pub extent_some : 1 ≤ blocks_for extent.len
     extent_some = blocks_for-some extent.len (laws.fits name extent some_extent).0.0
@@ -207,18 +207,18 @@ module _ (p : Placement) (laws : IsPlacement p) (name : ℕ) (extent : Extent) (
       exact = λ b. (
         λ h. elim ((with b).0 h) [
           | inl was ↦ let (lt, unnamed) = (laws.exact b).0 was in (lt, λ q e some. unnamed q e (was_kept q e some).1)
-          | inr lies ↦ (
-            omega (arith, (laws.fits name extent some_extent).1, lies.high),
-            λ q e some. let (ne, old) = was_kept q e some in laws.apart name q extent e (λ is. ne (sym is)) some_extent old b lies,
+          | inr is_inside ↦ (
+            omega (arith, (laws.fits name extent some_extent).1, is_inside.high),
+            λ q e some. let (ne, old) = was_kept q e some in laws.apart name q extent e (λ is. ne (sym is)) some_extent old b is_inside,
           )
         ],
         λ h. (with b).1
-            (elim (cases_lies b extent.first (blocks_for extent.len)) [
-              | inl lies ↦ inr lies
+            (elim (cases_in_blocks b extent.first (blocks_for extent.len)) [
+              | inl is_inside ↦ inr is_inside
               | inr out ↦ inl ((laws.exact b).1 (
                 h.0,
                 λ q e some. elim (cases_eq q name) [
-                  | inl is ↦ let P : Extent → Type 0 = λ e. ¬ LiesInExtent b e in
+                  | inl is ↦ let P : Extent → Type 0 = λ e. ¬ InExtent b e in
                       subst P (same_extent extent e (sym some_extent ∙ ap (map.get p.extents) (sym is) ∙ some)) out
                   | inr ne ↦ h.1 q e (get_left p.extents name q ne ∙ some)
                 ],
@@ -249,8 +249,8 @@ added es fs free free' used name len i run laws is none size lt read long runs w
     entries-inserted es fs name (record { first = run.first; len = len }) is in
     rw same
     (named (placed es free used) laws name len run.first size
-    (λ b lies. HasBlock-at free i run b lt
-    (record { low = omega (arith, first, lies.low); high = omega (arith, first, long run, lies.high) }))
+    (λ b is_inside. HasBlock-at free i run b lt
+    (record { low = omega (arith, first, is_inside.low); high = omega (arith, first, long run, is_inside.high) }))
     none free' runs (rw first at (without run)))
 
 pub none_there : (o : Option Extent) → is_some o ≡ false → o ≡ None
@@ -283,8 +283,8 @@ module _ (es : List (ℕ × Extent)) (free middle : List Run) (used name len i :
   first_read : (get_or free i run).first ≡ run.first
   first_read = ap (λ (r : Run). r.first) (sym read)
 
-  were_free_there : (b : ℕ) → LiesIn b run.first (blocks_for len) → HasBlock free b
-  were_free_there b lies = HasBlock-at free i run b lt (record { low = omega (arith, first_read, lies.low); high = omega (arith, first_read, long run, lies.high) })
+  were_free_there : (b : ℕ) → InBlocks b run.first (blocks_for len) → HasBlock free b
+  were_free_there b is_inside = HasBlock-at free i run b lt (record { low = omega (arith, first_read, is_inside.low); high = omega (arith, first_read, long run, is_inside.high) })
 
   without_there : Without free middle run.first (blocks_for len)
   without_there = rw first_read at (without run)
@@ -295,8 +295,8 @@ module _ (es : List (ℕ × Extent)) (free middle : List Run) (used name len i :
   pub old_bound : old.first + blocks_for old.len ≤ 2 ^ 20
   old_bound = omega (arith, (laws.fits name old some_old).1, laws.bounded)
 
-  pub old_apart : (b : ℕ) → LiesIn b old.first (blocks_for old.len) → ¬ HasBlock middle b
-  old_apart b lies h = ((laws.exact b).0 ((without_there b).0 h).0).1 name old some_old lies
+  pub old_apart : (b : ℕ) → InBlocks b old.first (blocks_for old.len) → ¬ HasBlock middle b
+  old_apart b is_inside h = ((laws.exact b).0 ((without_there b).0 h).0).1 name old some_old is_inside
 
   pub replaced : (fs : List (ℕ × Extent)) (free' : List Run)
       → ((q : ℕ) → lookup (eqb q) fs ≡ cond (eqb name q) (Some (record { first = run.first; len = len })) (lookup (eqb q) es))

@@ -5,14 +5,14 @@ use Rattle.chain_owners.specs.declared.run.Run.{Run}
 pub use Rattle.chain_owners.specs.Run.{blocks_for, longest, IsRunList}
 
 -- a block is one of so many blocks from `first` on
-pub record LiesIn (block first count : ℕ) : Type 0 where
+pub record InBlocks (block first count : ℕ) : Type 0 where
   pub low : first ≤ block
   pub high : block < first + count
 
 -- a block is in one of the runs
 abbrev pub HasBlock : List Run → ℕ → Type 0
 HasBlock [] block = ⊥
-HasBlock (run ∷ runs) block = LiesIn block run.first run.count ⊎ HasBlock runs block
+HasBlock (run ∷ runs) block = InBlocks block run.first run.count ⊎ HasBlock runs block
 
 -- the first block of the lowest run that has at least so many
 abbrev pub first_fit : List Run → ℕ → Option ℕ

@@ -17,27 +17,27 @@ give_back-requires-clause-given c =
     let es = c.self.inside.extents.entries in
     let some = get-lookup es c.args.name ∙ sym c.in_ok-insert.ensures.old ∙ c.unwrap-old.ensures in
     rw c.blocks_for.ensures
-    (old_some es c.self.inside.free.items c.take_front.new.runs.items c.self.inside.used c.args.name c.args.len c.args.index c.index.result.now c.unwrap-old.result
+    (old_some es c.self.inside.free.items c.take_first.new.runs.items c.self.inside.used c.args.name c.args.len c.args.index c.index.result.now c.unwrap-old.result
     c.self.invariant.0 some c.requires.size (rw (← c.self.view_is) at c.requires.known) c.index.ensures (rw (← c.self.view_is) at c.requires.long)
-    (rw (c.reserve.ensures.items, c.blocks_for-count.ensures) at c.take_front.ensures.blocks))
+    (rw (c.reserve.ensures.items, c.blocks_for-count.ensures) at c.take_first.ensures.blocks))
 
 pub give_back-requires-clause-bound : goal.give_back-requires-clause-bound
 give_back-requires-clause-bound c =
     let es = c.self.inside.extents.entries in
     let some = get-lookup es c.args.name ∙ sym c.in_ok-insert.ensures.old ∙ c.unwrap-old.ensures in
     rw c.blocks_for.ensures
-    (old_bound es c.self.inside.free.items c.take_front.new.runs.items c.self.inside.used c.args.name c.args.len c.args.index c.index.result.now c.unwrap-old.result
+    (old_bound es c.self.inside.free.items c.take_first.new.runs.items c.self.inside.used c.args.name c.args.len c.args.index c.index.result.now c.unwrap-old.result
     c.self.invariant.0 some c.requires.size (rw (← c.self.view_is) at c.requires.known) c.index.ensures (rw (← c.self.view_is) at c.requires.long)
-    (rw (c.reserve.ensures.items, c.blocks_for-count.ensures) at c.take_front.ensures.blocks))
+    (rw (c.reserve.ensures.items, c.blocks_for-count.ensures) at c.take_first.ensures.blocks))
 
 pub give_back-requires-clause-apart : goal.give_back-requires-clause-apart
 give_back-requires-clause-apart c =
     let es = c.self.inside.extents.entries in
     let some = get-lookup es c.args.name ∙ sym c.in_ok-insert.ensures.old ∙ c.unwrap-old.ensures in
     rw c.blocks_for.ensures
-    (old_apart es c.self.inside.free.items c.take_front.new.runs.items c.self.inside.used c.args.name c.args.len c.args.index c.index.result.now c.unwrap-old.result
+    (old_apart es c.self.inside.free.items c.take_first.new.runs.items c.self.inside.used c.args.name c.args.len c.args.index c.index.result.now c.unwrap-old.result
     c.self.invariant.0 some c.requires.size (rw (← c.self.view_is) at c.requires.known) c.index.ensures (rw (← c.self.view_is) at c.requires.long)
-    (rw (c.reserve.ensures.items, c.blocks_for-count.ensures) at c.take_front.ensures.blocks))
+    (rw (c.reserve.ensures.items, c.blocks_for-count.ensures) at c.take_first.ensures.blocks))
 
 same_count : (o : Option Extent) (e : Extent) (n m : ℕ) → o ≡ Some e → m ≡ n + cond (is_some o) 0 1 → m ≡ n
 same_count o e n m some is =
@@ -47,15 +47,15 @@ pub invariant_of-self-2 : goal.invariant_of-self-2
 invariant_of-self-2 c =
     let es = c.self.inside.extents.entries in
     let some = get-lookup es c.args.name ∙ sym c.in_ok-insert.ensures.old ∙ c.unwrap-old.ensures in (
-      replaced es c.self.inside.free.items c.take_front.new.runs.items c.self.inside.used c.args.name c.args.len c.args.index c.index.result.now c.unwrap-old.result
+      replaced es c.self.inside.free.items c.take_first.new.runs.items c.self.inside.used c.args.name c.args.len c.args.index c.index.result.now c.unwrap-old.result
           c.self.invariant.0 some c.requires.size (rw (← c.self.view_is) at c.requires.known) c.index.ensures (rw (← c.self.view_is) at c.requires.long)
-          (rw (c.reserve.ensures.items, c.blocks_for-count.ensures) at c.take_front.ensures.blocks)
+          (rw (c.reserve.ensures.items, c.blocks_for-count.ensures) at c.take_first.ensures.blocks)
           c.insert.new.self.entries c.give_back.new.runs.items c.in_ok-insert.ensures.updates.0 c.give_back.ensures.list
           (rw c.blocks_for.ensures at c.give_back.ensures.blocks),
       omega (
         arith,
-        c.take_front.ensures.shorter,
-        c.take_front.ensures.capacity,
+        c.take_first.ensures.shorter,
+        c.take_first.ensures.capacity,
         c.give_back.ensures.longer,
         c.give_back.ensures.capacity,
         c.in_ok-reserve.ensures.ok,
