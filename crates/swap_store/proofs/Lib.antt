@@ -7,3 +7,4 @@ pub mod Contents
 pub mod Windows
 pub mod FoundRoom
 pub mod Putting
+pub mod Causes

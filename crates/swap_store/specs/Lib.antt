@@ -3,3 +3,4 @@ pub mod Placement
 pub mod Content
 pub mod Refusal
 pub mod Store
+pub mod Cause

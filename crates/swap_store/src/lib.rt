@@ -3,10 +3,12 @@
 
 mod block_map;
 mod extents;
+mod laws;
 mod refusal;
 mod runs;
 mod store;
 
 pub use chain_owners::{ChainMeaning, Run};
+pub use laws::{causes_add_up, few_names_leave_room};
 pub use refusal::SwapRefused;
-pub use store::{Store, SwapStore};
+pub use store::{Store, StoreMemory, SwapStore};

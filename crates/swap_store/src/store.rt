@@ -1,6 +1,6 @@
 //! Tiles under names on a swap disk.
 
-ghost use Rattle.std.specs.Prelude.{◌≡◌, ◌+◌, ◌*◌, ◌<◌, ◌≤◌, Some, Err, IfErr, IfOk, IfSome, OnErr, OnOk, IsNone, IsSome, length, min};
+ghost use Rattle.std.specs.Prelude.{◌≡◌, ◌+◌, ◌*◌, ◌<◌, ◌≤◌, Some, Err, IfErr, IfOk, IfSome, OnErr, OnOk, IsNone, IsSome, length, min, ◌^◌};
 ghost use Rattle.std.specs.Option.{option_map};
 ghost use Rattle.std.specs.FinMap as map;
 ghost use Rattle.swap_store.specs.Run.{IsFirstFit, blocks_for, longest};
@@ -17,6 +17,41 @@ use outside_io::{Lent, SwapDisk};
 use std::alloc::Global;
 use std::marker::Model;
 use tile_cow::Tile;
+
+/// The memory of a store without names, before it has its disk. A clause sees where its names and its
+/// free runs are.
+#[derive(Drop)]
+pub struct StoreMemory {
+    map: BlockMap,
+    spare: Vec<u8>,
+    alloc: Global,
+}
+
+impl Model for StoreMemory {
+    ghost use Rattle.std.specs.Prelude.{◌≡◌, vec_len};
+    ghost use Rattle.swap_store.specs.Placement.{Placement, placement_code};
+
+    ghost Value = { Placement };
+
+    ghost coded = { placement_code };
+
+    ghost view = { λ a. a.map };
+
+    ghost invariant = { λ a. vec_len a.spare ≡ 65536 };
+}
+
+impl StoreMemory {
+    /// Returns the memory of a store over so many blocks, all of them free.
+    pub fn new(alloc: Global, blocks: u32) -> Result<StoreMemory, NoMemory>
+        requires { blocks ≤ 2 ^ 20 }
+        ensures used { IfOk result (λ memory. memory.used ≡ blocks) }
+        ensures empty { IfOk result (λ memory. memory.extents ≡ map.empty) }
+    {
+        let spare = vec![in alloc; 0; 65_536]?;
+        let map = BlockMap::new(alloc, blocks)?;
+        Ok(StoreMemory { map, spare, alloc })
+    }
+}
 
 /// Keeps tiles under names in runs of blocks of a disk that it owns.
 #[derive(Drop)]
@@ -45,25 +80,36 @@ impl<D: SwapDisk> Model for Store<D> {
 }
 
 impl<'s, D: SwapDisk> Store<Lent<'s, D>> {
-    /// A store without names, over the first `blocks` blocks of a disk, or all where it has fewer.
+    /// Returns a store without names, over the first `blocks` blocks of a disk, or all where it has
+    /// fewer. Who has to know the disk where that runs out of memory takes a `StoreMemory` first, and
+    /// then makes the store by `over`.
     pub fn new(alloc: Global, disk: &'s mut D, blocks: u32) -> Result<Store<Lent<'s, D>>, NoMemory>
         ensures used { IfOk result (λ store. store.placement.used ≡ min blocks (D.block_count disk.old)) }
         ensures empty { IfOk result (λ store. store.placement.extents ≡ map.empty) }
         ensures disk { IfOk result (λ store. store.disk.disk ≡ disk.entry) }
     {
-        let spare = vec![in alloc; 0; 65_536]?;
-        let used = blocks.min(disk.size());
-        let map = BlockMap::new(alloc, used)?;
-        Ok(Store {
-            map,
-            disk: Lent { disk },
-            spare,
-            alloc,
-        })
+        let memory = StoreMemory::new(alloc, blocks.min(disk.size()))?;
+        Ok(Store::over(memory, Lent { disk }))
     }
 }
 
 impl<D: SwapDisk> Store<D> {
+    /// Returns a store over a disk, for which the memory was taken before. It can't fail, so who lends
+    /// the disk here knows it where the memory was refused.
+    pub fn over(memory: StoreMemory, disk: D) -> Store<D>
+        requires { memory.used ≤ D.block_count disk }
+        ensures placement { result.placement ≡ memory }
+        ensures disk { result.disk ≡ disk }
+    {
+        let StoreMemory { map, spare, alloc } = memory;
+        Store {
+            map,
+            disk,
+            spare,
+            alloc,
+        }
+    }
+
     /// Whether a name is there.
     pub fn has(&self, name: u64) -> bool
         ensures { result ≡ map.contains_key self.now.placement.extents name }
@@ -92,15 +138,6 @@ impl<D: SwapDisk> Store<D> {
         ensures known { result ≤ D.block_count self.now.disk }
     {
         self.map.used_blocks()
-    }
-
-    /// Where there are k names and at least 32·(k + 1) blocks are used, 16 blocks that lie beside
-    /// one another are free, which is room for every tile.
-    pub fn few_names_leave_room(&self)
-        requires { 32 * (map.len self.now.placement.extents + 1) ≤ self.now.placement.used }
-        ensures { 16 ≤ longest self.now.placement.free }
-    {
-        let _runs = self.map.free_runs();
     }
 
     /// Writes the bytes of a tile to the lowest free run that is long enough for them, and returns its

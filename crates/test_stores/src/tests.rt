@@ -1,6 +1,6 @@
 //! Expected values are worked out by hand, or by a naive store.
 
-use crate::scripts::{forget, get, play, put, tile_of};
+use crate::scripts::{forget, get, play, put, replace, tile_of};
 use outside_io::{FileSwap, Lent, MemSwap, SureSwap};
 use std::alloc::Global;
 use std::process::Abort;
@@ -48,6 +48,55 @@ fn a_put_that_failed_leaves_an_empty_store_empty(rt: HostRuntime) -> Result<(), 
     assert_eq!(rt; store.free_runs(), [Run { first: 0, count: 4 }].as_slice());
     put(&rt, &mut store, 1, &tile)?;
     assert_eq!(rt; get(&rt, &mut store, 1)?.bytes(), tile.bytes());
+    Ok(())
+}
+
+#[test]
+fn new_bytes_are_written_beside_the_old_ones(rt: HostRuntime) -> Result<(), Fail> {
+    let alloc = rt.alloc();
+    let mut disk = SureSwap::new(alloc, 4)?;
+    let mut store = SwapStore::new(alloc, &mut disk, 4)?;
+    let short = tile_of(&rt, alloc, 4_096, 1)?;
+    let long = tile_of(&rt, alloc, 8_192, 2)?;
+    put(&rt, &mut store, 1, &short)?;
+    put(&rt, &mut store, 2, &short)?;
+    replace(&rt, &mut store, 1, &long)?;
+    assert_eq!(rt; store.free_runs(), [run(0, 1)].as_slice());
+    assert_eq!(rt; get(&rt, &mut store, 1)?.bytes(), long.bytes());
+    assert_eq!(rt; get(&rt, &mut store, 2)?.bytes(), short.bytes());
+    assert_eq!(rt;
+        replace(&rt, &mut store, 1, &long),
+        full(2, 1),
+        "its own blocks are no room for it"
+    );
+    assert_eq!(rt; get(&rt, &mut store, 1)?.bytes(), long.bytes());
+    replace(&rt, &mut store, 1, &short)?;
+    assert_eq!(rt; store.free_runs(), [run(2, 2)].as_slice());
+    assert_eq!(rt; get(&rt, &mut store, 1)?.bytes(), short.bytes());
+    Ok(())
+}
+
+#[test]
+fn a_replacement_that_failed_leaves_the_old_bytes(rt: HostRuntime) -> Result<(), Fail> {
+    let alloc = rt.alloc();
+    let old = tile_of(&rt, alloc, 9_000, 1)?;
+    let new = tile_of(&rt, alloc, 12_000, 2)?;
+    for failing in 4..8 {
+        let mut disk = MemSwap::new(alloc, 8, Vec::new(alloc), vec![in alloc; failing]?)?;
+        let mut store = SwapStore::new(alloc, &mut disk, 8)?;
+        put(&rt, &mut store, 1, &old)?;
+        let answer = replace(&rt, &mut store, 1, &new);
+        if failing == 7 {
+            assert_eq!(rt; answer, Ok(()), "three writes are enough");
+            return Ok(());
+        }
+        assert_eq!(rt; answer, Err(SwapRefused::SwapFault), "where write {failing} fails");
+        assert_eq!(rt; get(&rt, &mut store, 1)?.bytes(), old.bytes());
+        assert_eq!(rt; store.free_runs(), [run(3, 5)].as_slice());
+        replace(&rt, &mut store, 1, &new)?;
+        assert_eq!(rt; get(&rt, &mut store, 1)?.bytes(), new.bytes());
+        assert_eq!(rt; store.free_runs(), [run(0, 3), run(6, 2)].as_slice());
+    }
     Ok(())
 }
 
