@@ -1,10 +1,7 @@
 -- The bytes of names, after a name came or went.
-use Rattle.std.proofs.Common.{◌≡◌, ℕ, ◌+◌, ◌≤◌, Bool, true, false, cond, eqb, List, [], ◌∷◌, take, map, Option, Some, None, IfSome, IsSome, Result, Ok, Err, OnErr, ◌⊎◌, inl, inr, refl, sym, ap, ◌∙◌, arith}
-use Rattle.std.specs.Ordering.{nat_cmp, eq_by_cmp}
+use Rattle.std.proofs.Common.{◌≡◌, ℕ, ◌+◌, ◌≤◌, List, take, Option, Some, None, IfSome, IsSome, Result, Ok, Err, OnErr, ◌⊎◌, inl, inr, refl, sym, ap, ◌∙◌, arith}
 use Rattle.std.specs.Option.{option_map}
 use Rattle.std.specs.FinMap as map
-use Rattle.std.specs.FinMap.{find, entries, get-entries, get-from_entries}
-use Rattle.std.proofs.lemmas.Cmp.{nat_cmp_total}
 use Rattle.std.proofs.lemmas.Bool.{cases_lt}
 use Rattle.outside_io.specs.Swap.{Blocks}
 use Rattle.swap_store.specs.declared.block_map.Extent.{Extent}

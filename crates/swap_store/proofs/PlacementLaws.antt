@@ -162,8 +162,8 @@ module _ (p : Placement) (laws : IsPlacement p) (name len first : ℕ) (size : I
           | inr is_inside ↦ (
             omega (arith, (laws.fits name old some_old).1, is_inside.high),
             unnamed_elsewhere b
-            (λ new. (was_free b new).1 name old some_old is_inside)
-            (λ q e ne some. laws.apart name q old e (λ is. ne (sym is)) some_old some b is_inside),
+                (λ new. (was_free b new).1 name old some_old is_inside)
+                (λ q e ne some. laws.apart name q old e (λ is. ne (sym is)) some_old some b is_inside),
           )
         ],
         λ h. (with b).1

@@ -51,55 +51,6 @@ fn a_put_that_failed_leaves_an_empty_store_empty(rt: HostRuntime) -> Result<(), 
     Ok(())
 }
 
-#[test]
-fn new_bytes_are_written_beside_the_old_ones(rt: HostRuntime) -> Result<(), Fail> {
-    let alloc = rt.alloc();
-    let mut disk = SureSwap::new(alloc, 4)?;
-    let mut store = SwapStore::new(alloc, &mut disk, 4)?;
-    let short = tile_of(&rt, alloc, 4_096, 1)?;
-    let long = tile_of(&rt, alloc, 8_192, 2)?;
-    put(&rt, &mut store, 1, &short)?;
-    put(&rt, &mut store, 2, &short)?;
-    replace(&rt, &mut store, 1, &long)?;
-    assert_eq!(rt; store.free_runs(), [run(0, 1)].as_slice());
-    assert_eq!(rt; get(&rt, &mut store, 1)?.bytes(), long.bytes());
-    assert_eq!(rt; get(&rt, &mut store, 2)?.bytes(), short.bytes());
-    assert_eq!(rt;
-        replace(&rt, &mut store, 1, &long),
-        full(2, 1),
-        "its own blocks are no room for it"
-    );
-    assert_eq!(rt; get(&rt, &mut store, 1)?.bytes(), long.bytes());
-    replace(&rt, &mut store, 1, &short)?;
-    assert_eq!(rt; store.free_runs(), [run(2, 2)].as_slice());
-    assert_eq!(rt; get(&rt, &mut store, 1)?.bytes(), short.bytes());
-    Ok(())
-}
-
-#[test]
-fn a_replacement_that_failed_leaves_the_old_bytes(rt: HostRuntime) -> Result<(), Fail> {
-    let alloc = rt.alloc();
-    let old = tile_of(&rt, alloc, 9_000, 1)?;
-    let new = tile_of(&rt, alloc, 12_000, 2)?;
-    for failing in 4..8 {
-        let mut disk = MemSwap::new(alloc, 8, Vec::new(alloc), vec![in alloc; failing]?)?;
-        let mut store = SwapStore::new(alloc, &mut disk, 8)?;
-        put(&rt, &mut store, 1, &old)?;
-        let answer = replace(&rt, &mut store, 1, &new);
-        if failing == 7 {
-            assert_eq!(rt; answer, Ok(()), "three writes are enough");
-            return Ok(());
-        }
-        assert_eq!(rt; answer, Err(SwapRefused::SwapFault), "where write {failing} fails");
-        assert_eq!(rt; get(&rt, &mut store, 1)?.bytes(), old.bytes());
-        assert_eq!(rt; store.free_runs(), [run(3, 5)].as_slice());
-        replace(&rt, &mut store, 1, &new)?;
-        assert_eq!(rt; get(&rt, &mut store, 1)?.bytes(), new.bytes());
-        assert_eq!(rt; store.free_runs(), [run(0, 3), run(6, 2)].as_slice());
-    }
-    Ok(())
-}
-
 /// A run of this first block and count.
 fn run(first: u32, count: u32) -> Run {
     Run { first, count }
@@ -139,6 +90,40 @@ fn put_between(
 /// The refusal of a store that is too full.
 fn full(needed: u32, longest: u32) -> Result<(), SwapRefused> {
     Err(SwapRefused::SwapFull { needed, longest })
+}
+
+/// Puts a tile of 3 blocks into a store over so many, and replaces it by another of 3 blocks, where the
+/// write of this number fails. Checks the answer, the bytes of the name and what is free then.
+fn replace_once(
+    rt: &impl Abort,
+    alloc: Global,
+    blocks: u32,
+    failing: u64,
+    wanted: Result<(), SwapRefused>,
+    left: &[Run],
+) -> Result<(), Fail> {
+    let mut disk = MemSwap::new(alloc, 8, Vec::new(alloc), vec![in alloc; failing]?)?;
+    let mut store = SwapStore::new(alloc, &mut disk, blocks)?;
+    let old = tile_of(rt, alloc, 9_000, 1)?;
+    let new = tile_of(rt, alloc, 12_000, 2)?;
+    put(rt, &mut store, 1, &old)?;
+    let answer = replace(rt, &mut store, 1, &new);
+    assert_eq!(rt; answer, wanted, "where write {failing} fails");
+    let bytes = if answer.is_ok() { &new } else { &old };
+    assert_eq!(rt; get(rt, &mut store, 1)?.bytes(), bytes.bytes());
+    assert_eq!(rt; store.free_runs(), left);
+    Ok(())
+}
+
+#[test]
+fn new_bytes_are_written_beside_the_old_ones(rt: HostRuntime) -> Result<(), Fail> {
+    let alloc = rt.alloc();
+    let failed = Err(SwapRefused::SwapFault);
+    for failing in 4..7 {
+        replace_once(&rt, alloc, 8, failing, failed, &[run(3, 5)])?;
+    }
+    replace_once(&rt, alloc, 8, 7, Ok(()), &[run(0, 3), run(6, 2)])?;
+    replace_once(&rt, alloc, 5, 7, full(3, 2), &[run(3, 2)])
 }
 
 #[test]

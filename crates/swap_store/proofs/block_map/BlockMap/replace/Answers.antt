@@ -1,6 +1,5 @@
-use Rattle.std.proofs.Common.{◌≡◌, ◌<◌, ◌≤◌, ◌+◌, ℕ, cond, Option, Some, List, length, get_or, arith, sym, ◌∙◌}
+use Rattle.std.proofs.Common.{◌≡◌, ◌<◌, ◌+◌, ℕ, cond, Option, Some, length, get_or, arith, sym, ◌∙◌}
 use Rattle.std.specs.Option.{is_some}
-use Rattle.std.specs.FinMap as map
 use Rattle.std.proofs.lemmas.List.{get_or_default}
 use Rattle.swap_store.specs.declared.block_map.Extent.{Extent}
 use Rattle.chain_owners.proofs.Names.{entries-inserted, get-lookup}

@@ -1,4 +1,4 @@
-use Rattle.std.proofs.Common.{◌≡◌, length}
+use Rattle.std.proofs.Common.{length}
 use Rattle.swap_store.proofs.Putting.{content-after, lengths-after, placed-after}
 use Rattle.swap_store.proofs.store.Store.replace.Goals as goal
 
