@@ -9,6 +9,6 @@ mod runs;
 mod store;
 
 pub use chain_owners::{ChainMeaning, Run};
-pub use laws::{causes_add_up, few_names_leave_room};
+pub use laws::{causes_add_up, few_names_leave_room, free_runs_are_used};
 pub use refusal::SwapRefused;
 pub use store::{Store, StoreMemory, SwapStore};
