@@ -64,3 +64,11 @@ impl ChainMeaning for () {
 
     ghost chain_laws = { λ _ _. unit_is_chain };
 }
+
+/// The laws hold of each type of chains.
+pub fn chains_keep_laws<H: ChainMeaning>()
+    ensures names { (chain : H) → HasSameNames (H.held chain) }
+    ensures counts { (chain : H) → AreCounts (H.counts chain) (H.held chain) (H.store chain) }
+    ensures reachable { (chain : H) → H.is_valid chain →
+        IsChain (H.held chain) (H.counts chain) (H.store chain) (H.resident chain) }
+{}

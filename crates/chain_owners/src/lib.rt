@@ -7,7 +7,7 @@ mod held_laws;
 mod owners_laws;
 mod run;
 
-pub use chain_meaning::ChainMeaning;
+pub use chain_meaning::{ChainMeaning, chains_keep_laws};
 pub use counts_laws::{growths_add_up, more_names_fill};
 pub use held_laws::{
     lengths_stay_exact, names_are_counted, other_names_are_unchanged, owners_count_down,

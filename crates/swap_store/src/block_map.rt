@@ -1,4 +1,4 @@
-//! Where names lie on a disk.
+//! Where names are on a disk.
 
 ghost use Rattle.std.specs.Prelude.{◌≡◌, ℕ, ◌+◌, ◌<◌, ◌≤◌, ◌^◌, ◌↔◌, [], Some, None, Err, IsSome, IsNone, IfOk, OnOk, OnErr, MatchResult, length, slice_index_or};
 ghost use Rattle.std.specs.FinMap as map;
@@ -17,14 +17,14 @@ use std::marker::Model;
 /// The bytes of a block.
 pub(crate) const BLOCK_BYTES: usize = 4096;
 
-/// How many blocks so many bytes take.
+/// Returns how many blocks so many bytes take.
 pub(crate) fn blocks_for(len: u32) -> u32
     ensures { result ≡ blocks_for len }
 {
     len.div_ceil(BLOCK_BYTES as u32)
 }
 
-/// Where the bytes of a name lie.
+/// Where the bytes of a name are.
 #[derive(Clone, Copy, Debug, PartialEq, Eq)]
 pub(crate) struct Extent {
     /// The number of the first block.
@@ -60,7 +60,7 @@ impl Model for BlockMap {
 }
 
 impl BlockMap {
-    /// No names, and all of the first `used` blocks of a disk free.
+    /// Returns a map without names, in which the first `used` blocks of a disk are free.
     pub fn new(alloc: Global, used: u32) -> Result<BlockMap, NoMemory>
         requires { used ≤ 2 ^ 20 }
         ensures used { IfOk result (λ made. made.used ≡ used) }
@@ -80,7 +80,7 @@ impl BlockMap {
         })
     }
 
-    /// The free runs.
+    /// Returns the free runs.
     pub fn free_runs(&self) -> &[Run]
         ensures value { result.now ≡ self.now.free }
         ensures laws { IsPlacement self.now }
@@ -88,14 +88,14 @@ impl BlockMap {
         &self.free
     }
 
-    /// How many blocks are used.
+    /// Returns how many blocks are used.
     pub fn used_blocks(&self) -> u32
         ensures { result ≡ self.now.used }
     {
         self.used
     }
 
-    /// The extent of a name, where it has one.
+    /// Returns the extent of a name, where it has one.
     pub fn extent(&self, name: u64) -> Option<Extent>
         ensures value { result ≡ map.get self.now.extents name }
         ensures laws { IsPlacement self.now }
@@ -103,7 +103,7 @@ impl BlockMap {
         self.extents.get(&name).copied()
     }
 
-    /// The index of the lowest free run that so many bytes fit in.
+    /// Returns the index of the lowest free run that so many bytes fit in.
     pub fn fitting_run(&self, len: u32) -> Result<usize, SwapRefused>
         requires { IsTileLength len }
         ensures found { MatchResult result (IsFirstFit self.now.free (blocks_for len))

@@ -110,21 +110,22 @@ impl<D: SwapDisk> Store<D> {
         }
     }
 
-    /// Whether a name is there.
+    /// Returns whether a name is there.
     pub fn has(&self, name: u64) -> bool
         ensures { result ≡ map.contains_key self.now.placement.extents name }
     {
         self.map.extent(name).is_some()
     }
 
-    /// How many bytes a name has, where it is there.
+    /// Returns how many bytes a name has, where it is there.
     pub fn len_of(&self, name: u64) -> Option<u32>
         ensures { result ≡ map.get (lengths_of self.now.placement.extents) name }
     {
         self.map.extent(name).map(|extent| extent.len)
     }
 
-    /// The free runs, in order. They have exactly the blocks of no name, and neighbours are one run.
+    /// Returns the free runs, in order. They have exactly the blocks of no name, and neighbors are one
+    /// run.
     pub fn free_runs(&self) -> &[Run]
         ensures value { result.now ≡ self.now.placement.free }
         ensures laws { IsPlacement self.now.placement }
@@ -132,7 +133,7 @@ impl<D: SwapDisk> Store<D> {
         self.map.free_runs()
     }
 
-    /// How many blocks of the disk are used, from block 0 on.
+    /// Returns how many blocks of the disk are used, from block 0 on.
     pub fn used_blocks(&self) -> u32
         ensures used { result ≡ self.now.placement.used }
         ensures known { result ≤ D.block_count self.now.disk }
@@ -176,7 +177,7 @@ impl<D: SwapDisk> Store<D> {
             ≡ option_map (λ content. map.insert content name tile.now)
             (content_of self.old.placement.extents (D.blocks self.old.disk))) }
 
-        // An error leaves where names lie, and the bytes of each.
+        // An error leaves where names are, and the bytes of each.
         ensures err { OnErr result (self.new.placement ≡ self.old.placement) }
         ensures unchanged { OnErr result (content_of self.new.placement.extents (D.blocks self.new.disk)
             ≡ content_of self.old.placement.extents (D.blocks self.old.disk)) }
@@ -227,7 +228,7 @@ impl<D: SwapDisk> Store<D> {
         Ok(())
     }
 
-    /// The tile of a name.
+    /// Reads the tile of a name, which has this many bytes.
     pub fn get(&mut self, name: u64, len: u32) -> Result<Tile, SwapRefused>
         requires { map.get (lengths_of self.old.placement.extents) name ≡ Some len }
         ensures length { IfOk result (λ tile. length tile ≡ len) }
@@ -259,7 +260,7 @@ impl<D: SwapDisk> Store<D> {
         self.map.remove(name);
     }
 
-    /// The disk, as the last call left it.
+    /// Gives the disk back, as the last call left it.
     pub fn end(self) -> D
         ensures { result ≡ self.disk }
     {
