@@ -48,11 +48,19 @@ fn waits_end_after_their_turns(rt: HostRuntime) -> Result<(), Fail> {
     let gate = MeetGate::new(rt.alloc(), 2, 2, 3)?;
     gate.looked(2, 0);
     gate.looked(0, 2);
-    assert_eq!(rt; gate.ran_out(), 0, "of another viewer, and of another frame");
+    assert_eq!(rt;
+        gate.ran_out(),
+        0,
+        "of another viewer, and of another frame"
+    );
     gate.looked(0, 0);
     assert_eq!(rt; gate.ran_out(), 1, "the other viewer reported nothing");
     gate.looked(0, 0);
-    assert_eq!(rt; gate.ran_out(), 2, "the same report again is none of the other viewer");
+    assert_eq!(rt;
+        gate.ran_out(),
+        2,
+        "the same report again is none of the other viewer"
+    );
     gate.looked(1, 1);
     assert_eq!(rt; gate.ran_out(), 3, "nothing was published");
     gate.published(1);
@@ -62,7 +70,11 @@ fn waits_end_after_their_turns(rt: HostRuntime) -> Result<(), Fail> {
     gate.looked(0, 1);
     gate.published(2);
     gate.published(3);
-    assert_eq!(rt; gate.ran_out(), 4, "all of frame 1 are there, and there is no frame 2");
+    assert_eq!(rt;
+        gate.ran_out(),
+        4,
+        "all of frame 1 are there, and there is no frame 2"
+    );
     assert_eq!(rt; gate.calls(), 10);
     Ok(())
 }
