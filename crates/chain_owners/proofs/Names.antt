@@ -8,7 +8,7 @@ use Rattle.std.specs.FinMap as map
 use Rattle.std.specs.FinMap.{find, from_entries, get-insert, get-remove, get-from_entries, same_map, nat_cmp-IsAntisymmetric}
 use Rattle.std.proofs.lemmas.Cmp.{nat_cmp_total}
 use Rattle.std.proofs.lemmas.Bool.{cases_eq, cases_order, eq-eqb, ne_eqb}
-use Rattle.swap_store.specs.Values.{Named}
+use Rattle.chain_owners.specs.Values.{Named}
 
 pub ties : (x y : ℕ) → eq_by_cmp nat_cmp x y ≡ eqb x y
 ties x y = elim (cases_order x y) [

@@ -1,6 +1,6 @@
 -- The room of a store.
 use Rattle.std.specs.Prelude.{ℕ, List}
-use Rattle.swap_store.specs.declared.runs.Run.{Run}
+use Rattle.chain_owners.specs.declared.run.Run.{Run}
 
 -- its free runs, and how many blocks it uses
 pub record Room : Type 0 where
