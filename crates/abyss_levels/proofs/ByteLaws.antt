@@ -5,11 +5,11 @@ use Rattle.plane_rect.specs.Rectangle.{Rectangle, Includes, area}
 use Rattle.plane_rect.specs.Tile.{Tile, tile_square}
 use Rattle.sample_rows.specs.Format.{channels, depth, pixel_bytes}
 use Rattle.images.specs.Image.{Image, at, drawn, sampled}
-use Rattle.images.specs.Raw.{raw, sample_bytes}
+use Rattle.images.specs.Raw.{raw, sample_bytes, tile_bytes}
 use Rattle.images.proofs.Laws.{at-drawn, length-sampled, sampled_alike}
 use Rattle.abyss_levels.specs.declared.abyss.Abyss.{Abyss}
 use Rattle.abyss_levels.specs.declared.abyss.Abyss.TheVariants.{None}
-use Rattle.abyss_levels.specs.Abyss.{abyss_at, raw_with, tile_bytes}
+use Rattle.abyss_levels.specs.Abyss.{abyss_at, raw_with}
 use Rattle.abyss_levels.proofs.PolicyLaws.{abyss_at-inside, none-everywhere}
 
 pub raw_with-none : (image : Image) (r : Rectangle) → raw_with image None r ≡ raw image r

@@ -2,12 +2,11 @@
 use Rattle.std.specs.Prelude.{ℕ, ◌+◌, ◌-◌, ◌*◌, ◌%◌, min, max, if◌then◌else◌, List}
 use Rattle.std.specs.List.{flat_map}
 use Rattle.plane_rect.specs.Rectangle.{Rectangle}
-use Rattle.plane_rect.specs.Tile.{Tile, tile_square}
 use Rattle.sample_rows.specs.Format.{channels, depth, greatest}
 use Rattle.sample_rows.specs.Recolour.{is_alpha}
 use Rattle.sample_rows.specs.declared.format.Format.{Format}
 use Rattle.images.specs.Image.{Image, at, lies, sampled}
-use Rattle.images.specs.Raw.{raw, sample_bytes}
+use Rattle.images.specs.Raw.{sample_bytes}
 use Rattle.abyss_levels.specs.declared.abyss.Abyss.{Abyss}
 use Rattle.abyss_levels.specs.declared.abyss.Abyss.TheVariants.{None, Clamp, Loop, Black, White}
 
@@ -43,7 +42,3 @@ unfoldable pub raw_with : Image → Abyss → Rectangle → List ℕ
 raw_with image policy rectangle =
     flat_map (sample_bytes (depth image.format))
     (sampled rectangle (channels image.format) (abyss_at image policy))
-
--- the bytes of the 64 by 64 places of a tile, which are 0 outside the image's box
-abbrev pub tile_bytes : Image → Tile → List ℕ
-tile_bytes image tile = raw image (tile_square tile)

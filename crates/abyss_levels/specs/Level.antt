@@ -1,6 +1,6 @@
 -- Images at reduced levels: each level halves the one before it.
 use Rattle.std.specs.Prelude.{ℕ, zero, suc, ◌+◌, ◌-◌, ◌*◌}
-use Rattle.plane_rect.specs.Rectangle.{halved, origin}
+use Rattle.plane_rect.specs.Rectangle.{Rectangle, halved, origin}
 use Rattle.sample_rows.specs.Average.{mean_of_four}
 use Rattle.images.specs.Image.{Image, at, drawn}
 
@@ -25,3 +25,8 @@ halved_image image = drawn (halved image.box) image.format (mean_at image)
 unfoldable pub level : Image → ℕ → Image
 level image zero = image
 level image (suc z) = halved_image (level image z)
+
+-- the box of a level of an image over this box
+abbrev pub level_box : Rectangle → ℕ → Rectangle
+level_box box zero = box
+level_box box (suc z) = halved (level_box box z)

@@ -5,8 +5,8 @@ ghost use Rattle.plane_rect.specs.Rectangle.{Includes, Rectangle, area};
 ghost use Rattle.plane_rect.specs.Tile.{Tile};
 ghost use Rattle.sample_rows.specs.Format.{pixel_bytes};
 ghost use Rattle.images.specs.Image.{Image, drawn};
-ghost use Rattle.images.specs.Raw.{raw};
-ghost use Rattle.abyss_levels.specs.Abyss.{abyss_at, raw_with, tile_bytes};
+ghost use Rattle.images.specs.Raw.{raw, tile_bytes};
+ghost use Rattle.abyss_levels.specs.Abyss.{abyss_at, raw_with};
 ghost use Rattle.abyss_levels.specs.Rows.{first_rows, row_below};
 
 use crate::abyss::Abyss;

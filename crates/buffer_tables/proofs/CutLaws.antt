@@ -6,11 +6,10 @@ use Rattle.sample_rows.specs.Format.{channels}
 use Rattle.sample_rows.specs.declared.format.Format.{Format}
 use Rattle.images.specs.Agreement.{AgreeOutside}
 use Rattle.images.specs.Image.{Image, at, drawn, lies}
-use Rattle.images.specs.Paint.{painted}
+use Rattle.images.specs.Paint.{cut, painted}
 use Rattle.images.proofs.Laws.{at-drawn, at_no_channel, at_outside, drawn_alike}
 use Rattle.images.proofs.Places.{by_places, lies_not}
 use Rattle.images.proofs.Samples.{lies_where}
-use Rattle.buffer_tables.specs.Table.{cut}
 
 -- images of one format are alike at a place where they are in each channel
 pub at-by_channels : (a b : Image) (u v c : ℕ) → a.format ≡ b.format → (c < channels a.format → at a u v c ≡ at b u v c) → at a u v c ≡ at b u v c

@@ -1,11 +1,13 @@
 pub mod FindLaws
 pub mod CutLaws
-pub mod TableLaws
-pub mod AddingLaws
 pub mod AnswerLaws
 pub mod CauseLaws
+mod ExactLaws
+pub mod LayoutLaws
+pub mod ShapeLaws
+pub mod AddingLaws
+pub mod TableLaws
 pub mod EffectLaws
-pub mod MoveLaws
-pub mod SharingLaws
-pub mod ExactLaws
-pub mod SeenLaws
+mod MoveLaws
+mod SeenLaws
+mod SharingLaws

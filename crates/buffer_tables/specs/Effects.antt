@@ -5,7 +5,8 @@ use Rattle.sample_rows.specs.Format.{channels}
 use Rattle.sample_rows.specs.Row.{Pixel}
 use Rattle.images.specs.Agreement.{AgreeOutside}
 use Rattle.images.specs.Image.{Image, at}
-use Rattle.buffer_tables.specs.Table.{Table, find, image_of, root_of}
+use Rattle.buffer_tables.specs.Layout.{find}
+use Rattle.buffer_tables.specs.Table.{Table, image_of, root_of}
 
 -- A new buffer has an image, and the others are as they were.
 pub record IsAdded (table : Table) (name : List ℕ) (image : Image) (after : Table) : Type 0 where

@@ -8,8 +8,10 @@ use Rattle.abyss_levels.specs.Abyss.{raw_with}
 use Rattle.abyss_levels.specs.declared.abyss.Abyss.TheVariants as abyss
 use Rattle.abyss_levels.specs.Examples.{places_from}
 use Rattle.images.specs.Paint.{no_image}
-use Rattle.buffer_tables.specs.Table.{Table, image_of, most_buffers}
-use Rattle.buffer_tables.specs.Edits.{Edited, created, sub_buffer, duplicated, filled, put}
+use Rattle.buffer_tables.specs.BufferEdit.{Create, Duplicate, Fill, Put, Sub}
+use Rattle.buffer_tables.specs.Edits.{Edited, edited_table}
+use Rattle.buffer_tables.specs.Layout.{most_buffers}
+use Rattle.buffer_tables.specs.Table.{Table, image_of, no_buffers}
 
 -- names of buffers
 abbrev pub first_name : List ℕ
@@ -33,37 +35,33 @@ abbrev pub image_after : Edited → List ℕ → Image
 image_after (Ok table) name = image_of table name
 image_after (Err refused) name = no_image
 
--- the table without a buffer
-abbrev pub no_buffer : Table
-no_buffer = record { roots = []; buffers = [] }
-
 -- a table of a buffer of zeros
 abbrev pub zeros_over : Rectangle → Edited
-zeros_over extent = created no_buffer first_name Y8 extent
+zeros_over extent = edited_table no_buffers (Create first_name Y8 extent)
 
 -- a buffer of two places of 10, its duplicate, and then 20 in its first place
 abbrev pub duplicate_then_fill : Edited
 duplicate_then_fill =
     and_then (and_then (and_then (zeros_over (places_from (pos 0) 2))
-    (λ table. filled table first_name (places_from (pos 0) 2) (10 ∷ [])))
-    (λ table. duplicated table second_name first_name))
-    (λ table. filled table first_name (places_from (pos 0) 1) (20 ∷ []))
+    (λ table. edited_table table (Fill first_name (places_from (pos 0) 2) (10 ∷ []))))
+    (λ table. edited_table table (Duplicate second_name first_name)))
+    (λ table. edited_table table (Fill first_name (places_from (pos 0) 1) (20 ∷ [])))
 
 -- the same, and then 30 in the second place of the duplicate
 abbrev pub duplicate_filled : Edited
-duplicate_filled = and_then duplicate_then_fill (λ table. filled table second_name (places_from (pos 1) 1) (30 ∷ []))
+duplicate_filled = and_then duplicate_then_fill (λ table. edited_table table (Fill second_name (places_from (pos 1) 1) (30 ∷ [])))
 
 -- four places of zeros, and a sub-buffer of nine places from the second on
 abbrev pub part_of_four : Edited
-part_of_four = and_then (zeros_over (places_from (pos 0) 4)) (λ table. sub_buffer table second_name first_name (places_from (pos 1) 9))
+part_of_four = and_then (zeros_over (places_from (pos 0) 4)) (λ table. edited_table table (Sub second_name first_name (places_from (pos 1) 9)))
 
 -- three places of 1, 2 and 3
 abbrev pub one_two_three : Edited
-one_two_three = and_then (zeros_over (places_from (pos 0) 3)) (λ table. put table first_name (places_from (pos 0) 3) (1 ∷ 2 ∷ 3 ∷ []))
+one_two_three = and_then (zeros_over (places_from (pos 0) 3)) (λ table. edited_table table (Put first_name (places_from (pos 0) 3) (1 ∷ 2 ∷ 3 ∷ [])))
 
 -- two rows of two places, 1 and 2 above 3 and 4
 abbrev pub two_rows : Edited
-two_rows = and_then (zeros_over (placed (pos 0) (pos 0) 2 2)) (λ table. put table first_name (placed (pos 0) (pos 0) 2 2) (1 ∷ 2 ∷ 3 ∷ 4 ∷ []))
+two_rows = and_then (zeros_over (placed (pos 0) (pos 0) 2 2)) (λ table. edited_table table (Put first_name (placed (pos 0) (pos 0) 2 2) (1 ∷ 2 ∷ 3 ∷ 4 ∷ [])))
 
 -- the right column of two rows
 abbrev pub right_column : Rectangle
@@ -71,15 +69,15 @@ right_column = placed (pos 1) (pos 0) 1 2
 
 -- two rows, and a sub-buffer of the right column
 abbrev pub column_of_two_rows : Edited
-column_of_two_rows = and_then two_rows (λ table. sub_buffer table second_name first_name right_column)
+column_of_two_rows = and_then two_rows (λ table. edited_table table (Sub second_name first_name right_column))
 
 -- two rows, whose right column is 9 by its sub-buffer
 abbrev pub nines_by_column : Edited
-nines_by_column = and_then column_of_two_rows (λ table. filled table second_name right_column (9 ∷ []))
+nines_by_column = and_then column_of_two_rows (λ table. edited_table table (Fill second_name right_column (9 ∷ [])))
 
 -- one place of three channels
 abbrev pub one_colour : Edited
-one_colour = created no_buffer first_name RGB8 (places_from (pos 0) 1)
+one_colour = edited_table no_buffers (Create first_name RGB8 (places_from (pos 0) 1))
 
 -- a table of 64 buffers, whose names are of 1 to 64 bytes
 abbrev pub full_table : Table

@@ -4,8 +4,10 @@
 ghost use Rattle.std.specs.Prelude.{◌≡◌, [], ◌∷◌, negsuc, pos, Err};
 ghost use Rattle.plane_rect.specs.Rectangle.{placed};
 ghost use Rattle.abyss_levels.specs.Examples.{places_from};
-ghost use Rattle.buffer_tables.specs.Edits.{copied, created, duplicated, filled, put};
-ghost use Rattle.buffer_tables.specs.Examples.{and_then, bytes_of, column_of_two_rows, duplicate_filled, duplicate_then_fill, first_name, full_table, image_after, nines_by_column, no_buffer, one_colour, one_two_three, part_of_four, right_column, second_name, two_rows, zeros_over};
+ghost use Rattle.buffer_tables.specs.BufferEdit.{Copy, Create, Duplicate, Fill, Put};
+ghost use Rattle.buffer_tables.specs.Edits.{edited_table};
+ghost use Rattle.buffer_tables.specs.Table.{no_buffers};
+ghost use Rattle.buffer_tables.specs.Examples.{and_then, bytes_of, column_of_two_rows, duplicate_filled, duplicate_then_fill, first_name, full_table, image_after, nines_by_column, one_colour, one_two_three, part_of_four, right_column, second_name, two_rows, zeros_over};
 
 use crate::refused::EditRefused;
 use sample_rows::Format;
@@ -24,9 +26,9 @@ pub fn duplicates()
 pub fn sub_buffers()
     ensures extent { (image_after part_of_four second_name).box ≡ places_from (pos 1) 3 }
     ensures shared { bytes_of
-        (and_then part_of_four (λ table. filled table second_name (places_from (pos 2) 1) (7 ∷ [])))
+        (and_then part_of_four (λ table. edited_table table (Fill second_name (places_from (pos 2) 1) (7 ∷ []))))
         first_name (places_from (pos 0) 4) ≡ 0 ∷ 0 ∷ 7 ∷ 0 ∷ [] }
-    ensures outside { and_then part_of_four (λ table. filled table second_name (places_from (pos 0) 1) (9 ∷ []))
+    ensures outside { and_then part_of_four (λ table. edited_table table (Fill second_name (places_from (pos 0) 1) (9 ∷ [])))
         ≡ Err EditRefused.OutOfBounds }
 {}
 
@@ -40,32 +42,32 @@ pub fn columns()
 /// The first two of 1, 2 and 3 are copied onto the last two, and the last two onto the first two.
 pub fn copies_onto_itself()
     ensures right { bytes_of
-        (and_then one_two_three (λ table. copied table first_name first_name (places_from (pos 0) 2) (pos 1) (pos 0)))
+        (and_then one_two_three (λ table. edited_table table (Copy first_name first_name (places_from (pos 0) 2) (pos 1) (pos 0))))
         first_name (places_from (pos 0) 3) ≡ 1 ∷ 1 ∷ 2 ∷ [] }
     ensures left { bytes_of
-        (and_then one_two_three (λ table. copied table first_name first_name (places_from (pos 1) 2) (negsuc 0) (pos 0)))
+        (and_then one_two_three (λ table. edited_table table (Copy first_name first_name (places_from (pos 1) 2) (negsuc 0) (pos 0))))
         first_name (places_from (pos 0) 3) ≡ 2 ∷ 3 ∷ 3 ∷ [] }
 {}
 
 /// Edits that are refused: of names that are taken or unknown, and beside 64 buffers.
 pub fn refused_names()
-    ensures taken { and_then one_colour (λ table. created table first_name Format.Y8 (places_from (pos 0) 1))
+    ensures taken { and_then one_colour (λ table. edited_table table (Create first_name Format.Y8 (places_from (pos 0) 1)))
         ≡ Err EditRefused.NameTaken }
-    ensures unknown { duplicated no_buffer first_name second_name ≡ Err EditRefused.UnknownBuffer }
-    ensures full { created full_table second_name Format.Y8 (places_from (pos 0) 1) ≡ Err EditRefused.TooManyBuffers }
+    ensures unknown { edited_table no_buffers (Duplicate first_name second_name) ≡ Err EditRefused.UnknownBuffer }
+    ensures full { edited_table full_table (Create second_name Format.Y8 (places_from (pos 0) 1)) ≡ Err EditRefused.TooManyBuffers }
 {}
 
 /// Edits that are refused: a fill of three channels with one sample, or with one above 255; three
 /// bytes for four places; a copy that leaves the buffer, or the plane.
 pub fn refused_samples()
-    ensures one_sample { and_then one_colour (λ table. filled table first_name (places_from (pos 0) 1) (1 ∷ []))
+    ensures one_sample { and_then one_colour (λ table. edited_table table (Fill first_name (places_from (pos 0) 1) (1 ∷ [])))
         ≡ Err EditRefused.Formats }
-    ensures great_sample { and_then one_colour (λ table. filled table first_name (places_from (pos 0) 1) (1 ∷ 256 ∷ 1 ∷ []))
+    ensures great_sample { and_then one_colour (λ table. edited_table table (Fill first_name (places_from (pos 0) 1) (1 ∷ 256 ∷ 1 ∷ [])))
         ≡ Err EditRefused.Formats }
-    ensures three_bytes { and_then two_rows (λ table. put table first_name (placed (pos 0) (pos 0) 2 2) (1 ∷ 2 ∷ 3 ∷ []))
+    ensures three_bytes { and_then two_rows (λ table. edited_table table (Put first_name (placed (pos 0) (pos 0) 2 2) (1 ∷ 2 ∷ 3 ∷ [])))
         ≡ Err (EditRefused.WrongSize 3 4) }
-    ensures past_the_edge { and_then one_two_three (λ table. copied table first_name first_name (places_from (pos 0) 2) (pos 2) (pos 0))
+    ensures past_the_edge { and_then one_two_three (λ table. edited_table table (Copy first_name first_name (places_from (pos 0) 2) (pos 2) (pos 0)))
         ≡ Err EditRefused.OutOfBounds }
-    ensures past_the_plane { and_then one_two_three (λ table. copied table first_name first_name (places_from (pos 0) 2) (pos 16777216) (pos 0))
+    ensures past_the_plane { and_then one_two_three (λ table. edited_table table (Copy first_name first_name (places_from (pos 0) 2) (pos 16777216) (pos 0)))
         ≡ Err EditRefused.OutOfBounds }
 {}

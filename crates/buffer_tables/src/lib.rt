@@ -4,7 +4,9 @@
 
 pub mod adding;
 pub mod causes;
+pub mod counts;
 pub mod examples;
+pub mod layouts;
 mod refused;
 pub mod sharing;
 pub mod tables;

@@ -1,5 +1,5 @@
 -- Images that agree.
-use Rattle.std.specs.Prelude.{◌≡◌, ℕ}
+use Rattle.std.specs.Prelude.{◌≡◌, ◌⊎◌, ℕ}
 use Rattle.plane_rect.specs.Rectangle.{Rectangle, Lies}
 use Rattle.images.specs.Image.{Image, at}
 
@@ -8,3 +8,14 @@ pub record AgreeOutside (a b : Image) (r : Rectangle) : Type 0 where
   pub box : a.box ≡ b.box
   pub format : a.format ≡ b.format
   pub samples : (u v c : ℕ) → (Lies u v r → ⊥) → at a u v c ≡ at b u v c
+
+-- Two images have one format, and the same samples everywhere, whatever their boxes.
+pub record AgreeEverywhere (a b : Image) : Type 0 where
+  pub format : a.format ≡ b.format
+  pub samples : (u v c : ℕ) → at a u v c ≡ at b u v c
+
+-- Each pixel of an image has its old samples or its new ones.
+pub record IsOldOrNew (old new now : Image) : Type 0 where
+  pub box : now.box ≡ old.box
+  pub format : now.format ≡ old.format
+  pub pixels : (u v : ℕ) → ((c : ℕ) → at now u v c ≡ at old u v c) ⊎ ((c : ℕ) → at now u v c ≡ at new u v c)

@@ -16,6 +16,10 @@ blank box format = drawn box format (λ u v c. 0)
 abbrev pub no_image : Image
 no_image = blank empty Y8
 
+-- the image over another box: zeros where it has nothing
+abbrev pub cut : Image → Rectangle → Image
+cut image box = drawn box image.format (at image)
+
 -- the image, with what f gives over a rectangle in place of its samples there
 abbrev pub painted : Image → Rectangle → (ℕ → ℕ → Pixel) → Image
 painted image rectangle f =

@@ -11,10 +11,9 @@ use Rattle.std.specs.List.{flat_map}
 use Rattle.std.proofs.lemmas.Bool.Decides.{nat_tests}
 use Rattle.images.specs.Image.{Image, at, drawn, lies}
 use Rattle.images.specs.Paint.{painted, put_raw}
-use Rattle.images.specs.Raw.{raw, sample_bytes}
+use Rattle.images.specs.Raw.{raw, sample_bytes, tile_bytes}
 use Rattle.images.proofs.Samples.{Lies_from}
 use Rattle.images.proofs.Laws.{at_outside, at-drawn, drawn_alike, sampled_alike}
-use Rattle.abyss_levels.specs.Abyss.{tile_bytes}
 use Rattle.images.specs.Spelled.{spelled, spelled_pixels}
 use Rattle.images.proofs.Spelling.{raw-is, at-spelled, zeros_are_bytes}
 use Rattle.patch_abyss.proofs.Parts.{pixels_zero}

@@ -3,8 +3,7 @@ use Rattle.plane_rect.specs.Rectangle.{empty}
 use Rattle.plane_rect.specs.Tile.{tile_square}
 use Rattle.sample_rows.specs.Format.{pixel_bytes}
 use Rattle.images.specs.Image.{Image}
-use Rattle.images.specs.Raw.{raw}
-use Rattle.abyss_levels.specs.Abyss.{tile_bytes}
+use Rattle.images.specs.Raw.{raw, tile_bytes}
 use Rattle.images.specs.Spelled.{spelled, byte_count}
 use Rattle.patch_abyss.proofs.TilesOfPatches.{no_tile_place, zero_tile, some_places, whole_tile, few_bytes, raw-part}
 use Rattle.patch_abyss.proofs.patch.Patch.tile.Goals as goal
