@@ -4,7 +4,8 @@ use Rattle.std.specs.Prelude.{MatchOption}
 use Rattle.plane_rect.specs.declared.rect.RectRefused.{RectRefused}
 use Rattle.plane_rect.specs.Rectangle.{Rectangle, Includes, shifted}
 use Rattle.images.specs.Shape.{Shape}
-use Rattle.buffer_tables.specs.BufferEdit.{BufferEdit, Create, Sub, Duplicate, Fill, Put, Copy, add_refused, edit_refused, if_known}
+use Rattle.buffer_tables.specs.declared.refused.EditRefused.{EditRefused}
+use Rattle.buffer_tables.specs.BufferEdit.{BufferEdit, Create, Sub, Duplicate, Fill, Put, Copy, add_refused, copy_refused, edit_refused, fill_refused, if_known, put_refused}
 use Rattle.buffer_tables.specs.Layout.{TableLayout, View, find, buffer_shape, view_shape}
 use Rattle.buffer_tables.specs.Causes.{IsKnown, IsAddable, AddRefused, AddFromRefused, HasPlaces, LacksPlaces, IsFillable, FillRefused, IsPuttable, PutRefused, HasMoved, HasBoth, IsCopyable, CopyRefused, IsCarriedOut, IsRefused}
 use Rattle.buffer_tables.proofs.AnswerLaws.{known, added, filled, put, copied}
@@ -35,7 +36,7 @@ module _ (layout : TableLayout) where
   fill-causes name r samples =
       known (IsFillable layout name r samples) (FillRefused layout name r samples) (find layout.buffers name) _ (λ none. none) (λ view e.
       let there = known-seen name view e in
-      rw (shape-seen name view e)
+      subst (λ (shape : Shape). MatchOption (fill_refused shape r samples) (IsFillable layout name r samples) (FillRefused layout name r samples)) (sym (shape-seen name view e))
       (filled (IsFillable layout name r samples) (FillRefused layout name r samples) (buffer_shape layout name) r samples
       (λ out. (there, out)) (λ inside other. ((there, inside), other)) (λ inside pixel. ((there, inside), pixel))))
 
@@ -44,32 +45,33 @@ module _ (layout : TableLayout) where
   put-causes name r bytes =
       known (IsPuttable layout name r bytes) (PutRefused layout name r bytes) (find layout.buffers name) _ (λ none. none) (λ view e.
       let there = known-seen name view e in
-      rw (shape-seen name view e)
+      subst (λ (shape : Shape). MatchOption (put_refused shape r bytes) (IsPuttable layout name r bytes) (PutRefused layout name r bytes)) (sym (shape-seen name view e))
       (put (IsPuttable layout name r bytes) (PutRefused layout name r bytes) (buffer_shape layout name) r bytes
       (λ out. (there, out)) (λ inside other. ((there, inside), other, refl, refl)) (λ inside same. ((there, inside), same))))
 
-  copy-causes : (from to : List ℕ) (r : Rectangle) (dx dy : ℤ)
-      → MatchOption (edit_refused layout (Copy from to r dx dy)) (IsCopyable layout from to r dx dy) (CopyRefused layout from to r dx dy)
-  copy-causes from to r dx dy =
-      known A R (find layout.buffers from) _ inl (λ source s.
-      known A R (find layout.buffers to) _ inr (λ target t.
-      let there = known-seen from source s in
-      let here = known-seen to target t in
-      let both : Includes (buffer_shape layout from).box r → (m : Rectangle) → shifted dx dy r ≡ Ok m → Includes (buffer_shape layout to).box m → HasBoth layout from to r dx dy =
-      λ inside m e room. ((there, inside), here, subst (HasMoved layout to) (sym e) room) in
-      rw (shape-seen from source s, shape-seen to target t)
-      (copied A R (buffer_shape layout from) (buffer_shape layout to) r (shifted dx dy r)
-      (λ out. (there, here, λ has. out has.0.1))
-      (λ inside refused e. (there, here, λ has. subst (HasMoved layout to) e has.2))
-      (λ inside m e out. (there, here, λ has. out (subst (HasMoved layout to) e has.2)))
-      (λ inside m e room unlike. (both inside m e room, unlike))
-      (λ inside m e room same. (both inside m e room, same)))))
-    where
-      abbrev A : Type 0
-      A = IsCopyable layout from to r dx dy
+  module _ (from to : List ℕ) (r : Rectangle) (dx dy : ℤ) where
+    abbrev Done : Type 0
+    Done = IsCopyable layout from to r dx dy
 
-      abbrev R : _ → Type 0
-      R = CopyRefused layout from to r dx dy
+    abbrev Refused : EditRefused → Type 0
+    Refused = CopyRefused layout from to r dx dy
+
+    copy-causes : MatchOption (edit_refused layout (Copy from to r dx dy)) Done Refused
+    copy-causes =
+        known Done Refused (find layout.buffers from) _ (λ none. inl none) (λ source s.
+        known Done Refused (find layout.buffers to) _ (λ none. inr none) (λ target t.
+        let there = known-seen from source s in
+        let here = known-seen to target t in
+        let both : Includes (buffer_shape layout from).box r → (m : Rectangle) → shifted dx dy r ≡ Ok m → Includes (buffer_shape layout to).box m → HasBoth layout from to r dx dy =
+        λ inside m e room. ((there, inside), here, subst (HasMoved layout to) (sym e) room) in
+        subst (λ (shape : Shape). MatchOption (copy_refused shape (view_shape layout target) r (shifted dx dy r)) Done Refused) (sym (shape-seen from source s))
+        (subst (λ (shape : Shape). MatchOption (copy_refused (buffer_shape layout from) shape r (shifted dx dy r)) Done Refused) (sym (shape-seen to target t))
+        (copied Done Refused (buffer_shape layout from) (buffer_shape layout to) r (shifted dx dy r)
+        (λ out. (there, here, λ has. out has.0.1))
+        (λ inside refused e. (there, here, λ has. subst (HasMoved layout to) e has.2))
+        (λ inside m e out. (there, here, λ has. out (subst (HasMoved layout to) e has.2)))
+        (λ inside m e room unlike. (both inside m e room, unlike))
+        (λ inside m e room same. (both inside m e room, same))))))
 
   pub causes : (edit : BufferEdit) → MatchOption (edit_refused layout edit) (IsCarriedOut layout edit) (IsRefused layout edit)
   causes (Create name format extent) = create-causes name

@@ -67,78 +67,78 @@ part-rooted layout view r rooted rectangle = record {
 
 module _ (layout : TableLayout) (is : IsLayout layout) (name : List ℕ) (new : find layout.buffers name ≡ None) (room : length layout.buffers < most_buffers) where
   -- one of a root that is there
-  IsLayout-with_view : (view : View) → IsRooted layout view → IsLayout (record layout { buffers = added layout.buffers name view })
-  IsLayout-with_view view rooted = record {
-    few = omega (arith, length-append layout.buffers ((name, view) ∷ []));
-    buffer_names = AreDistinct-added layout.buffers name view new is.buffer_names;
-    root_names = is.root_names;
-    named = λ root some. by_option _ (find layout.buffers root)
-        (λ (x : View) e. rw (find-kept layout.buffers root name view x e) refl)
-        (λ none. absurd (let there = is.named root some in cc));
-    rooted = λ q. find-either (IsRooted after) layout.buffers q name view new (λ _. over view rooted)
-        (if_some (find layout.buffers q) (IsRooted after) (λ old e. over old (rooted_view layout is q old e)));
-    kept = is.kept;
-  }
-    where
-      after : TableLayout
-      after = record layout { buffers = added layout.buffers name view }
+  module _ (view : View) (rooted : IsRooted layout view) where
+    abbrev with_view : TableLayout
+    with_view = record layout { buffers = added layout.buffers name view }
 
-      over : (old : View) → IsRooted layout old → IsRooted after old
-      unfolding after
-      over old there = record { root = there.root; inside = there.inside; extent = there.extent }
+    over : (old : View) → IsRooted layout old → IsRooted with_view old
+    over old there = record { root = there.root; inside = there.inside; extent = there.extent }
+
+    IsLayout-with_view : IsLayout with_view
+    IsLayout-with_view = record {
+      few = omega (arith, length-append layout.buffers ((name, view) ∷ []));
+      buffer_names = AreDistinct-added layout.buffers name view new is.buffer_names;
+      root_names = is.root_names;
+      named = λ root some. by_option _ (find layout.buffers root)
+          (λ (x : View) e. rw (find-kept layout.buffers root name view x e) refl)
+          (λ none. absurd (let there = is.named root some in cc));
+      rooted = λ q. find-either (IsRooted with_view) layout.buffers q name view new (λ _. over view rooted)
+          (if_some (find layout.buffers q) (IsRooted with_view) (λ old e. over old (rooted_view layout is q old e)));
+      kept = is.kept;
+    }
 
   -- one and its root
-  IsLayout-with_root : (shape : Shape) (extent : Rectangle) → IsKept shape → Includes shape.box extent → IsRectangle extent
-      → IsLayout (layout_with_root layout name shape extent)
-  IsLayout-with_root shape extent kept inside rectangle = record {
-    few = omega (arith, length-append layout.buffers ((name, view) ∷ []));
-    buffer_names = AreDistinct-added layout.buffers name view new is.buffer_names;
-    root_names = AreDistinct-added layout.roots name shape none is.root_names;
-    named = named;
-    rooted = λ q. find-either (IsRooted after) layout.buffers q name view new
-        (λ _. record {
-          root = rw (find-new layout.roots name shape none) refl;
-          inside = rw (find-new layout.roots name shape none) inside;
-          extent = rectangle;
+  module _ (shape : Shape) (extent : Rectangle) where
+    abbrev view : View
+    view = record { root = name; extent = extent }
+
+    abbrev with_own : TableLayout
+    with_own = layout_with_root layout name shape extent
+
+    none_yet : find layout.roots name ≡ None
+    none_yet = no_root layout is name new
+
+    still : (o : Option View) → IfSome o (IsRooted layout) → IfSome o (IsRooted with_own)
+    still (Some old) rooted = by_value _ (find layout.roots old.root) rooted.root
+        (λ (x : Shape) e.
+        let now = find-kept layout.roots old.root name shape x e in
+        let same : root_shape with_own old.root ≡ root_shape layout old.root = rw (now, e) refl in
+        record {
+          root = rw now refl;
+          inside = subst (λ (s : Shape). Includes s.box old.extent) (sym same) rooted.inside;
+          extent = rooted.extent;
         })
-        (still (find layout.buffers q) (is.rooted q));
-    kept = λ q. find-either IsKept layout.roots q name shape none (λ _. kept) (is.kept q);
-  }
-    where
-      abbrev view : View
-      view = record { root = name; extent = extent }
+    still None rooted = tt
 
-      abbrev after : TableLayout
-      after = layout_with_root layout name shape extent
+    same_test : (b : Bool) → is_some (cond b (Some shape) None) ≡ true → is_some (cond b (Some view) None) ≡ true
+    same_test true h = refl
+    same_test false h = h
 
-      none : find layout.roots name ≡ None
-      none = no_root layout is name new
+    absent : (root : List ℕ) → find layout.buffers root ≡ None → find layout.roots root ≡ None → IsSome (find (added layout.roots name shape) root)
+        → IsSome (find (added layout.buffers name view) root)
+    absent root lacking rootless some =
+        rw (find-added layout.buffers root name view lacking) (same_test (bytes_eq root name) (rw (find-added layout.roots root name shape rootless) at some))
 
-      still : (o : Option View) → IfSome o (IsRooted layout) → IfSome o (IsRooted after)
-      still (Some old) rooted = by_value _ (find layout.roots old.root) rooted.root
-          (λ (x : Shape) e.
-          let now = find-kept layout.roots old.root name shape x e in
-          let same : root_shape after old.root ≡ root_shape layout old.root = rw (now, e) refl in
-          record {
-            root = rw now refl;
-            inside = subst (λ (s : Shape). Includes s.box old.extent) (sym same) rooted.inside;
-            extent = rooted.extent;
+    named : (root : List ℕ) → IsSome (find (added layout.roots name shape) root) → IsSome (find (added layout.buffers name view) root)
+    named root some = by_option _ (find layout.buffers root)
+        (λ (x : View) e. rw (find-kept layout.buffers root name view x e) refl)
+        (λ lacking. absent root lacking (no_root layout is root lacking) some)
+
+    IsLayout-with_root : IsKept shape → Includes shape.box extent → IsRectangle extent → IsLayout with_own
+    IsLayout-with_root kept inside rectangle = record {
+      few = omega (arith, length-append layout.buffers ((name, view) ∷ []));
+      buffer_names = AreDistinct-added layout.buffers name view new is.buffer_names;
+      root_names = AreDistinct-added layout.roots name shape none_yet is.root_names;
+      named = named;
+      rooted = λ q. find-either (IsRooted with_own) layout.buffers q name view new
+          (λ _. record {
+            root = rw (find-new layout.roots name shape none_yet) refl;
+            inside = rw (find-new layout.roots name shape none_yet) inside;
+            extent = rectangle;
           })
-      still None rooted = tt
-
-      same_test : (b : Bool) → is_some (cond b (Some shape) None) ≡ true → is_some (cond b (Some view) None) ≡ true
-      same_test true h = refl
-      same_test false h = h
-
-      absent : (root : List ℕ) → find layout.buffers root ≡ None → find layout.roots root ≡ None → IsSome (find (added layout.roots name shape) root)
-          → IsSome (find (added layout.buffers name view) root)
-      absent root lacking rootless some =
-          rw (find-added layout.buffers root name view lacking) (same_test (bytes_eq root name) (rw (find-added layout.roots root name shape rootless) at some))
-
-      named : (root : List ℕ) → IsSome (find (added layout.roots name shape) root) → IsSome (find (added layout.buffers name view) root)
-      named root some = by_option _ (find layout.buffers root)
-          (λ (x : View) e. rw (find-kept layout.buffers root name view x e) refl)
-          (λ lacking. absent root lacking (no_root layout is root lacking) some)
+          (still (find layout.buffers q) (is.rooted q));
+      kept = λ q. find-either IsKept layout.roots q name shape none_yet (λ _. kept) (is.kept q);
+    }
 
 -- ---- each edit
 

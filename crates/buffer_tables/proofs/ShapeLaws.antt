@@ -9,9 +9,10 @@ use Rattle.plane_rect.specs.declared.rect.RectRefused.{RectRefused}
 use Rattle.plane_rect.specs.Rectangle.{Rectangle, shifted}
 use Rattle.images.specs.Image.{Image}
 use Rattle.images.specs.Paint.{no_image, painted}
+use Rattle.images.specs.Spelled.{spelled_pixels}
 use Rattle.images.specs.Shape.{Shape, no_shape, shape_of}
 use Rattle.buffer_tables.specs.BufferEdit.{BufferEdit, Create, Sub, Duplicate, Fill, Put, Copy, Refusal, added, edit_refused, layout_with, layout_with_duplicate, layout_with_part, layout_with_root, part_of}
-use Rattle.buffer_tables.specs.Edits.{by_move, by_view, edited_table, table_with, unless_refused, with_root, with_view, written}
+use Rattle.buffer_tables.specs.Edits.{by_move, by_view, edited_table, evenly, moved_samples, table_with, unless_refused, with_root, with_view, written}
 use Rattle.buffer_tables.specs.Layout.{TableLayout, View, buffer_shape, facts_of, find, root_shape, seen_shape, view_fact}
 use Rattle.buffer_tables.specs.Table.{Table, image_of, layout_of, root_image, seen}
 
@@ -44,21 +45,26 @@ root-added table name image extent =
     ap (λ (roots : List (List ℕ × Shape)). record { roots = roots; buffers = added table.buffers name (record { root = name; extent = extent }) })
     (map-append entry table.roots ((name, image) ∷ []))
 
-samples-written : (table : Table) (root : List ℕ) (r : Rectangle) (f : ℕ → ℕ → ℕ → ℕ) → layout_of (written table root r f) ≡ layout_of table
-samples-written table root r f =
-    ap (λ (roots : List (List ℕ × Shape)). record { roots = roots; buffers = table.buffers }) (shapes table.roots)
-  where
-    same : (b : Bool) (image : Image) → shape_of (cond b (painted image r f) image) ≡ shape_of image
-    same true image = refl
-    same false image = refl
+module _ (root : List ℕ) (r : Rectangle) (f : ℕ → ℕ → ℕ → ℕ) where
+  abbrev shaped : List ℕ × Image → List ℕ × Shape
+  shaped e = (e.0, shape_of e.1)
 
-    shapes : (entries : List (List ℕ × Image))
-        → map (λ (e : List ℕ × Image). (e.0, shape_of e.1)) (map (λ (e : List ℕ × Image). (e.0, cond (bytes_eq root e.0) (painted e.1 r f) e.1)) entries)
-        ≡ map (λ (e : List ℕ × Image). (e.0, shape_of e.1)) entries
-    shapes [] = refl
-    shapes (e ∷ entries) =
-        ap (λ (shape : Shape). (e.0, shape) ∷ map (λ (e : List ℕ × Image). (e.0, shape_of e.1)) (map (λ (e : List ℕ × Image). (e.0, cond (bytes_eq root e.0) (painted e.1 r f) e.1)) entries)) (same (bytes_eq root e.0) e.1)
-        ∙ ap (λ (rest : List (List ℕ × Shape)). (e.0, shape_of e.1) ∷ rest) (shapes entries)
+  abbrev changed : List ℕ × Image → List ℕ × Image
+  changed e = (e.0, cond (bytes_eq root e.0) (painted e.1 r f) e.1)
+
+  same_shape : (b : Bool) (image : Image) → shape_of (cond b (painted image r f) image) ≡ shape_of image
+  same_shape true image = refl
+  same_shape false image = refl
+
+  shapes-written : (entries : List (List ℕ × Image)) → map shaped (map changed entries) ≡ map shaped entries
+  shapes-written [] = refl
+  shapes-written (e ∷ entries) =
+      ap (λ (shape : Shape). let first : List ℕ × Shape = (e.0, shape) in first ∷ map shaped (map changed entries)) (same_shape (bytes_eq root e.0) e.1)
+      ∙ ap (λ (rest : List (List ℕ × Shape)). shaped e ∷ rest) (shapes-written entries)
+
+  samples-written : (table : Table) → layout_of (written table root r f) ≡ layout_of table
+  samples-written table =
+      ap (λ (roots : List (List ℕ × Shape)). record { roots = roots; buffers = table.buffers }) (shapes-written table.roots)
 
 -- what is done by a view keeps the layout, where it does so for each view
 view-keeps : (table : Table) (o : Option View) (after : View → Table) → ((view : View) → layout_of (after view) ≡ layout_of table)
@@ -87,10 +93,10 @@ pub layout-with : (table : Table) (edit : BufferEdit) → layout_of (table_with 
 layout-with table (Create name format extent) = root-added table name _ extent
 layout-with table (Sub name parent r) = part-added table name r (find table.buffers parent)
 layout-with table (Duplicate name from) = duplicate-added table name (find table.buffers from)
-layout-with table (Fill name r samples) = view-keeps table (find table.buffers name) _ (λ view. samples-written table view.root r _)
-layout-with table (Put name r bytes) = view-keeps table (find table.buffers name) _ (λ view. samples-written table view.root r _)
+layout-with table (Fill name r samples) = view-keeps table (find table.buffers name) _ (λ view. samples-written view.root r (evenly samples) table)
+layout-with table (Put name r bytes) = view-keeps table (find table.buffers name) _ (λ view. samples-written view.root r (spelled_pixels r (root_image table view.root).format bytes) table)
 layout-with table (Copy from to r dx dy) =
-    view-keeps table (find table.buffers to) _ (λ view. move-keeps table (shifted dx dy r) _ (λ moved. samples-written table view.root moved _))
+    view-keeps table (find table.buffers to) _ (λ view. move-keeps table (shifted dx dy r) _ (λ moved. samples-written view.root moved (moved_samples (image_of table from) r moved) table))
 
 pub layout-edited : (table : Table) (edit : BufferEdit) → IfOk (edited_table table edit) (λ after. layout_of after ≡ layout_with (layout_of table) edit)
 layout-edited table edit = cases (edit_refused (layout_of table) edit)
