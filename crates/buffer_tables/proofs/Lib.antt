@@ -9,5 +9,5 @@ pub mod AddingLaws
 pub mod TableLaws
 pub mod EffectLaws
 mod MoveLaws
-mod SeenLaws
+pub mod SeenLaws
 mod SharingLaws

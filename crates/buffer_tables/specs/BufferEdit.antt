@@ -10,7 +10,7 @@ use Rattle.images.specs.Shape.{Shape}
 use Rattle.images.specs.Spelled.{byte_count}
 use Rattle.buffer_tables.specs.declared.refused.EditRefused.{EditRefused}
 use Rattle.buffer_tables.specs.declared.refused.EditRefused.TheVariants.{UnknownBuffer, NameTaken, OutOfBounds, WrongSize, Formats, TooManyBuffers}
-use Rattle.buffer_tables.specs.Layout.{TableLayout, View, find, root_shape, view_shape, most_buffers}
+use Rattle.buffer_tables.specs.Layout.{TableLayout, View, find, root_named, root_shape, view_shape, most_buffers}
 
 -- An edit of a table of buffers: a new buffer, a sub-buffer of a parent, a duplicate of another buffer, one pixel over a
 -- rectangle, raw bytes over a rectangle, a rectangle of one buffer copied to another or the same, moved by so much.
@@ -132,7 +132,7 @@ layout_with layout (Copy from to rectangle dx dy) = layout
 
 -- a rectangle of the root of a buffer
 abbrev pub on_root : TableLayout → List ℕ → Result Rectangle RectRefused → Option (List ℕ × Rectangle)
-on_root layout name (Ok rectangle) = option_map (λ (view : View). (view.root, rectangle)) (find layout.buffers name)
+on_root layout name (Ok rectangle) = option_map (λ root. (root, rectangle)) (root_named layout name)
 on_root layout name (Err refused) = None
 
 -- the root that an edit writes to, and where: none for a buffer more

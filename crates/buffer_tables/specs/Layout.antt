@@ -42,6 +42,10 @@ seen_shape layout (Some view) = view_shape layout view
 abbrev pub buffer_shape : TableLayout → List ℕ → Shape
 buffer_shape layout name = seen_shape layout (find layout.buffers name)
 
+-- the root of a buffer
+abbrev pub root_named : TableLayout → List ℕ → Option (List ℕ)
+root_named layout name = option_map (λ (view : View). view.root) (find layout.buffers name)
+
 -- what a graph knows of each buffer, under its name
 abbrev pub view_fact : TableLayout → View → Fact
 view_fact layout view = record { root = view.root; shape = view_shape layout view }

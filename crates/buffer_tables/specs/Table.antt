@@ -1,10 +1,9 @@
 -- Tables of buffers. A buffer is a name for a part of a root's image, and a name is its bytes.
 use Rattle.std.specs.Prelude.{ℕ, List, [], map, Option, Some, None, IfSome, unwrap_or}
-use Rattle.std.specs.Option.{option_map}
 use Rattle.images.specs.Image.{Image, IsImage}
 use Rattle.images.specs.Paint.{cut, no_image}
 use Rattle.images.specs.Shape.{Shape, shape_of}
-use Rattle.buffer_tables.specs.Layout.{IsLayout, TableLayout, View, find}
+use Rattle.buffer_tables.specs.Layout.{IsLayout, TableLayout, View, find, root_named}
 
 -- The images of the roots by the roots' names, and what stands for each name of a buffer.
 pub record Table : Type 0 where
@@ -37,7 +36,7 @@ image_of table name = seen table (find table.buffers name)
 
 -- the root of a buffer
 abbrev pub root_of : Table → List ℕ → Option (List ℕ)
-root_of table name = option_map (λ (view : View). view.root) (find table.buffers name)
+root_of table name = root_named (layout_of table) name
 
 -- A table: a layout, and whole images of its roots.
 pub record IsTable (table : Table) : Type 0 where

@@ -6,8 +6,9 @@ use Rattle.std.specs.Result.{result_unwrap_or}
 use Rattle.std.proofs.lemmas.Bool.Decides.{nat_tests}
 use Rattle.std.proofs.lemmas.List.{length-append}
 use Rattle.plane_rect.specs.Rectangle.{Rectangle}
-use Rattle.buffer_tables.specs.Edits.{Edited}
-use Rattle.buffer_tables.specs.Table.{Table}
+use Rattle.buffer_tables.specs.BufferEdit.{BufferEdit, written_by}
+use Rattle.buffer_tables.specs.Edits.{Edited, edited_table}
+use Rattle.buffer_tables.specs.Table.{Table, layout_of, no_buffers}
 use Rattle.operations.specs.declared.operation.IntOp.{IntOp}
 use Rattle.graphs.specs.Node.{index_of}
 use Rattle.graph_states.specs.Cache.{AreRight, Cached, HasDistinctPairs, all_looked_up, needed_pairs, pair_bytes, uncounted, without_damaged}
@@ -24,7 +25,7 @@ use Rattle.graph_states.proofs.RightPairs.{stay_right}
 use Rattle.committed_states.specs.Histories.{IsHistory, change_to, scene_of}
 use Rattle.operations.specs.Meanings.{int_meanings, same_operation}
 use Rattle.committed_states.specs.Sessions.{Action, AreProperActions, IsProperAction, Make, Render, Session, after_action, after_render, fit, session_of}
-use Rattle.committed_states.specs.Steps.{BufferEdit, Commit, EditBuffer, EditNode, IsProper, Redo, Step, Undo, after_step, edited_table, no_buffers, with_buffer_edit, with_working, written_by}
+use Rattle.committed_states.specs.Steps.{Commit, EditBuffer, EditNode, IsProper, Redo, Step, Undo, after_step, with_buffer_edit, with_working}
 use Rattle.committed_states.specs.Tables.{sources_of}
 use Rattle.committed_states.proofs.RightPairs.{appended, keeps_laws}
 use Rattle.operations.specs.Lawful.MeaningLaws.{is_boxed}
@@ -47,7 +48,7 @@ unless_refused history (Err refused) appends = inl (record { latest = refl; numb
 
 edit_stepped : (history : History Table IntOp) (edit : BufferEdit) (r : Edited) → Stepped history (with_buffer_edit history edit r)
 edit_stepped history edit (Err refused) = inl (record { latest = refl; number = refl })
-edit_stepped history edit (Ok table) = of (written_by history.working edit)
+edit_stepped history edit (Ok table) = of (written_by (layout_of history.working) edit)
   where
     of : (o : Option (List ℕ × Rectangle)) → Stepped history (with_working history table o)
     of None = inl (record { latest = refl; number = refl })

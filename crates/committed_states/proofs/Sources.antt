@@ -11,7 +11,8 @@ use Rattle.images.specs.Agreement.{AgreeOutside}
 use Rattle.images.specs.Image.{Image, at}
 use Rattle.images.specs.Paint.{no_image}
 use Rattle.images.proofs.Laws.{IsImage-drawn}
-use Rattle.buffer_tables.specs.Table.{AreDistinct, IsTable, Table, View, find, image_of, root_image, root_of, seen}
+use Rattle.buffer_tables.specs.Layout.{AreDistinct, View, find}
+use Rattle.buffer_tables.specs.Table.{IsTable, Table, image_of, root_image, root_of, seen}
 use Rattle.graphs.specs.Evaluation.{buffer_image}
 use Rattle.graph_states.proofs.Shapes.{buffer_image-is}
 use Rattle.graph_states.specs.Damage.{AreNeighbours}
@@ -62,7 +63,7 @@ pub tables_are_sources : (table : Table) → IsTable table → AreSources (sourc
 tables_are_sources table is =
     record {
       names = subst (IsDistinct bytes_eq) (sym (names-same table table.buffers))
-          (IsDistinct-from_AllPairs bytes_eq-Decides (map (λ (entry : List ℕ × View). entry.0) table.buffers) (names_apart table.buffers is.buffer_names));
+          (IsDistinct-from_AllPairs bytes_eq-Decides (map (λ (entry : List ℕ × View). entry.0) table.buffers) (names_apart table.buffers is.layout.buffer_names));
       buffers = whole table table.buffers;
     }
 

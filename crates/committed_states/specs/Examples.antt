@@ -17,7 +17,8 @@ use Rattle.graph_states.specs.Need.{Strip, need}
 use Rattle.graph_states.specs.Sources.{Sources}
 use Rattle.graph_states.specs.State.{Scene}
 use Rattle.operations.specs.Meanings.{int_meanings, same_operation}
-use Rattle.committed_states.specs.Steps.{Commit, Create, EditBuffer, EditNode, Fill, Step, made_by}
+use Rattle.buffer_tables.specs.BufferEdit.{Create, Fill}
+use Rattle.committed_states.specs.Steps.{Commit, EditBuffer, EditNode, Step, made_by}
 use Rattle.committed_states.specs.Tables.{sources_of}
 
 -- ---- histories

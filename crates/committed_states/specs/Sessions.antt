@@ -2,7 +2,7 @@
 use Rattle.std.specs.Prelude.{ℕ, Bool, ◌&&◌, ◌==◌, nat_le, if◌then◌else◌, ⊤, List, [], length, fold}
 use Rattle.std.specs.List.{AllByRecursion, list_all}
 use Rattle.plane_rect.specs.Rectangle.{Rectangle}
-use Rattle.buffer_tables.specs.Table.{Table}
+use Rattle.buffer_tables.specs.Table.{Table, no_buffers}
 use Rattle.operations.specs.declared.operation.IntOp.{IntOp}
 use Rattle.graphs.specs.Node.{index_of}
 use Rattle.graph_states.specs.Cache.{Counted, all_looked_up, needed_pairs, pair_bytes, uncounted, without_damaged}
@@ -12,7 +12,7 @@ use Rattle.graph_states.specs.History.{History, new_history, number_of}
 use Rattle.graph_states.specs.Need.{Strip, need}
 use Rattle.committed_states.specs.Histories.{change_to, scene_of}
 use Rattle.operations.specs.Meanings.{int_meanings, same_operation}
-use Rattle.committed_states.specs.Steps.{IsProper, Step, after_step, no_buffers}
+use Rattle.committed_states.specs.Steps.{IsProper, Step, after_step}
 
 -- A history, the cached pairs of its last state, and how many pairs its renders applied and reused.
 pub record Session : Type 0 where

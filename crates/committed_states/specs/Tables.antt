@@ -1,7 +1,9 @@
 -- Tables of buffers as graphs read them.
 use Rattle.std.specs.Prelude.{◌≡◌, ℕ, List, map, Some}
 use Rattle.images.specs.Agreement.{AgreeOutside}
-use Rattle.buffer_tables.specs.Table.{Table, View, cut, image_of, root_image, root_of}
+use Rattle.images.specs.Paint.{cut}
+use Rattle.buffer_tables.specs.Layout.{View}
+use Rattle.buffer_tables.specs.Table.{Table, image_of, root_image, root_of}
 use Rattle.graph_states.specs.History.{Rectangles, rectangle_of}
 use Rattle.graph_states.specs.Sources.{SourceBuffer, Sources}
 

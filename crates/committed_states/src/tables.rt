@@ -2,13 +2,16 @@
 
 ghost use Rattle.std.specs.Prelude.{◌≡◌, ℕ, List, IfOk, option_map, [], unwrap_or};
 ghost use Rattle.plane_rect.specs.Rectangle.{Rectangle};
-ghost use Rattle.buffer_tables.specs.Table.{find, image_of, IsTable, Table};
+ghost use Rattle.buffer_tables.specs.BufferEdit.{BufferEdit, IsProperEdit};
+ghost use Rattle.buffer_tables.specs.Edits.{edited_table};
+ghost use Rattle.buffer_tables.specs.Layout.{find};
+ghost use Rattle.buffer_tables.specs.Table.{image_of, IsTable, Table};
 ghost use Rattle.graphs.specs.Evaluation.{buffer_image};
 ghost use Rattle.graph_states.specs.Damage.{AreNeighbours};
 ghost use Rattle.graph_states.specs.History.{Rectangles};
 ghost use Rattle.graph_states.specs.Sources.{AreSources, images_of, source_of};
 ghost use Rattle.committed_states.specs.Tables.{Continues, source_in, sources_of};
-ghost use Rattle.committed_states.specs.Steps.{BufferEdit, edited_table, IsProperEdit, rectangles_by};
+ghost use Rattle.committed_states.specs.Steps.{rectangles_by};
 
 /// A table's buffers have distinct names and whole images over their extents, and a graph reads them as they are.
 pub fn tables_are_sources()

@@ -4,14 +4,16 @@ use Rattle.plane_rect.specs.Rectangle.{Rectangle}
 use Rattle.outside_io.specs.Files.{Files, file}
 use Rattle.operations.specs.declared.operation.IntOp.{IntOp}
 use Rattle.abyss_levels.specs.declared.abyss.Abyss.{Abyss}
-use Rattle.buffer_tables.specs.Table.{Table, View, find}
+use Rattle.buffer_tables.specs.Layout.{View, find}
+use Rattle.buffer_tables.specs.Table.{Table}
 use Rattle.buffer_tables.specs.Edits.{Edited}
 use Rattle.graph_states.specs.Cache.{Cached, Counted}
 use Rattle.graph_states.specs.Edits.{Remove, Set, StateRefused, has_node}
 use Rattle.graph_states.specs.History.{History, committed, redone, undone}
 use Rattle.operations.specs.Meanings.{int_meanings}
 use Rattle.committed_states.specs.Sessions.{fit}
-use Rattle.committed_states.specs.Steps.{BufferEdit, Copy, Create, Duplicate, Fill, Put, Sub, edited_table}
+use Rattle.buffer_tables.specs.BufferEdit.{BufferEdit, Copy, Create, Duplicate, Fill, Put, Sub}
+use Rattle.buffer_tables.specs.Edits.{edited_table}
 use Rattle.committed_states.specs.Tables.{sources_of}
 use Rattle.run_events.specs.Events.{Event}
 use Rattle.run_events.specs.declared.cause.Cause.TheVariants.{Strip, UnknownNode}

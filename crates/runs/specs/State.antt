@@ -2,10 +2,9 @@
 use Rattle.std.specs.Prelude.{ℕ, List, [], ◌∷◌, Option, Some, None}
 use Rattle.plane_rect.specs.Rectangle.{Rectangle}
 use Rattle.operations.specs.declared.operation.IntOp.{IntOp}
-use Rattle.buffer_tables.specs.Table.{Table}
+use Rattle.buffer_tables.specs.Table.{Table, no_buffers}
 use Rattle.graph_states.specs.Cache.{Cached}
 use Rattle.graph_states.specs.History.{History, new_history}
-use Rattle.committed_states.specs.Steps.{no_buffers}
 use Rattle.run_events.specs.Events.{Event, Puts}
 use Rattle.run_events.specs.Texts.{refusal_text}
 use Rattle.run_events.specs.declared.cause.Cause.{Cause}
