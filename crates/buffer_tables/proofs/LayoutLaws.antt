@@ -9,7 +9,7 @@ use Rattle.plane_rect.proofs.RectangleLaws.{IsRectangle-meet}
 use Rattle.images.specs.Shape.{Shape}
 use Rattle.buffer_tables.specs.BufferEdit.{BufferEdit, Create, Sub, Duplicate, Fill, Put, Copy, IsProperEdit, added, layout_with, layout_with_root, part_of}
 use Rattle.buffer_tables.specs.Causes.{IsCarriedOut}
-use Rattle.buffer_tables.specs.Layout.{TableLayout, View, find, root_shape, IsKept, IsRooted, IsLayout, most_buffers}
+use Rattle.buffer_tables.specs.Layout.{TableLayout, View, find, root_shape, IsValidShape, IsRooted, IsLayout, most_buffers}
 use Rattle.buffer_tables.proofs.FindLaws.{same_name, name_from_test, find-kept, find-added, find-new, find-other, AreDistinct-added}
 
 -- ---- values that may be there
@@ -50,10 +50,10 @@ no_root layout is name new = by_option _ (find layout.roots name) (λ shape e. a
 pub rooted_view : (layout : TableLayout) → IsLayout layout → (name : List ℕ) (view : View) → find layout.buffers name ≡ Some view → IsRooted layout view
 rooted_view layout is name view e = of_some (find layout.buffers name) (IsRooted layout) view e (is.rooted name)
 
-pub kept_root : (layout : TableLayout) → IsLayout layout → (root : List ℕ) → IsSome (find layout.roots root) → IsKept (root_shape layout root)
+pub kept_root : (layout : TableLayout) → IsLayout layout → (root : List ℕ) → IsSome (find layout.roots root) → IsValidShape (root_shape layout root)
 kept_root layout is root some =
     by_value _ (find layout.roots root) some
-    (λ (shape : Shape) e. rw e (of_some (find layout.roots root) IsKept shape e (is.kept root)))
+    (λ (shape : Shape) e. rw e (of_some (find layout.roots root) IsValidShape shape e (is.kept root)))
 
 pub meet-part : (r extent : Rectangle) → Includes extent (meet r extent)
 meet-part r extent u v h = ((Lies-meet u v r extent).0 h).1
@@ -124,7 +124,7 @@ module _ (layout : TableLayout) (is : IsLayout layout) (name : List ℕ) (new : 
         (λ (x : View) e. rw (find-kept layout.buffers root name view x e) refl)
         (λ lacking. absent root lacking (no_root layout is root lacking) some)
 
-    IsLayout-with_root : IsKept shape → Includes shape.box extent → IsRectangle extent → IsLayout with_own
+    IsLayout-with_root : IsValidShape shape → Includes shape.box extent → IsRectangle extent → IsLayout with_own
     IsLayout-with_root kept inside rectangle = record {
       few = omega (arith, length-append layout.buffers ((name, view) ∷ []));
       buffer_names = AreDistinct-added layout.buffers name view new is.buffer_names;
@@ -137,7 +137,7 @@ module _ (layout : TableLayout) (is : IsLayout layout) (name : List ℕ) (new : 
             extent = rectangle;
           })
           (still (find layout.buffers q) (is.rooted q));
-      kept = λ q. find-either IsKept layout.roots q name shape none_yet (λ _. kept) (is.kept q);
+      kept = λ q. find-either IsValidShape layout.roots q name shape none_yet (λ _. kept) (is.kept q);
     }
 
 -- ---- each edit

@@ -11,7 +11,7 @@ use Rattle.sample_rows.specs.declared.format.Format.TheVariants.{Y8}
 use Rattle.images.specs.Image.{IsImage, at}
 use Rattle.images.specs.Shape.{shape_of}
 use Rattle.images.proofs.Laws.{IsImage-drawn}
-use Rattle.buffer_tables.specs.Layout.{AreDistinct, View, find, IsKept, IsLayout, IsRooted, TableLayout, buffer_shape, root_shape, seen_shape}
+use Rattle.buffer_tables.specs.Layout.{AreDistinct, View, find, IsValidShape, IsLayout, IsRooted, TableLayout, buffer_shape, root_shape, seen_shape}
 use Rattle.buffer_tables.specs.Table.{Table, image_of, layout_of, no_buffers, root_image, seen, IsTable}
 use Rattle.buffer_tables.proofs.FindLaws.{AreDistinct-from_mapped}
 use Rattle.buffer_tables.proofs.LayoutLaws.{kept_root}
@@ -30,10 +30,10 @@ InLimits-part r part limits is inside = elim (some_or_empty part is) [
   | inr none ↦ subst InLimits (sym none) (omega arith, omega arith, omega arith)
 ]
 
-pub IsKept-buffer : (layout : TableLayout) → IsLayout layout → (name : List ℕ) → IsKept (buffer_shape layout name)
-IsKept-buffer layout is name = cases (find layout.buffers name) (is.rooted name)
+pub IsValidShape-buffer : (layout : TableLayout) → IsLayout layout → (name : List ℕ) → IsValidShape (buffer_shape layout name)
+IsValidShape-buffer layout is name = cases (find layout.buffers name) (is.rooted name)
   where
-    cases : (o : Option View) → IfSome o (IsRooted layout) → IsKept (seen_shape layout o)
+    cases : (o : Option View) → IfSome o (IsRooted layout) → IsValidShape (seen_shape layout o)
     cases (Some view) rooted =
         let root = kept_root layout is view.root rooted.root in record {
           box = rooted.extent;
@@ -41,8 +41,8 @@ IsKept-buffer layout is name = cases (find layout.buffers name) (is.rooted name)
         }
     cases None rooted = record { box = IsRectangle-empty; limits = (omega arith, omega arith, omega arith) }
 
-pub IsKept-image_of : (table : Table) → IsTable table → (name : List ℕ) → IsKept (shape_of (image_of table name))
-IsKept-image_of table is name = subst IsKept (buffer_shape-is table name) (IsKept-buffer (layout_of table) is.layout name)
+pub IsValidShape-image_of : (table : Table) → IsTable table → (name : List ℕ) → IsValidShape (shape_of (image_of table name))
+IsValidShape-image_of table is name = subst IsValidShape (buffer_shape-is table name) (IsValidShape-buffer (layout_of table) is.layout name)
 
 pub IsImage-image_of : (table : Table) (name : List ℕ) → IsImage (image_of table name)
 IsImage-image_of table name = cases (find table.buffers name)

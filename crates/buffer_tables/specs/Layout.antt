@@ -56,7 +56,7 @@ facts_of layout = map (λ (entry : List ℕ × View). (entry.0, view_fact layout
 -- ---- layouts that edits make
 
 -- the shape of an image that a table may hold
-pub record IsKept (shape : Shape) : Type 0 where
+pub record IsValidShape (shape : Shape) : Type 0 where
   pub box : IsRectangle shape.box
   pub limits : InLimits shape.box
 
@@ -78,4 +78,4 @@ pub record IsLayout (layout : TableLayout) : Type 0 where
   pub root_names : AreDistinct layout.roots
   pub named : (root : List ℕ) → IsSome (find layout.roots root) → IsSome (find layout.buffers root)
   pub rooted : (name : List ℕ) → IfSome (find layout.buffers name) (IsRooted layout)
-  pub kept : (root : List ℕ) → IfSome (find layout.roots root) IsKept
+  pub kept : (root : List ℕ) → IfSome (find layout.roots root) IsValidShape

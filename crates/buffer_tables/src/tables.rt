@@ -5,7 +5,7 @@ ghost use Rattle.images.specs.Image.{Image, IsImage};
 ghost use Rattle.images.specs.Shape.{shape_of};
 ghost use Rattle.buffer_tables.specs.BufferEdit.{BufferEdit, IsProperEdit};
 ghost use Rattle.buffer_tables.specs.Edits.{edited_table};
-ghost use Rattle.buffer_tables.specs.Layout.{IsKept, IsLayout, TableLayout, View, find};
+ghost use Rattle.buffer_tables.specs.Layout.{IsValidShape, IsLayout, TableLayout, View, find};
 ghost use Rattle.buffer_tables.specs.Table.{IsTable, Table, image_of, no_buffers};
 
 /// Each entry of a table's lists is found by its name.
@@ -20,7 +20,7 @@ pub fn entries_are_found()
 /// limits.
 pub fn images_are_kept()
     ensures whole { (table : Table) (name : List ℕ) → IsTable table → IsImage (image_of table name) }
-    ensures shape { (table : Table) (name : List ℕ) → IsTable table → IsKept (shape_of (image_of table name)) }
+    ensures shape { (table : Table) (name : List ℕ) → IsTable table → IsValidShape (shape_of (image_of table name)) }
 {}
 
 /// A table without buffers is a table, and so is one after an edit.

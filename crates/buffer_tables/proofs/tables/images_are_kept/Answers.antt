@@ -5,4 +5,4 @@ pub returns-clause-whole : goal.returns-clause-whole
 returns-clause-whole c = λ table name is. laws.IsImage-image_of table name
 
 pub returns-clause-shape : goal.returns-clause-shape
-returns-clause-shape c = λ table name is. laws.IsKept-image_of table is name
+returns-clause-shape c = λ table name is. laws.IsValidShape-image_of table is name
