@@ -1,6 +1,0 @@
-use Rattle.buffer_tables.proofs.ExactLaws.{carried_out}
-use Rattle.buffer_tables.proofs.LayoutLaws.{edit-keeps}
-use Rattle.buffer_tables.proofs.layouts.edits_keep_layouts.Goals as goal
-
-pub returns : goal.returns
-returns c = λ layout edit is proper none. edit-keeps layout is edit proper ((carried_out layout edit).0 none)

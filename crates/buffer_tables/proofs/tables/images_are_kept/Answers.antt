@@ -1,8 +1,0 @@
-use Rattle.buffer_tables.proofs.SeenLaws as laws
-use Rattle.buffer_tables.proofs.tables.images_are_kept.Goals as goal
-
-pub returns-clause-whole : goal.returns-clause-whole
-returns-clause-whole c = λ table name is. laws.IsImage-image_of table name
-
-pub returns-clause-shape : goal.returns-clause-shape
-returns-clause-shape c = λ table name is. laws.IsValidShape-image_of table is name

@@ -1,0 +1,17 @@
+pub mod CacheLaws
+pub mod PrefixLaws
+pub mod Shapes
+pub mod Unrolled
+pub mod Indices
+pub mod Kept
+pub mod Agreeing
+pub mod DamageLaws
+pub mod NodeDamage
+pub mod RightPairs
+pub mod HistoryLaws
+pub mod Steady
+pub mod Walks
+pub mod EditLaws
+pub mod Renders
+pub mod NeedLaws
+pub mod NeededRight
