@@ -5,12 +5,8 @@ use Rattle.std.specs.Map.{lookup}
 use Rattle.std.specs.Option.{option_map}
 use Rattle.std.specs.Str.{bytes_eq}
 use Rattle.plane_rect.specs.Rectangle.{Rectangle, IsRectangle, InLimits, Includes}
-use Rattle.pixel_formats.specs.declared.format.Format.{Format}
+use Rattle.pixel_formats.specs.Limits.{max_buffers}
 use Rattle.model_images.specs.Shape.{Fact, Shape, no_shape}
-
--- the largest number of buffers in a table
-abbrev pub most_buffers : ℕ
-most_buffers = 64
 
 -- What the name of a buffer stands for: the name of a root, and the part of the root's image that is seen.
 pub record View : Type 0 where
@@ -73,7 +69,7 @@ AreDistinct {X} entries = AllPairs (λ (a b : List ℕ × X). a.0 ≢ b.0) entri
 -- A layout: at most 64 buffers of distinct names, each of which sees a part of a root, and roots of distinct names,
 -- each of which is a buffer's name too.
 pub record IsLayout (layout : TableLayout) : Type 0 where
-  pub few : length layout.buffers ≤ most_buffers
+  pub few : length layout.buffers ≤ max_buffers
   pub buffer_names : AreDistinct layout.buffers
   pub root_names : AreDistinct layout.roots
   pub named : (root : List ℕ) → IsSome (find layout.roots root) → IsSome (find layout.buffers root)
