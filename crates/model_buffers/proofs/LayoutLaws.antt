@@ -8,7 +8,9 @@ use Rattle.plane_rect.proofs.Rectangles.{Inside-meet}
 use Rattle.plane_rect.proofs.RectangleLaws.{IsRectangle-meet}
 use Rattle.pixel_formats.specs.Limits.{max_buffers}
 use Rattle.model_images.specs.Shape.{Shape}
-use Rattle.model_buffers.specs.BufferEdit.{BufferEdit, Create, Sub, Duplicate, Fill, Put, Copy, IsProperEdit, added, layout_with, layout_with_root, part_of}
+use Rattle.model_buffers.specs.declared.edit.BufferEdit.{BufferEdit}
+use Rattle.model_buffers.specs.declared.edit.BufferEdit.TheVariants.{Create, Sub, Duplicate, Fill, Put, Copy}
+use Rattle.model_buffers.specs.BufferEdit.{IsProperEdit, added, layout_with, layout_with_root, part_of}
 use Rattle.model_buffers.specs.Causes.{IsCarriedOut}
 use Rattle.model_buffers.specs.Layout.{TableLayout, View, find, root_shape, IsValidShape, IsRooted, IsLayout}
 use Rattle.model_buffers.proofs.FindLaws.{same_name, name_from_test, find-kept, find-added, find-new, find-other, AreDistinct-added}

@@ -11,7 +11,9 @@ use Rattle.model_images.specs.Image.{Image}
 use Rattle.model_images.specs.Paint.{no_image, painted}
 use Rattle.model_images.specs.FromRaw.{pixels_from_raw}
 use Rattle.model_images.specs.Shape.{Shape, no_shape, shape_of}
-use Rattle.model_buffers.specs.BufferEdit.{BufferEdit, Create, Sub, Duplicate, Fill, Put, Copy, Refusal, added, edit_refused, layout_with, layout_with_duplicate, layout_with_part, layout_with_root, part_of}
+use Rattle.model_buffers.specs.declared.edit.BufferEdit.{BufferEdit}
+use Rattle.model_buffers.specs.declared.edit.BufferEdit.TheVariants.{Create, Sub, Duplicate, Fill, Put, Copy}
+use Rattle.model_buffers.specs.BufferEdit.{Refusal, added, edit_refused, layout_with, layout_with_duplicate, layout_with_part, layout_with_root, part_of}
 use Rattle.model_buffers.specs.Edits.{by_move, by_view, edited_table, evenly, moved_samples, table_with, unless_refused, with_root, with_view, written}
 use Rattle.model_buffers.specs.Layout.{TableLayout, View, buffer_shape, facts_of, find, root_shape, seen_shape, view_fact}
 use Rattle.model_buffers.specs.Table.{Table, image_of, layout_of, root_image, seen}

@@ -6,7 +6,9 @@ use Rattle.pixel_formats.specs.Limits.{max_buffers}
 use Rattle.model_images.specs.FromRaw.{byte_count}
 use Rattle.model_buffers.specs.declared.refused.EditRefused.{EditRefused}
 use Rattle.model_buffers.specs.declared.refused.EditRefused.TheVariants.{UnknownBuffer, NameTaken, OutOfBounds, WrongSize, Formats, TooManyBuffers}
-use Rattle.model_buffers.specs.BufferEdit.{BufferEdit, Copy, Create, Duplicate, Fill, IsPixel, Put, Sub}
+use Rattle.model_buffers.specs.declared.edit.BufferEdit.{BufferEdit}
+use Rattle.model_buffers.specs.declared.edit.BufferEdit.TheVariants.{Copy, Create, Duplicate, Fill, Put, Sub}
+use Rattle.model_buffers.specs.BufferEdit.{IsPixel}
 use Rattle.model_buffers.specs.Layout.{TableLayout, find, buffer_shape}
 
 -- a buffer has the name

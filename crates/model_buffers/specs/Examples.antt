@@ -9,7 +9,7 @@ use Rattle.model_images.specs.Abyss.{raw_with}
 use Rattle.pixel_formats.specs.declared.abyss.Abyss.TheVariants as abyss
 use Rattle.model_images.specs.Examples.{positions_from}
 use Rattle.model_images.specs.Paint.{no_image}
-use Rattle.model_buffers.specs.BufferEdit.{Create, Duplicate, Fill, Put, Sub}
+use Rattle.model_buffers.specs.declared.edit.BufferEdit.TheVariants.{Create, Duplicate, Fill, Put, Sub}
 use Rattle.model_buffers.specs.Edits.{Edited, edited_table}
 use Rattle.model_buffers.specs.Table.{Table, image_of, no_buffers}
 

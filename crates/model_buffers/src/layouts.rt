@@ -2,7 +2,8 @@
 
 ghost use Rattle.std.specs.Prelude.{◌≡◌, List, ℕ, IfOk, None, option_map};
 ghost use Rattle.model_images.specs.Shape.{shape_of};
-ghost use Rattle.model_buffers.specs.BufferEdit.{BufferEdit, IsProperEdit, edit_refused, layout_with};
+ghost use Rattle.model_buffers.specs.declared.edit.BufferEdit.{BufferEdit};
+ghost use Rattle.model_buffers.specs.BufferEdit.{IsProperEdit, edit_refused, layout_with};
 ghost use Rattle.model_buffers.specs.Edits.{edited_table, table_with};
 ghost use Rattle.model_buffers.specs.Layout.{IsLayout, TableLayout, buffer_shape, facts_of, find, root_shape, view_fact};
 ghost use Rattle.model_buffers.specs.Table.{Table, image_of, layout_of, root_image};

@@ -3,7 +3,8 @@
 ghost use Rattle.std.specs.Prelude.{◌≡◌, ◌<◌, List, ℕ, IfOk, Some, length, slice_index_or};
 ghost use Rattle.model_images.specs.Image.{Image, IsImage};
 ghost use Rattle.model_images.specs.Shape.{shape_of};
-ghost use Rattle.model_buffers.specs.BufferEdit.{BufferEdit, IsProperEdit};
+ghost use Rattle.model_buffers.specs.declared.edit.BufferEdit.{BufferEdit};
+ghost use Rattle.model_buffers.specs.BufferEdit.{IsProperEdit};
 ghost use Rattle.model_buffers.specs.Edits.{edited_table};
 ghost use Rattle.model_buffers.specs.Layout.{IsValidShape, IsLayout, TableLayout, View, find};
 ghost use Rattle.model_buffers.specs.Table.{IsTable, Table, image_of, no_buffers};

@@ -2,7 +2,8 @@
 
 ghost use Rattle.std.specs.Prelude.{◌≡◌, ℕ, List, IfOk, option_map, [], unwrap_or};
 ghost use Rattle.plane_rect.specs.Rectangle.{Rectangle};
-ghost use Rattle.model_buffers.specs.BufferEdit.{BufferEdit, IsProperEdit};
+ghost use Rattle.model_buffers.specs.declared.edit.BufferEdit.{BufferEdit};
+ghost use Rattle.model_buffers.specs.BufferEdit.{IsProperEdit};
 ghost use Rattle.model_buffers.specs.Edits.{edited_table};
 ghost use Rattle.model_buffers.specs.Layout.{find};
 ghost use Rattle.model_buffers.specs.Table.{image_of, IsTable, Table};
