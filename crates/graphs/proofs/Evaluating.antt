@@ -3,7 +3,7 @@ use Rattle.std.proofs.Common.{◌≡◌, ◌≢◌, ℕ, Bool, true, false, List
 use Rattle.std.specs.Str.{bytes_eq}
 use Rattle.std.proofs.lemmas.Slice.Eq.{bytes_eq-Decides}
 use Rattle.images.specs.Paint.{inverted_image}
-use Rattle.graphs.specs.Node.{Source, Compute}
+use Rattle.graphs.specs.declared.node.Body.TheVariants.{Source, Compute}
 use Rattle.graphs.specs.Operation.{Invert, result_of}
 use Rattle.graphs.specs.Evaluation.{Buffers, buffer_image, evaluated}
 

@@ -1,3 +1,5 @@
 pub mod Node
 pub mod Operation
 pub mod Evaluation
+pub mod Shapes
+pub mod Facts

@@ -1,10 +1,17 @@
 //! What graphs of operations are, and what they stand for.
 #![tactic(auto)]
 
+mod buffer;
+mod node;
+
+pub use buffer::{BufferFact, Edited};
+pub use node::{Body, NodeEdit, NodeFact, NodeSpec};
+
 ghost use Rattle.std.specs.Prelude.{◌≡◌, ◌≢◌, ℕ, List, [], ◌∷◌};
 ghost use Rattle.images.specs.Paint.{inverted_image};
 ghost use Rattle.graphs.specs.Evaluation.{Buffers, buffer_image, evaluated};
-ghost use Rattle.graphs.specs.Node.{Node, Source, Compute};
+ghost use Rattle.graphs.specs.Node.{Node};
+ghost use Rattle.graphs.specs.declared.node.Body.TheVariants.{Source, Compute};
 ghost use Rattle.graphs.specs.Operation.{Invert, result_of};
 
 /// The node that inverts a source stands for the inverse of the source's buffer.
