@@ -1,8 +1,0 @@
-use Rattle.std.proofs.Common.{ap}
-use Rattle.graphs.specs.Node.{index_of}
-use Rattle.graph_states.specs.Valid.{Shape, steps_of}
-use Rattle.graph_states.proofs.Shapes as laws
-use Rattle.graph_states.proofs.format_of_image.Goals as goal
-
-pub returns : goal.returns
-returns g c = λ meanings sources nodes name. ap (λ (s : Shape). s.format) (laws.shape_at meanings sources (steps_of nodes) (index_of nodes name))

@@ -1,9 +1,0 @@
-use Rattle.std.proofs.Common.{not}
-use Rattle.graph_states.specs.Cache.{Cached}
-use Rattle.graph_states.specs.Regions.{meets}
-use Rattle.graph_states.proofs.CacheLaws as laws
-use Rattle.graph_states.proofs.voided_pairs_stay_distinct.Goals as goal
-
-pub returns : goal.returns
-returns c = λ damage list distinct.
-    laws.distinct-filter (λ (cached : Cached). not (meets cached.pair.tile (damage cached.pair.node))) list distinct
