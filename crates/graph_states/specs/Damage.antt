@@ -31,6 +31,10 @@ pub record Change (Op : Type 0) : Type 0 where
   pub new : Side Op
   pub rectangles : Rectangles
 
+-- nothing changes
+abbrev pub own_change : {Op : Type 0} → Side Op → Change Op
+own_change side = record { old = side; new = side; rectangles = [] }
+
 -- the same from the other side
 abbrev pub reversed : {Op : Type 0} → Change Op → Change Op
 reversed change = record { old = change.new; new = change.old; rectangles = change.rectangles }

@@ -1,5 +1,6 @@
 -- The history of a graph: all committed states, and the rectangles that separate each from the one before it.
 use Rattle.std.specs.Prelude.{◌≡◌, ℕ, ◌+◌, List, [], ◌∷◌, ◌++◌, Result, Ok, Err}
+use Rattle.graphs.specs.Node.{Node}
 use Rattle.graphs.specs.Shapes.{Shapes}
 use Rattle.operation_meanings.specs.Meanings.{Meanings}
 use Rattle.graph_states.specs.declared.refused.StateRefused.{StateRefused}
@@ -38,13 +39,22 @@ number_of history = history.workspace.retained.number
 
 -- ---- steps: those of the workspace, each of which appends its state
 
--- the history after a step that gives this
+-- the history after a step that leaves this
+abbrev pub with_step : {Table Op : Type 0} → History Table Op → Stepped (Workspace Table Op Rectangles) Rectangles → History Table Op
+with_step history stepped =
+    record { workspace = stepped.left; earlier = committed_states history; rectangles = stepped.delta }
+
+-- the same of what a step gives
 abbrev pub appended : {Table Op : Type 0} → History Table Op → Result (Stepped (Workspace Table Op Rectangles) Rectangles) StateRefused → Result (History Table Op) StateRefused
-appended history (Ok stepped) =
-    Ok (record { workspace = stepped.left; earlier = committed_states history; rectangles = stepped.delta })
+appended history (Ok stepped) = Ok (with_step history stepped)
 appended history (Err refused) = Err refused
 
--- A commit, separated by what was written.
+-- the working table with these nodes is committed, separated by what was written
+abbrev pub with_commit : {Table Op : Type 0} → History Table Op → List (Node Op) → History Table Op
+with_commit history nodes =
+    with_step history (workspace.commit_nodes history.workspace (λ state. history.workspace.written) nodes)
+
+-- A commit: the pending edits are made over the buffers of the working table.
 abbrev pub committed : {Table Op : Type 0} → Meanings Op → (Table → Shapes) → History Table Op → Result (History Table Op) StateRefused
 committed meanings shapes history =
     appended history

@@ -1,5 +1,5 @@
 -- What is retained of a history: its last state, and the states that can be undone and redone to.
-use Rattle.std.specs.Prelude.{ℕ, ◌+◌, ◌-◌, ◌^◌, ◌==◌, if◌then◌else◌, List, [], ◌∷◌, take, Result, Ok, Err}
+use Rattle.std.specs.Prelude.{◌≡◌, ℕ, ◌+◌, ◌-◌, ◌^◌, ◌≤◌, ◌==◌, if◌then◌else◌, List, [], ◌∷◌, take, length, Result, Ok, Err}
 use Rattle.graph_states.specs.declared.refused.StateRefused.{StateRefused}
 use Rattle.graph_states.specs.declared.refused.StateRefused.TheVariants.{NothingToUndo, NothingToRedo, TooManyCommits}
 
@@ -89,3 +89,14 @@ redo_to retained (next ∷ rest) =
 -- A redo: the last undo that is not yet repeated is.
 abbrev pub redone : {State Delta : Type 0} → Retained State Delta → Result (Stepped (Retained State Delta) Delta) StateRefused
 redone retained = unless_last retained.number (redo_to retained retained.redoable)
+
+-- ---- what holds of them
+
+-- there are at most as many states on both sides as can be undone
+abbrev pub AreFew : {State Delta : Type 0} → Retained State Delta → Type 0
+AreFew retained = length retained.undoable + length retained.redoable ≤ most_undoable
+
+-- a step leads to a state, with a delta
+pub record Leads {State Delta : Type 0} (state : State) (delta : Delta) (stepped : Stepped (Retained State Delta) Delta) : Type 0 where
+  pub latest : stepped.left.latest ≡ state
+  pub separated : stepped.delta ≡ delta

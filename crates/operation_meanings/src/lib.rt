@@ -6,7 +6,7 @@ ghost use Rattle.plane_rect.specs.Rectangle.{Lies, Rectangle};
 ghost use Rattle.images.specs.Agreement.{AgreeOutside};
 ghost use Rattle.images.specs.Image.{at, Image};
 ghost use Rattle.operation_meanings.specs.Changes.{ChangedWithin};
-ghost use Rattle.operation_meanings.specs.Laws.{IsBoxed, IsDual, IsEquality, IsLocal, KeepsLaws, KeepsNothing};
+ghost use Rattle.operation_meanings.specs.Laws.{IsBoxed, IsDual, IsEquality, IsLocal, KeepsLaws};
 ghost use Rattle.operation_meanings.specs.Meanings.{boxes_of, Meanings, result_box, result_of};
 
 /// The meanings of a type of operations: what each takes and gives, and what of its inputs and of its result belongs
@@ -26,9 +26,6 @@ pub trait OpMeaning {
 
     /// What is required lies in the input's box, what is invalidated in the result's.
     ghost boxed: { IsBoxed meanings };
-
-    /// A change of no place invalidates no place.
-    ghost nothing: { KeepsNothing meanings };
 
     /// The test tells exactly whether two operations are one.
     ghost told_apart: { IsEquality same };

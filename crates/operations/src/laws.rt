@@ -10,6 +10,8 @@ ghost use Rattle.operations.specs.declared.operation.IntOp.{IntOp};
 ghost use Rattle.operations.specs.Boxes.{box_of, result_box};
 ghost use Rattle.operations.specs.Formats.{format_of};
 ghost use Rattle.operations.specs.Inputs.{boxes_of, formats_of, image_of, input_count};
+ghost use Rattle.operation_meanings.specs.Laws.{KeepsNothing};
+ghost use Rattle.operations.specs.Meanings.{int_meanings};
 ghost use Rattle.operations.specs.Results.{IsInRange, result_format, result_of};
 ghost use Rattle.operations.specs.Values.{value_at};
 
@@ -46,4 +48,9 @@ pub fn result_in_range()
         format_of op (formats_of images) ≡ Some format →
         ((i : ℕ) → i < input_count op → IsInRange (image_of images i)) →
         (u v c : ℕ) → at (result_of op images) u v c ≤ greatest format }
+{}
+
+/// A change without a pixel invalidates none.
+pub fn nothing_invalidates_nothing()
+    ensures { KeepsNothing int_meanings }
 {}
