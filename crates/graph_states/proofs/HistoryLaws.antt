@@ -24,7 +24,7 @@ Step Table Op = Stepped (Workspace Table Op Rectangles) Rectangles
 module _ {Table Op : Type 0} where
   -- the step has the next number
   abbrev IsNext : History Table Op → Step Table Op → Type 0
-  IsNext history step = step.left.retained.number ≡ history.workspace.retained.number + 1
+  IsNext history step = step.next.retained.number ≡ history.workspace.retained.number + 1
 
   step_appends : (history : History Table Op) (r : Result (Step Table Op) StateRefused) → IfOk r (IsNext history) → IfOk (appended history r) (Appends history)
   step_appends history (Err refused) next = tt
@@ -44,7 +44,7 @@ module _ {Table Op : Type 0} where
       (at_last (IsNext history) history.workspace.retained.number step (commit_next history nodes))
 
   settled_next : (history : History Table Op) (r : Result (Stepped (States Table Op) Rectangles) StateRefused) →
-      IfOk r (λ step. step.left.number ≡ history.workspace.retained.number + 1) → IfOk (settled_step r) (IsNext history)
+      IfOk r (λ step. step.next.number ≡ history.workspace.retained.number + 1) → IfOk (settled_step r) (IsNext history)
   settled_next history (Err refused) next = tt
   settled_next history (Ok step) next = next
 
@@ -74,12 +74,12 @@ module _ {Table Op : Type 0} where
       (laws.undo_takes_back history.workspace.retained state history.workspace.written)
 
   redo_after : (history : History Table Op) (r : Result (Stepped (States Table Op) Rectangles) StateRefused) →
-      IfOk r (λ undo. IfOk (retained.redone undo.left) (Leads history.workspace.retained.latest undo.delta)) →
+      IfOk r (λ undo. IfOk (retained.redone undo.next) (Leads history.workspace.retained.latest undo.delta)) →
       IfOk (appended history (settled_step r)) (λ before. IfOk (redone before) (Returns history.workspace.retained.latest before.rectangles))
   redo_after history (Err refused) repeats = tt
   redo_after history (Ok undo) repeats =
-      leads_returns (with_step history (record { left = workspace.settled undo.left; delta = undo.delta }))
-      history.workspace.retained.latest undo.delta (retained.redone undo.left) repeats
+      leads_returns (with_step history (record { next = workspace.settled undo.next; delta = undo.delta }))
+      history.workspace.retained.latest undo.delta (retained.redone undo.next) repeats
 
   pub redo_repeats : (history : History Table Op) →
       IfOk (undone history) (λ before. IfOk (redone before) (Returns history.workspace.retained.latest before.rectangles))

@@ -22,7 +22,7 @@ module _ {State Delta : Type 0} where
 
   -- a redo right after a step leads to the state before it
   abbrev Repeats : Retained State Delta → Stepped (Retained State Delta) Delta → Type 0
-  Repeats before undo = IfOk (redone undo.left) (Leads before.latest undo.delta)
+  Repeats before undo = IfOk (redone undo.next) (Leads before.latest undo.delta)
 
   redo_repeats_to : (before : Retained State Delta) (undoable : List (Separated State Delta)) → IfOk (undo_to before undoable) (Repeats before)
   redo_repeats_to before [] = tt
@@ -35,7 +35,7 @@ module _ {State Delta : Type 0} where
   -- ---- the next number
 
   abbrev IsNext : Retained State Delta → Stepped (Retained State Delta) Delta → Type 0
-  IsNext before step = step.left.number ≡ before.number + 1
+  IsNext before step = step.next.number ≡ before.number + 1
 
   pub undo_next : (before : Retained State Delta) → IfOk (undone before) (IsNext before)
   undo_next before = at_last (IsNext before) before.number (undo_to before before.undoable) (of before.undoable)
@@ -54,7 +54,7 @@ module _ {State Delta : Type 0} where
   -- ---- how many states are retained
 
   abbrev LeavesFew : Stepped (Retained State Delta) Delta → Type 0
-  LeavesFew step = AreFew step.left
+  LeavesFew step = AreFew step.next
 
   pub commit_few : (before : Retained State Delta) (state : State) (delta : Delta) → AreFew (with_commit before state delta)
   commit_few before state delta = omega (arith, length-take most_undoable (left_state before delta ∷ before.undoable))

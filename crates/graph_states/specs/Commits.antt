@@ -34,7 +34,7 @@ change_to graph next written = record { old = graph.latest; new = next; rectangl
 abbrev pub commit_side : {Op : Type 0} → (Op → Op → Bool) → Meanings Op → Graph Op → Side Op → Rectangles → Stepped (Graph Op) Rectangles
 commit_side same meanings graph next written =
     let damage = damage_list same meanings (change_to graph next written) in
-    record { left = with_commit graph next damage; delta = damage }
+    record { next = with_commit graph next damage; delta = damage }
 
 abbrev pub commit_nodes : {Op : Type 0} → (Op → Op → Bool) → Meanings Op → Graph Op → Facts → Rectangles → Result (List (Node Op)) StateRefused → Result (Stepped (Graph Op) Rectangles) StateRefused
 commit_nodes same meanings graph buffers written (Ok nodes) =

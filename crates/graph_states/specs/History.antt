@@ -42,7 +42,7 @@ number_of history = history.workspace.retained.number
 -- the history after a step that leaves this
 abbrev pub with_step : {Table Op : Type 0} → History Table Op → Stepped (Workspace Table Op Rectangles) Rectangles → History Table Op
 with_step history stepped =
-    record { workspace = stepped.left; earlier = committed_states history; rectangles = stepped.delta }
+    record { workspace = stepped.next; earlier = committed_states history; rectangles = stepped.delta }
 
 -- the same of what a step gives
 abbrev pub appended : {Table Op : Type 0} → History Table Op → Result (Stepped (Workspace Table Op Rectangles) Rectangles) StateRefused → Result (History Table Op) StateRefused

@@ -21,8 +21,8 @@ abbrev pub retained_from : {State Delta : Type 0} → State → Retained State D
 retained_from state = record { number = 0; latest = state; undoable = []; redoable = [] }
 
 -- what a step leaves, and the delta that separates its new state from the one before it
-pub record Stepped (Left Delta : Type 0) : Type 0 where
-  pub left : Left
+pub record Stepped (Next Delta : Type 0) : Type 0 where
+  pub next : Next
   pub delta : Delta
 
 -- the greatest number of a state
@@ -59,7 +59,7 @@ abbrev pub undo_to : {State Delta : Type 0} → Retained State Delta → List (S
 undo_to retained [] = Err NothingToUndo
 undo_to retained (back ∷ rest) =
     Ok (record {
-      left = record {
+      next = record {
         number = retained.number + 1;
         latest = back.state;
         undoable = rest;
@@ -77,7 +77,7 @@ abbrev pub redo_to : {State Delta : Type 0} → Retained State Delta → List (S
 redo_to retained [] = Err NothingToRedo
 redo_to retained (next ∷ rest) =
     Ok (record {
-      left = record {
+      next = record {
         number = retained.number + 1;
         latest = next.state;
         undoable = left_state retained next.delta ∷ retained.undoable;
@@ -98,5 +98,5 @@ AreFew retained = length retained.undoable + length retained.redoable ≤ most_u
 
 -- a step leads to a state, with a delta
 pub record Leads {State Delta : Type 0} (state : State) (delta : Delta) (stepped : Stepped (Retained State Delta) Delta) : Type 0 where
-  pub latest : stepped.left.latest ≡ state
+  pub latest : stepped.next.latest ≡ state
   pub separated : stepped.delta ≡ delta

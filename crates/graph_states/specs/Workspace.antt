@@ -48,14 +48,14 @@ settled states = record { working = states.latest.table; pending = []; written =
 
 -- the same of what a step gives
 abbrev pub settled_step : {Table Op Delta : Type 0} → Result (Stepped (Retained (State Table Op) Delta) Delta) StateRefused → Result (Stepped (Workspace Table Op Delta) Delta) StateRefused
-settled_step (Ok stepped) = Ok (record { left = settled stepped.left; delta = stepped.delta })
+settled_step (Ok stepped) = Ok (record { next = settled stepped.next; delta = stepped.delta })
 settled_step (Err refused) = Err refused
 
 -- the working table with these nodes is the next state, separated by a delta from the last one
 abbrev pub commit_nodes : {Table Op Delta : Type 0} → Workspace Table Op Delta → (State Table Op → Delta) → List (Node Op) → Stepped (Workspace Table Op Delta) Delta
 commit_nodes {Table} {Op} workspace delta nodes =
     let state : State Table Op = record { table = workspace.working; nodes = nodes } in
-    record { left = settled (retained.with_commit workspace.retained state (delta state)); delta = delta state }
+    record { next = settled (retained.with_commit workspace.retained state (delta state)); delta = delta state }
 
 abbrev pub commit_edited : {Table Op Delta : Type 0} → Workspace Table Op Delta → (State Table Op → Delta) → Result (List (Node Op)) StateRefused → Result (Stepped (Workspace Table Op Delta) Delta) StateRefused
 commit_edited workspace delta (Ok nodes) = Ok (commit_nodes workspace delta nodes)

@@ -261,7 +261,7 @@ pub fn undo_and_redo_lead_back<State, Delta>()
     ensures undone { (before : Retained State Delta) (state : State) (delta : Delta) →
         IfOk (retained.undone (retained.with_commit before state delta)) (Leads before.latest delta) }
     ensures redone { (before : Retained State Delta) →
-        IfOk (retained.undone before) (λ undo. IfOk (retained.redone undo.left) (Leads before.latest undo.delta)) }
+        IfOk (retained.undone before) (λ undo. IfOk (retained.redone undo.next) (Leads before.latest undo.delta)) }
 {}
 
 /// There are never more states to undo and to redo to than can be undone.
@@ -269,7 +269,7 @@ pub fn retained_states_stay_few<State, Delta>()
     ensures commit { (before : Retained State Delta) (state : State) (delta : Delta) →
         AreFew (retained.with_commit before state delta) }
     ensures undo { (before : Retained State Delta) → AreFew before →
-        IfOk (retained.undone before) (λ step. AreFew step.left) }
+        IfOk (retained.undone before) (λ step. AreFew step.next) }
     ensures redo { (before : Retained State Delta) → AreFew before →
-        IfOk (retained.redone before) (λ step. AreFew step.left) }
+        IfOk (retained.redone before) (λ step. AreFew step.next) }
 {}
