@@ -9,7 +9,7 @@ use std::alloc::Global;
 use std::rt::Clock;
 use std::time::Instant;
 
-/// By how many bytes the copied ones stand behind the beginning of their memory: a copy is slowed
+/// By how many bytes the copied ones stand after the beginning of their memory: a copy is slowed
 /// where it reads and writes at addresses that differ by little more than whole pages.
 const HALF_PAGE: usize = 2_048;
 
@@ -161,8 +161,8 @@ impl Bench {
         println!(rt; "{side} {format}: {name} {found}")?;
         eprintln!(rt;
             "{side} {format}: {name} {speed}, {} of a copy, {} of one afresh",
-            speed.part_of(self.ready),
-            speed.part_of(self.afresh)
+            speed.share_of(self.ready),
+            speed.share_of(self.afresh)
         )?;
         Ok(())
     }

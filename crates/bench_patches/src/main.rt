@@ -1,6 +1,6 @@
 //! Times of the calls of patches, beside plain copies of as many bytes in the same run.
 //!
-//! The word on its command line is how many rounds a patch of 512 by 512 places is made; smaller
+//! The word on its command line is how many rounds a patch of 512 by 512 pixels is made; smaller
 //! ones have as many more rounds. It prints a checksum of what each call gave, which is the same at
 //! each run of as many rounds. The speeds go to standard error: gigabytes of output a second, and
 //! what part that is of a copy's speed into memory that is there, and into memory that is asked for,
@@ -21,7 +21,7 @@ use std::rt::Env;
 /// How many rounds there are where the command line says nothing.
 const FEW_ROUNDS: u32 = 1;
 
-/// How many columns and rows a patch has, and for how many of them there are about as many places
+/// How many columns and rows a patch has, and for how many of them there are about as many positions
 /// as in one of the largest.
 const SIDES: [(u32, u32); 2] = [(64, 64), (512, 1)];
 

@@ -8,7 +8,7 @@ use sample_rows::Format;
 use std::alloc::{AllocError, Global};
 
 /// The square of so many columns and rows from x = y = `corner` on, and else the rectangle without
-/// a place.
+/// a position.
 pub fn square(corner: i64, side: u32) -> Rect
     ensures { InLimits result }
 {

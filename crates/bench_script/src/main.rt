@@ -23,7 +23,7 @@ const LINES: [&[u8]; 4] = [
 
 fn main(rt: HostRuntime) -> Result<()> {
     let alloc = rt.alloc();
-    let text = script_of(alloc, lines_asked(&rt)?)?;
+    let text = sample_script(alloc, lines_asked(&rt)?)?;
     let start = Instant::now(&rt)?;
     let lines = read_script(alloc, &text)?;
     let read = start.elapsed(&rt)?.as_micros();
@@ -41,7 +41,7 @@ fn main(rt: HostRuntime) -> Result<()> {
 }
 
 /// The text of a script of so many lines.
-fn script_of(alloc: Global, count: usize) -> Result<Vec<u8>> {
+fn sample_script(alloc: Global, count: usize) -> Result<Vec<u8>> {
     let mut text = Vec::new(alloc);
     for line in LINES.iter().cycle().take(count) {
         text.extend_from_slice(line)?;

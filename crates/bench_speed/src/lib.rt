@@ -18,14 +18,14 @@ impl Speed {
     }
 
     /// What part of another speed it is.
-    pub fn part_of(self, other: Speed) -> Part {
-        Part(self.0.saturating_mul(1_000) / other.0.max(1))
+    pub fn share_of(self, other: Speed) -> Share {
+        Share(self.0.saturating_mul(1_000) / other.0.max(1))
     }
 }
 
 /// Thousandths of a speed. They are printed as hundredths.
 #[derive(Clone, Copy)]
-pub struct Part(u64);
+pub struct Share(u64);
 
 impl fmt::Display for Speed {
     fn fmt<W: fmt::Write>(&self, f: &mut fmt::Formatter<W>) -> fmt::Result {
@@ -33,7 +33,7 @@ impl fmt::Display for Speed {
     }
 }
 
-impl fmt::Display for Part {
+impl fmt::Display for Share {
     fn fmt<W: fmt::Write>(&self, f: &mut fmt::Formatter<W>) -> fmt::Result {
         write!(f, "{}.{}%", self.0 / 10, self.0 % 10)
     }

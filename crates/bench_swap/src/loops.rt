@@ -72,7 +72,7 @@ pub fn replace_all<D: SwapDisk>(
     Ok(found)
 }
 
-/// Forgets each name, in a scattered order. Gives the greatest number of free runs on the way.
+/// Forgets each name, in a scattered order. Gives the largest number of free runs on the way.
 pub fn forget_all<D: SwapDisk>(store: &mut Store<D>, names: u64) -> u64 {
     let mut most = 0;
     for round in 0..names {

@@ -1,13 +1,13 @@
 //! The boxes of what operations give.
 
 ghost use Rattle.std.specs.Prelude.{◌≡◌, IfSome};
-ghost use Rattle.plane_rect.specs.Rectangle.{InLimits, kept_in_limits};
-ghost use Rattle.operations.specs.Boxes.{area_box, box_in_limits, box_of, box_with, result_box};
-ghost use Rattle.operations.specs.Inputs.{input_box};
+ghost use Rattle.plane_rect.specs.Rectangle.{InLimits, if_in_limits};
+ghost use Rattle.model_operations.specs.Boxes.{area_box, box_in_limits, box_of, box_with, result_box};
+ghost use Rattle.model_operations.specs.Inputs.{input_box};
 
 use crate::formats::input_count;
-use abyss_levels::Abyss;
-use operations::IntOp;
+use model_images::Abyss;
+use model_operations::IntOp;
 use plane_rect::{Rect, RectRefused};
 
 /// The box of what an operation gives of inputs of these boxes, and None exactly where their number
@@ -21,14 +21,14 @@ pub fn box_of(op: &IntOp, boxes: &[Rect]) -> Option<Rect>
     box_with(op, &input_box(boxes, 0), &input_box(boxes, 1))
 }
 
-/// The same, without a place where there is none.
+/// The same, without a position where there is none.
 pub(crate) fn result_box(op: &IntOp, boxes: &[Rect]) -> Rect
     ensures { result ≡ result_box op.now boxes.now }
 {
     box_of(op, boxes).unwrap_or(Rect::EMPTY)
 }
 
-/// The box of an input, without a place where it lacks.
+/// The box of an input, without a position where it lacks.
 pub(crate) fn input_box(boxes: &[Rect], input: usize) -> Rect
     ensures { result ≡ input_box boxes.now input }
 {
@@ -46,7 +46,7 @@ fn box_with(op: &IntOp, a: &Rect, b: &Rect) -> Option<Rect>
         | IntOp::Threshold { .. }
         | IntOp::Gain { .. }
         | IntOp::Flip { .. } => in_limits(*a),
-        IntOp::Translate { dx, dy } => kept_in_limits(a.shift(*dx, *dy)),
+        IntOp::Translate { dx, dy } => if_in_limits(a.shift(*dx, *dy)),
         IntOp::Crop { rect } => in_limits(a.meet(rect)),
         IntOp::BoxMean { radius, abyss }
         | IntOp::Dilate { radius, abyss }
@@ -61,7 +61,7 @@ fn area_box(radius: u32, abyss: Abyss, input: &Rect) -> Option<Rect>
     ensures { result ≡ area_box radius abyss input.now }
 {
     match abyss {
-        Abyss::None => kept_in_limits(input.grow(radius)),
+        Abyss::None => if_in_limits(input.grow(radius)),
         Abyss::Clamp | Abyss::Black | Abyss::White => in_limits(*input),
         Abyss::Loop => None,
     }
@@ -71,12 +71,12 @@ fn area_box(radius: u32, abyss: Abyss, input: &Rect) -> Option<Rect>
 fn in_limits(rect: Rect) -> Option<Rect>
     ensures { result ≡ box_in_limits rect }
 {
-    kept_in_limits(Ok(rect))
+    if_in_limits(Ok(rect))
 }
 
 /// A rectangle that there is, where an image may be kept of it.
-fn kept_in_limits(rect: Result<Rect, RectRefused>) -> Option<Rect>
-    ensures value { result ≡ kept_in_limits rect }
+fn if_in_limits(rect: Result<Rect, RectRefused>) -> Option<Rect>
+    ensures value { result ≡ if_in_limits rect }
     ensures limits { IfSome result InLimits }
 {
     match rect {

@@ -3,7 +3,7 @@
 ghost use Rattle.std.specs.Prelude.{◌≡◌, IfOk};
 
 use no_memory::NoMemory;
-use operations::{IntOp, Samples};
+use model_operations::{IntOp, PixelSamples};
 use plane_rect::Rect;
 use sample_rows::Format;
 use std::alloc::Global;
@@ -56,11 +56,11 @@ fn copy_color(
     alloc: Global,
     format: Format,
     rect: Rect,
-    samples: &Samples,
+    samples: &PixelSamples,
 ) -> Result<IntOp, NoMemory>
     ensures { IfOk result (λ copied. copied ≡ IntOp.Color format rect samples.now) }
 {
-    let samples = Samples::new(samples.as_slice().to_vec(alloc)?);
+    let samples = PixelSamples::new(samples.as_slice().to_vec(alloc)?);
     Ok(IntOp::Color {
         format,
         rect,

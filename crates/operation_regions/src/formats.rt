@@ -2,16 +2,16 @@
 
 ghost use Rattle.std.specs.Prelude.{◌≡◌};
 ghost use Rattle.std.specs.List.{list_all};
-ghost use Rattle.operations.specs.Arguments.{in_range, is_area, is_between, is_move};
-ghost use Rattle.operations.specs.Formats.{are_samples, format_if, format_of, format_with, is_mask_of, is_sample};
-ghost use Rattle.operations.specs.Inputs.{input_count, input_format};
+ghost use Rattle.model_operations.specs.Arguments.{in_range, is_area, is_between, is_move};
+ghost use Rattle.model_operations.specs.Formats.{are_samples, format_if, format_of, format_with, is_mask_of, is_sample};
+ghost use Rattle.model_operations.specs.Inputs.{input_count, input_format};
 
-use abyss_levels::Abyss;
-use operations::{IntOp, Samples};
+use model_images::Abyss;
+use model_operations::{IntOp, PixelSamples};
 use sample_rows::Format;
 
-/// The greatest distance by which an image is moved, in places.
-const LONGEST_MOVE: u64 = 1 << 25;
+/// The largest distance by which an image is moved, in places.
+const MAX_MOVE: u64 = 1 << 25;
 
 /// How many images an operation takes.
 pub fn input_count(op: &IntOp) -> usize
@@ -87,15 +87,15 @@ fn format_if(holds: bool, format: Format) -> Option<Format>
     if holds { Some(format) } else { None }
 }
 
-/// Whether there is a sample for each channel, and none is above the greatest.
-fn are_samples(format: Format, samples: &Samples) -> bool
+/// Whether there is a sample for each channel, and none is above the largest.
+fn are_samples(format: Format, samples: &PixelSamples) -> bool
     ensures { result ≡ are_samples format samples.now }
 {
     let samples = samples.as_slice();
     samples.len() == format.channels() as usize && all_are_samples(format, samples)
 }
 
-/// Whether none of these is above the greatest sample.
+/// Whether none of these is above the largest sample.
 fn all_are_samples(format: Format, samples: &[u32]) -> bool
     ensures { result ≡ list_all (is_sample format) samples.now }
 {
@@ -116,7 +116,7 @@ fn is_mask_of(mask: Format, format: Format) -> bool
     mask.channels() == 1 && mask.depth() == format.depth()
 }
 
-/// Whether each argument lies in its range. Those of samples depend on the format.
+/// Whether each argument is in its range. Those of samples depend on the format.
 fn in_range(op: &IntOp) -> bool
     ensures { result ≡ in_range op.now }
 {
@@ -143,7 +143,7 @@ fn in_range(op: &IntOp) -> bool
 fn is_move(distance: i64) -> bool
     ensures { result ≡ is_move distance }
 {
-    distance.unsigned_abs() <= LONGEST_MOVE
+    distance.unsigned_abs() <= MAX_MOVE
 }
 
 /// Whether an area has this radius and policy.

@@ -1,60 +1,60 @@
-//! Rectangles moved and mirrored, as far as they lie in a rectangle of the plane.
+//! Rectangles moved and mirrored, as far as they are in a rectangle of the plane.
 
 ghost use Rattle.std.specs.Prelude.{◌≡◌, ◌+◌, ◌-◌, min};
 ghost use Rattle.plane_rect.specs.Rectangle.{meet, rectangle};
-ghost use Rattle.operations.specs.Moves.{ahead, behind, mirrored_part, moved, moved_back};
+ghost use Rattle.model_operations.specs.Moves.{moved_index, source_index, mirrored_part, moved, moved_back};
 
 use plane_rect::Rect;
 
-/// What lies in `within` of a part that is moved right by `dx` and down by `dy`.
+/// What is in `within` of a part that is moved right by `dx` and down by `dy`.
 pub(crate) fn moved(part: &Rect, dx: i64, dy: i64, within: &Rect) -> Rect
     ensures { result ≡ meet (moved dx dy part.now) within.now }
 {
-    let (left, top) = (ahead(dx, part.left()), ahead(dy, part.top()));
-    placed_within(left, top, part, within)
+    let (first_column, first_row) = (moved_index(dx, part.first_column()), moved_index(dy, part.first_row()));
+    placed_within(first_column, first_row, part, within)
 }
 
-/// What lies in `within` of the part that is another one when moved right by `dx` and down by `dy`.
+/// What is in `within` of the part that is another one when moved right by `dx` and down by `dy`.
 pub(crate) fn moved_back(part: &Rect, dx: i64, dy: i64, within: &Rect) -> Rect
     ensures { result ≡ meet (moved_back dx dy part.now) within.now }
 {
-    let (left, top) = (behind(dx, part.left()), behind(dy, part.top()));
-    placed_within(left, top, part, within)
+    let (first_column, first_row) = (source_index(dx, part.first_column()), source_index(dy, part.first_row()));
+    placed_within(first_column, first_row, part, within)
 }
 
-/// What lies in `within` of a part that is mirrored in a rectangle: left and right where
+/// What is in `within` of a part that is mirrored in a rectangle: left and right where
 /// `sideways`, else top and bottom.
 pub(crate) fn mirrored_part(sideways: bool, whole: &Rect, part: &Rect, within: &Rect) -> Rect
     ensures { result ≡ meet (mirrored_part sideways whole.now part.now) within.now }
 {
-    let (left, top) = (u64::from(part.left()), u64::from(part.top()));
+    let (first_column, first_row) = (u64::from(part.first_column()), u64::from(part.first_row()));
     if sideways {
-        let left = mirrored_start(whole.left(), whole.right(), part.right());
-        placed_within(left, top, part, within)
+        let first_column = mirrored_start(whole.first_column(), whole.end_column(), part.end_column());
+        placed_within(first_column, first_row, part, within)
     } else {
-        let top = mirrored_start(whole.top(), whole.bottom(), part.bottom());
-        placed_within(left, top, part, within)
+        let first_row = mirrored_start(whole.first_row(), whole.end_row(), part.end_row());
+        placed_within(first_column, first_row, part, within)
     }
 }
 
-/// What lies in `within` of a rectangle of the size of another, which may reach out of the plane.
-fn placed_within(left: u64, top: u64, size: &Rect, within: &Rect) -> Rect
-    ensures { result ≡ meet (rectangle left top size.now.width size.now.height) within.now }
+/// What is in `within` of a rectangle of the size of another, which may reach out of the plane.
+fn placed_within(first_column: u64, first_row: u64, size: &Rect, within: &Rect) -> Rect
+    ensures { result ≡ meet (rectangle first_column first_row size.now.width size.now.height) within.now }
 {
     if size.is_empty() {
         return Rect::EMPTY;
     }
-    let right = left.saturating_add(u64::from(size.w));
-    let bottom = top.saturating_add(u64::from(size.h));
+    let end_column = first_column.saturating_add(u64::from(size.w));
+    let end_row = first_row.saturating_add(u64::from(size.h));
     Rect::spanning(
-        up_to(within.right(), left).max(within.left()),
-        up_to(within.bottom(), top).max(within.top()),
-        up_to(within.right(), right),
-        up_to(within.bottom(), bottom),
+        up_to(within.end_column(), first_column).max(within.first_column()),
+        up_to(within.end_row(), first_row).max(within.first_row()),
+        up_to(within.end_column(), end_column),
+        up_to(within.end_row(), end_row),
     )
 }
 
-/// The column, or the one at an end where it stands behind that; or the row so.
+/// The column, or the one at an end where it stands after that; or the row so.
 fn up_to(end: u32, index: u64) -> u32
     ensures { result ≡ min index end }
 {
@@ -63,8 +63,8 @@ fn up_to(end: u32, index: u64) -> u32
 
 /// The column so much further right, or the row so much further down: where the distance is
 /// negative, less far, and not before the plane's corner.
-fn ahead(distance: i64, index: u32) -> u64
-    ensures { result ≡ ahead distance index }
+fn moved_index(distance: i64, index: u32) -> u64
+    ensures { result ≡ moved_index distance index }
 {
     let index = u64::from(index);
     let by = distance.unsigned_abs();
@@ -77,8 +77,8 @@ fn ahead(distance: i64, index: u32) -> u64
 
 /// The column or the row that is another one when moved by a distance, and not before the plane's
 /// corner.
-fn behind(distance: i64, index: u32) -> u64
-    ensures { result ≡ behind distance index }
+fn source_index(distance: i64, index: u32) -> u64
+    ensures { result ≡ source_index distance index }
 {
     let index = u64::from(index);
     let by = distance.unsigned_abs();

@@ -3,16 +3,16 @@
 
 ghost use Rattle.std.specs.Prelude.{◌≡◌};
 ghost use Rattle.plane_rect.specs.Rectangle.{meet};
-ghost use Rattle.operations.specs.Regions.{invalidated, reached_from, read_for, required};
+ghost use Rattle.model_operations.specs.Regions.{invalidated, reached_from, read_for, required};
 
 use crate::areas::{area_read, surrounded};
 use crate::boxes::{input_box, result_box};
 use crate::moves::{mirrored_part, moved, moved_back};
-use operations::IntOp;
+use model_operations::IntOp;
 use plane_rect::Rect;
 
-/// The places of an input, counted from 0, that an operation needs for a region of its result. They
-/// lie in the input's box.
+/// The positions of an input, counted from 0, that an operation needs for a region of its result. They
+/// are in the input's box.
 pub fn required(op: &IntOp, boxes: &[Rect], input: usize, out: Rect) -> Rect
     ensures { result ≡ required op.now boxes.now input out }
 {
@@ -20,8 +20,8 @@ pub fn required(op: &IntOp, boxes: &[Rect], input: usize, out: Rect) -> Rect
     read_within(op, &input_box(boxes, input), &part)
 }
 
-/// The places of an operation's result that may change where a region of an input, counted from 0,
-/// changes. They lie in the result's box.
+/// The positions of an operation's result that may change where a region of an input, counted from 0,
+/// changes. They are in the result's box.
 pub fn invalidated(op: &IntOp, boxes: &[Rect], input: usize, changed: Rect) -> Rect
     ensures { result ≡ invalidated op.now boxes.now input changed }
 {
@@ -29,7 +29,7 @@ pub fn invalidated(op: &IntOp, boxes: &[Rect], input: usize, changed: Rect) -> R
     reached_within(op, &input, &changed.meet(&input), &result_box(op, boxes))
 }
 
-/// The places of an input's box that an operation reads for a part of its result.
+/// The positions of an input's box that an operation reads for a part of its result.
 fn read_within(op: &IntOp, input: &Rect, part: &Rect) -> Rect
     ensures { result ≡ meet (read_for op.now input.now part.now) input.now }
 {
@@ -52,7 +52,7 @@ fn read_within(op: &IntOp, input: &Rect, part: &Rect) -> Rect
     }
 }
 
-/// What lies in a box of the places whose samples depend on a part of an input.
+/// What is in a box of the positions whose samples depend on a part of an input.
 fn reached_within(op: &IntOp, input: &Rect, part: &Rect, within: &Rect) -> Rect
     ensures { result ≡ meet (reached_from op.now input.now part.now) within.now }
 {

@@ -23,9 +23,9 @@ found_in name files = find (slice_cmp nat_cmp) name (map entry_of files)
 abbrev ties : List ℕ → List ℕ → Bool
 ties = eq_by_cmp (slice_cmp nat_cmp)
 
--- the place of a name, or the number of files
-abbrev place : List ℕ → List StoredFile → ℕ
-place name files = position_or_len (has_name name) files
+-- the position of a name, or the number of files
+abbrev number : List ℕ → List StoredFile → ℕ
+number name files = position_or_len (has_name name) files
 
 -- what is found under q once these bytes are filed under a name
 abbrev refound : List ℕ → Vec ℕ → List ℕ → Option (List ℕ) → Option (List ℕ)
@@ -39,14 +39,14 @@ found_first true x xs n rest h = refl
 found_first false x xs n rest h = rw one-add h
 
 -- a scan finds the file that stands at the place of the name
-found-place : (name : List ℕ) (files : List StoredFile)
-    → found_in name files ≡ option_map bytes_of (slice_get files (place name files))
-found-place name [] = refl
-found-place name (x ∷ xs) =
+found-number : (name : List ℕ) (files : List StoredFile)
+    → found_in name files ≡ option_map bytes_of (slice_get files (number name files))
+found-number name [] = refl
+found-number name (x ∷ xs) =
     let key : List ℕ = string_bytes x.0 in
     subst (λ b. cond b (Some (bytes_of x)) (found_in name xs)
-    ≡ option_map bytes_of (slice_get (x ∷ xs) (place name (x ∷ xs)))) (texts_ties name key)
-    (found_first (bytes_eq name key) x xs (place name xs) (found_in name xs) (found-place name xs))
+    ≡ option_map bytes_of (slice_get (x ∷ xs) (number name (x ∷ xs)))) (texts_ties name key)
+    (found_first (bytes_eq name key) x xs (number name xs) (found_in name xs) (found-number name xs))
 
 -- two names tie only if they are equal
 tied : (x y : List ℕ) → ties x y ≡ true → x ≡ y
@@ -67,7 +67,7 @@ either_order false b x y rest apart = refl
 abbrev with_bytes : StoredFile → Vec ℕ → StoredFile
 with_bytes stored bytes = (stored.0, bytes)
 
--- the files, with other bytes at a place
+-- the files, with other bytes at a position
 abbrev set_bytes : List StoredFile → ℕ → StoredFile → Vec ℕ → List StoredFile
 set_bytes files n d bytes = slice_set files n (with_bytes (slice_index_or files n d) bytes)
 
@@ -89,15 +89,15 @@ found_here name q bytes x xs here =
     let same : name ≡ string_bytes x.0 = (bytes_eq-Decides _ _).0 here in
     rw same (overwritten (ties q (string_bytes x.0)) _ _ _)
 
--- after a write at the place of a name, a scan finds these bytes under it, and all others as before
+-- after a write at the position of a name, a scan finds these bytes under it, and all others as before
 found-set_bytes : (name q : List ℕ) (bytes : Vec ℕ) (d : StoredFile) (files : List StoredFile)
-    → place name files < length files
-    → found_in q (set_bytes files (place name files) d bytes) ≡ refound name bytes q (found_in q files)
+    → number name files < length files
+    → found_in q (set_bytes files (number name files) d bytes) ≡ refound name bytes q (found_in q files)
 found-set_bytes name q bytes d [] h = absurd (omega arith)
 found-set_bytes name q bytes d (x ∷ xs) h =
     elim (bytes_eq name (string_bytes x.0)) as (λ b. bytes_eq name (string_bytes x.0) ≡ b
-    → cond (not b) (1 + place name xs) 0 < length (x ∷ xs)
-    → found_in q (set_bytes (x ∷ xs) (cond (not b) (1 + place name xs) 0) d bytes)
+    → cond (not b) (1 + number name xs) 0 < length (x ∷ xs)
+    → found_in q (set_bytes (x ∷ xs) (cond (not b) (1 + number name xs) 0) d bytes)
     ≡ refound name bytes q (found_in q (x ∷ xs))) [
       | true ↦ λ e _. found_here name q bytes x xs e
       | false ↦ λ e k. found_other name q bytes d x xs _ e (found-set_bytes name q bytes d xs (omega arith))
@@ -106,7 +106,7 @@ found-set_bytes name q bytes d (x ∷ xs) h =
 antisymmetric : (x y : List ℕ) → slice_cmp nat_cmp x y ≡ Equal → x ≡ y
 antisymmetric = slice_cmp-IsAntisymmetric nat_cmp-IsAntisymmetric
 
--- what `position` answers, by the place
+-- what `position` answers, by the position
 within : (b : Bool) (n at len : ℕ) → nat_lt at len ≡ b → Some n ≡ cond b (Some at) None
     → (n ≡ at) × (n < len)
 within true n at len e found = let same : n ≡ at = cc in (same, rw same (ltb-true _ _ e))
@@ -118,33 +118,33 @@ past true at len e none = cc
 past false at len e none = omega (arith, ltb-false _ _ e)
 
 -- the file of a name, by its place
-file-place : (name : List ℕ) (files : List StoredFile)
-    → file (files_of files) name ≡ option_map bytes_of (slice_get files (place name files))
-file-place name files =
-    get-from_entries nat_list_cmp_total (map entry_of files) name ∙ found-place name files
+file-number : (name : List ℕ) (files : List StoredFile)
+    → file (files_of files) name ≡ option_map bytes_of (slice_get files (number name files))
+file-number name files =
+    get-from_entries nat_list_cmp_total (map entry_of files) name ∙ found-number name files
 
 -- the file that `position` finds is the file of the name
 pub file_found : (name : List ℕ) (files : List StoredFile) (n : ℕ) (stored : StoredFile)
     → Some n ≡ position (has_name name) files → stored ≡ slice_index_or files n stored
     → Some (bytes_of stored) ≡ file (files_of files) name
 file_found name files n stored found is =
-    let at = within _ n (place name files) (length files) refl found in
-    sym (file-place name files ∙ ap (λ k. option_map bytes_of (slice_get files k)) (sym at.0)
+    let at = within _ n (number name files) (length files) refl found in
+    sym (file-number name files ∙ ap (λ k. option_map bytes_of (slice_get files k)) (sym at.0)
     ∙ ap (option_map bytes_of) (slice_get-get_or files n stored at.1 ∙ ap Some (sym is)))
 
 -- where it finds none the name is absent
 pub file_missing : (name : List ℕ) (files : List StoredFile)
     → None ≡ position (has_name name) files → None ≡ file (files_of files) name
 file_missing name files none =
-    let far = past _ (place name files) (length files) refl none in
-    sym (file-place name files ∙ ap (option_map bytes_of) (slice_get_past files _ far))
+    let far = past _ (number name files) (length files) refl none in
+    sym (file-number name files ∙ ap (option_map bytes_of) (slice_get_past files _ far))
 
 -- to write where `position` finds the name is to file under it
 pub filed_found : (name : List ℕ) (bytes : Vec ℕ) (files : List StoredFile) (n : ℕ) (stored : StoredFile)
     → Some n ≡ position (has_name name) files → stored ≡ slice_index_or files n stored
     → files_of (slice_set files n (with_bytes stored bytes)) ≡ filed (files_of files) name bytes.items
 filed_found name bytes files n stored found is =
-    let at = within _ n (place name files) (length files) refl found in
+    let at = within _ n (number name files) (length files) refl found in
     let set : (q : List ℕ) → found_in q (slice_set files n (with_bytes stored bytes)) ≡ refound name bytes q (found_in q files) =
     λ q. subst (λ x. found_in q (slice_set files n (with_bytes x bytes)) ≡ refound name bytes q (found_in q files)) (sym is)
     (rw at.0 (found-set_bytes name q bytes stored files (rw (← at.0) at.1))) in
@@ -163,7 +163,7 @@ pub filed_pushed : (name : List ℕ) (key : String Global) (bytes : Vec ℕ) (fi
     → None ≡ position (has_name name) files → string_bytes key ≡ name
     → files_of (files ++ (key, bytes) ∷ []) ≡ filed (files_of files) name bytes.items
 filed_pushed name key bytes files none is =
-    let far = past _ (place name files) (length files) refl none in
-    let absent = found-place name files ∙ ap (option_map bytes_of) (slice_get_past files _ far) in
+    let far = past _ (number name files) (length files) refl none in
+    let absent = found-number name files ∙ ap (option_map bytes_of) (slice_get_past files _ far) in
     ap from_entries (map-push files (key, bytes))
     ∙ rw is (from_entries_push nat_list_cmp_total antisymmetric (map entry_of files) name bytes.items absent)

@@ -1,4 +1,4 @@
--- Counts of faults. One stands still at the end of its type.
+-- Counts of I/O errors. One stands still at the end of its type.
 use Rattle.std.specs.Prelude.{ℕ, ◌+◌, ◌-◌, ◌^◌, ◌≤◌, Bool, min, if◌then◌else◌}
 
 -- the count rose by one at least, or stands at the last value of its type
@@ -9,6 +9,6 @@ Rose before now = min (before + 1) (2 ^ 64 - 1) ≤ now
 abbrev pub raised : ℕ → ℕ
 raised count = min (count + 1) (2 ^ 64 - 1)
 
--- a count of faults after a call that failed or didn't
+-- a count of I/O errors after a call that failed or didn't
 abbrev pub faults_after : Bool → ℕ → ℕ
 faults_after failed count = if failed then raised count else count

@@ -21,7 +21,7 @@ shelf_code =
     (λ parts. record { files = parts.0; reads = parts.1.0; writes = parts.1.1 }) (λ _. refl)
 
 -- The files that a write leaves: the name has all bytes at Ok, and the first half of them, rounded
--- down, after a fault. For want of memory nothing changes.
+-- down, after an I/O error. For running out of memory nothing changes.
 abbrev pub left_by : Result (Unit {0}) ShelfAnswer → Files → List ℕ → List ℕ → Files
 left_by (Ok done) files name bytes = filed files name bytes
 left_by (Err answers.Failed) files name bytes = filed files name (take (length bytes / 2) bytes)

@@ -9,8 +9,8 @@ pub record SinkState : Type 0 where
   pub written : List ℕ
   pub puts : Calls
 
--- What of a piece went out: all at Ok, the first half, rounded down, after a fault, and nothing for
--- want of memory.
+-- What of a piece went out: all at Ok, the first half, rounded down, after an I/O error, and nothing for
+-- running out of memory.
 abbrev pub sent : Result (Unit {0}) SinkAnswer → List ℕ → List ℕ
 sent (Ok done) piece = piece
 sent (Err answers.Failed) piece = take (length piece / 2) piece

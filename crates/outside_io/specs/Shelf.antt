@@ -15,7 +15,7 @@ has_failed (Err (answers.TooLong taken)) = false
 has_failed (Err answers.NoMemory) = false
 
 -- What a read of at most `limit` bytes answers, where this is found under the name: its bytes, or that there is
--- no such file, or that there are more. A fault and want of memory may come whatever is found.
+-- no such file, or that there are more. An I/O error and running out of memory may come whatever is found.
 abbrev pub Answers : Option (List ℕ) → ℕ → Result (Vec ℕ) ShelfAnswer → Type 0
 Answers found limit (Ok bytes) = found ≡ Some bytes.items
 Answers found limit (Err answers.Absent) = found ≡ None
@@ -31,8 +31,8 @@ TakesAtMost limit (Err (answers.TooLong taken)) = taken ≡ limit + 1
 TakesAtMost limit (Err answers.Failed) = ⊤
 TakesAtMost limit (Err answers.NoMemory) = ⊤
 
--- The files that a write leaves: these bytes under the name after Ok, a front of them after a fault, and after
--- want of memory a front or what was there before.
+-- The files that a write leaves: these bytes under the name after Ok, a prefix of them after an I/O error, and after
+-- running out of memory a front or what was there before.
 abbrev pub WriteLeaves : Option Files → List ℕ → List ℕ → Result (Unit {0}) ShelfAnswer → Option Files → Type 0
 WriteLeaves old name bytes (Ok done) new = new ≡ option_map (λ files. filed files name bytes) old
 WriteLeaves old name bytes (Err answers.Failed) new =

@@ -10,7 +10,7 @@ has_failed (Ok done) = false
 has_failed (Err answers.Failed) = true
 has_failed (Err answers.NoMemory) = false
 
--- At Ok the whole piece went out behind what was written, and after a refusal a front of it.
+-- At Ok the whole piece went out after what was written, and after a refusal a prefix of it.
 abbrev pub Puts : Option (List ℕ) → List ℕ → Result (Unit {0}) SinkAnswer → Option (List ℕ) → Type 0
 Puts old piece (Ok done) new = new ≡ option_map (λ written. written ++ piece) old
 Puts old piece (Err answer) new = (n : ℕ) × (new ≡ option_map (λ written. written ++ take n piece) old)

@@ -26,6 +26,6 @@ files_of stored = from_entries (map entry_of stored)
 abbrev pub has_name : List ℕ → StoredFile → Bool
 has_name name stored = bytes_eq name (string_bytes stored.0)
 
--- how the files of a shelf are told apart
+-- how the files of a shelf are known apart
 abbrev pub files_code : Coded Files
 files_code = code (coded_list coded_ℕ) (coded_list coded_ℕ)

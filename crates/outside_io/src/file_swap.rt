@@ -50,7 +50,7 @@ impl<R: Files + Drop> FileSwap<R> {
         }
     }
 
-    /// Counts a fault, where there was one.
+    /// Counts an I/O error, where there was one.
     fn answer(&mut self, done: io::Result<()>) -> Result<(), SwapAnswer>
         ensures later { self.old.faults ≤ self.new.faults }
         ensures counted { self.new ≡ record self.old { faults = faults_after (has_failed result) self.old.faults } }
@@ -78,7 +78,7 @@ where
 
     ghost loans = { λ _. [] };
 
-    ghost tells_all = { λ _. tt };
+    ghost exposes_all = { λ _. tt };
 
     fn size(&self) -> u32 {
         self.blocks

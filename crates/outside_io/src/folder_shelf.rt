@@ -90,7 +90,7 @@ fn read_file<R: Files + AllocGlobal>(rt: &R, name: &str, limit: u64) -> Result<V
         Err(error) if error.kind() == ErrorKind::NotFound => return Err(ShelfAnswer::Absent),
         Err(error) => return Err(refusal(error)),
     };
-    let bytes = read_front(rt.alloc(), file, limit.saturating_add(1)).map_err(refusal)?;
+    let bytes = read_prefix(rt.alloc(), file, limit.saturating_add(1)).map_err(refusal)?;
     let taken = bytes.len() as u64;
     if taken > limit {
         Err(ShelfAnswer::TooLong { taken })
@@ -110,7 +110,7 @@ fn refusal(error: io::Error) -> ShelfAnswer
 }
 
 /// The bytes of a file from its beginning, at most `most` of them.
-fn read_front<F: Read + OpenFile + Drop>(
+fn read_prefix<F: Read + OpenFile + Drop>(
     alloc: Global,
     mut file: F,
     most: u64,
@@ -124,7 +124,7 @@ fn read_front<F: Read + OpenFile + Drop>(
     Ok(bytes)
 }
 
-/// Reads a file into the front of `bytes`, to the file's end or until `most` bytes are read, and says
+/// Reads a file into the prefix of `bytes`, to the file's end or until `most` bytes are read, and says
 /// how many were. `bytes` grows where the file is longer than it.
 fn fill<F: Read>(file: &mut F, bytes: &mut Vec<u8>, most: usize) -> io::Result<usize>
     requires { vec_len bytes.old ≤ most }

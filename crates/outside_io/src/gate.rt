@@ -1,6 +1,6 @@
-//! Gates: what is told of a watch while it runs.
+//! Gates: what is reported of a watch while it runs.
 
-/// Is told of each frame that a viewer rendered, and of each scene that was published.
+/// Is known of each frame that a viewer rendered, and of each scene that was published.
 pub trait Gate {
     /// Viewer `viewer` has rendered its frame `frame`; both count from 0.
     fn looked(&self, viewer: u32, frame: u32);

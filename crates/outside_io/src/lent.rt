@@ -20,7 +20,7 @@ impl<D: SwapDisk> SwapDisk for Lent<'_, D> {
 
     ghost loans = { λ lent. lent.disk.ghost_name ∷ D.loans lent.disk.now };
 
-    ghost tells_all = { λ lent. D.tells_all lent.disk.now };
+    ghost exposes_all = { λ lent. D.exposes_all lent.disk.now };
 
     fn size(&self) -> u32 {
         self.disk.size()

@@ -1,4 +1,4 @@
-//! What lies outside of the engine: shelves of files, swap disks, sinks and gates.
+//! What is outside of the engine: shelves of files, swap disks, sinks and gates.
 #![tactic(auto)]
 
 mod failing_calls;

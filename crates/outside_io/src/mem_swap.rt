@@ -61,7 +61,7 @@ impl SwapDisk for MemSwap {
 
     ghost loans = { λ _. [] };
 
-    ghost tells_all = { λ _. refl };
+    ghost exposes_all = { λ _. refl };
 
     fn size(&self) -> u32 {
         self.blocks.size()

@@ -45,7 +45,7 @@ impl<T: Drop> From<AllocFailed<T>> for ShelfAnswer {
 
 /// Files by their names. A name has 1 to 64 letters, digits, `_`, `-` and `.`, the first neither `-` nor `.`.
 pub trait Shelf {
-    /// The files, where the shelf tells them.
+    /// The files, where the shelf exposes them.
     ghost files: { Self → Option Files };
 
     /// How many reads failed.

@@ -37,13 +37,13 @@ impl<T: Drop> From<AllocFailed<T>> for SinkAnswer {
 
 /// Takes text, piece by piece.
 pub trait Sink {
-    /// All bytes that went out, where the sink tells them.
+    /// All bytes that went out, where the sink exposes them.
     ghost written: { Self → Option (List ℕ) };
 
     /// How many pieces failed.
     ghost faults: { Self → ℕ };
 
-    /// Sends a piece behind all that went out before.
+    /// Sends a piece after all that went out before.
     fn put(&mut self, bytes: &[u8]) -> Result<(), SinkAnswer>
         ensures puts { Puts (written self.old) bytes.now result (written self.new) }
         ensures failed { IsErrOf result SinkAnswer.Failed → Rose (faults self.old) (faults self.new) }

@@ -33,7 +33,7 @@ impl StoredFiles {
     pub fn new(alloc: Global, mut files: Vec<(String, Vec<u8>)>) -> StoredFiles
         ensures { result ≡ files_of (reverse files.items) }
     {
-        // The first one that is found counts, so that a write has one place to change.
+        // The first one that is found counts, so that a write has one position to change.
         files.reverse();
         StoredFiles {
             alloc,
@@ -45,8 +45,8 @@ impl StoredFiles {
     pub fn get(&self, name: &str) -> Option<&[u8]>
         ensures { option_copied result ≡ file self.now name.now }
     {
-        let place = place_of(&self.stored, name)?;
-        Some(&self.stored[place].1)
+        let number = number_of(&self.stored, name)?;
+        Some(&self.stored[number].1)
     }
 
     /// Makes a file hold these bytes. Changes nothing where no memory is left.
@@ -54,8 +54,8 @@ impl StoredFiles {
         ensures { self.new ≡ (if is_ok result then filed self.old name.now bytes.now else self.old) }
     {
         let bytes = Vec::from_slice(self.alloc, bytes)?;
-        match place_of(&self.stored, name) {
-            Some(place) => self.stored[place].1 = bytes,
+        match number_of(&self.stored, name) {
+            Some(number) => self.stored[number].1 = bytes,
             None => {
                 let name = String::from_str(self.alloc, name)?;
                 self.stored.push((name, bytes))?;
@@ -81,7 +81,7 @@ impl StoredFiles {
 }
 
 /// Where the first file of a name stands.
-fn place_of(files: &[(String, Vec<u8>)], name: &str) -> Option<usize>
+fn number_of(files: &[(String, Vec<u8>)], name: &str) -> Option<usize>
     ensures { result ≡ position (has_name name.now) files.now }
 {
     files.iter().position(|stored| name == stored.0.as_str())

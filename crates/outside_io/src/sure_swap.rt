@@ -43,7 +43,7 @@ impl SwapDisk for SureSwap {
 
     ghost loans = { λ _. [] };
 
-    ghost tells_all = { λ _. refl };
+    ghost exposes_all = { λ _. refl };
 
     fn size(&self) -> u32 {
         self.blocks.size()

@@ -20,7 +20,7 @@ pub enum SwapAnswer {
 
 /// Blocks of 4,096 bytes, numbered from 0.
 pub trait SwapDisk {
-    /// The blocks, where the disk tells them.
+    /// The blocks, where the disk exposes them.
     ghost blocks: { Self → Option Blocks };
 
     /// How many calls failed.
@@ -59,6 +59,6 @@ pub trait SwapDisk {
         ensures block_count { block_count self.new ≡ block_count self.old }
         ensures loans { loans self.new ≡ loans self.old };
 
-    /// The blocks that are told are all of them.
-    ghost tells_all: { (disk : Self) → IfSome (blocks disk) (λ all. length all ≡ block_count disk) };
+    /// The blocks that are known are all of them.
+    ghost exposes_all: { (disk : Self) → IfSome (blocks disk) (λ all. length all ≡ block_count disk) };
 }

@@ -2,8 +2,8 @@
 use Rattle.std.proofs.Common.{◌≡◌, ℕ, ◌+◌, ◌-◌, ◌*◌, ◌<◌, ◌≤◌, ap, arith}
 use Rattle.std.proofs.Math.Nat.{mul-le-mul_right}
 use Rattle.plane_rect.specs.Rectangle.{Rectangle}
-use Rattle.sample_rows.specs.Format.{pixel_bytes}
-use Rattle.sample_rows.specs.declared.format.Format.{Format}
+use Rattle.pixel_formats.specs.Format.{pixel_bytes}
+use Rattle.pixel_formats.specs.declared.format.Format.{Format}
 use Rattle.patch_abyss.proofs.TilesOfPatches.{few_bytes}
 
 -- rows with columns have bytes

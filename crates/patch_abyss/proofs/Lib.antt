@@ -10,5 +10,5 @@ pub mod Sides
 pub mod Edged
 pub mod ReadPixels
 pub mod Bands
-pub mod DrawnRows
+pub mod FilledRows
 pub mod HalvedRows

@@ -3,79 +3,79 @@ use Rattle.std.proofs.Common.{◌≡◌, ℕ, zero, suc, ◌+◌, ◌-◌, ◌*�
 use Rattle.std.proofs.Math.Nat.{mod-add-mod, add-mod-mod, add-mod_left, mod-eq_of_lt}
 use Rattle.std.proofs.lemmas.Bool.{cases_lt}
 use Rattle.std.proofs.lemmas.List.{get_or-take, get_or_past}
-use Rattle.plane_rect.specs.Rectangle.{Rectangle, Lies, Within}
-use Rattle.sample_rows.specs.Format.{channels, depth}
-use Rattle.sample_rows.specs.Row.{pixel_at}
-use Rattle.sample_rows.specs.declared.format.Format.{Format}
-use Rattle.images.specs.Image.{Image, at}
-use Rattle.abyss_levels.specs.declared.abyss.Abyss.{Abyss}
-use Rattle.abyss_levels.specs.declared.abyss.Abyss.TheVariants.{None, Clamp, Loop, Black, White}
-use Rattle.abyss_levels.specs.Abyss.{abyss_at, nearest, wrapped}
-use Rattle.abyss_levels.proofs.PolicyLaws.{abyss_at-outside, clamp-everywhere, loop-everywhere, none-empty, clamp-empty, loop-empty, black-empty, white-empty}
-use Rattle.abyss_levels.proofs.Sides.{nearest-within, nearest-inside, wrapped-within, wrapped-inside}
+use Rattle.plane_rect.specs.Rectangle.{Rectangle, Inside, Within}
+use Rattle.pixel_formats.specs.Format.{channels, depth}
+use Rattle.pixel_formats.specs.Row.{pixel_at}
+use Rattle.pixel_formats.specs.declared.format.Format.{Format}
+use Rattle.model_images.specs.Image.{Image, at}
+use Rattle.pixel_formats.specs.declared.abyss.Abyss.{Abyss}
+use Rattle.pixel_formats.specs.declared.abyss.Abyss.TheVariants.{None, Clamp, Loop, Black, White}
+use Rattle.model_images.specs.Abyss.{abyss_at, nearest, wrapped}
+use Rattle.model_images.proofs.PolicyLaws.{abyss_at-outside, clamp-everywhere, loop-everywhere, none-empty, clamp-empty, loop-empty, black-empty, white-empty}
+use Rattle.model_images.proofs.Sides.{nearest-within, nearest-inside, wrapped-within, wrapped-inside}
 use Rattle.patch_abyss.specs.Fetched.{outside_sample}
-use Rattle.patch_abyss.specs.Rows.{ReadsNothing, AlikeRows, ReadsInOrder, OnOneSide}
+use Rattle.patch_abyss.specs.Rows.{ReadsNothing, EqualRows, ReadsInOrder, OnOneSide}
 use Rattle.sample_rows.proofs.GroupLaws.{get_or-zeros}
-use Rattle.images.proofs.Spelling.{sample_zero}
+use Rattle.model_images.proofs.FromRawLaws.{sample_zero}
 
--- an image without a place
-outside-empty : (image : Image) (policy : Abyss) (u v c : ℕ) → ((u v : ℕ) → Lies u v image.box → ⊥) → abyss_at image policy u v c ≡ outside_sample policy image.format c
+-- an image without a position
+outside-empty : (image : Image) (policy : Abyss) (u v c : ℕ) → ((u v : ℕ) → Inside u v image.box → ⊥) → abyss_at image policy u v c ≡ outside_sample policy image.format c
 outside-empty image None u v c nowhere = none-empty image nowhere u v c
 outside-empty image Clamp u v c nowhere = clamp-empty image nowhere u v c
 outside-empty image Loop u v c nowhere = loop-empty image nowhere u v c
 outside-empty image Black u v c nowhere = black-empty image nowhere u v c
 outside-empty image White u v c nowhere = white-empty image nowhere u v c
 
-pub nothing_read : (box : Rectangle) (policy : Abyss) (v : ℕ) → ((u v : ℕ) → Lies u v box → ⊥) → ReadsNothing box policy v
+pub nothing_read : (box : Rectangle) (policy : Abyss) (v : ℕ) → ((u v : ℕ) → Inside u v box → ⊥) → ReadsNothing box policy v
 nothing_read box policy v nowhere = λ image u c is.
-    outside-empty image policy u v c (λ a b there. nowhere a b (subst (Lies a b) is there))
+    outside-empty image policy u v c (λ a b there. nowhere a b (subst (Inside a b) is there))
 
--- a policy that does not move places into the box
-pub outside-still : (image : Image) (policy : Abyss) (u v c : ℕ) → (policy ≡ Clamp → ⊥) → (policy ≡ Loop → ⊥) → (Lies u v image.box → ⊥) → abyss_at image policy u v c ≡ outside_sample policy image.format c
+-- a policy that does not move positions into the box
+pub outside-still : (image : Image) (policy : Abyss) (u v c : ℕ) → (policy ≡ Clamp → ⊥) → (policy ≡ Loop → ⊥) → (Inside u v image.box → ⊥) → abyss_at image policy u v c ≡ outside_sample policy image.format c
 outside-still image None u v c clamp loop out = abyss_at-outside image None u v c out
 outside-still image Clamp u v c clamp loop out = absurd (clamp refl)
 outside-still image Loop u v c clamp loop out = absurd (loop refl)
 outside-still image Black u v c clamp loop out = abyss_at-outside image Black u v c out
 outside-still image White u v c clamp loop out = abyss_at-outside image White u v c out
 
-pub nothing_beyond : (box : Rectangle) (policy : Abyss) (v : ℕ) → (policy ≡ Clamp → ⊥) → (policy ≡ Loop → ⊥) → (Within box.top box.height v → ⊥) → ReadsNothing box policy v
+pub nothing_beyond : (box : Rectangle) (policy : Abyss) (v : ℕ) → (policy ≡ Clamp → ⊥) → (policy ≡ Loop → ⊥) → (Within box.first_row box.height v → ⊥) → ReadsNothing box policy v
 nothing_beyond box policy v clamp loop out = λ image u c is.
-    outside-still image policy u v c clamp loop (λ there. out (subst (Lies u v) is there).row)
+    outside-still image policy u v c clamp loop (λ there. out (subst (Inside u v) is there).row)
 
-both_nothing : (box : Rectangle) (policy : Abyss) (a b : ℕ) → ReadsNothing box policy a → ReadsNothing box policy b → AlikeRows box policy a b
+both_nothing : (box : Rectangle) (policy : Abyss) (a b : ℕ) → ReadsNothing box policy a → ReadsNothing box policy b → EqualRows box policy a b
 both_nothing box policy a b first second = λ image u c is. first image u c is ∙ sym (second image u c is)
 
-read_nearest : (box : Rectangle) (v : ℕ) → 0 < box.height → AlikeRows box Clamp v (nearest box.top box.height v)
+read_nearest : (box : Rectangle) (v : ℕ) → 0 < box.height → EqualRows box Clamp v (nearest box.first_row box.height v)
 read_nearest box v high = λ image u c is.
     let tall : 0 < image.box.height = subst (λ (r : Rectangle). 0 < r.height) (sym is) high in
-    let top = image.box.top in
+    let first_row = image.box.first_row in
     let height = image.box.height in
     clamp-everywhere image u v c
-    ∙ ap (λ (b : ℕ). at image (nearest image.box.left image.box.width u) b c) (sym (nearest-inside top height (nearest top height v) (nearest-within top height v tall)))
-    ∙ sym (clamp-everywhere image u (nearest top height v) c)
-    ∙ ap (λ (r : Rectangle). abyss_at image Clamp u (nearest r.top r.height v) c) is
+    ∙ ap (λ (b : ℕ). at image (nearest image.box.first_column image.box.width u) b c) (sym (nearest-inside first_row height (nearest first_row height v) (nearest-within first_row height v tall)))
+    ∙ sym (clamp-everywhere image u (nearest first_row height v) c)
+    ∙ ap (λ (r : Rectangle). abyss_at image Clamp u (nearest r.first_row r.height v) c) is
 
-read_wrapped : (box : Rectangle) (v : ℕ) → 0 < box.height → AlikeRows box Loop v (wrapped box.top box.height v)
+read_wrapped : (box : Rectangle) (v : ℕ) → 0 < box.height → EqualRows box Loop v (wrapped box.first_row box.height v)
 read_wrapped box v high = λ image u c is.
     let tall : 0 < image.box.height = subst (λ (r : Rectangle). 0 < r.height) (sym is) high in
-    let top = image.box.top in
+    let first_row = image.box.first_row in
     let height = image.box.height in
     loop-everywhere image u v c
-    ∙ ap (λ (b : ℕ). at image (wrapped image.box.left image.box.width u) b c) (sym (wrapped-inside top height (wrapped top height v) (wrapped-within top height v tall)))
-    ∙ sym (loop-everywhere image u (wrapped top height v) c)
-    ∙ ap (λ (r : Rectangle). abyss_at image Loop u (wrapped r.top r.height v) c) is
+    ∙ ap (λ (b : ℕ). at image (wrapped image.box.first_column image.box.width u) b c) (sym (wrapped-inside first_row height (wrapped first_row height v) (wrapped-within first_row height v tall)))
+    ∙ sym (loop-everywhere image u (wrapped first_row height v) c)
+    ∙ ap (λ (r : Rectangle). abyss_at image Loop u (wrapped r.first_row r.height v) c) is
 
 -- two rows that have the samples of a third
-through : (box : Rectangle) (policy : Abyss) (a b s t : ℕ) → s ≡ t → AlikeRows box policy a s → AlikeRows box policy b t → AlikeRows box policy a b
+through : (box : Rectangle) (policy : Abyss) (a b s t : ℕ) → s ≡ t → EqualRows box policy a s → EqualRows box policy b t → EqualRows box policy a b
 through box policy a b s t same first second = λ image u c is.
     first image u c is ∙ ap (λ (v : ℕ). abyss_at image policy u v c) same ∙ sym (second image u c is)
 
 -- ---- rows that follow one another
 
-pub in_order-nearest : (box : Rectangle) (v source many : ℕ) → 0 < box.height → source ≡ nearest box.top box.height v → many ≡ 1 → ReadsInOrder box Clamp v source many
+pub in_order-nearest : (box : Rectangle) (v source many : ℕ) → 0 < box.height → source ≡ nearest box.first_row box.height v → many ≡ 1 → ReadsInOrder box Clamp v source many
 in_order-nearest box v source many high at once = λ i below.
     let none : i ≡ 0 = omega arith in
-    through box Clamp (v + i) (source + i) (nearest box.top box.height (v + i)) (nearest box.top box.height (source + i)) (omega (arith, at, none, nearest-within box.top box.height v high))
+    through box Clamp (v + i) (source + i) (nearest box.first_row box.height (v + i)) (nearest box.first_row box.height (source + i)) (omega (arith, at, none, nearest-within box.first_row box.height v high))
     (read_nearest box (v + i) high) (read_nearest box (source + i) high)
 
 -- a number further on, wrapped
@@ -92,9 +92,9 @@ wrapped-more start (suc j) n k some =
     ∙ sym (mod-add-mod m len k)
     ∙ ap (λ (i : ℕ). (i + k) % len) rest
 
-pub in_order-wrapped : (box : Rectangle) (v source many : ℕ) → 0 < box.height → source ≡ wrapped box.top box.height v → source + many ≤ box.top + box.height → ReadsInOrder box Loop v source many
+pub in_order-wrapped : (box : Rectangle) (v source many : ℕ) → 0 < box.height → source ≡ wrapped box.first_row box.height v → source + many ≤ box.first_row + box.height → ReadsInOrder box Loop v source many
 in_order-wrapped box v source many high at room = λ i below.
-    let start = box.top in
+    let start = box.first_row in
     let len = box.height in
     let w = wrapped start len v in
     let here = wrapped-within start len v high in
@@ -103,15 +103,15 @@ in_order-wrapped box v source many high at room = λ i below.
     omega (arith, at, here.0, there.0, wrapped-more start len v i high ∙ mod-eq_of_lt (omega (arith, at, here.0))) in
     λ image u c is. read_wrapped box (v + i) high image u c is ∙ ap (λ (b : ℕ). abyss_at image Loop u b c) moved
 
--- ---- rows that are alike
+-- ---- rows that are equal
 
-pub alike-nowhere : (box : Rectangle) (policy : Abyss) (a b : ℕ) → ((u v : ℕ) → Lies u v box → ⊥) → AlikeRows box policy a b
-alike-nowhere box policy a b nowhere = both_nothing box policy a b (nothing_read box policy a nowhere) (nothing_read box policy b nowhere)
+pub repetition-nowhere : (box : Rectangle) (policy : Abyss) (a b : ℕ) → ((u v : ℕ) → Inside u v box → ⊥) → EqualRows box policy a b
+repetition-nowhere box policy a b nowhere = both_nothing box policy a b (nothing_read box policy a nowhere) (nothing_read box policy b nowhere)
 
--- beside a box, under a policy that does not move places into it
-still_aside : (box : Rectangle) (policy : Abyss) (a b : ℕ) → (policy ≡ Clamp → ⊥) → (policy ≡ Loop → ⊥) → OnOneSide box a b → AlikeRows box policy a b
+-- beside a box, under a policy that does not move positions into it
+still_aside : (box : Rectangle) (policy : Abyss) (a b : ℕ) → (policy ≡ Clamp → ⊥) → (policy ≡ Loop → ⊥) → OnOneSide box a b → EqualRows box policy a b
 still_aside box policy a b clamp loop side =
-    let out : (Within box.top box.height a → ⊥) × (Within box.top box.height b → ⊥) =
+    let out : (Within box.first_row box.height a → ⊥) × (Within box.first_row box.height b → ⊥) =
     elim side [
       | inl none ↦ (λ w. omega (arith, none, w.0, w.1), λ w. omega (arith, none, w.0, w.1))
       | inr rest ↦
@@ -122,34 +122,34 @@ still_aside box policy a b clamp loop side =
     ] in
     both_nothing box policy a b (nothing_beyond box policy a clamp loop out.0) (nothing_beyond box policy b clamp loop out.1)
 
-clamped_aside : (box : Rectangle) (a b : ℕ) → 0 < box.height → OnOneSide box a b → AlikeRows box Clamp a b
+clamped_aside : (box : Rectangle) (a b : ℕ) → 0 < box.height → OnOneSide box a b → EqualRows box Clamp a b
 clamped_aside box a b high side =
-    let same : nearest box.top box.height a ≡ nearest box.top box.height b =
+    let same : nearest box.first_row box.height a ≡ nearest box.first_row box.height b =
     elim side [
       | inl none ↦ absurd (omega (arith, none, high))
       | inr rest ↦ elim rest [ inl h ↦ omega (arith, h.0, h.1) | inr h ↦ omega (arith, h.0, h.1) ]
     ] in
-    through box Clamp a b (nearest box.top box.height a) (nearest box.top box.height b) same (read_nearest box a high) (read_nearest box b high)
+    through box Clamp a b (nearest box.first_row box.height a) (nearest box.first_row box.height b) same (read_nearest box a high) (read_nearest box b high)
 
-no_rows : (box : Rectangle) → box.height ≡ 0 → (u v : ℕ) → Lies u v box → ⊥
+no_rows : (box : Rectangle) → box.height ≡ 0 → (u v : ℕ) → Inside u v box → ⊥
 no_rows box none u v there = omega (arith, none, there.row)
 
 -- two rows beside a box
-pub alike-aside : (box : Rectangle) (policy : Abyss) (a b : ℕ) → (policy ≡ Loop → ⊥) → OnOneSide box a b → AlikeRows box policy a b
-alike-aside box None a b loop side = still_aside box None a b (search rules) loop side
-alike-aside box Clamp a b loop side =
+pub repetition-aside : (box : Rectangle) (policy : Abyss) (a b : ℕ) → (policy ≡ Loop → ⊥) → OnOneSide box a b → EqualRows box policy a b
+repetition-aside box None a b loop side = still_aside box None a b (search rules) loop side
+repetition-aside box Clamp a b loop side =
     elim (cases_lt 0 box.height) [
       | inl high ↦ clamped_aside box a b high side
-      | inr low ↦ alike-nowhere box Clamp a b (no_rows box (omega arith))
+      | inr low ↦ repetition-nowhere box Clamp a b (no_rows box (omega arith))
     ]
-alike-aside box Loop a b loop side = absurd (loop refl)
-alike-aside box Black a b loop side = still_aside box Black a b (search rules) loop side
-alike-aside box White a b loop side = still_aside box White a b (search rules) loop side
+repetition-aside box Loop a b loop side = absurd (loop refl)
+repetition-aside box Black a b loop side = still_aside box Black a b (search rules) loop side
+repetition-aside box White a b loop side = still_aside box White a b (search rules) loop side
 
 -- a whole number of heights apart
-pub alike-wrapped : (box : Rectangle) (v i : ℕ) → 0 < box.height → box.height ≤ v → AlikeRows box Loop (v - box.height + i % box.height) (v + i)
-alike-wrapped box v i high above =
-    let start = box.top in
+pub repetition-wrapped : (box : Rectangle) (v i : ℕ) → 0 < box.height → box.height ≤ v → EqualRows box Loop (v - box.height + i % box.height) (v + i)
+repetition-wrapped box v i high above =
+    let start = box.first_row in
     let len = box.height in
     let base = v - len in
     let w = wrapped start len base - start in
@@ -163,14 +163,14 @@ alike-wrapped box v i high above =
     let two = wrapped-within start len (v + i) high in
     through box Loop a (v + i) (wrapped start len a) (wrapped start len (v + i)) (omega (arith, first, second, one.0, two.0)) (read_wrapped box a high) (read_wrapped box (v + i) high)
 
--- a box without a place included
-pub alike-looped : (box : Rectangle) (v i period : ℕ) → period ≡ max box.height 1 → period ≤ v → AlikeRows box Loop (v - period + i % period) (v + i)
-alike-looped box v i period is above =
+-- a box without a position included
+pub repetition-looped : (box : Rectangle) (v i period : ℕ) → period ≡ max box.height 1 → period ≤ v → EqualRows box Loop (v - period + i % period) (v + i)
+repetition-looped box v i period is above =
     elim (cases_lt 0 box.height) [
       | inl high ↦
           let same : period ≡ box.height = omega arith in
-          rw same (alike-wrapped box v i high (omega arith))
-      | inr low ↦ alike-nowhere box Loop (v - period + i % period) (v + i) (no_rows box (omega arith))
+          rw same (repetition-wrapped box v i high (omega arith))
+      | inr low ↦ repetition-nowhere box Loop (v - period + i % period) (v + i) (no_rows box (omega arith))
     ]
 
 -- ---- pixels of zeros

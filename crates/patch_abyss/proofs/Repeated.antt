@@ -1,11 +1,11 @@
--- Bytes that are written over and over.
+-- Bytes that are written periodically.
 use Rattle.std.proofs.Common.{◌≡◌, ℕ, ◌+◌, ◌-◌, ◌%◌, ◌<◌, ◌≤◌, min, List, ◌++◌, length, take, drop, get_or, ◌⊎◌, inl, inr, sym, ap, ◌∙◌, arith, length-take, length-append, length-drop}
 use Rattle.std.proofs.Math.Nat.{mod-add-mod, mod-eq_of_lt, mod_self, mod-le}
 use Rattle.std.proofs.lemmas.Bool.{cases_lt}
 use Rattle.std.proofs.lemmas.List.{get_or_append_left, get_or-take}
 use Rattle.std.proofs.lemmas.Nat.{mod_below}
 
--- Up to a number of bytes that is a multiple of the period, or is all of them, the first ones stand over and over.
+-- Up to a number of bytes that is a multiple of the period, or is all of them, the first ones stand periodically.
 pub record Repeats (period done : ℕ) (old now : List ℕ) : Type 0 where
   pub some : 0 < done
   pub multiple : (done % period ≡ 0) ⊎ (length old ≤ done)
@@ -18,7 +18,7 @@ Repeats-once period old some = record {
   same = λ i below there. ap (λ (k : ℕ). get_or old k 0) (sym (mod-eq_of_lt below));
 }
 
-module _ (period done more : ℕ) (old now new : List ℕ) (before : Repeats period done old now) (left : done < length old)
+module _ (period done more : ℕ) (old now new : List ℕ) (before : Repeats period done old now) (first_column : done < length old)
     (many : (more ≡ done) ⊎ (more ≡ length old - done)) (few : more ≤ done) (written : (i : ℕ) → i < more → get_or new (done + i) 0 ≡ get_or now i 0)
     (kept : (i : ℕ) → i < done → get_or new i 0 ≡ get_or now i 0) where
   whole : done % period ≡ 0
@@ -47,15 +47,15 @@ module _ (period done more : ℕ) (old now new : List ℕ) (before : Repeats per
         ];
   }
 
--- bytes that are written once, or their front is, and then over and over
-pub cycled : (to from first new : List ℕ) (front : ℕ) → 0 < length from → front ≡ min (length to) (length from) → first ≡ take front from →
-    ((i : ℕ) → i < length (first ++ drop front to) → get_or new i 0 ≡ get_or (first ++ drop front to) (i % length from) 0) →
+-- bytes that are written once, or their front is, and then periodically
+pub cycled : (to from first new : List ℕ) (prefix : ℕ) → 0 < length from → prefix ≡ min (length to) (length from) → first ≡ take prefix from →
+    ((i : ℕ) → i < length (first ++ drop prefix to) → get_or new i 0 ≡ get_or (first ++ drop prefix to) (i % length from) 0) →
     (i : ℕ) → i < length to → get_or new i 0 ≡ get_or from (i % length from) 0
-cycled to from first new front some is_front is again i there =
-    let long : length first ≡ front = ap length is ∙ omega (arith, length-take front from, is_front) in
+cycled to from first new prefix some is_prefix is again i there =
+    let long : length first ≡ prefix = ap length is ∙ omega (arith, length-take prefix from, is_prefix) in
     let few = mod-le i (length from) in
-    let once : i % length from < front = omega (arith, few, is_front, mod_below i (length from) some) in
-    again i (omega (arith, length-append first (drop front to), length-drop front to, long, is_front))
-    ∙ get_or_append_left first (drop front to) 0 (i % length from) (omega (arith, once, long))
+    let once : i % length from < prefix = omega (arith, few, is_prefix, mod_below i (length from) some) in
+    again i (omega (arith, length-append first (drop prefix to), length-drop prefix to, long, is_prefix))
+    ∙ get_or_append_left first (drop prefix to) 0 (i % length from) (omega (arith, once, long))
     ∙ ap (λ (xs : List ℕ). get_or xs (i % length from) 0) is
-    ∙ get_or-take front from (i % length from) 0 once
+    ∙ get_or-take prefix from (i % length from) 0 once

@@ -3,16 +3,16 @@ use Rattle.std.proofs.Common.{◌≡◌, ℕ, ◌+◌, ◌-◌, ◌*◌, ◌/◌
 use Rattle.std.proofs.Math.Nat.{div-add-mod, mul-le-mul_right}
 use Rattle.std.proofs.lemmas.List.{get_or-take, get_or-drop}
 use Rattle.std.proofs.lemmas.Nat.{mul-add-lt, mod-mul-add, mod_below}
-use Rattle.plane_rect.specs.Rectangle.{Rectangle, Includes, Within, area, bottom, offset}
-use Rattle.sample_rows.specs.Format.{channels, depth, pixel_bytes}
-use Rattle.sample_rows.specs.Row.{pixel_at}
-use Rattle.sample_rows.specs.declared.format.Format.{Format}
-use Rattle.images.specs.Image.{at}
-use Rattle.images.specs.Spelled.{spelled}
+use Rattle.plane_rect.specs.Rectangle.{Rectangle, Includes, Within, area, end_row, offset}
+use Rattle.pixel_formats.specs.Format.{channels, depth, pixel_bytes}
+use Rattle.pixel_formats.specs.Row.{pixel_at}
+use Rattle.pixel_formats.specs.declared.format.Format.{Format}
+use Rattle.model_images.specs.Image.{at}
+use Rattle.model_images.specs.FromRaw.{image_from_raw}
 use Rattle.patch_abyss.specs.Copied.{AreRows, row_byte}
 use Rattle.patch_abyss.specs.declared.rows.Rows.{Rows}
-use Rattle.patch_abyss.proofs.CopiedRows.{before_place, byte_of_part}
-use Rattle.images.proofs.Spelling.{sample_alike, at-spelled}
+use Rattle.patch_abyss.proofs.CopiedRows.{before_position, byte_of_part}
+use Rattle.model_images.proofs.FromRawLaws.{sample_equal, at-image_from_raw}
 use Rattle.patch_abyss.proofs.Parts.{byte_index, byte_within}
 
 -- pixel number k of one row has the bytes of pixel number j of another, n each
@@ -24,12 +24,12 @@ pub pixel_moved : (format : Format) (xs ys : List ℕ) (a b c : ℕ) → c < cha
 pixel_moved format xs ys a b c known same =
     let m = channels format in
     let d = depth format in
-    sample_alike d xs ys (a * m + c) (b * m + c)
+    sample_equal d xs ys (a * m + c) (b * m + c)
     (λ k within. rw (byte_index a m d c k, byte_index b m d c k) (same (d * c + k) (byte_within m d c k known within)))
 
--- where a byte of a pixel stands that is written over and over
-pub cycled_place : (n w s k b : ℕ) → b < n → 0 < w → (s * n + (k * n + b)) % (w * n) ≡ ((s + k) % w) * n + b
-cycled_place n w s k b within some =
+-- where a byte of a pixel stands that is written periodically
+pub cycled_position : (n w s k b : ℕ) → b < n → 0 < w → (s * n + (k * n + b)) % (w * n) ≡ ((s + k) % w) * n + b
+cycled_position n w s k b within some =
     let q = (s + k) / w in
     let r = (s + k) % w in
     let all : s * n + (k * n + b) ≡ q * (w * n) + (r * n + b) = omega (arith, ap (λ (i : ℕ). i * n) (div-add-mod (s + k) w)) in
@@ -37,35 +37,35 @@ cycled_place n w s k b within some =
     ∙ mod-mul-add q (w * n) (r * n + b) (omega (arith, mul-add-lt r n b w (mod_below (s + k) w some) within))
 
 -- where rows that follow one another stand among the bytes of a box whose pixels have n each
-module _ (box : Rectangle) (n s e p f l z : ℕ) (top : box.top ≤ s) (some : s < e) (end : e ≤ bottom box)
-    (pixel : p ≡ n) (at_f : f ≡ offset box box.left s) (at_l : l ≡ offset box box.left (e - 1)) (at_z : z ≡ l + box.width) where
-  rows_begin : f * p ≡ (s - box.top) * (box.width * n)
+module _ (box : Rectangle) (n s e p f l z : ℕ) (first_row : box.first_row ≤ s) (some : s < e) (end : e ≤ end_row box)
+    (pixel : p ≡ n) (at_f : f ≡ offset box box.first_column s) (at_l : l ≡ offset box box.first_column (e - 1)) (at_z : z ≡ l + box.width) where
+  rows_begin : f * p ≡ (s - box.first_row) * (box.width * n)
   rows_begin =
-      let first : f ≡ (s - box.top) * box.width = omega (arith, at_f) in
-      ap (λ (i : ℕ). i * p) first ∙ ap (λ (i : ℕ). (s - box.top) * box.width * i) pixel ∙ omega arith
+      let first : f ≡ (s - box.first_row) * box.width = omega (arith, at_f) in
+      ap (λ (i : ℕ). i * p) first ∙ ap (λ (i : ℕ). (s - box.first_row) * box.width * i) pixel ∙ omega arith
 
   rows_long : z * p ≡ f * p + (e - s) * (box.width * n)
   rows_long =
-      let last : z ≡ (e - 1 - box.top + 1) * box.width = omega (arith, at_l, at_z) in
-      let down : e - 1 - box.top + 1 ≡ s - box.top + (e - s) = omega arith in
+      let last : z ≡ (e - 1 - box.first_row + 1) * box.width = omega (arith, at_l, at_z) in
+      let down : e - 1 - box.first_row + 1 ≡ s - box.first_row + (e - s) = omega arith in
       ap (λ (i : ℕ). i * p) (last ∙ ap (λ (i : ℕ). i * box.width) down)
-      ∙ ap (λ (i : ℕ). (s - box.top + (e - s)) * box.width * i) pixel
+      ∙ ap (λ (i : ℕ). (s - box.first_row + (e - s)) * box.width * i) pixel
       ∙ omega (arith, rows_begin)
 
   pub rows_fit : z * p ≤ area box * n
   rows_fit =
-      let above : s - box.top + (e - s) ≤ box.height = omega arith in
+      let above : s - box.first_row + (e - s) ≤ box.height = omega arith in
       omega (arith, rows_long, rows_begin, mul-le-mul_right (box.width * n) above)
 
-  place_in_rows : (u v : ℕ) → s ≤ v → offset box u v * n ≡ f * p + ((v - s) * box.width + (u - box.left)) * n
-  place_in_rows u v from_here =
-      let down : v - box.top ≡ s - box.top + (v - s) = omega arith in
+  position_in_rows : (u v : ℕ) → s ≤ v → offset box u v * n ≡ f * p + ((v - s) * box.width + (u - box.first_column)) * n
+  position_in_rows u v from_here =
+      let down : v - box.first_row ≡ s - box.first_row + (v - s) = omega arith in
       omega (arith, rows_begin, ap (λ (i : ℕ). i * (box.width * n)) down)
 
 -- rows of an image that follow one another, cut from its bytes
-module _ (box : Rectangle) (format : Format) (s e p f l z : ℕ) (bytes : List ℕ) (top : box.top ≤ s) (some : s < e) (end : e ≤ bottom box)
+module _ (box : Rectangle) (format : Format) (s e p f l z : ℕ) (bytes : List ℕ) (first_row : box.first_row ≤ s) (some : s < e) (end : e ≤ end_row box)
     (whole : length bytes ≡ area box * pixel_bytes format) (pixel : p ≡ pixel_bytes format)
-    (at_f : f ≡ offset box box.left s) (at_l : l ≡ offset box box.left (e - 1)) (at_z : z ≡ l + box.width) where
+    (at_f : f ≡ offset box box.first_column s) (at_l : l ≡ offset box box.first_column (e - 1)) (at_z : z ≡ l + box.width) where
   abbrev n : ℕ
   n = pixel_bytes format
 
@@ -73,49 +73,49 @@ module _ (box : Rectangle) (format : Format) (s e p f l z : ℕ) (bytes : List �
   cut = take (z * p - f * p) (drop (f * p) bytes)
 
   long : z * p ≡ f * p + (e - s) * (box.width * n)
-  long = rows_long box n s e p f l z top some end pixel at_f at_l at_z
+  long = rows_long box n s e p f l z first_row some end pixel at_f at_l at_z
 
   pub rows_in_order : f * p ≤ z * p
   rows_in_order = omega (arith, long)
 
   pub rows_within : z * p ≤ length bytes
-  rows_within = omega (arith, whole, rows_fit box n s e p f l z top some end pixel at_f at_l at_z)
+  rows_within = omega (arith, whole, rows_fit box n s e p f l z first_row some end pixel at_f at_l at_z)
 
   pub length-rows : length cut ≡ (e - s) * (box.width * n)
   length-rows = omega (arith, length-take (z * p - f * p) (drop (f * p) bytes), length-drop (f * p) bytes, rows_within, long)
 
-  pub rows_samples : (u v c : ℕ) → Within box.left box.width u → s ≤ v → v < e → c < channels format →
-      pixel_at format cut ((v - s) * box.width + (u - box.left)) c ≡ at (spelled box format bytes) u v c
+  pub rows_samples : (u v c : ℕ) → Within box.first_column box.width u → s ≤ v → v < e → c < channels format →
+      pixel_at format cut ((v - s) * box.width + (u - box.first_column)) c ≡ at (image_from_raw box format bytes) u v c
   rows_samples u v c column from_here above known =
-      let i = (v - s) * box.width + (u - box.left) in
-      let below : i < (e - s) * box.width = omega (arith, mul-add-lt (v - s) box.width (u - box.left) (e - s) (omega arith) (omega (arith, column))) in
+      let i = (v - s) * box.width + (u - box.first_column) in
+      let below : i < (e - s) * box.width = omega (arith, mul-add-lt (v - s) box.width (u - box.first_column) (e - s) (omega arith) (omega (arith, column))) in
       pixel_moved format cut bytes i (offset box u v) c known
       (λ b within.
       get_or-take (z * p - f * p) (drop (f * p) bytes) (i * n + b) 0 (omega (arith, long, mul-add-lt i n b ((e - s) * box.width) below within))
       ∙ get_or-drop (f * p) bytes (i * n + b) 0
-      ∙ ap (λ (q : ℕ). get_or bytes q 0) (omega (arith, place_in_rows box n s e p f l z top some end pixel at_f at_l at_z u v from_here)))
-      ∙ sym (at-spelled box format bytes u v c (record { column = column; row = (omega arith, omega arith) }) known)
+      ∙ ap (λ (q : ℕ). get_or bytes q 0) (omega (arith, position_in_rows box n s e p f l z first_row some end pixel at_f at_l at_z u v from_here)))
+      ∙ sym (at-image_from_raw box format bytes u v c (record { column = column; row = (omega arith, omega arith) }) known)
 
 -- the pixels of a part of an image, whose rows are cut from its bytes
 module _ (r part : Rectangle) (format : Format) (rows : Rows) (count : ℕ) (source bytes : List ℕ) (inside : Includes r part)
-    (begins : rows.start ≡ offset r part.left part.top * pixel_bytes format) (apart : rows.stride ≡ r.width * pixel_bytes format)
+    (begins : rows.start ≡ offset r part.first_column part.first_row * pixel_bytes format) (apart : rows.stride ≡ r.width * pixel_bytes format)
     (of_count : count ≡ part.width * pixel_bytes format) (cut : AreRows rows count part.height source bytes) where
   pub part_pixels : (j k c : ℕ) → j < part.height → k < part.width → c < channels format →
-      pixel_at format bytes (j * part.width + k) c ≡ at (spelled r format source) (part.left + k) (part.top + j) c
+      pixel_at format bytes (j * part.width + k) c ≡ at (image_from_raw r format source) (part.first_column + k) (part.first_row + j) c
   part_pixels j k c below within known =
       let n = pixel_bytes format in
-      let corner = inside part.left part.top (record { column = (omega arith, omega arith); row = (omega arith, omega arith) }) in
-      let there = inside (part.left + k) (part.top + j) (record { column = (omega arith, omega arith); row = (omega arith, omega arith) }) in
-      let down : part.top + j - part.top ≡ j = omega arith in
-      let aside : part.left + k - part.left ≡ k = omega arith in
-      pixel_moved format bytes source (j * part.width + k) (offset r (part.left + k) (part.top + j)) c known
+      let corner = inside part.first_column part.first_row (record { column = (omega arith, omega arith); row = (omega arith, omega arith) }) in
+      let there = inside (part.first_column + k) (part.first_row + j) (record { column = (omega arith, omega arith); row = (omega arith, omega arith) }) in
+      let down : part.first_row + j - part.first_row ≡ j = omega arith in
+      let aside : part.first_column + k - part.first_column ≡ k = omega arith in
+      pixel_moved format bytes source (j * part.width + k) (offset r (part.first_column + k) (part.first_row + j)) c known
       (λ b small.
-      let in_row : k * n + b < part.width * n = before_place k part.width n b within small in
+      let in_row : k * n + b < part.width * n = before_position k part.width n b within small in
       ap (λ (i : ℕ). get_or bytes i 0) (omega (arith, ap (λ (m : ℕ). j * m) of_count))
       ∙ cut.cut j (k * n + b) below (omega (arith, of_count, in_row))
       ∙ ap (λ (i : ℕ). get_or source i 0)
       (sym
-      (byte_of_part r part n rows (part.left + k) (part.top + j) b corner begins apart (omega arith) (omega arith)
-      ∙ ap (λ (i : ℕ). row_byte rows i ((part.left + k - part.left) * n + b)) down
+      (byte_of_part r part n rows (part.first_column + k) (part.first_row + j) b corner begins apart (omega arith) (omega arith)
+      ∙ ap (λ (i : ℕ). row_byte rows i ((part.first_column + k - part.first_column) * n + b)) down
       ∙ ap (λ (i : ℕ). row_byte rows j (i * n + b)) aside)))
-      ∙ sym (at-spelled r format source (part.left + k) (part.top + j) c there known)
+      ∙ sym (at-image_from_raw r format source (part.first_column + k) (part.first_row + j) c there known)

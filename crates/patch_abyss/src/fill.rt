@@ -1,4 +1,4 @@
-//! Bytes that are written over and over.
+//! Bytes that are written periodically.
 
 ghost use Rattle.std.specs.Prelude.{◌≡◌, ℕ, ◌+◌, ◌-◌, ◌*◌, ◌%◌, ◌<◌, ◌≤◌, ◌⊎◌, length, slice_index};
 ghost use Rattle.patch_abyss.specs.Copied.{HasRows, HasSides, HaveRoom, bytes_of};
@@ -16,7 +16,7 @@ pub(crate) struct RowParts {
     pub end: usize,
 }
 
-/// Writes rows of `count` bytes, each with those of a row of `period` bytes over and over, the first
+/// Writes rows of `count` bytes, each with those of a row of `period` bytes periodically, the first
 /// time from an index on.
 pub(crate) fn wrap_rows(
     to: &mut [u8],
@@ -33,24 +33,24 @@ pub(crate) fn wrap_rows(
     ensures bytes { (j k : ℕ) → j < many → k < count →
         slice_index to.new (j * count + k) ≡ slice_index from.now (j * period + (first + k) % period) }
 {
-    let front = count.min(period - first);
+    let prefix = count.min(period - first);
     let both = count.min(period);
-    let (left, right) = (Rows::new(0, count), Rows::new(front, count));
-    copy_rows(to, left, from, Rows::new(first, period), front, many);
-    copy_rows(to, right, from, Rows::new(0, period), both - front, many);
+    let (first_column, end_column) = (Rows::new(0, count), Rows::new(prefix, count));
+    copy_rows(to, first_column, from, Rows::new(first, period), prefix, many);
+    copy_rows(to, end_column, from, Rows::new(0, period), both - prefix, many);
     if period < count {
-        repeat_in_rows(to, left, count, period, many);
+        repeat_in_rows(to, first_column, count, period, many);
     }
 }
 
 /// Writes what is left and right of the middle parts of rows: pixels of so many bytes, one over and
-/// over ahead of the middle part, and one behind it.
+/// over ahead of the middle part, and one after it.
 pub(crate) fn fill_sides(
     to: &mut [u8],
     parts: RowParts,
     from: &[u8],
-    ahead: Rows,
-    behind: Rows,
+    leading: Rows,
+    trailing: Rows,
     pixel: usize,
     many: usize,
 )
@@ -58,25 +58,25 @@ pub(crate) fn fill_sides(
     requires start { parts.start ≤ parts.end }
     requires end { parts.end ≤ parts.count }
     requires to { length to.old ≡ many * parts.count }
-    requires ahead { HaveRoom ahead pixel many from.now }
-    requires behind { HaveRoom behind pixel many from.now }
+    requires leading { HaveRoom leading pixel many from.now }
+    requires trailing { HaveRoom trailing pixel many from.now }
     ensures len { length to.new ≡ length to.old }
-    ensures sides { HasSides parts many pixel (bytes_of ahead from.now) (bytes_of behind from.now) to.old to.new }
+    ensures sides { HasSides parts many pixel (bytes_of leading from.now) (bytes_of trailing from.now) to.old to.new }
 {
-    let (left, right) = (Rows::new(0, parts.count), Rows::new(parts.end, parts.count));
-    cycle_rows(to, left, parts.start, from, ahead, pixel, many);
+    let (first_column, end_column) = (Rows::new(0, parts.count), Rows::new(parts.end, parts.count));
+    cycle_rows(to, first_column, parts.start, from, leading, pixel, many);
     cycle_rows(
         to,
-        right,
+        end_column,
         parts.count - parts.end,
         from,
-        behind,
+        trailing,
         pixel,
         many,
     );
 }
 
-/// Writes rows of `count` bytes, each with those of a row of `period` bytes over and over.
+/// Writes rows of `count` bytes, each with those of a row of `period` bytes periodically.
 fn cycle_rows(
     to: &mut [u8],
     targets: Rows,
@@ -104,7 +104,7 @@ fn cycle_rows(
     }
 }
 
-/// Writes the first bytes of each row, as many as the period, over and over behind them.
+/// Writes the first bytes of each row, as many as the period, periodically after them.
 fn repeat_in_rows(to: &mut [u8], rows: Rows, count: usize, period: usize, many: usize)
     requires some { 0 < period }
     requires apart { count ≤ rows.stride }
@@ -117,7 +117,7 @@ fn repeat_in_rows(to: &mut [u8], rows: Rows, count: usize, period: usize, many: 
     }
 }
 
-/// Writes the bytes of a slice over and over.
+/// Writes the bytes of a slice periodically.
 pub(crate) fn cycle(to: &mut [u8], from: &[u8])
     requires { 0 < length from.now }
     ensures len { length to.new ≡ length to.old }
@@ -128,12 +128,12 @@ pub(crate) fn cycle(to: &mut [u8], from: &[u8])
         to.fill(from[0]);
         return;
     }
-    let front = to.len().min(from.len());
-    to[..front].copy_from_slice(&from[..front]);
+    let prefix = to.len().min(from.len());
+    to[..prefix].copy_from_slice(&from[..prefix]);
     repeat(to, from.len());
 }
 
-/// Writes the first bytes, as many as the period, over and over behind them.
+/// Writes the first bytes, as many as the period, periodically after them.
 pub(crate) fn repeat(bytes: &mut [u8], period: usize)
     requires { 0 < period }
     ensures len { length bytes.new ≡ length bytes.old }
@@ -143,13 +143,13 @@ pub(crate) fn repeat(bytes: &mut [u8], period: usize)
     let mut done = period;
     while done < bytes.len() {
         let more = done.min(bytes.len() - done);
-        copy_front(bytes, done, more);
+        copy_prefix(bytes, done, more);
         done += more;
     }
 }
 
-/// Copies the first bytes, so many, to a place behind them.
-fn copy_front(bytes: &mut [u8], to: usize, count: usize)
+/// Copies the first bytes, so many, to a position after them.
+fn copy_prefix(bytes: &mut [u8], to: usize, count: usize)
     requires before { count ≤ to }
     requires room { to + count ≤ length bytes.old }
     ensures len { length bytes.new ≡ length bytes.old }
@@ -158,6 +158,6 @@ fn copy_front(bytes: &mut [u8], to: usize, count: usize)
     ensures kept { (i : ℕ) → (i < to) ⊎ (to + count ≤ i) →
         slice_index bytes.new i ≡ slice_index bytes.old i }
 {
-    let (front, back) = bytes.split_at_mut(to);
-    back[..count].copy_from_slice(&front[..count]);
+    let (prefix, back) = bytes.split_at_mut(to);
+    back[..count].copy_from_slice(&prefix[..count]);
 }

@@ -2,17 +2,17 @@
 
 ghost use Rattle.std.specs.Prelude.{◌≡◌, ◌+◌, ◌*◌, ◌%◌, ◌<◌, IfOk, length};
 ghost use Rattle.plane_rect.specs.Rectangle.{halved, plane_side};
-ghost use Rattle.sample_rows.specs.Average.{mean_pixel};
-ghost use Rattle.sample_rows.specs.Format.{pixel_bytes};
-ghost use Rattle.sample_rows.specs.Row.{HasPixels};
-ghost use Rattle.images.specs.Image.{at};
-ghost use Rattle.abyss_levels.specs.Level.{doubled, halved_image, mean_at};
-ghost use Rattle.patch_abyss.specs.Fetched.{RowsDrawn};
-ghost use Rattle.images.specs.Spelled.{byte_count};
+ghost use Rattle.pixel_formats.specs.Average.{mean_pixel};
+ghost use Rattle.pixel_formats.specs.Format.{pixel_bytes};
+ghost use Rattle.pixel_formats.specs.Row.{HasPixels};
+ghost use Rattle.model_images.specs.Image.{at};
+ghost use Rattle.model_images.specs.Level.{doubled, halved_image, mean_at};
+ghost use Rattle.patch_abyss.specs.Fetched.{RowsFilled};
+ghost use Rattle.model_images.specs.FromRaw.{byte_count};
 
 use crate::patch::{Patch, byte_count, has_rows};
 use crate::reading::read_row;
-use abyss_levels::Abyss;
+use model_images::Abyss;
 use no_memory::NoMemory;
 use plane_rect::{PLANE_ORIGIN, Rect};
 use sample_rows::row_average4;
@@ -45,12 +45,12 @@ fn halve_rows(image: &Patch, rect: &Rect, up: &mut [u8], down: &mut [u8], bytes:
     requires up { length up.old ≡ 2 * rect.now.width * pixel_bytes image.now.format }
     requires down { length down.old ≡ 2 * rect.now.width * pixel_bytes image.now.format }
     ensures len { length bytes.new ≡ length bytes.old }
-    ensures drawn { RowsDrawn rect.now image.now.format (mean_at image.now) rect.now.height bytes.new }
+    ensures generated { RowsFilled rect.now image.now.format (mean_at image.now) rect.now.height bytes.new }
 {
     let columns = even_columns(&image.rect());
     let count = rect.w as usize * image.format().pixel_bytes() as usize;
-    for row in rect.top()..rect.bottom() {
-        let start = (row - rect.top()) as usize * count;
+    for row in rect.first_row()..rect.end_row() {
+        let start = (row - rect.first_row()) as usize * count;
         let to = &mut bytes[start..start + count];
         halve_row(image, &columns, 2 * row - PLANE_ORIGIN, up, down, to);
     }
@@ -67,10 +67,10 @@ fn halve_row(image: &Patch, columns: &Rect, row: u32, up: &mut [u8], down: &mut 
     ensures down { length down.new ≡ length down.old }
     ensures len { length to.new ≡ length to.old }
     ensures pixels { HasPixels image.now.format to.new (λ k. mean_pixel
-        (at image.now (columns.now.left + 2 * k) row)
-        (at image.now (columns.now.left + (2 * k + 1)) row)
-        (at image.now (columns.now.left + 2 * k) (row + 1))
-        (at image.now (columns.now.left + (2 * k + 1)) (row + 1))) }
+        (at image.now (columns.now.first_column + 2 * k) row)
+        (at image.now (columns.now.first_column + (2 * k + 1)) row)
+        (at image.now (columns.now.first_column + 2 * k) (row + 1))
+        (at image.now (columns.now.first_column + (2 * k + 1)) (row + 1))) }
 {
     let format = image.format();
     if has_rows(&image.rect(), columns, row..row + 2) {
@@ -84,16 +84,16 @@ fn halve_row(image: &Patch, columns: &Rect, row: u32, up: &mut [u8], down: &mut 
 }
 
 /// The rectangle with a column more on each side where the first is odd or the last is even, so that
-/// the columns that are averaged to one lie in it together.
+/// the columns that are averaged to one are in it together.
 fn even_columns(rect: &Rect) -> Rect
-    ensures left { result.left ≡ doubled (halved rect.now).left }
+    ensures first_column { result.first_column ≡ doubled (halved rect.now).first_column }
     ensures width { result.width ≡ 2 * (halved rect.now).width }
 {
-    let (left, right) = (rect.left(), rect.right());
+    let (first_column, end_column) = (rect.first_column(), rect.end_column());
     Rect::spanning(
-        left - left % 2,
-        rect.top(),
-        right + right % 2,
-        rect.bottom(),
+        first_column - first_column % 2,
+        rect.first_row(),
+        end_column + end_column % 2,
+        rect.end_row(),
     )
 }

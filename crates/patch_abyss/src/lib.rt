@@ -8,7 +8,7 @@ mod patch;
 mod reading;
 mod rows;
 
-pub use abyss_levels::Abyss;
+pub use model_images::Abyss;
 pub use halving::halve;
 pub use patch::{Patch, PatchRefused};
 pub use reading::fetch;

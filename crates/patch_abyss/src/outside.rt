@@ -1,48 +1,48 @@
 //! What is read outside an image's rectangle: which row, which column, which pixel.
 
 ghost use Rattle.std.specs.Prelude.{◌≡◌, ◌≢◌, ℕ, ◌+◌, ◌-◌, ◌<◌, ◌≤◌, IfSome, MatchOption, length};
-ghost use Rattle.plane_rect.specs.Rectangle.{Within, bottom, plane_side};
-ghost use Rattle.sample_rows.specs.Format.{channels, pixel_bytes};
-ghost use Rattle.sample_rows.specs.Row.{pixel_at};
-ghost use Rattle.abyss_levels.specs.Abyss.{black_sample, wrapped};
-ghost use Rattle.abyss_levels.specs.declared.abyss.Abyss.TheVariants.{Loop};
+ghost use Rattle.plane_rect.specs.Rectangle.{Within, end_row, plane_side};
+ghost use Rattle.pixel_formats.specs.Format.{channels, pixel_bytes};
+ghost use Rattle.pixel_formats.specs.Row.{pixel_at};
+ghost use Rattle.model_images.specs.Abyss.{black_sample, wrapped};
+ghost use Rattle.pixel_formats.specs.declared.abyss.Abyss.TheVariants.{Loop};
 ghost use Rattle.patch_abyss.specs.Fetched.{outside_sample};
-ghost use Rattle.patch_abyss.specs.Rows.{AreAlike, OnOneSide, ReadsInOrder, ReadsNothing};
+ghost use Rattle.patch_abyss.specs.Rows.{AreRepeated, OnOneSide, ReadsInOrder, ReadsNothing};
 
-use abyss_levels::Abyss;
+use model_images::Abyss;
 use plane_rect::Rect;
 use sample_rows::Format;
 use std::ops::Range;
 
 /// Rows that read a box as rows above them do.
 #[derive(Clone, Copy)]
-pub(crate) struct Alike {
-    /// How many rows above the first of them they repeat, over and over.
+pub(crate) struct Repetition {
+    /// How many rows above the first of them they repeat, periodically.
     pub period: u32,
-    /// The row behind them.
+    /// The row after them.
     pub end: u32,
 }
 
 /// The rows of a box that a row of the plane and the rows below it read, as many as follow one
 /// another, and None where the row reads nothing of the box.
 pub(crate) fn source_rows(bounds: &Rect, abyss: Abyss, row: u32) -> Option<Range<u32>>
-    ensures top { IfSome result (λ rows. bounds.now.top ≤ rows.start) }
+    ensures first_row { IfSome result (λ rows. bounds.now.first_row ≤ rows.start) }
     ensures some { IfSome result (λ rows. rows.start < rows.end) }
-    ensures bottom { IfSome result (λ rows. rows.end ≤ bottom bounds.now) }
+    ensures end_row { IfSome result (λ rows. rows.end ≤ end_row bounds.now) }
     ensures reads { MatchOption result (ReadsNothing bounds.now abyss row)
         (λ rows. ReadsInOrder bounds.now abyss row rows.start (rows.end - rows.start)) }
 {
     if bounds.is_empty() {
         return None;
     }
-    let (top, bottom) = (bounds.top(), bounds.bottom());
-    if top <= row && row < bottom {
-        return Some(row..bottom);
+    let (first_row, end_row) = (bounds.first_row(), bounds.end_row());
+    if first_row <= row && row < end_row {
+        return Some(row..end_row);
     }
     match abyss {
-        Abyss::Loop => Some(wrapped(top, bounds.h, row)..bottom),
+        Abyss::Loop => Some(wrapped(first_row, bounds.h, row)..end_row),
         Abyss::Clamp => {
-            let nearest = row.min(bottom - 1).max(top);
+            let nearest = row.min(end_row - 1).max(first_row);
             Some(nearest..nearest + 1)
         }
         _ => None,
@@ -50,10 +50,10 @@ pub(crate) fn source_rows(bounds: &Rect, abyss: Abyss, row: u32) -> Option<Range
 }
 
 /// The rows of a rectangle from one on that read a box as those above them do, and None where that
-/// row has none above it that it reads alike.
-pub(crate) fn alike_rows(bounds: &Rect, abyss: Abyss, rect: &Rect, row: u32) -> Option<Alike>
-    requires { Within rect.now.top rect.now.height row }
-    ensures { IfSome result (AreAlike bounds.now abyss rect.now row) }
+/// row has none above it that it reads equal.
+pub(crate) fn repeated_rows(bounds: &Rect, abyss: Abyss, rect: &Rect, row: u32) -> Option<Repetition>
+    requires { Within rect.now.first_row rect.now.height row }
+    ensures { IfSome result (AreRepeated bounds.now abyss rect.now row) }
 {
     match abyss {
         Abyss::Loop => wrapped_rows(bounds, rect, row),
@@ -62,47 +62,47 @@ pub(crate) fn alike_rows(bounds: &Rect, abyss: Abyss, rect: &Rect, row: u32) -> 
 }
 
 /// The rows of a rectangle from one on that read a box under `Loop` as those above them do.
-fn wrapped_rows(bounds: &Rect, rect: &Rect, row: u32) -> Option<Alike>
-    requires { Within rect.now.top rect.now.height row }
-    ensures { IfSome result (AreAlike bounds.now Loop rect.now row) }
+fn wrapped_rows(bounds: &Rect, rect: &Rect, row: u32) -> Option<Repetition>
+    requires { Within rect.now.first_row rect.now.height row }
+    ensures { IfSome result (AreRepeated bounds.now Loop rect.now row) }
 {
     let period = bounds.h.max(1);
-    if row - rect.top() < period {
+    if row - rect.first_row() < period {
         return None;
     }
-    Some(Alike {
+    Some(Repetition {
         period,
-        end: rect.bottom(),
+        end: rect.end_row(),
     })
 }
 
 /// The rows of a rectangle from one on that read a box under another policy as the row above them
 /// does.
-fn rows_aside(bounds: &Rect, abyss: Abyss, rect: &Rect, row: u32) -> Option<Alike>
+fn rows_aside(bounds: &Rect, abyss: Abyss, rect: &Rect, row: u32) -> Option<Repetition>
     requires still { abyss ≢ Loop }
-    requires row { Within rect.now.top rect.now.height row }
-    ensures { IfSome result (AreAlike bounds.now abyss rect.now row) }
+    requires row { Within rect.now.first_row rect.now.height row }
+    ensures { IfSome result (AreRepeated bounds.now abyss rect.now row) }
 {
-    if row == rect.top() {
+    if row == rect.first_row() {
         return None;
     }
     let end = end_aside(bounds, rect, row - 1);
     if end <= row {
         return None;
     }
-    Some(Alike { period: 1, end })
+    Some(Repetition { period: 1, end })
 }
 
-/// The row behind those of a rectangle that lie with one on the same side of a box.
+/// The row after those of a rectangle that lie with one on the same side of a box.
 fn end_aside(bounds: &Rect, rect: &Rect, row: u32) -> u32
-    requires { Within rect.now.top rect.now.height row }
-    ensures within { result ≤ bottom rect.now }
+    requires { Within rect.now.first_row rect.now.height row }
+    ensures within { result ≤ end_row rect.now }
     ensures aside { (v : ℕ) → row ≤ v → v < result → OnOneSide bounds.now row v }
 {
-    if bounds.is_empty() || bounds.bottom() <= row {
-        return rect.bottom();
+    if bounds.is_empty() || bounds.end_row() <= row {
+        return rect.end_row();
     }
-    bounds.top().min(rect.bottom())
+    bounds.first_row().min(rect.end_row())
 }
 
 /// Of the `len` numbers from `start` on, the one that is a whole multiple of `len` away from a
@@ -132,7 +132,7 @@ pub(crate) fn outside_pixel(abyss: Abyss, format: Format) -> &'static [u8]
     }
 }
 
-/// The bytes of a pixel of no colour and full alpha.
+/// The bytes of a pixel of no color and full alpha.
 fn black_pixel(format: Format) -> &'static [u8]
     ensures len { length result.now ≡ pixel_bytes format }
     ensures samples { (c : ℕ) → c < channels format →

@@ -1,15 +1,15 @@
 //! Images in memory.
 
 ghost use Rattle.std.specs.Prelude.{◌≡◌, ◌≢◌, ◌<◌, ◌≤◌, ◌+◌, ◌-◌, ◌*◌, ℕ, ◌↔◌, ◌⊎◌, IfErr, IfOk, IsTrue, false, length};
-ghost use Rattle.plane_rect.specs.Rectangle.{InLimits, Includes, IsRectangle, LiesAt, Within, bottom, is_empty, plane_index as index_of};
+ghost use Rattle.plane_rect.specs.Rectangle.{InLimits, Includes, IsRectangle, InsideSigned, Within, end_row, is_empty, plane_index as index_of};
 ghost use Rattle.plane_rect.specs.Tile.{tile_square};
-ghost use Rattle.sample_rows.specs.Format.{channels, depth, pixel_bytes};
-ghost use Rattle.sample_rows.specs.Row.{pixel_at, sample_at};
-ghost use Rattle.images.specs.Image.{IsImage, at, drawn};
-ghost use Rattle.images.specs.Paint.{blank, painted, put_raw};
-ghost use Rattle.images.specs.Raw.{raw};
-ghost use Rattle.abyss_levels.specs.Abyss.{tile_bytes};
-ghost use Rattle.images.specs.Spelled.{byte_count, spelled};
+ghost use Rattle.pixel_formats.specs.Format.{channels, depth, pixel_bytes};
+ghost use Rattle.pixel_formats.specs.Row.{pixel_at, sample_at};
+ghost use Rattle.model_images.specs.Image.{IsImage, at, image_from_fn};
+ghost use Rattle.model_images.specs.Paint.{blank, painted, put_raw};
+ghost use Rattle.model_images.specs.Raw.{raw};
+ghost use Rattle.model_images.specs.Abyss.{tile_bytes};
+ghost use Rattle.model_images.specs.FromRaw.{byte_count, image_from_raw};
 ghost use Rattle.patch_abyss.specs.Rows.{HasWholeRows};
 ghost use Rattle.patch_abyss.specs.declared.patch.PatchRefused.TheVariants.{NoMemory, WrongSize};
 
@@ -24,7 +24,7 @@ use thiserror::Error;
 use tile_cow::Tile;
 
 /// How many places a tile has.
-const TILE_PLACES: u32 = 64 * 64;
+const TILE_PIXELS: u32 = 64 * 64;
 
 /// An image that is kept in memory. Its rectangle is in limits.
 #[derive(Drop)]
@@ -36,14 +36,14 @@ pub struct Patch {
 }
 
 impl Model for Patch {
-    ghost use Rattle.images.specs.Image.{Image};
-    ghost use Rattle.images.specs.Spelled.{Spells, spelled};
+    ghost use Rattle.model_images.specs.Image.{Image};
+    ghost use Rattle.model_images.specs.FromRaw.{IsRaw, image_from_raw};
 
     ghost Value = { Image };
 
-    ghost view = { λ patch. spelled patch.rect patch.format patch.bytes.items };
+    ghost view = { λ patch. image_from_raw patch.rect patch.format patch.bytes.items };
 
-    ghost invariant = { λ patch. Spells patch.rect patch.format patch.bytes.items };
+    ghost invariant = { λ patch. IsRaw patch.rect patch.format patch.bytes.items };
 }
 
 /// Why bytes make no patch.
@@ -79,7 +79,7 @@ impl Patch {
         Ok(Patch::from_bytes(rect, format, bytes))
     }
 
-    /// The patch of these raw bytes: the places row by row, each row from the left.
+    /// The patch of these raw bytes: the positions row by row, each row from the left.
     ///
     /// # Errors
     ///
@@ -91,7 +91,7 @@ impl Patch {
         bytes: &[u8],
     ) -> Result<Patch, PatchRefused>
         requires { InLimits rect }
-        ensures image { IfOk result (λ patch. patch ≡ spelled rect format bytes.now) }
+        ensures image { IfOk result (λ patch. patch ≡ image_from_raw rect format bytes.now) }
         ensures raw { IfOk result (λ patch. raw patch rect ≡ bytes.now) }
         ensures size { (result ≡ Err (WrongSize (length bytes.now) (byte_count rect format)))
             ↔ (length bytes.now ≢ byte_count rect format) }
@@ -129,32 +129,32 @@ impl Patch {
         self.format
     }
 
-    /// The sample of the place of x and y in a channel, and 0 at a place outside the rectangle.
+    /// The sample of the position of x and y in a channel, and 0 at a position outside the rectangle.
     pub fn at(&self, x: i32, y: i32, c: u32) -> u32
         requires { c < channels self.now.format }
-        ensures inside { LiesAt x y self.now.box → result ≡ at self.now (index_of x) (index_of y) c }
-        ensures outside { ¬ LiesAt x y self.now.box → result ≡ 0 }
+        ensures inside { InsideSigned x y self.now.box → result ≡ at self.now (index_of x) (index_of y) c }
+        ensures outside { ¬ InsideSigned x y self.now.box → result ≡ 0 }
     {
         if !self.rect.has(x, y) {
             return 0;
         }
-        let place = self.rect.offset(plane_index(x), plane_index(y));
-        let index = place * self.format.channels() as usize + c as usize;
+        let position = self.rect.offset(plane_index(x), plane_index(y));
+        let index = position * self.format.channels() as usize + c as usize;
         sample_at(self.format, &self.bytes, index)
     }
 
-    /// The patch over another rectangle, zero where this one has no place.
+    /// The patch over another rectangle, zero where this one has no position.
     ///
     /// # Errors
     ///
     /// No memory was left.
     pub fn part(&self, alloc: Global, rect: Rect) -> Result<Patch, NoMemory>
         requires { InLimits rect }
-        ensures { IfOk result (λ patch. patch ≡ drawn rect self.now.format (at self.now)) }
+        ensures { IfOk result (λ patch. patch ≡ image_from_fn rect self.now.format (at self.now)) }
     {
         let format = self.format;
         let pixel = format.pixel_bytes() as usize;
-        if has_rows(&self.rect, &rect, rect.top()..rect.bottom()) {
+        if has_rows(&self.rect, &rect, rect.first_row()..rect.end_row()) {
             return self.band(alloc, rect);
         }
         if rect.w as usize * pixel >= LONG_ROW && self.rect.contains(&rect) {
@@ -169,10 +169,10 @@ impl Patch {
     fn band(&self, alloc: Global, rows: Rect) -> Result<Patch, NoMemory>
         requires limits { InLimits rows }
         requires rectangle { IsRectangle rows }
-        requires rows { HasWholeRows self.now.box rows rows.top (bottom rows) }
-        ensures { IfOk result (λ patch. patch ≡ drawn rows self.now.format (at self.now)) }
+        requires rows { HasWholeRows self.now.box rows rows.first_row (end_row rows) }
+        ensures { IfOk result (λ patch. patch ≡ image_from_fn rows self.now.format (at self.now)) }
     {
-        let bytes = Vec::from_slice(alloc, self.rows(rows.top()..rows.bottom()))?;
+        let bytes = Vec::from_slice(alloc, self.rows(rows.first_row()..rows.end_row()))?;
         Ok(Patch::from_bytes(rows, self.format, bytes))
     }
 
@@ -181,7 +181,7 @@ impl Patch {
         requires limits { InLimits part }
         requires part { Includes self.now.box part }
         requires some { false ≡ is_empty part }
-        ensures { IfOk result (λ patch. patch ≡ drawn part self.now.format (at self.now)) }
+        ensures { IfOk result (λ patch. patch ≡ image_from_fn part self.now.format (at self.now)) }
     {
         let format = self.format;
         let pixel = format.pixel_bytes() as usize;
@@ -191,7 +191,7 @@ impl Patch {
         Ok(Patch::from_bytes(part, format, bytes))
     }
 
-    /// Takes the samples of the other patch at the places that lie in both rectangles.
+    /// Takes the samples of the other patch at the positions that are in both rectangles.
     pub fn blit(&mut self, from: &Patch)
         requires { from.now.format ≡ self.old.format }
         ensures { self.new ≡ painted self.old from.now.box (at from.now) }
@@ -199,16 +199,16 @@ impl Patch {
         self.lay(&from.rect, &from.bytes);
     }
 
-    /// Takes the samples that the raw bytes of a rectangle spell, at the places that lie in both.
+    /// Takes the samples that the raw bytes of a rectangle spell, at the positions that are in both.
     fn lay(&mut self, rect: &Rect, bytes: &[u8])
         requires { length bytes.now ≡ byte_count rect.now self.old.format }
-        ensures { self.new ≡ painted self.old rect.now (at (spelled rect.now self.old.format bytes.now)) }
+        ensures { self.new ≡ painted self.old rect.now (at (image_from_raw rect.now self.old.format bytes.now)) }
     {
         let pixel = self.format.pixel_bytes() as usize;
         copy_meet(&mut self.bytes, &self.rect, bytes, rect, pixel);
     }
 
-    /// The 64 by 64 pixels of a tile, zero where the patch has no place.
+    /// The 64 by 64 pixels of a tile, zero where the patch has no position.
     ///
     /// # Errors
     ///
@@ -218,13 +218,13 @@ impl Patch {
     {
         let rect = at.rect();
         if rect.is_empty() {
-            return Tile::zero(alloc, TILE_PLACES * self.format.pixel_bytes());
+            return Tile::zero(alloc, TILE_PIXELS * self.format.pixel_bytes());
         }
         let part = self.part(alloc, rect)?;
         Tile::from_vec(alloc, part.into_raw())
     }
 
-    /// Takes the samples of a tile at the places that lie in the rectangle.
+    /// Takes the samples of a tile at the positions that are in the rectangle.
     pub fn put_tile(&mut self, at: TileAt, tile: &Tile)
         requires { length tile.now ≡ 4096 * pixel_bytes self.old.format }
         ensures { self.new ≡ put_raw self.old (tile_square at) tile.now }
@@ -241,7 +241,7 @@ impl Patch {
         requires limits { InLimits rect }
         requires rectangle { IsRectangle rect }
         requires count { length bytes.items ≡ byte_count rect format }
-        ensures { result ≡ spelled rect format bytes.items }
+        ensures { result ≡ image_from_raw rect format bytes.items }
     {
         Patch {
             rect,
@@ -253,12 +253,12 @@ impl Patch {
     /// The raw bytes of rows of the rectangle that follow one another.
     pub(crate) fn rows(&self, rows: Range<u32>) -> &[u8]
         requires some { rows.start < rows.end }
-        requires top { self.now.box.top ≤ rows.start }
-        requires bottom { rows.end ≤ bottom self.now.box }
+        requires first_row { self.now.box.first_row ≤ rows.start }
+        requires end_row { rows.end ≤ end_row self.now.box }
         ensures len { length result.now ≡ (rows.end - rows.start) * (self.now.box.width * pixel_bytes self.now.format) }
-        ensures samples { (u v c : ℕ) → Within self.now.box.left self.now.box.width u → rows.start ≤ v → v < rows.end
+        ensures samples { (u v c : ℕ) → Within self.now.box.first_column self.now.box.width u → rows.start ≤ v → v < rows.end
             → c < channels self.now.format
-            → pixel_at self.now.format result.now ((v - rows.start) * self.now.box.width + (u - self.now.box.left)) c ≡ at self.now u v c }
+            → pixel_at self.now.format result.now ((v - rows.start) * self.now.box.width + (u - self.now.box.first_column)) c ≡ at self.now u v c }
     {
         let pixel = self.format.pixel_bytes() as usize;
         let first = self.rect.part_row(&self.rect, rows.start);
@@ -287,11 +287,11 @@ impl Patch {
 pub(crate) fn has_rows(rect: &Rect, columns: &Rect, rows: Range<u32>) -> bool
     ensures { IsTrue result → HasWholeRows rect.now columns.now rows.start rows.end }
 {
-    rect.left() == columns.left()
+    rect.first_column() == columns.first_column()
         && rect.w == columns.w
         && rows.start < rows.end
-        && rect.top() <= rows.start
-        && rows.end <= rect.bottom()
+        && rect.first_row() <= rows.start
+        && rows.end <= rect.end_row()
 }
 
 /// How many raw bytes a rectangle has.

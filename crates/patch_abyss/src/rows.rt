@@ -3,7 +3,7 @@
 ghost use Rattle.std.specs.Prelude.{◌≡◌, ◌+◌, ◌*◌, ◌^◌, ◌<◌, ◌≤◌, IfOk, false, length, take};
 ghost use Rattle.plane_rect.specs.Rectangle.{Includes, area, is_empty, meet, offset};
 ghost use Rattle.patch_abyss.specs.Copied.{AreRows, HasPart, HasRows, HaveRoom, bytes_of, row_byte};
-ghost use Rattle.images.specs.Spelled.{AreBytes};
+ghost use Rattle.model_images.specs.FromRaw.{AreBytes};
 
 use plane_rect::Rect;
 use std::alloc::{AllocError, Global};
@@ -35,11 +35,11 @@ impl Rows {
         requires part { Includes rect.now part.now }
         requires some { false ≡ is_empty part.now }
         requires pixel { pixel ≤ 8 }
-        ensures start { result.start ≡ offset rect.now part.now.left part.now.top * pixel }
+        ensures start { result.start ≡ offset rect.now part.now.first_column part.now.first_row * pixel }
         ensures stride { result.stride ≡ rect.now.width * pixel }
     {
         Rows {
-            start: rect.offset(part.left(), part.top()) * pixel,
+            start: rect.offset(part.first_column(), part.first_row()) * pixel,
             stride: rect.w as usize * pixel,
         }
     }
@@ -56,7 +56,7 @@ impl Rows {
     }
 }
 
-/// Copies the places that lie in both rectangles, of pixels of so many bytes.
+/// Copies the positions that are in both rectangles, of pixels of so many bytes.
 pub(crate) fn copy_meet(to: &mut [u8], to_rect: &Rect, from: &[u8], from_rect: &Rect, pixel: usize)
     requires pixel { pixel ≤ 8 }
     requires to { length to.old ≡ area to_rect.now * pixel }
@@ -76,7 +76,7 @@ pub(crate) fn copy_meet(to: &mut [u8], to_rect: &Rect, from: &[u8], from_rect: &
     copy_rows(to, targets, from, sources, count, part.h as usize);
 }
 
-/// A vector of so many rows of `count` bytes, one behind the other. It stands out of line, so that
+/// A vector of so many rows of `count` bytes, one after the other. It stands out of line, so that
 /// nothing else keeps registers.
 #[inline(never)]
 pub(crate) fn cut_rows(

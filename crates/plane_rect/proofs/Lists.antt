@@ -6,7 +6,7 @@ use Rattle.std.proofs.Math.ListN.{get_or-append}
 use Rattle.std.proofs.Math.Seq.{get_or-append_right}
 
 module _ {X : Type 0} where
-  -- what holds of all that a list contains holds at each place
+  -- what holds of all that a list contains holds at each position
   pub All-from_contains : (P : X → Type 0) (xs : List X) → ((x : X) → Contains xs x → P x) → All P xs
   All-from_contains P xs f k d h = f (get_or xs k d) (Contains-get_or xs k d h)
 

@@ -4,13 +4,13 @@ use Rattle.std.proofs.Math.Seq.{take-append_seam}
 use Rattle.std.proofs.lemmas.List.{drop-replicate}
 use Rattle.plane_rect.specs.Name.{is_name, HoldsName}
 
--- a name that was written over the front of sixteen zeros
+-- a name that was written over the prefix of sixteen zeros
 pub written_name : (word : List ℕ) → IsTrue (is_name word)
     → HoldsName (word ++ drop (length word) (replicate 16 0)) (length word)
 written_name word h =
-    let front : take (length word) (word ++ drop (length word) (replicate 16 0)) ≡ word = take-append_seam word _ in
+    let prefix : take (length word) (word ++ drop (length word) (replicate 16 0)) ≡ word = take-append_seam word _ in
     record {
-      name = rw front h;
-      whole = rw front refl;
-      zeros = rw front (ap (λ (ys : List ℕ). word ++ ys) (sym (drop-replicate (length word) 16 0)));
+      name = rw prefix h;
+      whole = rw prefix refl;
+      zeros = rw prefix (ap (λ (ys : List ℕ). word ++ ys) (sym (drop-replicate (length word) 16 0)));
     }

@@ -5,16 +5,16 @@ use Rattle.std.proofs.lemmas.Bool.{cases_lt}
 use Rattle.std.proofs.lemmas.Bool.Decides.{nat_tests}
 use Rattle.plane_rect.specs.declared.rect.RectRefused.{RectRefused}
 use Rattle.plane_rect.specs.declared.rect.RectRefused.TheVariants.{Place, Size}
-use Rattle.plane_rect.specs.Rectangle.{IsRectangle, empty, origin, spanning, plane_side, AreFields, BeginsInside, BeginsOutside, EndsInside, EndsOutside, placed, WithinSigned, Lies, LiesAt, IsCoordinate, IsNoCoordinate, IsExtent, IsNoExtent, is_coordinate, is_extent, begins_inside, ends_inside, new_rectangle, rectangle, plane_index, plane_coordinate, IsBehindCorner, Rectangle, meet}
+use Rattle.plane_rect.specs.Rectangle.{IsRectangle, empty, origin, spanning, plane_side, AreFields, BeginsInside, BeginsOutside, EndsInside, EndsOutside, placed, WithinSigned, Inside, InsideSigned, IsCoordinate, IsNoCoordinate, IsExtent, IsNoExtent, is_coordinate, is_extent, begins_inside, ends_inside, new_rectangle, rectangle, plane_index, plane_coordinate, StartsInPlane, Rectangle, meet}
 
-pub Lies-spanning : (u v left top right bottom : ℕ)
-    → Lies u v (spanning left top right bottom) ↔ ((left ≤ u) × (u < right) × (top ≤ v) × (v < bottom))
-Lies-spanning u v left top right bottom = grind (arith, nat_tests)
+pub Inside-spanning : (u v first_column first_row end_column end_row : ℕ)
+    → Inside u v (spanning first_column first_row end_column end_row) ↔ ((first_column ≤ u) × (u < end_column) × (first_row ≤ v) × (v < end_row))
+Inside-spanning u v first_column first_row end_column end_row = grind (arith, nat_tests)
 
-pub Lies-meet : (u v : ℕ) (a b : Rectangle) → Lies u v (meet a b) ↔ (Lies u v a × Lies u v b)
-Lies-meet u v a b = grind arith
+pub Inside-meet : (u v : ℕ) (a b : Rectangle) → Inside u v (meet a b) ↔ (Inside u v a × Inside u v b)
+Inside-meet u v a b = grind arith
 
-pub plane_coordinate-plane_index : (z : ℤ) → IsBehindCorner z → plane_coordinate (plane_index z) ≡ z
+pub plane_coordinate-plane_index : (z : ℤ) → StartsInPlane z → plane_coordinate (plane_index z) ≡ z
 plane_coordinate-plane_index (pos n) h = omega (arith, ints)
 plane_coordinate-plane_index (negsuc n) h = omega (arith, ints)
 
@@ -62,7 +62,7 @@ not_ends_outside : (x y w h : ℤ) → EndsInside x y w h → ¬ EndsOutside x y
 not_ends_outside x y w h p (inl q) = no_extent x w p.0 q
 not_ends_outside x y w h p (inr q) = no_extent y h p.1 q
 
--- when `new_rectangle` refuses a place, and when a size
+-- when `new_rectangle` refuses a position, and when a size
 place_refused : (x y w h : ℤ) → (new_rectangle x y w h ≡ Err Place) ↔ BeginsOutside x y
 place_refused x y w h = elim (begins_test x y) [
   | inl t ↦ elim (ends_test x y w h) [
@@ -91,40 +91,40 @@ pub refuses_size : (x y w h : ℤ) (r : Result Rectangle RectRefused) → r ≡ 
 refuses_size x y w h r e = rw e (size_refused x y w h)
 
 -- a rectangle of no row is the empty one
-pub rectangle-no_rows : (left top width : ℕ) → rectangle left top width 0 ≡ empty
-rectangle-no_rows left top width = grind (arith, nat_tests)
+pub rectangle-no_rows : (first_column first_row width : ℕ) → rectangle first_column first_row width 0 ≡ empty
+rectangle-no_rows first_column first_row width = grind (arith, nat_tests)
 
-pub rectangle-some : (left top width height : ℕ) → 0 < width → 0 < height
-    → rectangle left top width height ≡ record { left = left; top = top; width = width; height = height }
-rectangle-some left top width height p q = grind (arith, nat_tests)
+pub rectangle-some : (first_column first_row width height : ℕ) → 0 < width → 0 < height
+    → rectangle first_column first_row width height ≡ record { first_column = first_column; first_row = first_row; width = width; height = height }
+rectangle-some first_column first_row width height p q = grind (arith, nat_tests)
 
--- the places of a rectangle that is not before the plane's corner, by signed numbers
-LiesAt-rectangle : (px py x y : ℤ) (w h : ℕ) → IsBehindCorner x → IsBehindCorner y
-    → LiesAt px py (rectangle (plane_index x) (plane_index y) w h) ↔ (WithinSigned x (pos w) px × WithinSigned y (pos h) py)
-LiesAt-rectangle px py x y zero h p q =
+-- the positions of a rectangle that is not before the plane's corner, by signed numbers
+InsideSigned-rectangle : (px py x y : ℤ) (w h : ℕ) → StartsInPlane x → StartsInPlane y
+    → InsideSigned px py (rectangle (plane_index x) (plane_index y) w h) ↔ (WithinSigned x (pos w) px × WithinSigned y (pos h) py)
+InsideSigned-rectangle px py x y zero h p q =
     (λ t. absurd (omega (arith, ints, t.0)), λ t. absurd (omega (arith, ints, t.0)))
-LiesAt-rectangle px py x y (suc w) zero p q =
+InsideSigned-rectangle px py x y (suc w) zero p q =
     rw (rectangle-no_rows (plane_index x) (plane_index y) (suc w))
     (λ t. absurd (omega (arith, ints, t.0)), λ t. absurd (omega (arith, ints, t.1)))
-LiesAt-rectangle px py x y (suc w) (suc h) p q =
-    let P : ℤ → ℤ → Type 0 = λ left top.
-    (WithinSigned left (pos (suc w)) px × WithinSigned top (pos (suc h)) py)
+InsideSigned-rectangle px py x y (suc w) (suc h) p q =
+    let P : ℤ → ℤ → Type 0 = λ first_column first_row.
+    (WithinSigned first_column (pos (suc w)) px × WithinSigned first_row (pos (suc h)) py)
     ↔ (WithinSigned x (pos (suc w)) px × WithinSigned y (pos (suc h)) py) in
     rw (rectangle-some (plane_index x) (plane_index y) (suc w) (suc h) (omega arith) (omega arith))
-    (subst (λ (left : ℤ). P left (plane_coordinate (plane_index y))) (sym (plane_coordinate-plane_index x p))
-    (subst (λ (top : ℤ). P x top) (sym (plane_coordinate-plane_index y q)) (λ t. t, λ t. t)))
+    (subst (λ (first_column : ℤ). P first_column (plane_coordinate (plane_index y))) (sym (plane_coordinate-plane_index x p))
+    (subst (λ (first_row : ℤ). P x first_row) (sym (plane_coordinate-plane_index y q)) (λ t. t, λ t. t)))
 
--- the places of a rectangle that `new_rectangle` gives
-pub new_rectangle-places : (x y w h : ℤ) (r : Rectangle) → Ok r ≡ new_rectangle x y w h → (px py : ℤ)
-    → LiesAt px py r ↔ (WithinSigned x w px × WithinSigned y h py)
-new_rectangle-places x y w h r e px py = elim (begins_test x y) [
+-- the positions of a rectangle that `new_rectangle` gives
+pub new_rectangle-positions : (x y w h : ℤ) (r : Rectangle) → Ok r ≡ new_rectangle x y w h → (px py : ℤ)
+    → InsideSigned px py r ↔ (WithinSigned x w px × WithinSigned y h py)
+new_rectangle-positions x y w h r e px py = elim (begins_test x y) [
   | inl t ↦ elim (ends_test x y w h) [
     | inl s ↦
         let wide : pos (unsigned_abs w) ≡ w = unsigned w s.1.0.0 in
         let high : pos (unsigned_abs h) ≡ h = unsigned h s.1.1.0 in
         let is : r ≡ rectangle (plane_index x) (plane_index y) (unsigned_abs w) (unsigned_abs h) = cc (rw (t.0, s.0) at e) in
-        let lies = LiesAt-rectangle px py x y (unsigned_abs w) (unsigned_abs h) t.1.0.0 t.1.1.0 in
-        rw is (rw (wide, high) at lies)
+        let is_inside = InsideSigned-rectangle px py x y (unsigned_abs w) (unsigned_abs h) t.1.0.0 t.1.1.0 in
+        rw is (rw (wide, high) at is_inside)
     | inr s ↦ absurd (cc (rw (t.0, s.0) at e))
   ]
   | inr t ↦ absurd (cc (rw t.0 at e))
@@ -138,8 +138,8 @@ new_rectangle-places x y w h r e px py = elim (begins_test x y) [
 pub fields : (x y w h : ℤ) → BeginsInside x y → EndsInside x y w h → w ≢ pos 0 → h ≢ pos 0
     → AreFields x y (unsigned_abs w) (unsigned_abs h)
 fields x y (pos w) (pos h) p q v t = record {
-  behind_left = p.0.0;
-  behind_top = p.1.0;
+  column_in_plane = p.0.0;
+  row_in_plane = p.1.0;
   rectangle = record {
     columns = within x w p.0.0 q.0.1;
     rows = within y h p.1.0 q.1.1;
@@ -148,7 +148,7 @@ fields x y (pos w) (pos h) p q v t = record {
   };
 }
   where
-    within : (z : ℤ) (len : ℕ) → IsBehindCorner z → (z +ℤ pos len) ≤ℤ pos origin → plane_index z + len ≤ plane_side
+    within : (z : ℤ) (len : ℕ) → StartsInPlane z → (z +ℤ pos len) ≤ℤ pos origin → plane_index z + len ≤ plane_side
     within (pos n) len b e = omega (arith, ints)
     within (negsuc n) len b e = omega (arith, ints)
 fields x y (pos w) (negsuc h) p q v t = absurd (omega (arith, ints, q.1))
@@ -162,35 +162,35 @@ rectangle-placed x y w h v t = sym (rectangle-some (plane_index x) (plane_index 
     some (pos n) e = grind arith
     some (negsuc n) e = omega arith
 
--- a rectangle of the plane has a place, or is the empty one
+-- a rectangle of the plane has a position, or is the empty one
 pub some_or_empty : (r : Rectangle) → IsRectangle r → ((0 < r.width) × (0 < r.height)) ⊎ (r ≡ empty)
 some_or_empty r is = elim (cases_lt 0 r.width) [
   | inl w ↦ elim (cases_lt 0 r.height) [ inl h ↦ inl (w, h) | inr h ↦ inr (is.empty_height (omega arith)) ]
   | inr w ↦ inr (is.empty_width (omega arith))
 ]
 
--- ---- places with signs and without
+-- ---- positions with signs and without
 
--- a place lies in a rectangle by its x and y as it does by its column and row
-pub LiesAt-coordinates : (u v : ℕ) (r : Rectangle) → LiesAt (plane_coordinate u) (plane_coordinate v) r ↔ Lies u v r
-LiesAt-coordinates u v r = (
+-- a position is in a rectangle by its x and y as it does by its column and row
+pub InsideSigned-coordinates : (u v : ℕ) (r : Rectangle) → InsideSigned (plane_coordinate u) (plane_coordinate v) r ↔ Inside u v r
+InsideSigned-coordinates u v r = (
   λ h. record { column = (omega (arith, ints, h.0), omega (arith, ints, h.0)); row = (omega (arith, ints, h.1), omega (arith, ints, h.1)) },
   λ h. ((omega (arith, ints, h.column), omega (arith, ints, h.column)), (omega (arith, ints, h.row), omega (arith, ints, h.row))),
 )
 
--- no place before the plane's corner lies in a rectangle
-pub LiesAt-index : (x y : ℤ) (r : Rectangle)
-    → LiesAt x y r ↔ (IsBehindCorner x × IsBehindCorner y × Lies (plane_index x) (plane_index y) r)
-LiesAt-index x y r = (
-  λ h. let a : IsBehindCorner x = omega (arith, ints, h.0) in
-      let b : IsBehindCorner y = omega (arith, ints, h.1) in (
+-- no position before the plane's corner is in a rectangle
+pub InsideSigned-index : (x y : ℤ) (r : Rectangle)
+    → InsideSigned x y r ↔ (StartsInPlane x × StartsInPlane y × Inside (plane_index x) (plane_index y) r)
+InsideSigned-index x y r = (
+  λ h. let a : StartsInPlane x = omega (arith, ints, h.0) in
+      let b : StartsInPlane y = omega (arith, ints, h.1) in (
         a,
         b,
-        (LiesAt-coordinates (plane_index x) (plane_index y) r).0
-            (subst (λ (z : ℤ). LiesAt z (plane_coordinate (plane_index y)) r) (sym (plane_coordinate-plane_index x a))
-            (subst (λ (z : ℤ). LiesAt x z r) (sym (plane_coordinate-plane_index y b)) h)),
+        (InsideSigned-coordinates (plane_index x) (plane_index y) r).0
+            (subst (λ (z : ℤ). InsideSigned z (plane_coordinate (plane_index y)) r) (sym (plane_coordinate-plane_index x a))
+            (subst (λ (z : ℤ). InsideSigned x z r) (sym (plane_coordinate-plane_index y b)) h)),
       ),
-  λ h. subst (λ (z : ℤ). LiesAt x z r) (plane_coordinate-plane_index y h.1)
-      (subst (λ (z : ℤ). LiesAt z (plane_coordinate (plane_index y)) r) (plane_coordinate-plane_index x h.0)
-      ((LiesAt-coordinates (plane_index x) (plane_index y) r).1 h.2)),
+  λ h. subst (λ (z : ℤ). InsideSigned x z r) (plane_coordinate-plane_index y h.1)
+      (subst (λ (z : ℤ). InsideSigned z (plane_coordinate (plane_index y)) r) (plane_coordinate-plane_index x h.0)
+      ((InsideSigned-coordinates (plane_index x) (plane_index y) r).1 h.2)),
 )

@@ -1,10 +1,10 @@
--- The tiles that meet a rectangle, and the tile of a place.
+-- The tiles that meet a rectangle, and the tile of a position.
 use Rattle.std.proofs.Common.{◌≡◌, ℕ, zero, suc, ◌+◌, ◌-◌, ◌*◌, ◌^◌, length, length-append, ◌<◌, ◌≤◌, ◌↔◌, inl, inr, nat_lt, true, false, max, refl, ap, sym, subst, arith, All, AllPairs, Contains}
 use Rattle.std.proofs.lemmas.Bool.{cases_lt, lt-ltb, le-ltb}
 use Rattle.std.proofs.lemmas.List.Elements.{Contains-append_left, Contains-append_right, Contains-append_cases}
 use Rattle.std.proofs.lemmas.List.Kept.{AllPairs-cons}
 use Rattle.std.proofs.lemmas.Nat.{mul-le}
-use Rattle.plane_rect.specs.Rectangle.{Rectangle, Lies, Within, IsRectangle}
+use Rattle.plane_rect.specs.Rectangle.{Rectangle, Inside, Within, IsRectangle}
 use Rattle.plane_rect.specs.Tile.{Tile, IsBefore, IsWhole, Meets, tile_at, tile_of, tile_end, tile_columns, tile_lines, tile_row, tile_rows, tile_square, tiles, tiles_left}
 use Rattle.plane_rect.proofs.Lists.{All-from_contains, AllPairs-nil, AllPairs-append, Contains-cases, Contains-first, Contains-later}
 use Rattle.plane_rect.proofs.Rectangles.{some_or_empty}
@@ -60,15 +60,15 @@ tile-within start len n some = (λ h. (max start (64 * n), (omega arith, omega a
 pub tiles-meeting : (r : Rectangle) → IsRectangle r → (t : Tile) → Contains (tiles r) t ↔ Meets t r
 tiles-meeting r is t = elim (some_or_empty r is) [
   | inl some ↦
-      let columns = tile-within r.left r.width t.column some.0 in
-      let rows = tile-within r.top r.height t.row some.1 in (
-        λ h. let s = in_tile_rows (tile_of r.left) (tile_columns r) (tile_of r.top) (tile_lines r) t h in
+      let columns = tile-within r.first_column r.width t.column some.0 in
+      let rows = tile-within r.first_row r.height t.row some.1 in (
+        λ h. let s = in_tile_rows (tile_of r.first_column) (tile_columns r) (tile_of r.first_row) (tile_lines r) t h in
             let x = columns.0 (s.0, omega (arith, s.0, s.1)) in
             let y = rows.0 (s.2, omega (arith, s.2, s.3)) in
             (x.0, y.0, record { column = x.1; row = y.1 }, tile-named (tile_of x.0) (tile_of y.0) t x.2 y.2),
         λ h. let x = columns.1 (h.0, h.2.column, ap (λ (t : Tile). t.column) h.3) in
             let y = rows.1 (h.1, h.2.row, ap (λ (t : Tile). t.row) h.3) in
-            tile_rows-has (tile_of r.left) (tile_columns r) (tile_of r.top) (tile_lines r) t
+            tile_rows-has (tile_of r.first_column) (tile_columns r) (tile_of r.first_row) (tile_lines r) t
             x.0 (omega (arith, x.0, x.1)) y.0 (omega (arith, y.0, y.1)),
       )
   | inr none ↦
@@ -96,20 +96,20 @@ tile_rows-in_order column columns row (suc n) =
 
 pub tiles-in_order : (r : Rectangle) → AllPairs IsBefore (tiles r)
 tiles-in_order r =
-    tile_rows-in_order (tile_of r.left) (tile_columns r) (tile_of r.top) (tile_lines r)
+    tile_rows-in_order (tile_of r.first_column) (tile_columns r) (tile_of r.first_row) (tile_lines r)
 
 -- ---- the list of an iterator that has given none
 
-pub tiles_left-all : (first end row end_row : ℕ)
-    → tiles_left first end first row end_row ≡ tile_rows first (end - first) row (end_row - row)
-tiles_left-all first end row end_row = elim (cases_lt row end_row) [
+pub tiles_left-all : (first end row end_tile_row : ℕ)
+    → tiles_left first end first row end_tile_row ≡ tile_rows first (end - first) row (end_tile_row - row)
+tiles_left-all first end row end_tile_row = elim (cases_lt row end_tile_row) [
   | inl more ↦
-      let test : nat_lt row end_row ≡ true = lt-ltb row end_row more in
-      let rows : end_row - row ≡ suc (end_row - suc row) = omega arith in
+      let test : nat_lt row end_tile_row ≡ true = lt-ltb row end_tile_row more in
+      let rows : end_tile_row - row ≡ suc (end_tile_row - suc row) = omega arith in
       rw (test, rows) refl
   | inr none ↦
-      let test : nat_lt row end_row ≡ false = le-ltb row end_row none in
-      let rows : end_row - row ≡ 0 = omega arith in
+      let test : nat_lt row end_tile_row ≡ false = le-ltb row end_tile_row none in
+      let rows : end_tile_row - row ≡ 0 = omega arith in
       rw (test, rows) refl
 ]
 
@@ -133,18 +133,18 @@ length-tile_rows column columns row (suc n) =
     omega (arith, length-append (tile_row row column columns) (tile_rows column columns (suc row) n), length-tile_row row column columns, length-tile_rows column columns (suc row) n)
 
 pub length-tiles : (r : Rectangle) → length (tiles r) ≡ tile_lines r * tile_columns r
-length-tiles r = length-tile_rows (tile_of r.left) (tile_columns r) (tile_of r.top) (tile_lines r)
+length-tiles r = length-tile_rows (tile_of r.first_column) (tile_columns r) (tile_of r.first_row) (tile_lines r)
 
 pub tiles-few : (r : Rectangle) → IsRectangle r → length (tiles r) ≤ 2 ^ 38
 tiles-few r is =
     let few = mul-le (tile_lines r) (tile_columns r) (2 ^ 19) (2 ^ 19) (omega (arith, is.rows)) (omega (arith, is.columns)) in
     omega (arith, few, length-tiles r)
 
--- ---- the tile of a place
+-- ---- the tile of a position
 
--- each place lies in one tile, and in no other
-pub Lies-tile_square : (u v : ℕ) (t : Tile) → Lies u v (tile_square t) ↔ (t ≡ tile_at u v)
-Lies-tile_square u v t = (
+-- each position is in one tile, and in no other
+pub Inside-tile_square : (u v : ℕ) (t : Tile) → Inside u v (tile_square t) ↔ (t ≡ tile_at u v)
+Inside-tile_square u v t = (
   λ h. tile-named (tile_of u) (tile_of v) t (omega (arith, h.column)) (omega (arith, h.row)),
   λ e. let column : t.column ≡ tile_of u = ap (λ (t : Tile). t.column) e in
       let row : t.row ≡ tile_of v = ap (λ (t : Tile). t.row) e in

@@ -24,15 +24,15 @@ abbrev pub plane_coordinate : ℕ → ℤ
 plane_coordinate n = pos n -ℤ pos origin
 
 -- an x or a y does not lie before the plane's corner
-abbrev pub IsBehindCorner : ℤ → Type 0
-IsBehindCorner z = plane_coordinate 0 ≤ℤ z
+abbrev pub StartsInPlane : ℤ → Type 0
+StartsInPlane z = plane_coordinate 0 ≤ℤ z
 
 -- ---- rectangles
 
 -- A rectangle, by its first column and row and by how many it has of each.
 pub record Rectangle : Type 0 where
-  pub left : ℕ
-  pub top : ℕ
+  pub first_column : ℕ
+  pub first_row : ℕ
   pub width : ℕ
   pub height : ℕ
 
@@ -40,55 +40,55 @@ pub record Rectangle : Type 0 where
 abbrev pub Within : ℕ → ℕ → ℕ → Type 0
 Within start len n = (start ≤ n) × (n < start + len)
 
--- The place of column u and row v lies in the rectangle: a rectangle is the set of these places.
-pub record Lies (u v : ℕ) (r : Rectangle) : Type 0 where
-  pub column : Within r.left r.width u
-  pub row : Within r.top r.height v
+-- The place of column u and row v is in the rectangle: a rectangle is the set of these positions.
+pub record Inside (u v : ℕ) (r : Rectangle) : Type 0 where
+  pub column : Within r.first_column r.width u
+  pub row : Within r.first_row r.height v
 
 -- the same of signed numbers
 abbrev pub WithinSigned : ℤ → ℤ → ℤ → Type 0
 WithinSigned start len z = (start ≤ℤ z) × (z <ℤ (start +ℤ len))
 
--- the place of x and y, which may be outside the plane, lies in the rectangle
-abbrev pub LiesAt : ℤ → ℤ → Rectangle → Type 0
-LiesAt x y r =
-    WithinSigned (plane_coordinate r.left) (pos r.width) x × WithinSigned (plane_coordinate r.top) (pos r.height) y
+-- the position of x and y, which may be outside the plane, is in the rectangle
+abbrev pub InsideSigned : ℤ → ℤ → Rectangle → Type 0
+InsideSigned x y r =
+    WithinSigned (plane_coordinate r.first_column) (pos r.width) x × WithinSigned (plane_coordinate r.first_row) (pos r.height) y
 
--- the rectangle of no place, which stands at the origin
+-- the rectangle of no position, which stands at the origin
 abbrev pub empty : Rectangle
-empty = record { left = origin; top = origin; width = 0; height = 0 }
+empty = record { first_column = origin; first_row = origin; width = 0; height = 0 }
 
--- a rectangle of the plane, where a rectangle without a place is the empty one
+-- a rectangle of the plane, where a rectangle without a position is the empty one
 pub record IsRectangle (r : Rectangle) : Type 0 where
-  pub columns : r.left + r.width ≤ plane_side
-  pub rows : r.top + r.height ≤ plane_side
+  pub columns : r.first_column + r.width ≤ plane_side
+  pub rows : r.first_row + r.height ≤ plane_side
   pub empty_width : r.width ≡ 0 → r ≡ empty
   pub empty_height : r.height ≡ 0 → r ≡ empty
 
 -- from these columns and rows on, so many of each
 abbrev pub rectangle : ℕ → ℕ → ℕ → ℕ → Rectangle
-rectangle left top width height =
-    if width == 0 || height == 0 then empty else record { left = left; top = top; width = width; height = height }
+rectangle first_column first_row width height =
+    if width == 0 || height == 0 then empty else record { first_column = first_column; first_row = first_row; width = width; height = height }
 
--- the first column behind the rectangle
-abbrev pub right : Rectangle → ℕ
-right r = r.left + r.width
+-- the first column after the rectangle
+abbrev pub end_column : Rectangle → ℕ
+end_column r = r.first_column + r.width
 
 -- the first row below it
-abbrev pub bottom : Rectangle → ℕ
-bottom r = r.top + r.height
+abbrev pub end_row : Rectangle → ℕ
+end_row r = r.first_row + r.height
 
--- from the first columns and rows up to those that are behind the last
+-- from the first columns and rows up to those that are after the last
 abbrev pub spanning : ℕ → ℕ → ℕ → ℕ → Rectangle
-spanning left top right bottom = rectangle left top (right - left) (bottom - top)
+spanning first_column first_row end_column end_row = rectangle first_column first_row (end_column - first_column) (end_row - first_row)
 
 -- how many places a rectangle has
 abbrev pub area : Rectangle → ℕ
 area r = r.width * r.height
 
--- the index of a place among those of the rectangle, which stand row by row
+-- the index of a position among those of the rectangle, which stand row by row
 abbrev pub offset : Rectangle → ℕ → ℕ → ℕ
-offset r u v = (v - r.top) * r.width + (u - r.left)
+offset r u v = (v - r.first_row) * r.width + (u - r.first_column)
 
 -- a rectangle of which an image may be kept
 abbrev pub in_limits : Rectangle → Bool
@@ -100,18 +100,18 @@ InLimits r = (r.width ≤ 2 ^ 15) × (r.height ≤ 2 ^ 15) × (area r ≤ 2 ^ 25
 
 -- two rectangles are one
 abbrev pub same_rectangle : Rectangle → Rectangle → Bool
-same_rectangle a b = a.left == b.left && a.top == b.top && a.width == b.width && a.height == b.height
+same_rectangle a b = a.first_column == b.first_column && a.first_row == b.first_row && a.width == b.width && a.height == b.height
 
 -- ---- a rectangle as it is written, by signed numbers
 
 -- the rectangle that begins at x and y, neither before the plane's corner
 abbrev pub placed : ℤ → ℤ → ℕ → ℕ → Rectangle
-placed x y w h = record { left = plane_index x; top = plane_index y; width = w; height = h }
+placed x y w h = record { first_column = plane_index x; first_row = plane_index y; width = w; height = h }
 
 -- these numbers are the fields of a rectangle
 pub record AreFields (x y : ℤ) (w h : ℕ) : Type 0 where
-  pub behind_left : IsBehindCorner x
-  pub behind_top : IsBehindCorner y
+  pub column_in_plane : StartsInPlane x
+  pub row_in_plane : StartsInPlane y
   pub rectangle : IsRectangle (placed x y w h)
 
 -- an x or a y is one at which a rectangle may begin
@@ -171,96 +171,96 @@ new_rectangle x y w h =
 
 -- ---- rectangles made of rectangles
 
--- no place lies in the rectangle
+-- no position is in the rectangle
 abbrev pub is_empty : Rectangle → Bool
 is_empty r = r.width == 0 || r.height == 0
 
--- some place lies in the rectangle
-abbrev pub has_places : Rectangle → Bool
-has_places r = not (is_empty r)
+-- some position is in the rectangle
+abbrev pub has_positions : Rectangle → Bool
+has_positions r = not (is_empty r)
 
--- each place of b lies in a
+-- each place of b is in a
 abbrev pub Includes : Rectangle → Rectangle → Type 0
-Includes a b = (u v : ℕ) → Lies u v b → Lies u v a
+Includes a b = (u v : ℕ) → Inside u v b → Inside u v a
 
 -- the same as a test of rectangles of the plane
 abbrev pub includes : Rectangle → Rectangle → Bool
 includes a b =
     is_empty b
-    || nat_le a.left b.left && nat_le a.top b.top && nat_le (right b) (right a) && nat_le (bottom b) (bottom a)
+    || nat_le a.first_column b.first_column && nat_le a.first_row b.first_row && nat_le (end_column b) (end_column a) && nat_le (end_row b) (end_row a)
 
--- no place lies in both
+-- no position is in both
 abbrev pub AreDisjoint : Rectangle → Rectangle → Type 0
-AreDisjoint a b = (u v : ℕ) → Lies u v a → ¬ Lies u v b
+AreDisjoint a b = (u v : ℕ) → Inside u v a → ¬ Inside u v b
 
--- the places that lie in both
+-- the positions that are in both
 abbrev pub meet : Rectangle → Rectangle → Rectangle
-meet a b = spanning (max a.left b.left) (max a.top b.top) (min (right a) (right b)) (min (bottom a) (bottom b))
+meet a b = spanning (max a.first_column b.first_column) (max a.first_row b.first_row) (min (end_column a) (end_column b)) (min (end_row a) (end_row b))
 
--- the least rectangle that includes both
+-- the smallest rectangle that includes both
 abbrev pub hull : Rectangle → Rectangle → Rectangle
 hull a b =
     if is_empty a then b
     else if is_empty b then a
-    else spanning (min a.left b.left) (min a.top b.top) (max (right a) (right b)) (max (bottom a) (bottom b))
+    else spanning (min a.first_column b.first_column) (min a.first_row b.first_row) (max (end_column a) (end_column b)) (max (end_row a) (end_row b))
 
 -- what surrounds a part of a rectangle: the rows above it, what is left and right of it, and the rows below it
 abbrev pub surroundings : Rectangle → Rectangle → List Rectangle
 surroundings a part =
-    spanning a.left a.top (right a) part.top
-    ∷ spanning a.left part.top part.left (bottom part)
-    ∷ spanning (right part) part.top (right a) (bottom part)
-    ∷ spanning a.left (bottom part) (right a) (bottom a)
+    spanning a.first_column a.first_row (end_column a) part.first_row
+    ∷ spanning a.first_column part.first_row part.first_column (end_row part)
+    ∷ spanning (end_column part) part.first_row (end_column a) (end_row part)
+    ∷ spanning a.first_column (end_row part) (end_column a) (end_row a)
     ∷ []
 
--- the places of a that do not lie in b, as rectangles that have some
+-- the positions of a that are not in b, as rectangles that have some
 abbrev pub minus : Rectangle → Rectangle → List Rectangle
 minus a b =
     let part = meet a b in
-    filter has_places (if is_empty part then a ∷ [] else surroundings a part)
+    filter has_positions (if is_empty part then a ∷ [] else surroundings a part)
 
 -- ---- rectangles moved and scaled
 
 -- the x at which a rectangle begins that is moved by so much
 abbrev pub moved_x : ℤ → Rectangle → ℤ
-moved_x dx r = plane_coordinate r.left +ℤ dx
+moved_x dx r = plane_coordinate r.first_column +ℤ dx
 
 -- the y so
 abbrev pub moved_y : ℤ → Rectangle → ℤ
-moved_y dy r = plane_coordinate r.top +ℤ dy
+moved_y dy r = plane_coordinate r.first_row +ℤ dy
 
 -- the rectangle moved by dx and dy, or why that is none: an empty one stays
 abbrev pub shifted : ℤ → ℤ → Rectangle → Result Rectangle RectRefused
 shifted dx dy r =
     if is_empty r then Ok r else new_rectangle (moved_x dx r) (moved_y dy r) (pos r.width) (pos r.height)
 
--- the rectangle with so many more places on each side, or why that is none: an empty one stays
+-- the rectangle with so many more positions on each side, or why that is none: an empty one stays
 abbrev pub grown : ℕ → Rectangle → Result Rectangle RectRefused
 grown by r =
     if is_empty r then Ok r
-    else if nat_lt r.left by || nat_lt r.top by then Err Place
-    else if nat_lt plane_side (right r + by) || nat_lt plane_side (bottom r + by) then Err Size
-    else Ok (spanning (r.left - by) (r.top - by) (right r + by) (bottom r + by))
+    else if nat_lt r.first_column by || nat_lt r.first_row by then Err Place
+    else if nat_lt plane_side (end_column r + by) || nat_lt plane_side (end_row r + by) then Err Size
+    else Ok (spanning (r.first_column - by) (r.first_row - by) (end_column r + by) (end_row r + by))
 
 -- two numbers are at most so far apart
 abbrev pub AreNear : ℕ → ℕ → ℕ → Type 0
 AreNear by m n = (m ≤ n + by) × (n ≤ m + by)
 
 -- some place of the rectangle is at most so many columns and rows away
-abbrev pub LiesNear : ℕ → ℕ → ℕ → Rectangle → Type 0
-LiesNear by u v r = (u' : ℕ) × (v' : ℕ) × Lies u' v' r × AreNear by u u' × AreNear by v v'
+abbrev pub InsideGrown : ℕ → ℕ → ℕ → Rectangle → Type 0
+InsideGrown by u v r = (u' : ℕ) × (v' : ℕ) × Inside u' v' r × AreNear by u u' × AreNear by v v'
 
 -- the column of half an x, rounded down, or the row of half a y
 abbrev pub half : ℕ → ℕ
 half n = n / 2 + origin / 2
 
--- from half the first to half of what is behind the last, the first rounded down and the second up
+-- from half the first to half of what is after the last, the first rounded down and the second up
 abbrev pub halved : Rectangle → Rectangle
-halved r = spanning (half r.left) (half r.top) (half (right r + 1)) (half (bottom r + 1))
+halved r = spanning (half r.first_column) (half r.first_row) (half (end_column r + 1)) (half (end_row r + 1))
 
--- the place is that of half the x and half the y of a place of the rectangle
-abbrev pub LiesHalved : ℕ → ℕ → Rectangle → Type 0
-LiesHalved u v r = (u' : ℕ) × (v' : ℕ) × Lies u' v' r × (u ≡ half u') × (v ≡ half v')
+-- the position is that of half the x and half the y of a place of the rectangle
+abbrev pub InsideHalved : ℕ → ℕ → Rectangle → Type 0
+InsideHalved u v r = (u' : ℕ) × (v' : ℕ) × Inside u' v' r × (u ≡ half u') × (v ≡ half v')
 
 -- the column of an x divided by 2 ^ level, rounded down, or the row of a y so divided
 abbrev pub coarse : ℕ → ℕ → ℕ
@@ -270,16 +270,16 @@ coarse level n = n / 2 ^ level + (origin - origin / 2 ^ level)
 abbrev pub enlarged : ℕ → Rectangle → Result Rectangle RectRefused
 enlarged level r =
     new_rectangle
-    (plane_coordinate r.left *ℤ pos (2 ^ level))
-    (plane_coordinate r.top *ℤ pos (2 ^ level))
+    (plane_coordinate r.first_column *ℤ pos (2 ^ level))
+    (plane_coordinate r.first_row *ℤ pos (2 ^ level))
     (pos r.width *ℤ pos (2 ^ level))
     (pos r.height *ℤ pos (2 ^ level))
 
 -- a rectangle in limits, where there is one
-abbrev pub kept_in_limits : Result Rectangle RectRefused → Option Rectangle
-kept_in_limits (Ok r) = if in_limits r then Some r else None
-kept_in_limits (Err refused) = None
+abbrev pub if_in_limits : Result Rectangle RectRefused → Option Rectangle
+if_in_limits (Ok r) = if in_limits r then Some r else None
+if_in_limits (Err refused) = None
 
 -- all four fields times 2 ^ level, where that is a rectangle in limits
 abbrev pub scaled : ℕ → Rectangle → Option Rectangle
-scaled level r = kept_in_limits (enlarged level r)
+scaled level r = if_in_limits (enlarged level r)

@@ -6,12 +6,12 @@ use Rattle.plane_rect.specs.Rectangle.{Rectangle, same_rectangle}
 
 pub same_rectangle-true : (a b : Rectangle) → same_rectangle a b ≡ true → a ≡ b
 same_rectangle-true a b e =
-    let left : a.left ≡ b.left = grind (arith, nat_tests) in
-    let top : a.top ≡ b.top = grind (arith, nat_tests) in
+    let first_column : a.first_column ≡ b.first_column = grind (arith, nat_tests) in
+    let first_row : a.first_row ≡ b.first_row = grind (arith, nat_tests) in
     let width : a.width ≡ b.width = grind (arith, nat_tests) in
     let height : a.height ≡ b.height = grind (arith, nat_tests) in
-    let of : ℕ → ℕ → ℕ → ℕ → Rectangle = λ l t w h. record { left = l; top = t; width = w; height = h } in
-    let joined : (of : ℕ → ℕ → ℕ → ℕ → Rectangle) → of a.left a.top a.width a.height ≡ of b.left b.top b.width b.height = λ of. cc in
+    let of : ℕ → ℕ → ℕ → ℕ → Rectangle = λ l t w h. record { first_column = l; first_row = t; width = w; height = h } in
+    let joined : (of : ℕ → ℕ → ℕ → ℕ → Rectangle) → of a.first_column a.first_row a.width a.height ≡ of b.first_column b.first_row b.width b.height = λ of. cc in
     joined of
 
 pub same_rectangle-itself : (a : Rectangle) → same_rectangle a a ≡ true

@@ -1,10 +1,10 @@
--- Tiles of places, in natural numbers: a tile's column and row count from the plane's upper left corner, 64 places a
+-- Tiles of positions, in natural numbers: a tile's column and row count from the plane's upper left corner, 64 positions a
 -- tile. So the column of a tx is tx + 2^18.
 use Rattle.std.specs.Prelude.{◌≡◌, ℕ, zero, suc, ◌+◌, ◌-◌, ◌*◌, ◌/◌, ◌^◌, ◌<◌, ◌≤◌, ◌⊎◌, ◌&&◌, ◌==◌, Bool, nat_lt, if◌then◌else◌, ℤ, pos, negsuc, ◌-ℤ◌, ◌≤ℤ◌, List, [], ◌∷◌, ◌++◌}
 use Rattle.std.specs.Int.{div_ceil}
 use Rattle.std.specs.Ordering.{nat_cmp, on, then_cmp}
 use Rattle.std.specs.declared.cmp.Ordering.{Ordering}
-use Rattle.plane_rect.specs.Rectangle.{Rectangle, Lies, plane_side, meet, right, bottom}
+use Rattle.plane_rect.specs.Rectangle.{Rectangle, Inside, plane_side, meet, end_column, end_row}
 
 -- how many columns, and how many rows, a tile has
 abbrev pub tile_side : ℕ
@@ -14,7 +14,7 @@ tile_side = 64
 abbrev pub tile_origin : ℕ
 tile_origin = 2 ^ 18
 
--- the greatest column and row of a tile, where it begins behind the plane
+-- the largest column and row of a tile, where it begins after the plane
 abbrev pub last_tile : ℕ
 last_tile = 2 ^ 19
 
@@ -23,7 +23,7 @@ pub record Tile : Type 0 where
   pub column : ℕ
   pub row : ℕ
 
--- the tile begins no later than just behind the plane
+-- the tile begins no later than just after the plane
 pub record IsTile (t : Tile) : Type 0 where
   pub in_columns : t.column ≤ last_tile
   pub in_rows : t.row ≤ last_tile
@@ -43,32 +43,32 @@ tile_by tx ty = record { column = tile_index tx; row = tile_index ty }
 
 -- these numbers name a tile
 pub record NameTile (tx ty : ℤ) : Type 0 where
-  pub behind_left : tile_coordinate 0 ≤ℤ tx
-  pub behind_top : tile_coordinate 0 ≤ℤ ty
+  pub column_in_plane : tile_coordinate 0 ≤ℤ tx
+  pub row_in_plane : tile_coordinate 0 ≤ℤ ty
   pub tile : IsTile (tile_by tx ty)
 
 -- the column of the tile in which a column lies, or the row of that in which a row lies
 abbrev pub tile_of : ℕ → ℕ
 tile_of n = n / tile_side
 
--- the tile in which the place lies
+-- the tile in which the position lies
 abbrev pub tile_at : ℕ → ℕ → Tile
 tile_at u v = record { column = tile_of u; row = tile_of v }
 
--- all places
+-- all positions
 abbrev pub plane : Rectangle
-plane = record { left = 0; top = 0; width = plane_side; height = plane_side }
+plane = record { first_column = 0; first_row = 0; width = plane_side; height = plane_side }
 
--- the 64 by 64 places of a tile
+-- the 64 by 64 pixels of a tile
 abbrev pub tile_square : Tile → Rectangle
 tile_square t =
-    record { left = tile_side * t.column; top = tile_side * t.row; width = tile_side; height = tile_side }
+    record { first_column = tile_side * t.column; first_row = tile_side * t.row; width = tile_side; height = tile_side }
 
 -- the tile begins in the plane, and so ends there
 abbrev pub IsWhole : Tile → Type 0
 IsWhole t = (t.column < last_tile) × (t.row < last_tile)
 
--- the places of the plane that lie in the tile
+-- the positions of the plane that are in the tile
 abbrev pub tile_rectangle : Tile → Rectangle
 tile_rectangle t = meet (tile_square t) plane
 
@@ -80,9 +80,9 @@ same_tile a b = a.row == b.row && a.column == b.column
 abbrev pub tile_cmp : Tile → Tile → Ordering
 tile_cmp = then_cmp (on (λ t. t.row) nat_cmp) (on (λ t. t.column) nat_cmp)
 
--- some place of the rectangle lies in the tile
+-- some place of the rectangle is in the tile
 abbrev pub Meets : Tile → Rectangle → Type 0
-Meets t r = (u : ℕ) × (v : ℕ) × Lies u v r × (t ≡ tile_at u v)
+Meets t r = (u : ℕ) × (v : ℕ) × Inside u v r × (t ≡ tile_at u v)
 
 -- a tile of a row above, or of the same row and further left
 abbrev pub IsBefore : Tile → Tile → Type 0
@@ -99,32 +99,32 @@ tile_rows column columns row zero = []
 tile_rows column columns row (suc n) =
     tile_row row column columns ++ tile_rows column columns (suc row) n
 
--- the column behind those of the tiles in which the columns before an end lie, or the row so
+-- the column after those of the tiles in which the columns before an end lie, or the row so
 abbrev pub tile_end : ℕ → ℕ
 tile_end n = div_ceil n tile_side
 
 -- how many columns of tiles meet the rectangle
 abbrev pub tile_columns : Rectangle → ℕ
-tile_columns r = tile_end (right r) - tile_of r.left
+tile_columns r = tile_end (end_column r) - tile_of r.first_column
 
 -- how many rows of tiles meet it
 abbrev pub tile_lines : Rectangle → ℕ
-tile_lines r = tile_end (bottom r) - tile_of r.top
+tile_lines r = tile_end (end_row r) - tile_of r.first_row
 
 -- the tiles that meet the rectangle, row by row from the top, each row from the left
 abbrev pub tiles : Rectangle → List Tile
-tiles r = tile_rows (tile_of r.left) (tile_columns r) (tile_of r.top) (tile_lines r)
+tiles r = tile_rows (tile_of r.first_column) (tile_columns r) (tile_of r.first_row) (tile_lines r)
 
 -- the tiles of rows of columns from first up to end that are left at a column and a row
 abbrev pub tiles_left : ℕ → ℕ → ℕ → ℕ → ℕ → List Tile
-tiles_left first end column row end_row =
-    if nat_lt row end_row
-    then tile_row row column (end - column) ++ tile_rows first (end - first) (suc row) (end_row - suc row)
+tiles_left first end column row end_tile_row =
+    if nat_lt row end_tile_row
+    then tile_row row column (end - column) ++ tile_rows first (end - first) (suc row) (end_tile_row - suc row)
     else []
 
--- a column and a row at which tiles are left, or a row behind the last
-pub record AreLeft (first end column row end_row : ℕ) : Type 0 where
+-- a column and a row at which tiles are left, or a row after the last
+pub record AreLeft (first end column row end_tile_row : ℕ) : Type 0 where
   pub in_columns : end ≤ last_tile
-  pub in_rows : end_row ≤ last_tile
-  pub behind_first : row < end_row → first ≤ column
-  pub before_end : row < end_row → column < end
+  pub in_rows : end_tile_row ≤ last_tile
+  pub after_first : row < end_tile_row → first ≤ column
+  pub before_end : row < end_tile_row → column < end

@@ -1,4 +1,4 @@
-//! Names, rectangles and tiles of places in the plane.
+//! Names, rectangles and tiles of positions in the plane.
 #![tactic(auto)]
 
 mod moves;

@@ -1,7 +1,7 @@
 //! Rectangles moved, grown and scaled.
 
 ghost use Rattle.std.specs.Prelude.{◌≡◌, ◌≢◌, ℕ, ℤ, ◌+◌, ◌<◌, ◌≤◌, ◌↔◌, ◌⊎◌, pos, ◌+ℤ◌, ◌*ℤ◌, ◌^◌, unsigned_abs, IfOk, IfSome};
-ghost use Rattle.plane_rect.specs.Rectangle.{BeginsInside, BeginsOutside, EndsOutside, InLimits, Lies, LiesAt, LiesHalved, LiesNear, bottom, coarse, empty, enlarged, grown, half, halved, moved_x, moved_y, plane_side, right, scaled, shifted};
+ghost use Rattle.plane_rect.specs.Rectangle.{BeginsInside, BeginsOutside, EndsOutside, InLimits, Inside, InsideSigned, InsideHalved, InsideGrown, end_row, coarse, empty, enlarged, grown, half, halved, moved_x, moved_y, plane_side, end_column, scaled, shifted};
 
 use crate::plane::{PLANE_ORIGIN, PLANE_SIDE};
 use crate::rect::{Rect, RectRefused};
@@ -14,14 +14,14 @@ impl Rect {
     /// `Place` and `Size` as [`Rect::new`] gives them for the moved fields.
     pub fn shift(&self, dx: i64, dy: i64) -> Result<Rect, RectRefused>
         ensures value { result ≡ shifted dx dy self.now }
-        ensures place { (result ≡ Err RectRefused.Place)
+        ensures position { (result ≡ Err RectRefused.Place)
             ↔ ((self.now ≢ empty) × BeginsOutside (moved_x dx self.now) (moved_y dy self.now)) }
         ensures size { (result ≡ Err RectRefused.Size)
             ↔ ((self.now ≢ empty) × BeginsInside (moved_x dx self.now) (moved_y dy self.now)
             × EndsOutside (moved_x dx self.now) (moved_y dy self.now)
             (pos self.now.width) (pos self.now.height)) }
-        ensures places { IfOk result (λ moved. (x y : ℤ) →
-            LiesAt (x +ℤ dx) (y +ℤ dy) moved ↔ LiesAt x y self.now) }
+        ensures positions { IfOk result (λ moved. (x y : ℤ) →
+            InsideSigned (x +ℤ dx) (y +ℤ dy) moved ↔ InsideSigned x y self.now) }
     {
         if self.is_empty() {
             return Ok(*self);
@@ -35,47 +35,47 @@ impl Rect {
         )
     }
 
-    /// The rectangle with `by` more places on each side. An empty one stays.
+    /// The rectangle with `by` more positions on each side. An empty one stays.
     ///
     /// # Errors
     ///
     /// `Place` exactly where the grown rectangle would begin before -2^24, and else `Size` exactly
-    /// where it would end behind 2^24.
+    /// where it would end after 2^24.
     pub fn grow(&self, by: u32) -> Result<Rect, RectRefused>
         ensures value { result ≡ grown by self.now }
-        ensures place { (result ≡ Err RectRefused.Place)
-            ↔ ((self.now ≢ empty) × ((self.now.left < by) ⊎ (self.now.top < by))) }
+        ensures position { (result ≡ Err RectRefused.Place)
+            ↔ ((self.now ≢ empty) × ((self.now.first_column < by) ⊎ (self.now.first_row < by))) }
         ensures size { (result ≡ Err RectRefused.Size)
-            ↔ ((self.now ≢ empty) × ((by ≤ self.now.left) × (by ≤ self.now.top))
-            × ((plane_side < right self.now + by) ⊎ (plane_side < bottom self.now + by))) }
-        ensures places { IfOk result (λ grown. (u v : ℕ) →
-            Lies u v grown ↔ LiesNear by u v self.now) }
+            ↔ ((self.now ≢ empty) × ((by ≤ self.now.first_column) × (by ≤ self.now.first_row))
+            × ((plane_side < end_column self.now + by) ⊎ (plane_side < end_row self.now + by))) }
+        ensures positions { IfOk result (λ grown. (u v : ℕ) →
+            Inside u v grown ↔ InsideGrown by u v self.now) }
     {
         if self.is_empty() {
             return Ok(*self);
         }
-        let (left, top) = (self.left(), self.top());
-        if left < by || top < by {
+        let (first_column, first_row) = (self.first_column(), self.first_row());
+        if first_column < by || first_row < by {
             return Err(RectRefused::Place);
         }
-        let (right, bottom) = (self.right() + by, self.bottom() + by);
-        if right > PLANE_SIDE || bottom > PLANE_SIDE {
+        let (end_column, end_row) = (self.end_column() + by, self.end_row() + by);
+        if end_column > PLANE_SIDE || end_row > PLANE_SIDE {
             return Err(RectRefused::Size);
         }
-        Ok(Rect::spanning(left - by, top - by, right, bottom))
+        Ok(Rect::spanning(first_column - by, first_row - by, end_column, end_row))
     }
 
     /// The rectangle of half the coordinates: from half the first, rounded down, to half of what is
-    /// behind the last, rounded up.
+    /// after the last, rounded up.
     pub fn halved(&self) -> Rect
         ensures value { result ≡ halved self.now }
-        ensures places { (u v : ℕ) → Lies u v result ↔ LiesHalved u v self.now }
+        ensures positions { (u v : ℕ) → Inside u v result ↔ InsideHalved u v self.now }
     {
         Rect::spanning(
-            half(self.left()),
-            half(self.top()),
-            half(self.right() + 1),
-            half(self.bottom() + 1),
+            half(self.first_column()),
+            half(self.first_row()),
+            half(self.end_column() + 1),
+            half(self.end_row() + 1),
         )
     }
 
@@ -84,8 +84,8 @@ impl Rect {
     pub fn scaled(&self, level: u32) -> Option<Rect>
         requires { level ≤ 8 }
         ensures value { result ≡ scaled level self.now }
-        ensures places { IfSome result (λ r. (u v : ℕ) →
-            Lies u v r ↔ Lies (coarse level u) (coarse level v) self.now) }
+        ensures positions { IfSome result (λ r. (u v : ℕ) →
+            Inside u v r ↔ Inside (coarse level u) (coarse level v) self.now) }
         ensures limits { IfSome result InLimits }
     {
         match self.enlarged(level) {
@@ -98,8 +98,8 @@ impl Rect {
     fn enlarged(&self, level: u32) -> Result<Rect, RectRefused>
         requires { level ≤ 8 }
         ensures value { result ≡ enlarged level self.now }
-        ensures places { IfOk result (λ r. (u v : ℕ) →
-            Lies u v r ↔ Lies (coarse level u) (coarse level v) self.now) }
+        ensures positions { IfOk result (λ r. (u v : ℕ) →
+            Inside u v r ↔ Inside (coarse level u) (coarse level v) self.now) }
     {
         let (x, y) = self.corner();
         let (w, h) = (i64::from(self.w), i64::from(self.h));

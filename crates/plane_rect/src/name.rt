@@ -14,13 +14,13 @@ use std::cmp::Ordering;
 use std::hash::{Hash, Hasher};
 use std::marker::Model;
 
-/// The greatest number of bytes in a name.
+/// The largest number of bytes in a name.
 const LONGEST: usize = 16;
 
 /// A name: 1 to 16 ASCII bytes, the first `a` to `z`, the others `a` to `z`, `0` to `9` or `_`.
 #[derive(Clone, Copy, Debug)]
 pub struct Name {
-    /// The name, and zeros behind it.
+    /// The name, and zeros after it.
     padded: [u8; LONGEST],
     len: u8,
 }

@@ -4,7 +4,7 @@
 //! no number of them is negative.
 
 ghost use Rattle.std.specs.Prelude.{◌≡◌, ◌≤◌};
-ghost use Rattle.plane_rect.specs.Rectangle.{IsBehindCorner, plane_coordinate as coordinate_of, plane_index as index_of, plane_side};
+ghost use Rattle.plane_rect.specs.Rectangle.{StartsInPlane, plane_coordinate as coordinate_of, plane_index as index_of, plane_side};
 
 /// The column, and the row, of the origin: how far the plane reaches from it, to each side.
 pub const PLANE_ORIGIN: u32 = 1 << 24;
@@ -14,7 +14,7 @@ pub const PLANE_SIDE: u32 = 1 << 25;
 
 /// The column of an x, or the row of a y, which is not below -2^24.
 pub fn plane_index(coordinate: i32) -> u32
-    requires { IsBehindCorner coordinate }
+    requires { StartsInPlane coordinate }
     ensures { result ≡ index_of coordinate }
 {
     (i64::from(coordinate) + i64::from(PLANE_ORIGIN)) as u32

@@ -1,4 +1,4 @@
-//! Rectangles of places.
+//! Rectangles of positions.
 
 ghost use Rattle.std.specs.Prelude.{◌≡◌, ℕ, ℤ, ◌+◌, ◌-◌, ◌*◌, ◌++◌, ◌<◌, ◌≤◌, ◌↔◌, ◌⊎◌, pos, ◌+ℤ◌, ◌≤ℤ◌, ◌<ℤ◌, IsTrue, IfOk, unsigned_abs};
 ghost use Rattle.std.specs.Bool.{OnTrue};
@@ -7,7 +7,7 @@ ghost use Rattle.std.specs.Cmp.Rules.{hashing};
 ghost use Rattle.std.specs.Hash as fed;
 ghost use Rattle.std.proofs.Common.{rules};
 ghost use Rattle.plane_rect.specs.SameRectangle.{same_rectangle-laws};
-ghost use Rattle.plane_rect.specs.Rectangle.{BeginsInside, BeginsOutside, EndsInside, EndsOutside, InLimits, IsCoordinate, IsExtent, IsRectangle, Includes, Lies, LiesAt, Within, WithinSigned, area, begins_inside, bottom, empty, ends_inside, in_limits, is_coordinate, is_empty, is_extent, new_rectangle, offset, origin, plane_coordinate as coordinate_of, plane_index as index_of, plane_side, rectangle, right, same_rectangle, spanning};
+ghost use Rattle.plane_rect.specs.Rectangle.{BeginsInside, BeginsOutside, EndsInside, EndsOutside, InLimits, IsCoordinate, IsExtent, IsRectangle, Includes, Inside, InsideSigned, Within, WithinSigned, area, begins_inside, end_row, empty, ends_inside, in_limits, is_coordinate, is_empty, is_extent, new_rectangle, offset, origin, plane_coordinate as coordinate_of, plane_index as index_of, plane_side, rectangle, end_column, same_rectangle, spanning};
 
 use crate::plane::{PLANE_ORIGIN, plane_coordinate, plane_index};
 use std::hash::{Hash, Hasher};
@@ -15,9 +15,9 @@ use std::marker::Model;
 use std::ops::Range;
 use thiserror::Error;
 
-/// A set of places: those of `x <= px < x + w` and `y <= py < y + h`.
+/// A set of positions: those of `x <= px < x + w` and `y <= py < y + h`.
 ///
-/// It lies in the plane, from -2^24 up to 2^24 in x and y, and a rectangle without a place is
+/// It is in the plane, from -2^24 up to 2^24 in x and y, and a rectangle without a position is
 /// [`Rect::EMPTY`].
 #[derive(Clone, Copy, Debug)]
 pub struct Rect {
@@ -37,8 +37,8 @@ impl Model for Rect {
     ghost invariant = { λ r. AreFields r.x r.y r.w r.h };
 
     ghost inverse = { λ v. record {
-      x = plane_coordinate v.left;
-      y = plane_coordinate v.top;
+      x = plane_coordinate v.first_column;
+      y = plane_coordinate v.first_row;
       w = v.width;
       h = v.height;
     } };
@@ -47,16 +47,16 @@ impl Model for Rect {
 /// Why numbers are no rectangle.
 #[derive(Clone, Copy, Debug, PartialEq, Eq, Error)]
 pub enum RectRefused {
-    /// It begins before -2^24 or behind 2^24.
+    /// It begins before -2^24 or after 2^24.
     #[error("the rectangle begins outside the plane")]
     Place,
-    /// A side is negative, or ends behind 2^24.
+    /// A side is negative, or ends after 2^24.
     #[error("a side is negative or ends outside the plane")]
     Size,
 }
 
 impl Rect {
-    /// The rectangle without a place.
+    /// The rectangle without a position.
     pub const EMPTY: Rect = Rect {
         x: 0,
         y: 0,
@@ -72,10 +72,10 @@ impl Rect {
     /// or h is negative, or x + w or y + h is above 2^24.
     pub fn new(x: i64, y: i64, w: i64, h: i64) -> Result<Rect, RectRefused>
         ensures value { result ≡ new_rectangle x y w h }
-        ensures place { (result ≡ Err RectRefused.Place) ↔ BeginsOutside x y }
+        ensures position { (result ≡ Err RectRefused.Place) ↔ BeginsOutside x y }
         ensures size { (result ≡ Err RectRefused.Size) ↔ (BeginsInside x y × EndsOutside x y w h) }
-        ensures places { IfOk result (λ r. (px py : ℤ) →
-            LiesAt px py r ↔ (WithinSigned x w px × WithinSigned y h py)) }
+        ensures positions { IfOk result (λ r. (px py : ℤ) →
+            InsideSigned px py r ↔ (WithinSigned x w px × WithinSigned y h py)) }
     {
         if !begins_inside(x, y) {
             return Err(RectRefused::Place);
@@ -103,56 +103,56 @@ impl Rect {
         }
     }
 
-    /// From a first column and row up to those behind the last.
-    pub fn spanning(left: u32, top: u32, right: u32, bottom: u32) -> Rect
-        requires columns { right ≤ plane_side }
-        requires rows { bottom ≤ plane_side }
-        ensures { result ≡ spanning left top right bottom }
+    /// From a first column and row up to those after the last.
+    pub fn spanning(first_column: u32, first_row: u32, end_column: u32, end_row: u32) -> Rect
+        requires columns { end_column ≤ plane_side }
+        requires rows { end_row ≤ plane_side }
+        ensures { result ≡ spanning first_column first_row end_column end_row }
     {
-        if left >= right || top >= bottom {
+        if first_column >= end_column || first_row >= end_row {
             return Rect::EMPTY;
         }
         Rect {
-            x: plane_coordinate(left),
-            y: plane_coordinate(top),
-            w: right - left,
-            h: bottom - top,
+            x: plane_coordinate(first_column),
+            y: plane_coordinate(first_row),
+            w: end_column - first_column,
+            h: end_row - first_row,
         }
     }
 
     /// The first column, counted from the plane's corner.
-    pub fn left(&self) -> u32
-        ensures value { result ≡ self.now.left }
+    pub fn first_column(&self) -> u32
+        ensures value { result ≡ self.now.first_column }
         ensures rectangle { IsRectangle self.now }
     {
         plane_index(self.x)
     }
 
     /// The first row, counted from the plane's corner.
-    pub fn top(&self) -> u32
-        ensures value { result ≡ self.now.top }
+    pub fn first_row(&self) -> u32
+        ensures value { result ≡ self.now.first_row }
         ensures rectangle { IsRectangle self.now }
     {
         plane_index(self.y)
     }
 
-    /// The column behind the last.
-    pub fn right(&self) -> u32
-        ensures value { result ≡ right self.now }
+    /// The column after the last.
+    pub fn end_column(&self) -> u32
+        ensures value { result ≡ end_column self.now }
         ensures rectangle { IsRectangle self.now }
     {
-        self.left() + self.w
+        self.first_column() + self.w
     }
 
     /// The row below the last.
-    pub fn bottom(&self) -> u32
-        ensures value { result ≡ bottom self.now }
+    pub fn end_row(&self) -> u32
+        ensures value { result ≡ end_row self.now }
         ensures rectangle { IsRectangle self.now }
     {
-        self.top() + self.h
+        self.first_row() + self.h
     }
 
-    /// How many places lie in it.
+    /// How many positions are in it.
     pub fn area(&self) -> u64
         ensures value { result ≡ area self.now }
         ensures rectangle { IsRectangle self.now }
@@ -160,16 +160,16 @@ impl Rect {
         u64::from(self.w) * u64::from(self.h)
     }
 
-    /// Whether no place lies in it.
+    /// Whether no position is in it.
     pub fn is_empty(&self) -> bool
         ensures value { result ≡ is_empty self.now }
         ensures empty { IsTrue result ↔ (self.now ≡ empty) }
-        ensures places { IsTrue result ↔ ((u v : ℕ) → ¬ Lies u v self.now) }
+        ensures positions { IsTrue result ↔ ((u v : ℕ) → ¬ Inside u v self.now) }
     {
         self.w == 0
     }
 
-    /// Whether an image of it may be kept: at most 2^15 columns and rows, and 2^25 places.
+    /// Whether an image of it may be kept: at most 2^15 columns and rows, and 2^25 positions.
     pub fn in_limits(&self) -> bool
         ensures value { result ≡ in_limits self.now }
         ensures limits { IsTrue result ↔ InLimits self.now }
@@ -179,46 +179,46 @@ impl Rect {
 
     /// Its x and y, with room for sums and products.
     pub(crate) fn corner(&self) -> (i64, i64)
-        ensures x { result.0 ≡ coordinate_of self.now.left }
-        ensures y { result.1 ≡ coordinate_of self.now.top }
+        ensures x { result.0 ≡ coordinate_of self.now.first_column }
+        ensures y { result.1 ≡ coordinate_of self.now.first_row }
         ensures rectangle { IsRectangle self.now }
     {
         (i64::from(self.x), i64::from(self.y))
     }
 
-    /// Whether the place of x and y lies in it.
+    /// Whether the position of x and y is in it.
     pub fn has(&self, x: i32, y: i32) -> bool
-        ensures { IsTrue result ↔ LiesAt x y self.now }
+        ensures { IsTrue result ↔ InsideSigned x y self.now }
     {
         is_within(self.x, self.w, x) && is_within(self.y, self.h, y)
     }
 
-    /// Whether the place of a column and a row lies in it.
-    pub fn has_place(&self, column: u32, row: u32) -> bool
-        ensures { IsTrue result ↔ Lies column row self.now }
+    /// Whether the position of a column and a row is in it.
+    pub fn has_position(&self, column: u32, row: u32) -> bool
+        ensures { IsTrue result ↔ Inside column row self.now }
     {
-        self.left() <= column && column < self.right() && self.top() <= row && row < self.bottom()
+        self.first_column() <= column && column < self.end_column() && self.first_row() <= row && row < self.end_row()
     }
 
-    /// The index of a place among those of the rectangle, which stand row by row.
+    /// The index of a position among those of the rectangle, which stand row by row.
     pub fn offset(&self, column: u32, row: u32) -> usize
-        requires { Lies column row self.now }
+        requires { Inside column row self.now }
         ensures value { result ≡ offset self.now column row }
         ensures in_area { result < area self.now }
         ensures rectangle { IsRectangle self.now }
     {
-        (row - self.top()) as usize * self.w as usize + (column - self.left()) as usize
+        (row - self.first_row()) as usize * self.w as usize + (column - self.first_column()) as usize
     }
 
     /// Where a row of a part of it stands among its places, which stand row by row.
     pub fn part_row(&self, part: &Rect, row: u32) -> Range<usize>
         requires part { Includes self.now part.now }
-        requires row { Within part.now.top part.now.height row }
-        ensures start { result.start ≡ offset self.now part.now.left row }
+        requires row { Within part.now.first_row part.now.height row }
+        ensures start { result.start ≡ offset self.now part.now.first_column row }
         ensures len { result.end ≡ result.start + part.now.width }
         ensures in_area { result.end ≤ area self.now }
     {
-        let start = self.offset(part.left(), row);
+        let start = self.offset(part.first_column(), row);
         start..start + part.w as usize
     }
 }
@@ -232,8 +232,8 @@ impl PartialEq for Rect {
         ensures eq { result ≡ same_rectangle self.now other.now }
         ensures same { IsTrue result ↔ (self.now ≡ other.now) }
     {
-        self.left() == other.left()
-            && self.top() == other.top()
+        self.first_column() == other.first_column()
+            && self.first_row() == other.first_row()
             && self.w == other.w
             && self.h == other.h
     }
@@ -244,13 +244,13 @@ impl Eq for Rect {
 }
 
 impl Hash for Rect {
-    ghost hash_input = { λ r. fed.u32 r.left ++ fed.u32 r.top ++ fed.u32 r.width ++ fed.u32 r.height };
+    ghost hash_input = { λ r. fed.u32 r.first_column ++ fed.u32 r.first_row ++ fed.u32 r.width ++ fed.u32 r.height };
 
     ghost respects_eq = { Prim.search (hashing, rules) };
 
     fn hash<H: Hasher>(&self, state: &mut H) {
-        self.left().hash(state);
-        self.top().hash(state);
+        self.first_column().hash(state);
+        self.first_row().hash(state);
         self.w.hash(state);
         self.h.hash(state);
     }

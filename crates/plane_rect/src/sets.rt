@@ -1,12 +1,12 @@
-//! Rectangles as sets of places: inclusion, meet, hull and difference.
+//! Rectangles as sets of positions: inclusion, meet, hull and difference.
 
 ghost use Rattle.std.specs.Prelude.{◌≡◌, ◌≢◌, ℕ, ◌≤◌, ◌↔◌, IsTrue, All, AllPairs, Any, take, drop, filter};
 ghost use Rattle.plane_rect.specs.Parts.{parts_of};
-ghost use Rattle.plane_rect.specs.Rectangle.{AreDisjoint, Includes, Lies, Rectangle, empty, has_places, hull, includes, meet, minus, surroundings};
+ghost use Rattle.plane_rect.specs.Rectangle.{AreDisjoint, Includes, Inside, Rectangle, empty, has_positions, hull, includes, meet, minus, surroundings};
 
 use crate::rect::Rect;
 
-/// Rectangles without a common place: the first `count` of `parts`, none of which is empty. The
+/// Rectangles without a common position: the first `count` of `parts`, none of which is empty. The
 /// others are empty.
 #[derive(Clone, Copy, Debug, PartialEq, Eq)]
 pub struct Parts {
@@ -15,39 +15,39 @@ pub struct Parts {
 }
 
 impl Rect {
-    /// Whether each place of the other lies in it.
+    /// Whether each place of the other is in it.
     pub fn contains(&self, other: &Rect) -> bool
         ensures value { result ≡ includes self.now other.now }
-        ensures places { IsTrue result ↔ Includes self.now other.now }
+        ensures positions { IsTrue result ↔ Includes self.now other.now }
     {
         other.is_empty()
-            || self.left() <= other.left()
-                && self.top() <= other.top()
-                && other.right() <= self.right()
-                && other.bottom() <= self.bottom()
+            || self.first_column() <= other.first_column()
+                && self.first_row() <= other.first_row()
+                && other.end_column() <= self.end_column()
+                && other.end_row() <= self.end_row()
     }
 
-    /// The places that lie in both.
+    /// The positions that are in both.
     pub fn meet(&self, other: &Rect) -> Rect
         ensures value { result ≡ meet self.now other.now }
-        ensures places { (u v : ℕ) → Lies u v result ↔ (Lies u v self.now × Lies u v other.now) }
+        ensures positions { (u v : ℕ) → Inside u v result ↔ (Inside u v self.now × Inside u v other.now) }
         ensures in_this { Includes self.now result }
         ensures in_other { Includes other.now result }
     {
         Rect::spanning(
-            self.left().max(other.left()),
-            self.top().max(other.top()),
-            self.right().min(other.right()),
-            self.bottom().min(other.bottom()),
+            self.first_column().max(other.first_column()),
+            self.first_row().max(other.first_row()),
+            self.end_column().min(other.end_column()),
+            self.end_row().min(other.end_row()),
         )
     }
 
-    /// The least rectangle that contains both.
+    /// The smallest rectangle that contains both.
     pub fn hull(&self, other: &Rect) -> Rect
         ensures value { result ≡ hull self.now other.now }
         ensures contains_this { Includes result self.now }
         ensures contains_other { Includes result other.now }
-        ensures least { (r : Rectangle) →
+        ensures minimum { (r : Rectangle) →
             Includes r self.now → Includes r other.now → Includes r result }
     {
         if self.is_empty() {
@@ -57,20 +57,20 @@ impl Rect {
             return *self;
         }
         Rect::spanning(
-            self.left().min(other.left()),
-            self.top().min(other.top()),
-            self.right().max(other.right()),
-            self.bottom().max(other.bottom()),
+            self.first_column().min(other.first_column()),
+            self.first_row().min(other.first_row()),
+            self.end_column().max(other.end_column()),
+            self.end_row().max(other.end_row()),
         )
     }
 
-    /// The places that do not lie in the other, in at most four parts: the rows above the other,
+    /// The positions that are not in the other, in at most four parts: the rows above the other,
     /// what is left of it, what is right of it, and the rows below it. The rows above and below
     /// have the full width.
     pub fn minus(&self, other: &Rect) -> Parts
         ensures value { result ≡ parts_of (minus self.now other.now) }
-        ensures places { (u v : ℕ) →
-            Any (Lies u v) result.parts ↔ (Lies u v self.now × ¬ Lies u v other.now) }
+        ensures positions { (u v : ℕ) →
+            Any (Inside u v) result.parts ↔ (Inside u v self.now × ¬ Inside u v other.now) }
         ensures disjoint { AllPairs AreDisjoint result.parts }
         ensures count { result.count ≤ 4 }
         ensures some { All (λ part. part ≢ empty) (take result.count result.parts) }
@@ -88,13 +88,13 @@ impl Rect {
         requires { Includes self.now part.now }
         ensures { result ≡ surroundings self.now part.now }
     {
-        let (left, top) = (self.left(), self.top());
-        let (right, bottom) = (self.right(), self.bottom());
+        let (first_column, first_row) = (self.first_column(), self.first_row());
+        let (end_column, end_row) = (self.end_column(), self.end_row());
         [
-            Rect::spanning(left, top, right, part.top()),
-            Rect::spanning(left, part.top(), part.left(), part.bottom()),
-            Rect::spanning(part.right(), part.top(), right, part.bottom()),
-            Rect::spanning(left, part.bottom(), right, bottom),
+            Rect::spanning(first_column, first_row, end_column, part.first_row()),
+            Rect::spanning(first_column, part.first_row(), part.first_column(), part.end_row()),
+            Rect::spanning(part.end_column(), part.first_row(), end_column, part.end_row()),
+            Rect::spanning(first_column, part.end_row(), end_column, end_row),
         ]
     }
 }
@@ -102,7 +102,7 @@ impl Rect {
 impl Parts {
     /// Those of four rectangles that are not empty.
     fn gather(rectangles: [Rect; 4]) -> Parts
-        ensures { result ≡ parts_of (filter has_places rectangles) }
+        ensures { result ≡ parts_of (filter has_positions rectangles) }
     {
         let mut gathered = Parts {
             count: 0,

@@ -1,4 +1,4 @@
-//! Tiles of 64 by 64 places.
+//! Tiles of 64 by 64 pixels.
 
 ghost use Rattle.std.specs.Prelude.{◌≡◌, ℕ, ◌*◌, ◌^◌, ◌≤◌, ◌++◌, ◌↔◌, IsTrue, Some, All, AllPairs, length, Contains};
 ghost use Rattle.std.specs.Cmp.{partial_equiv_from_equiv, partial_order_from_own_ties};
@@ -7,7 +7,7 @@ ghost use Rattle.std.specs.Hash as fed;
 ghost use Rattle.std.specs.Iterator.{YieldsFirst, item_count};
 ghost use Rattle.std.specs.Ordering.{as_partial_cmp};
 ghost use Rattle.std.proofs.Common.{rules};
-ghost use Rattle.plane_rect.specs.Rectangle.{IsCoordinate, Lies, plane_index as index_of, plane_side};
+ghost use Rattle.plane_rect.specs.Rectangle.{IsCoordinate, Inside, plane_index as index_of, plane_side};
 ghost use Rattle.plane_rect.specs.SameTile.{same_tile-laws};
 ghost use Rattle.plane_rect.specs.Tile.{IsBefore, IsTile, IsWhole, Meets, Tile, last_tile, plane, same_tile, tile_at, tile_cmp, tile_columns, tile_lines, tile_rectangle, tile_square, tiles};
 
@@ -23,9 +23,9 @@ pub const TILE_SIDE: u32 = 64;
 /// How far the tiles reach from the origin, to each side.
 const TILE_ORIGIN: i32 = 1 << 18;
 
-/// The name of the tile of the places from `64 * tx` to `64 * tx + 63` in x, and so in y.
+/// The name of the tile of the positions from `64 * tx` to `64 * tx + 63` in x, and so in y.
 ///
-/// Neither number is below -2^18 or above 2^18, where a tile begins behind the plane.
+/// Neither number is below -2^18 or above 2^18, where a tile begins after the plane.
 #[derive(Clone, Copy, Debug)]
 pub struct TileAt {
     pub tx: i32,
@@ -45,17 +45,17 @@ impl Model for TileAt {
 }
 
 impl TileAt {
-    /// The tile in which the place of x and y lies, neither below -2^24 or above 2^24.
+    /// The tile in which the position of x and y lies, neither below -2^24 or above 2^24.
     pub fn of(x: i32, y: i32) -> TileAt
         requires x { IsCoordinate x }
         requires y { IsCoordinate y }
         ensures { result ≡ tile_at (index_of x) (index_of y) }
     {
-        TileAt::of_place(plane_index(x), plane_index(y))
+        TileAt::of_position(plane_index(x), plane_index(y))
     }
 
-    /// The tile in which the place of a column and a row lies.
-    pub fn of_place(column: u32, row: u32) -> TileAt
+    /// The tile in which the position of a column and a row lies.
+    pub fn of_position(column: u32, row: u32) -> TileAt
         requires column { column ≤ plane_side }
         requires row { row ≤ plane_side }
         ensures { result ≡ tile_at column row }
@@ -92,19 +92,19 @@ impl TileAt {
         (self.ty + TILE_ORIGIN) as u32
     }
 
-    /// The places of the plane that lie in it: none where it begins behind the plane, and else all
+    /// The positions of the plane that are in it: none where it begins after the plane, and else all
     /// 64 by 64.
     pub fn rect(&self) -> Rect
         ensures value { result ≡ tile_rectangle self.now }
-        ensures places { (u v : ℕ) → Lies u v result ↔ (Lies u v plane × (self.now ≡ tile_at u v)) }
+        ensures positions { (u v : ℕ) → Inside u v result ↔ (Inside u v plane × (self.now ≡ tile_at u v)) }
         ensures whole { IsWhole self.now → result ≡ tile_square self.now }
     {
-        let (left, top) = (self.column() * TILE_SIDE, self.row() * TILE_SIDE);
+        let (first_column, first_row) = (self.column() * TILE_SIDE, self.row() * TILE_SIDE);
         Rect::spanning(
-            left,
-            top,
-            PLANE_SIDE.min(left + TILE_SIDE),
-            PLANE_SIDE.min(top + TILE_SIDE),
+            first_column,
+            first_row,
+            PLANE_SIDE.min(first_column + TILE_SIDE),
+            PLANE_SIDE.min(first_row + TILE_SIDE),
         )
     }
 }
@@ -171,11 +171,11 @@ impl Hash for TileAt {
 /// It is seen as the list of the tiles that are still to come.
 #[derive(Clone, Debug, Drop)]
 pub struct Tiles {
-    first_column: u32,
-    end_column: u32,
+    first_tile_column: u32,
+    end_tile_column: u32,
     column: u32,
     row: u32,
-    end_row: u32,
+    end_tile_row: u32,
 }
 
 impl Model for Tiles {
@@ -184,9 +184,9 @@ impl Model for Tiles {
 
     ghost Value = { List Tile };
 
-    ghost view = { λ t. tiles_left t.first_column t.end_column t.column t.row t.end_row };
+    ghost view = { λ t. tiles_left t.first_tile_column t.end_tile_column t.column t.row t.end_tile_row };
 
-    ghost invariant = { λ t. AreLeft t.first_column t.end_column t.column t.row t.end_row };
+    ghost invariant = { λ t. AreLeft t.first_tile_column t.end_tile_column t.column t.row t.end_tile_row };
 }
 
 impl Iterator for Tiles {
@@ -197,13 +197,13 @@ impl Iterator for Tiles {
     ghost remaining = { item_count (λ tiles. tiles) };
 
     fn next(&mut self) -> Option<TileAt> {
-        if self.row >= self.end_row {
+        if self.row >= self.end_tile_row {
             return None;
         }
         let tile = TileAt::from_indices(self.column, self.row);
         self.column += 1;
-        if self.column == self.end_column {
-            self.column = self.first_column;
+        if self.column == self.end_tile_column {
+            self.column = self.first_tile_column;
             self.row += 1;
         }
         Some(tile)
@@ -220,13 +220,13 @@ impl Rect {
         ensures count { length result ≡ tile_lines self.now * tile_columns self.now }
         ensures few { length result ≤ 2 ^ 38 }
     {
-        let first_column = self.left() / TILE_SIDE;
+        let first_tile_column = self.first_column() / TILE_SIDE;
         Tiles {
-            first_column,
-            end_column: self.right().div_ceil(TILE_SIDE),
-            column: first_column,
-            row: self.top() / TILE_SIDE,
-            end_row: self.bottom().div_ceil(TILE_SIDE),
+            first_tile_column,
+            end_tile_column: self.end_column().div_ceil(TILE_SIDE),
+            column: first_tile_column,
+            row: self.first_row() / TILE_SIDE,
+            end_tile_row: self.end_row().div_ceil(TILE_SIDE),
         }
     }
 }

@@ -1,4 +1,4 @@
--- How many whole blocks two rows of equally many groups have, and what is left behind them. The blocks are counted in
+-- How many whole blocks two rows of equally many groups have, and what is left after them. The blocks are counted in
 -- the first row, of l bytes and groups of u; the other has m bytes and groups of v. A block has `count` groups.
 use Rattle.std.proofs.Common.{◌≡◌, ℕ, ◌+◌, ◌*◌, ◌/◌, ◌%◌, ◌<◌, ◌≤◌, ap, ◌∙◌, arith}
 use Rattle.std.proofs.Math.Nat.{mul-le-mul_left, mul-lt-mul_of_pos_left, mul-div_cancel, mul-div-mul_right, le-div_iff_mul-le, lt-div-mul-add}
@@ -28,7 +28,7 @@ module _ (l m u v count block other : ℕ) (whole : l % u ≡ 0) (whole_other : 
   short_groups : n < (l / block + 1) * count
   short_groups = omega (arith, lt-div-mul-add {a = n} some, ap (λ k. k * count) blocks_of_groups)
 
-  -- and less than a block behind them
+  -- and less than a block after them
   pub short : m < (l / block + 1) * other
   short = omega (arith, mul-lt-mul_of_pos_left short_groups some_v, ap (λ k. (l / block + 1) * k) at_other, other_of_groups)
 

@@ -1,12 +1,12 @@
 -- The parts of pixels as the channels of other formats.
 use Rattle.std.proofs.Common.{◌≡◌, ℕ, zero, suc, ◌+◌, ◌*◌, ◌/◌, ◌%◌, ◌<◌, ◌≤◌, List, length, refl, sym, ap, ◌∙◌, subst, arith, rules}
-use Rattle.sample_rows.specs.declared.format.Format.{Format}
-use Rattle.sample_rows.specs.declared.format.Format.TheVariants.{Y8, YA8, RGB8, RGBA8, Y16, YA16, RGB16, RGBA16}
-use Rattle.sample_rows.specs.Convert.{converted_pixel, rechannelled, rescaled}
-use Rattle.sample_rows.specs.Format.{channels, depth, greatest, greatest_of, pixel_bytes}
+use Rattle.pixel_formats.specs.declared.format.Format.{Format}
+use Rattle.pixel_formats.specs.declared.format.Format.TheVariants.{Y8, YA8, RGB8, RGBA8, Y16, YA16, RGB16, RGBA16}
+use Rattle.pixel_formats.specs.Convert.{converted_pixel, rechannelled, rescaled}
+use Rattle.pixel_formats.specs.Format.{channels, depth, max_sample, max_sample_of, pixel_bytes}
 use Rattle.sample_rows.specs.Groups.{Maps, groups}
-use Rattle.pixel_lanes.specs.Parts.{part_for, parts_of_grey, parts_of_grey_alpha, parts_of_colours, parts_of_colours_alpha}
-use Rattle.sample_rows.specs.Row.{sample_at, HasPixels, Pixel, pixel_at}
+use Rattle.simd_pixels.specs.Components.{component_for, components_of_gray, components_of_gray_alpha, components_of_colors, components_of_colors_alpha}
+use Rattle.pixel_formats.specs.Row.{sample_at, HasPixels, Pixel, pixel_at}
 use Rattle.sample_rows.proofs.SampleLaws.{HasPixels-from_samples}
 
 -- what holds of the channels of a pixel
@@ -17,41 +17,41 @@ each_channel P n few a b c d (suc (suc zero)) lt = c lt
 each_channel P n few a b c d (suc (suc (suc zero))) lt = d lt
 each_channel P n few a b c d (suc (suc (suc (suc i)))) lt = absurd (omega arith)
 
--- grey pixels without alpha
-pub grey_to : (from to : Format) → channels from ≡ 1 → (pixel : Pixel) (i : ℕ) → i < channels to → parts_of_grey (greatest from) pixel (part_for (channels to) i) ≡ rechannelled from to pixel i
-grey_to Y8 Y8 is pixel =
-    each_channel (λ i. parts_of_grey (greatest Y8) pixel (part_for 1 i) ≡ rechannelled Y8 Y8 pixel i) 1 (omega arith) (λ lt. search rules) (λ lt. search rules) (λ lt. search rules) (λ lt. search rules)
-grey_to Y8 to is pixel =
-    each_channel (λ i. parts_of_grey (greatest Y8) pixel (part_for (channels to) i) ≡ rechannelled Y8 to pixel i) (channels to) (omega arith) (λ lt. search rules) (λ lt. search rules) (λ lt. search rules) (λ lt. search rules)
-grey_to Y16 Y8 is pixel =
-    each_channel (λ i. parts_of_grey (greatest Y16) pixel (part_for 1 i) ≡ rechannelled Y16 Y8 pixel i) 1 (omega arith) (λ lt. search rules) (λ lt. search rules) (λ lt. search rules) (λ lt. search rules)
-grey_to Y16 to is pixel =
-    each_channel (λ i. parts_of_grey (greatest Y16) pixel (part_for (channels to) i) ≡ rechannelled Y16 to pixel i) (channels to) (omega arith) (λ lt. search rules) (λ lt. search rules) (λ lt. search rules) (λ lt. search rules)
-grey_to from to is pixel = λ i lt. absurd (omega arith)
+-- gray pixels without alpha
+pub gray_to : (from to : Format) → channels from ≡ 1 → (pixel : Pixel) (i : ℕ) → i < channels to → components_of_gray (max_sample from) pixel (component_for (channels to) i) ≡ rechannelled from to pixel i
+gray_to Y8 Y8 is pixel =
+    each_channel (λ i. components_of_gray (max_sample Y8) pixel (component_for 1 i) ≡ rechannelled Y8 Y8 pixel i) 1 (omega arith) (λ lt. search rules) (λ lt. search rules) (λ lt. search rules) (λ lt. search rules)
+gray_to Y8 to is pixel =
+    each_channel (λ i. components_of_gray (max_sample Y8) pixel (component_for (channels to) i) ≡ rechannelled Y8 to pixel i) (channels to) (omega arith) (λ lt. search rules) (λ lt. search rules) (λ lt. search rules) (λ lt. search rules)
+gray_to Y16 Y8 is pixel =
+    each_channel (λ i. components_of_gray (max_sample Y16) pixel (component_for 1 i) ≡ rechannelled Y16 Y8 pixel i) 1 (omega arith) (λ lt. search rules) (λ lt. search rules) (λ lt. search rules) (λ lt. search rules)
+gray_to Y16 to is pixel =
+    each_channel (λ i. components_of_gray (max_sample Y16) pixel (component_for (channels to) i) ≡ rechannelled Y16 to pixel i) (channels to) (omega arith) (λ lt. search rules) (λ lt. search rules) (λ lt. search rules) (λ lt. search rules)
+gray_to from to is pixel = λ i lt. absurd (omega arith)
 
--- pixels of three colours without alpha
-pub colours_to : (from to : Format) → channels from ≡ 3 → (pixel : Pixel) (i : ℕ) → i < channels to → parts_of_colours (greatest from) pixel (part_for (channels to) i) ≡ rechannelled from to pixel i
-colours_to RGB8 Y8 is pixel =
-    each_channel (λ i. parts_of_colours (greatest RGB8) pixel (part_for 1 i) ≡ rechannelled RGB8 Y8 pixel i) 1 (omega arith) (λ lt. search rules) (λ lt. search rules) (λ lt. search rules) (λ lt. search rules)
-colours_to RGB8 to is pixel =
-    each_channel (λ i. parts_of_colours (greatest RGB8) pixel (part_for (channels to) i) ≡ rechannelled RGB8 to pixel i) (channels to) (omega arith) (λ lt. search rules) (λ lt. search rules) (λ lt. search rules) (λ lt. search rules)
-colours_to RGB16 Y8 is pixel =
-    each_channel (λ i. parts_of_colours (greatest RGB16) pixel (part_for 1 i) ≡ rechannelled RGB16 Y8 pixel i) 1 (omega arith) (λ lt. search rules) (λ lt. search rules) (λ lt. search rules) (λ lt. search rules)
-colours_to RGB16 to is pixel =
-    each_channel (λ i. parts_of_colours (greatest RGB16) pixel (part_for (channels to) i) ≡ rechannelled RGB16 to pixel i) (channels to) (omega arith) (λ lt. search rules) (λ lt. search rules) (λ lt. search rules) (λ lt. search rules)
-colours_to from to is pixel = λ i lt. absurd (omega arith)
+-- pixels of three colors without alpha
+pub colors_to : (from to : Format) → channels from ≡ 3 → (pixel : Pixel) (i : ℕ) → i < channels to → components_of_colors (max_sample from) pixel (component_for (channels to) i) ≡ rechannelled from to pixel i
+colors_to RGB8 Y8 is pixel =
+    each_channel (λ i. components_of_colors (max_sample RGB8) pixel (component_for 1 i) ≡ rechannelled RGB8 Y8 pixel i) 1 (omega arith) (λ lt. search rules) (λ lt. search rules) (λ lt. search rules) (λ lt. search rules)
+colors_to RGB8 to is pixel =
+    each_channel (λ i. components_of_colors (max_sample RGB8) pixel (component_for (channels to) i) ≡ rechannelled RGB8 to pixel i) (channels to) (omega arith) (λ lt. search rules) (λ lt. search rules) (λ lt. search rules) (λ lt. search rules)
+colors_to RGB16 Y8 is pixel =
+    each_channel (λ i. components_of_colors (max_sample RGB16) pixel (component_for 1 i) ≡ rechannelled RGB16 Y8 pixel i) 1 (omega arith) (λ lt. search rules) (λ lt. search rules) (λ lt. search rules) (λ lt. search rules)
+colors_to RGB16 to is pixel =
+    each_channel (λ i. components_of_colors (max_sample RGB16) pixel (component_for (channels to) i) ≡ rechannelled RGB16 to pixel i) (channels to) (omega arith) (λ lt. search rules) (λ lt. search rules) (λ lt. search rules) (λ lt. search rules)
+colors_to from to is pixel = λ i lt. absurd (omega arith)
 
--- pixels of three colours with alpha
-pub colours_alpha_to : (from to : Format) → channels from ≡ 4 → (pixel : Pixel) (i : ℕ) → i < channels to → parts_of_colours_alpha pixel (part_for (channels to) i) ≡ rechannelled from to pixel i
-colours_alpha_to RGBA8 Y8 is pixel =
-    each_channel (λ i. parts_of_colours_alpha pixel (part_for 1 i) ≡ rechannelled RGBA8 Y8 pixel i) 1 (omega arith) (λ lt. search rules) (λ lt. search rules) (λ lt. search rules) (λ lt. search rules)
-colours_alpha_to RGBA8 to is pixel =
-    each_channel (λ i. parts_of_colours_alpha pixel (part_for (channels to) i) ≡ rechannelled RGBA8 to pixel i) (channels to) (omega arith) (λ lt. search rules) (λ lt. search rules) (λ lt. search rules) (λ lt. search rules)
-colours_alpha_to RGBA16 Y8 is pixel =
-    each_channel (λ i. parts_of_colours_alpha pixel (part_for 1 i) ≡ rechannelled RGBA16 Y8 pixel i) 1 (omega arith) (λ lt. search rules) (λ lt. search rules) (λ lt. search rules) (λ lt. search rules)
-colours_alpha_to RGBA16 to is pixel =
-    each_channel (λ i. parts_of_colours_alpha pixel (part_for (channels to) i) ≡ rechannelled RGBA16 to pixel i) (channels to) (omega arith) (λ lt. search rules) (λ lt. search rules) (λ lt. search rules) (λ lt. search rules)
-colours_alpha_to from to is pixel = λ i lt. absurd (omega arith)
+-- pixels of three colors with alpha
+pub colors_alpha_to : (from to : Format) → channels from ≡ 4 → (pixel : Pixel) (i : ℕ) → i < channels to → components_of_colors_alpha pixel (component_for (channels to) i) ≡ rechannelled from to pixel i
+colors_alpha_to RGBA8 Y8 is pixel =
+    each_channel (λ i. components_of_colors_alpha pixel (component_for 1 i) ≡ rechannelled RGBA8 Y8 pixel i) 1 (omega arith) (λ lt. search rules) (λ lt. search rules) (λ lt. search rules) (λ lt. search rules)
+colors_alpha_to RGBA8 to is pixel =
+    each_channel (λ i. components_of_colors_alpha pixel (component_for (channels to) i) ≡ rechannelled RGBA8 to pixel i) (channels to) (omega arith) (λ lt. search rules) (λ lt. search rules) (λ lt. search rules) (λ lt. search rules)
+colors_alpha_to RGBA16 Y8 is pixel =
+    each_channel (λ i. components_of_colors_alpha pixel (component_for 1 i) ≡ rechannelled RGBA16 Y8 pixel i) 1 (omega arith) (λ lt. search rules) (λ lt. search rules) (λ lt. search rules) (λ lt. search rules)
+colors_alpha_to RGBA16 to is pixel =
+    each_channel (λ i. components_of_colors_alpha pixel (component_for (channels to) i) ≡ rechannelled RGBA16 to pixel i) (channels to) (omega arith) (λ lt. search rules) (λ lt. search rules) (λ lt. search rules) (λ lt. search rules)
+colors_alpha_to from to is pixel = λ i lt. absurd (omega arith)
 
 -- where the channels are the same they stay
 pub same_channels : (from to : Format) → channels from ≡ channels to → (pixel : Pixel) (i : ℕ) → i < channels to → pixel i ≡ rechannelled from to pixel i
@@ -91,13 +91,13 @@ same_channels from to same pixel = λ i lt. absurd (omega arith)
 
 -- a row whose pixels are made of the parts of others
 pub converted_by_parts : (from to : Format) (s d n : ℕ) (value : ℕ → Pixel → ℕ → ℕ) (src dst : List ℕ) → depth from ≡ s → depth to ≡ d → channels from ≡ n
-    → ((pixel : Pixel) (i : ℕ) → i < channels to → value (greatest from) pixel i ≡ rechannelled from to pixel i)
-    → Maps (groups n s) (groups (channels to) d) (length dst / (channels to * d)) (λ pixel i. rescaled s d (value (greatest_of s) pixel i)) src dst
+    → ((pixel : Pixel) (i : ℕ) → i < channels to → value (max_sample from) pixel i ≡ rechannelled from to pixel i)
+    → Maps (groups n s) (groups (channels to) d) (length dst / (channels to * d)) (λ pixel i. rescaled s d (value (max_sample_of s) pixel i)) src dst
     → HasPixels to dst (λ k. converted_pixel from to (pixel_at from src k))
 converted_by_parts from to s d n value src dst at_depth to_depth has_channels same maps k channel lt within =
-    let AtDepth : ℕ → Type 0 = λ s. Maps (groups n s) (groups (channels to) d) (length dst / (channels to * d)) (λ pixel i. rescaled s d (value (greatest_of s) pixel i)) src dst in
-    let ToDepth : ℕ → Type 0 = λ d. Maps (groups n (depth from)) (groups (channels to) d) (length dst / (channels to * d)) (λ pixel i. rescaled (depth from) d (value (greatest from) pixel i)) src dst in
-    let HasChannels : ℕ → Type 0 = λ n. Maps (groups n (depth from)) (groups (channels to) (depth to)) (length dst / (channels to * depth to)) (λ pixel i. rescaled (depth from) (depth to) (value (greatest from) pixel i)) src dst in
+    let AtDepth : ℕ → Type 0 = λ s. Maps (groups n s) (groups (channels to) d) (length dst / (channels to * d)) (λ pixel i. rescaled s d (value (max_sample_of s) pixel i)) src dst in
+    let ToDepth : ℕ → Type 0 = λ d. Maps (groups n (depth from)) (groups (channels to) d) (length dst / (channels to * d)) (λ pixel i. rescaled (depth from) d (value (max_sample from) pixel i)) src dst in
+    let HasChannels : ℕ → Type 0 = λ n. Maps (groups n (depth from)) (groups (channels to) (depth to)) (length dst / (channels to * depth to)) (λ pixel i. rescaled (depth from) (depth to) (value (max_sample from) pixel i)) src dst in
     subst HasChannels (sym has_channels) (subst ToDepth (sym to_depth) (subst AtDepth (sym at_depth) maps)) k channel lt within
     ∙ ap (rescaled (depth from) (depth to)) (same (pixel_at from src k) channel within)
 

@@ -29,7 +29,7 @@ module _ (c num den half unit factor offset : ℕ) (some : 0 < den)
 -- A gain of num / den for samples of so many levels, where `last` is the last sample that comes out below them.
 module _ (num den levels last : ℕ) (few_num : num ≤ 65535) (some : 0 < den) (few_den : den ≤ 65535) (some_levels : 0 < levels) (few_levels : levels ≤ 65536)
     (bound : last < levels) (within : last * num + den / 2 < levels * den)
-    (above : (colour : ℕ) → last < colour → colour < levels → levels * den ≤ colour * num + den / 2) where
+    (above : (color : ℕ) → last < color → color < levels → levels * den ≤ color * num + den / 2) where
   abbrev unit : ℕ
   unit = 65536 * levels
 
@@ -76,13 +76,13 @@ module _ (num den levels last : ℕ) (few_num : num ≤ 65535) (some : 0 < den) 
   factor_fits = omega (arith, mul-le-mul {n₁ = 1} {m₁ = 1} {n₂ = unit} {m₂ = levels} some_unit some_levels)
 
   -- what comes out
-  pub scaled_is_gained : (cap colour : ℕ) → cap < levels → colour < levels → min cap (cond (leb colour last) ((colour * factor + offset) / unit) (levels - 1)) ≡ min cap ((colour * num + den / 2) / den)
-  scaled_is_gained cap colour cap_lt lt = go (leb colour last) refl
+  pub scaled_is_gained : (cap color : ℕ) → cap < levels → color < levels → min cap (cond (leb color last) ((color * factor + offset) / unit) (levels - 1)) ≡ min cap ((color * num + den / 2) / den)
+  scaled_is_gained cap color cap_lt lt = go (leb color last) refl
     where
-      go : (b : Bool) → leb colour last ≡ b → min cap (cond b ((colour * factor + offset) / unit) (levels - 1)) ≡ min cap ((colour * num + den / 2) / den)
+      go : (b : Bool) → leb color last ≡ b → min cap (cond b ((color * factor + offset) / unit) (levels - 1)) ≡ min cap ((color * num + den / 2) / den)
       go true e =
           let le = leb-true _ _ e in
-          ap (min cap) (ap (λ n. (n + offset) / unit) (same_product colour le) ∙ exact colour le)
+          ap (min cap) (ap (λ n. (n + offset) / unit) (same_product color le) ∙ exact color le)
       go false e =
-          let many : levels ≤ (colour * num + den / 2) / den = le-div levels (colour * num + den / 2) den some (above colour (leb-false _ _ e) lt) in
+          let many : levels ≤ (color * num + den / 2) / den = le-div levels (color * num + den / 2) den some (above color (leb-false _ _ e) lt) in
           omega arith

@@ -5,7 +5,7 @@ use Rattle.std.proofs.lemmas.Nat.{mul-add-lt}
 use Rattle.std.proofs.lemmas.Bool.{cases_lt}
 use Rattle.std.proofs.lemmas.List.{get_or-drop, get_or_append_left, get_or-append_right, get_or_past, get_or-replicate}
 use Rattle.std.proofs.lemmas.Simd.{length-replicate}
-use Rattle.sample_lanes.proofs.SliceLaws.{sample_at-below, sample_at-shift}
+use Rattle.simd_samples.proofs.SliceLaws.{sample_at-below, sample_at-shift}
 use Rattle.sample_rows.specs.Groups.{Groups, group_bytes, group_at, MapsPairs}
 
 -- the groups of a part of a row
@@ -20,7 +20,7 @@ group_at-below g a b m n k i far lt within same =
     let in_groups : k * g.size + i + 1 ≤ m * g.size = omega (arith, mul-add-lt k g.size i m lt within) in
     sample_at-below g.depth a b n (k * g.size + i) (omega (arith, mul-le-mul_left g.depth in_groups)) same
 
--- rows of which m groups were made before, and the rest behind them now
+-- rows of which m groups were made before, and the rest after them now
 pub MapsPairs-extended : (first second to : Groups) (value : (ℕ → ℕ) → (ℕ → ℕ) → ℕ → ℕ) (a b old new : List ℕ) (m n total : ℕ) → n ≡ m * group_bytes to
     → MapsPairs first second to m value a b old
     → ((p : ℕ) → p < n → get_or new p 0 ≡ get_or old p 0)
@@ -29,13 +29,13 @@ pub MapsPairs-extended : (first second to : Groups) (value : (ℕ → ℕ) → (
 MapsPairs-extended first second to value a b old new m n total at_n before kept made k i lt within =
     elim (cases_lt k m) [
       | inl below ↦ group_at-below to new old m n k i (omega arith) below within kept ∙ before k i below within
-      | inr behind ↦
+      | inr after ↦
           let P : ℕ → Type 0 = λ l. group_at to new l i ≡ value (group_at first a l) (group_at second b l) i in
           let at : m + (k - m) ≡ k = omega arith in
           subst P at (made (k - m) i (omega arith) within)
     ]
 
--- a row with zeros behind it reads as the row alone, since 0 is read past its end
+-- a row with zeros after it reads as the row alone, since 0 is read past its end
 pub get_or-zeros : (n i : ℕ) → ◌≡◌ {A = ℕ} (get_or (replicate n 0) i 0) 0
 get_or-zeros n i = elim (cases_lt i n) [ inl lt ↦ get_or-replicate n i 0 0 lt | inr past ↦ get_or_past (replicate n 0) i 0 (omega (arith, length-replicate {A = ℕ} n 0)) ]
 

@@ -1,7 +1,7 @@
 pub mod RowLaws
 pub mod GroupLaws
 pub mod BlockLaws
-pub mod RecolourLaws
+pub mod RecolorLaws
 pub mod SampleLaws
 pub mod VectorLaws
 pub mod GainLaws

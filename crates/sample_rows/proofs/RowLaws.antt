@@ -1,9 +1,9 @@
 -- How many pixels a row has.
 use Rattle.std.proofs.Common.{◌≡◌, ℕ, ◌*◌, List, length, arith}
-use Rattle.sample_rows.specs.declared.format.Format.{Format}
-use Rattle.sample_rows.specs.declared.format.Format.TheVariants.{Y8}
-use Rattle.sample_rows.specs.Format.{pixel_bytes}
-use Rattle.sample_rows.specs.Row.{pixel_count}
+use Rattle.pixel_formats.specs.declared.format.Format.{Format}
+use Rattle.pixel_formats.specs.declared.format.Format.TheVariants.{Y8}
+use Rattle.pixel_formats.specs.Format.{pixel_bytes}
+use Rattle.pixel_formats.specs.Row.{pixel_count}
 
 -- a row of n pixels has n whole pixels
 pub pixel_count_of : (f : Format) (row : List ℕ) (n : ℕ) → length row ≡ n * pixel_bytes f → pixel_count f row ≡ n

@@ -1,10 +1,10 @@
 -- Rows that come from others sample by sample, and their pixels.
 use Rattle.std.proofs.Common.{◌≡◌, ℕ, ◌+◌, ◌*◌, ◌/◌, ◌%◌, ◌<◌, List, length, subst, arith}
-use Rattle.sample_rows.specs.declared.format.Format.{Format}
-use Rattle.sample_rows.specs.declared.format.Format.TheVariants.{Y8}
-use Rattle.sample_rows.specs.Format.{channels, depth, pixel_bytes}
+use Rattle.pixel_formats.specs.declared.format.Format.{Format}
+use Rattle.pixel_formats.specs.declared.format.Format.TheVariants.{Y8}
+use Rattle.pixel_formats.specs.Format.{channels, depth, pixel_bytes}
 use Rattle.sample_rows.specs.Groups.{groups, Maps, MapsPairs}
-use Rattle.sample_rows.specs.Row.{sample_at, HasPixels}
+use Rattle.pixel_formats.specs.Row.{sample_at, HasPixels}
 
 pub sample_at-mapped : (d : ℕ) (value : ℕ → ℕ) (n : ℕ) (src dst : List ℕ) → Maps (groups 1 d) (groups 1 d) n (λ sample i. value (sample i)) src dst → (j : ℕ) → j < n → sample_at d dst j ≡ value (sample_at d src j)
 sample_at-mapped d value n src dst maps j lt =

@@ -1,7 +1,7 @@
 -- Rows of means.
 use Rattle.std.specs.Prelude.{◌≡◌, ℕ, ◌+◌, ◌*◌, ◌/◌, ◌<◌, List, length}
-use Rattle.sample_rows.specs.Average.{mean_of_four}
-use Rattle.sample_rows.specs.Row.{sample_at}
+use Rattle.pixel_formats.specs.Average.{mean_of_four}
+use Rattle.pixel_formats.specs.Row.{sample_at}
 
 -- Each pixel of n samples is the mean of two neighbours of the one row and the two of the other.
 abbrev pub Averages : ℕ → ℕ → List ℕ → List ℕ → List ℕ → Type 0

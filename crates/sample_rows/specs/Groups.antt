@@ -1,6 +1,6 @@
 -- The samples of a row in groups of one size, as a kernel takes them: pixels, single samples, or pairs of pixels.
 use Rattle.std.specs.Prelude.{◌≡◌, ℕ, ◌+◌, ◌*◌, ◌/◌, ◌%◌, ◌<◌, List, length}
-use Rattle.sample_rows.specs.Row.{sample_at}
+use Rattle.pixel_formats.specs.Row.{sample_at}
 
 -- how many samples a group has, and how many bytes each
 pub record Groups : Type 0 where

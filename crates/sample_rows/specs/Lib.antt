@@ -1,15 +1,3 @@
-pub mod Format
-pub mod Row
 pub mod Groups
-pub mod Recolour
-pub mod Invert
-pub mod Threshold
-pub mod Add
-pub mod Mask
-pub mod Average
 pub mod SizeLaws
-pub mod Extremes
-pub mod Over
 pub mod Averages
-pub mod Gain
-pub mod Convert

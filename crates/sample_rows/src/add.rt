@@ -1,15 +1,15 @@
 //! Adding rows.
 
 ghost use Rattle.std.specs.Prelude.{◌≡◌, ℕ, ◌%◌, length};
-ghost use Rattle.sample_rows.specs.Add.{added, added_pixel};
-ghost use Rattle.sample_rows.specs.Format.{pixel_bytes};
-ghost use Rattle.sample_rows.specs.Row.{HasPixels, pixel_at};
+ghost use Rattle.pixel_formats.specs.Add.{added, added_pixel};
+ghost use Rattle.pixel_formats.specs.Format.{pixel_bytes};
+ghost use Rattle.pixel_formats.specs.Row.{HasPixels, pixel_at};
 
 use crate::combine::{Combine, combine_rows};
 use crate::format::Format;
-use sample_lanes::{ByteLanes, Lanes, WordLanes};
+use simd_samples::{ByteLanes, Lanes, WordLanes};
 
-/// The sum of two samples, at most the greatest.
+/// The sum of two samples, at most the largest.
 #[derive(Clone, Copy)]
 struct Add;
 
@@ -22,8 +22,8 @@ impl<L: Lanes> Combine<L> for Add {
     }
 }
 
-/// Writes to `dst` the sums of the samples of two rows. A sum above the greatest sample becomes
-/// the greatest sample.
+/// Writes to `dst` the sums of the samples of two rows. A sum above the largest sample becomes
+/// the largest sample.
 pub fn row_add(f: Format, a: &[u8], b: &[u8], dst: &mut [u8])
     requires whole { length a.now % pixel_bytes f ≡ 0 }
     requires same_length { length b.now ≡ length a.now }

@@ -2,19 +2,19 @@
 
 ghost use Rattle.std.specs.Prelude.{◌≡◌, ℕ, ◌+◌, ◌*◌, ◌/◌, ◌%◌, ◌<◌, ◌≤◌, length, refl};
 ghost use Rattle.std.proofs.Common.{rules};
-ghost use Rattle.sample_rows.specs.Average.{mean_of_four, mean_pixel};
+ghost use Rattle.pixel_formats.specs.Average.{mean_of_four, mean_pixel};
 ghost use Rattle.sample_rows.specs.Averages.{Averages};
-ghost use Rattle.sample_rows.specs.Format.{pixel_bytes};
+ghost use Rattle.pixel_formats.specs.Format.{pixel_bytes};
 ghost use Rattle.sample_rows.specs.Groups.{MapsPairs, SameGroups, groups};
-ghost use Rattle.sample_lanes.specs.Lanes.{HoldTwo};
-ghost use Rattle.sample_rows.specs.Row.{HasPixels, pixel_at, sample_at};
+ghost use Rattle.simd_samples.specs.Lanes.{HoldTwo};
+ghost use Rattle.pixel_formats.specs.Row.{HasPixels, pixel_at, sample_at};
 ghost use Rattle.sample_rows.specs.SizeLaws.{pair_bytes, some_bytes, twice_some, vector_bytes};
-ghost use Rattle.pixel_lanes.specs.SizeLaws.{planes_bytes};
+ghost use Rattle.simd_pixels.specs.SizeLaws.{planes_bytes};
 
 use crate::blocks::{PairKernel, transform_rows};
 use crate::format::Format;
-use pixel_lanes::{AlphaOfFour, AlphaOfTwo, Layout, Opaque};
-use sample_lanes::{ByteLanes, Lanes, WordLanes, load_three, load_two, store_three};
+use simd_pixels::{AlphaOfFour, AlphaOfTwo, Layout, Opaque};
+use simd_samples::{ByteLanes, Lanes, WordLanes, load_three, load_two, store_three};
 use std::marker::PhantomData;
 
 /// Writes to `dst` a row half as long as `up` and `down`, the row below it: each of its pixels is
@@ -30,11 +30,11 @@ pub fn row_average4(f: Format, up: &[u8], down: &[u8], dst: &mut [u8])
     match f {
         Format::Y8 => average_pixels::<ByteLanes, Opaque>(up, down, dst),
         Format::YA8 => average_pixels::<ByteLanes, AlphaOfTwo>(up, down, dst),
-        Format::RGB8 => average_colours::<ByteLanes>(up, down, dst),
+        Format::RGB8 => average_colors::<ByteLanes>(up, down, dst),
         Format::RGBA8 => average_pixels::<ByteLanes, AlphaOfFour>(up, down, dst),
         Format::Y16 => average_pixels::<WordLanes, Opaque>(up, down, dst),
         Format::YA16 => average_pixels::<WordLanes, AlphaOfTwo>(up, down, dst),
-        Format::RGB16 => average_colours::<WordLanes>(up, down, dst),
+        Format::RGB16 => average_colors::<WordLanes>(up, down, dst),
         Format::RGBA16 => average_pixels::<WordLanes, AlphaOfFour>(up, down, dst),
     }
 }
@@ -47,12 +47,12 @@ fn average_pixels<L: Lanes, P: Layout>(up: &[u8], down: &[u8], dst: &mut [u8])
     transform_rows(&Average::<L, P> { of: PhantomData }, up, down, dst);
 }
 
-fn average_colours<L: Lanes>(up: &[u8], down: &[u8], dst: &mut [u8])
+fn average_colors<L: Lanes>(up: &[u8], down: &[u8], dst: &mut [u8])
     requires first { SameGroups (groups 6 L.depth) (groups 3 L.depth) up.now dst.old }
     requires second { SameGroups (groups 6 L.depth) (groups 3 L.depth) down.now dst.old }
     ensures { Averages 3 L.depth up.now down.now dst.new }
 {
-    transform_rows(&AverageColours::<L> { of: PhantomData }, up, down, dst);
+    transform_rows(&AverageColors::<L> { of: PhantomData }, up, down, dst);
 }
 
 /// The means of two pixels of one row and the two below them.
@@ -123,13 +123,13 @@ fn mean_of_pixels<L: Lanes, P: Layout>(up: (L, L), down: (L, L)) -> L
     first.mean_of_four(second, third, fourth)
 }
 
-/// The same of pixels of three colours, which do not fill vectors.
+/// The same of pixels of three colors, which do not fill vectors.
 #[derive(Clone, Copy)]
-struct AverageColours<L> {
+struct AverageColors<L> {
     of: PhantomData<L>,
 }
 
-impl<L: Lanes> PairKernel for AverageColours<L> {
+impl<L: Lanes> PairKernel for AverageColors<L> {
     ghost value = { λ s up down i. mean_of_four (up i) (up (3 + i)) (down i) (down (3 + i)) };
 
     ghost first = { groups 6 L.depth };
@@ -154,8 +154,8 @@ impl<L: Lanes> PairKernel for AverageColours<L> {
 
     #[inline(always)]
     fn block(&self, a: &[u8], b: &[u8], dst: &mut [u8]) {
-        let up = load_colours::<L>(a);
-        let down = load_colours::<L>(b);
+        let up = load_colors::<L>(a);
+        let down = load_colors::<L>(b);
         let red = mean_of_pixels::<L, Opaque>(up.red, down.red);
         let green = mean_of_pixels::<L, Opaque>(up.green, down.green);
         let blue = mean_of_pixels::<L, Opaque>(up.blue, down.blue);
@@ -184,16 +184,16 @@ impl<L: Lanes> PairKernel for AverageColours<L> {
     ghost written_few = { Prim.search (rules, L.few) };
 }
 
-/// The planes of thirty-two pixels of three colours, each of two vectors.
+/// The planes of thirty-two pixels of three colors, each of two vectors.
 #[derive(Clone, Copy)]
-struct WideColours<L> {
+struct WideColors<L> {
     red: (L, L),
     green: (L, L),
     blue: (L, L),
 }
 
 #[inline(always)]
-fn load_colours<L: Lanes>(src: &[u8]) -> WideColours<L>
+fn load_colors<L: Lanes>(src: &[u8]) -> WideColors<L>
     requires { 6 * L.BYTES ≤ length src.now }
     ensures red { HoldTwo (L.lane result.red.0) (L.lane result.red.1) (λ j. sample_at L.depth src.now (3 * j)) }
     ensures green { HoldTwo (L.lane result.green.0) (L.lane result.green.1) (λ j. sample_at L.depth src.now (3 * j + 1)) }
@@ -203,7 +203,7 @@ fn load_colours<L: Lanes>(src: &[u8]) -> WideColours<L>
     let (fourth, fifth, sixth) = load_three::<L>(src, 3);
     let near = first.split_thirds(second, third);
     let far = fourth.split_thirds(fifth, sixth);
-    WideColours {
+    WideColors {
         red: (near.0, far.0),
         green: (near.1, far.1),
         blue: (near.2, far.2),

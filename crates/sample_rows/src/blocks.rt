@@ -99,7 +99,7 @@ fn transform_block<K: PairKernel>(kernel: &K, a: &[u8], b: &[u8], dst: &mut [u8]
     );
 }
 
-/// Makes what is left of a row behind so many blocks, which is less than a block.
+/// Makes what is left of a row after so many blocks, which is less than a block.
 fn transform_rest<K: PairKernel>(kernel: &K, a: &[u8], b: &[u8], dst: &mut [u8], blocks: usize)
     requires first_begun { blocks * K.FIRST ≤ length a.now }
     requires first_short { length a.now < (blocks + 1) * K.FIRST }
@@ -121,7 +121,7 @@ fn transform_rest<K: PairKernel>(kernel: &K, a: &[u8], b: &[u8], dst: &mut [u8],
     rest.copy_from_slice(&written[..len]);
 }
 
-/// The bytes of a row, and zeros behind it.
+/// The bytes of a row, and zeros after it.
 fn padded(row: &[u8]) -> [u8; MOST]
     requires { length row.now ≤ 192 }
     ensures { (p : ℕ) → slice_index result p ≡ slice_index row.now p }

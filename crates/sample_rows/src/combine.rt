@@ -2,25 +2,25 @@
 
 ghost use Rattle.std.specs.Prelude.{◌≡◌, ℕ, ◌*◌, ◌/◌, ◌%◌, ◌<◌, ◌≤◌, length, refl};
 ghost use Rattle.std.proofs.Common.{rules};
-ghost use Rattle.sample_rows.specs.Format.{depth, greatest, greatest_of, pixel_bytes};
+ghost use Rattle.pixel_formats.specs.Format.{depth, max_sample, max_sample_of, pixel_bytes};
 ghost use Rattle.sample_rows.specs.Groups.{MapsPairs, SameGroups, groups};
-ghost use Rattle.sample_lanes.specs.Lanes.{Hold};
-ghost use Rattle.sample_rows.specs.Row.{HasPixels, pixel_at};
+ghost use Rattle.simd_samples.specs.Lanes.{Hold};
+ghost use Rattle.pixel_formats.specs.Row.{HasPixels, pixel_at};
 ghost use Rattle.sample_rows.specs.SizeLaws.{some_bytes, vector_bytes};
 
 use crate::blocks::{PairKernel, transform_rows};
 use crate::format::Format;
-use sample_lanes::Lanes;
+use simd_samples::Lanes;
 use std::marker::PhantomData;
 
 /// What two samples become.
 pub(crate) trait Combine<L: Lanes>: Copy {
-    /// What two samples become, where the greatest sample is given.
+    /// What two samples become, where the largest sample is given.
     ghost combined: { Self → ℕ → ℕ → ℕ → ℕ };
 
     /// Combines sixteen samples with sixteen others.
     fn combine(&self, a: L, b: L) -> L
-        ensures { Hold (L.lane result) (λ j. combined self.now (greatest_of L.depth) (L.lane a j) (L.lane b j)) };
+        ensures { Hold (L.lane result) (λ j. combined self.now (max_sample_of L.depth) (L.lane a j) (L.lane b j)) };
 }
 
 /// A combination of samples as a kernel.
@@ -31,7 +31,7 @@ struct Combining<L, K> {
 }
 
 impl<L: Lanes, K: Combine<L>> PairKernel for Combining<L, K> {
-    ghost value = { λ s a b i. K.combined s.combination (greatest_of L.depth) (a i) (b i) };
+    ghost value = { λ s a b i. K.combined s.combination (max_sample_of L.depth) (a i) (b i) };
 
     ghost first = { groups 1 L.depth };
 
@@ -91,7 +91,7 @@ pub(crate) fn combine_rows<L: Lanes, K: Combine<L>>(
     requires whole { length a.now % pixel_bytes f ≡ 0 }
     requires same_length { length b.now ≡ length a.now }
     requires written_length { length dst.old ≡ length a.now }
-    ensures { HasPixels f dst.new (λ k channel. K.combined combination (greatest f) (pixel_at f a.now k channel) (pixel_at f b.now k channel)) }
+    ensures { HasPixels f dst.new (λ k channel. K.combined combination (max_sample f) (pixel_at f a.now k channel) (pixel_at f b.now k channel)) }
 {
     let kernel = Combining::<L, K> {
         combination,

@@ -2,22 +2,22 @@
 
 ghost use Rattle.std.specs.Prelude.{◌≡◌, ℕ, ◌+◌, ◌*◌, ◌/◌, ◌%◌, ◌<◌, ◌≤◌, length};
 ghost use Rattle.std.proofs.Common.{rules};
-ghost use Rattle.sample_rows.specs.Convert.{converted_pixel, rescaled};
-ghost use Rattle.sample_rows.specs.Format.{channels, depth, greatest_of, pixel_bytes};
+ghost use Rattle.pixel_formats.specs.Convert.{converted_pixel, rescaled};
+ghost use Rattle.pixel_formats.specs.Format.{channels, depth, max_sample_of, pixel_bytes};
 ghost use Rattle.sample_rows.specs.Groups.{Maps, SameGroups, groups};
-ghost use Rattle.pixel_lanes.specs.Parts.{part_for};
-ghost use Rattle.sample_rows.specs.Row.{HasPixels, pixel_at, pixel_count};
+ghost use Rattle.simd_pixels.specs.Components.{component_for};
+ghost use Rattle.pixel_formats.specs.Row.{HasPixels, pixel_at, pixel_count};
 ghost use Rattle.sample_rows.specs.SizeLaws.{some_bytes};
 
 use crate::blocks::{RowKernel, transform_row};
 use crate::format::Format;
-use pixel_lanes::{Colours, ColoursAlpha, FromParts, Grey, GreyAlpha, Parts};
-use sample_lanes::{ByteLanes, Lanes, Rescale, WordLanes};
+use simd_pixels::{Colors, ColorsAlpha, FromComponents, Gray, GrayAlpha, Components};
+use simd_samples::{ByteLanes, Lanes, Rescale, WordLanes};
 use std::marker::PhantomData;
 
 /// Writes the row `src` of one format to `dst` in another: first the channels are converted, at
-/// the depth that they have, and then the depth. Grey becomes three equal colours, three colours
-/// their mean; alpha is kept, left out, or added as the greatest sample. Samples are rounded to
+/// the depth that they have, and then the depth. Gray becomes three equal colors, three colors
+/// their mean; alpha is kept, left out, or added as the largest sample. Samples are rounded to
 /// the nearest.
 pub fn convert_row(from: Format, src: &[u8], to: Format, dst: &mut [u8])
     requires whole { length src.now % pixel_bytes from ≡ 0 }
@@ -44,26 +44,26 @@ fn convert_layout<S: Rescale<D>, D: Lanes>(from: Format, src: &[u8], to: Format,
     ensures { HasPixels to dst.new (λ k. converted_pixel from to (pixel_at from src.now k)) }
 {
     if from.channels() == to.channels() {
-        return convert_pixels::<S, D, Grey<S>, Grey<D>>(src, dst);
+        return convert_pixels::<S, D, Gray<S>, Gray<D>>(src, dst);
     }
     match from.channels() {
-        1 => convert_channels::<S, D, Grey<S>>(src, to, dst),
-        2 => convert_channels::<S, D, GreyAlpha<S>>(src, to, dst),
-        3 => convert_channels::<S, D, Colours<S>>(src, to, dst),
-        _ => convert_channels::<S, D, ColoursAlpha<S>>(src, to, dst),
+        1 => convert_channels::<S, D, Gray<S>>(src, to, dst),
+        2 => convert_channels::<S, D, GrayAlpha<S>>(src, to, dst),
+        3 => convert_channels::<S, D, Colors<S>>(src, to, dst),
+        _ => convert_channels::<S, D, ColorsAlpha<S>>(src, to, dst),
     }
 }
 
-fn convert_channels<S: Rescale<D>, D: Lanes, P: Parts<S>>(src: &[u8], to: Format, dst: &mut [u8])
+fn convert_channels<S: Rescale<D>, D: Lanes, P: Components<S>>(src: &[u8], to: Format, dst: &mut [u8])
     requires { SameGroups (groups P.channels S.depth) (groups (channels to) D.depth) src.now dst.old }
     ensures { Maps (groups P.channels S.depth) (groups (channels to) D.depth) (length dst.new / (channels to * D.depth))
-        (λ pixel i. rescaled S.depth D.depth (P.parts (greatest_of S.depth) pixel (part_for (channels to) i))) src.now dst.new }
+        (λ pixel i. rescaled S.depth D.depth (P.components (max_sample_of S.depth) pixel (component_for (channels to) i))) src.now dst.new }
 {
     match to.channels() {
-        1 => convert_pixels::<S, D, P, Grey<D>>(src, dst),
-        2 => convert_pixels::<S, D, P, GreyAlpha<D>>(src, dst),
-        3 => convert_pixels::<S, D, P, Colours<D>>(src, dst),
-        _ => convert_pixels::<S, D, P, ColoursAlpha<D>>(src, dst),
+        1 => convert_pixels::<S, D, P, Gray<D>>(src, dst),
+        2 => convert_pixels::<S, D, P, GrayAlpha<D>>(src, dst),
+        3 => convert_pixels::<S, D, P, Colors<D>>(src, dst),
+        _ => convert_pixels::<S, D, P, ColorsAlpha<D>>(src, dst),
     }
 }
 
@@ -73,8 +73,8 @@ struct Conversion<S, D, P, Q> {
     of: PhantomData<(S, D, P, Q)>,
 }
 
-impl<S: Rescale<D>, D: Lanes, P: Parts<S>, Q: FromParts<D>> RowKernel for Conversion<S, D, P, Q> {
-    ghost value = { λ s pixel i. rescaled S.depth D.depth (P.parts (greatest_of S.depth) pixel (part_for Q.channels i)) };
+impl<S: Rescale<D>, D: Lanes, P: Components<S>, Q: FromComponents<D>> RowKernel for Conversion<S, D, P, Q> {
+    ghost value = { λ s pixel i. rescaled S.depth D.depth (P.components (max_sample_of S.depth) pixel (component_for Q.channels i)) };
 
     ghost from = { groups P.channels S.depth };
 
@@ -92,7 +92,7 @@ impl<S: Rescale<D>, D: Lanes, P: Parts<S>, Q: FromParts<D>> RowKernel for Conver
 
     #[inline(always)]
     fn block(&self, src: &[u8], dst: &mut [u8]) {
-        Q::from_parts::<S, P>(P::load(src)).store(dst);
+        Q::from_components::<S, P>(P::load(src)).store(dst);
     }
 
     ghost some_groups = { Prim.search rules };
@@ -110,10 +110,10 @@ impl<S: Rescale<D>, D: Lanes, P: Parts<S>, Q: FromParts<D>> RowKernel for Conver
     ghost written_few = { Prim.search (rules, Q.few) };
 }
 
-fn convert_pixels<S: Rescale<D>, D: Lanes, P: Parts<S>, Q: FromParts<D>>(src: &[u8], dst: &mut [u8])
+fn convert_pixels<S: Rescale<D>, D: Lanes, P: Components<S>, Q: FromComponents<D>>(src: &[u8], dst: &mut [u8])
     requires { SameGroups (groups P.channels S.depth) (groups Q.channels D.depth) src.now dst.old }
     ensures { Maps (groups P.channels S.depth) (groups Q.channels D.depth) (length dst.new / (Q.channels * D.depth))
-        (λ pixel i. rescaled S.depth D.depth (P.parts (greatest_of S.depth) pixel (part_for Q.channels i))) src.now dst.new }
+        (λ pixel i. rescaled S.depth D.depth (P.components (max_sample_of S.depth) pixel (component_for Q.channels i))) src.now dst.new }
 {
     transform_row(Conversion::<S, D, P, Q> { of: PhantomData }, src, dst);
 }

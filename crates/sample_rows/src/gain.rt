@@ -1,25 +1,25 @@
-//! Multiplying colours.
+//! Multiplying colors.
 
 ghost use Rattle.std.specs.Prelude.{◌≡◌, ℕ, ◌+◌, ◌-◌, ◌*◌, ◌/◌, ◌%◌, ◌^◌, ◌<◌, ◌≤◌, length, min, nat_le, if◌then◌else◌, ⊤};
-ghost use Rattle.sample_rows.specs.Format.{greatest_of, pixel_bytes};
-ghost use Rattle.sample_rows.specs.Gain.{gained, gained_pixel, scaled};
-ghost use Rattle.sample_lanes.specs.Lanes.{Hold};
-ghost use Rattle.sample_lanes.specs.Samples.{unit_of};
-ghost use Rattle.sample_rows.specs.Row.{HasPixels, pixel_at};
+ghost use Rattle.pixel_formats.specs.Format.{max_sample_of, pixel_bytes};
+ghost use Rattle.pixel_formats.specs.Gain.{gained, gained_pixel, scaled};
+ghost use Rattle.simd_samples.specs.Lanes.{Hold};
+ghost use Rattle.pixel_formats.specs.Sample.{unit_of};
+ghost use Rattle.pixel_formats.specs.Row.{HasPixels, pixel_at};
 
 use crate::format::Format;
-use crate::recolour::{Recolour, recolour_row};
-use pixel_lanes::Layout;
-use sample_lanes::{ByteLanes, Lanes, WordLanes};
+use crate::recolor::{Recolor, recolor_row};
+use simd_pixels::Layout;
+use simd_samples::{ByteLanes, Lanes, WordLanes};
 use std::alloc::AllocError;
 use std::marker::PhantomData;
 
-/// The greatest number and divisor of a gain that is done by a multiplication.
+/// The largest number and divisor of a gain that is done by a multiplication.
 const MOST: u32 = 65_535;
 
-/// Multiplies each colour by num / den without a division: `factor` and `offset` are num / den and
-/// one half in parts of 65,536 times the levels of a sample. Colours above `last` would come out
-/// above the greatest sample.
+/// Multiplies each color by num / den without a division: `factor` and `offset` are num / den and
+/// one half in parts of 65,536 times the levels of a sample. Colors above `last` would come out
+/// above the largest sample.
 struct Gain<L: Lanes> {
     factor: u64,
     offset: u64,
@@ -27,7 +27,7 @@ struct Gain<L: Lanes> {
     of: PhantomData<L>,
     ghost factor_fits: { factor < L.LEVELS * unit_of L.depth },
     ghost small: { last * factor + offset < L.LEVELS * unit_of L.depth },
-    ghost last_fits: { last ≤ greatest_of L.depth },
+    ghost last_fits: { last ≤ max_sample_of L.depth },
 }
 
 impl<L: Lanes> Clone for Gain<L> {
@@ -42,33 +42,33 @@ impl<L: Lanes> Clone for Gain<L> {
 
 impl<L: Lanes> Copy for Gain<L> {}
 
-impl<L: Lanes> Recolour<L> for Gain<L> {
+impl<L: Lanes> Recolor<L> for Gain<L> {
     ghost change = { λ s. scaled L.depth s.factor s.offset s.last };
 
     #[inline(always)]
-    fn recolour<P: Layout>(&self, samples: L) -> L {
+    fn recolor<P: Layout>(&self, samples: L) -> L {
         let gained = self.gained(P::caps(samples), samples);
         P::with_alpha(gained, samples)
     }
 }
 
 impl<L: Lanes> Gain<L> {
-    /// Multiplies sixteen colours, each under its cap.
+    /// Multiplies sixteen colors, each under its cap.
     #[inline(always)]
-    fn gained(&self, caps: L, colours: L) -> L
-        ensures { Hold (L.lane result) (λ j. scaled L.depth self.now.factor self.now.offset self.now.last (L.lane caps j) (L.lane colours j)) }
+    fn gained(&self, caps: L, colors: L) -> L
+        ensures { Hold (L.lane result) (λ j. scaled L.depth self.now.factor self.now.offset self.now.last (L.lane caps j) (L.lane colors j)) }
     {
         let last = L::splat(self.last);
-        let scaled = colours.min(last).scale(self.factor, self.offset);
-        caps.min(scaled.greatest_above(colours, last))
+        let scaled = colors.min(last).scale(self.factor, self.offset);
+        caps.min(scaled.max_above(colors, last))
     }
 
     fn new(num: u32, den: u32) -> Self
         requires num { num ≤ 65535 }
         requires some { 0 < den }
         requires den { den ≤ 65535 }
-        ensures { (cap colour : ℕ) → cap ≤ greatest_of L.depth → colour ≤ greatest_of L.depth
-            → scaled L.depth result.factor result.offset result.last cap colour ≡ gained num den cap colour }
+        ensures { (cap color : ℕ) → cap ≤ max_sample_of L.depth → color ≤ max_sample_of L.depth
+            → scaled L.depth result.factor result.offset result.last cap color ≡ gained num den cap color }
     {
         let factors = factors_of(u64::from(num), u64::from(den), L::LEVELS);
         Gain {
@@ -98,9 +98,9 @@ fn factors_of(num: u64, den: u64, levels: u64) -> Factors
     ensures factor_fits { result.factor < levels * (65536 * levels) }
     ensures small { result.last * result.factor + result.offset < levels * (65536 * levels) }
     ensures last_fits { result.last < levels }
-    ensures exact { (cap colour : ℕ) → cap < levels → colour < levels
-        → min cap (if nat_le colour result.last then (colour * result.factor + result.offset) / (65536 * levels) else levels - 1)
-        ≡ gained num den cap colour }
+    ensures exact { (cap color : ℕ) → cap < levels → color < levels
+        → min cap (if nat_le color result.last then (color * result.factor + result.offset) / (65536 * levels) else levels - 1)
+        ≡ gained num den cap color }
 {
     let half = den / 2;
     let unit = 65_536 * levels;
@@ -112,7 +112,7 @@ fn factors_of(num: u64, den: u64, levels: u64) -> Factors
     }
 }
 
-/// The greatest sample that comes out below the number of levels.
+/// The largest sample that comes out below the number of levels.
 fn last_within(num: u64, den: u64, levels: u64) -> u32
     requires num { num ≤ 65535 }
     requires some { 0 < den }
@@ -121,7 +121,7 @@ fn last_within(num: u64, den: u64, levels: u64) -> u32
     requires few_levels { levels ≤ 65536 }
     ensures bound { result < levels }
     ensures within { result * num + den / 2 < levels * den }
-    ensures last { (colour : ℕ) → result < colour → colour < levels → levels * den ≤ colour * num + den / 2 }
+    ensures last { (color : ℕ) → result < color → color < levels → levels * den ≤ color * num + den / 2 }
 {
     if num == 0 {
         return (levels - 1) as u32;
@@ -130,7 +130,7 @@ fn last_within(num: u64, den: u64, levels: u64) -> u32
     (most / num).min(levels - 1) as u32
 }
 
-/// Divides each multiplied colour.
+/// Divides each multiplied color.
 #[derive(Clone, Copy)]
 struct Division {
     num: u32,
@@ -138,30 +138,30 @@ struct Division {
     ghost some: { 0 < den },
 }
 
-impl<L: Lanes> Recolour<L> for Division {
+impl<L: Lanes> Recolor<L> for Division {
     ghost change = { λ s. gained s.num s.den };
 
     #[inline(always)]
-    fn recolour<P: Layout>(&self, samples: L) -> L {
+    fn recolor<P: Layout>(&self, samples: L) -> L {
         let gained = self.gained(P::caps(samples), samples);
         P::with_alpha(gained, samples)
     }
 }
 
 impl Division {
-    /// Multiplies and divides sixteen colours, each under its cap.
+    /// Multiplies and divides sixteen colors, each under its cap.
     #[inline(always)]
-    fn gained<L: Lanes>(&self, caps: L, colours: L) -> L
-        ensures { Hold (L.lane result) (λ j. gained self.now.num self.now.den (L.lane caps j) (L.lane colours j)) }
+    fn gained<L: Lanes>(&self, caps: L, colors: L) -> L
+        ensures { Hold (L.lane result) (λ j. gained self.now.num self.now.den (L.lane caps j) (L.lane colors j)) }
     {
         let den = u64::from(self.den);
         let half = u64::from(self.den / 2);
-        caps.min(colours.divide(u64::from(self.num), half, den))
+        caps.min(colors.divide(u64::from(self.num), half, den))
     }
 }
 
-/// Writes the row `src` to `dst` with each colour multiplied by `num / den`, rounded to the nearest
-/// and at most its cap, which is the pixel's alpha or, in a format without alpha, the greatest
+/// Writes the row `src` to `dst` with each color multiplied by `num / den`, rounded to the nearest
+/// and at most its cap, which is the pixel's alpha or, in a format without alpha, the largest
 /// sample. Alpha stays.
 pub fn row_gain(f: Format, num: u32, den: u32, src: &[u8], dst: &mut [u8])
     requires some { 0 < den }
@@ -172,12 +172,12 @@ pub fn row_gain(f: Format, num: u32, den: u32, src: &[u8], dst: &mut [u8])
     if num > MOST || den > MOST {
         let division = Division { num, den };
         return match f.depth() {
-            1 => recolour_row::<ByteLanes, Division>(f, division, src, dst),
-            _ => recolour_row::<WordLanes, Division>(f, division, src, dst),
+            1 => recolor_row::<ByteLanes, Division>(f, division, src, dst),
+            _ => recolor_row::<WordLanes, Division>(f, division, src, dst),
         };
     }
     match f.depth() {
-        1 => recolour_row::<ByteLanes, Gain<ByteLanes>>(f, Gain::new(num, den), src, dst),
-        _ => recolour_row::<WordLanes, Gain<WordLanes>>(f, Gain::new(num, den), src, dst),
+        1 => recolor_row::<ByteLanes, Gain<ByteLanes>>(f, Gain::new(num, den), src, dst),
+        _ => recolor_row::<WordLanes, Gain<WordLanes>>(f, Gain::new(num, den), src, dst),
     }
 }

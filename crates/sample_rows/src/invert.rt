@@ -1,31 +1,31 @@
-//! Inverting colours.
+//! Inverting colors.
 
 ghost use Rattle.std.specs.Prelude.{◌≡◌, ℕ, ◌%◌, length};
-ghost use Rattle.sample_rows.specs.Format.{pixel_bytes};
-ghost use Rattle.sample_rows.specs.Invert.{inverted, inverted_pixel};
-ghost use Rattle.sample_rows.specs.Row.{HasPixels, pixel_at};
+ghost use Rattle.pixel_formats.specs.Format.{pixel_bytes};
+ghost use Rattle.pixel_formats.specs.Invert.{inverted, inverted_pixel};
+ghost use Rattle.pixel_formats.specs.Row.{HasPixels, pixel_at};
 
 use crate::format::Format;
-use crate::recolour::{Recolour, recolour_row};
-use pixel_lanes::Layout;
-use sample_lanes::{ByteLanes, Lanes, WordLanes};
+use crate::recolor::{Recolor, recolor_row};
+use simd_pixels::Layout;
+use simd_samples::{ByteLanes, Lanes, WordLanes};
 
-/// Counts each colour down from its cap.
+/// Counts each color down from its cap.
 #[derive(Clone, Copy)]
 struct Invert;
 
-impl<L: Lanes> Recolour<L> for Invert {
+impl<L: Lanes> Recolor<L> for Invert {
     ghost change = { λ s. inverted };
 
     #[inline(always)]
-    fn recolour<P: Layout>(&self, samples: L) -> L {
+    fn recolor<P: Layout>(&self, samples: L) -> L {
         let inverted = P::caps(samples).saturating_sub(samples);
         P::with_alpha(inverted, samples)
     }
 }
 
-/// Writes the row `src` to `dst` with each colour counted down from its cap, which is the pixel's
-/// alpha or, in a format without alpha, the greatest sample. A colour above its cap becomes 0.
+/// Writes the row `src` to `dst` with each color subtracted from its cap, which is the pixel's
+/// alpha or, in a format without alpha, the largest sample. A color above its cap becomes 0.
 /// Alpha stays.
 pub fn row_invert(f: Format, src: &[u8], dst: &mut [u8])
     requires whole { length src.now % pixel_bytes f ≡ 0 }
@@ -33,7 +33,7 @@ pub fn row_invert(f: Format, src: &[u8], dst: &mut [u8])
     ensures { HasPixels f dst.new (λ k. inverted_pixel f (pixel_at f src.now k)) }
 {
     match f.depth() {
-        1 => recolour_row::<ByteLanes, Invert>(f, Invert, src, dst),
-        _ => recolour_row::<WordLanes, Invert>(f, Invert, src, dst),
+        1 => recolor_row::<ByteLanes, Invert>(f, Invert, src, dst),
+        _ => recolor_row::<WordLanes, Invert>(f, Invert, src, dst),
     }
 }

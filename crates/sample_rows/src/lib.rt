@@ -12,7 +12,7 @@ mod gain;
 mod invert;
 mod mask;
 mod over;
-mod recolour;
+mod recolor;
 mod threshold;
 
 pub use add::row_add;

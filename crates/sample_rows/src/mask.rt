@@ -2,26 +2,26 @@
 
 ghost use Rattle.std.specs.Prelude.{◌≡◌, ℕ, ◌+◌, ◌*◌, ◌/◌, ◌%◌, ◌<◌, ◌≤◌, length, refl};
 ghost use Rattle.std.proofs.Common.{rules};
-ghost use Rattle.sample_rows.specs.Format.{depth, greatest_of, pixel_bytes};
+ghost use Rattle.pixel_formats.specs.Format.{depth, max_sample_of, pixel_bytes};
 ghost use Rattle.sample_rows.specs.Groups.{MapsPairs, SameGroups, groups};
-ghost use Rattle.sample_rows.specs.Mask.{masked_pixel, weighed};
-ghost use Rattle.sample_rows.specs.Row.{HasPixels, pixel_at, pixel_count, sample_at};
+ghost use Rattle.pixel_formats.specs.Mask.{masked_pixel, scaled_by};
+ghost use Rattle.pixel_formats.specs.Row.{HasPixels, pixel_at, pixel_count, sample_at};
 ghost use Rattle.sample_rows.specs.SizeLaws.{some_bytes, vector_bytes};
 
 use crate::blocks::{PairKernel, transform_rows};
 use crate::format::Format;
-use pixel_lanes::{Colours, ColoursAlpha, Grey, GreyAlpha, Planes};
-use sample_lanes::{ByteLanes, Lanes, WordLanes};
+use simd_pixels::{Colors, ColorsAlpha, Gray, GrayAlpha, Planes};
+use simd_samples::{ByteLanes, Lanes, WordLanes};
 use std::marker::PhantomData;
 
-/// Pixels weighed each by a sample of its own.
+/// Pixels scaled each by a sample of its own.
 #[derive(Clone, Copy)]
 struct Mask<L, P> {
     of: PhantomData<(L, P)>,
 }
 
 impl<L: Lanes, P: Planes<L>> PairKernel for Mask<L, P> {
-    ghost value = { λ s pixel mask i. weighed (greatest_of L.depth) (pixel i) (mask 0) };
+    ghost value = { λ s pixel mask i. scaled_by (max_sample_of L.depth) (pixel i) (mask 0) };
 
     ghost first = { groups P.channels L.depth };
 
@@ -45,7 +45,7 @@ impl<L: Lanes, P: Planes<L>> PairKernel for Mask<L, P> {
 
     #[inline(always)]
     fn block(&self, a: &[u8], b: &[u8], dst: &mut [u8]) {
-        P::load(a).weigh(L::load(b)).store(dst);
+        P::load(a).scale_by(L::load(b)).store(dst);
     }
 
     ghost some_groups = { Prim.search rules };
@@ -69,8 +69,8 @@ impl<L: Lanes, P: Planes<L>> PairKernel for Mask<L, P> {
     ghost written_few = { Prim.search (rules, P.few) };
 }
 
-/// Writes the row `src` to `dst` with each sample weighed by the mask's sample of its pixel: the
-/// greatest leaves it as it is, and 0 makes it 0. The mask is a row of grey samples without alpha,
+/// Writes the row `src` to `dst` with each sample scaled by the mask's sample of its pixel: the
+/// largest leaves it as it is, and 0 makes it 0. The mask is a row of gray samples without alpha,
 /// as deep as those of `f`.
 pub fn row_mask(f: Format, src: &[u8], mask: &[u8], dst: &mut [u8])
     requires whole { length src.now % pixel_bytes f ≡ 0 }
@@ -79,14 +79,14 @@ pub fn row_mask(f: Format, src: &[u8], mask: &[u8], dst: &mut [u8])
     ensures { HasPixels f dst.new (λ k. masked_pixel f (pixel_at f src.now k) (sample_at (depth f) mask.now k)) }
 {
     match f {
-        Format::Y8 => mask_pixels::<ByteLanes, Grey<ByteLanes>>(src, mask, dst),
-        Format::YA8 => mask_pixels::<ByteLanes, GreyAlpha<ByteLanes>>(src, mask, dst),
-        Format::RGB8 => mask_pixels::<ByteLanes, Colours<ByteLanes>>(src, mask, dst),
-        Format::RGBA8 => mask_pixels::<ByteLanes, ColoursAlpha<ByteLanes>>(src, mask, dst),
-        Format::Y16 => mask_pixels::<WordLanes, Grey<WordLanes>>(src, mask, dst),
-        Format::YA16 => mask_pixels::<WordLanes, GreyAlpha<WordLanes>>(src, mask, dst),
-        Format::RGB16 => mask_pixels::<WordLanes, Colours<WordLanes>>(src, mask, dst),
-        Format::RGBA16 => mask_pixels::<WordLanes, ColoursAlpha<WordLanes>>(src, mask, dst),
+        Format::Y8 => mask_pixels::<ByteLanes, Gray<ByteLanes>>(src, mask, dst),
+        Format::YA8 => mask_pixels::<ByteLanes, GrayAlpha<ByteLanes>>(src, mask, dst),
+        Format::RGB8 => mask_pixels::<ByteLanes, Colors<ByteLanes>>(src, mask, dst),
+        Format::RGBA8 => mask_pixels::<ByteLanes, ColorsAlpha<ByteLanes>>(src, mask, dst),
+        Format::Y16 => mask_pixels::<WordLanes, Gray<WordLanes>>(src, mask, dst),
+        Format::YA16 => mask_pixels::<WordLanes, GrayAlpha<WordLanes>>(src, mask, dst),
+        Format::RGB16 => mask_pixels::<WordLanes, Colors<WordLanes>>(src, mask, dst),
+        Format::RGBA16 => mask_pixels::<WordLanes, ColorsAlpha<WordLanes>>(src, mask, dst),
     }
 }
 
@@ -94,7 +94,7 @@ fn mask_pixels<L: Lanes, P: Planes<L>>(src: &[u8], mask: &[u8], dst: &mut [u8])
     requires first { SameGroups (groups P.channels L.depth) (groups P.channels L.depth) src.now dst.old }
     requires second { SameGroups (groups 1 L.depth) (groups P.channels L.depth) mask.now dst.old }
     ensures { MapsPairs (groups P.channels L.depth) (groups 1 L.depth) (groups P.channels L.depth) (length dst.new / (P.channels * L.depth))
-        (λ pixel mask i. weighed (greatest_of L.depth) (pixel i) (mask 0)) src.now mask.now dst.new }
+        (λ pixel mask i. scaled_by (max_sample_of L.depth) (pixel i) (mask 0)) src.now mask.now dst.new }
 {
     transform_rows(&Mask::<L, P> { of: PhantomData }, src, mask, dst);
 }

@@ -2,16 +2,16 @@
 
 ghost use Rattle.std.specs.Prelude.{◌≡◌, ℕ, ◌+◌, ◌*◌, ◌/◌, ◌%◌, ◌<◌, ◌≤◌, IsTrue, length};
 ghost use Rattle.std.proofs.Common.{rules};
-ghost use Rattle.sample_rows.specs.Format.{depth, greatest_of, has_alpha, pixel_bytes};
+ghost use Rattle.pixel_formats.specs.Format.{depth, max_sample_of, has_alpha, pixel_bytes};
 ghost use Rattle.sample_rows.specs.Groups.{MapsPairs, SameGroups, groups};
-ghost use Rattle.sample_rows.specs.Over.{laid_over, over_pixel};
-ghost use Rattle.sample_rows.specs.Row.{HasPixels, pixel_at};
+ghost use Rattle.pixel_formats.specs.Over.{composited, over_pixel};
+ghost use Rattle.pixel_formats.specs.Row.{HasPixels, pixel_at};
 ghost use Rattle.sample_rows.specs.SizeLaws.{some_bytes, vector_bytes};
 
 use crate::blocks::{PairKernel, transform_rows};
 use crate::format::Format;
-use pixel_lanes::{AlphaOfFour, AlphaOfTwo, Layout};
-use sample_lanes::{ByteLanes, Lanes, WordLanes};
+use simd_pixels::{AlphaOfFour, AlphaOfTwo, Layout};
+use simd_samples::{ByteLanes, Lanes, WordLanes};
 use std::marker::PhantomData;
 
 /// Pixels of a layout over others.
@@ -21,7 +21,7 @@ struct Over<L, P> {
 }
 
 impl<L: Lanes, P: Layout> PairKernel for Over<L, P> {
-    ghost value = { λ s top bottom i. laid_over (greatest_of L.depth) (P.cap (greatest_of L.depth) top) (top i) (bottom i) };
+    ghost value = { λ s top bottom i. composited (max_sample_of L.depth) (P.cap (max_sample_of L.depth) top) (top i) (bottom i) };
 
     ghost first = { groups P.channels L.depth };
 
@@ -46,8 +46,8 @@ impl<L: Lanes, P: Layout> PairKernel for Over<L, P> {
     #[inline(always)]
     fn block(&self, a: &[u8], b: &[u8], dst: &mut [u8]) {
         let top = L::load(a);
-        let left = L::greatest().saturating_sub(P::caps(top));
-        let below = L::load(b).weigh(left);
+        let left = L::max_sample().saturating_sub(P::caps(top));
+        let below = L::load(b).scale_by(left);
         top.saturating_add(below).store(dst);
     }
 
@@ -72,9 +72,9 @@ impl<L: Lanes, P: Layout> PairKernel for Over<L, P> {
     ghost written_few = { Prim.search (rules, L.few) };
 }
 
-/// Writes to `dst` the row `top` laid over the row `bottom`: of each lower sample the part that
-/// the upper pixel's alpha leaves is added to the upper one. A sum above the greatest sample
-/// becomes the greatest sample.
+/// Writes to `dst` the row `top` composited over the row `bottom`: of each lower sample the part that
+/// the upper pixel's alpha leaves is added to the upper one. A sum above the largest sample
+/// becomes the largest sample.
 pub fn row_over(f: Format, top: &[u8], bottom: &[u8], dst: &mut [u8])
     requires alpha { IsTrue (has_alpha f) }
     requires whole { length top.now % pixel_bytes f ≡ 0 }
@@ -95,7 +95,7 @@ fn over_pixels<L: Lanes, P: Layout>(top: &[u8], bottom: &[u8], dst: &mut [u8])
     requires first { SameGroups (groups P.channels L.depth) (groups P.channels L.depth) top.now dst.old }
     requires second { SameGroups (groups P.channels L.depth) (groups P.channels L.depth) bottom.now dst.old }
     ensures { MapsPairs (groups P.channels L.depth) (groups P.channels L.depth) (groups P.channels L.depth) (length dst.new / (P.channels * L.depth))
-        (λ a b i. laid_over (greatest_of L.depth) (P.cap (greatest_of L.depth) a) (a i) (b i)) top.now bottom.now dst.new }
+        (λ a b i. composited (max_sample_of L.depth) (P.cap (max_sample_of L.depth) a) (a i) (b i)) top.now bottom.now dst.new }
 {
     transform_rows(&Over::<L, P> { of: PhantomData }, top, bottom, dst);
 }

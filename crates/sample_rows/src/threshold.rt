@@ -1,27 +1,27 @@
 //! Thresholds.
 
 ghost use Rattle.std.specs.Prelude.{◌≡◌, ℕ, ◌%◌, length, min};
-ghost use Rattle.sample_rows.specs.Format.{greatest_of, pixel_bytes};
-ghost use Rattle.sample_rows.specs.Recolour.{recoloured};
-ghost use Rattle.sample_rows.specs.Row.{HasPixels, pixel_at};
-ghost use Rattle.sample_rows.specs.Threshold.{thresholded, thresholded_pixel};
+ghost use Rattle.pixel_formats.specs.Format.{max_sample_of, pixel_bytes};
+ghost use Rattle.pixel_formats.specs.Recolor.{recolored};
+ghost use Rattle.pixel_formats.specs.Row.{HasPixels, pixel_at};
+ghost use Rattle.pixel_formats.specs.Threshold.{thresholded, thresholded_pixel};
 
 use crate::format::Format;
-use crate::recolour::{Recolour, recolour_row};
-use pixel_lanes::Layout;
-use sample_lanes::{ByteLanes, Lanes, WordLanes};
+use crate::recolor::{Recolor, recolor_row};
+use simd_pixels::Layout;
+use simd_samples::{ByteLanes, Lanes, WordLanes};
 
-/// Puts each colour at its cap where it reaches the threshold, and else at 0.
+/// Puts each color at its cap where it reaches the threshold, and else at 0.
 #[derive(Clone, Copy)]
 struct Threshold {
     at: u32,
 }
 
-impl<L: Lanes> Recolour<L> for Threshold {
-    ghost change = { λ s. thresholded (min (greatest_of L.depth) s.at) };
+impl<L: Lanes> Recolor<L> for Threshold {
+    ghost change = { λ s. thresholded (min (max_sample_of L.depth) s.at) };
 
     #[inline(always)]
-    fn recolour<P: Layout>(&self, samples: L) -> L {
+    fn recolor<P: Layout>(&self, samples: L) -> L {
         // Alpha is its own cap, so that a threshold of 0 leaves it as it is.
         let none = L::splat(0);
         let thresholds = P::with_alpha(L::splat(self.at), none);
@@ -29,22 +29,22 @@ impl<L: Lanes> Recolour<L> for Threshold {
     }
 }
 
-/// Puts each colour at 0.
+/// Puts each color at 0.
 #[derive(Clone, Copy)]
 struct Clear;
 
-impl<L: Lanes> Recolour<L> for Clear {
-    ghost change = { λ s cap colour. 0 };
+impl<L: Lanes> Recolor<L> for Clear {
+    ghost change = { λ s cap color. 0 };
 
     #[inline(always)]
-    fn recolour<P: Layout>(&self, samples: L) -> L {
+    fn recolor<P: Layout>(&self, samples: L) -> L {
         let none = L::splat(0);
         P::with_alpha(none, samples)
     }
 }
 
-/// Writes the row `src` to `dst` with each colour that is at least `at` at its cap, which is the
-/// pixel's alpha or, in a format without alpha, the greatest sample, and with the others at 0.
+/// Writes the row `src` to `dst` with each color that is at least `at` at its cap, which is the
+/// pixel's alpha or, in a format without alpha, the largest sample, and with the others at 0.
 /// Alpha stays.
 pub fn row_threshold(f: Format, at: u32, src: &[u8], dst: &mut [u8])
     requires whole { length src.now % pixel_bytes f ≡ 0 }
@@ -52,23 +52,23 @@ pub fn row_threshold(f: Format, at: u32, src: &[u8], dst: &mut [u8])
     ensures { HasPixels f dst.new (λ k. thresholded_pixel f at (pixel_at f src.now k)) }
 {
     if at > f.max() {
-        // No colour reaches such a threshold.
+        // No color reaches such a threshold.
         return clear_row(f, src, dst);
     }
     let change = Threshold { at };
     match f.depth() {
-        1 => recolour_row::<ByteLanes, Threshold>(f, change, src, dst),
-        _ => recolour_row::<WordLanes, Threshold>(f, change, src, dst),
+        1 => recolor_row::<ByteLanes, Threshold>(f, change, src, dst),
+        _ => recolor_row::<WordLanes, Threshold>(f, change, src, dst),
     }
 }
 
 fn clear_row(f: Format, src: &[u8], dst: &mut [u8])
     requires whole { length src.now % pixel_bytes f ≡ 0 }
     requires same_length { length dst.old ≡ length src.now }
-    ensures { HasPixels f dst.new (λ k. recoloured f (λ cap colour. 0) (pixel_at f src.now k)) }
+    ensures { HasPixels f dst.new (λ k. recolored f (λ cap color. 0) (pixel_at f src.now k)) }
 {
     match f.depth() {
-        1 => recolour_row::<ByteLanes, Clear>(f, Clear, src, dst),
-        _ => recolour_row::<WordLanes, Clear>(f, Clear, src, dst),
+        1 => recolor_row::<ByteLanes, Clear>(f, Clear, src, dst),
+        _ => recolor_row::<WordLanes, Clear>(f, Clear, src, dst),
     }
 }

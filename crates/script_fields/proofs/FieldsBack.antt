@@ -9,56 +9,56 @@ use Rattle.outside_io.specs.FileName.{is_file_name}
 use Rattle.plane_rect.specs.Name.{is_name}
 use Rattle.plane_rect.specs.Rectangle.{IsCoordinate, IsExtent, IsNoCoordinate, IsNoExtent, IsRectangle, Rectangle, in_limits, is_coordinate, is_extent, new_rectangle, plane_coordinate, plane_index, rectangle, scaled}
 use Rattle.plane_rect.proofs.Rectangles.{coordinate_test, extent_test, rectangle-some, some_or_empty}
-use Rattle.abyss_levels.specs.declared.abyss.Abyss.{Abyss}
-use Rattle.abyss_levels.specs.declared.abyss.Abyss.TheVariants as policies
-use Rattle.sample_rows.specs.Format.{word}
-use Rattle.sample_rows.specs.declared.format.Format.{Format}
+use Rattle.pixel_formats.specs.declared.abyss.Abyss.{Abyss}
+use Rattle.pixel_formats.specs.declared.abyss.Abyss.TheVariants as policies
+use Rattle.pixel_formats.specs.Format.{word}
+use Rattle.pixel_formats.specs.declared.format.Format.{Format}
 use Rattle.script_words.specs.Numbers.{natural_in, integer_in}
 use Rattle.script_words.proofs.NumberLaws.{natural_in-decimal, integer_in-signed_decimal}
-use Rattle.script_fields.proofs.FormatLaws.{format_of-word}
-use Rattle.script_fields.specs.Fields.{◌>>=◌, coordinate_at, corner_at, count_in, each, file_at, format_at, format_of, furthest_move, greatest_sample, integer_at, is_near, kept, level_rect_of, longest_prefix, may_watch, move_at, name_of, names_of, natural_at, near_policy_at, passed, policy_at, prefix_at, rect_of, sample_of, samples_of, sideways_at, watched_rect_of, word_at}
+use Rattle.script_fields.proofs.FormatLaws.{format_named-word}
+use Rattle.script_fields.specs.Fields.{◌>>=◌, coordinate_at, rect_numbers_at, count_in, each, file_at, format_at, format_named, max_move, max_sample, integer_at, is_near, kept, level_rect_of, longest_prefix, may_watch, move_at, name_of, names_of, natural_at, near_policy_at, passed, policy_at, prefix_at, rect_of, sample_of, samples_of, sideways_at, watched_rect_of, word_at}
 use Rattle.script_fields.specs.Limits.{IsLevelRect, IsMove, IsSample}
-use Rattle.script_fields.specs.Policies.{policy_of, policy_word}
+use Rattle.pixel_formats.specs.Policies.{policy_named, policy_word}
 use Rattle.script_fields.specs.Spelling.{AreNames}
 use Rattle.script_fields.specs.declared.cause.ScriptCause.{ScriptCause}
 use Rattle.script_fields.specs.declared.cause.ScriptCause.TheVariants as causes
-use Rattle.script_fields.specs.declared.fields.Corner.{Corner}
+use Rattle.script_fields.specs.declared.fields.RectNumbers.{RectNumbers}
 
 -- ---- the number of words
 
-pub count_in-of : (least most : ℕ) (words : List (List ℕ)) → least ≤ length words → length words ≤ most → count_in least most words ≡ Ok tt
-count_in-of least most words enough few = rw (le-leb least (length words) enough, le-leb (length words) most few) refl
+pub count_in-of : (minimum most : ℕ) (words : List (List ℕ)) → minimum ≤ length words → length words ≤ most → count_in minimum most words ≡ Ok tt
+count_in-of minimum most words enough few = rw (le-leb minimum (length words) enough, le-leb (length words) most few) refl
 
 -- ---- numbers
 
 pub natural_at-decimal : (low high : ℕ) (words : List (List ℕ)) (index value : ℕ) → word_at words index ≡ decimal value →
     low ≤ value → value ≤ high → value < 10 ^ 10 → natural_at low high words index ≡ Ok value
 unfolding natural_at
-natural_at-decimal low high words index value is least most small =
+natural_at-decimal low high words index value is minimum most small =
     ap (λ (word : List ℕ). ok_or (natural_in low high word) causes.Number) is
-    ∙ ap (λ (found : Option ℕ). ok_or found causes.Number) (natural_in-decimal low high value least most small)
+    ∙ ap (λ (found : Option ℕ). ok_or found causes.Number) (natural_in-decimal low high value minimum most small)
 
 integer_at-signed : (low high : ℤ) (words : List (List ℕ)) (index : ℕ) (value : ℤ) → word_at words index ≡ signed_decimal value →
     low ≤ℤ value → value ≤ℤ high → unsigned_abs value < 10 ^ 10 → integer_at low high words index ≡ Ok value
 unfolding integer_at
-integer_at-signed low high words index value is least most small =
+integer_at-signed low high words index value is minimum most small =
     ap (λ (word : List ℕ). ok_or (integer_in low high word) causes.Number) is
-    ∙ ap (λ (found : Option ℤ). ok_or found causes.Number) (integer_in-signed_decimal low high value least most small)
+    ∙ ap (λ (found : Option ℤ). ok_or found causes.Number) (integer_in-signed_decimal low high value minimum most small)
 
 pub sample_of-decimal : (value : ℕ) → IsSample value → sample_of (decimal value) ≡ Ok value
 unfolding sample_of
 sample_of-decimal value most =
-    ap (λ (found : Option ℕ). ok_or found causes.Number) (natural_in-decimal 0 greatest_sample value (omega arith) most (omega arith))
+    ap (λ (found : Option ℕ). ok_or found causes.Number) (natural_in-decimal 0 max_sample value (omega arith) most (omega arith))
 
 pub small-move : (value : ℤ) → IsMove value → unsigned_abs value < 10 ^ 10
 small-move value is =
-    let least : neg_ℤ (pos furthest_move) ≤ℤ value = is.0 in
-    let most : value ≤ℤ pos furthest_move = is.1 in
+    let minimum : neg_ℤ (pos max_move) ≤ℤ value = is.0 in
+    let most : value ≤ℤ pos max_move = is.1 in
     omega (arith, ints)
 
 pub move_at-signed : (words : List (List ℕ)) (index : ℕ) (value : ℤ) → word_at words index ≡ signed_decimal value → IsMove value → move_at words index ≡ Ok value
 move_at-signed words index value is limits =
-    integer_at-signed (neg_ℤ (pos furthest_move)) (pos furthest_move) words index value is limits.0 limits.1 (small-move value limits)
+    integer_at-signed (neg_ℤ (pos max_move)) (pos max_move) words index value is limits.0 limits.1 (small-move value limits)
 
 pub small-coordinate : (n : ℕ) → n ≤ 2 ^ 25 → unsigned_abs (plane_coordinate n) < 10 ^ 10
 small-coordinate n most = omega (arith, ints)
@@ -76,20 +76,20 @@ coordinate_at-side words index n is most =
 -- ---- rectangles
 
 -- the numbers of a rectangle
-abbrev pub corner_of : Rectangle → Corner
-corner_of rect = record { x = plane_coordinate rect.left; y = plane_coordinate rect.top; w = pos rect.width; h = pos rect.height }
+abbrev pub rect_numbers_of : Rectangle → RectNumbers
+rect_numbers_of rect = record { x = plane_coordinate rect.first_column; y = plane_coordinate rect.first_row; w = pos rect.width; h = pos rect.height }
 
-pub corner_at-rect : (words : List (List ℕ)) (index : ℕ) (rect : Rectangle) → IsRectangle rect →
-    word_at words index ≡ signed_decimal (plane_coordinate rect.left) → word_at words (index + 1) ≡ signed_decimal (plane_coordinate rect.top) →
+pub rect_numbers_at-rect : (words : List (List ℕ)) (index : ℕ) (rect : Rectangle) → IsRectangle rect →
+    word_at words index ≡ signed_decimal (plane_coordinate rect.first_column) → word_at words (index + 1) ≡ signed_decimal (plane_coordinate rect.first_row) →
     word_at words (index + 2) ≡ signed_decimal (pos rect.width) → word_at words (index + 3) ≡ signed_decimal (pos rect.height) →
-    corner_at words index ≡ Ok (corner_of rect)
-unfolding corner_at
-corner_at-rect words index rect is x y w h =
-    let columns : rect.left + rect.width ≤ 2 ^ 25 = is.columns in
-    let rows : rect.top + rect.height ≤ 2 ^ 25 = is.rows in
+    rect_numbers_at words index ≡ Ok (rect_numbers_of rect)
+unfolding rect_numbers_at
+rect_numbers_at-rect words index rect is x y w h =
+    let columns : rect.first_column + rect.width ≤ 2 ^ 25 = is.columns in
+    let rows : rect.first_row + rect.height ≤ 2 ^ 25 = is.rows in
     rw (
-      coordinate_at-column words index rect.left x (omega arith),
-      coordinate_at-column words (index + 1) rect.top y (omega arith),
+      coordinate_at-column words index rect.first_column x (omega arith),
+      coordinate_at-column words (index + 1) rect.first_row y (omega arith),
       coordinate_at-side words (index + 2) rect.width w (omega arith),
       coordinate_at-side words (index + 3) rect.height h (omega arith),
     ) refl
@@ -111,41 +111,41 @@ is_extent-side n len most = by_test (extent_test (plane_coordinate n) (pos len))
     by_test (inl passes) = passes.0
     by_test (inr other) = absurd (elim other.1 [ inl low ↦ omega (arith, ints) | inr high ↦ omega (arith, ints) ])
 
-rectangle-fields : (rect : Rectangle) → IsRectangle rect → rectangle rect.left rect.top rect.width rect.height ≡ rect
+rectangle-fields : (rect : Rectangle) → IsRectangle rect → rectangle rect.first_column rect.first_row rect.width rect.height ≡ rect
 rectangle-fields rect is = elim (some_or_empty rect is) [
-  | inl some ↦ rectangle-some rect.left rect.top rect.width rect.height some.0 some.1
-  | inr none ↦ subst (λ (r : Rectangle). rectangle r.left r.top r.width r.height ≡ r) (sym none) refl
+  | inl some ↦ rectangle-some rect.first_column rect.first_row rect.width rect.height some.0 some.1
+  | inr none ↦ subst (λ (r : Rectangle). rectangle r.first_column r.first_row r.width r.height ≡ r) (sym none) refl
 ]
 
-new_rectangle-corner : (rect : Rectangle) → IsRectangle rect → new_rectangle (plane_coordinate rect.left) (plane_coordinate rect.top) (pos rect.width) (pos rect.height) ≡ Ok rect
-new_rectangle-corner rect is =
-    let columns : rect.left + rect.width ≤ 2 ^ 25 = is.columns in
-    let rows : rect.top + rect.height ≤ 2 ^ 25 = is.rows in
+new_rectangle-numbers : (rect : Rectangle) → IsRectangle rect → new_rectangle (plane_coordinate rect.first_column) (plane_coordinate rect.first_row) (pos rect.width) (pos rect.height) ≡ Ok rect
+new_rectangle-numbers rect is =
+    let columns : rect.first_column + rect.width ≤ 2 ^ 25 = is.columns in
+    let rows : rect.first_row + rect.height ≤ 2 ^ 25 = is.rows in
     rw (
-      is_coordinate-column rect.left (omega arith),
-      is_coordinate-column rect.top (omega arith),
-      is_extent-side rect.left rect.width columns,
-      is_extent-side rect.top rect.height rows,
-      plane_index-plane_coordinate rect.left,
-      plane_index-plane_coordinate rect.top,
+      is_coordinate-column rect.first_column (omega arith),
+      is_coordinate-column rect.first_row (omega arith),
+      is_extent-side rect.first_column rect.width columns,
+      is_extent-side rect.first_row rect.height rows,
+      plane_index-plane_coordinate rect.first_column,
+      plane_index-plane_coordinate rect.first_row,
     ) (ap Ok (rectangle-fields rect is))
 
-pub rect_of-corner : (rect : Rectangle) → IsRectangle rect → IsTrue (in_limits rect) → rect_of (corner_of rect) ≡ Ok rect
+pub rect_of-numbers : (rect : Rectangle) → IsRectangle rect → IsTrue (in_limits rect) → rect_of (rect_numbers_of rect) ≡ Ok rect
 unfolding kept
-rect_of-corner rect is limits =
-    ap kept (new_rectangle-corner rect is) ∙ ap (λ (test : Bool). passed test causes.Rect rect) limits
+rect_of-numbers rect is limits =
+    ap kept (new_rectangle-numbers rect is) ∙ ap (λ (test : Bool). passed test causes.Rect rect) limits
 
-pub level_rect_of-corner : (level : ℕ) (rect : Rectangle) → IsRectangle rect → IsLevelRect level rect → level_rect_of level (corner_of rect) ≡ Ok rect
+pub level_rect_of-numbers : (level : ℕ) (rect : Rectangle) → IsRectangle rect → IsLevelRect level rect → level_rect_of level (rect_numbers_of rect) ≡ Ok rect
 unfolding level_rect_of
-level_rect_of-corner level rect is limits =
-    ap (λ (read : Result Rectangle ScriptCause). read >>= (λ (r : Rectangle). passed (is_some (scaled level r)) causes.Rect r)) (rect_of-corner rect is limits.limits)
+level_rect_of-numbers level rect is limits =
+    ap (λ (read : Result Rectangle ScriptCause). read >>= (λ (r : Rectangle). passed (is_some (scaled level r)) causes.Rect r)) (rect_of-numbers rect is limits.limits)
     ∙ ap (λ (test : Bool). passed test causes.Rect rect) limits.scaled
 
-pub watched_rect_of-corner : (viewers frames : ℕ) (rect : Rectangle) → IsRectangle rect → IsTrue (in_limits rect) → IsTrue (may_watch viewers frames rect) →
-    watched_rect_of viewers frames (corner_of rect) ≡ Ok rect
+pub watched_rect_of-numbers : (viewers frames : ℕ) (rect : Rectangle) → IsRectangle rect → IsTrue (in_limits rect) → IsTrue (may_watch viewers frames rect) →
+    watched_rect_of viewers frames (rect_numbers_of rect) ≡ Ok rect
 unfolding watched_rect_of
-watched_rect_of-corner viewers frames rect is limits watched =
-    ap (λ (read : Result Rectangle ScriptCause). read >>= (λ (r : Rectangle). passed (may_watch viewers frames r) causes.Rect r)) (rect_of-corner rect is limits)
+watched_rect_of-numbers viewers frames rect is limits watched =
+    ap (λ (read : Result Rectangle ScriptCause). read >>= (λ (r : Rectangle). passed (may_watch viewers frames r) causes.Rect r)) (rect_of-numbers rect is limits)
     ∙ ap (λ (test : Bool). passed test causes.Rect rect) watched
 
 -- ---- names and choices
@@ -170,20 +170,20 @@ prefix_at-name words index name is file short =
 pub format_at-word : (words : List (List ℕ)) (index : ℕ) (format : Format) → word_at words index ≡ word format → format_at words index ≡ Ok format
 unfolding format_at
 format_at-word words index format is =
-    ap (λ (name : List ℕ). ok_or (format_of name) causes.Name) is ∙ ap (λ (found : Option Format). ok_or found causes.Name) (format_of-word format)
+    ap (λ (name : List ℕ). ok_or (format_named name) causes.Name) is ∙ ap (λ (found : Option Format). ok_or found causes.Name) (format_named-word format)
 
-policy_of-word : (policy : Abyss) → policy_of (policy_word policy) ≡ Some policy
-unfolding policy_of
-policy_of-word policies.None = refl
-policy_of-word policies.Clamp = refl
-policy_of-word policies.Loop = refl
-policy_of-word policies.Black = refl
-policy_of-word policies.White = refl
+policy_named-word : (policy : Abyss) → policy_named (policy_word policy) ≡ Some policy
+unfolding policy_named
+policy_named-word policies.None = refl
+policy_named-word policies.Clamp = refl
+policy_named-word policies.Loop = refl
+policy_named-word policies.Black = refl
+policy_named-word policies.White = refl
 
 pub policy_at-word : (words : List (List ℕ)) (index : ℕ) (policy : Abyss) → word_at words index ≡ policy_word policy → policy_at words index ≡ Ok policy
 unfolding policy_at
 policy_at-word words index policy is =
-    ap (λ (name : List ℕ). ok_or (policy_of name) causes.Name) is ∙ ap (λ (found : Option Abyss). ok_or found causes.Name) (policy_of-word policy)
+    ap (λ (name : List ℕ). ok_or (policy_named name) causes.Name) is ∙ ap (λ (found : Option Abyss). ok_or found causes.Name) (policy_named-word policy)
 
 pub near_policy_at-word : (words : List (List ℕ)) (index : ℕ) (policy : Abyss) → word_at words index ≡ policy_word policy → IsTrue (is_near policy) →
     near_policy_at words index ≡ Ok policy

@@ -10,23 +10,23 @@ use Rattle.std.proofs.lemmas.List.Elements.{All-head, All-tail}
 use Rattle.outside_io.specs.FileName as files
 use Rattle.plane_rect.specs.Name as names
 use Rattle.plane_rect.specs.Rectangle.{plane_coordinate}
-use Rattle.abyss_levels.specs.declared.abyss.Abyss.{Abyss}
-use Rattle.abyss_levels.specs.declared.abyss.Abyss.TheVariants as policies
-use Rattle.sample_rows.specs.Format.{word}
-use Rattle.sample_rows.specs.declared.format.Format.{Format}
-use Rattle.sample_rows.specs.declared.format.Format.TheVariants.{Y8, YA8, RGB8, RGBA8, Y16, YA16, RGB16, RGBA16}
+use Rattle.pixel_formats.specs.declared.abyss.Abyss.{Abyss}
+use Rattle.pixel_formats.specs.declared.abyss.Abyss.TheVariants as policies
+use Rattle.pixel_formats.specs.Format.{word}
+use Rattle.pixel_formats.specs.declared.format.Format.{Format}
+use Rattle.pixel_formats.specs.declared.format.Format.TheVariants.{Y8, YA8, RGB8, RGBA8, Y16, YA16, RGB16, RGBA16}
 use Rattle.script_words.specs.Words.{is_word}
-use Rattle.script_words.proofs.Passing.{and_back, and_both, and_front}
+use Rattle.script_words.proofs.Passing.{and_back, and_both, and_prefix}
 use Rattle.script_words.proofs.NumberLaws.{is_word-decimal, is_word-signed_decimal, length-decimal, length-signed_decimal}
 use Rattle.script_words.proofs.WordLaws.{is_word-file_name, is_word-name}
 use Rattle.script_fields.proofs.FieldsBack.{small-coordinate}
 use Rattle.script_fields.specs.Limits.{IsSample}
-use Rattle.script_fields.specs.Policies.{policy_word}
-use Rattle.script_fields.specs.Spelling.{AreKept, AreNames, IsKept, field_words, words_of_fields}
+use Rattle.pixel_formats.specs.Policies.{policy_word}
+use Rattle.script_fields.specs.Spelling.{AreValid, AreNames, IsValid, field_words, words_of_fields}
 use Rattle.script_fields.specs.declared.field.Field.{Field}
 use Rattle.script_fields.specs.declared.field.Field.TheVariants as fields
 
--- how many bytes words take with a space behind each
+-- how many bytes words take with a space after each
 abbrev pub size : List (List ℕ) → ℕ
 size words = sum_by (λ (word : List ℕ). length word + 1) words
 
@@ -53,26 +53,26 @@ fits_none = (refl, omega arith)
 fits_one : (word : List ℕ) (most : ℕ) → is_word word ≡ true → length word + 1 ≤ most → Fits (word ∷ []) most
 fits_one word most is short = fits_weaker (word ∷ []) (most + 0) most (omega arith) (fits_cons word [] most 0 is short fits_none)
 
-pub fits_append : (front back : List (List ℕ)) (m n : ℕ) → Fits front m → Fits back n → Fits (front ++ back) (m + n)
+pub fits_append : (prefix back : List (List ℕ)) (m n : ℕ) → Fits prefix m → Fits back n → Fits (prefix ++ back) (m + n)
 fits_append [] back m n first second = fits_weaker back n (m + n) (omega arith) second
-fits_append (word ∷ front) back m n first second =
-    let whole : (length word + 1) + size front ≤ m = rw size-cons at first.1 in
-    let rest : Fits (front ++ back) (size front + n) = fits_append front back (size front) n (and_back (is_word word) (list_all is_word front) first.0, omega arith) second in
-    fits_weaker (word ∷ front ++ back) ((length word + 1) + (size front + n)) (m + n) (omega arith)
-    (fits_cons word (front ++ back) (length word + 1) (size front + n) (and_front (is_word word) (list_all is_word front) first.0) (omega arith) rest)
+fits_append (word ∷ prefix) back m n first second =
+    let whole : (length word + 1) + size prefix ≤ m = rw size-cons at first.1 in
+    let rest : Fits (prefix ++ back) (size prefix + n) = fits_append prefix back (size prefix) n (and_back (is_word word) (list_all is_word prefix) first.0, omega arith) second in
+    fits_weaker (word ∷ prefix ++ back) ((length word + 1) + (size prefix + n)) (m + n) (omega arith)
+    (fits_cons word (prefix ++ back) (length word + 1) (size prefix + n) (and_prefix (is_word word) (list_all is_word prefix) first.0) (omega arith) rest)
 
 -- ---- fields
 
 short-name : (name : List ℕ) → names.is_name name ≡ true → length name ≤ 16
 short-name [] is = absurd (cc)
 short-name (first ∷ rest) is =
-    let short : length rest < 16 = leb-true (suc (length rest)) 16 (and_back (is_ascii_lowercase first) (nat_lt (length rest) 16) (and_front (is_ascii_lowercase first && nat_lt (length rest) 16) (list_all names.is_name_byte rest) is)) in
+    let short : length rest < 16 = leb-true (suc (length rest)) 16 (and_back (is_ascii_lowercase first) (nat_lt (length rest) 16) (and_prefix (is_ascii_lowercase first && nat_lt (length rest) 16) (list_all names.is_name_byte rest) is)) in
     omega arith
 
 short-file : (name : List ℕ) → files.is_file_name name ≡ true → length name ≤ 64
 short-file [] is = absurd (cc)
 short-file (byte ∷ bytes) is =
-    let short : length bytes ≤ 63 = leb-true (length bytes) 63 (and_back (files.may_begin byte) (nat_le (length bytes) 63) (and_front (files.may_begin byte && nat_le (length bytes) 63) (list_all files.is_name_byte (byte ∷ bytes)) is)) in
+    let short : length bytes ≤ 63 = leb-true (length bytes) 63 (and_back (files.may_begin byte) (nat_le (length bytes) 63) (and_prefix (files.may_begin byte && nat_le (length bytes) 63) (list_all files.is_name_byte (byte ∷ bytes)) is)) in
     omega arith
 
 format_fits : (format : Format) → Fits (word format ∷ []) 65
@@ -112,7 +112,7 @@ abbrev pub AreBounded : List Field → Type 0
 AreBounded [] = Unit {0}
 AreBounded (field ∷ others) = IsBounded field × AreBounded others
 
-field_fits : (field : Field) → IsKept field → IsBounded field → Fits (field_words field) 65
+field_fits : (field : Field) → IsValid field → IsBounded field → Fits (field_words field) 65
 field_fits (fields.Name name) kept bounded =
     let short : length name ≤ 16 = short-name name kept in
     fits_one name 65 (is_word-name name kept) (omega arith)
@@ -126,18 +126,18 @@ field_fits (fields.Integer value) kept bounded = fits_weaker (signed_decimal val
 field_fits (fields.Sideways true) kept bounded = (refl, omega arith)
 field_fits (fields.Sideways false) kept bounded = (refl, omega arith)
 field_fits (fields.Rect rect) kept bounded =
-    let columns : rect.left + rect.width ≤ 2 ^ 25 = kept.columns in
-    let rows : rect.top + rect.height ≤ 2 ^ 25 = kept.rows in
+    let columns : rect.first_column + rect.width ≤ 2 ^ 25 = kept.columns in
+    let rows : rect.first_row + rect.height ≤ 2 ^ 25 = kept.rows in
     fits_weaker (field_words (fields.Rect rect)) (12 + (12 + (12 + 12))) 65 (omega arith)
-    (fits_append (signed_decimal (plane_coordinate rect.left) ∷ []) (signed_decimal (plane_coordinate rect.top) ∷ signed_decimal (pos rect.width) ∷ signed_decimal (pos rect.height) ∷ []) 12 (12 + (12 + 12))
-    (integer_fits (plane_coordinate rect.left) (small-coordinate rect.left (omega arith)))
-    (fits_append (signed_decimal (plane_coordinate rect.top) ∷ []) (signed_decimal (pos rect.width) ∷ signed_decimal (pos rect.height) ∷ []) 12 (12 + 12)
-    (integer_fits (plane_coordinate rect.top) (small-coordinate rect.top (omega arith)))
+    (fits_append (signed_decimal (plane_coordinate rect.first_column) ∷ []) (signed_decimal (plane_coordinate rect.first_row) ∷ signed_decimal (pos rect.width) ∷ signed_decimal (pos rect.height) ∷ []) 12 (12 + (12 + 12))
+    (integer_fits (plane_coordinate rect.first_column) (small-coordinate rect.first_column (omega arith)))
+    (fits_append (signed_decimal (plane_coordinate rect.first_row) ∷ []) (signed_decimal (pos rect.width) ∷ signed_decimal (pos rect.height) ∷ []) 12 (12 + 12)
+    (integer_fits (plane_coordinate rect.first_row) (small-coordinate rect.first_row (omega arith)))
     (fits_append (signed_decimal (pos rect.width) ∷ []) (signed_decimal (pos rect.height) ∷ []) 12 12
     (integer_fits (pos rect.width) (omega (arith, ints)))
     (integer_fits (pos rect.height) (omega (arith, ints))))))
 
-pub fields_fit : (all : List Field) → AreKept all → AreBounded all → Fits (words_of_fields all) (65 * length all)
+pub fields_fit : (all : List Field) → AreValid all → AreBounded all → Fits (words_of_fields all) (65 * length all)
 fields_fit [] kept bounded = (refl, omega arith)
 fields_fit (field ∷ others) kept bounded =
     fits_weaker (words_of_fields (field ∷ others)) (65 + 65 * length others) (65 * length (field ∷ others)) (omega arith)

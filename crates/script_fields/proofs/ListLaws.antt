@@ -4,12 +4,12 @@ use Rattle.std.proofs.lemmas.List.{drop-map, take_all, length-drop}
 use Rattle.script_fields.specs.Fields.{each, texts, ◌>>=◌}
 use Rattle.script_fields.specs.declared.cause.ScriptCause.{ScriptCause}
 
--- values before those that are read behind them
-abbrev pub behind : {A : Type 0} → List A → Result (List A) ScriptCause → Result (List A) ScriptCause
-behind front (Ok rest) = Ok (front ++ rest)
-behind front (Err cause) = Err cause
+-- values before those that are read after them
+abbrev pub after : {A : Type 0} → List A → Result (List A) ScriptCause → Result (List A) ScriptCause
+after prefix (Ok rest) = Ok (prefix ++ rest)
+after prefix (Err cause) = Err cause
 
--- the words from one on, as a slice of them is told
+-- the words from one on, as a slice of them is reported
 pub texts-from : (index : ℕ) (words : List (Bor (List ℕ))) → drop index (texts words) ≡ texts (take (length words - index) (drop index words))
 texts-from index words =
     drop-map (λ (word : Bor (List ℕ)). word.now) index words

@@ -6,13 +6,13 @@ use Rattle.script_fields.specs.declared.cause.LineAnswer.TheVariants.{Refused, N
 use Rattle.script_fields.specs.declared.cause.ScriptAnswer.{ScriptAnswer}
 use Rattle.script_fields.specs.declared.cause.ScriptAnswer.TheVariants as script_answers
 
--- what is answered where this is read; want of memory may come whatever is read
+-- what is answered where this is read; running out of memory may come whatever is read
 abbrev pub Answers : {A : Type 0} → Result A LineAnswer → Result A ScriptCause → Type 0
 Answers (Ok value) read = read ≡ Ok value
 Answers (Err (Refused cause)) read = read ≡ Err cause
 Answers (Err NoMemory) read = ⊤
 
--- the same, told of a line
+-- the same, reported of a line
 abbrev pub at_line : ℕ → LineAnswer → ScriptAnswer
 at_line line (Refused cause) = script_answers.Refused line cause
 at_line line NoMemory = script_answers.NoMemory

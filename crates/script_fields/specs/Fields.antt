@@ -6,19 +6,19 @@ use Rattle.std.specs.Str.{bytes_eq}
 use Rattle.plane_rect.specs.Rectangle.{Rectangle, new_rectangle, in_limits, scaled, area}
 use Rattle.plane_rect.specs.Name.{is_name}
 use Rattle.plane_rect.specs.declared.rect.RectRefused.{RectRefused}
-use Rattle.sample_rows.specs.Format.{word}
-use Rattle.sample_rows.specs.declared.format.Format.{Format}
-use Rattle.sample_rows.specs.declared.format.Format.TheVariants.{Y8, YA8, RGB8, RGBA8, Y16, YA16, RGB16, RGBA16}
-use Rattle.abyss_levels.specs.declared.abyss.Abyss.{Abyss}
-use Rattle.abyss_levels.specs.declared.abyss.Abyss.TheVariants as policies
+use Rattle.pixel_formats.specs.Format.{word}
+use Rattle.pixel_formats.specs.declared.format.Format.{Format}
+use Rattle.pixel_formats.specs.declared.format.Format.TheVariants.{Y8, YA8, RGB8, RGBA8, Y16, YA16, RGB16, RGBA16}
+use Rattle.pixel_formats.specs.declared.abyss.Abyss.{Abyss}
+use Rattle.pixel_formats.specs.declared.abyss.Abyss.TheVariants as policies
 use Rattle.outside_io.specs.FileName.{is_file_name}
 use Rattle.script_words.specs.Numbers.{natural_in, integer_in}
-use Rattle.script_fields.specs.Policies.{policy_of}
+use Rattle.pixel_formats.specs.Policies.{policy_named}
 use Rattle.script_fields.specs.declared.cause.ScriptCause.{ScriptCause}
 use Rattle.script_fields.specs.declared.cause.ScriptCause.TheVariants as causes
-use Rattle.script_fields.specs.declared.fields.Corner.{Corner}
+use Rattle.script_fields.specs.declared.fields.RectNumbers.{RectNumbers}
 
--- what is read, then what is read by it; the first cause is told
+-- what is read, then what is read by it; the first cause is reported
 infixl 10 ◌>>=◌
 abbrev pub ◌>>=◌ : {A B : Type 0} → Result A ScriptCause → (A → Result B ScriptCause) → Result B ScriptCause
 (Ok value) >>= next = next value
@@ -42,7 +42,7 @@ count number words = passed (length words == number) causes.Words tt
 
 -- there are from so many to so many
 abbrev pub count_in : ℕ → ℕ → List (List ℕ) → Result (Unit {0}) ScriptCause
-count_in least most words = passed (nat_le least (length words) && nat_le (length words) most) causes.Words tt
+count_in minimum most words = passed (nat_le minimum (length words) && nat_le (length words) most) causes.Words tt
 
 -- ---- numbers
 
@@ -52,13 +52,13 @@ natural_at low high words index = ok_or (natural_in low high (word_at words inde
 unfoldable pub integer_at : ℤ → ℤ → List (List ℕ) → ℕ → Result ℤ ScriptCause
 integer_at low high words index = ok_or (integer_in low high (word_at words index)) causes.Number
 
--- the greatest sample of all formats
-abbrev pub greatest_sample : ℕ
-greatest_sample = 2 ^ 16 - 1
+-- the largest sample of all formats
+abbrev pub max_sample : ℕ
+max_sample = 2 ^ 16 - 1
 
 -- how far an image or a copy may be moved along each axis
-abbrev pub furthest_move : ℕ
-furthest_move = 2 ^ 25
+abbrev pub max_move : ℕ
+max_move = 2 ^ 25
 
 -- a column, a row, a width or a height as it may be written
 abbrev pub coordinate_at : List (List ℕ) → ℕ → Result ℤ ScriptCause
@@ -66,17 +66,17 @@ coordinate_at words index = integer_at (neg_ℤ (pos (2 ^ 31))) (pos (2 ^ 31 - 1
 
 -- one sample of any format
 unfoldable pub sample_of : List ℕ → Result ℕ ScriptCause
-sample_of word = ok_or (natural_in 0 greatest_sample word) causes.Number
+sample_of word = ok_or (natural_in 0 max_sample word) causes.Number
 
 abbrev pub sample_at : List (List ℕ) → ℕ → Result ℕ ScriptCause
 sample_at words index = sample_of (word_at words index)
 
 abbrev pub move_at : List (List ℕ) → ℕ → Result ℤ ScriptCause
-move_at words index = integer_at (neg_ℤ (pos furthest_move)) (pos furthest_move) words index
+move_at words index = integer_at (neg_ℤ (pos max_move)) (pos max_move) words index
 
 -- the four numbers of a rectangle, from a word on
-unfoldable pub corner_at : List (List ℕ) → ℕ → Result Corner ScriptCause
-corner_at words index = do
+unfoldable pub rect_numbers_at : List (List ℕ) → ℕ → Result RectNumbers ScriptCause
+rect_numbers_at words index = do
   x ← coordinate_at words index
   y ← coordinate_at words (index + 1)
   w ← coordinate_at words (index + 2)
@@ -108,14 +108,14 @@ abbrev pub formats : List Format
 formats = Y8 ∷ YA8 ∷ RGB8 ∷ RGBA8 ∷ Y16 ∷ YA16 ∷ RGB16 ∷ RGBA16 ∷ []
 
 -- the format that a word names
-abbrev pub format_of : List ℕ → Option Format
-format_of name = find (λ (format : Format). bytes_eq (word format) name) formats
+abbrev pub format_named : List ℕ → Option Format
+format_named name = find (λ (format : Format). bytes_eq (word format) name) formats
 
 unfoldable pub format_at : List (List ℕ) → ℕ → Result Format ScriptCause
-format_at words index = ok_or (format_of (word_at words index)) causes.Name
+format_at words index = ok_or (format_named (word_at words index)) causes.Name
 
 unfoldable pub policy_at : List (List ℕ) → ℕ → Result Abyss ScriptCause
-policy_at words index = ok_or (policy_of (word_at words index)) causes.Name
+policy_at words index = ok_or (policy_named (word_at words index)) causes.Name
 
 -- a policy that an operation may have
 abbrev pub is_near : Abyss → Bool
@@ -138,12 +138,12 @@ unfoldable pub kept : Result Rectangle RectRefused → Result Rectangle ScriptCa
 kept (Ok rect) = passed (in_limits rect) causes.Rect rect
 kept (Err refused) = Err causes.Rect
 
-abbrev pub rect_of : Corner → Result Rectangle ScriptCause
-rect_of corner = kept (new_rectangle corner.x corner.y corner.w corner.h)
+abbrev pub rect_of : RectNumbers → Result Rectangle ScriptCause
+rect_of numbers = kept (new_rectangle numbers.x numbers.y numbers.w numbers.h)
 
--- a rectangle of a level whose places lie in limits at level 0 too
-unfoldable pub level_rect_of : ℕ → Corner → Result Rectangle ScriptCause
-level_rect_of level corner = rect_of corner >>= λ rect. passed (is_some (scaled level rect)) causes.Rect rect
+-- a rectangle of a level whose positions are in limits at level 0 too
+unfoldable pub level_rect_of : ℕ → RectNumbers → Result Rectangle ScriptCause
+level_rect_of level numbers = rect_of numbers >>= λ rect. passed (is_some (scaled level rect)) causes.Rect rect
 
 -- the most samples of one channel that viewers may render
 abbrev pub watch_limit : ℕ
@@ -153,9 +153,9 @@ watch_limit = 2 ^ 25
 abbrev pub may_watch : ℕ → ℕ → Rectangle → Bool
 may_watch viewers frames rect = nat_le (viewers * (frames + 1) * area rect) watch_limit
 
-unfoldable pub watched_rect_of : ℕ → ℕ → Corner → Result Rectangle ScriptCause
-watched_rect_of viewers frames corner =
-    rect_of corner >>= λ rect. passed (may_watch viewers frames rect) causes.Rect rect
+unfoldable pub watched_rect_of : ℕ → ℕ → RectNumbers → Result Rectangle ScriptCause
+watched_rect_of viewers frames numbers =
+    rect_of numbers >>= λ rect. passed (may_watch viewers frames rect) causes.Rect rect
 
 -- ---- lists
 

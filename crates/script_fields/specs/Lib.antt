@@ -2,5 +2,4 @@ pub mod Answers
 pub mod Causes
 pub mod Fields
 pub mod Limits
-pub mod Policies
 pub mod Spelling

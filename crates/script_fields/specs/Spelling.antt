@@ -4,8 +4,8 @@ use Rattle.std.specs.Fmt.{signed_decimal}
 use Rattle.plane_rect.specs.Rectangle.{IsRectangle, plane_coordinate}
 use Rattle.plane_rect.specs.Name.{is_name}
 use Rattle.outside_io.specs.FileName.{is_file_name}
-use Rattle.sample_rows.specs.Format.{word}
-use Rattle.script_fields.specs.Policies.{policy_word}
+use Rattle.pixel_formats.specs.Format.{word}
+use Rattle.pixel_formats.specs.Policies.{policy_word}
 use Rattle.script_fields.specs.declared.field.Field.{Field}
 use Rattle.script_fields.specs.declared.field.Field.TheVariants as fields
 
@@ -20,8 +20,8 @@ field_words (fields.Integer value) = signed_decimal value ∷ []
 field_words (fields.Sideways true) = codes "h" ∷ []
 field_words (fields.Sideways false) = codes "v" ∷ []
 field_words (fields.Rect rect) =
-    signed_decimal (plane_coordinate rect.left)
-    ∷ signed_decimal (plane_coordinate rect.top)
+    signed_decimal (plane_coordinate rect.first_column)
+    ∷ signed_decimal (plane_coordinate rect.first_row)
     ∷ signed_decimal (pos rect.width)
     ∷ signed_decimal (pos rect.height)
     ∷ []
@@ -32,15 +32,15 @@ words_of_fields [] = []
 words_of_fields (field ∷ others) = field_words field ++ words_of_fields others
 
 -- a name is a name, a name of a file one, and a rectangle one of the plane
-abbrev pub IsKept : Field → Type 0
-IsKept (fields.Name name) = IsTrue (is_name name)
-IsKept (fields.File name) = IsTrue (is_file_name name)
-IsKept (fields.Rect rect) = IsRectangle rect
-IsKept field = Unit {0}
+abbrev pub IsValid : Field → Type 0
+IsValid (fields.Name name) = IsTrue (is_name name)
+IsValid (fields.File name) = IsTrue (is_file_name name)
+IsValid (fields.Rect rect) = IsRectangle rect
+IsValid field = Unit {0}
 
-abbrev pub AreKept : List Field → Type 0
-AreKept [] = Unit {0}
-AreKept (field ∷ others) = IsKept field × AreKept others
+abbrev pub AreValid : List Field → Type 0
+AreValid [] = Unit {0}
+AreValid (field ∷ others) = IsValid field × AreValid others
 
 -- names are names
 abbrev pub AreNames : List (List ℕ) → Type 0

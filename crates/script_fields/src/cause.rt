@@ -9,7 +9,7 @@ use std::alloc::{AllocError, AllocFailed};
 use std::fmt;
 use thiserror::Error;
 
-/// Why a line of a script is refused. Of several causes the first in this order is told.
+/// Why a line of a script is refused. Of several causes the first in this order is reported.
 #[derive(Clone, Copy, Debug, PartialEq, Eq, PartialOrd, Ord)]
 pub enum ScriptCause {
     /// A byte is neither a tab nor one from the space to the tilde.
@@ -88,7 +88,7 @@ pub enum LineAnswer {
 impl LineAnswer {
     ghost use Rattle.script_fields.specs.Answers.{at_line};
 
-    /// The same, told of a line.
+    /// The same, reported of a line.
     pub fn at(self, line: u32) -> ScriptAnswer
         ensures { result ≡ at_line line self }
     {

@@ -1,13 +1,13 @@
-//! The fields of commands as they are printed. Where no memory is left, some of the words may stand behind the text.
+//! The fields of commands as they are printed. Where no memory is left, some of the words may stand after the text.
 
 ghost use Rattle.std.specs.Prelude.{◌≡◌, ◌∷◌, ◌++◌, decimal, map, IsTrue, OnOk};
 ghost use Rattle.std.specs.Fmt.{signed_decimal};
 ghost use Rattle.script_words.specs.Words.{spaced};
 ghost use Rattle.plane_rect.specs.Rectangle.{IsRectangle};
-ghost use Rattle.script_fields.specs.Spelling.{field_words, AreKept, AreNames, words_of_fields};
+ghost use Rattle.script_fields.specs.Spelling.{field_words, AreValid, AreNames, words_of_fields};
 
 use crate::policy::policy_word;
-use abyss_levels::Abyss;
+use model_images::Abyss;
 use no_memory::NoMemory;
 use plane_rect::{Name, Rect};
 use sample_rows::Format;
@@ -29,12 +29,12 @@ pub enum Field {
 impl Field {
     ghost use Rattle.std.specs.Prelude.{◌≡◌, ◌++◌, OnOk};
     ghost use Rattle.script_words.specs.Words.{spaced};
-    ghost use Rattle.script_fields.specs.Spelling.{IsKept, field_words};
+    ghost use Rattle.script_fields.specs.Spelling.{IsValid, field_words};
 
-    /// Puts its words behind a text, each behind a space.
+    /// Puts its words after a text, each after a space.
     fn put(&self, text: &mut Vec<u8>) -> Result<(), NoMemory>
         ensures text { OnOk result (text.new.items ≡ text.old.items ++ spaced (field_words self.now)) }
-        ensures kept { OnOk result (IsKept self.now) }
+        ensures kept { OnOk result (IsValid self.now) }
     {
         match self {
             Field::Name(name) => push_word(text, name.as_bytes()),
@@ -50,7 +50,7 @@ impl Field {
     }
 }
 
-/// Puts the four numbers of a rectangle behind a text, each behind a space.
+/// Puts the four numbers of a rectangle after a text, each after a space.
 fn put_rect(text: &mut Vec<u8>, rect: &Rect) -> Result<(), NoMemory>
     ensures text { OnOk result (text.new.items ≡ text.old.items ++ spaced (field_words (Field.Rect rect.now))) }
     ensures kept { OnOk result (IsRectangle rect.now) }
@@ -62,10 +62,10 @@ fn put_rect(text: &mut Vec<u8>, rect: &Rect) -> Result<(), NoMemory>
     Ok(())
 }
 
-/// Puts the words of fields behind a text, each behind a space.
+/// Puts the words of fields after a text, each after a space.
 pub fn put_fields(text: &mut Vec<u8>, fields: &[Field]) -> Result<(), NoMemory>
     ensures text { OnOk result (text.new.items ≡ text.old.items ++ spaced (words_of_fields fields.now)) }
-    ensures kept { OnOk result (AreKept fields.now) }
+    ensures kept { OnOk result (AreValid fields.now) }
 {
     for field in fields {
         field.put(text)?;
@@ -73,7 +73,7 @@ pub fn put_fields(text: &mut Vec<u8>, fields: &[Field]) -> Result<(), NoMemory>
     Ok(())
 }
 
-/// Puts names behind a text, each behind a space.
+/// Puts names after a text, each after a space.
 pub fn put_names(text: &mut Vec<u8>, names: &[Name]) -> Result<(), NoMemory>
     ensures text { OnOk result (text.new.items ≡ text.old.items ++ spaced names.now) }
     ensures kept { OnOk result (AreNames names.now) }
@@ -84,7 +84,7 @@ pub fn put_names(text: &mut Vec<u8>, names: &[Name]) -> Result<(), NoMemory>
     Ok(())
 }
 
-/// Puts samples behind a text, each behind a space.
+/// Puts samples after a text, each after a space.
 pub fn put_samples(text: &mut Vec<u8>, samples: &[u32]) -> Result<(), NoMemory>
     ensures { OnOk result (text.new.items ≡ text.old.items ++ spaced (map decimal samples.now)) }
 {

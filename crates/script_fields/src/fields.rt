@@ -1,26 +1,26 @@
 //! What the words of a line stand for.
 //!
 //! Each word is named by its index in the line, from 0 on. One that stands for nothing of what is asked is answered by
-//! the cause that is told of its line.
+//! the cause that is reported of its line.
 
 ghost use Rattle.std.specs.Prelude.{◌≡◌, ◌<◌, ◌≤◌, ◌≤ℤ◌, ◌+◌, ◌-◌, ◌^◌, length, pos, neg_ℤ, IfOk, OnOk, IsTrue};
 ghost use Rattle.outside_io.specs.FileName.{is_file_name};
 ghost use Rattle.plane_rect.specs.Name.{is_name};
 ghost use Rattle.plane_rect.specs.Rectangle.{in_limits};
-ghost use Rattle.script_fields.specs.Fields.{coordinate_at, count, count_in, file_at, format_at, format_of, corner_at, furthest_move, greatest_sample, integer_at, is_near, kept, longest_prefix, may_watch, move_at, name_at, name_of, natural_at, near_policy_at, policy_at, prefix_at, sample_at, sample_of, sideways_at, texts, word_at};
+ghost use Rattle.script_fields.specs.Fields.{coordinate_at, count, count_in, file_at, format_at, format_named, rect_numbers_at, max_move, max_sample, integer_at, is_near, kept, longest_prefix, may_watch, move_at, name_at, name_of, natural_at, near_policy_at, policy_at, prefix_at, sample_at, sample_of, sideways_at, texts, word_at};
 
 use crate::cause::ScriptCause;
-use crate::policy::policy_of;
-use abyss_levels::Abyss;
+use crate::policy::policy_named;
+use model_images::Abyss;
 use plane_rect::{Name, Rect, RectRefused};
 use sample_rows::Format;
 use script_words::{FileName, integer_in, natural_in};
 
-/// The greatest sample of all formats.
-pub const GREATEST_SAMPLE: u32 = 65_535;
+/// The largest sample of all formats.
+pub const MAX_SAMPLE: u32 = 65_535;
 
 /// How far an image or a copy may be moved along each axis, in places.
-pub const FURTHEST_MOVE: i64 = 1 << 25;
+pub const MAX_MOVE: i64 = 1 << 25;
 
 /// The most bytes of what names of files begin with.
 pub const LONGEST_PREFIX: usize = 58;
@@ -30,7 +30,7 @@ const WATCH_LIMIT: u64 = 1 << 25;
 
 /// Four numbers that may be a rectangle's: its left column, its top row, its width and its height, in places.
 #[derive(Clone, Copy, Debug)]
-pub struct Corner {
+pub struct RectNumbers {
     pub x: i64,
     pub y: i64,
     pub w: i64,
@@ -49,13 +49,13 @@ pub fn count(number: usize, words: &[&[u8]]) -> Result<(), ScriptCause>
     }
 }
 
-/// Tests that there are from `least` to `most` words, or answers `Words`.
-pub fn count_in(least: usize, most: usize, words: &[&[u8]]) -> Result<(), ScriptCause>
-    ensures value { result ≡ count_in least most (texts words.now) }
-    ensures least { OnOk result (least ≤ length words.now) }
+/// Tests that there are from `minimum` to `most` words, or answers `Words`.
+pub fn count_in(minimum: usize, most: usize, words: &[&[u8]]) -> Result<(), ScriptCause>
+    ensures value { result ≡ count_in minimum most (texts words.now) }
+    ensures minimum { OnOk result (minimum ≤ length words.now) }
     ensures most { OnOk result (length words.now ≤ most) }
 {
-    if least <= words.len() && words.len() <= most {
+    if minimum <= words.len() && words.len() <= most {
         Ok(())
     } else {
         Err(ScriptCause::Words)
@@ -94,16 +94,16 @@ fn integer_at(low: i64, high: i64, words: &[&[u8]], index: usize) -> Result<i64,
 #[tactic(auto, unfolding(crate::specs::Fields::sample_of))]
 pub(crate) fn sample_of(word: &[u8]) -> Result<u32, ScriptCause>
     ensures value { result ≡ sample_of word.now }
-    ensures range { IfOk result (λ value. value ≤ greatest_sample) }
+    ensures range { IfOk result (λ value. value ≤ max_sample) }
 {
-    natural_in(0, GREATEST_SAMPLE, word).ok_or(ScriptCause::Number)
+    natural_in(0, MAX_SAMPLE, word).ok_or(ScriptCause::Number)
 }
 
 /// A sample of any format, or `Number`.
 pub fn sample_at(words: &[&[u8]], index: usize) -> Result<u32, ScriptCause>
     requires { index < length words.now }
     ensures value { result ≡ sample_at (texts words.now) index }
-    ensures range { IfOk result (λ value. value ≤ greatest_sample) }
+    ensures range { IfOk result (λ value. value ≤ max_sample) }
 {
     sample_of(word_at(words, index))
 }
@@ -112,10 +112,10 @@ pub fn sample_at(words: &[&[u8]], index: usize) -> Result<u32, ScriptCause>
 pub fn move_at(words: &[&[u8]], index: usize) -> Result<i64, ScriptCause>
     requires { index < length words.now }
     ensures value { result ≡ move_at (texts words.now) index }
-    ensures range { IfOk result (λ value. (neg_ℤ (pos furthest_move) ≤ℤ value)
-        × (value ≤ℤ pos furthest_move)) }
+    ensures range { IfOk result (λ value. (neg_ℤ (pos max_move) ≤ℤ value)
+        × (value ≤ℤ pos max_move)) }
 {
-    integer_at(-FURTHEST_MOVE, FURTHEST_MOVE, words, index)
+    integer_at(-MAX_MOVE, MAX_MOVE, words, index)
 }
 
 /// A column, a row, a width or a height as it may be written.
@@ -127,12 +127,12 @@ fn coordinate_at(words: &[&[u8]], index: usize) -> Result<i64, ScriptCause>
 }
 
 /// The four numbers of a rectangle, from a word on, or `Number`.
-#[tactic(auto, unfolding(crate::specs::Fields::corner_at))]
-pub fn corner_at(words: &[&[u8]], index: usize) -> Result<Corner, ScriptCause>
+#[tactic(auto, unfolding(crate::specs::Fields::rect_numbers_at))]
+pub fn rect_numbers_at(words: &[&[u8]], index: usize) -> Result<RectNumbers, ScriptCause>
     requires { index + 3 < length words.now }
-    ensures { result ≡ corner_at (texts words.now) index }
+    ensures { result ≡ rect_numbers_at (texts words.now) index }
 {
-    Ok(Corner {
+    Ok(RectNumbers {
         x: coordinate_at(words, index)?,
         y: coordinate_at(words, index + 1)?,
         w: coordinate_at(words, index + 2)?,
@@ -186,23 +186,23 @@ pub fn format_at(words: &[&[u8]], index: usize) -> Result<Format, ScriptCause>
     requires { index < length words.now }
     ensures { result ≡ format_at (texts words.now) index }
 {
-    format_of(word_at(words, index)).ok_or(ScriptCause::Name)
+    format_named(word_at(words, index)).ok_or(ScriptCause::Name)
 }
 
 /// The format that a word names.
-fn format_of(word: &[u8]) -> Option<Format>
-    ensures { result ≡ format_of word.now }
+fn format_named(word: &[u8]) -> Option<Format>
+    ensures { result ≡ format_named word.now }
 {
     Format::parse(word)
 }
 
-/// A policy for places outside, or `Name`.
+/// A policy for positions outside, or `Name`.
 #[tactic(auto, unfolding(crate::specs::Fields::policy_at))]
 pub fn policy_at(words: &[&[u8]], index: usize) -> Result<Abyss, ScriptCause>
     requires { index < length words.now }
     ensures { result ≡ policy_at (texts words.now) index }
 {
-    policy_of(word_at(words, index)).ok_or(ScriptCause::Name)
+    policy_named(word_at(words, index)).ok_or(ScriptCause::Name)
 }
 
 /// A policy that an operation may have, or `Name`.
@@ -234,7 +234,7 @@ pub fn sideways_at(words: &[&[u8]], index: usize) -> Result<bool, ScriptCause>
     }
 }
 
-impl Corner {
+impl RectNumbers {
     ghost use Rattle.std.specs.Prelude.{◌≡◌, ◌≤◌, ◌<◌, IfOk, IsTrue, is_some};
     ghost use Rattle.plane_rect.specs.Rectangle.{in_limits, scaled};
     ghost use Rattle.script_fields.specs.Fields.{level_rect_of, may_watch, rect_of, watched_rect_of};
@@ -247,7 +247,7 @@ impl Corner {
         kept(Rect::new(self.x, self.y, self.w, self.h))
     }
 
-    /// Their rectangle of a level, whose places are in limits at level 0 too, or `Rect`.
+    /// Their rectangle of a level, whose positions are in limits at level 0 too, or `Rect`.
     #[tactic(auto, unfolding(crate::specs::Fields::level_rect_of))]
     pub fn level_rect(self, level: u32) -> Result<Rect, ScriptCause>
         requires { level ≤ 8 }

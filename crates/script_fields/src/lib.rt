@@ -11,12 +11,12 @@ mod policy;
 pub use cause::{LineAnswer, ScriptAnswer, ScriptCause};
 pub use field::{Field, put_fields, put_names, put_samples};
 pub use fields::{
-    Corner, FURTHEST_MOVE, GREATEST_SAMPLE, LONGEST_PREFIX, corner_at, count, count_in, file_at,
+    RectNumbers, MAX_MOVE, MAX_SAMPLE, LONGEST_PREFIX, rect_numbers_at, count, count_in, file_at,
     format_at, may_watch, move_at, name_at, natural_at, near_policy_at, policy_at, prefix_at,
     sample_at, sideways_at, word_at,
 };
 pub use limits::{
-    GREATEST_LEVEL, GREATEST_RADIUS, GREATEST_SIZE, are_pixel, is_in, is_level_rect, is_move,
+    MAX_LEVEL, MAX_RADIUS, MAX_SIZE, are_pixel, is_in, is_level_rect, is_move,
     is_square,
 };
 pub use lists::{Names, names_from, samples_from};

@@ -3,11 +3,11 @@
 ghost use Rattle.std.specs.Prelude.{◌≡◌, ◌+◌, ◌≤◌, IfOk, length, All, IsTrue};
 ghost use Rattle.plane_rect.specs.Name.{is_name};
 ghost use Rattle.script_fields.specs.Answers.{Answers};
-ghost use Rattle.script_fields.specs.Fields.{greatest_sample, names_from, names_of, samples_from, samples_of, texts};
+ghost use Rattle.script_fields.specs.Fields.{max_sample, names_from, names_of, samples_from, samples_of, texts};
 
 use crate::cause::LineAnswer;
 use crate::fields::{name_of, sample_of};
-use operations::Samples;
+use model_operations::PixelSamples;
 use plane_rect::Name;
 use std::alloc::Global;
 use std::marker::Model;
@@ -73,24 +73,24 @@ pub fn names_from(alloc: Global, index: usize, words: &[&[u8]]) -> Result<Names,
 
 /// The samples that words spell.
 #[tactic(auto, unfolding(crate::specs::Fields::samples_of))]
-fn samples_of(alloc: Global, words: &[&[u8]]) -> Result<Samples, LineAnswer>
+fn samples_of(alloc: Global, words: &[&[u8]]) -> Result<PixelSamples, LineAnswer>
     ensures value { Answers result (samples_of (texts words.now)) }
     ensures length { IfOk result (λ samples. length samples ≡ length words.now) }
-    ensures range { IfOk result (λ samples. All (λ sample. sample ≤ greatest_sample) samples) }
+    ensures range { IfOk result (λ samples. All (λ sample. sample ≤ max_sample) samples) }
 {
     let mut samples = Vec::new(alloc);
     for word in words {
         samples.push(sample_of(word)?)?;
     }
-    Ok(Samples::new(samples))
+    Ok(PixelSamples::new(samples))
 }
 
 /// The samples from a word on, or `Number`.
-pub fn samples_from(alloc: Global, index: usize, words: &[&[u8]]) -> Result<Samples, LineAnswer>
+pub fn samples_from(alloc: Global, index: usize, words: &[&[u8]]) -> Result<PixelSamples, LineAnswer>
     requires { index ≤ length words.now }
     ensures value { Answers result (samples_from index (texts words.now)) }
     ensures length { IfOk result (λ samples. length samples + index ≡ length words.now) }
-    ensures range { IfOk result (λ samples. All (λ sample. sample ≤ greatest_sample) samples) }
+    ensures range { IfOk result (λ samples. All (λ sample. sample ≤ max_sample) samples) }
 {
     samples_of(alloc, &words[index..])
 }

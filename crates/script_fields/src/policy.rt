@@ -1,10 +1,10 @@
-//! The words of the policies for places outside.
+//! The words of the policies for positions outside.
 
 ghost use Rattle.std.specs.Prelude.{◌≡◌};
 ghost use Rattle.std.specs.Str.{bytes_eq};
-ghost use Rattle.script_fields.specs.Policies.{policy_of, policy_word};
+ghost use Rattle.pixel_formats.specs.Policies.{policy_named, policy_word};
 
-use abyss_levels::Abyss;
+use model_images::Abyss;
 
 /// All policies.
 const POLICIES: [Abyss; 5] = [
@@ -16,9 +16,9 @@ const POLICIES: [Abyss; 5] = [
 ];
 
 /// The policy that a word names, and None exactly where it names none.
-#[tactic(auto, unfolding(crate::specs::Policies::policy_of))]
-pub fn policy_of(word: &[u8]) -> Option<Abyss>
-    ensures { result ≡ policy_of word.now }
+#[tactic(auto, unfolding(crate::specs::Policies::policy_named))]
+pub fn policy_named(word: &[u8]) -> Option<Abyss>
+    ensures { result ≡ policy_named word.now }
 {
     POLICIES
         .iter()

@@ -5,11 +5,11 @@ use Rattle.script_words.specs.Words.{is_word, joined}
 use Rattle.script_words.proofs.WordLaws.{length-joined}
 use Rattle.script_fields.proofs.FieldsBack.{small-move}
 use Rattle.script_fields.proofs.Fitting.{AreBounded, Fits, fields_fit, fits_append, fits_weaker, names_fit, samples_fit, size, size-cons}
-use Rattle.script_fields.specs.Spelling.{AreKept, words_of_fields}
+use Rattle.script_fields.specs.Spelling.{AreValid, words_of_fields}
 use Rattle.script_read.specs.Keywords.{keyword_word}
-use Rattle.script_read.specs.Limits.{InRange, KeepsLimits, input_count}
+use Rattle.script_read.specs.Limits.{InRange, IsInLimits, input_count}
 use Rattle.script_read.specs.OperationWords.{operation_word}
-use Rattle.script_read.specs.Spelling.{KeepsTypes, arguments, fields_of, keyword, list_words, operation_spelled, samples_in, spelled, word_of}
+use Rattle.script_read.specs.Spelling.{HasValidFields, arguments, fields_of, keyword, list_words, operation_spelled, samples_in, spelled, word_of}
 use Rattle.script_read.specs.declared.command.Command.{Command}
 use Rattle.script_read.specs.declared.command.Command.TheVariants.{Buffer, Sub, Dup, Load, Fill, Copy, Node, Drop, Commit, Undo, Redo, Render, Grab, Watch, EndWatch}
 use Rattle.script_read.specs.declared.command.OpWords.{OpWords}
@@ -70,7 +70,7 @@ few_inputs Over = omega arith
 few_inputs Mask = omega arith
 few_inputs op = omega arith
 
-operation_fits : (op : OpWords) → InRange op → AreKept (arguments op) → Fits (operation_spelled op) 379
+operation_fits : (op : OpWords) → InRange op → AreValid (arguments op) → Fits (operation_spelled op) 379
 operation_fits op range kept =
     let bounded = arguments_bounded op range in
     let few : length (arguments op) ≤ 5 = bounded.1 in
@@ -98,7 +98,7 @@ keyword_fits keywords.Watch = (refl, omega arith)
 keyword_fits keywords.EndWatch = (refl, omega arith)
 
 -- a command has at most 5 fields but lists, whose numbers have at most 10 digits
-fields_bounded : (command : Command) → KeepsLimits command → AreBounded (fields_of command) × (length (fields_of command) ≤ 5)
+fields_bounded : (command : Command) → IsInLimits command → AreBounded (fields_of command) × (length (fields_of command) ≤ 5)
 fields_bounded (Buffer name format rect) limits = ((tt, (tt, (tt, tt))), omega arith)
 fields_bounded (Sub name parent rect) limits = ((tt, (tt, (tt, tt))), omega arith)
 fields_bounded (Dup name from) limits = ((tt, (tt, tt)), omega arith)
@@ -115,11 +115,11 @@ fields_bounded (Grab name level policy rect file) limits = ((tt, (omega (arith, 
 fields_bounded (Watch name rect viewers frames prefix) limits = ((tt, (tt, (omega (arith, limits.1.1), (omega (arith, limits.2.1), (tt, tt))))), omega arith)
 fields_bounded EndWatch limits = (tt, omega arith)
 
-fields_kept : (command : Command) → KeepsTypes command → AreKept (fields_of command)
+fields_kept : (command : Command) → HasValidFields command → AreValid (fields_of command)
 fields_kept (Node name op inputs) types = (types.0, tt)
 fields_kept command types = types
 
-list_words_fit : (command : Command) → KeepsLimits command → KeepsTypes command → Fits (list_words command) 413
+list_words_fit : (command : Command) → IsInLimits command → HasValidFields command → Fits (list_words command) 413
 list_words_fit (Fill name rect samples) limits types =
     let few : length samples ≤ 4 = limits.1.number.1 in
     fits_weaker (map decimal samples) (11 * length samples) 413 (omega arith) (samples_fit samples limits.1.each)
@@ -129,7 +129,7 @@ list_words_fit (Node name op inputs) limits types =
     fits_append (operation_spelled op) inputs 379 34 (operation_fits op limits.0 types.1) (fits_weaker inputs (17 * length inputs) 34 (omega arith) (names_fit inputs types.2))
 list_words_fit command limits types = (refl, omega arith)
 
-spelled_fits : (command : Command) → KeepsLimits command → KeepsTypes command → Fits (spelled command) 748
+spelled_fits : (command : Command) → IsInLimits command → HasValidFields command → Fits (spelled command) 748
 spelled_fits command limits types =
     let bounded = fields_bounded command limits in
     let few : length (fields_of command) ≤ 5 = bounded.1 in
@@ -138,11 +138,11 @@ spelled_fits command limits types =
     (fits_append (words_of_fields (fields_of command)) (list_words command) 325 413 whole (list_words_fit command limits types))
 
 -- the words of a command are words of a text
-pub are_words-spelled : (command : Command) → KeepsLimits command → KeepsTypes command → list_all is_word (spelled command) ≡ true
+pub are_words-spelled : (command : Command) → IsInLimits command → HasValidFields command → list_all is_word (spelled command) ≡ true
 are_words-spelled command limits types = (spelled_fits command limits types).0
 
 -- its line isn't too long
-pub short-spelled : (command : Command) → KeepsLimits command → KeepsTypes command → length (joined (spelled command)) ≤ 1024
+pub short-spelled : (command : Command) → IsInLimits command → HasValidFields command → length (joined (spelled command)) ≤ 1024
 short-spelled command limits types =
     let first = keyword_word (keyword command) in
     let others = words_of_fields (fields_of command) ++ list_words command in

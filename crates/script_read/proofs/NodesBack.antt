@@ -4,14 +4,14 @@ use Rattle.std.proofs.Math.Seq.{drop-length}
 use Rattle.std.proofs.lemmas.Bool.{le-leb}
 use Rattle.std.proofs.lemmas.List.{append-nil, length-map}
 use Rattle.plane_rect.specs.Name.{is_name}
-use Rattle.script_fields.proofs.FieldsBack.{corner_at-rect, count_in-of, format_at-word, move_at-signed, name_of-name, names_of-names, natural_at-decimal, near_policy_at-word, rect_of-corner, sample_of-decimal, samples_of-decimal, sideways_at-word}
+use Rattle.script_fields.proofs.FieldsBack.{rect_numbers_at-rect, count_in-of, format_at-word, move_at-signed, name_of-name, names_of-names, natural_at-decimal, near_policy_at-word, rect_of-numbers, sample_of-decimal, samples_of-decimal, sideways_at-word}
 use Rattle.script_fields.specs.Fields.{name_of, names_of, samples_of, word_at}
-use Rattle.script_fields.specs.Limits.{greatest_radius, greatest_size}
+use Rattle.script_fields.specs.Limits.{max_radius, max_size}
 use Rattle.script_read.specs.Keywords.{keyword_word}
 use Rattle.script_read.specs.Limits.{InRange, input_count}
 use Rattle.script_read.specs.Nodes.{ends_from, node, node_by}
 use Rattle.script_read.specs.OperationWords.{operation_of, operation_word}
-use Rattle.script_fields.specs.Spelling.{AreKept, AreNames}
+use Rattle.script_fields.specs.Spelling.{AreValid, AreNames}
 use Rattle.script_read.specs.Spelling.{arguments, operation_spelled, word_of}
 use Rattle.script_read.specs.declared.command.Command.TheVariants.{Node}
 use Rattle.script_read.specs.declared.command.OpWords.{OpWords}
@@ -76,7 +76,7 @@ with_two (first ∷ second ∷ third ∷ inputs) P two are here = absurd (omega 
 abbrev IsRead : List ℕ → OpWords → List (List ℕ) → Type 0
 IsRead name op inputs = node_by (word_of op) (node_words name op inputs) ≡ Ok (Node name op inputs)
 
-op_read : (name : List ℕ) (op : OpWords) (inputs : List (List ℕ)) → IsTrue (is_name name) → InRange op → AreKept (arguments op) →
+op_read : (name : List ℕ) (op : OpWords) (inputs : List (List ℕ)) → IsTrue (is_name name) → InRange op → AreValid (arguments op) →
     length inputs ≡ input_count op → AreNames inputs → IsRead name op inputs
 unfolding node_by
 op_read name (Source buffer) inputs named range are number names = with_none inputs (IsRead name (Source buffer)) number
@@ -87,25 +87,25 @@ op_read name (Color format rect samples) inputs named range are number names = w
     let pixel : length samples ≤ 4 = range.1.number.1 in
     let some : 1 ≤ length samples = range.1.number.0 in
     let count : length (map decimal samples ++ []) ≡ length samples = ap (λ (all : List (List ℕ)). length all) (append-nil (map decimal samples)) ∙ length-map samples decimal in
-    let drawn : samples_of (map decimal samples ++ []) ≡ Ok samples = ap samples_of (append-nil (map decimal samples)) ∙ samples_of-decimal samples range.1.each in
+    let generated : samples_of (map decimal samples ++ []) ≡ Ok samples = ap samples_of (append-nil (map decimal samples)) ∙ samples_of-decimal samples range.1.each in
     rw (
       count_in-of 9 12 words (omega arith) (omega arith),
-      corner_at-rect words 4 rect are.1.0 refl refl refl refl,
-      drawn,
+      rect_numbers_at-rect words 4 rect are.1.0 refl refl refl refl,
+      generated,
       ends_from-ends (length words) words name [] refl (drop-length words) named tt,
       format_at-word words 3 format refl,
-      rect_of-corner rect are.1.0 range.0,
+      rect_of-numbers rect are.1.0 range.0,
     ) refl)
 op_read name (Checker format rect size v1 v2) inputs named range are number names = with_none inputs (IsRead name (Checker format rect size v1 v2)) number
     (let words = node_words name (Checker format rect size v1 v2) [] in
     rw (
-      corner_at-rect words 4 rect are.1.0 refl refl refl refl,
-      natural_at-decimal 1 greatest_size words 8 size refl range.1.0 range.1.1 (omega (arith, range.1.1)),
+      rect_numbers_at-rect words 4 rect are.1.0 refl refl refl refl,
+      natural_at-decimal 1 max_size words 8 size refl range.1.0 range.1.1 (omega (arith, range.1.1)),
       sample_of-decimal v1 range.2,
       sample_of-decimal v2 range.3,
       ends_from-ends 11 words name [] refl refl named tt,
       format_at-word words 3 format refl,
-      rect_of-corner rect are.1.0 range.0,
+      rect_of-numbers rect are.1.0 range.0,
     ) refl)
 op_read name (Convert format) inputs named range are number names = with_one inputs (IsRead name (Convert format)) number names (λ input ok.
     let words = node_words name (Convert format) (input ∷ []) in
@@ -124,7 +124,7 @@ op_read name (Translate dx dy) inputs named range are number names = with_one in
     rw (move_at-signed words 3 dx refl range.0, move_at-signed words 4 dy refl range.1, ends_from-ends 5 words name (input ∷ []) refl refl named ok) refl)
 op_read name (Crop rect) inputs named range are number names = with_one inputs (IsRead name (Crop rect)) number names (λ input ok.
     let words = node_words name (Crop rect) (input ∷ []) in
-    rw (corner_at-rect words 3 rect are.0 refl refl refl refl, ends_from-ends 7 words name (input ∷ []) refl refl named ok, rect_of-corner rect are.0 range) refl)
+    rw (rect_numbers_at-rect words 3 rect are.0 refl refl refl refl, ends_from-ends 7 words name (input ∷ []) refl refl named ok, rect_of-numbers rect are.0 range) refl)
 op_read name (Flip true) inputs named range are number names = with_one inputs (IsRead name (Flip true)) number names (λ input ok.
     let words = node_words name (Flip true) (input ∷ []) in
     rw (ends_from-ends 4 words name (input ∷ []) refl refl named ok, sideways_at-word words 3 true refl) refl)
@@ -133,13 +133,13 @@ op_read name (Flip false) inputs named range are number names = with_one inputs 
     rw (ends_from-ends 4 words name (input ∷ []) refl refl named ok, sideways_at-word words 3 false refl) refl)
 op_read name (BoxMean radius policy) inputs named range are number names = with_one inputs (IsRead name (BoxMean radius policy)) number names (λ input ok.
     let words = node_words name (BoxMean radius policy) (input ∷ []) in
-    rw (natural_at-decimal 1 greatest_radius words 3 radius refl range.0.0 range.0.1 (omega (arith, range.0.1)), ends_from-ends 5 words name (input ∷ []) refl refl named ok, near_policy_at-word words 4 policy refl range.1) refl)
+    rw (natural_at-decimal 1 max_radius words 3 radius refl range.0.0 range.0.1 (omega (arith, range.0.1)), ends_from-ends 5 words name (input ∷ []) refl refl named ok, near_policy_at-word words 4 policy refl range.1) refl)
 op_read name (Dilate radius policy) inputs named range are number names = with_one inputs (IsRead name (Dilate radius policy)) number names (λ input ok.
     let words = node_words name (Dilate radius policy) (input ∷ []) in
-    rw (natural_at-decimal 1 greatest_radius words 3 radius refl range.0.0 range.0.1 (omega (arith, range.0.1)), ends_from-ends 5 words name (input ∷ []) refl refl named ok, near_policy_at-word words 4 policy refl range.1) refl)
+    rw (natural_at-decimal 1 max_radius words 3 radius refl range.0.0 range.0.1 (omega (arith, range.0.1)), ends_from-ends 5 words name (input ∷ []) refl refl named ok, near_policy_at-word words 4 policy refl range.1) refl)
 op_read name (Erode radius policy) inputs named range are number names = with_one inputs (IsRead name (Erode radius policy)) number names (λ input ok.
     let words = node_words name (Erode radius policy) (input ∷ []) in
-    rw (natural_at-decimal 1 greatest_radius words 3 radius refl range.0.0 range.0.1 (omega (arith, range.0.1)), ends_from-ends 5 words name (input ∷ []) refl refl named ok, near_policy_at-word words 4 policy refl range.1) refl)
+    rw (natural_at-decimal 1 max_radius words 3 radius refl range.0.0 range.0.1 (omega (arith, range.0.1)), ends_from-ends 5 words name (input ∷ []) refl refl named ok, near_policy_at-word words 4 policy refl range.1) refl)
 op_read name Add inputs named range are number names = with_two inputs (IsRead name Add) number names (λ first second ok.
     let words = node_words name Add (first ∷ second ∷ []) in
     rw (ends_from-ends 3 words name (first ∷ second ∷ []) refl refl named ok) refl)
@@ -151,7 +151,7 @@ op_read name Mask inputs named range are number names = with_two inputs (IsRead 
     rw (ends_from-ends 3 words name (first ∷ second ∷ []) refl refl named ok) refl)
 
 pub node_read : (name : List ℕ) (op : OpWords) (inputs : List (List ℕ)) → InRange op → length inputs ≡ input_count op → IsTrue (is_name name) →
-    AreKept (arguments op) → AreNames inputs → node (node_words name op inputs) ≡ Ok (Node name op inputs)
+    AreValid (arguments op) → AreNames inputs → node (node_words name op inputs) ≡ Ok (Node name op inputs)
 unfolding node
 node_read name op inputs range number named are names =
     let words = node_words name op inputs in

@@ -11,17 +11,17 @@ use Rattle.script_read.proofs.CommandsBack.{command_of-spelled}
 use Rattle.script_read.proofs.Fitting.{are_words-spelled, short-spelled}
 use Rattle.script_read.proofs.PrintLaws.{AreTyped}
 use Rattle.script_read.proofs.ScriptLaws.{command_in-of_words}
-use Rattle.script_read.specs.IsScript.{IsScript, MayFollow, MayStand}
+use Rattle.script_read.specs.IsScript.{IsScript, MayFollow, MayContinue}
 use Rattle.script_read.specs.Keywords.{keyword_word}
-use Rattle.script_read.specs.Limits.{KeepsLimits}
-use Rattle.script_read.specs.Script.{Refusal, before, begins_comment, command_in, ended, from_step, longest_line, most_lines, open_behind, script_from, script_of, spoken, step_of}
-use Rattle.script_read.specs.Spelling.{KeepsTypes, keyword, lines_printed, printed, spelled}
+use Rattle.script_read.specs.Limits.{IsInLimits}
+use Rattle.script_read.specs.Script.{Refusal, before, begins_comment, command_in, ended, from_step, longest_line, most_lines, open_after, script_from, script_of, spoken, step_of}
+use Rattle.script_read.specs.Spelling.{HasValidFields, keyword, lines_printed, printed, spelled}
 use Rattle.script_fields.specs.declared.cause.ScriptCause.{ScriptCause}
 use Rattle.script_read.specs.declared.command.Command.{Command}
 use Rattle.script_read.specs.declared.command.Line.{Line}
 use Rattle.script_read.specs.declared.keyword.Keyword.{Keyword}
 use Rattle.script_read.specs.declared.keyword.Keyword.TheVariants.{Buffer, Sub, Dup, Load, Fill, Copy, Node, Drop, Commit, Undo, Redo, Render, Grab, Watch, EndWatch}
-use Rattle.script_read.specs.declared.reader.Step.{Step}
+use Rattle.script_read.specs.declared.reader.ReadLine.{ReadLine}
 
 -- ---- empty lines
 
@@ -41,7 +41,7 @@ skips zero number watching rest early =
     ap (λ (n : ℕ). script_from n watching rest) same
 skips (suc count) number watching rest early =
     let same : number + 1 + count ≡ number + suc count = omega arith in
-    ap (λ (read : Result Step ScriptCause). from_step number read (λ (after : Option ℕ). script_from (number + 1) after (replicate count [] ++ rest)))
+    ap (λ (read : Result ReadLine ScriptCause). from_step number read (λ (after : Option ℕ). script_from (number + 1) after (replicate count [] ++ rest)))
     (step_of-nothing number watching (omega arith))
     ∙ skips count (number + 1) watching rest (omega arith)
     ∙ ap (λ (n : ℕ). script_from n watching rest) same
@@ -65,11 +65,11 @@ no_comment Grab = refl
 no_comment Watch = refl
 no_comment EndWatch = refl
 
-spoken-spelled : (command : Command) → KeepsLimits command → KeepsTypes command → spoken (spelled command) ≡ Ok (Some command)
+spoken-spelled : (command : Command) → IsInLimits command → HasValidFields command → spoken (spelled command) ≡ Ok (Some command)
 unfolding spoken
 spoken-spelled command limits types = rw (no_comment (keyword command), command_of-spelled command limits types) refl
 
-command_in-spelled : (number : ℕ) (command : Command) → number ≤ most_lines → KeepsLimits command → KeepsTypes command →
+command_in-spelled : (number : ℕ) (command : Command) → number ≤ most_lines → IsInLimits command → HasValidFields command →
     command_in number (joined (spelled command)) ≡ Ok (Some command)
 command_in-spelled number command early limits types =
     let words = are_words-spelled command limits types in
@@ -78,59 +78,59 @@ command_in-spelled number command early limits types =
     ∙ ap spoken (words_of-joined (spelled command) words)
     ∙ spoken-spelled command limits types
 
-step_of-spelled : (number : ℕ) (watching after : Option ℕ) (command : Command) → number ≤ most_lines → KeepsLimits command → KeepsTypes command →
-    open_behind number watching command ≡ Ok after → step_of number watching (joined (spelled command)) ≡ Ok (record { command = Some command; watching = after })
+step_of-spelled : (number : ℕ) (watching after : Option ℕ) (command : Command) → number ≤ most_lines → IsInLimits command → HasValidFields command →
+    open_after number watching command ≡ Ok after → step_of number watching (joined (spelled command)) ≡ Ok (record { command = Some command; watching = after })
 unfolding step_of
-step_of-spelled number watching after command early limits types stands = rw (command_in-spelled number command early limits types, stands) refl
+step_of-spelled number watching after command early limits types unchanged = rw (command_in-spelled number command early limits types, unchanged) refl
 
 -- ---- all lines
 
-line_read : (line : Line) (lines : List Line) (watching : Option ℕ) (behind : List (List ℕ)) → line.number ≤ most_lines → KeepsLimits line.command → KeepsTypes line.command →
-    ((after : Option ℕ) → MayFollow (line.number + 1) after lines → script_from (line.number + 1) after behind ≡ Ok lines) →
-    (standing : Result (Option ℕ) ScriptCause) → open_behind line.number watching line.command ≡ standing → MayStand standing (λ (after : Option ℕ). MayFollow (line.number + 1) after lines) →
-    script_from line.number watching (joined (spelled line.command) ∷ behind) ≡ Ok (line ∷ lines)
-line_read line lines watching behind early limits types read (Ok after) stands follows =
-    ap (λ (step : Result Step ScriptCause). from_step line.number step (λ (w : Option ℕ). script_from (line.number + 1) w behind))
-    (step_of-spelled line.number watching after line.command early limits types stands)
+line_read : (line : Line) (lines : List Line) (watching : Option ℕ) (remaining : List (List ℕ)) → line.number ≤ most_lines → IsInLimits line.command → HasValidFields line.command →
+    ((after : Option ℕ) → MayFollow (line.number + 1) after lines → script_from (line.number + 1) after remaining ≡ Ok lines) →
+    (standing : Result (Option ℕ) ScriptCause) → open_after line.number watching line.command ≡ standing → MayContinue standing (λ (after : Option ℕ). MayFollow (line.number + 1) after lines) →
+    script_from line.number watching (joined (spelled line.command) ∷ remaining) ≡ Ok (line ∷ lines)
+line_read line lines watching remaining early limits types read (Ok after) unchanged follows =
+    ap (λ (step : Result ReadLine ScriptCause). from_step line.number step (λ (w : Option ℕ). script_from (line.number + 1) w remaining))
+    (step_of-spelled line.number watching after line.command early limits types unchanged)
     ∙ ap (λ (rest : Result (List Line) Refusal). before line.number (Some line.command) rest) (read after follows)
-line_read line lines watching behind early limits types read (Err cause) stands follows = absurd follows
+line_read line lines watching remaining early limits types read (Err cause) unchanged follows = absurd follows
 
 lines_read : (number : ℕ) (watching : Option ℕ) (lines : List Line) → MayFollow number watching lines → AreTyped lines →
     script_from number watching (lines_printed number lines) ≡ Ok lines
 unfolding lines_printed
 lines_read number watching [] follows typed = ap (λ (w : Option ℕ). ended w) follows
 lines_read number watching (line ∷ lines) follows typed =
-    let behind = lines_printed (line.number + 1) lines in
+    let remaining = lines_printed (line.number + 1) lines in
     let early : number ≤ line.number = follows.0 in
     let last : line.number ≤ most_lines = follows.1 in
     let there : number + (line.number - number) ≡ line.number = omega arith in
-    skips (line.number - number) number watching (joined (spelled line.command) ∷ behind) (omega arith)
-    ∙ ap (λ (n : ℕ). script_from n watching (joined (spelled line.command) ∷ behind)) there
-    ∙ line_read line lines watching behind last follows.2 typed.0 (λ (after : Option ℕ) (on : MayFollow (line.number + 1) after lines). lines_read (line.number + 1) after lines on typed.1)
-    (open_behind line.number watching line.command) refl follows.3
+    skips (line.number - number) number watching (joined (spelled line.command) ∷ remaining) (omega arith)
+    ∙ ap (λ (n : ℕ). script_from n watching (joined (spelled line.command) ∷ remaining)) there
+    ∙ line_read line lines watching remaining last follows.2 typed.0 (λ (after : Option ℕ) (on : MayFollow (line.number + 1) after lines). lines_read (line.number + 1) after lines on typed.1)
+    (open_after line.number watching line.command) refl follows.3
 
 -- ---- lines of a text
 
-all_lines-behind : (count : ℕ) (rest : List (List ℕ)) → list_all is_line rest ≡ true → list_all is_line (replicate count [] ++ rest) ≡ true
-all_lines-behind zero rest are = are
-all_lines-behind (suc count) rest are = all_lines-behind count rest are
+all_lines-remaining : (count : ℕ) (rest : List (List ℕ)) → list_all is_line rest ≡ true → list_all is_line (replicate count [] ++ rest) ≡ true
+all_lines-remaining zero rest are = are
+all_lines-remaining (suc count) rest are = all_lines-remaining count rest are
 
-stands_alone : (number : ℕ) (watching : Option ℕ) (lines : List Line) (standing : Result (Option ℕ) ScriptCause) →
-    ((after : Option ℕ) → MayFollow number after lines → list_all is_line (lines_printed number lines) ≡ true) → MayStand standing (λ (after : Option ℕ). MayFollow number after lines) →
+is_alone : (number : ℕ) (watching : Option ℕ) (lines : List Line) (standing : Result (Option ℕ) ScriptCause) →
+    ((after : Option ℕ) → MayFollow number after lines → list_all is_line (lines_printed number lines) ≡ true) → MayContinue standing (λ (after : Option ℕ). MayFollow number after lines) →
     list_all is_line (lines_printed number lines) ≡ true
-stands_alone number watching lines (Ok after) are follows = are after follows
-stands_alone number watching lines (Err cause) are follows = absurd follows
+is_alone number watching lines (Ok after) are follows = are after follows
+is_alone number watching lines (Err cause) are follows = absurd follows
 
 all_lines-printed : (number : ℕ) (watching : Option ℕ) (lines : List Line) → MayFollow number watching lines → AreTyped lines → list_all is_line (lines_printed number lines) ≡ true
 unfolding lines_printed
 all_lines-printed number watching [] follows typed = refl
 all_lines-printed number watching (line ∷ lines) follows typed =
     let words = joined (spelled line.command) in
-    let behind = lines_printed (line.number + 1) lines in
-    all_lines-behind (line.number - number) (words ∷ behind)
-    (and_both (is_line words) (list_all is_line behind)
+    let remaining = lines_printed (line.number + 1) lines in
+    all_lines-remaining (line.number - number) (words ∷ remaining)
+    (and_both (is_line words) (list_all is_line remaining)
     (is_line-text words (is_text-joined (spelled line.command) (are_words-spelled line.command follows.2 typed.0)))
-    (stands_alone (line.number + 1) watching lines (open_behind line.number watching line.command)
+    (is_alone (line.number + 1) watching lines (open_after line.number watching line.command)
     (λ (after : Option ℕ) (on : MayFollow (line.number + 1) after lines). all_lines-printed (line.number + 1) after lines on typed.1) follows.3))
 
 pub reads_back : (lines : List Line) → IsScript lines → AreTyped lines → script_of (printed lines) ≡ Ok lines

@@ -3,13 +3,13 @@ use Rattle.std.proofs.Common.{◌≡◌, ℕ, ◌+◌, ◌≤◌, nat_le, List, 
 use Rattle.std.proofs.lemmas.List.{append-nil}
 use Rattle.script_words.specs.Lines.{is_text, lines_of}
 use Rattle.script_words.specs.Words.{words_of}
-use Rattle.script_read.specs.IsScript.{IsScript, MayFollow, MayStand}
-use Rattle.script_read.specs.Limits.{KeepsLimits}
-use Rattle.script_read.specs.Script.{Refusal, before, command_in, ended, from_step, longest_line, most_lines, open_behind, open_past, script_from, script_of, spoken, step_of}
+use Rattle.script_read.specs.IsScript.{IsScript, MayFollow, MayContinue}
+use Rattle.script_read.specs.Limits.{IsInLimits}
+use Rattle.script_read.specs.Script.{Refusal, before, command_in, ended, from_step, longest_line, most_lines, open_after, open_past, script_from, script_of, spoken, step_of}
 use Rattle.script_fields.specs.declared.cause.ScriptCause.{ScriptCause}
 use Rattle.script_read.specs.declared.command.Command.{Command}
 use Rattle.script_read.specs.declared.command.Line.{Line}
-use Rattle.script_read.specs.declared.reader.Step.{Step}
+use Rattle.script_read.specs.declared.reader.ReadLine.{ReadLine}
 
 -- the words of a line of text, neither too long nor too late, are what is read of it
 pub command_in-of_words : (number : ℕ) (line : List ℕ) → is_text line ≡ true → nat_le (length line) longest_line ≡ true → nat_le number most_lines ≡ true →
@@ -17,7 +17,7 @@ pub command_in-of_words : (number : ℕ) (line : List ℕ) → is_text line ≡ 
 unfolding command_in
 command_in-of_words number line text short early = rw (text, short, early) refl
 
--- lines before those that are read behind them
+-- lines before those that are read after them
 abbrev pub ahead : List Line → Result (List Line) Refusal → Result (List Line) Refusal
 ahead lines (Ok rest) = Ok (lines ++ rest)
 ahead lines (Err refusal) = Err refusal
@@ -27,12 +27,12 @@ ahead-nil (Ok lines) = refl
 ahead-nil (Err refusal) = refl
 
 -- the line of a command, where there is one
-abbrev pub told : ℕ → Option Command → List Line
-told number None = []
-told number (Some command) = record { number = number; command = command } ∷ []
+abbrev pub reported : ℕ → Option Command → List Line
+reported number None = []
+reported number (Some command) = record { number = number; command = command } ∷ []
 
 ahead-before : (lines : List Line) (number : ℕ) (command : Option Command) (read : Result (List Line) Refusal) →
-    ahead lines (before number command read) ≡ ahead (lines ++ told number command) read
+    ahead lines (before number command read) ≡ ahead (lines ++ reported number command) read
 ahead-before lines number None read = ap (λ (all : List Line). ahead all read) (sym (append-nil lines))
 ahead-before lines number (Some command) (Ok rest) = ap Ok (sym (append_assoc lines (record { number = number; command = command } ∷ []) rest))
 ahead-before lines number (Some command) (Err refusal) = refl
@@ -41,10 +41,10 @@ pub reads_nothing : (text : List ℕ) → script_of text ≡ ahead [] (script_fr
 unfolding script_of
 reads_nothing text = sym (ahead-nil (script_from 1 None (lines_of text)))
 
-pub reads_on : (lines : List Line) (number : ℕ) (watching : Option ℕ) (line : List ℕ) (rest : List (List ℕ)) (step : Step) → step_of number watching line ≡ Ok step →
-    ahead lines (script_from number watching (line ∷ rest)) ≡ ahead (lines ++ told number step.command) (script_from (number + 1) step.watching rest)
+pub reads_on : (lines : List Line) (number : ℕ) (watching : Option ℕ) (line : List ℕ) (rest : List (List ℕ)) (step : ReadLine) → step_of number watching line ≡ Ok step →
+    ahead lines (script_from number watching (line ∷ rest)) ≡ ahead (lines ++ reported number step.command) (script_from (number + 1) step.watching rest)
 reads_on lines number watching line rest step is =
-    ap (λ (read : Result Step ScriptCause). ahead lines (from_step number read (λ (after : Option ℕ). script_from (number + 1) after rest))) is
+    ap (λ (read : Result ReadLine ScriptCause). ahead lines (from_step number read (λ (after : Option ℕ). script_from (number + 1) after rest))) is
     ∙ ahead-before lines number step.command (script_from (number + 1) step.watching rest)
 
 -- what may follow the next line may follow this one
@@ -59,7 +59,7 @@ abbrev pub LeadsTo : List Line → ℕ → Option ℕ → Type 0
 LeadsTo lines number watching = (rest : List Line) → MayFollow number watching rest → IsScript (lines ++ rest)
 
 pub leads_on : (lines : List Line) (number : ℕ) (watching after : Option ℕ) (command : Option Command) → LeadsTo lines number watching → number ≤ most_lines →
-    IfSome command KeepsLimits → open_past number watching command ≡ Ok after → LeadsTo (lines ++ told number command) (number + 1) after
+    IfSome command IsInLimits → open_past number watching command ≡ Ok after → LeadsTo (lines ++ reported number command) (number + 1) after
 leads_on lines number watching after None leads early keeps is rest follows =
     let same : watching ≡ after = cc in
     let before : MayFollow number watching rest =
@@ -67,15 +67,15 @@ leads_on lines number watching after None leads early keeps is rest follows =
     subst (λ (all : List Line). IsScript (all ++ rest)) (sym (append-nil lines)) (leads rest before)
 leads_on lines number watching after (Some command) leads early keeps is rest follows =
     let line : Line = record { number = number; command = command } in
-    let stands : MayStand (open_behind number watching command) (λ (w : Option ℕ). MayFollow (number + 1) w rest) =
-    subst (λ (r : Result (Option ℕ) ScriptCause). MayStand r (λ (w : Option ℕ). MayFollow (number + 1) w rest)) (sym is) follows in
-    subst (λ (all : List Line). IsScript all) (sym (append_assoc lines (line ∷ []) rest)) (leads (line ∷ rest) (omega arith, early, keeps, stands))
+    let unchanged : MayContinue (open_after number watching command) (λ (w : Option ℕ). MayFollow (number + 1) w rest) =
+    subst (λ (r : Result (Option ℕ) ScriptCause). MayContinue r (λ (w : Option ℕ). MayFollow (number + 1) w rest)) (sym is) follows in
+    subst (λ (all : List Line). IsScript all) (sym (append_assoc lines (line ∷ []) rest)) (leads (line ∷ rest) (omega arith, early, keeps, unchanged))
 
 pub leads_here : (lines : List Line) (number : ℕ) → LeadsTo lines number None → IsScript lines
 leads_here lines number leads = subst (λ (all : List Line). IsScript all) (append-nil lines) (leads [] refl)
 
--- behind the last line
+-- after the last line
 pub reads_end : (lines : List Line) (number : ℕ) (watching : Option ℕ) (rest : List ℕ) → rest ≡ [] →
     ahead lines (script_from number watching (lines_of rest)) ≡ ahead lines (ended watching)
 unfolding lines_of
-reads_end lines number watching rest is = ap (λ (left : List ℕ). ahead lines (script_from number watching (lines_of left))) is
+reads_end lines number watching rest is = ap (λ (first_column : List ℕ). ahead lines (script_from number watching (lines_of first_column))) is

@@ -1,9 +1,9 @@
--- The commands that the words of a line spell, but those of nodes. Of the causes of a line the lowest is told: its
+-- The commands that the words of a line spell, but those of nodes. Of the causes of a line the lowest is reported: its
 -- words are counted, then its numbers are read, then its names and choices, and then its rectangle.
 use Rattle.std.specs.Prelude.{ℕ, List, Result, Ok}
-use Rattle.script_fields.specs.Fields.{◌>>=◌, count, count_in, natural_at, move_at, corner_at, name_at, file_at, prefix_at, format_at, policy_at, rect_of, level_rect_of, watched_rect_of, samples_from}
+use Rattle.script_fields.specs.Fields.{◌>>=◌, count, count_in, natural_at, move_at, rect_numbers_at, name_at, file_at, prefix_at, format_at, policy_at, rect_of, level_rect_of, watched_rect_of, samples_from}
 use Rattle.script_fields.specs.declared.cause.ScriptCause.{ScriptCause}
-use Rattle.script_fields.specs.Limits.{greatest_level}
+use Rattle.script_fields.specs.Limits.{max_level}
 use Rattle.script_read.specs.declared.command.Command.{Command}
 use Rattle.script_read.specs.declared.command.Command.TheVariants.{Buffer, Sub, Dup, Load, Fill, Copy, Drop, Render, Grab, Watch}
 
@@ -11,20 +11,20 @@ use Rattle.script_read.specs.declared.command.Command.TheVariants.{Buffer, Sub, 
 abbrev pub buffer : List (List ℕ) → Result Command ScriptCause
 buffer words = do
   _ ← count 7 words
-  corner ← corner_at words 3
+  numbers ← rect_numbers_at words 3
   name ← name_at words 1
   format ← format_at words 2
-  rect ← rect_of corner
+  rect ← rect_of numbers
   Ok (Buffer name format rect)
 
 -- `sub B PARENT X Y W H`
 abbrev pub sub : List (List ℕ) → Result Command ScriptCause
 sub words = do
   _ ← count 7 words
-  corner ← corner_at words 3
+  numbers ← rect_numbers_at words 3
   name ← name_at words 1
   parent ← name_at words 2
-  rect ← rect_of corner
+  rect ← rect_of numbers
   Ok (Sub name parent rect)
 
 -- `dup B FROM`
@@ -39,32 +39,32 @@ dup words = do
 abbrev pub load : List (List ℕ) → Result Command ScriptCause
 load words = do
   _ ← count 7 words
-  corner ← corner_at words 2
+  numbers ← rect_numbers_at words 2
   name ← name_at words 1
   file ← file_at words 6
-  rect ← rect_of corner
+  rect ← rect_of numbers
   Ok (Load name rect file)
 
 -- `fill B X Y W H S..`, 1 to 4 samples
 abbrev pub fill : List (List ℕ) → Result Command ScriptCause
 fill words = do
   _ ← count_in 7 10 words
-  corner ← corner_at words 2
+  numbers ← rect_numbers_at words 2
   samples ← samples_from 6 words
   name ← name_at words 1
-  rect ← rect_of corner
+  rect ← rect_of numbers
   Ok (Fill name rect samples)
 
 -- `copy FROM TO X Y W H DX DY`
 abbrev pub copy : List (List ℕ) → Result Command ScriptCause
 copy words = do
   _ ← count 9 words
-  corner ← corner_at words 3
+  numbers ← rect_numbers_at words 3
   dx ← move_at words 7
   dy ← move_at words 8
   from ← name_at words 1
   to ← name_at words 2
-  rect ← rect_of corner
+  rect ← rect_of numbers
   Ok (Copy from to rect dx dy)
 
 -- `drop N`
@@ -84,33 +84,33 @@ alone command words = do
 abbrev pub render : List (List ℕ) → Result Command ScriptCause
 render words = do
   _ ← count 8 words
-  level ← natural_at 0 greatest_level words 2
-  corner ← corner_at words 3
+  level ← natural_at 0 max_level words 2
+  numbers ← rect_numbers_at words 3
   name ← name_at words 1
   file ← file_at words 7
-  rect ← level_rect_of level corner
+  rect ← level_rect_of level numbers
   Ok (Render name level rect file)
 
 -- `grab B LEVEL ABYSS X Y W H FILE`
 abbrev pub grab : List (List ℕ) → Result Command ScriptCause
 grab words = do
   _ ← count 9 words
-  level ← natural_at 0 greatest_level words 2
-  corner ← corner_at words 4
+  level ← natural_at 0 max_level words 2
+  numbers ← rect_numbers_at words 4
   name ← name_at words 1
   policy ← policy_at words 3
   file ← file_at words 8
-  rect ← level_rect_of level corner
+  rect ← level_rect_of level numbers
   Ok (Grab name level policy rect file)
 
 -- `watch N X Y W H VIEWERS FRAMES PREFIX`
 abbrev pub watch : List (List ℕ) → Result Command ScriptCause
 watch words = do
   _ ← count 9 words
-  corner ← corner_at words 2
+  numbers ← rect_numbers_at words 2
   viewers ← natural_at 1 16 words 6
   frames ← natural_at 1 64 words 7
   name ← name_at words 1
   prefix ← prefix_at words 8
-  rect ← watched_rect_of viewers frames corner
+  rect ← watched_rect_of viewers frames numbers
   Ok (Watch name rect viewers frames prefix)

@@ -1,22 +1,22 @@
 -- The lines that are a script's.
 use Rattle.std.specs.Prelude.{ℕ, ◌+◌, ◌≡◌, ◌≤◌, List, [], ◌∷◌, Option, None, Result, Ok, Err}
-use Rattle.script_read.specs.Limits.{KeepsLimits}
-use Rattle.script_read.specs.Script.{most_lines, open_behind}
+use Rattle.script_read.specs.Limits.{IsInLimits}
+use Rattle.script_read.specs.Script.{most_lines, open_after}
 use Rattle.script_fields.specs.declared.cause.ScriptCause.{ScriptCause}
 use Rattle.script_read.specs.declared.command.Line.{Line}
 
--- a command may stand where a watch is open so, and what stands behind it may
-abbrev pub MayStand : Result (Option ℕ) ScriptCause → (Option ℕ → Type 0) → Type 0
-MayStand (Ok watching) Behind = Behind watching
-MayStand (Err cause) Behind = ⊥
+-- a command may stand where a watch is open so, and what stands after it may
+abbrev pub MayContinue : Result (Option ℕ) ScriptCause → (Option ℕ → Type 0) → Type 0
+MayContinue (Ok watching) After = After watching
+MayContinue (Err cause) After = ⊥
 
 -- Lines that may stand from a number on where that watch is open: their numbers rise, their commands keep their
 -- limits, and each watch ends before the next begins.
 abbrev pub MayFollow : ℕ → Option ℕ → List Line → Type 0
 MayFollow number watching [] = watching ≡ None
 MayFollow number watching (line ∷ lines) =
-    (number ≤ line.number) × (line.number ≤ most_lines) × KeepsLimits line.command
-    × MayStand (open_behind line.number watching line.command) (λ watching. MayFollow (line.number + 1) watching lines)
+    (number ≤ line.number) × (line.number ≤ most_lines) × IsInLimits line.command
+    × MayContinue (open_after line.number watching line.command) (λ watching. MayFollow (line.number + 1) watching lines)
 
 -- the lines are a script's
 abbrev pub IsScript : List Line → Type 0

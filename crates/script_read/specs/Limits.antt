@@ -1,8 +1,8 @@
 -- The limits that a script's commands keep.
 use Rattle.std.specs.Prelude.{ℕ, ◌≡◌, ◌≤◌, IsTrue, length}
 use Rattle.plane_rect.specs.Rectangle.{in_limits}
-use Rattle.script_fields.specs.Fields.{greatest_sample, longest_prefix, may_watch}
-use Rattle.script_fields.specs.Limits.{ArePixel, IsIn, IsLevelRect, IsMove, IsSample, IsSquare, greatest_size}
+use Rattle.script_fields.specs.Fields.{max_sample, longest_prefix, may_watch}
+use Rattle.script_fields.specs.Limits.{ArePixel, IsIn, IsLevelRect, IsMove, IsSample, IsSquare, max_size}
 use Rattle.script_read.specs.declared.command.Command.{Command}
 use Rattle.script_read.specs.declared.command.Command.TheVariants.{Buffer, Sub, Load, Fill, Copy, Node, Render, Grab, Watch}
 use Rattle.script_read.specs.declared.command.OpWords.{OpWords}
@@ -22,9 +22,9 @@ input_count op = 1
 abbrev pub InRange : OpWords → Type 0
 InRange (Color format rect samples) = IsTrue (in_limits rect) × ArePixel samples
 InRange (Checker format rect size v1 v2) =
-    IsTrue (in_limits rect) × IsIn 1 greatest_size size × IsSample v1 × IsSample v2
+    IsTrue (in_limits rect) × IsIn 1 max_size size × IsSample v1 × IsSample v2
 InRange (Threshold at) = IsSample at
-InRange (Gain num den) = IsSample num × IsIn 1 greatest_sample den
+InRange (Gain num den) = IsSample num × IsIn 1 max_sample den
 InRange (Translate dx dy) = IsMove dx × IsMove dy
 InRange (Crop rect) = IsTrue (in_limits rect)
 InRange (BoxMean radius policy) = IsSquare radius policy
@@ -33,16 +33,16 @@ InRange (Erode radius policy) = IsSquare radius policy
 InRange op = Unit {0}
 
 -- The numbers of a command are in their ranges, its rectangle is one that it may have, and a node has its inputs.
-abbrev pub KeepsLimits : Command → Type 0
-KeepsLimits (Buffer name format rect) = IsTrue (in_limits rect)
-KeepsLimits (Sub name parent rect) = IsTrue (in_limits rect)
-KeepsLimits (Load name rect file) = IsTrue (in_limits rect)
-KeepsLimits (Fill name rect samples) = IsTrue (in_limits rect) × ArePixel samples
-KeepsLimits (Copy from to rect dx dy) = IsTrue (in_limits rect) × IsMove dx × IsMove dy
-KeepsLimits (Node name op inputs) = InRange op × (length inputs ≡ input_count op)
-KeepsLimits (Render name level rect file) = IsLevelRect level rect
-KeepsLimits (Grab name level policy rect file) = IsLevelRect level rect
-KeepsLimits (Watch name rect viewers frames prefix) =
+abbrev pub IsInLimits : Command → Type 0
+IsInLimits (Buffer name format rect) = IsTrue (in_limits rect)
+IsInLimits (Sub name parent rect) = IsTrue (in_limits rect)
+IsInLimits (Load name rect file) = IsTrue (in_limits rect)
+IsInLimits (Fill name rect samples) = IsTrue (in_limits rect) × ArePixel samples
+IsInLimits (Copy from to rect dx dy) = IsTrue (in_limits rect) × IsMove dx × IsMove dy
+IsInLimits (Node name op inputs) = InRange op × (length inputs ≡ input_count op)
+IsInLimits (Render name level rect file) = IsLevelRect level rect
+IsInLimits (Grab name level policy rect file) = IsLevelRect level rect
+IsInLimits (Watch name rect viewers frames prefix) =
     IsTrue (in_limits rect) × IsIn 1 16 viewers × IsIn 1 64 frames × IsTrue (may_watch viewers frames rect)
     × (length prefix ≤ longest_prefix)
-KeepsLimits command = Unit {0}
+IsInLimits command = Unit {0}

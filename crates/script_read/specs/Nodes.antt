@@ -1,8 +1,8 @@
 -- The nodes that the words of a line spell: `node N OP ARGUMENTS INPUTS`.
 use Rattle.std.specs.Prelude.{ℕ, nat_lt, List, length, Result, Ok}
 use Rattle.std.specs.Option.{ok_or}
-use Rattle.script_fields.specs.Fields.{◌>>=◌, word_at, passed, count, count_in, natural_at, sample_at, move_at, corner_at, name_at, format_at, near_policy_at, sideways_at, rect_of, names_from, samples_from}
-use Rattle.script_fields.specs.Limits.{greatest_radius, greatest_size}
+use Rattle.script_fields.specs.Fields.{◌>>=◌, word_at, passed, count, count_in, natural_at, sample_at, move_at, rect_numbers_at, name_at, format_at, near_policy_at, sideways_at, rect_of, names_from, samples_from}
+use Rattle.script_fields.specs.Limits.{max_radius, max_size}
 use Rattle.script_read.specs.OperationWords.{operation_of}
 use Rattle.script_read.specs.declared.operation_word.OperationWord.{OperationWord}
 use Rattle.script_read.specs.declared.operation_word.OperationWord.TheVariants as words_of
@@ -37,24 +37,24 @@ source words = do
 abbrev pub color : List (List ℕ) → Result Command ScriptCause
 color words = do
   _ ← count_in 9 12 words
-  corner ← corner_at words 4
+  numbers ← rect_numbers_at words 4
   samples ← samples_from 8 words
   ends ← ends_from (length words) words
   format ← format_at words 3
-  rect ← rect_of corner
+  rect ← rect_of numbers
   Ok (node_of ends (Color format rect samples))
 
 -- `node N checker FORMAT X Y W H SIZE V1 V2`
 abbrev pub checker : List (List ℕ) → Result Command ScriptCause
 checker words = do
   _ ← count 11 words
-  corner ← corner_at words 4
-  size ← natural_at 1 greatest_size words 8
+  numbers ← rect_numbers_at words 4
+  size ← natural_at 1 max_size words 8
   v1 ← sample_at words 9
   v2 ← sample_at words 10
   ends ← ends_from 11 words
   format ← format_at words 3
-  rect ← rect_of corner
+  rect ← rect_of numbers
   Ok (node_of ends (Checker format rect size v1 v2))
 
 -- `node N convert FORMAT IN`
@@ -95,9 +95,9 @@ translate words = do
 abbrev pub crop : List (List ℕ) → Result Command ScriptCause
 crop words = do
   _ ← count 8 words
-  corner ← corner_at words 3
+  numbers ← rect_numbers_at words 3
   ends ← ends_from 7 words
-  rect ← rect_of corner
+  rect ← rect_of numbers
   Ok (node_of ends (Crop rect))
 
 -- `node N flip h IN` and `node N flip v IN`
@@ -112,7 +112,7 @@ flip words = do
 abbrev pub box_mean : List (List ℕ) → Result Command ScriptCause
 box_mean words = do
   _ ← count 6 words
-  radius ← natural_at 1 greatest_radius words 3
+  radius ← natural_at 1 max_radius words 3
   ends ← ends_from 5 words
   policy ← near_policy_at words 4
   Ok (node_of ends (BoxMean radius policy))
@@ -121,7 +121,7 @@ box_mean words = do
 abbrev pub dilate : List (List ℕ) → Result Command ScriptCause
 dilate words = do
   _ ← count 6 words
-  radius ← natural_at 1 greatest_radius words 3
+  radius ← natural_at 1 max_radius words 3
   ends ← ends_from 5 words
   policy ← near_policy_at words 4
   Ok (node_of ends (Dilate radius policy))
@@ -130,7 +130,7 @@ dilate words = do
 abbrev pub erode : List (List ℕ) → Result Command ScriptCause
 erode words = do
   _ ← count 6 words
-  radius ← natural_at 1 greatest_radius words 3
+  radius ← natural_at 1 max_radius words 3
   ends ← ends_from 5 words
   policy ← near_policy_at words 4
   Ok (node_of ends (Erode radius policy))

@@ -15,7 +15,7 @@ use Rattle.script_read.specs.declared.command.Command.TheVariants as commands
 use Rattle.script_read.specs.declared.command.Line.{Line}
 use Rattle.script_read.specs.declared.keyword.Keyword.{Keyword}
 use Rattle.script_read.specs.declared.keyword.Keyword.TheVariants.{Buffer, Sub, Dup, Load, Fill, Copy, Node, Drop, Commit, Undo, Redo, Render, Grab, Watch, EndWatch}
-use Rattle.script_read.specs.declared.reader.Step.{Step}
+use Rattle.script_read.specs.declared.reader.ReadLine.{ReadLine}
 
 -- the most bytes that a script may have
 abbrev pub script_limit : ℕ
@@ -77,22 +77,22 @@ command_in number line = do
 
 -- ---- watches
 
--- The number of the line whose watch is open behind a command, of that which is open before it: none begins inside
+-- The number of the line whose watch is open after a command, of that which is open before it: none begins inside
 -- another, and none ends where none is open.
-abbrev pub open_behind : ℕ → Option ℕ → Command → Result (Option ℕ) ScriptCause
-open_behind number None (commands.Watch name rect viewers frames prefix) = Ok (Some number)
-open_behind number (Some line) (commands.Watch name rect viewers frames prefix) = Err causes.Order
-open_behind number None commands.EndWatch = Err causes.Order
-open_behind number (Some line) commands.EndWatch = Ok None
-open_behind number watching command = Ok watching
+abbrev pub open_after : ℕ → Option ℕ → Command → Result (Option ℕ) ScriptCause
+open_after number None (commands.Watch name rect viewers frames prefix) = Ok (Some number)
+open_after number (Some line) (commands.Watch name rect viewers frames prefix) = Err causes.Order
+open_after number None commands.EndWatch = Err causes.Order
+open_after number (Some line) commands.EndWatch = Ok None
+open_after number watching command = Ok watching
 
--- the same behind a line that may have no command
+-- the same after a line that may have no command
 abbrev pub open_past : ℕ → Option ℕ → Option Command → Result (Option ℕ) ScriptCause
 open_past number watching None = Ok watching
-open_past number watching (Some command) = open_behind number watching command
+open_past number watching (Some command) = open_after number watching command
 
--- the command of a line, and the watch that is open behind it
-unfoldable pub step_of : ℕ → Option ℕ → List ℕ → Result Step ScriptCause
+-- the command of a line, and the watch that is open after it
+unfoldable pub step_of : ℕ → Option ℕ → List ℕ → Result ReadLine ScriptCause
 step_of number watching line = do
   command ← command_in number line
   watching ← open_past number watching command
@@ -104,18 +104,18 @@ step_of number watching line = do
 abbrev pub Refusal : Type 0
 Refusal = ℕ × ScriptCause
 
--- the command of a line before those behind it
+-- the command of a line before those after it
 abbrev pub before : ℕ → Option Command → Result (List Line) Refusal → Result (List Line) Refusal
 before number None read = read
 before number (Some command) (Ok lines) = Ok (record { number = number; command = command } ∷ lines)
 before number (Some command) (Err refusal) = Err refusal
 
--- what is read from a line on, where this is read of the line, and this behind it
-abbrev pub from_step : ℕ → Result Step ScriptCause → (Option ℕ → Result (List Line) Refusal) → Result (List Line) Refusal
-from_step number (Ok step) behind = before number step.command (behind step.watching)
-from_step number (Err cause) behind = Err (number, cause)
+-- what is read from a line on, where this is read of the line, and this after it
+abbrev pub from_step : ℕ → Result ReadLine ScriptCause → (Option ℕ → Result (List Line) Refusal) → Result (List Line) Refusal
+from_step number (Ok step) remaining = before number step.command (remaining step.watching)
+from_step number (Err cause) remaining = Err (number, cause)
 
--- the end of the text: a watch that is still open is told of its own line
+-- the end of the text: a watch that is still open is reported of its own line
 abbrev pub ended : Option ℕ → Result (List Line) Refusal
 ended None = Ok []
 ended (Some line) = Err (line, causes.Order)

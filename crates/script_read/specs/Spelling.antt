@@ -3,7 +3,7 @@ use Rattle.std.specs.Prelude.{ℕ, ◌+◌, ◌-◌, IsTrue, List, [], ◌∷◌
 use Rattle.plane_rect.specs.Name.{is_name}
 use Rattle.script_words.specs.Lines.{text_of}
 use Rattle.script_words.specs.Words.{joined}
-use Rattle.script_fields.specs.Spelling.{AreKept, AreNames, words_of_fields}
+use Rattle.script_fields.specs.Spelling.{AreValid, AreNames, words_of_fields}
 use Rattle.script_fields.specs.declared.field.Field.{Field}
 use Rattle.script_fields.specs.declared.field.Field.TheVariants as fields
 use Rattle.script_read.specs.Keywords.{keyword_word}
@@ -98,7 +98,7 @@ output_fields (Watch name rect viewers frames prefix) =
     fields.Name name ∷ fields.Rect rect ∷ fields.Natural viewers ∷ fields.Natural frames ∷ fields.File prefix ∷ []
 output_fields command = []
 
--- the fields behind the first word, up to those that are lists
+-- the fields after the first word, up to those that are lists
 abbrev pub fields_of : Command → List Field
 fields_of (Buffer name format rect) = fields.Name name ∷ fields.Format format ∷ fields.Rect rect ∷ []
 fields_of (Sub name parent rect) = fields.Name name ∷ fields.Name parent ∷ fields.Rect rect ∷ []
@@ -111,7 +111,7 @@ fields_of (Node name op inputs) = fields.Name name ∷ []
 fields_of (Drop name) = fields.Name name ∷ []
 fields_of command = output_fields command
 
--- the words behind these: samples, or an operation and its inputs
+-- the words after these: samples, or an operation and its inputs
 abbrev pub list_words : Command → List (List ℕ)
 list_words (Fill name rect samples) = map decimal samples
 list_words (Node name op inputs) = operation_spelled op ++ inputs
@@ -136,6 +136,6 @@ printed lines = text_of (lines_printed 1 lines)
 -- ---- what the types of fields keep
 
 -- the fields of a command are what their types keep
-abbrev pub KeepsTypes : Command → Type 0
-KeepsTypes (Node name op inputs) = IsTrue (is_name name) × AreKept (arguments op) × AreNames inputs
-KeepsTypes command = AreKept (fields_of command)
+abbrev pub HasValidFields : Command → Type 0
+HasValidFields (Node name op inputs) = IsTrue (is_name name) × AreValid (arguments op) × AreNames inputs
+HasValidFields command = AreValid (fields_of command)

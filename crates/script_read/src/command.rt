@@ -2,8 +2,8 @@
 
 use crate::keyword::Keyword;
 use crate::operation_word::OperationWord;
-use abyss_levels::Abyss;
-use operations::Samples;
+use model_images::Abyss;
+use model_operations::PixelSamples;
 use plane_rect::{Name, Rect};
 use sample_rows::Format;
 use script_fields::{FileName, Names};
@@ -16,7 +16,7 @@ pub struct Line {
 }
 
 /// What a line of a script asks for. Coordinates and sizes are in places, samples count from 0 to the format's
-/// greatest, and a level halves the image so many times.
+/// largest, and a level halves the image so many times.
 #[derive(Drop)]
 pub enum Command {
     /// A new buffer over a rectangle, all zeros.
@@ -42,11 +42,11 @@ pub enum Command {
         rect: Rect,
         file: FileName,
     },
-    /// A buffer's rectangle gets one pixel at each place.
+    /// A buffer's rectangle gets one pixel at each position.
     Fill {
         name: Name,
         rect: Rect,
-        samples: Samples,
+        samples: PixelSamples,
     },
     /// A buffer's rectangle is copied to another place of it or of another buffer, `dx` to the right and `dy` down.
     Copy {
@@ -79,7 +79,7 @@ pub enum Command {
         rect: Rect,
         file: FileName,
     },
-    /// A rectangle of a buffer at a level is written to a file, with a policy for the places outside.
+    /// A rectangle of a buffer at a level is written to a file, with a policy for the positions outside.
     Grab {
         name: Name,
         level: u32,
@@ -138,7 +138,7 @@ pub enum OpWords {
     Color {
         format: Format,
         rect: Rect,
-        samples: Samples,
+        samples: PixelSamples,
     },
     Checker {
         format: Format,

@@ -1,18 +1,18 @@
 //! The commands that the words of a line spell, but those of nodes.
 //!
 //! Each counts its words, reads its numbers, then its names and choices, and then its rectangle, so
-//! that the lowest cause is told.
+//! that the lowest cause is reported.
 
 ghost use Rattle.std.specs.Prelude.{◌≡◌, IfOk};
 ghost use Rattle.script_fields.specs.Answers.{Answers};
-ghost use Rattle.script_fields.specs.Limits.{greatest_level};
+ghost use Rattle.script_fields.specs.Limits.{max_level};
 ghost use Rattle.script_read.specs.Commands.{alone, buffer, copy, drop_node, dup, fill, grab, load, render, sub, watch};
 ghost use Rattle.script_fields.specs.Fields.{texts};
-ghost use Rattle.script_read.specs.Limits.{KeepsLimits};
+ghost use Rattle.script_read.specs.Limits.{IsInLimits};
 
 use crate::command::Command;
 use script_fields::{
-    GREATEST_LEVEL, LineAnswer, corner_at, count, count_in, file_at, format_at, move_at, name_at,
+    MAX_LEVEL, LineAnswer, rect_numbers_at, count, count_in, file_at, format_at, move_at, name_at,
     natural_at, policy_at, prefix_at, samples_from,
 };
 use std::alloc::Global;
@@ -20,33 +20,33 @@ use std::alloc::Global;
 /// `buffer B FORMAT X Y W H`
 pub(crate) fn buffer(words: &[&[u8]]) -> Result<Command, LineAnswer>
     ensures value { Answers result (buffer (texts words.now)) }
-    ensures limits { IfOk result KeepsLimits }
+    ensures limits { IfOk result IsInLimits }
 {
     count(7, words)?;
-    let corner = corner_at(words, 3)?;
+    let numbers = rect_numbers_at(words, 3)?;
     let name = name_at(words, 1)?;
     let format = format_at(words, 2)?;
-    let rect = corner.rect()?;
+    let rect = numbers.rect()?;
     Ok(Command::Buffer { name, format, rect })
 }
 
 /// `sub B PARENT X Y W H`
 pub(crate) fn sub(words: &[&[u8]]) -> Result<Command, LineAnswer>
     ensures value { Answers result (sub (texts words.now)) }
-    ensures limits { IfOk result KeepsLimits }
+    ensures limits { IfOk result IsInLimits }
 {
     count(7, words)?;
-    let corner = corner_at(words, 3)?;
+    let numbers = rect_numbers_at(words, 3)?;
     let name = name_at(words, 1)?;
     let parent = name_at(words, 2)?;
-    let rect = corner.rect()?;
+    let rect = numbers.rect()?;
     Ok(Command::Sub { name, parent, rect })
 }
 
 /// `dup B FROM`
 pub(crate) fn dup(words: &[&[u8]]) -> Result<Command, LineAnswer>
     ensures value { Answers result (dup (texts words.now)) }
-    ensures limits { IfOk result KeepsLimits }
+    ensures limits { IfOk result IsInLimits }
 {
     count(3, words)?;
     let name = name_at(words, 1)?;
@@ -57,26 +57,26 @@ pub(crate) fn dup(words: &[&[u8]]) -> Result<Command, LineAnswer>
 /// `load B X Y W H FILE`
 pub(crate) fn load(words: &[&[u8]]) -> Result<Command, LineAnswer>
     ensures value { Answers result (load (texts words.now)) }
-    ensures limits { IfOk result KeepsLimits }
+    ensures limits { IfOk result IsInLimits }
 {
     count(7, words)?;
-    let corner = corner_at(words, 2)?;
+    let numbers = rect_numbers_at(words, 2)?;
     let name = name_at(words, 1)?;
     let file = file_at(words, 6)?;
-    let rect = corner.rect()?;
+    let rect = numbers.rect()?;
     Ok(Command::Load { name, rect, file })
 }
 
 /// `fill B X Y W H S..`, 1 to 4 samples
 pub(crate) fn fill(alloc: Global, words: &[&[u8]]) -> Result<Command, LineAnswer>
     ensures value { Answers result (fill (texts words.now)) }
-    ensures limits { IfOk result KeepsLimits }
+    ensures limits { IfOk result IsInLimits }
 {
     count_in(7, 10, words)?;
-    let corner = corner_at(words, 2)?;
+    let numbers = rect_numbers_at(words, 2)?;
     let samples = samples_from(alloc, 6, words)?;
     let name = name_at(words, 1)?;
-    let rect = corner.rect()?;
+    let rect = numbers.rect()?;
     Ok(Command::Fill {
         name,
         rect,
@@ -87,15 +87,15 @@ pub(crate) fn fill(alloc: Global, words: &[&[u8]]) -> Result<Command, LineAnswer
 /// `copy FROM TO X Y W H DX DY`
 pub(crate) fn copy(words: &[&[u8]]) -> Result<Command, LineAnswer>
     ensures value { Answers result (copy (texts words.now)) }
-    ensures limits { IfOk result KeepsLimits }
+    ensures limits { IfOk result IsInLimits }
 {
     count(9, words)?;
-    let corner = corner_at(words, 3)?;
+    let numbers = rect_numbers_at(words, 3)?;
     let dx = move_at(words, 7)?;
     let dy = move_at(words, 8)?;
     let from = name_at(words, 1)?;
     let to = name_at(words, 2)?;
-    let rect = corner.rect()?;
+    let rect = numbers.rect()?;
     Ok(Command::Copy {
         from,
         to,
@@ -108,7 +108,7 @@ pub(crate) fn copy(words: &[&[u8]]) -> Result<Command, LineAnswer>
 /// `drop N`
 pub(crate) fn drop_node(words: &[&[u8]]) -> Result<Command, LineAnswer>
     ensures value { Answers result (drop_node (texts words.now)) }
-    ensures limits { IfOk result KeepsLimits }
+    ensures limits { IfOk result IsInLimits }
 {
     count(2, words)?;
     let name = name_at(words, 1)?;
@@ -117,9 +117,9 @@ pub(crate) fn drop_node(words: &[&[u8]]) -> Result<Command, LineAnswer>
 
 /// `commit`, `undo`, `redo`, `endwatch`: the command alone
 pub(crate) fn alone(command: Command, words: &[&[u8]]) -> Result<Command, LineAnswer>
-    requires { KeepsLimits command }
+    requires { IsInLimits command }
     ensures value { Answers result (alone command (texts words.now)) }
-    ensures limits { IfOk result KeepsLimits }
+    ensures limits { IfOk result IsInLimits }
 {
     count(1, words)?;
     Ok(command)
@@ -128,14 +128,14 @@ pub(crate) fn alone(command: Command, words: &[&[u8]]) -> Result<Command, LineAn
 /// `render N LEVEL X Y W H FILE`
 pub(crate) fn render(words: &[&[u8]]) -> Result<Command, LineAnswer>
     ensures value { Answers result (render (texts words.now)) }
-    ensures limits { IfOk result KeepsLimits }
+    ensures limits { IfOk result IsInLimits }
 {
     count(8, words)?;
-    let level = natural_at(0, GREATEST_LEVEL, words, 2)?;
-    let corner = corner_at(words, 3)?;
+    let level = natural_at(0, MAX_LEVEL, words, 2)?;
+    let numbers = rect_numbers_at(words, 3)?;
     let name = name_at(words, 1)?;
     let file = file_at(words, 7)?;
-    let rect = corner.level_rect(level)?;
+    let rect = numbers.level_rect(level)?;
     Ok(Command::Render {
         name,
         level,
@@ -147,15 +147,15 @@ pub(crate) fn render(words: &[&[u8]]) -> Result<Command, LineAnswer>
 /// `grab B LEVEL ABYSS X Y W H FILE`
 pub(crate) fn grab(words: &[&[u8]]) -> Result<Command, LineAnswer>
     ensures value { Answers result (grab (texts words.now)) }
-    ensures limits { IfOk result KeepsLimits }
+    ensures limits { IfOk result IsInLimits }
 {
     count(9, words)?;
-    let level = natural_at(0, GREATEST_LEVEL, words, 2)?;
-    let corner = corner_at(words, 4)?;
+    let level = natural_at(0, MAX_LEVEL, words, 2)?;
+    let numbers = rect_numbers_at(words, 4)?;
     let name = name_at(words, 1)?;
     let abyss = policy_at(words, 3)?;
     let file = file_at(words, 8)?;
-    let rect = corner.level_rect(level)?;
+    let rect = numbers.level_rect(level)?;
     Ok(Command::Grab {
         name,
         level,
@@ -168,15 +168,15 @@ pub(crate) fn grab(words: &[&[u8]]) -> Result<Command, LineAnswer>
 /// `watch N X Y W H VIEWERS FRAMES PREFIX`
 pub(crate) fn watch(words: &[&[u8]]) -> Result<Command, LineAnswer>
     ensures value { Answers result (watch (texts words.now)) }
-    ensures limits { IfOk result KeepsLimits }
+    ensures limits { IfOk result IsInLimits }
 {
     count(9, words)?;
-    let corner = corner_at(words, 2)?;
+    let numbers = rect_numbers_at(words, 2)?;
     let viewers = natural_at(1, 16, words, 6)?;
     let frames = natural_at(1, 64, words, 7)?;
     let name = name_at(words, 1)?;
     let prefix = prefix_at(words, 8)?;
-    let rect = corner.watched_rect(viewers, frames)?;
+    let rect = numbers.watched_rect(viewers, frames)?;
     Ok(Command::Watch {
         name,
         rect,

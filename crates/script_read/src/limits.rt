@@ -3,12 +3,12 @@
 ghost use Rattle.std.specs.Prelude.{◌≡◌, ◌↔◌, ◌≤◌, IsTrue};
 ghost use Rattle.script_read.specs.IsScript.{IsScript};
 ghost use Rattle.script_fields.specs.Limits.{ArePixel, IsIn, IsLevelRect, IsMove, IsSample, IsSquare};
-ghost use Rattle.script_read.specs.Limits.{InRange, KeepsLimits, input_count};
+ghost use Rattle.script_read.specs.Limits.{InRange, IsInLimits, input_count};
 
 use crate::command::{Command, Line, OpWords};
-use crate::reader::{MOST_LINES, open_behind};
+use crate::reader::{MOST_LINES, open_after};
 use script_fields::{
-    GREATEST_SAMPLE, GREATEST_SIZE, LONGEST_PREFIX, are_pixel, is_in, is_level_rect, is_move,
+    MAX_SAMPLE, MAX_SIZE, LONGEST_PREFIX, are_pixel, is_in, is_level_rect, is_move,
     is_square, may_watch,
 };
 
@@ -20,10 +20,10 @@ pub fn is_script(lines: &[Line]) -> bool
     let mut next = 1;
     let mut watching = None;
     for line in lines {
-        if line.number < next || line.number > MOST_LINES || !keeps_limits(&line.command) {
+        if line.number < next || line.number > MOST_LINES || !is_in_limits(&line.command) {
             return false;
         }
-        watching = match open_behind(line.number, watching, &line.command) {
+        watching = match open_after(line.number, watching, &line.command) {
             Ok(after) => after,
             Err(_) => return false,
         };
@@ -34,8 +34,8 @@ pub fn is_script(lines: &[Line]) -> bool
 
 /// Whether the numbers of a command are in their ranges, its rectangle is one that it may have, and a
 /// node has its inputs.
-fn keeps_limits(command: &Command) -> bool
-    ensures { IsTrue result ↔ KeepsLimits command.now }
+fn is_in_limits(command: &Command) -> bool
+    ensures { IsTrue result ↔ IsInLimits command.now }
 {
     match command {
         Command::Buffer { rect, .. } | Command::Sub { rect, .. } | Command::Load { rect, .. } => {
@@ -85,12 +85,12 @@ fn is_in_range(op: &OpWords) -> bool
             ..
         } => {
             rect.in_limits()
-                && is_in(1, GREATEST_SIZE, *size)
-                && *v1 <= GREATEST_SAMPLE
-                && *v2 <= GREATEST_SAMPLE
+                && is_in(1, MAX_SIZE, *size)
+                && *v1 <= MAX_SAMPLE
+                && *v2 <= MAX_SAMPLE
         }
-        OpWords::Threshold { at } => *at <= GREATEST_SAMPLE,
-        OpWords::Gain { num, den } => *num <= GREATEST_SAMPLE && is_in(1, GREATEST_SAMPLE, *den),
+        OpWords::Threshold { at } => *at <= MAX_SAMPLE,
+        OpWords::Gain { num, den } => *num <= MAX_SAMPLE && is_in(1, MAX_SAMPLE, *den),
         OpWords::Translate { dx, dy } => is_move(*dx) && is_move(*dy),
         OpWords::Crop { rect } => rect.in_limits(),
         OpWords::BoxMean { radius, abyss }

@@ -1,25 +1,25 @@
 //! The nodes that the words of a line spell: `node N OP ARGUMENTS INPUTS`.
 //!
 //! Each operation counts the words, reads its numbers, then all names and choices, and then its
-//! rectangle, so that the lowest cause is told.
+//! rectangle, so that the lowest cause is reported.
 
 ghost use Rattle.std.specs.Prelude.{◌≡◌, ◌+◌, ◌≤◌, ◌<◌, IfOk, length};
 ghost use Rattle.script_fields.specs.Answers.{Answers};
 ghost use Rattle.script_fields.specs.Fields.{texts};
-ghost use Rattle.script_read.specs.Limits.{InRange, KeepsLimits, input_count};
+ghost use Rattle.script_read.specs.Limits.{InRange, IsInLimits, input_count};
 ghost use Rattle.script_read.specs.Nodes.{bare, box_mean, checker, color, convert, crop, dilate, ends_from, erode, flip, gain, node, node_by, node_of, source, threshold, translate};
 
 use crate::command::{Command, OpWords};
 use crate::operation_word::OperationWord;
 use plane_rect::Name;
 use script_fields::{
-    GREATEST_RADIUS, GREATEST_SIZE, LineAnswer, Names, ScriptCause, corner_at, count, count_in,
+    MAX_RADIUS, MAX_SIZE, LineAnswer, Names, ScriptCause, rect_numbers_at, count, count_in,
     format_at, move_at, name_at, names_from, natural_at, near_policy_at, sample_at, samples_from,
     sideways_at, word_at,
 };
 use std::alloc::Global;
 
-/// What a node has before and behind its operation.
+/// What a node has before and after its operation.
 #[derive(Drop)]
 pub(crate) struct Ends {
     pub name: Name,
@@ -30,7 +30,7 @@ impl Ends {
     ghost use Rattle.std.specs.Prelude.{◌≡◌, ◌+◌, ◌≤◌, ◌<◌, ◌∷◌, IfOk, length};
     ghost use Rattle.script_fields.specs.Answers.{Answers};
     ghost use Rattle.script_fields.specs.Fields.{texts};
-    ghost use Rattle.script_read.specs.Limits.{InRange, KeepsLimits, input_count};
+    ghost use Rattle.script_read.specs.Limits.{InRange, IsInLimits, input_count};
     ghost use Rattle.script_read.specs.Nodes.{ends_from, node_of};
 
     /// The name of the node, and its inputs from a word on.
@@ -51,7 +51,7 @@ impl Ends {
         requires range { InRange op }
         requires inputs { length self.inputs ≡ input_count op }
         ensures value { result ≡ node_of self op }
-        ensures limits { KeepsLimits result }
+        ensures limits { IsInLimits result }
     {
         Command::Node {
             name: self.name,
@@ -65,7 +65,7 @@ impl Ends {
 #[tactic(auto, unfolding(crate::specs::Nodes::node))]
 pub(crate) fn node(alloc: Global, words: &[&[u8]]) -> Result<Command, LineAnswer>
     ensures value { Answers result (node (texts words.now)) }
-    ensures limits { IfOk result KeepsLimits }
+    ensures limits { IfOk result IsInLimits }
 {
     if words.len() < 3 {
         return Err(LineAnswer::Refused(ScriptCause::Words));
@@ -78,7 +78,7 @@ pub(crate) fn node(alloc: Global, words: &[&[u8]]) -> Result<Command, LineAnswer
 #[tactic(auto, unfolding(crate::specs::Nodes::node_by))]
 fn node_by(alloc: Global, operation: OperationWord, words: &[&[u8]]) -> Result<Command, LineAnswer>
     ensures value { Answers result (node_by operation (texts words.now)) }
-    ensures limits { IfOk result KeepsLimits }
+    ensures limits { IfOk result IsInLimits }
 {
     match operation {
         OperationWord::Source => source(alloc, words),
@@ -106,7 +106,7 @@ fn bare(alloc: Global, op: OpWords, number: usize, words: &[&[u8]]) -> Result<Co
     requires range { InRange op }
     requires number { number ≡ 3 + input_count op }
     ensures value { Answers result (bare op number (texts words.now)) }
-    ensures limits { IfOk result KeepsLimits }
+    ensures limits { IfOk result IsInLimits }
 {
     count(number, words)?;
     let ends = Ends::parse(alloc, 3, words)?;
@@ -116,7 +116,7 @@ fn bare(alloc: Global, op: OpWords, number: usize, words: &[&[u8]]) -> Result<Co
 /// `node N source BUFFER`
 fn source(alloc: Global, words: &[&[u8]]) -> Result<Command, LineAnswer>
     ensures value { Answers result (source (texts words.now)) }
-    ensures limits { IfOk result KeepsLimits }
+    ensures limits { IfOk result IsInLimits }
 {
     count(4, words)?;
     let ends = Ends::parse(alloc, 4, words)?;
@@ -127,14 +127,14 @@ fn source(alloc: Global, words: &[&[u8]]) -> Result<Command, LineAnswer>
 /// `node N color FORMAT X Y W H S..`, 1 to 4 samples
 fn color(alloc: Global, words: &[&[u8]]) -> Result<Command, LineAnswer>
     ensures value { Answers result (color (texts words.now)) }
-    ensures limits { IfOk result KeepsLimits }
+    ensures limits { IfOk result IsInLimits }
 {
     count_in(9, 12, words)?;
-    let corner = corner_at(words, 4)?;
+    let numbers = rect_numbers_at(words, 4)?;
     let samples = samples_from(alloc, 8, words)?;
     let ends = Ends::parse(alloc, words.len(), words)?;
     let format = format_at(words, 3)?;
-    let rect = corner.rect()?;
+    let rect = numbers.rect()?;
     Ok(ends.node(OpWords::Color {
         format,
         rect,
@@ -145,16 +145,16 @@ fn color(alloc: Global, words: &[&[u8]]) -> Result<Command, LineAnswer>
 /// `node N checker FORMAT X Y W H SIZE V1 V2`
 fn checker(alloc: Global, words: &[&[u8]]) -> Result<Command, LineAnswer>
     ensures value { Answers result (checker (texts words.now)) }
-    ensures limits { IfOk result KeepsLimits }
+    ensures limits { IfOk result IsInLimits }
 {
     count(11, words)?;
-    let corner = corner_at(words, 4)?;
-    let size = natural_at(1, GREATEST_SIZE, words, 8)?;
+    let numbers = rect_numbers_at(words, 4)?;
+    let size = natural_at(1, MAX_SIZE, words, 8)?;
     let v1 = sample_at(words, 9)?;
     let v2 = sample_at(words, 10)?;
     let ends = Ends::parse(alloc, 11, words)?;
     let format = format_at(words, 3)?;
-    let rect = corner.rect()?;
+    let rect = numbers.rect()?;
     Ok(ends.node(OpWords::Checker {
         format,
         rect,
@@ -167,7 +167,7 @@ fn checker(alloc: Global, words: &[&[u8]]) -> Result<Command, LineAnswer>
 /// `node N convert FORMAT IN`
 fn convert(alloc: Global, words: &[&[u8]]) -> Result<Command, LineAnswer>
     ensures value { Answers result (convert (texts words.now)) }
-    ensures limits { IfOk result KeepsLimits }
+    ensures limits { IfOk result IsInLimits }
 {
     count(5, words)?;
     let ends = Ends::parse(alloc, 4, words)?;
@@ -178,7 +178,7 @@ fn convert(alloc: Global, words: &[&[u8]]) -> Result<Command, LineAnswer>
 /// `node N threshold T IN`
 fn threshold(alloc: Global, words: &[&[u8]]) -> Result<Command, LineAnswer>
     ensures value { Answers result (threshold (texts words.now)) }
-    ensures limits { IfOk result KeepsLimits }
+    ensures limits { IfOk result IsInLimits }
 {
     count(5, words)?;
     let at = sample_at(words, 3)?;
@@ -189,7 +189,7 @@ fn threshold(alloc: Global, words: &[&[u8]]) -> Result<Command, LineAnswer>
 /// `node N gain NUM DEN IN`
 fn gain(alloc: Global, words: &[&[u8]]) -> Result<Command, LineAnswer>
     ensures value { Answers result (gain (texts words.now)) }
-    ensures limits { IfOk result KeepsLimits }
+    ensures limits { IfOk result IsInLimits }
 {
     count(6, words)?;
     let num = sample_at(words, 3)?;
@@ -201,7 +201,7 @@ fn gain(alloc: Global, words: &[&[u8]]) -> Result<Command, LineAnswer>
 /// `node N translate DX DY IN`
 fn translate(alloc: Global, words: &[&[u8]]) -> Result<Command, LineAnswer>
     ensures value { Answers result (translate (texts words.now)) }
-    ensures limits { IfOk result KeepsLimits }
+    ensures limits { IfOk result IsInLimits }
 {
     count(6, words)?;
     let dx = move_at(words, 3)?;
@@ -213,19 +213,19 @@ fn translate(alloc: Global, words: &[&[u8]]) -> Result<Command, LineAnswer>
 /// `node N crop X Y W H IN`
 fn crop(alloc: Global, words: &[&[u8]]) -> Result<Command, LineAnswer>
     ensures value { Answers result (crop (texts words.now)) }
-    ensures limits { IfOk result KeepsLimits }
+    ensures limits { IfOk result IsInLimits }
 {
     count(8, words)?;
-    let corner = corner_at(words, 3)?;
+    let numbers = rect_numbers_at(words, 3)?;
     let ends = Ends::parse(alloc, 7, words)?;
-    let rect = corner.rect()?;
+    let rect = numbers.rect()?;
     Ok(ends.node(OpWords::Crop { rect }))
 }
 
 /// `node N flip h IN` and `node N flip v IN`
 fn flip(alloc: Global, words: &[&[u8]]) -> Result<Command, LineAnswer>
     ensures value { Answers result (flip (texts words.now)) }
-    ensures limits { IfOk result KeepsLimits }
+    ensures limits { IfOk result IsInLimits }
 {
     count(5, words)?;
     let ends = Ends::parse(alloc, 4, words)?;
@@ -236,10 +236,10 @@ fn flip(alloc: Global, words: &[&[u8]]) -> Result<Command, LineAnswer>
 /// `node N box R ABYSS IN`
 fn box_mean(alloc: Global, words: &[&[u8]]) -> Result<Command, LineAnswer>
     ensures value { Answers result (box_mean (texts words.now)) }
-    ensures limits { IfOk result KeepsLimits }
+    ensures limits { IfOk result IsInLimits }
 {
     count(6, words)?;
-    let radius = natural_at(1, GREATEST_RADIUS, words, 3)?;
+    let radius = natural_at(1, MAX_RADIUS, words, 3)?;
     let ends = Ends::parse(alloc, 5, words)?;
     let abyss = near_policy_at(words, 4)?;
     Ok(ends.node(OpWords::BoxMean { radius, abyss }))
@@ -248,10 +248,10 @@ fn box_mean(alloc: Global, words: &[&[u8]]) -> Result<Command, LineAnswer>
 /// `node N dilate R ABYSS IN`
 fn dilate(alloc: Global, words: &[&[u8]]) -> Result<Command, LineAnswer>
     ensures value { Answers result (dilate (texts words.now)) }
-    ensures limits { IfOk result KeepsLimits }
+    ensures limits { IfOk result IsInLimits }
 {
     count(6, words)?;
-    let radius = natural_at(1, GREATEST_RADIUS, words, 3)?;
+    let radius = natural_at(1, MAX_RADIUS, words, 3)?;
     let ends = Ends::parse(alloc, 5, words)?;
     let abyss = near_policy_at(words, 4)?;
     Ok(ends.node(OpWords::Dilate { radius, abyss }))
@@ -260,10 +260,10 @@ fn dilate(alloc: Global, words: &[&[u8]]) -> Result<Command, LineAnswer>
 /// `node N erode R ABYSS IN`
 fn erode(alloc: Global, words: &[&[u8]]) -> Result<Command, LineAnswer>
     ensures value { Answers result (erode (texts words.now)) }
-    ensures limits { IfOk result KeepsLimits }
+    ensures limits { IfOk result IsInLimits }
 {
     count(6, words)?;
-    let radius = natural_at(1, GREATEST_RADIUS, words, 3)?;
+    let radius = natural_at(1, MAX_RADIUS, words, 3)?;
     let ends = Ends::parse(alloc, 5, words)?;
     let abyss = near_policy_at(words, 4)?;
     Ok(ends.node(OpWords::Erode { radius, abyss }))

@@ -6,8 +6,8 @@ ghost use Rattle.script_fields.specs.Answers.{Answers};
 ghost use Rattle.script_read.specs.Answers.{Reads};
 ghost use Rattle.script_fields.specs.Fields.{texts};
 ghost use Rattle.script_read.specs.IsScript.{IsScript};
-ghost use Rattle.script_read.specs.Limits.{KeepsLimits};
-ghost use Rattle.script_read.specs.Script.{begins_comment, command_by, command_in, command_of, is_silent, most_lines, open_behind, open_past, script_of, spoken, step_of};
+ghost use Rattle.script_read.specs.Limits.{IsInLimits};
+ghost use Rattle.script_read.specs.Script.{begins_comment, command_by, command_in, command_of, is_silent, most_lines, open_after, open_past, script_of, spoken, step_of};
 
 use crate::command::{Command, Line};
 use crate::keyword::Keyword;
@@ -24,10 +24,10 @@ pub(crate) const MOST_LINES: u32 = 10_000;
 
 /// What is read of a line.
 #[derive(Drop)]
-pub(crate) struct Step {
+pub(crate) struct ReadLine {
     /// Its command, if it has one.
     pub command: Option<Command>,
-    /// The number of the line whose watch is open behind it.
+    /// The number of the line whose watch is open after it.
     pub watching: Option<u32>,
 }
 
@@ -46,8 +46,8 @@ pub fn read_script(alloc: Global, text: &[u8]) -> Result<Vec<Line>, ScriptAnswer
     let mut watching = None;
     let mut number = 1;
     let mut rest = text;
-    while let Some((line, behind)) = next_line(rest) {
-        let Step {
+    while let Some((line, remaining)) = next_line(rest) {
+        let ReadLine {
             command,
             watching: after,
         } = match step_of(alloc, number, watching, line, &mut words) {
@@ -59,7 +59,7 @@ pub fn read_script(alloc: Global, text: &[u8]) -> Result<Vec<Line>, ScriptAnswer
         }
         watching = after;
         number += 1;
-        rest = behind;
+        rest = remaining;
     }
     match watching {
         None => Ok(lines),
@@ -70,7 +70,7 @@ pub fn read_script(alloc: Global, text: &[u8]) -> Result<Vec<Line>, ScriptAnswer
     }
 }
 
-/// What is read of a line, which is split into `words`, behind lines of which that watch is open.
+/// What is read of a line, which is split into `words`, after lines of which that watch is open.
 #[tactic(auto, unfolding(crate::specs::Script::step_of))]
 fn step_of<'t>(
     alloc: Global,
@@ -78,27 +78,27 @@ fn step_of<'t>(
     watching: Option<u32>,
     line: &'t [u8],
     words: &mut Vec<&'t [u8]>,
-) -> Result<Step, LineAnswer>
+) -> Result<ReadLine, LineAnswer>
     ensures value { Answers result (step_of number watching line.now) }
     ensures number { IfOk result (λ step. number ≤ most_lines) }
     ensures watch { IfOk result (λ step. open_past number watching step.command ≡ Ok step.watching) }
-    ensures limits { IfOk result (λ step. IfSome step.command KeepsLimits) }
+    ensures limits { IfOk result (λ step. IfSome step.command IsInLimits) }
 {
     let command = command_in(alloc, number, line, words)?;
     let watching = match &command {
-        Some(command) => open_behind(number, watching, command)?,
+        Some(command) => open_after(number, watching, command)?,
         None => watching,
     };
-    Ok(Step { command, watching })
+    Ok(ReadLine { command, watching })
 }
 
-/// The number of the line whose watch is open behind a command.
-pub(crate) fn open_behind(
+/// The number of the line whose watch is open after a command.
+pub(crate) fn open_after(
     number: u32,
     watching: Option<u32>,
     command: &Command,
 ) -> Result<Option<u32>, ScriptCause>
-    ensures { result ≡ open_behind number watching command.now }
+    ensures { result ≡ open_after number watching command.now }
 {
     match (command, watching) {
         (Command::Watch { .. }, None) => Ok(Some(number)),
@@ -118,7 +118,7 @@ fn command_in<'t>(
 ) -> Result<Option<Command>, LineAnswer>
     ensures value { Answers result (command_in number line.now) }
     ensures number { IfOk result (λ command. number ≤ most_lines) }
-    ensures limits { IfOk result (λ command. IfSome command KeepsLimits) }
+    ensures limits { IfOk result (λ command. IfSome command IsInLimits) }
 {
     if !is_text(line) {
         return Err(LineAnswer::Refused(ScriptCause::NotAscii));
@@ -137,7 +137,7 @@ fn command_in<'t>(
 #[tactic(auto, unfolding(crate::specs::Script::spoken))]
 fn spoken(alloc: Global, words: &[&[u8]]) -> Result<Option<Command>, LineAnswer>
     ensures value { Answers result (spoken (texts words.now)) }
-    ensures limits { IfOk result (λ command. IfSome command KeepsLimits) }
+    ensures limits { IfOk result (λ command. IfSome command IsInLimits) }
 {
     if is_silent(words) {
         return Ok(None);
@@ -169,7 +169,7 @@ fn begins_comment(word: &[u8]) -> bool
 fn command_of(alloc: Global, words: &[&[u8]]) -> Result<Command, LineAnswer>
     requires { 0 < length words.now }
     ensures value { Answers result (command_of (texts words.now)) }
-    ensures limits { IfOk result KeepsLimits }
+    ensures limits { IfOk result IsInLimits }
 {
     let keyword = Keyword::parse(word_at(words, 0)).ok_or(ScriptCause::UnknownCommand)?;
     command_by(alloc, keyword, words)
@@ -179,7 +179,7 @@ fn command_of(alloc: Global, words: &[&[u8]]) -> Result<Command, LineAnswer>
 #[tactic(auto, unfolding(crate::specs::Script::command_by))]
 fn command_by(alloc: Global, keyword: Keyword, words: &[&[u8]]) -> Result<Command, LineAnswer>
     ensures value { Answers result (command_by keyword (texts words.now)) }
-    ensures limits { IfOk result KeepsLimits }
+    ensures limits { IfOk result IsInLimits }
 {
     match keyword {
         Keyword::Buffer => commands::buffer(words),

@@ -5,26 +5,26 @@ use Rattle.std.proofs.lemmas.Slice.Eq.{bytes_eq-Decides}
 use Rattle.std.proofs.lemmas.Bool.{false≢true}
 use Rattle.plane_rect.specs.Rectangle.{Rectangle, area, same_rectangle}
 use Rattle.plane_rect.specs.SameRectangle.{same_rectangle-true}
-use Rattle.sample_rows.specs.declared.format.Format.TheVariants.{Y8}
+use Rattle.pixel_formats.specs.declared.format.Format.TheVariants.{Y8}
 use Rattle.std.proofs.lemmas.Bool.Decides.{nat_tests}
 use Rattle.outside_io.specs.Files.{Files, file, filed}
-use Rattle.images.specs.Image.{Image}
-use Rattle.images.specs.Paint.{blank, put_raw, inverted_image}
-use Rattle.images.specs.Raw.{raw}
-use Rattle.graphs.specs.Node as graph
-use Rattle.graphs.specs.Operation.{Operation, result_of}
-use Rattle.graphs.specs.Operation as operations
-use Rattle.graphs.specs.Evaluation.{Buffers, buffer_image, evaluated}
-use Rattle.graphs.proofs.Evaluating.{inverse_of_buffer, same_bytes}
-use Rattle.run_events.specs.Events.{Outcome, nothing, refusal, then_do}
-use Rattle.run_events.specs.declared.cause.Cause.TheVariants as causes
+use Rattle.model_images.specs.Image.{Image}
+use Rattle.model_images.specs.Paint.{blank, put_raw, inverted_image}
+use Rattle.model_images.specs.Raw.{raw}
+use Rattle.model_graphs.specs.Node as graph
+use Rattle.model_graphs.specs.Operation.{Operation, result_of}
+use Rattle.model_graphs.specs.Operation as operations
+use Rattle.model_graphs.specs.Evaluation.{Buffers, buffer_image, evaluated}
+use Rattle.model_graphs.proofs.Evaluating.{inverse_of_buffer, same_bytes}
+use Rattle.run_texts.specs.Events.{Outcome, nothing, refusal, then_do}
+use Rattle.run_texts.specs.declared.cause.Cause.TheVariants as causes
 use Rattle.script_run.specs.declared.step.NumberedStep.{NumberedStep}
 use Rattle.script_run.specs.declared.step.Step.{Step}
 use Rattle.script_run.specs.declared.step.Step.TheVariants.{Buffer, Load, Source, Invert, Commit, Render}
 use Rattle.script_run.specs.declared.form.Stage.{Stage}
 use Rattle.script_run.specs.declared.form.Stage.TheVariants as stages
 use Rattle.script_run.specs.Form.{Follows, GoOn, if_passed}
-use Rattle.script_run.specs.Outcome.{State, Turn, Leaves, IsRefused, empty_state, steps_outcome, after_turn, load, node_image, rendered}
+use Rattle.script_run.specs.Outcome.{State, Effect, Leaves, IsRefused, empty_state, steps_outcome, after_turn, load, node_image, rendered}
 use Rattle.script_run.specs.Rendering.{renders_outcome, raster_outcome, file_outcome, load_outcome}
 
 passed : (test : Bool) (stage : Stage) (rest : Stage → Type 0) → GoOn (if_passed test stage) rest → (test ≡ true) × rest stage
@@ -74,15 +74,15 @@ loaded_image made buffer rect bytes same =
     let found : bytes_eq made made ≡ true = same_bytes made in
     rw same (simp found)
 
--- the state behind the load, by what is made of it
-behind_load : (files : Files) (loaded : List ℕ) (image : Image) (buffers : Buffers) (pairs : List (ℕ × Step)) →
+-- the state after the load, by what is made of it
+after_load : (files : Files) (loaded : List ℕ) (image : Image) (buffers : Buffers) (pairs : List (ℕ × Step)) →
     Follows (stages.Loaded loaded) (numbered pairs) → ((buffer : List ℕ) → buffer ≡ loaded → buffer_image buffers buffer ≡ image) →
-    steps_outcome (record { buffers = buffers; noted = []; number = 0; committed_buffers = []; committed_nodes = [] }) files (numbered pairs)
+    steps_outcome (record { buffers = buffers; pending = []; number = 0; committed_buffers = []; committed_nodes = [] }) files (numbered pairs)
     ≡ renders_outcome (inverted_image image) (drop 3 (numbered pairs))
-behind_load files loaded image buffers [] follows found = refl
-behind_load files loaded image buffers ((l, Source source buffer) ∷ []) follows found = refl
-behind_load files loaded image buffers ((l, Source source buffer) ∷ (m, Invert node input) ∷ []) follows found = refl
-behind_load files loaded image buffers ((l, Source source buffer) ∷ (m, Invert node input) ∷ (n, Commit) ∷ pairs) follows found =
+after_load files loaded image buffers [] follows found = refl
+after_load files loaded image buffers ((l, Source source buffer) ∷ []) follows found = refl
+after_load files loaded image buffers ((l, Source source buffer) ∷ (m, Invert node input) ∷ []) follows found = refl
+after_load files loaded image buffers ((l, Source source buffer) ∷ (m, Invert node input) ∷ (n, Commit) ∷ pairs) follows found =
     let steps = numbered pairs in
     let sourced = passed (bytes_eq buffer loaded) (stages.Sourced source) (λ next. Follows next (numbered ((m, Invert node input) ∷ (n, Commit) ∷ pairs))) follows in
     let inverted = passed (bytes_eq input source && not (bytes_eq node source)) (stages.Inverted node) (λ next. Follows next (numbered ((n, Commit) ∷ pairs))) sourced.1 in
@@ -91,43 +91,43 @@ behind_load files loaded image buffers ((l, Source source buffer) ∷ (m, Invert
     let same : input ≡ source = same_names input source tests.0 in
     let nodes : List ℕ → List (graph.Node Operation) = λ i.
     record { name = source; body = graph.Source buffer } ∷ record { name = node; body = graph.Compute operations.Invert (i ∷ []) } ∷ [] in
-    let state : State = record { buffers = buffers; noted = []; number = 1; committed_buffers = buffers; committed_nodes = nodes input } in
+    let state : State = record { buffers = buffers; pending = []; number = 1; committed_buffers = buffers; committed_nodes = nodes input } in
     let shows : node_image state node ≡ inverted_image image =
     ap (λ (i : List ℕ). evaluated result_of buffers (nodes i) node) same
     ∙ inverse_of_buffer buffers buffer source node apart
     ∙ ap inverted_image (found buffer (same_names buffer loaded sourced.0)) in
     renders state files node pairs refl inverted.1 ∙ ap (λ (i : Image). renders_outcome i (numbered pairs)) shows
-behind_load files loaded image buffers ((l, Source source buffer) ∷ (m, Invert node input) ∷ (n, step) ∷ pairs) follows found =
+after_load files loaded image buffers ((l, Source source buffer) ∷ (m, Invert node input) ∷ (n, step) ∷ pairs) follows found =
     let sourced = passed (bytes_eq buffer loaded) (stages.Sourced source) (λ next. Follows next (numbered ((m, Invert node input) ∷ (n, step) ∷ pairs))) follows in
     let inverted = passed (bytes_eq input source && not (bytes_eq node source)) (stages.Inverted node) (λ next. Follows next (numbered ((n, step) ∷ pairs))) sourced.1 in
     absurd inverted.1
-behind_load files loaded image buffers ((l, Source source buffer) ∷ (m, step) ∷ pairs) follows found =
+after_load files loaded image buffers ((l, Source source buffer) ∷ (m, step) ∷ pairs) follows found =
     absurd (passed (bytes_eq buffer loaded) (stages.Sourced source) (λ next. Follows next (numbered ((m, step) ∷ pairs))) follows).1
-behind_load files loaded image buffers ((l, step) ∷ pairs) follows found = absurd follows
+after_load files loaded image buffers ((l, step) ∷ pairs) follows found = absurd follows
 
--- what stands behind the line that makes a buffer
+-- what stands after the line that makes a buffer
 abbrev made_state : List ℕ → Rectangle → State
-made_state made rect = record { buffers = (made, blank rect Y8) ∷ []; noted = []; number = 0; committed_buffers = []; committed_nodes = [] }
+made_state made rect = record { buffers = (made, blank rect Y8) ∷ []; pending = []; number = 0; committed_buffers = []; committed_nodes = [] }
 
 abbrev loaded_state : List ℕ → Rectangle → List ℕ → State
 loaded_state made rect bytes =
     record (made_state made rect) { buffers = (made, put_raw (buffer_image ((made, blank rect Y8) ∷ []) made) rect bytes) ∷ (made, blank rect Y8) ∷ [] }
 
--- what a load line and those behind it are to do, by what the load line does
-abbrev behind_turn : ℕ → List ℕ → Rectangle → Files → List (ℕ × Step) → Turn → Outcome
-behind_turn line made rect files pairs turn =
-    after_turn line (made_state made rect) files turn (λ next later. steps_outcome next later (numbered pairs))
+-- what a load line and those after it are to do, by what the load line does
+abbrev rest_after_turn : ℕ → List ℕ → Rectangle → Files → List (ℕ × Step) → Effect → Outcome
+rest_after_turn line made rect files pairs effect =
+    after_turn line (made_state made rect) files effect (λ next later. steps_outcome next later (numbered pairs))
 
 sized : (line : ℕ) (files : Files) (made : List ℕ) (rect : Rectangle) (pairs : List (ℕ × Step)) (bytes : List ℕ) (fits : Bool) → Follows (stages.Loaded made) (numbered pairs) →
-    behind_turn line made rect files pairs (cond fits (Leaves (loaded_state made rect bytes)) (IsRefused causes.WrongSize))
+    rest_after_turn line made rect files pairs (cond fits (Leaves (loaded_state made rect bytes)) (IsRefused causes.WrongSize))
     ≡ raster_outcome line (cond fits (Some (put_raw (blank rect Y8) rect bytes)) None) (drop 3 (numbered pairs))
 sized line files made rect pairs bytes true follows =
-    behind_load files made (put_raw (blank rect Y8) rect bytes) ((loaded_state made rect bytes).buffers) pairs follows (λ buffer same. loaded_image made buffer rect bytes same)
+    after_load files made (put_raw (blank rect Y8) rect bytes) ((loaded_state made rect bytes).buffers) pairs follows (λ buffer same. loaded_image made buffer rect bytes same)
 sized line files made rect pairs bytes false follows = refl
 
--- the load line, and the lines behind it
+-- the load line, and the lines after it
 load_turn : (line : ℕ) (files : Files) (made : List ℕ) (rect : Rectangle) (pairs : List (ℕ × Step)) (found : Option (List ℕ)) → Follows (stages.Loaded made) (numbered pairs) →
-    behind_turn line made rect files pairs (load (made_state made rect) made rect found)
+    rest_after_turn line made rect files pairs (load (made_state made rect) made rect found)
     ≡ file_outcome line rect found (drop 3 (numbered pairs))
 load_turn line files made rect pairs None follows = refl
 load_turn line files made rect pairs (Some bytes) follows = sized line files made rect pairs bytes (length bytes == area rect) follows
@@ -142,8 +142,8 @@ carries_out files first line made loaded name rect part pairs follows =
     let tests = both_pass (bytes_eq loaded made) (same_rectangle part rect) goes.0 in
     let name_same : loaded ≡ made = same_names loaded made tests.0 in
     let rect_same : part ≡ rect = same_rectangle-true part rect tests.1 in
-    ap (λ (n : List ℕ). behind_turn line made rect files pairs (load (made_state made rect) n part (file files name))) name_same
-    ∙ subst (λ (r : Rectangle). behind_turn line made rect files pairs (load (made_state made rect) made r (file files name)) ≡ file_outcome line r (file files name) (drop 3 (numbered pairs)))
+    ap (λ (n : List ℕ). rest_after_turn line made rect files pairs (load (made_state made rect) n part (file files name))) name_same
+    ∙ subst (λ (r : Rectangle). rest_after_turn line made rect files pairs (load (made_state made rect) made r (file files name)) ≡ file_outcome line r (file files name) (drop 3 (numbered pairs)))
     (sym rect_same) (load_turn line files made rect pairs (file files name) goes.1)
 
 nothing_loaded : (files : Files) (pairs : List (ℕ × Step)) → Follows stages.Empty (numbered pairs) → length (numbered pairs) ≤ 1 →

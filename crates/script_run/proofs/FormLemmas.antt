@@ -10,7 +10,7 @@ use Rattle.script_run.specs.declared.form.Stage.TheVariants.{Empty}
 use Rattle.script_run.specs.Steps.{step_of}
 use Rattle.script_run.specs.Form.{steps_of, steps_from, from_taken, before, taken, paired, next_stage, Follows, GoOn}
 
--- steps before those that are taken behind them
+-- steps before those that are taken after them
 abbrev pub before_all : List NumberedStep → Result (List NumberedStep) ℕ → Result (List NumberedStep) ℕ
 before_all steps (Ok rest) = Ok (steps ++ rest)
 before_all steps (Err line) = Err line

@@ -4,9 +4,9 @@ use Rattle.std.specs.Result.{IsErrAnd}
 use Rattle.outside_io.specs.Files.{Files}
 use Rattle.script_run.specs.declared.status.End.{End}
 use Rattle.script_run.specs.declared.status.End.TheVariants as ends
-use Rattle.run_events.specs.Events.{Event, Writes, Puts, Outcome, Refusal, events_alone, then_do}
-use Rattle.run_events.specs.World.{World, after_all, LeavesSome}
-use Rattle.run_events.proofs.Leaving.{none_yet, all_came, after_all-append, some_behind, some_of_first}
+use Rattle.run_texts.specs.Events.{Event, Writes, Puts, Outcome, Refusal, events_alone, then_do}
+use Rattle.run_texts.specs.World.{World, after_all, LeavesSome}
+use Rattle.run_texts.proofs.Leaving.{none_yet, all_came, after_all-append, some_after, some_of_first}
 use Rattle.script_run.specs.Ending.{MayTear, Leaves, Faults, HasCause, NoneFalls}
 
 -- a part whose events have all come, and then the rest
@@ -17,14 +17,14 @@ Leaves-then events rest result old mid new came leaves =
     record {
       refused = leaves.refused;
       whole = λ whole. begin.whole whole ∙ sym (after_all-append events rest.events old);
-      some = some_behind (MayTear result) events rest.events old new begin.some;
+      some = some_after (MayTear result) events rest.events old new begin.some;
     }
 
--- nothing is done for want of memory
+-- nothing is done for running out of memory
 pub nothing_done : (outcome : Outcome) (world : World) → Leaves outcome (Err ends.NoMemory) world world
 nothing_done outcome world = record { refused = tt; whole = λ whole. absurd whole; some = none_yet _ outcome.events world }
 
--- nothing is done after a fault of a read
+-- nothing is done after an I/O error of a read
 pub nothing_read : (outcome : Outcome) (world : World) → Leaves outcome (Err ends.ReadFault) world world
 nothing_read outcome world = record { refused = tt; whole = λ whole. absurd whole; some = none_yet _ outcome.events world }
 
@@ -46,13 +46,13 @@ Leaves-first events outcome ends.NoMemory old new leaves =
     record { refused = tt; whole = λ whole. absurd whole; some = some_of_first _ events outcome.events old new leaves.some }
 
 -- the text of a refusal did not go out whole
-pub Leaves-told : (events : List Event) (refused : Option Refusal) (end : End) (old new : World) →
+pub Leaves-exposed : (events : List Event) (refused : Option Refusal) (end : End) (old new : World) →
     Leaves (events_alone events) (Err end) old new → Leaves (record { events = events; refused = refused }) (Err end) old new
-Leaves-told events refused ends.Refused old new leaves = absurd leaves.refused
-Leaves-told events refused ends.ReadFault old new leaves = record { refused = tt; whole = λ whole. absurd whole; some = leaves.some }
-Leaves-told events refused ends.WriteFault old new leaves = record { refused = tt; whole = λ whole. absurd whole; some = leaves.some }
-Leaves-told events refused ends.OutputFault old new leaves = record { refused = tt; whole = λ whole. absurd whole; some = leaves.some }
-Leaves-told events refused ends.NoMemory old new leaves = record { refused = tt; whole = λ whole. absurd whole; some = leaves.some }
+Leaves-exposed events refused ends.Refused old new leaves = absurd leaves.refused
+Leaves-exposed events refused ends.ReadFault old new leaves = record { refused = tt; whole = λ whole. absurd whole; some = leaves.some }
+Leaves-exposed events refused ends.WriteFault old new leaves = record { refused = tt; whole = λ whole. absurd whole; some = leaves.some }
+Leaves-exposed events refused ends.OutputFault old new leaves = record { refused = tt; whole = λ whole. absurd whole; some = leaves.some }
+Leaves-exposed events refused ends.NoMemory old new leaves = record { refused = tt; whole = λ whole. absurd whole; some = leaves.some }
 
 -- the text of a refusal went out
 pub Leaves-refused : (events : List Event) (refusal : Refusal) (old new : World) → new ≡ after_all events old →
@@ -63,7 +63,7 @@ Leaves-refused events refusal old new came =
 pub none_falls : {result : Result (Unit {0}) End} {old new : Faults} → HasCause result old new → NoneFalls old new
 none_falls cause = record { reads = cause.reads; writes = cause.writes; puts = cause.puts }
 
--- a fault behind a part
+-- an I/O error after a part
 pub HasCause-then : (result : Result (Unit {0}) End) (old mid new : Faults) → NoneFalls old mid → HasCause result mid new → HasCause result old new
 HasCause-then result old mid new first cause = record {
   read = λ e. omega (arith, cause.read e);
@@ -74,7 +74,7 @@ HasCause-then result old mid new first cause = record {
   puts = omega arith;
 }
 
--- a refusal is no fault
+-- a refusal is no I/O error
 pub refused_cause : (old new : Faults) → NoneFalls old new → HasCause (Err ends.Refused) old new
 refused_cause old new first = record {
   read = λ e. absurd (cc);
@@ -114,26 +114,26 @@ pub Leaves-same_files : (outcome : Outcome) (result : Result (Unit {0}) End) (ol
     Leaves outcome result (record { files = mid; text = text }) new → Leaves outcome result (record { files = old; text = text }) new
 Leaves-same_files outcome result old mid text new same leaves = subst (λ (files : Option Files). Leaves outcome result (record { files = files; text = text }) new) same leaves
 
-in_some : {A : Type 0} (told : Option A) (P Q : A → Type 0) → ((x : A) → P x → Q x) → IfSome told P → IfSome told Q
+in_some : {A : Type 0} (exposed : Option A) (P Q : A → Type 0) → ((x : A) → P x → Q x) → IfSome exposed P → IfSome exposed Q
 in_some None P Q weaker holds = tt
 in_some (Some x) P Q weaker holds = weaker x holds
 
--- where the files are told, an outcome that is another by what is known of them
-pub told_outcome : (told : Option Files) (known : Files → Type 0) (outcome : Files → Outcome) (other : Outcome) (result : Result (Unit {0}) End) (old new : World) →
-    ((files : Files) → known files → outcome files ≡ other) → IfSome told known → Leaves other result old new → IfSome told (λ files. Leaves (outcome files) result old new)
-told_outcome told known outcome other result old new same holds leaves =
-    in_some told known _ (λ files k. subst (λ (o : Outcome). Leaves o result old new) (sym (same files k)) leaves) holds
+-- where the files are reported, an outcome that is another by what is known of them
+pub exposed_outcome : (exposed : Option Files) (known : Files → Type 0) (outcome : Files → Outcome) (other : Outcome) (result : Result (Unit {0}) End) (old new : World) →
+    ((files : Files) → known files → outcome files ≡ other) → IfSome exposed known → Leaves other result old new → IfSome exposed (λ files. Leaves (outcome files) result old new)
+exposed_outcome exposed known outcome other result old new same holds leaves =
+    in_some exposed known _ (λ files k. subst (λ (o : Outcome). Leaves o result old new) (sym (same files k)) leaves) holds
 
--- where the files are told, one outcome for another
-pub told_same : (told : Option Files) (outcome other : Files → Outcome) (result : Result (Unit {0}) End) (old new : World) →
-    ((files : Files) → outcome files ≡ other files) → IfSome told (λ files. Leaves (other files) result old new) → IfSome told (λ files. Leaves (outcome files) result old new)
-told_same told outcome other result old new same leaves =
-    in_some told _ _ (λ files l. subst (λ (o : Outcome). Leaves o result old new) (sym (same files)) l) leaves
+-- where the files are reported, one outcome for another
+pub exposed_same : (exposed : Option Files) (outcome other : Files → Outcome) (result : Result (Unit {0}) End) (old new : World) →
+    ((files : Files) → outcome files ≡ other files) → IfSome exposed (λ files. Leaves (other files) result old new) → IfSome exposed (λ files. Leaves (outcome files) result old new)
+exposed_same exposed outcome other result old new same leaves =
+    in_some exposed _ _ (λ files l. subst (λ (o : Outcome). Leaves o result old new) (sym (same files)) l) leaves
 
-pub told_any : (told : Option Files) (outcome : Files → Outcome) (result : Result (Unit {0}) End) (old new : World) →
-    ((files : Files) → Leaves (outcome files) result old new) → IfSome told (λ files. Leaves (outcome files) result old new)
-told_any None outcome result old new leaves = tt
-told_any (Some files) outcome result old new leaves = leaves files
+pub exposed_any : (exposed : Option Files) (outcome : Files → Outcome) (result : Result (Unit {0}) End) (old new : World) →
+    ((files : Files) → Leaves (outcome files) result old new) → IfSome exposed (λ files. Leaves (outcome files) result old new)
+exposed_any None outcome result old new leaves = tt
+exposed_any (Some files) outcome result old new leaves = leaves files
 
 pub Leaves-same_outcome : (outcome other : Outcome) (result : Result (Unit {0}) End) (old new : World) → outcome ≡ other → Leaves other result old new → Leaves outcome result old new
 Leaves-same_outcome outcome other result old new same leaves = subst (λ (o : Outcome). Leaves o result old new) (sym same) leaves

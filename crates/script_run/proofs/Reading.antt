@@ -2,8 +2,8 @@
 use Rattle.std.proofs.Common.{◌≡◌, ℕ, ◌<◌, List, length, Option, Some, None, true, ltb, refl, arith}
 use Rattle.std.proofs.lemmas.Bool.Decides.{nat_tests}
 use Rattle.outside_io.specs.Files.{Files}
-use Rattle.run_events.specs.declared.cause.Cause.TheVariants as causes
-use Rattle.run_events.specs.Events.{refusal}
+use Rattle.run_texts.specs.declared.cause.Cause.TheVariants as causes
+use Rattle.run_texts.specs.Events.{refusal}
 use Rattle.script_read.specs.Script.{script_limit}
 use Rattle.script_run.specs.Outcome.{text_outcome}
 

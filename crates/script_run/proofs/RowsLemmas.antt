@@ -3,9 +3,9 @@ use Rattle.std.proofs.Common.{◌≡◌, ℕ, ◌+◌, ◌*◌, ◌/◌, ◌%◌
 use Rattle.std.specs.List.{range_with_len, flat_map}
 use Rattle.std.proofs.lemmas.Nat.{div-mul-add, mod-mul-add}
 use Rattle.plane_rect.specs.Rectangle.{Rectangle, area}
-use Rattle.images.specs.Image.{Image, at, sampled}
-use Rattle.images.specs.Raw.{raw, sample_bytes}
-use Rattle.images.proofs.Ranges.{map-range-append, map-range-alike}
+use Rattle.model_images.specs.Image.{Image, at, sampled}
+use Rattle.model_images.specs.Raw.{raw, sample_bytes}
+use Rattle.model_images.proofs.Ranges.{map-range-append, map-range-equal}
 use Rattle.script_run.specs.Rows.{row_of}
 use Rattle.script_run.proofs.RasterLemmas.{bytes_image}
 
@@ -14,10 +14,10 @@ abbrev pub rows_of : Rectangle → ℕ → Rectangle
 rows_of r k = record r { height = k }
 
 pub sampled-more : (image : Image) (r : Rectangle) (k : ℕ) →
-    sampled (rows_of r (k + 1)) 1 (at image) ≡ sampled (rows_of r k) 1 (at image) ++ row_of image r (r.top + k)
+    sampled (rows_of r (k + 1)) 1 (at image) ≡ sampled (rows_of r k) 1 (at image) ++ row_of image r (r.first_row + k)
 sampled-more image r k =
-    let f : ℕ → ℕ = λ i. at image (r.left + (i / 1) % r.width) (r.top + i / 1 / r.width) (i % 1) in
-    let g : ℕ → ℕ = λ i. at image (r.left + i) (r.top + k) 0 in
+    let f : ℕ → ℕ = λ i. at image (r.first_column + (i / 1) % r.width) (r.first_row + i / 1 / r.width) (i % 1) in
+    let g : ℕ → ℕ = λ i. at image (r.first_column + i) (r.first_row + k) 0 in
     let more : area (rows_of r (k + 1)) * 1 ≡ area (rows_of r k) * 1 + r.width = omega arith in
     let shifted : (i : ℕ) → i < r.width → f (area (rows_of r k) * 1 + i) ≡ g i =
     λ i below.
@@ -28,12 +28,12 @@ sampled-more image r k =
     rw (whole, none, column, row) refl in
     ap (λ (n : ℕ). map f (range_with_len 0 n)) more
     ∙ map-range-append f (area (rows_of r k) * 1) r.width
-    ∙ ap (λ (xs : List ℕ). map f (range_with_len 0 (area (rows_of r k) * 1)) ++ xs) (map-range-alike (λ i. f (area (rows_of r k) * 1 + i)) g r.width shifted)
+    ∙ ap (λ (xs : List ℕ). map f (range_with_len 0 (area (rows_of r k) * 1)) ++ xs) (map-range-equal (λ i. f (area (rows_of r k) * 1 + i)) g r.width shifted)
 
 pub sampled-none : (image : Image) (r : Rectangle) (k : ℕ) → k ≡ 0 → sampled (rows_of r k) 1 (at image) ≡ []
 sampled-none image r k none =
     let empty : area (rows_of r k) * 1 ≡ 0 = rw none (omega arith) in
-    ap (λ (n : ℕ). map (λ i. at image (r.left + (i / 1) % r.width) (r.top + i / 1 / r.width) (i % 1)) (range_with_len 0 n)) empty
+    ap (λ (n : ℕ). map (λ i. at image (r.first_column + (i / 1) % r.width) (r.first_row + i / 1 / r.width) (i % 1)) (range_with_len 0 n)) empty
 
 flat_map-bytes : (samples : List ℕ) → flat_map (sample_bytes 1) samples ≡ samples
 flat_map-bytes [] = refl

@@ -3,9 +3,9 @@ use Rattle.std.proofs.Common.{◌≡◌, ℕ, ◌⊎◌, List, Option, Some, Non
 use Rattle.outside_io.specs.Files.{Files}
 use Rattle.script_run.specs.declared.status.End.{End}
 use Rattle.script_run.specs.declared.status.End.TheVariants as ends
-use Rattle.run_events.specs.Events.{Outcome}
-use Rattle.run_events.specs.World.{World, LeavesSome}
-use Rattle.run_events.proofs.Leaving.{some_weaker}
+use Rattle.run_texts.specs.Events.{Outcome}
+use Rattle.run_texts.specs.World.{World, LeavesSome}
+use Rattle.run_texts.proofs.Leaving.{some_weaker}
 use Rattle.script_run.specs.Ending.{MayTear, Leaves}
 use Rattle.script_run.specs.Status.{status_of}
 
@@ -17,12 +17,12 @@ may_tear_at (Err ends.WriteFault) torn = inl refl
 may_tear_at (Err ends.OutputFault) torn = absurd torn
 may_tear_at (Err ends.NoMemory) torn = inr refl
 
--- what the front clause says, where the files are told
-pub told_front : (told : Option Files) (outcome other : Files → Outcome) (ended : Result (Unit {0}) End) (status : ℕ) (text : Option (List ℕ)) (new : World) →
+-- what the front clause says, where the files are reported
+pub exposed_prefix : (exposed : Option Files) (outcome other : Files → Outcome) (ended : Result (Unit {0}) End) (status : ℕ) (text : Option (List ℕ)) (new : World) →
     status ≡ status_of ended → ((files : Files) → outcome files ≡ other files) →
-    IfSome told (λ files. Leaves (other files) ended (record { files = told; text = text }) new) →
-    IfSome told (λ files. LeavesSome ((status ≡ 4) ⊎ (status ≡ 7)) (outcome files).events (record { files = Some files; text = text }) new)
-told_front None outcome other ended status text new is same leaves = tt
-told_front (Some files) outcome other ended status text new is same leaves =
+    IfSome exposed (λ files. Leaves (other files) ended (record { files = exposed; text = text }) new) →
+    IfSome exposed (λ files. LeavesSome ((status ≡ 4) ⊎ (status ≡ 7)) (outcome files).events (record { files = Some files; text = text }) new)
+exposed_prefix None outcome other ended status text new is same leaves = tt
+exposed_prefix (Some files) outcome other ended status text new is same leaves =
     let old : World = record { files = Some files; text = text } in
     rw (is, same files) (some_weaker (MayTear ended) _ (may_tear_at ended) (other files).events old new leaves.some)

@@ -1,8 +1,8 @@
--- What stands when a run has ended, or a part of one: the files, the text, and the counts of faults.
+-- What stands when a run has ended, or a part of one: the files, the text, and the counts of I/O errors.
 use Rattle.std.specs.Prelude.{◌≡◌, ℕ, ◌≤◌, Option, Some, None, Result, Ok, Err, ⊤}
 use Rattle.outside_io.specs.Faults.{Rose}
-use Rattle.run_events.specs.Events.{Outcome, Refusal}
-use Rattle.run_events.specs.World.{World, after_all, LeavesSome}
+use Rattle.run_texts.specs.Events.{Outcome, Refusal}
+use Rattle.run_texts.specs.World.{World, after_all, LeavesSome}
 use Rattle.script_run.specs.declared.status.End.{End}
 use Rattle.script_run.specs.declared.status.End.TheVariants as ends
 
@@ -15,7 +15,7 @@ IsWhole (Err ends.WriteFault) = ⊥
 IsWhole (Err ends.OutputFault) = ⊥
 IsWhole (Err ends.NoMemory) = ⊥
 
--- the last file may be torn: after a fault of a write, and after want of memory
+-- the last file may be torn: after an I/O error of a write, and after running out of memory
 abbrev pub MayTear : Result (Unit {0}) End → Type 0
 MayTear (Ok done) = ⊥
 MayTear (Err ends.Refused) = ⊥
@@ -44,7 +44,7 @@ pub record Leaves (outcome : Outcome) (result : Result (Unit {0}) End) (old new 
   pub whole : IsWhole result → new ≡ after_all outcome.events old
   pub some : LeavesSome (MayTear result) outcome.events old new
 
--- counts of faults: of reads and writes of a shelf, and of a sink
+-- counts of I/O errors: of reads and writes of a shelf, and of a sink
 pub record Faults : Type 0 where
   pub reads : ℕ
   pub writes : ℕ
@@ -56,7 +56,7 @@ pub record NoneFalls (old new : Faults) : Type 0 where
   pub writes : old.writes ≤ new.writes
   pub puts : old.puts ≤ new.puts
 
--- each fault that ends a run comes only where its count rose, and no count falls
+-- each I/O error that ends a run comes only where its count rose, and no count falls
 pub record HasCause (result : Result (Unit {0}) End) (old new : Faults) : Type 0 where
   pub read : result ≡ Err ends.ReadFault → Rose old.reads new.reads
   pub write : result ≡ Err ends.WriteFault → Rose old.writes new.writes

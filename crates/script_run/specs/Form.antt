@@ -1,5 +1,5 @@
 -- The form of the scripts that are carried out: a raster is loaded and inverted, and regions of it are rendered.
--- It is any front of these lines, with as many render lines as one likes, in which R is one rectangle and S isn't I:
+-- It is any prefix of these lines, with as many render lines as one likes, in which R is one rectangle and S isn't I:
 --     buffer A Y8 R
 --     load A R FILE
 --     node S source A
@@ -26,7 +26,7 @@ use Rattle.script_run.specs.declared.form.FormRefused.TheVariants as refusals
 abbrev pub if_passed : {A : Type 0} → Bool → A → Option A
 if_passed test value = if test then Some value else None
 
--- where the form stands behind a step, None where the step breaks it
+-- where the form stands after a step, None where the step breaks it
 abbrev pub next_stage : Stage → Step → Option Stage
 next_stage stages.Empty (Buffer name rect) = Some (stages.Buffered name rect)
 next_stage (stages.Buffered name rect) (Load loaded part file) =
@@ -38,14 +38,14 @@ next_stage (stages.Inverted node) Commit = Some (stages.Committed node)
 next_stage (stages.Committed node) (Render rendered rect file) = if_passed (bytes_eq rendered node) (stages.Committed node)
 next_stage stage step = None
 
--- a step, and where the form stands behind it
+-- a step, and where the form stands after it
 abbrev pub paired : Step → Stage → Step × Stage
 paired step next = (step, next)
 
 abbrev pub taken : Stage → Option Step → Option (Step × Stage)
 taken stage step = option_and_then (λ step. option_map (paired step) (next_stage stage step)) step
 
--- a step before those of the lines behind it
+-- a step before those of the lines after it
 abbrev pub before : NumberedStep → Result (List NumberedStep) ℕ → Result (List NumberedStep) ℕ
 before step (Ok steps) = Ok (step ∷ steps)
 before step (Err line) = Err line
@@ -74,7 +74,7 @@ abbrev pub Follows : Stage → List NumberedStep → Type 0
 Follows stage [] = Unit {0}
 Follows stage (step ∷ steps) = GoOn (next_stage stage step.step) (λ next. Follows next steps)
 
--- what following the form answers, where this is followed; want of memory may come whatever it is
+-- what following the form answers, where this is followed; running out of memory may come whatever it is
 abbrev pub Reads : Result (Vec NumberedStep) FormRefused → Result (List NumberedStep) ℕ → Type 0
 Reads (Ok steps) read = read ≡ Ok steps.items
 Reads (Err refusals.NoMemory) read = ⊤

@@ -8,6 +8,6 @@ pub mod Ending
 pub mod Status
 pub use Rattle.outside_io.specs.Files
 pub use Rattle.outside_io.specs.Faults
-pub use Rattle.graphs.specs.Evaluation
-pub use Rattle.run_events.specs.Events
-pub use Rattle.run_events.specs.World
+pub use Rattle.model_graphs.specs.Evaluation
+pub use Rattle.run_texts.specs.Events
+pub use Rattle.run_texts.specs.World

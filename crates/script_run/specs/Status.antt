@@ -1,6 +1,6 @@
 -- The statuses of a run.
 use Rattle.std.specs.Prelude.{◌≢◌, ℕ, ◌≤◌, Option, Some, None, Result, Ok, Err}
-use Rattle.run_events.specs.Events.{Refusal}
+use Rattle.run_texts.specs.Events.{Refusal}
 use Rattle.script_run.specs.declared.status.End.{End}
 use Rattle.script_run.specs.declared.status.End.TheVariants as ends
 

@@ -2,12 +2,12 @@
 
 ghost use Rattle.std.specs.Prelude.{◌≡◌, [], ◌∷◌, Option, IfSome, List, ℕ};
 ghost use Rattle.outside_io.specs.Files.{Files, file as bytes_of};
-ghost use Rattle.images.specs.Raw.{raw};
+ghost use Rattle.model_images.specs.Raw.{raw};
 ghost use Rattle.script_run.specs.Ending.{Leaves, HasCause};
 ghost use Rattle.script_run.specs.Form.{Follows};
 ghost use Rattle.script_run.specs.Outcome.{rendered, steps_outcome, empty_state};
-ghost use Rattle.run_events.specs.Events.{Puts, Writes, events_alone, refusal};
-ghost use Rattle.run_events.specs.Texts.{render_text as text_of_render};
+ghost use Rattle.run_texts.specs.Events.{Puts, Writes, events_alone, refusal};
+ghost use Rattle.run_texts.specs.Texts.{render_text as text_of_render};
 ghost use Rattle.script_run.specs.Rendering.{load_outcome, file_outcome, raster_outcome, render_events, renders_outcome};
 
 use crate::form::Stage;
@@ -16,7 +16,7 @@ use crate::status::End;
 use crate::step::{NumberedStep, Step};
 use outside_io::{Shelf, ShelfAnswer, Sink, SinkAnswer};
 use plane_rect::Rect;
-use run_events::{Cause, refusal_text, render_text};
+use run_texts::{Cause, refusal_text, render_text};
 use script_read::FileName;
 use std::alloc::Global;
 
@@ -47,7 +47,7 @@ pub fn carry_out<F: Shelf, O: Sink>(
     load_line(alloc, second.number, &second.step, renders, shelf, out)
 }
 
-/// Carries out the second step, which loads a raster, and the renders behind the commit.
+/// Carries out the second step, which loads a raster, and the renders after the commit.
 fn load_line<F: Shelf, O: Sink>(
     alloc: Global,
     line: u32,
@@ -68,7 +68,7 @@ fn load_line<F: Shelf, O: Sink>(
     }
 }
 
-/// Loads a raster at a line, and carries out the renders behind it.
+/// Loads a raster at a line, and carries out the renders after it.
 fn load<F: Shelf, O: Sink>(
     alloc: Global,
     line: u32,
@@ -120,7 +120,7 @@ fn render_raster<F: Shelf, O: Sink>(
     }
 }
 
-/// Carries out the steps behind the commit.
+/// Carries out the steps after the commit.
 fn render_all<F: Shelf, O: Sink>(
     alloc: Global,
     image: &Raster,
@@ -140,7 +140,7 @@ fn render_all<F: Shelf, O: Sink>(
     Ok(())
 }
 
-/// Carries out a step behind the commit.
+/// Carries out a step after the commit.
 fn render_line<F: Shelf, O: Sink>(
     alloc: Global,
     image: &Raster,
@@ -179,11 +179,11 @@ fn render<F: Shelf, O: Sink>(
 {
     let bytes = image.raw(alloc, rect)?;
     write(&bytes, file, shelf)?;
-    tell_render(alloc, line, bytes.len(), out)
+    report_render(alloc, line, bytes.len(), out)
 }
 
 /// Puts the text of a render line whose file of so many bytes is written.
-fn tell_render<O: Sink>(alloc: Global, line: u32, bytes: usize, out: &mut O) -> Result<(), End>
+fn report_render<O: Sink>(alloc: Global, line: u32, bytes: usize, out: &mut O) -> Result<(), End>
     ensures leaves { (files : Option Files) → Leaves (events_alone (Puts (text_of_render line 1 bytes) ∷ [])) result
         (record { files = files; text = O.written out.old }) (record { files = files; text = O.written out.new }) }
     ensures cause { (reads writes : ℕ) → HasCause result

@@ -8,7 +8,7 @@ use plane_rect::{Name, Rect};
 use script_read::{Command, Line};
 use std::alloc::{AllocFailed, Global};
 
-/// Where the form stands behind some of its lines.
+/// Where the form stands after some of its lines.
 #[derive(Clone, Copy, Debug)]
 pub enum Stage {
     /// Behind no line.
@@ -30,7 +30,7 @@ impl Stage {
     ghost use Rattle.script_run.specs.Steps.{step_of};
     ghost use Rattle.script_run.specs.Form.{next_stage, taken};
 
-    /// Where the form stands behind a step, and None where the step breaks it.
+    /// Where the form stands after a step, and None where the step breaks it.
     pub fn next(&self, step: &Step) -> Option<Stage>
         ensures { result ≡ next_stage self.now step.now }
     {
@@ -53,7 +53,7 @@ impl Stage {
         }
     }
 
-    /// What is carried out of a command, and where the form stands behind it.
+    /// What is carried out of a command, and where the form stands after it.
     fn take(self, command: &Command) -> Option<(Step, Stage)>
         ensures { result ≡ taken self (step_of command.now) }
     {

@@ -7,7 +7,7 @@ ghost use Rattle.outside_io.specs.Files.{file};
 ghost use Rattle.outside_io.specs.Faults.{Rose};
 ghost use Rattle.script_run.specs.Words.{script_of as script_of_words};
 ghost use Rattle.script_read.specs.Script.{script_limit, script_of};
-ghost use Rattle.run_events.specs.World.{LeavesSome, after_all};
+ghost use Rattle.run_texts.specs.World.{LeavesSome, after_all};
 ghost use Rattle.script_run.specs.Form.{steps_of};
 ghost use Rattle.script_run.specs.Outcome.{outcome, text_outcome, lines_outcome, form_outcome};
 ghost use Rattle.script_run.specs.Ending.{HasCause, IsRefusal, Leaves, NoneFalls};
@@ -18,7 +18,7 @@ use crate::form::{FormRefused, steps_of};
 use crate::status::{End, status_of};
 use crate::words::script_of;
 use outside_io::{Gate, Shelf, ShelfAnswer, Sink, SwapDisk};
-use run_events::Cause;
+use run_texts::Cause;
 use script_read::{Line, ScriptAnswer, ScriptCause, read_script};
 use std::alloc::Global;
 
@@ -39,8 +39,8 @@ pub fn run<F: Shelf, D: SwapDisk, O: Sink, G: Gate + Sync>(
 ) -> u8
     // 1 comes exactly where the words are not in their grammar, and then nothing is touched.
     ensures words { (result ≡ 1) ↔ (script_of_words (map string_bytes words.now) ≡ None) }
-    ensures shelf_stands { result ≡ 1 → shelf.new ≡ shelf.old }
-    ensures sink_stands { result ≡ 1 → out.new ≡ out.old }
+    ensures shelf_unchanged { result ≡ 1 → shelf.new ≡ shelf.old }
+    ensures sink_unchanged { result ≡ 1 → out.new ≡ out.old }
 
     // At 0 no line was refused, and at 2 one was. At both the files and the text are those of every event.
     ensures done { result ≡ 0 → IfSome (F.files shelf.old)
@@ -51,12 +51,12 @@ pub fn run<F: Shelf, D: SwapDisk, O: Sink, G: Gate + Sync>(
         (λ files. record { files = F.files shelf.new; text = O.written out.new }
         ≡ after_all (outcome (map string_bytes words.now) files).events (record { files = Some files; text = O.written out.old })) }
 
-    // At every status the first of the events have come, and perhaps a front of the next: of a file only at 4 and 7.
-    ensures front { IfSome (F.files shelf.old)
+    // At every status the first of the events have come, and perhaps a prefix of the next: of a file only at 4 and 7.
+    ensures prefix { IfSome (F.files shelf.old)
         (λ files. LeavesSome ((result ≡ 4) ⊎ (result ≡ 7)) (outcome (map string_bytes words.now) files).events
         (record { files = Some files; text = O.written out.old }) (record { files = F.files shelf.new; text = O.written out.new })) }
 
-    // A fault comes only where its count rose. Swap faults and a full swap don't come.
+    // An I/O error comes only where its count rose. Swap I/O errors and a full swap don't come.
     ensures read_fault { result ≡ 3 → Rose (F.read_faults shelf.old) (F.read_faults shelf.new) }
     ensures write_fault { result ≡ 4 → Rose (F.write_faults shelf.old) (F.write_faults shelf.new) }
     ensures output_fault { result ≡ 6 → Rose (O.faults out.old) (O.faults out.new) }

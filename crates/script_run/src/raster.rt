@@ -13,8 +13,8 @@ pub struct Raster {
 }
 
 impl Model for Raster {
-    ghost use Rattle.sample_rows.specs.declared.format.Format.TheVariants.{Y8};
-    ghost use Rattle.images.specs.Image.{Image, IsImage};
+    ghost use Rattle.pixel_formats.specs.declared.format.Format.TheVariants.{Y8};
+    ghost use Rattle.model_images.specs.Image.{Image, IsImage};
 
     ghost Value = { Image };
 
@@ -27,9 +27,9 @@ impl Raster {
     ghost use Rattle.std.specs.Prelude.{◌≡◌, ◌↔◌, IfSome, IsSome, IfOk, OnOk, ◌++◌, length};
     ghost use Rattle.script_run.specs.Rows.{row_of};
     ghost use Rattle.plane_rect.specs.Rectangle.{area};
-    ghost use Rattle.images.specs.Image.{at};
-    ghost use Rattle.images.specs.Paint.{blank, put_raw, inverted_image};
-    ghost use Rattle.images.specs.Raw.{raw};
+    ghost use Rattle.model_images.specs.Image.{at};
+    ghost use Rattle.model_images.specs.Paint.{blank, put_raw, inverted_image};
+    ghost use Rattle.model_images.specs.Raw.{raw};
 
     /// The image that the raw bytes of a rectangle spell, and None where they are too many or too few.
     pub fn from_raw(rect: Rect, bytes: Vec<u8>) -> Option<Raster>
@@ -63,7 +63,7 @@ impl Raster {
         ensures { result ≡ at self.now column row 0 }
     {
         let rect = self.rect;
-        if rect.has_place(column, row) {
+        if rect.has_position(column, row) {
             self.samples[rect.offset(column, row)]
         } else {
             0
@@ -76,7 +76,7 @@ impl Raster {
     {
         let _ = &self.rect;
         let mut bytes = Vec::with_capacity(alloc, rect.area() as usize)?;
-        for row in rect.top()..rect.bottom() {
+        for row in rect.first_row()..rect.end_row() {
             self.push_row(rect, row, &mut bytes)?;
         }
         Ok(bytes)
@@ -86,7 +86,7 @@ impl Raster {
     fn push_row(&self, rect: &Rect, row: u32, bytes: &mut Vec<u8>) -> Result<(), AllocError>
         ensures { OnOk result (bytes.new.items ≡ bytes.old.items ++ row_of self.now rect.now row) }
     {
-        for column in rect.left()..rect.right() {
+        for column in rect.first_column()..rect.end_column() {
             bytes.push(self.at(column, row))?;
         }
         Ok(())

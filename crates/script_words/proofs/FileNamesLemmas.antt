@@ -10,14 +10,14 @@ use Rattle.std.proofs.lemmas.List.{drop-replicate}
 use Rattle.outside_io.specs.FileName.{is_file_name, is_name_byte}
 use Rattle.script_words.specs.FileNames.{HoldsFileName}
 
--- a file name that was written over the front of zeros
+-- a file name that was written over the prefix of zeros
 pub written_file_name : (word : List ℕ) → IsTrue (is_file_name word) → HoldsFileName (word ++ drop (length word) (replicate 64 0)) (length word)
 written_file_name word h =
-    let front : take (length word) (word ++ drop (length word) (replicate 64 0)) ≡ word = take-append_seam word _ in
+    let prefix : take (length word) (word ++ drop (length word) (replicate 64 0)) ≡ word = take-append_seam word _ in
     record {
-      name = rw front h;
-      whole = rw front refl;
-      zeros = rw front (ap (λ (ys : List ℕ). word ++ ys) (sym (drop-replicate (length word) 64 0)));
+      name = rw prefix h;
+      whole = rw prefix refl;
+      zeros = rw prefix (ap (λ (ys : List ℕ). word ++ ys) (sym (drop-replicate (length word) 64 0)));
     }
 
 name_byte_below : (byte : ℕ) → is_name_byte byte ≡ true → byte < 128

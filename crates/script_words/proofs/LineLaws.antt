@@ -8,7 +8,7 @@ use Rattle.std.proofs.lemmas.List.{take_rest, drop-drop}
 use Rattle.std.proofs.lemmas.List.Splits.{slice_split_at, slice_split_first, slice_split_none, length-slice_split}
 use Rattle.std.proofs.lemmas.List.Sums.{AllPass-from_list_all, fails_before_first}
 use Rattle.script_words.specs.Lines.{lines_of, text_of, is_line, is_text, is_text_byte}
-use Rattle.script_words.proofs.Passing.{not_passed, and_front, and_back, and_both, list_all-other}
+use Rattle.script_words.proofs.Passing.{not_passed, and_prefix, and_back, and_both, list_all-other}
 
 -- a line feed
 abbrev pub is_feed : ℕ → Bool
@@ -18,22 +18,22 @@ first_of_parts : (line : List ℕ) (parts : List (List ℕ)) → 0 < length part
 first_of_parts line [] h = absurd (omega arith)
 first_of_parts line (part ∷ parts) h = refl
 
-found_below : (place len feed : ℕ) (below : Bool) → ltb place len ≡ below → cond below (Some place) None ≡ Some feed → (place < len) × (place ≡ feed)
-found_below place len feed true test found = (grind (arith, nat_tests), cc)
-found_below place len feed false test found = absurd (cc)
+found_below : (index len feed : ℕ) (below : Bool) → ltb index len ≡ below → cond below (Some index) None ≡ Some feed → (index < len) × (index ≡ feed)
+found_below index len feed true test found = (grind (arith, nat_tests), cc)
+found_below index len feed false test found = absurd (cc)
 
-not_below : (place len : ℕ) (below : Bool) → ltb place len ≡ below → cond below (Some place) None ≡ None → ltb place len ≡ false
-not_below place len true test none = absurd (cc)
-not_below place len false test none = test
+not_below : (index len : ℕ) (below : Bool) → ltb index len ≡ below → cond below (Some index) None ≡ None → ltb index len ≡ false
+not_below index len true test none = absurd (cc)
+not_below index len false test none = test
 
 -- the first line ends at the first line feed
 pub lines_of_feed : (text : List ℕ) (feed : ℕ) → position is_feed text ≡ Some feed →
     lines_of text ≡ strip_carriage_return (take feed text) ∷ lines_of (drop (feed + 1) text)
 unfolding lines_of
 lines_of_feed text feed found =
-    let place = found_below (position_or_len is_feed text) (length text) feed _ refl found in
+    let index = found_below (position_or_len is_feed text) (length text) feed _ refl found in
     let parts : slice_split is_feed text ≡ take feed text ∷ slice_split is_feed (drop (feed + 1) text) =
-    rw place.1 at (slice_split_first is_feed text 0 place.0) in
+    rw index.1 at (slice_split_first is_feed text 0 index.0) in
     ap lines_of_parts parts
     ∙ first_of_parts (take feed text) (slice_split is_feed (drop (feed + 1) text)) (omega (arith, length-slice_split is_feed (drop (feed + 1) text)))
 
@@ -54,7 +54,7 @@ pub lines_of-append : (line rest : List ℕ) → is_line line ≡ true → lines
 unfolding lines_of
 lines_of-append line rest h =
     let feeds : All (λ (byte : ℕ). is_feed byte ≡ false) line =
-    λ k d below. not_passed _ (AllPass-from_list_all (λ (byte : ℕ). not (eqb byte 10)) line (and_front _ _ h) k d below) in
+    λ k d below. not_passed _ (AllPass-from_list_all (λ (byte : ℕ). not (eqb byte 10)) line (and_prefix _ _ h) k d below) in
     let parts : slice_split is_feed (line ++ 10 ∷ rest) ≡ line ∷ slice_split is_feed rest = slice_split_at is_feed line 10 rest feeds refl in
     let last : eqb (get_or line (length line - 1) 0) 13 ≡ false = not_passed _ (and_back _ _ h) in
     let kept : strip_carriage_return line ≡ line = rw last refl in
@@ -65,8 +65,8 @@ lines_of-append line rest h =
 pub lines_of-text_of : (lines : List (List ℕ)) → list_all is_line lines ≡ true → lines_of (text_of lines) ≡ lines
 lines_of-text_of [] h = lines_of_empty
 lines_of-text_of (line ∷ lines) h =
-    lines_of-append line (text_of lines) (and_front _ _ h)
-    ∙ ap (λ (behind : List (List ℕ)). line ∷ behind) (lines_of-text_of lines (and_back _ _ h))
+    lines_of-append line (text_of lines) (and_prefix _ _ h)
+    ∙ ap (λ (after : List (List ℕ)). line ∷ after) (lines_of-text_of lines (and_back _ _ h))
 
 no_feed : (byte : ℕ) → is_text_byte byte ≡ true → not (eqb byte 10) ≡ true
 no_feed byte h = grind (arith, nat_tests)
@@ -82,6 +82,6 @@ last_no_return (byte ∷ bytes) h =
 pub is_line-text : (line : List ℕ) → is_text line ≡ true → is_line line ≡ true
 is_line-text line h = and_both _ _ (list_all-other is_text_byte _ no_feed line h) (last_no_return line h)
 
--- what stands behind the byte at a place
-pub behind : (text : List ℕ) (place : ℕ) → take (length (drop place text) - 1) (drop 1 (drop place text)) ≡ drop (place + 1) text
-behind text place = take_rest (drop place text) 1 ∙ drop-drop 1 place text
+-- what stands after the byte at a position
+pub after : (text : List ℕ) (index : ℕ) → take (length (drop index text) - 1) (drop 1 (drop index text)) ≡ drop (index + 1) text
+after text index = take_rest (drop index text) 1 ∙ drop-drop 1 index text

@@ -12,7 +12,7 @@ use Rattle.std.proofs.lemmas.Int.{ints}
 use Rattle.std.proofs.lemmas.Str.Parse.{IsNumeralModel, numerals_by_fold}
 use Rattle.script_words.specs.Numbers.{digits_value, natural_of, natural_in, integer_of, between, integer_in, integer_between, ◌>>=◌}
 use Rattle.script_words.specs.Words.{is_word, is_word_byte}
-use Rattle.script_words.proofs.Passing.{and_front, list_all-other}
+use Rattle.script_words.proofs.Passing.{and_prefix, list_all-other}
 use Rattle.script_words.proofs.WordLaws.{is_word_from}
 
 digits : IsNumeralModel (λ (ds : List ℕ). list_all is_ascii_digit ds ≡ true) digits_value
@@ -39,18 +39,18 @@ natural_in-decimal low high n above below h =
 no_minus : (byte : ℕ) → is_ascii_digit byte ≡ true → eqb byte 45 ≡ false
 no_minus byte h = grind (arith, nat_tests)
 
--- digits are read alike where `-` may stand
+-- digits are read equal where `-` may stand
 integer_of-digits : (signed : Bool) (word : List ℕ) → list_all is_ascii_digit word ≡ true → integer_of signed word ≡ option_map pos (natural_of word)
 integer_of-digits signed [] h = refl
 integer_of-digits false (byte ∷ bytes) h = refl
 integer_of-digits true (byte ∷ bytes) h =
-    let other : eqb byte 45 ≡ false = no_minus byte (and_front _ _ h) in rw other refl
+    let other : eqb byte 45 ≡ false = no_minus byte (and_prefix _ _ h) in rw other refl
 
-lies_between : (low high z : ℤ) → low ≤ℤ z → z ≤ℤ high → integer_between low high z ≡ Some z
-lies_between low high z above below =
-    let front : int_le low z ≡ true = grind (arith, ints) in
+in_between : (low high z : ℤ) → low ≤ℤ z → z ≤ℤ high → integer_between low high z ≡ Some z
+in_between low high z above below =
+    let prefix : int_le low z ≡ true = grind (arith, ints) in
     let back : int_le z high ≡ true = grind (arith, ints) in
-    rw (front, back) refl
+    rw (prefix, back) refl
 
 below_zero : (low : ℤ) (n : ℕ) → low ≤ℤ negsuc n → int_lt low (pos 0) ≡ true
 below_zero (pos m) n h = absurd (omega (arith, ints))
@@ -61,11 +61,11 @@ unfolding integer_in
 integer_in-signed_decimal low high (pos n) above below h =
     ap (λ (found : Option ℤ). found >>= integer_between low high)
     (integer_of-digits (int_lt low (pos 0)) (decimal n) (are_digits n h) ∙ ap (option_map pos) (natural_of-decimal n h))
-    ∙ lies_between low high (pos n) above below
+    ∙ in_between low high (pos n) above below
 integer_in-signed_decimal low high (negsuc n) above below h =
     ap (λ (signed : Bool). integer_of signed (45 ∷ decimal (suc n)) >>= integer_between low high) (below_zero low n above)
     ∙ ap (λ (found : Option ℕ). option_map (λ (value : ℕ). neg_ℤ (pos value)) found >>= integer_between low high) (natural_of-decimal (suc n) h)
-    ∙ lies_between low high (negsuc n) above below
+    ∙ in_between low high (negsuc n) above below
 
 word_digit : (byte : ℕ) → is_ascii_digit byte ≡ true → is_word_byte byte ≡ true
 word_digit byte h = grind (arith, nat_tests)

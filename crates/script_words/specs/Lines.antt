@@ -9,7 +9,7 @@ use Rattle.outside_io.specs.FileName.{is_between}
 unfoldable pub lines_of : List ℕ → List (List ℕ)
 lines_of text = lines text
 
--- lines, with a line feed behind each
+-- lines, with a line feed after each
 abbrev pub text_of : List (List ℕ) → List ℕ
 text_of [] = []
 text_of (line ∷ lines) = line ++ 10 ∷ text_of lines

@@ -18,14 +18,14 @@ abbrev pub natural_of : List ℕ → Option ℕ
 natural_of word =
     if nat_lt 0 (length word) && nat_le (length word) 10 && list_all is_ascii_digit word then Some (digits_value word) else None
 
--- the number that a word spells: 1 to 10 digits, behind `-` only where that may stand
+-- the number that a word spells: 1 to 10 digits, after `-` only where that may stand
 abbrev pub integer_of : Bool → List ℕ → Option ℤ
 integer_of signed [] = None
 integer_of signed (byte ∷ bytes) =
     if signed && byte == 45 then option_map (λ value. neg_ℤ (pos value)) (natural_of bytes)
     else option_map pos (natural_of (byte ∷ bytes))
 
--- a number, where it lies in a range
+-- a number, where it is in a range
 abbrev pub between : ℕ → ℕ → ℕ → Option ℕ
 between low high value = if nat_le low value && nat_le value high then Some value else None
 

@@ -9,13 +9,13 @@ use outside_io::is_file_name;
 use std::marker::Model;
 use std::str;
 
-/// The greatest number of bytes in a file name.
+/// The largest number of bytes in a file name.
 const LONGEST: usize = 64;
 
 /// The name of a file: 1 to 64 letters, digits, `_`, `-` and `.`, of which the first is neither `-` nor `.`.
 #[derive(Clone, Copy, Debug)]
 pub struct FileName {
-    /// The name, and zeros behind it.
+    /// The name, and zeros after it.
     padded: [u8; LONGEST],
     len: u8,
 }

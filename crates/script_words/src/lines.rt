@@ -4,7 +4,7 @@ ghost use Rattle.std.specs.Prelude.{◌≡◌, ◌==◌, ◌<◌, ◌∷◌, [],
 ghost use Rattle.std.specs.Str.Lines.{strip_carriage_return};
 ghost use Rattle.script_words.specs.Lines.{is_text, is_text_byte, lines_of};
 
-/// The first line of a text and the text behind it, and None where the text is empty. The line
+/// The first line of a text and the text after it, and None where the text is empty. The line
 /// stands without its end: a line feed, and a carriage return just before it.
 pub fn next_line(text: &[u8]) -> Option<(&[u8], &[u8])>
     ensures none { IfNone result (text.now ≡ []) }
@@ -35,7 +35,7 @@ fn without_carriage_return(line: &[u8]) -> &[u8]
     ensures { result.now ≡ strip_carriage_return line.now }
 {
     match line.split_last() {
-        Some((b'\r', front)) => front,
+        Some((b'\r', prefix)) => prefix,
         _ => line,
     }
 }

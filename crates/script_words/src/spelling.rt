@@ -1,4 +1,4 @@
-//! Words as they are printed, each behind a space.
+//! Words as they are printed, each after a space.
 
 ghost use Rattle.std.specs.Prelude.{◌≡◌, ◌∷◌, ◌++◌, decimal, OnErr, OnOk};
 ghost use Rattle.std.specs.Fmt.{signed_decimal};
@@ -6,7 +6,7 @@ ghost use Rattle.std.specs.Fmt.{signed_decimal};
 use itoa::Buffer;
 use no_memory::NoMemory;
 
-/// Puts a space and a word behind a text.
+/// Puts a space and a word after a text.
 ///
 /// # Errors
 ///
@@ -21,7 +21,7 @@ pub fn push_word(text: &mut Vec<u8>, word: &[u8]) -> Result<(), NoMemory>
     Ok(())
 }
 
-/// Puts a space and the digits of a number behind a text, without zeros at their front.
+/// Puts a space and the digits of a number after a text, without zeros at their front.
 ///
 /// # Errors
 ///

@@ -6,7 +6,7 @@ use crate::{
 };
 use no_memory::NoMemory;
 
-/// A line, and the text behind it.
+/// A line, and the text after it.
 type Step<'t> = Option<(&'t [u8], &'t [u8])>;
 
 fn first(text: &str) -> Step<'_> {

@@ -8,13 +8,13 @@ use Rattle.std.proofs.lemmas.Cmp.{nat_cmp_total}
 use Rattle.std.proofs.lemmas.Bool.{cases_lt}
 use Rattle.outside_io.specs.Swap.{Blocks}
 use Rattle.swap_store.specs.declared.block_map.Extent.{Extent}
-use Rattle.swap_store.specs.Run.{blocks_for, LiesIn, HasBlock}
+use Rattle.swap_store.specs.Run.{blocks_for, InBlocks, HasBlock}
 use Rattle.swap_store.specs.Values.{Named, map_values}
-use Rattle.swap_store.specs.Placement.{Placement, IsPlacement, LiesInExtent}
-use Rattle.swap_store.specs.Content.{StandsOutside, bytes_in, content_of, lengths_of}
+use Rattle.swap_store.specs.Placement.{Placement, IsPlacement, InExtent}
+use Rattle.swap_store.specs.Content.{UnchangedOutside, bytes_in, content_of, lengths_of}
 use Rattle.swap_store.proofs.Names.{get-inserted, get-removed, same_names}
 use Rattle.swap_store.proofs.PlacementLaws.{blocks_for-some}
-use Rattle.swap_store.proofs.Told.{front-stands}
+use Rattle.swap_store.proofs.Exposed.{prefix-unchanged}
 
 -- ---- maps with f of each value
 
@@ -55,7 +55,7 @@ map_values-same f g m same = same_names _ _ (λ q.
 
 -- ---- extents that are apart
 
-pub extents_apart : (first count : ℕ) (e : Extent) → 1 ≤ count → 1 ≤ blocks_for e.len → ((b : ℕ) → LiesIn b first count → ¬ LiesInExtent b e)
+pub extents_apart : (first count : ℕ) (e : Extent) → 1 ≤ count → 1 ≤ blocks_for e.len → ((b : ℕ) → InBlocks b first count → ¬ InExtent b e)
     → (e.first + blocks_for e.len ≤ first) ⊎ (first + count ≤ e.first)
 extents_apart first count e some some' apart = elim (cases_lt first e.first) [
   | inl lt ↦ elim (cases_lt e.first (first + count)) [
@@ -69,40 +69,40 @@ extents_apart first count e some some' apart = elim (cases_lt first e.first) [
 ]
 
 -- the bytes of a name stand where blocks of no name were written
-pub bytes-stand : (p : Placement) → IsPlacement p → (first count : ℕ) → 1 ≤ count → ((b : ℕ) → LiesIn b first count → HasBlock p.free b)
-    → (old new : Blocks) → StandsOutside first count (Some old) (Some new)
+pub bytes-unchanged : (p : Placement) → IsPlacement p → (first count : ℕ) → 1 ≤ count → ((b : ℕ) → InBlocks b first count → HasBlock p.free b)
+    → (old new : Blocks) → UnchangedOutside first count (Some old) (Some new)
     → (q : ℕ) (e : Extent) → map.get p.extents q ≡ Some e → bytes_in new e ≡ bytes_in old e
-bytes-stand p laws first count some free old new stands q e known =
+bytes-unchanged p laws first count some free old new unchanged q e known =
     ap (take e.len)
-    (front-stands old new e.first (blocks_for e.len) first count stands
+    (prefix-unchanged old new e.first (blocks_for e.len) first count unchanged
     (extents_apart first count e some (blocks_for-some e.len (laws.fits q e known).0.0)
-    (λ b lies in_e. ((laws.exact b).0 (free b lies)).1 q e known in_e)))
+    (λ b is_inside in_e. ((laws.exact b).0 (free b is_inside)).1 q e known in_e)))
 
-pub content-stands : (p : Placement) → IsPlacement p → (first count : ℕ) → 1 ≤ count → ((b : ℕ) → LiesIn b first count → HasBlock p.free b)
-    → (old new : Option Blocks) → StandsOutside first count old new → content_of p.extents new ≡ content_of p.extents old
-content-stands p laws first count some free None None stands = refl
-content-stands p laws first count some free None (Some new) stands = absurd stands
-content-stands p laws first count some free (Some old) None stands = absurd stands
-content-stands p laws first count some free (Some old) (Some new) stands =
-    ap (λ m. Some m) (map_values-same (bytes_in new) (bytes_in old) p.extents (bytes-stand p laws first count some free old new stands))
+pub content-unchanged : (p : Placement) → IsPlacement p → (first count : ℕ) → 1 ≤ count → ((b : ℕ) → InBlocks b first count → HasBlock p.free b)
+    → (old new : Option Blocks) → UnchangedOutside first count old new → content_of p.extents new ≡ content_of p.extents old
+content-unchanged p laws first count some free None None unchanged = refl
+content-unchanged p laws first count some free None (Some new) unchanged = absurd unchanged
+content-unchanged p laws first count some free (Some old) None unchanged = absurd unchanged
+content-unchanged p laws first count some free (Some old) (Some new) unchanged =
+    ap (λ m. Some m) (map_values-same (bytes_in new) (bytes_in old) p.extents (bytes-unchanged p laws first count some free old new unchanged))
 
 pub content-put : (p : Placement) → IsPlacement p → (name : ℕ) (extent : Extent) (bytes : List ℕ) → 1 ≤ blocks_for extent.len
-    → ((b : ℕ) → LiesInExtent b extent → HasBlock p.free b)
-    → (old new : Option Blocks) → StandsOutside extent.first (blocks_for extent.len) old new → IfSome new (λ blocks. bytes_in blocks extent ≡ bytes)
+    → ((b : ℕ) → InExtent b extent → HasBlock p.free b)
+    → (old new : Option Blocks) → UnchangedOutside extent.first (blocks_for extent.len) old new → IfSome new (λ blocks. bytes_in blocks extent ≡ bytes)
     → content_of (map.insert p.extents name extent) new ≡ option_map (λ content. map.insert content name bytes) (content_of p.extents old)
-content-put p laws name extent bytes some free None None stands written = refl
-content-put p laws name extent bytes some free None (Some new) stands written = absurd stands
-content-put p laws name extent bytes some free (Some old) None stands written = absurd stands
-content-put p laws name extent bytes some free (Some old) (Some new) stands written =
+content-put p laws name extent bytes some free None None unchanged written = refl
+content-put p laws name extent bytes some free None (Some new) unchanged written = absurd unchanged
+content-put p laws name extent bytes some free (Some old) None unchanged written = absurd unchanged
+content-put p laws name extent bytes some free (Some old) (Some new) unchanged written =
     ap (λ m. Some m)
     (map_values-insert (bytes_in new) p.extents name extent
     ∙ ap (λ v. map.insert (map_values (bytes_in new) p.extents) name v) written
     ∙ ap (λ m. map.insert m name bytes)
     (map_values-same (bytes_in new) (bytes_in old) p.extents
-    (bytes-stand p laws extent.first (blocks_for extent.len) some free old new stands)))
+    (bytes-unchanged p laws extent.first (blocks_for extent.len) some free old new unchanged)))
 
-pub content-forget : (extents : Named Extent) (name : ℕ) (told : Option Blocks)
-    → content_of (map.remove extents name) told ≡ option_map (λ content. map.remove content name) (content_of extents told)
+pub content-forget : (extents : Named Extent) (name : ℕ) (exposed : Option Blocks)
+    → content_of (map.remove extents name) exposed ≡ option_map (λ content. map.remove content name) (content_of extents exposed)
 content-forget extents name None = refl
 content-forget extents name (Some blocks) = ap (λ m. Some m) (map_values-remove (bytes_in blocks) extents name)
 
@@ -121,8 +121,8 @@ known_extent extents name len has =
     some_from None len is = absurd (let no_such : None ≡ Some len = is in cc)
     some_from (Some e) len is = refl
 
-pub content-get : (extents : Named Extent) (name : ℕ) (e : Extent) (tile : List ℕ) (told : Option Blocks) → map.get extents name ≡ Some e
-    → IfSome told (λ blocks. tile ≡ bytes_in blocks e) → IfSome (content_of extents told) (λ content. map.get content name ≡ Some tile)
+pub content-get : (extents : Named Extent) (name : ℕ) (e : Extent) (tile : List ℕ) (exposed : Option Blocks) → map.get extents name ≡ Some e
+    → IfSome exposed (λ blocks. tile ≡ bytes_in blocks e) → IfSome (content_of extents exposed) (λ content. map.get content name ≡ Some tile)
 content-get extents name e tile None known is = tt
 content-get extents name e tile (Some blocks) known is =
     get-map_values (bytes_in blocks) extents name ∙ ap (option_map (bytes_in blocks)) known ∙ ap (λ bytes. Some bytes) (sym is)

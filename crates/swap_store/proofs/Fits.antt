@@ -34,14 +34,14 @@ fit_found (x ∷ xs) needed lt =
 no_fit : (xs : List Run) (needed : ℕ) → 1 ≤ needed → length xs ≤ position_or_len (has_room needed) xs → longest xs < needed
 no_fit [] needed some le = omega arith
 no_fit (x ∷ xs) needed some le =
-    let behind : suc (length xs) ≤ cond (not (leb needed x.count)) (1 + position_or_len (has_room needed) xs) 0 = le in
+    let following : suc (length xs) ≤ cond (not (leb needed x.count)) (1 + position_or_len (has_room needed) xs) 0 = le in
     elim (cases_lt x.count needed) [
       | inl less ↦ let short : leb needed x.count ≡ false = lt-leb needed x.count less in
-          let behind' : suc (length xs) ≤ 1 + position_or_len (has_room needed) xs = rw short at behind in
-          omega (arith, no_fit xs needed some (omega (arith, behind')))
+          let following' : suc (length xs) ≤ 1 + position_or_len (has_room needed) xs = rw short at following in
+          omega (arith, no_fit xs needed some (omega (arith, following')))
       | inr enough ↦ let long : leb needed x.count ≡ true = le-leb needed x.count enough in
-          let behind' : suc (length xs) ≤ 0 = rw long at behind in
-          absurd (omega (arith, behind'))
+          let following' : suc (length xs) ≤ 0 = rw long at following in
+          absurd (omega (arith, following'))
     ]
 
 pub fits : (xs : List Run) (needed : ℕ) → 1 ≤ needed → MatchOption (position (has_room needed) xs) (longest xs < needed) (IsFirstFit xs needed)

@@ -2,7 +2,7 @@
 use Rattle.std.proofs.Common.{ℕ, suc, zero, ◌+◌, ◌-◌, ◌<◌, ◌≤◌, List, [], ◌∷◌, length, get_or, arith}
 use Rattle.tile_cow.specs.Tile.{IsTileLength}
 use Rattle.swap_store.specs.declared.runs.Run.{Run}
-use Rattle.swap_store.specs.Run.{blocks_for, LiesIn, HasBlock, IsFirstFit, longest}
+use Rattle.swap_store.specs.Run.{blocks_for, InBlocks, HasBlock, IsFirstFit, longest}
 use Rattle.swap_store.specs.Placement.{Placement, IsPlacement}
 use Rattle.swap_store.proofs.RunLists.{HasBlock-at}
 use Rattle.swap_store.proofs.PlacementLaws.{blocks_for-some}
@@ -19,8 +19,8 @@ fit-longest runs needed i fit =
     omega (arith, run_at_most runs i d fit.within, fit.long d)
 
 module _ (p : Placement) (laws : IsPlacement p) (len i : ℕ) (d : Run) (size : IsTileLength len) (fit : IsFirstFit p.free (blocks_for len) i) where
-  pub room-free : (b : ℕ) → LiesIn b (get_or p.free i d).first (blocks_for len) → HasBlock p.free b
-  room-free b lies = HasBlock-at p.free i d b fit.within (record { low = lies.low; high = omega (arith, lies.high, fit.long d) })
+  pub room-free : (b : ℕ) → InBlocks b (get_or p.free i d).first (blocks_for len) → HasBlock p.free b
+  room-free b is_inside = HasBlock-at p.free i d b fit.within (record { low = is_inside.low; high = omega (arith, is_inside.high, fit.long d) })
 
   pub room-used : (get_or p.free i d).first + blocks_for len ≤ p.used
   room-used =

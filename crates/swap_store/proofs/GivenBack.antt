@@ -4,21 +4,21 @@ use Rattle.std.proofs.Math.ListN.{set}
 use Rattle.std.proofs.lemmas.List.{set_split, get_or-take, get_or-drop, get_or_default, length-drop, length-append, take-take, take-append-le, drop_at, length-take-le, drop_all}
 use Rattle.std.proofs.lemmas.Bool.{cases_lt, cases_eq}
 use Rattle.swap_store.specs.declared.runs.Run.{Run}
-use Rattle.swap_store.specs.Run.{LiesIn, HasBlock, IsRunList, EndsBefore, BeginsWith}
-use Rattle.swap_store.proofs.RunLists.{after, IsRunList-front, IsRunList-back, HasBlock-left, HasBlock-right, HasBlock-cases, HasBlock-parts, HasBlock-from_parts, joined, split_at, run_at}
+use Rattle.swap_store.specs.Run.{InBlocks, HasBlock, IsRunList, EndsBefore, BeginsWith}
+use Rattle.swap_store.proofs.RunLists.{after, IsRunList-prefix, IsRunList-back, HasBlock-left, HasBlock-right, HasBlock-cases, HasBlock-parts, HasBlock-from_parts, joined, split_at, run_at}
 
 -- a list of runs has besides these blocks
 abbrev pub With : List Run → List Run → ℕ → ℕ → Type 0
-With old new first count = (b : ℕ) → HasBlock new b ↔ (HasBlock old b ⊎ LiesIn b first count)
+With old new first count = (b : ℕ) → HasBlock new b ↔ (HasBlock old b ⊎ InBlocks b first count)
 
 -- some runs and the given blocks are one run
 pub record IsMerged (mid : List Run) (first count : ℕ) (run : Run) : Type 0 where
-  pub known : (b : ℕ) → LiesIn b run.first run.count → HasBlock mid b ⊎ LiesIn b first count
-  pub old : (b : ℕ) → HasBlock mid b → LiesIn b run.first run.count
-  pub given : (b : ℕ) → LiesIn b first count → LiesIn b run.first run.count
+  pub known : (b : ℕ) → InBlocks b run.first run.count → HasBlock mid b ⊎ InBlocks b first count
+  pub old : (b : ℕ) → HasBlock mid b → InBlocks b run.first run.count
+  pub given : (b : ℕ) → InBlocks b first count → InBlocks b run.first run.count
 
 to_old : (pre mid post : List Run) (first count : ℕ) (run : Run) (b : ℕ) → IsMerged mid first count run
-    → HasBlock pre b ⊎ HasBlock (run ∷ post) b → HasBlock (pre ++ (mid ++ post)) b ⊎ LiesIn b first count
+    → HasBlock pre b ⊎ HasBlock (run ∷ post) b → HasBlock (pre ++ (mid ++ post)) b ⊎ InBlocks b first count
 to_old pre mid post first count run b m (inl h) = inl (HasBlock-from_parts pre mid post b (inl h))
 to_old pre mid post first count run b m (inr (inl h)) =
     elim (m.known b h) [ inl l ↦ inl (HasBlock-from_parts pre mid post b (inr (inl l))) | inr r ↦ inr r ]
@@ -40,11 +40,11 @@ With-merged pre mid post first count run m b = (
   ],
 )
 
--- ---- the runs before the given blocks, and those behind them
+-- ---- the runs before the given blocks, and those after them
 
 pub after-before : (low end : ℕ) (pre : List Run) (first count : ℕ) → IsRunList low end pre → low ≤ first + 1 → 1 ≤ count
     → ((k : ℕ) (d : Run) → k < length pre → (get_or pre k d).first < first)
-    → ((b : ℕ) → LiesIn b first count → ¬ HasBlock pre b)
+    → ((b : ℕ) → InBlocks b first count → ¬ HasBlock pre b)
     → after low pre ≤ first + 1
 after-before low end [] first count runs le some before apart = le
 after-before low end (x ∷ xs) first count runs le some before apart =
@@ -56,15 +56,15 @@ after-before low end (x ∷ xs) first count runs le some before apart =
     ] in
     after-before (x.first + x.count + 1) end xs first count runs.3 (omega arith) some
     (λ k d lt. before (suc k) d (omega arith))
-    (λ b lies has. apart b lies (inr has))
+    (λ b is_inside has. apart b is_inside (inr has))
 
-pub IsRunList-behind : (low end : ℕ) (post : List Run) (first count : ℕ) → IsRunList low end post
+pub IsRunList-following : (low end : ℕ) (post : List Run) (first count : ℕ) → IsRunList low end post
     → ((k : ℕ) (d : Run) → k < length post → first ≤ (get_or post k d).first)
-    → ((b : ℕ) → LiesIn b first count → ¬ HasBlock post b)
+    → ((b : ℕ) → InBlocks b first count → ¬ HasBlock post b)
     → IsRunList (first + count) end post
-IsRunList-behind low end [] first count runs behind apart = tt
-IsRunList-behind low end (x ∷ xs) first count runs behind apart =
-    let begins : first ≤ x.first = behind 0 x (omega arith) in
+IsRunList-following low end [] first count runs following apart = tt
+IsRunList-following low end (x ∷ xs) first count runs following apart =
+    let begins : first ≤ x.first = following 0 x (omega arith) in
     let starts : first + count ≤ x.first =
     elim (cases_lt x.first (first + count)) [
       | inl lt ↦ absurd (apart x.first (record { low = begins; high = lt }) (inl (record { low = omega arith; high = omega (arith, runs.1) })))
@@ -72,40 +72,40 @@ IsRunList-behind low end (x ∷ xs) first count runs behind apart =
     ] in
     (starts, runs.1, runs.2, runs.3)
 
--- What is known of runs that are cut at an index: the runs before it and those behind it leave the
+-- What is known of runs that are cut at an index: the runs before it and those after it leave the
 -- given blocks free.
 pub record Gap (end : ℕ) (xs : List Run) (at first count : ℕ) : Type 0 where
   pub within : at ≤ length xs
   pub some : 1 ≤ count
   pub bound : first + count ≤ end
   pub whole : IsRunList 0 end xs
-  pub front : IsRunList 0 end (take at xs)
+  pub prefix : IsRunList 0 end (take at xs)
   pub before : after 0 (take at xs) ≤ first + 1
   pub back : IsRunList (first + count) end (drop at xs)
 
 pub gap : (end : ℕ) (xs : List Run) (at first count : ℕ) → at ≤ length xs → 1 ≤ count → first + count ≤ end → IsRunList 0 end xs
     → ((k : ℕ) (d : Run) → k < at → (get_or xs k d).first < first)
     → ((k : ℕ) (d : Run) → at ≤ k → k < length xs → first ≤ (get_or xs k d).first)
-    → ((b : ℕ) → LiesIn b first count → ¬ HasBlock xs b)
+    → ((b : ℕ) → InBlocks b first count → ¬ HasBlock xs b)
     → Gap end xs at first count
-gap end xs at first count within some bound runs before behind apart =
+gap end xs at first count within some bound runs before following apart =
     let P : List Run → Type 0 = λ ys. IsRunList 0 end ys in
-    let Q : List Run → Type 0 = λ ys. (b : ℕ) → LiesIn b first count → ¬ HasBlock ys b in
+    let Q : List Run → Type 0 = λ ys. (b : ℕ) → InBlocks b first count → ¬ HasBlock ys b in
     let parts : P (take at xs ++ drop at xs) = subst P (sym (take-append-drop at xs)) runs in
     let free : Q (take at xs ++ drop at xs) = subst Q (sym (take-append-drop at xs)) apart in
-    let front = IsRunList-front 0 end (take at xs) (drop at xs) parts in
+    let prefix = IsRunList-prefix 0 end (take at xs) (drop at xs) parts in
     record {
       within = within;
       some = some;
       bound = bound;
       whole = runs;
-      front = front;
-      before = after-before 0 end (take at xs) first count front (omega arith) some
+      prefix = prefix;
+      before = after-before 0 end (take at xs) first count prefix (omega arith) some
           (λ k d lt. let le : k < at = omega (arith, length-take-le at xs within) in rw get_or-take (before k d le))
-          (λ b lies has. free b lies (HasBlock-left (take at xs) (drop at xs) b has));
-      back = IsRunList-behind _ end (drop at xs) first count (IsRunList-back 0 end (take at xs) (drop at xs) parts)
-          (λ k d lt. rw get_or-drop (behind (at + k) d (omega arith) (omega (arith, length-drop at xs))))
-          (λ b lies has. free b lies (HasBlock-right (take at xs) (drop at xs) b has));
+          (λ b is_inside has. free b is_inside (HasBlock-left (take at xs) (drop at xs) b has));
+      back = IsRunList-following _ end (drop at xs) first count (IsRunList-back 0 end (take at xs) (drop at xs) parts)
+          (λ k d lt. rw get_or-drop (following (at + k) d (omega arith) (omega (arith, length-drop at xs))))
+          (λ b is_inside has. free b is_inside (HasBlock-right (take at xs) (drop at xs) b has));
     }
 
 -- ---- what stands after the given blocks were put in
@@ -142,11 +142,11 @@ not_beginning : (end : ℕ) (xs : List Run) (at first count : ℕ) → Gap end x
 not_beginning end xs at first count g apart =
     elim (cases_lt at (length xs)) [
       | inl lt ↦ let here = drop-cons xs at some_run lt in
-          let behind : IsRunList (first + count) end (get_or xs at some_run ∷ drop (suc at) xs) = rw here at g.back in
+          let following : IsRunList (first + count) end (get_or xs at some_run ∷ drop (suc at) xs) = rw here at g.back in
           rw here
           (elim (cases_eq (get_or xs at some_run).first (first + count)) [
             | inl e ↦ absurd (apart (record { there = lt; meets = λ d. rw (get_or_default xs at d some_run lt) e }))
-            | inr ne ↦ (omega (arith, behind.0), behind.1, behind.2, behind.3)
+            | inr ne ↦ (omega (arith, following.0), following.1, following.2, following.3)
           ])
       | inr ge ↦ rw (drop_all at xs ge) tt
     ]
@@ -160,7 +160,7 @@ inserted end xs at first count g no_left no_right =
     record {
       list = joined 0 end (take at xs) run (drop at xs)
           (record {
-            front = g.front;
+            prefix = g.prefix;
             from = not_ending end xs at first count g no_left;
             some = g.some;
             to = g.bound;
@@ -226,7 +226,7 @@ joins_left end xs i first count d g e no_right =
       list = subst L new
           (joined 0 end (take i xs) run (drop (suc i) xs)
           (record {
-            front = at.front;
+            prefix = at.prefix;
             from = at.from;
             some = omega (arith, at.some);
             to = omega (arith, g.bound);
@@ -253,7 +253,7 @@ joins_right end xs i first count d g lt no_left e =
       list = subst L new
           (joined 0 end (take i xs) run (drop (suc i) xs)
           (record {
-            front = at.front;
+            prefix = at.prefix;
             from = not_ending end xs i first count g no_left;
             some = omega (arith, g.some);
             to = omega (arith, at.to);
@@ -268,10 +268,10 @@ joins_right end xs i first count d g lt no_left e =
 set-remove : (xs : List Run) (i : ℕ) (run : Run) → suc i < length xs
     → set (remove xs (suc i)) i run ≡ take i xs ++ (run ∷ drop (suc (suc i)) xs)
 set-remove xs i run lt =
-    let front : length (take (suc i) xs) ≡ suc i = length-take-le (suc i) xs (omega arith) in
+    let prefix : length (take (suc i) xs) ≡ suc i = length-take-le (suc i) xs (omega arith) in
     let before : take i (remove xs (suc i)) ≡ take i xs =
     take-append-le i (take (suc i) xs) (drop (suc (suc i)) xs) (omega arith) ∙ take-take i (suc i) xs (omega arith) in
-    let behind : drop (suc i) (remove xs (suc i)) ≡ drop (suc (suc i)) xs = drop_at (take (suc i) xs) (drop (suc (suc i)) xs) (suc i) front in
+    let following : drop (suc i) (remove xs (suc i)) ≡ drop (suc (suc i)) xs = drop_at (take (suc i) xs) (drop (suc (suc i)) xs) (suc i) prefix in
     set_split (remove xs (suc i)) i run (omega (arith, length-append (take (suc i) xs) (drop (suc (suc i)) xs)))
     ∙ cc
 
@@ -295,7 +295,7 @@ joins_both end xs i first count d g lt e e' =
       list = subst L new
           (joined 0 end (take i xs) run (drop (suc (suc i)) xs)
           (record {
-            front = at.front;
+            prefix = at.prefix;
             from = at.from;
             some = omega (arith, at.some);
             to = omega (arith, next.to);
@@ -364,10 +364,10 @@ sum_with_left xs at first left ends read =
 pub gap_of_slice : (end : ℕ) (xs ys : List Run) (at first count : ℕ) → ys ≡ xs → at ≤ length ys → 1 ≤ count → first + count ≤ end → IsRunList 0 end xs
     → ((k : ℕ) (d : Run) → k < at → (get_or ys k d).first < first)
     → ((k : ℕ) (d : Run) → at ≤ k → k < length ys → first ≤ (get_or ys k d).first)
-    → ((b : ℕ) → LiesIn b first count → ¬ HasBlock xs b)
+    → ((b : ℕ) → InBlocks b first count → ¬ HasBlock xs b)
     → Gap end xs at first count
-gap_of_slice end xs ys at first count e within some bound runs before behind apart =
+gap_of_slice end xs ys at first count e within some bound runs before following apart =
     let W : List Run → Type 0 = λ zs. at ≤ length zs in
     let B : List Run → Type 0 = λ zs. (k : ℕ) (d : Run) → k < at → (get_or zs k d).first < first in
     let A : List Run → Type 0 = λ zs. (k : ℕ) (d : Run) → at ≤ k → k < length zs → first ≤ (get_or zs k d).first in
-    gap end xs at first count (subst W e within) some bound runs (subst B e before) (subst A e behind) apart
+    gap end xs at first count (subst W e within) some bound runs (subst B e before) (subst A e following) apart

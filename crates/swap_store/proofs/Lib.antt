@@ -3,7 +3,7 @@ pub mod GivenBack
 pub mod Fits
 pub mod Names
 pub mod PlacementLaws
-pub mod Told
+pub mod Exposed
 pub mod Contents
 pub mod Windows
 pub mod FoundRoom

@@ -10,8 +10,8 @@ use Rattle.tile_cow.specs.Tile.{IsTileLength}
 use Rattle.swap_store.specs.declared.runs.Run.{Run}
 use Rattle.swap_store.specs.declared.block_map.Extent.{Extent}
 use Rattle.swap_store.specs.Values.{Named}
-use Rattle.swap_store.specs.Run.{blocks_for, LiesIn, HasBlock, IsRunList}
-use Rattle.swap_store.specs.Placement.{Placement, IsPlacement, IsUnnamed, LiesInExtent}
+use Rattle.swap_store.specs.Run.{blocks_for, InBlocks, HasBlock, IsRunList}
+use Rattle.swap_store.specs.Placement.{Placement, IsPlacement, IsUnnamed, InExtent}
 use Rattle.swap_store.proofs.Names.{get_here, get_elsewhere, get_gone, get_left, entries-inserted, entries-removed}
 use Rattle.swap_store.proofs.RunLists.{Without, HasBlock-at}
 use Rattle.swap_store.proofs.GivenBack.{With}
@@ -42,7 +42,7 @@ fresh used free bounded runs all = record {
 module _ (p : Placement) (laws : IsPlacement p) (name len : ℕ) (free : List Run) (first : ℕ)
     (none : map.get p.extents name ≡ None) (size : IsTileLength len) (runs : IsRunList 0 (2 ^ 20) free)
     (without : Without p.free free first (blocks_for len))
-    (were_free : (b : ℕ) → LiesIn b first (blocks_for len) → HasBlock p.free b) where
+    (were_free : (b : ℕ) → InBlocks b first (blocks_for len) → HasBlock p.free b) where
   abbrev extent : Extent
   extent = record { first = first; len = len }
 
@@ -56,13 +56,13 @@ module _ (p : Placement) (laws : IsPlacement p) (name len : ℕ) (free : List Ru
     | inr ne ↦ inr (ne, sym (get_elsewhere p.extents name extent q ne) ∙ some)
   ]
 
-  still_unnamed : (b : ℕ) → IsUnnamed p.extents b → ¬ LiesIn b first (blocks_for len) → IsUnnamed extents b
+  still_unnamed : (b : ℕ) → IsUnnamed p.extents b → ¬ InBlocks b first (blocks_for len) → IsUnnamed extents b
   still_unnamed b unnamed out q e some = elim (which q e some) [
-    | inl is ↦ let P : Extent → Type 0 = λ e. ¬ LiesInExtent b e in subst P (sym is.1) out
+    | inl is ↦ let P : Extent → Type 0 = λ e. ¬ InExtent b e in subst P (sym is.1) out
     | inr old ↦ unnamed q e old.1
   ]
 
-  was_unnamed : (b : ℕ) → IsUnnamed extents b → IsUnnamed p.extents b × ¬ LiesIn b first (blocks_for len)
+  was_unnamed : (b : ℕ) → IsUnnamed extents b → IsUnnamed p.extents b × ¬ InBlocks b first (blocks_for len)
   was_unnamed b unnamed = (
     λ q e some. elim (cases_eq q name) [
       | inl is ↦ absent (map.get p.extents q) e (ap (map.get p.extents) is ∙ none) some
@@ -71,8 +71,8 @@ module _ (p : Placement) (laws : IsPlacement p) (name len : ℕ) (free : List Ru
     unnamed name extent (get_here p.extents name extent),
   )
 
-  was_free : (b : ℕ) → LiesIn b first (blocks_for len) → (b < p.used) × IsUnnamed p.extents b
-  was_free b lies = (laws.exact b).0 (were_free b lies)
+  was_free : (b : ℕ) → InBlocks b first (blocks_for len) → (b < p.used) × IsUnnamed p.extents b
+  was_free b is_inside = (laws.exact b).0 (were_free b is_inside)
 
   in_used : first + blocks_for len ≤ p.used
   in_used =
@@ -94,12 +94,12 @@ module _ (p : Placement) (laws : IsPlacement p) (name len : ℕ) (free : List Ru
       | inr old ↦ laws.fits q e old.1
     ];
     apart = λ q r e f ne some some' b in_e in_f. elim (which q e some) [
-      | inl is ↦ let P : Extent → Type 0 = λ e. LiesInExtent b e in
+      | inl is ↦ let P : Extent → Type 0 = λ e. InExtent b e in
           elim (which r f some') [
             | inl is' ↦ absurd (ne (is.0 ∙ sym is'.0))
             | inr old ↦ (was_free b (subst P is.1 in_e)).1 r f old.1 in_f
           ]
-      | inr old ↦ let P : Extent → Type 0 = λ e. LiesInExtent b e in
+      | inr old ↦ let P : Extent → Type 0 = λ e. InExtent b e in
           elim (which r f some') [
             | inl is' ↦ (was_free b (subst P is'.1 in_f)).1 q e old.1 in_e
             | inr old' ↦ laws.apart q r e f ne old.1 old'.1 b in_e in_f
@@ -122,8 +122,8 @@ module _ (p : Placement) (laws : IsPlacement p) (name : ℕ) (extent : Extent) (
     ]
 
     -- the blocks of the name are no other's, and not free
-    pub not_free : (b : ℕ) → LiesIn b extent.first (blocks_for extent.len) → ¬ HasBlock p.free b
-    not_free b lies free = ((laws.exact b).0 free).1 name extent some_extent lies
+    pub not_free : (b : ℕ) → InBlocks b extent.first (blocks_for extent.len) → ¬ HasBlock p.free b
+    not_free b is_inside free = ((laws.exact b).0 free).1 name extent some_extent is_inside
 
     pub extent_some : 1 ≤ blocks_for extent.len
     extent_some = blocks_for-some extent.len (laws.fits name extent some_extent).0.0
@@ -138,18 +138,18 @@ module _ (p : Placement) (laws : IsPlacement p) (name : ℕ) (extent : Extent) (
       exact = λ b. (
         λ h. elim ((with b).0 h) [
           | inl was ↦ let (lt, unnamed) = (laws.exact b).0 was in (lt, λ q e some. unnamed q e (was_kept q e some).1)
-          | inr lies ↦ (
-            omega (arith, (laws.fits name extent some_extent).1, lies.high),
-            λ q e some. let (ne, old) = was_kept q e some in laws.apart name q extent e (λ is. ne (sym is)) some_extent old b lies,
+          | inr is_inside ↦ (
+            omega (arith, (laws.fits name extent some_extent).1, is_inside.high),
+            λ q e some. let (ne, old) = was_kept q e some in laws.apart name q extent e (λ is. ne (sym is)) some_extent old b is_inside,
           )
         ],
         λ h. (with b).1
-            (elim (cases_lies b) [
-              | inl lies ↦ inr lies
+            (elim (cases_in_blocks b) [
+              | inl is_inside ↦ inr is_inside
               | inr out ↦ inl ((laws.exact b).1 (
                 h.0,
                 λ q e some. elim (cases_eq q name) [
-                  | inl is ↦ let P : Extent → Type 0 = λ e. ¬ LiesInExtent b e in
+                  | inl is ↦ let P : Extent → Type 0 = λ e. ¬ InExtent b e in
                       subst P (same_extent extent e (sym some_extent ∙ ap (map.get p.extents) (sym is) ∙ some)) out
                   | inr ne ↦ h.1 q e (get_left p.extents name q ne ∙ some)
                 ],
@@ -161,12 +161,12 @@ module _ (p : Placement) (laws : IsPlacement p) (name : ℕ) (extent : Extent) (
       bounded = laws.bounded;
     }
       where
-        cases_lies : (b : ℕ) → LiesIn b extent.first (blocks_for extent.len) ⊎ (¬ LiesIn b extent.first (blocks_for extent.len))
-        cases_lies b = elim (cases_lt b extent.first) [
-          | inl lt ↦ inr (λ lies. absurd (omega (arith, lies.low)))
+        cases_in_blocks : (b : ℕ) → InBlocks b extent.first (blocks_for extent.len) ⊎ (¬ InBlocks b extent.first (blocks_for extent.len))
+        cases_in_blocks b = elim (cases_lt b extent.first) [
+          | inl lt ↦ inr (λ is_inside. absurd (omega (arith, is_inside.low)))
           | inr ge ↦ elim (cases_lt b (extent.first + blocks_for extent.len)) [
             | inl lt ↦ inl (record { low = ge; high = lt })
-            | inr ge' ↦ inr (λ lies. absurd (omega (arith, lies.high)))
+            | inr ge' ↦ inr (λ is_inside. absurd (omega (arith, is_inside.high)))
           ]
         ]
 
@@ -189,8 +189,8 @@ added es fs free free' used name len i run laws is none size lt read long runs w
     entries-inserted es fs name (record { first = run.first; len = len }) is in
     rw same
     (named (placed es free used) laws name len free' run.first none size runs (rw first at (without run))
-    (λ b lies. HasBlock-at free i run b lt
-    (record { low = omega (arith, first, lies.low); high = omega (arith, first, long run, lies.high) })))
+    (λ b is_inside. HasBlock-at free i run b lt
+    (record { low = omega (arith, first, is_inside.low); high = omega (arith, first, long run, is_inside.high) })))
 
 pub none_there : (o : Option Extent) → is_some o ≡ false → o ≡ None
 none_there None is = refl

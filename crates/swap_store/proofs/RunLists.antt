@@ -6,22 +6,22 @@ use Rattle.std.proofs.lemmas.Bool.{cases_lt, lt-ltb}
 use Rattle.std.specs.List.Sorted.{IsPartitionedBy}
 use borrow.Author.Tests.{ltb-true}
 use Rattle.swap_store.specs.declared.runs.Run.{Run}
-use Rattle.swap_store.specs.Run.{LiesIn, HasBlock, IsRunList}
+use Rattle.swap_store.specs.Run.{InBlocks, HasBlock, IsRunList}
 
--- the first block that a run behind these may have
+-- the first block that a run after these may have
 abbrev pub after : ℕ → List Run → ℕ
 after low [] = low
 after low (run ∷ runs) = after (run.first + run.count + 1) runs
 
 pub IsRunList-append : (low end : ℕ) (xs ys : List Run) → IsRunList low end xs → IsRunList (after low xs) end ys → IsRunList low end (xs ++ ys)
-IsRunList-append low end [] ys front back = back
-IsRunList-append low end (x ∷ xs) ys front back =
-    (front.0, front.1, front.2, IsRunList-append (x.first + x.count + 1) end xs ys front.3 back)
+IsRunList-append low end [] ys prefix back = back
+IsRunList-append low end (x ∷ xs) ys prefix back =
+    (prefix.0, prefix.1, prefix.2, IsRunList-append (x.first + x.count + 1) end xs ys prefix.3 back)
 
-pub IsRunList-front : (low end : ℕ) (xs ys : List Run) → IsRunList low end (xs ++ ys) → IsRunList low end xs
-IsRunList-front low end [] ys whole = tt
-IsRunList-front low end (x ∷ xs) ys whole =
-    (whole.0, whole.1, whole.2, IsRunList-front (x.first + x.count + 1) end xs ys whole.3)
+pub IsRunList-prefix : (low end : ℕ) (xs ys : List Run) → IsRunList low end (xs ++ ys) → IsRunList low end xs
+IsRunList-prefix low end [] ys whole = tt
+IsRunList-prefix low end (x ∷ xs) ys whole =
+    (whole.0, whole.1, whole.2, IsRunList-prefix (x.first + x.count + 1) end xs ys whole.3)
 
 pub IsRunList-back : (low end : ℕ) (xs ys : List Run) → IsRunList low end (xs ++ ys) → IsRunList (after low xs) end ys
 IsRunList-back low end [] ys whole = whole
@@ -55,7 +55,7 @@ pub after-low : (low end : ℕ) (xs : List Run) → IsRunList low end xs → low
 after-low low end [] runs = omega arith
 after-low low end (x ∷ xs) runs = omega (arith, runs.0, after-low (x.first + x.count + 1) end xs runs.3)
 
--- a block that is in none stands between each of them and what is behind
+-- a block that is in none stands between each of them and what is after
 pub HasBlock-after : (low end : ℕ) (xs : List Run) (b : ℕ) → IsRunList low end xs → HasBlock xs b → b + 1 < after low xs
 HasBlock-after low end [] b runs h = absurd h
 HasBlock-after low end (x ∷ xs) b runs (inl h) = omega (arith, h.high, after-low (x.first + x.count + 1) end xs runs.3)
@@ -73,7 +73,7 @@ HasBlock-from_parts pre mid post b (inr (inr r)) = HasBlock-right pre (mid ++ po
 
 -- what a list of runs says of one of them and of those round it
 pub record Splits (low end : ℕ) (pre : List Run) (run : Run) (post : List Run) : Type 0 where
-  pub front : IsRunList low end pre
+  pub prefix : IsRunList low end pre
   pub from : after low pre ≤ run.first
   pub some : 1 ≤ run.count
   pub to : run.first + run.count ≤ end
@@ -81,14 +81,14 @@ pub record Splits (low end : ℕ) (pre : List Run) (run : Run) (post : List Run)
 
 pub splits : (low end : ℕ) (pre : List Run) (run : Run) (post : List Run) → IsRunList low end (pre ++ (run ∷ post)) → Splits low end pre run post
 splits low end pre run post whole =
-    let behind = IsRunList-back low end pre (run ∷ post) whole in
-    record { front = IsRunList-front low end pre (run ∷ post) whole; from = behind.0; some = behind.1; to = behind.2; back = behind.3 }
+    let following = IsRunList-back low end pre (run ∷ post) whole in
+    record { prefix = IsRunList-prefix low end pre (run ∷ post) whole; from = following.0; some = following.1; to = following.2; back = following.3 }
 
 pub joined : (low end : ℕ) (pre : List Run) (run : Run) (post : List Run) → Splits low end pre run post → IsRunList low end (pre ++ (run ∷ post))
 joined low end pre run post parts =
-    IsRunList-append low end pre (run ∷ post) parts.front (parts.from, parts.some, parts.to, parts.back)
+    IsRunList-append low end pre (run ∷ post) parts.prefix (parts.from, parts.some, parts.to, parts.back)
 
--- ---- the front of a run is taken away
+-- ---- the prefix of a run is taken away
 
 -- what is left of a run: its blocks but the first
 abbrev pub rest_of : Run → ℕ → Run
@@ -97,7 +97,7 @@ rest_of run count = record { first = run.first + count; count = run.count - coun
 pub IsRunList-without : (low end : ℕ) (pre : List Run) (run : Run) (post : List Run) → IsRunList low end (pre ++ (run ∷ post)) → IsRunList low end (pre ++ post)
 IsRunList-without low end pre run post whole =
     let parts = splits low end pre run post whole in
-    IsRunList-append low end pre post parts.front
+    IsRunList-append low end pre post parts.prefix
     (IsRunList-lower (after low pre) (run.first + run.count + 1) end post (omega (arith, parts.from)) parts.back)
 
 pub IsRunList-rest : (low end : ℕ) (pre : List Run) (run : Run) (post : List Run) (count : ℕ) → count < run.count
@@ -106,7 +106,7 @@ IsRunList-rest low end pre run post count less whole =
     let parts = splits low end pre run post whole in
     joined low end pre (rest_of run count) post
     (record {
-      front = parts.front;
+      prefix = parts.prefix;
       from = omega (arith, parts.from);
       some = omega arith;
       to = omega (arith, parts.to);
@@ -115,22 +115,22 @@ IsRunList-rest low end pre run post count less whole =
 
 -- the blocks of a list of runs, of which the first blocks of one are left out
 abbrev pub Without : List Run → List Run → ℕ → ℕ → Type 0
-Without old new first count = (b : ℕ) → HasBlock new b ↔ (HasBlock old b × ¬ LiesIn b first count)
+Without old new first count = (b : ℕ) → HasBlock new b ↔ (HasBlock old b × ¬ InBlocks b first count)
 
 without_part : (low end : ℕ) (pre : List Run) (run : Run) (post left : List Run) (count : ℕ) (b : ℕ) → Splits low end pre run post → count ≤ run.count
-    → (HasBlock left b → LiesIn b run.first run.count × ¬ LiesIn b run.first count)
+    → (HasBlock left b → InBlocks b run.first run.count × ¬ InBlocks b run.first count)
     → HasBlock pre b ⊎ (HasBlock left b ⊎ HasBlock post b)
-    → HasBlock (pre ++ (run ∷ post)) b × ¬ LiesIn b run.first count
+    → HasBlock (pre ++ (run ∷ post)) b × ¬ InBlocks b run.first count
 without_part low end pre run post left count b parts few says (inl h) =
-    (HasBlock-left pre (run ∷ post) b h, λ lies. absurd (omega (arith, HasBlock-after low end pre b parts.front h, parts.from, lies.low)))
+    (HasBlock-left pre (run ∷ post) b h, λ is_inside. absurd (omega (arith, HasBlock-after low end pre b parts.prefix h, parts.from, is_inside.low)))
 without_part low end pre run post left count b parts few says (inr (inl h)) =
     (HasBlock-right pre (run ∷ post) b (inl (says h).0), (says h).1)
 without_part low end pre run post left count b parts few says (inr (inr h)) =
-    (HasBlock-right pre (run ∷ post) b (inr h), λ lies. absurd (omega (arith, HasBlock-low (run.first + run.count + 1) end post b parts.back h, lies.high)))
+    (HasBlock-right pre (run ∷ post) b (inr h), λ is_inside. absurd (omega (arith, HasBlock-low (run.first + run.count + 1) end post b parts.back h, is_inside.high)))
 
 part_without : (pre : List Run) (run : Run) (post left : List Run) (count : ℕ) (b : ℕ)
-    → (LiesIn b run.first run.count → ¬ LiesIn b run.first count → HasBlock left b)
-    → HasBlock pre b ⊎ HasBlock (run ∷ post) b → ¬ LiesIn b run.first count
+    → (InBlocks b run.first run.count → ¬ InBlocks b run.first count → HasBlock left b)
+    → HasBlock pre b ⊎ HasBlock (run ∷ post) b → ¬ InBlocks b run.first count
     → HasBlock (pre ++ (left ++ post)) b
 part_without pre run post left count b says (inl h) out = HasBlock-from_parts pre left post b (inl h)
 part_without pre run post left count b says (inr (inl h)) out = HasBlock-from_parts pre left post b (inr (inl (says h out)))
@@ -203,9 +203,9 @@ pub first_in_order : (low end : ℕ) (xs : List Run) (i j : ℕ) (d : Run) → I
 first_in_order low end [] i j d runs le lt = absurd (omega arith)
 first_in_order low end (x ∷ xs) zero zero d runs le lt = omega arith
 first_in_order low end (x ∷ xs) zero (suc j) d runs le lt =
-    let behind = run_at (x.first + x.count + 1) end xs j d (omega arith) runs.3 in
-    let low = after-low (x.first + x.count + 1) end (take j xs) behind.front in
-    omega (arith, behind.from, low)
+    let following = run_at (x.first + x.count + 1) end xs j d (omega arith) runs.3 in
+    let low = after-low (x.first + x.count + 1) end (take j xs) following.prefix in
+    omega (arith, following.from, low)
 first_in_order low end (x ∷ xs) (suc i) zero d runs le lt = absurd (omega arith)
 first_in_order low end (x ∷ xs) (suc i) (suc j) d runs le lt =
     first_in_order (x.first + x.count + 1) end xs i j d runs.3 (omega arith) (omega arith)
@@ -216,7 +216,7 @@ begins_before_parts end xs block runs i j d le lt before =
     lt-ltb _ _ (omega (arith, first_in_order 0 end xs i j d runs le lt, ltb-true _ _ before))
 
 -- the list has the blocks of its runs
-pub HasBlock-at : (xs : List Run) (i : ℕ) (d : Run) (b : ℕ) → i < length xs → LiesIn b (get_or xs i d).first (get_or xs i d).count → HasBlock xs b
-HasBlock-at [] i d b lt lies = absurd (omega arith)
-HasBlock-at (x ∷ xs) zero d b lt lies = inl lies
-HasBlock-at (x ∷ xs) (suc i) d b lt lies = inr (HasBlock-at xs i d b (omega arith) lies)
+pub HasBlock-at : (xs : List Run) (i : ℕ) (d : Run) (b : ℕ) → i < length xs → InBlocks b (get_or xs i d).first (get_or xs i d).count → HasBlock xs b
+HasBlock-at [] i d b lt is_inside = absurd (omega arith)
+HasBlock-at (x ∷ xs) zero d b lt is_inside = inl is_inside
+HasBlock-at (x ∷ xs) (suc i) d b lt is_inside = inr (HasBlock-at xs i d b (omega arith) is_inside)

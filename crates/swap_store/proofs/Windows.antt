@@ -20,13 +20,13 @@ pub window-longest : (low end : ℕ) (runs : List Run) (a n : ℕ) → IsRunList
     → ((b : ℕ) → a ≤ b → b < a + n → HasBlock runs b) → n ≤ longest runs
 window-longest low end [] a n list some all = absurd (all a (omega arith) (omega arith))
 window-longest low end (x ∷ xs) a n list some all =
-    let behind : (b : ℕ) → HasBlock xs b → x.first + x.count + 1 ≤ b = λ b h. HasBlock-low (x.first + x.count + 1) end xs b list.3 h in
+    let following : (b : ℕ) → HasBlock xs b → x.first + x.count + 1 ≤ b = λ b h. HasBlock-low (x.first + x.count + 1) end xs b list.3 h in
     elim (all a (omega arith) (omega arith)) [
       | inl here ↦ elim (cases_lt (x.first + x.count) (a + n)) [
         | inl lt ↦ absurd
             (elim (all (x.first + x.count) (omega (arith, here.high)) lt) [
               | inl again ↦ omega (arith, again.high)
-              | inr later ↦ omega (arith, behind (x.first + x.count) later)
+              | inr later ↦ omega (arith, following (x.first + x.count) later)
             ])
         | inr ge ↦ omega (arith, here.low)
       ]
@@ -34,7 +34,7 @@ window-longest low end (x ∷ xs) a n list some all =
         arith,
         window-longest (x.first + x.count + 1) end xs a n list.3 some
             (λ b le lt. elim (all b le lt) [
-              | inl here ↦ absurd (omega (arith, here.high, behind a later))
+              | inl here ↦ absurd (omega (arith, here.high, following a later))
               | inr h ↦ h
             ]),
       )
@@ -96,9 +96,9 @@ few_names_leave_room p laws few =
     window-longest 0 (2 ^ 20) p.free (32 * j) 16 laws.runs (omega arith)
     (λ b le lt. (laws.exact b).1 (
       omega (arith, few),
-      λ q e known lies.
+      λ q e known is_inside.
           let size = (laws.fits q e known).0 in
-          let met : window_of e ≡ j = omega (arith, lies.low, lies.high, size.0, size.1) in
+          let met : window_of e ≡ j = omega (arith, is_inside.low, is_inside.high, size.0, size.1) in
           let has = windows-has (entries p.extents) q e (sym (get-entries p.extents q) ∙ known) in
           true≢false (sym has ∙ ap (λ w. list_any (eqb w) ws) met ∙ found.2),
     ))

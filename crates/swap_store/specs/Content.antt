@@ -8,27 +8,27 @@ use Rattle.swap_store.specs.Run.{blocks_for}
 use Rattle.swap_store.specs.Values.{Named, map_values}
 
 -- the bytes of so many blocks from `first` on, one block after another
-abbrev pub front_of : Blocks → ℕ → ℕ → List ℕ
-front_of blocks first count = concat (take count (drop first blocks))
+abbrev pub prefix_of : Blocks → ℕ → ℕ → List ℕ
+prefix_of blocks first count = concat (take count (drop first blocks))
 
--- the bytes that lie in an extent: the first of those that its blocks have
+-- the bytes that are in an extent: the first of those that its blocks have
 abbrev pub bytes_in : Blocks → Extent → List ℕ
-bytes_in blocks extent = take extent.len (front_of blocks extent.first (blocks_for extent.len))
+bytes_in blocks extent = take extent.len (prefix_of blocks extent.first (blocks_for extent.len))
 
--- the map from names to bytes, where the disk tells its blocks
+-- the map from names to bytes, where the disk exposes its blocks
 abbrev pub content_of : Named Extent → Option Blocks → Option (Named (List ℕ))
-content_of extents told = option_map (λ blocks. map_values (bytes_in blocks) extents) told
+content_of extents exposed = option_map (λ blocks. map_values (bytes_in blocks) extents) exposed
 
 -- how many bytes each name has
 abbrev pub lengths_of : Named Extent → Named ℕ
 lengths_of extents = map_values (λ extent. extent.len) extents
 
--- the told blocks are the same but for `count` of them from `first` on
-abbrev pub StandsOutside : ℕ → ℕ → Option Blocks → Option Blocks → Type 0
-StandsOutside first count None None = ⊤
-StandsOutside first count None (Some new) = ⊥
-StandsOutside first count (Some old) None = ⊥
-StandsOutside first count (Some old) (Some new) =
+-- the known blocks are the same but for `count` of them from `first` on
+abbrev pub UnchangedOutside : ℕ → ℕ → Option Blocks → Option Blocks → Type 0
+UnchangedOutside first count None None = ⊤
+UnchangedOutside first count None (Some new) = ⊥
+UnchangedOutside first count (Some old) None = ⊥
+UnchangedOutside first count (Some old) (Some new) =
     (take first new ≡ take first old) × (drop (first + count) new ≡ drop (first + count) old)
 
 -- block n begins with these bytes

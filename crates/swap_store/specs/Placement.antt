@@ -5,7 +5,7 @@ use Rattle.std.specs.FinMap as map
 use Rattle.tile_cow.specs.Tile.{IsTileLength}
 use Rattle.swap_store.specs.declared.runs.Run.{Run}
 use Rattle.swap_store.specs.declared.block_map.Extent.{Extent}
-use Rattle.swap_store.specs.Run.{blocks_for, LiesIn, HasBlock, IsRunList, first_fit}
+use Rattle.swap_store.specs.Run.{blocks_for, InBlocks, HasBlock, IsRunList, first_fit}
 use Rattle.swap_store.specs.Values.{Named}
 
 -- each name's extent, the free runs, and how many blocks of the disk are used
@@ -28,12 +28,12 @@ placement_code =
     (λ parts. record { extents = parts.0; free = parts.1.0; used = parts.1.1 }) (λ _. refl)
 
 -- a block is one of an extent's
-abbrev pub LiesInExtent : ℕ → Extent → Type 0
-LiesInExtent block extent = LiesIn block extent.first (blocks_for extent.len)
+abbrev pub InExtent : ℕ → Extent → Type 0
+InExtent block extent = InBlocks block extent.first (blocks_for extent.len)
 
 -- a block is no name's
 abbrev pub IsUnnamed : Named Extent → ℕ → Type 0
-IsUnnamed extents block = (name : ℕ) (extent : Extent) → map.get extents name ≡ Some extent → ¬ LiesInExtent block extent
+IsUnnamed extents block = (name : ℕ) (extent : Extent) → map.get extents name ≡ Some extent → ¬ InExtent block extent
 
 -- What holds of where names lie, at every moment.
 pub record IsPlacement (p : Placement) : Type 0 where
@@ -47,7 +47,7 @@ pub record IsPlacement (p : Placement) : Type 0 where
   -- no block is two names'
   pub apart : (name other : ℕ) (extent extent' : Extent) → name ≢ other
       → map.get p.extents name ≡ Some extent → map.get p.extents other ≡ Some extent'
-      → (block : ℕ) → LiesInExtent block extent → ¬ LiesInExtent block extent'
+      → (block : ℕ) → InExtent block extent → ¬ InExtent block extent'
   pub bounded : p.used ≤ 2 ^ 20
 
 -- the new placement has one name more, in the first blocks of the lowest free run that is long enough

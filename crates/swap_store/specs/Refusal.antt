@@ -4,7 +4,7 @@ use Rattle.outside_io.specs.declared.swap.SwapAnswer.TheVariants as answers
 use Rattle.swap_store.specs.declared.refusal.SwapRefused.{SwapRefused}
 use Rattle.swap_store.specs.declared.refusal.SwapRefused.TheVariants as refusals
 
--- a fault of the disk is a fault, and want of memory is want of memory
+-- an I/O error of the disk is an I/O error, and running out of memory is running out of memory
 abbrev pub refusal_of : SwapAnswer → SwapRefused
 refusal_of answers.Failed = refusals.SwapFault
 refusal_of answers.NoMemory = refusals.NoMemory

@@ -8,14 +8,14 @@ abbrev pub blocks_for : ℕ → ℕ
 blocks_for len = (len + 4095) / 4096
 
 -- a block is one of so many blocks from `first` on
-pub record LiesIn (block first count : ℕ) : Type 0 where
+pub record InBlocks (block first count : ℕ) : Type 0 where
   pub low : first ≤ block
   pub high : block < first + count
 
 -- a block is in one of the runs
 abbrev pub HasBlock : List Run → ℕ → Type 0
 HasBlock [] block = ⊥
-HasBlock (run ∷ runs) block = LiesIn block run.first run.count ⊎ HasBlock runs block
+HasBlock (run ∷ runs) block = InBlocks block run.first run.count ⊎ HasBlock runs block
 
 -- The runs stand in order, from block `low` on and before block `end`. None is empty, and between
 -- any two of them stands a block that is in none: neighbours are one run.

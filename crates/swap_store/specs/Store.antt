@@ -19,14 +19,14 @@ store_code {D} code =
     code_by (Placement × D) (coded× placement_code code) (λ s. (s.placement, s.disk)) (λ p. record { placement = p.0; disk = p.1 })
     (λ _. refl)
 
--- Why a put of so many bytes is refused: the disk's count of faults rose, or the longest free run
--- is too short, and then both numbers are told. Memory may be wanted at any time.
+-- Why a put of so many bytes is refused: the disk's count of I/O errors rose, or the longest free run
+-- is too short, and then both numbers are known. Memory may run out at any time.
 abbrev pub HasPutCause : List Run → ℕ → ℕ → ℕ → SwapRefused → Type 0
 HasPutCause free len before now refusals.SwapFault = Rose before now
 HasPutCause free len before now (refusals.SwapFull needed room) = (needed ≡ blocks_for len) × (room ≡ longest free) × (room < needed)
 HasPutCause free len before now refusals.NoMemory = ⊤
 
--- Why a read or a write is refused: the disk's count of faults rose, or memory was wanted.
+-- Why a read or a write is refused: the disk's count of I/O errors rose, or memory ran out.
 abbrev pub HasDiskCause : ℕ → ℕ → SwapRefused → Type 0
 HasDiskCause before now refusals.SwapFault = Rose before now
 HasDiskCause before now (refusals.SwapFull needed room) = ⊥

@@ -132,7 +132,7 @@ impl BlockMap {
         let first = self.free[index].first;
         self.free.reserve(self.extents.len() + 1)?;
         self.extents.insert(name, Extent { first, len })?;
-        runs::take_front(&mut self.free, index, count);
+        runs::take_first(&mut self.free, index, count);
         Ok(())
     }
 

@@ -14,7 +14,7 @@ pub trait ChainMeaning {
     /// The names, with how many bytes each has.
     ghost names: { Self → Named ℕ };
 
-    /// The names with their bytes, where the swap tells them.
+    /// The names with their bytes, where the swap exposes them.
     ghost content: { Self → Option (Named (List ℕ)) };
 
     /// The names with the number of owners of each, where it counts them.
@@ -24,7 +24,7 @@ pub trait ChainMeaning {
     /// one. No call changes that number.
     ghost store: { Self → Option Room };
 
-    /// The greatest number of tiles that its cache holds, which no call changes; 0 where it has no
+    /// The largest number of tiles that its cache holds, which no call changes; 0 where it has no
     /// cache.
     ghost capacity: { Self → ℕ };
 

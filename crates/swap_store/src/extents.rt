@@ -3,7 +3,7 @@
 ghost use Rattle.std.specs.Prelude.{◌≡◌, ◌+◌, ◌*◌, ◌/◌, ◌<◌, ◌≤◌, ◌^◌, IfErr, IfSome, OnOk, length, take};
 ghost use Rattle.tile_cow.specs.Tile.{IsTileLength};
 ghost use Rattle.swap_store.specs.Run.{blocks_for};
-ghost use Rattle.swap_store.specs.Content.{BeginsAt, StandsOutside, bytes_in, front_of};
+ghost use Rattle.swap_store.specs.Content.{BeginsAt, UnchangedOutside, bytes_in, prefix_of};
 ghost use Rattle.swap_store.specs.Store.{HasDiskCause};
 
 use crate::block_map::{BLOCK_BYTES, blocks_for};
@@ -20,8 +20,8 @@ fn write_whole_blocks<D: SwapDisk>(
     requires known { first + length bytes.now / 4096 ≤ D.block_count disk.old }
     requires bound { first + length bytes.now / 4096 ≤ 2 ^ 20 }
     ensures written { OnOk result (IfSome (D.blocks disk.new)
-        (λ blocks. front_of blocks first (length bytes.now / 4096) ≡ take (4096 * (length bytes.now / 4096)) bytes.now)) }
-    ensures others { StandsOutside first (length bytes.now / 4096) (D.blocks disk.old) (D.blocks disk.new) }
+        (λ blocks. prefix_of blocks first (length bytes.now / 4096) ≡ take (4096 * (length bytes.now / 4096)) bytes.now)) }
+    ensures others { UnchangedOutside first (length bytes.now / 4096) (D.blocks disk.old) (D.blocks disk.new) }
     ensures cause { IfErr result (HasDiskCause (D.faults disk.old) (D.faults disk.new)) }
     ensures later { D.faults disk.old ≤ D.faults disk.new }
     ensures block_count { D.block_count disk.new ≡ D.block_count disk.old }
@@ -34,7 +34,7 @@ fn write_whole_blocks<D: SwapDisk>(
     Ok(())
 }
 
-/// Makes a block begin with these bytes, and have zeros behind them.
+/// Makes a block begin with these bytes, and have zeros after them.
 fn pad(block: &mut [u8], bytes: &[u8])
     requires { length bytes.now ≤ length block.old }
     ensures { take (length bytes.now) block.new ≡ bytes.now }
@@ -43,7 +43,7 @@ fn pad(block: &mut [u8], bytes: &[u8])
     block[bytes.len()..].fill(0);
 }
 
-/// Writes these bytes to block `n`, and zeros behind them. They are put together in `spare`.
+/// Writes these bytes to block `n`, and zeros after them. They are put together in `spare`.
 fn write_padded<D: SwapDisk>(
     disk: &mut D,
     n: u32,
@@ -54,7 +54,7 @@ fn write_padded<D: SwapDisk>(
     requires spare { 4096 ≤ length spare.old }
     requires known { n < D.block_count disk.old }
     ensures written { OnOk result (IfSome (D.blocks disk.new) (BeginsAt n bytes.now)) }
-    ensures others { StandsOutside n 1 (D.blocks disk.old) (D.blocks disk.new) }
+    ensures others { UnchangedOutside n 1 (D.blocks disk.old) (D.blocks disk.new) }
     ensures cause { IfErr result (HasDiskCause (D.faults disk.old) (D.faults disk.new)) }
     ensures later { D.faults disk.old ≤ D.faults disk.new }
     ensures block_count { D.block_count disk.new ≡ D.block_count disk.old }
@@ -66,7 +66,7 @@ fn write_padded<D: SwapDisk>(
     Ok(())
 }
 
-/// Writes these bytes to the disk, from block `first` on. What the last block has behind them is
+/// Writes these bytes to the disk, from block `first` on. What the last block has after them is
 /// zero; it is put together in `spare`.
 pub(crate) fn write_extent<D: SwapDisk>(
     disk: &mut D,
@@ -80,7 +80,7 @@ pub(crate) fn write_extent<D: SwapDisk>(
     requires bound { first + blocks_for (length bytes.now) ≤ 2 ^ 20 }
     ensures written { OnOk result (IfSome (D.blocks disk.new)
         (λ blocks. bytes_in blocks (record { first = first; len = length bytes.now }) ≡ bytes.now)) }
-    ensures others { StandsOutside first (blocks_for (length bytes.now)) (D.blocks disk.old) (D.blocks disk.new) }
+    ensures others { UnchangedOutside first (blocks_for (length bytes.now)) (D.blocks disk.old) (D.blocks disk.new) }
     ensures cause { IfErr result (HasDiskCause (D.faults disk.old) (D.faults disk.new)) }
     ensures later { D.faults disk.old ≤ D.faults disk.new }
     ensures block_count { D.block_count disk.new ≡ D.block_count disk.old }

@@ -1,7 +1,7 @@
 //! Free runs of blocks, in order.
 
 ghost use Rattle.std.specs.Prelude.{◌≡◌, ℕ, ◌+◌, ◌<◌, ◌≤◌, ◌^◌, ◌↔◌, ◌⊎◌, length, slice_index_or, vec_len, vec_capacity, IsTrue, position, nat_le};
-ghost use Rattle.swap_store.specs.Run.{BeginsWith, EndsBefore, HasBlock, IsRunList, LiesIn, longest};
+ghost use Rattle.swap_store.specs.Run.{BeginsWith, EndsBefore, HasBlock, IsRunList, InBlocks, longest};
 
 /// Blocks that lie beside one another.
 #[derive(Clone, Copy, Debug, PartialEq, Eq)]
@@ -31,14 +31,14 @@ pub(crate) fn fitting_run(runs: &[Run], needed: u32) -> Option<usize>
 }
 
 /// Takes the first `count` blocks of the run of this index away. The memory of the runs stays.
-pub(crate) fn take_front(runs: &mut Vec<Run>, index: usize, count: u32)
+pub(crate) fn take_first(runs: &mut Vec<Run>, index: usize, count: u32)
     requires known { index < vec_len runs.old }
     requires taken { 1 ≤ count }
     requires long { (d : Run) → count ≤ (slice_index_or runs.old.items index d).count }
     requires list { IsRunList 0 (2 ^ 20) runs.old.items }
     ensures list { IsRunList 0 (2 ^ 20) runs.new.items }
     ensures blocks { (d : Run) (block : ℕ) → HasBlock runs.new.items block
-        ↔ (HasBlock runs.old.items block × ¬ LiesIn block (slice_index_or runs.old.items index d).first count) }
+        ↔ (HasBlock runs.old.items block × ¬ InBlocks block (slice_index_or runs.old.items index d).first count) }
     ensures shorter { vec_len runs.new ≤ vec_len runs.old }
     ensures capacity { vec_capacity runs.new ≡ vec_capacity runs.old }
 {
@@ -58,7 +58,7 @@ fn runs_before(runs: &[Run], block: u32) -> usize
     requires { IsRunList 0 (2 ^ 20) runs.now }
     ensures within { result ≤ length runs.now }
     ensures before { (k : ℕ) (d : Run) → k < result → (slice_index_or runs.now k d).first < block }
-    ensures behind { (k : ℕ) (d : Run) → result ≤ k → k < length runs.now → block ≤ (slice_index_or runs.now k d).first }
+    ensures following { (k : ℕ) (d : Run) → result ≤ k → k < length runs.now → block ≤ (slice_index_or runs.now k d).first }
 {
     runs.partition_point(|run| run.first < block)
 }
@@ -90,11 +90,11 @@ pub(crate) fn give_back(runs: &mut Vec<Run>, first: u32, count: u32)
     requires given { 1 ≤ count }
     requires bound { first + count ≤ 2 ^ 20 }
     requires list { IsRunList 0 (2 ^ 20) runs.old.items }
-    requires apart { (block : ℕ) → LiesIn block first count → ¬ HasBlock runs.old.items block }
+    requires apart { (block : ℕ) → InBlocks block first count → ¬ HasBlock runs.old.items block }
     requires room { vec_len runs.old < vec_capacity runs.old }
     ensures list { IsRunList 0 (2 ^ 20) runs.new.items }
     ensures blocks { (block : ℕ) → HasBlock runs.new.items block
-        ↔ (HasBlock runs.old.items block ⊎ LiesIn block first count) }
+        ↔ (HasBlock runs.old.items block ⊎ InBlocks block first count) }
     ensures longer { vec_len runs.new ≤ vec_len runs.old + 1 }
     ensures capacity { vec_capacity runs.new ≡ vec_capacity runs.old }
 {

@@ -59,7 +59,7 @@ fn a_shared_block_is_copied_and_a_lone_one_is_not(rt: HostRuntime) -> Result<(),
     Ok(())
 }
 
-/// Writes 2 as the last byte of a tile of zeros, 1 as the first, and nothing behind the last. Gives
+/// Writes 2 as the last byte of a tile of zeros, 1 as the first, and nothing after the last. Gives
 /// an owner of the zeros too.
 fn write_both_ends(alloc: Global, len: u32) -> Result<(Tile, Tile), NoMemory>
     requires { IsTileLength len }

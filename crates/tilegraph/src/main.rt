@@ -6,7 +6,7 @@ use script_run::run;
 use std::process::ExitCode;
 use std::{env, io};
 
-/// The status of a program that could not begin for want of memory.
+/// The status of a program that could not begin for running out of memory.
 const NO_MEMORY: u8 = 7;
 
 /// No line swaps a tile out yet, so one block is enough.

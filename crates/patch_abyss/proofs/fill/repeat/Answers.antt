@@ -16,6 +16,6 @@ loop-done-preserved c =
     let many : (more ≡ done) ⊎ (more ≡ length old - done) =
     elim (cases_lt done (length old - done)) [ inl lt ↦ inl (omega (arith, is, long, lt)) | inr le ↦ inr (omega (arith, is, long, le)) ] in
     let few : more ≤ done = omega (arith, is) in
-    Repeats-more c.args.period done more old c.loop-done.bytes c.copy_front.new.bytes c.loop-done.invariant (omega arith) many few
-    c.copy_front.ensures.copied
-    (λ i below. c.copy_front.ensures.kept i (inl below))
+    Repeats-more c.args.period done more old c.loop-done.bytes c.copy_prefix.new.bytes c.loop-done.invariant (omega arith) many few
+    c.copy_prefix.ensures.copied
+    (λ i below. c.copy_prefix.ensures.kept i (inl below))

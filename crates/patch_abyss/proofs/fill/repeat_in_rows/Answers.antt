@@ -1,7 +1,7 @@
 use Rattle.std.proofs.Common.{◌≡◌, ◌%◌, ◌<◌, ◌≤◌, length, inr, ◌∙◌, arith}
 use Rattle.std.proofs.Math.Nat.{mod-le}
 use Rattle.patch_abyss.specs.Copied.{bytes_of, row_byte}
-use Rattle.patch_abyss.proofs.CopiedRows.{HasRows-none, HasRows-next, row_behind, length-row, get_or-row}
+use Rattle.patch_abyss.proofs.CopiedRows.{HasRows-none, HasRows-next, row_after, length-row, get_or-row}
 use Rattle.patch_abyss.proofs.fill.repeat_in_rows.Goals as goal
 
 pub loop-row-init : goal.loop-row-init
@@ -28,7 +28,7 @@ loop-row-preserved c =
     let few : q < count = omega (arith, mod-le k period, within) in
     c.repeat.ensures.bytes k (omega (arith, within, long))
     ∙ get_or-row rows count j a e now at_a at_e room q few
-    ∙ c.loop-row.invariant.kept (row_byte rows j q) (λ m above. inr (omega (arith, row_behind rows count m j c.requires.apart above))))
+    ∙ c.loop-row.invariant.kept (row_byte rows j q) (λ m above. inr (omega (arith, row_after rows count m j c.requires.apart above))))
     c.loop-row.invariant
 
 pub returns-clause-rows : goal.returns-clause-rows

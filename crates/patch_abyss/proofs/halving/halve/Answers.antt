@@ -1,11 +1,11 @@
 use Rattle.std.proofs.Common.{◌≡◌, ap, sym, ◌∙◌, rules, length, subst}
 use Rattle.std.proofs.lemmas.List.{with_items_is}
 use Rattle.plane_rect.specs.Rectangle.{Rectangle, InLimits, halved}
-use Rattle.images.specs.Image.{drawn}
-use Rattle.abyss_levels.specs.Level.{mean_at}
-use Rattle.images.specs.Spelled.{spelled}
-use Rattle.patch_abyss.proofs.DrawnRows.{RowsDrawn-all}
-use Rattle.abyss_levels.proofs.LevelLaws.{InLimits-halved}
+use Rattle.model_images.specs.Image.{image_from_fn}
+use Rattle.model_images.specs.Level.{mean_at}
+use Rattle.model_images.specs.FromRaw.{image_from_raw}
+use Rattle.patch_abyss.proofs.FilledRows.{RowsFilled-all}
+use Rattle.model_images.proofs.LevelLaws.{InLimits-halved}
 use Rattle.patch_abyss.proofs.halving.halve.Goals as goal
 
 pub byte_count-requires : goal.byte_count-requires
@@ -23,7 +23,7 @@ returns c =
     let new = c.halve_rows.new.bytes in
     let fits : length new ≡ c.in_ok-bytes.bytes.len = search rules in
     rw c.format-format.ensures at c.from_bytes.ensures
-    ∙ ap (spelled rect image.format) (with_items_is c.in_ok-bytes.bytes new fits)
-    ∙ RowsDrawn-all rect image.format (mean_at image) new c.halve_rows.ensures.drawn
-    ∙ ap (λ (r : Rectangle). drawn r image.format (mean_at image)) c.halved-rect.ensures.value
-    ∙ ap (λ (r : Rectangle). drawn (halved r) image.format (mean_at image)) c.rect.ensures.value
+    ∙ ap (image_from_raw rect image.format) (with_items_is c.in_ok-bytes.bytes new fits)
+    ∙ RowsFilled-all rect image.format (mean_at image) new c.halve_rows.ensures.generated
+    ∙ ap (λ (r : Rectangle). image_from_fn r image.format (mean_at image)) c.halved-rect.ensures.value
+    ∙ ap (λ (r : Rectangle). image_from_fn (halved r) image.format (mean_at image)) c.rect.ensures.value

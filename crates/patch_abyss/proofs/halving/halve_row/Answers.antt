@@ -1,8 +1,8 @@
 use Rattle.std.proofs.Common.{◌≡◌, ℕ, ◌+◌, ◌*◌, ◌/◌, ◌<◌, length, sym, ap, ◌∙◌, refl, subst, arith}
 use Rattle.plane_rect.specs.Rectangle.{Rectangle}
-use Rattle.sample_rows.specs.Average.{mean_pixel}
-use Rattle.sample_rows.specs.Format.{pixel_bytes}
-use Rattle.sample_rows.specs.Row.{HasPixels, pixel_at}
+use Rattle.pixel_formats.specs.Average.{mean_pixel}
+use Rattle.pixel_formats.specs.Format.{pixel_bytes}
+use Rattle.pixel_formats.specs.Row.{HasPixels, pixel_at}
 use Rattle.sample_rows.proofs.RowLaws.{pixel_count_of}
 use Rattle.patch_abyss.proofs.HalvedRows.{shows_own, shows_read, mean_row, pair_count}
 use Rattle.patch_abyss.proofs.TilesOfPatches.{few_bytes}
@@ -14,7 +14,7 @@ returns-then-has_rows-clause-pixels c = λ k channel inside known.
     let columns = c.args.columns.now in
     let h = c.if-has_rows.ensures refl in
     let box = c.rect.ensures.value in
-    let start : image.box.left ≡ columns.left = sym (ap (λ (r : Rectangle). r.left) box) ∙ h.left in
+    let start : image.box.first_column ≡ columns.first_column = sym (ap (λ (r : Rectangle). r.first_column) box) ∙ h.first_column in
     let many : image.box.width ≡ columns.width = sym (ap (λ (r : Rectangle). r.width) box) ∙ h.width in
     let up = c.rows-above.result.now in
     let down = c.rows-below.result.now in
@@ -24,9 +24,9 @@ returns-then-has_rows-clause-pixels c = λ k channel inside known.
     let means : HasPixels image.format to (λ k. mean_pixel (pixel_at image.format up (2 * k)) (pixel_at image.format up (2 * k + 1)) (pixel_at image.format down (2 * k)) (pixel_at image.format down (2 * k + 1))) =
     rw c.format-format.ensures at c.row_average4.ensures in
     means k channel inside known
-    ∙ mean_row image up down columns.width columns.left c.args.row
-    (shows_own image up columns.width columns.left c.args.row (c.args.row + 1) start many (omega arith) c.rows-above.ensures.samples)
-    (shows_own image down columns.width columns.left (c.args.row + 1) (c.args.row + 2) start many (omega arith) c.rows-below.ensures.samples)
+    ∙ mean_row image up down columns.width columns.first_column c.args.row
+    (shows_own image up columns.width columns.first_column c.args.row (c.args.row + 1) start many (omega arith) c.rows-above.ensures.samples)
+    (shows_own image down columns.width columns.first_column (c.args.row + 1) (c.args.row + 2) start many (omega arith) c.rows-below.ensures.samples)
     k channel (omega (arith, below, pairs)) known
 
 pub returns-clause-pixels : goal.returns-clause-pixels
@@ -44,7 +44,7 @@ returns-clause-pixels c = λ k channel inside known.
     let means : HasPixels image.format to (λ k. mean_pixel (pixel_at image.format up (2 * k)) (pixel_at image.format up (2 * k + 1)) (pixel_at image.format down (2 * k)) (pixel_at image.format down (2 * k + 1))) =
     rw c.format-format.ensures at c.row_average4-2.ensures in
     means k channel inside known
-    ∙ mean_row image up down columns.width columns.left c.args.row
-    (shows_read image up columns.width columns.left c.args.row many_up c.read_row.ensures.pixels)
-    (shows_read image down columns.width columns.left (c.args.row + 1) many_down c.read_row-2.ensures.pixels)
+    ∙ mean_row image up down columns.width columns.first_column c.args.row
+    (shows_read image up columns.width columns.first_column c.args.row many_up c.read_row.ensures.pixels)
+    (shows_read image down columns.width columns.first_column (c.args.row + 1) many_down c.read_row-2.ensures.pixels)
     k channel (omega (arith, below, pairs)) known

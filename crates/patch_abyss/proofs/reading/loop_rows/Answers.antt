@@ -1,13 +1,13 @@
 use Rattle.std.proofs.Common.{◌≡◌, ℕ, ◌-◌, ◌*◌, ap, ◌∙◌, subst, arith}
 use Rattle.plane_rect.specs.Rectangle.{Rectangle, IsRectangle}
-use Rattle.sample_rows.specs.Format.{pixel_bytes}
-use Rattle.abyss_levels.specs.Abyss.{wrapped}
+use Rattle.pixel_formats.specs.Format.{pixel_bytes}
+use Rattle.model_images.specs.Abyss.{wrapped}
 use Rattle.patch_abyss.proofs.CopiedRows.{some_columns}
-use Rattle.patch_abyss.proofs.LoopedRows.{RowsDrawn-looped}
+use Rattle.patch_abyss.proofs.LoopedRows.{RowsFilled-looped}
 use Rattle.patch_abyss.proofs.reading.loop_rows.Goals as goal
 
-pub returns-clause-drawn : goal.returns-clause-drawn
-returns-clause-drawn c =
+pub returns-clause-generated : goal.returns-clause-generated
+returns-clause-generated c =
     let image = c.args.image.now in
     let rect = c.args.rect.now in
     let s = c.args.sources.start in
@@ -19,10 +19,10 @@ returns-clause-drawn c =
     let count : c.rect.inside.w * p ≡ rect.width * n = ap (λ (r : Rectangle). r.width * p) c.rect.view_is ∙ ap (λ (i : ℕ). rect.width * i) pixel in
     let period : c.bounds.inside.w * p ≡ image.box.width * n =
     ap (λ (r : Rectangle). r.width * p) (c.bounds.view_is ∙ box) ∙ ap (λ (i : ℕ). image.box.width * i) pixel in
-    let first = c.first_column.result in
-    let at_first : first ≡ wrapped image.box.left image.box.width rect.left - image.box.left =
-    c.first_column.ensures ∙ ap (λ (r : Rectangle). wrapped r.left r.width rect.left - r.left) box in
-    RowsDrawn-looped image rect s e first c.rows.result.now c.wrap_rows.new.to c.requires.top c.requires.bottom
-    (some_columns image.box s (subst IsRectangle box c.rect-bounds.ensures.rectangle) c.requires.top (omega (arith, c.requires.some, c.requires.bottom)))
+    let first = c.wrapped_start.result in
+    let at_first : first ≡ wrapped image.box.first_column image.box.width rect.first_column - image.box.first_column =
+    c.wrapped_start.ensures ∙ ap (λ (r : Rectangle). wrapped r.first_column r.width rect.first_column - r.first_column) box in
+    RowsFilled-looped image rect s e first c.rows.result.now c.wrap_rows.new.to c.requires.first_row c.requires.end_row
+    (some_columns image.box s (subst IsRectangle box c.rect-bounds.ensures.rectangle) c.requires.first_row (omega (arith, c.requires.some, c.requires.end_row)))
     c.rows.ensures.samples at_first
     (rw (← count, ← period, ← pixel) c.wrap_rows.ensures.bytes)

@@ -2,13 +2,13 @@ use Rattle.std.proofs.Common.{◌≡◌, ℕ, ◌*◌, sym, ap, subst}
 use Rattle.plane_rect.specs.Rectangle.{Rectangle}
 use Rattle.patch_abyss.specs.Copied.{HasPart, HaveRoom}
 use Rattle.patch_abyss.proofs.CopiedRows.{rows_have_room, HasPart-rows}
-use Rattle.patch_abyss.proofs.TilesOfPatches.{some_places}
+use Rattle.patch_abyss.proofs.TilesOfPatches.{some_positions}
 use Rattle.patch_abyss.proofs.rows.copy_meet.Goals as goal
 
 pub copy_rows-requires-clause-to : goal.copy_rows-requires-clause-to
 copy_rows-requires-clause-to c =
     let part = c.meet-part.result in
-    let some = some_places part c.if-is_empty.ensures.value in
+    let some = some_positions part c.if-is_empty.ensures.value in
     let n = c.args.pixel in
     let t = c.of_part-targets in
     let count : c.part.inside.w * n ≡ part.width * n = ap (λ (r : Rectangle). r.width * n) c.part.view_is in
@@ -18,7 +18,7 @@ copy_rows-requires-clause-to c =
 pub copy_rows-requires-clause-from : goal.copy_rows-requires-clause-from
 copy_rows-requires-clause-from c =
     let part = c.meet-part.result in
-    let some = some_places part c.if-is_empty.ensures.value in
+    let some = some_positions part c.if-is_empty.ensures.value in
     let n = c.args.pixel in
     let s = c.of_part-sources in
     let count : c.part.inside.w * n ≡ part.width * n = ap (λ (r : Rectangle). r.width * n) c.part.view_is in
@@ -28,7 +28,7 @@ copy_rows-requires-clause-from c =
 pub returns-clause-part : goal.returns-clause-part
 returns-clause-part c =
     let part = c.meet-part.result in
-    let some = some_places part c.if-is_empty.ensures.value in
+    let some = some_positions part c.if-is_empty.ensures.value in
     let n = c.args.pixel in
     let t = c.of_part-targets in
     let s = c.of_part-sources in

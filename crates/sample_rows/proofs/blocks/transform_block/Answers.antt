@@ -1,7 +1,7 @@
 use Rattle.std.proofs.Common.{◌≡◌, ℕ, ◌+◌, ◌-◌, ◌*◌, ◌≤◌, length, take, drop, refl, ap, sym, ◌∙◌, arith}
 use borrow.Rule.Slice.PartMut.{put_mid}
 use Rattle.sample_rows.specs.Groups.{group_at, group_bytes}
-use Rattle.sample_lanes.proofs.SliceLaws.{length-part_from, part_from, part_written}
+use Rattle.simd_samples.proofs.SliceLaws.{length-part_from, part_from, part_written}
 use Rattle.sample_rows.proofs.GroupLaws.{group_at-shift}
 use Rattle.sample_rows.proofs.blocks.transform_block.Goals as goal
 

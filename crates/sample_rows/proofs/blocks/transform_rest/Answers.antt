@@ -3,7 +3,7 @@ use Rattle.std.proofs.Math.Nat.{le-div_iff_mul-le, lt_of_mul-lt-mul_right}
 use Rattle.std.proofs.lemmas.List.{get_or-take}
 use borrow.Rule.Slice.PartMut.{put_mid}
 use Rattle.sample_rows.specs.Groups.{group_at, group_bytes}
-use Rattle.sample_lanes.proofs.SliceLaws.{length-part_from, part_from, part_written}
+use Rattle.simd_samples.proofs.SliceLaws.{length-part_from, part_from, part_written}
 use Rattle.sample_rows.proofs.GroupLaws.{group_at-below, group_at-shift}
 use Rattle.sample_rows.proofs.blocks.transform_rest.Goals as goal
 

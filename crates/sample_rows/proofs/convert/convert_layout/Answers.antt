@@ -1,8 +1,8 @@
 use Rattle.std.proofs.Common.{◌≡◌, ℕ, length, arith}
-use Rattle.sample_rows.specs.Format.{channels}
-use Rattle.pixel_lanes.specs.Parts.{part_for, parts_of_grey, parts_of_colours, parts_of_colours_alpha}
-use Rattle.sample_rows.specs.Row.{Pixel, pixel_count}
-use Rattle.sample_rows.proofs.ConvertLaws.{converted_by_parts, converted_by_samples, grey_to, colours_to, colours_alpha_to, four_channels, whole_pixels}
+use Rattle.pixel_formats.specs.Format.{channels}
+use Rattle.simd_pixels.specs.Components.{component_for, components_of_gray, components_of_colors, components_of_colors_alpha}
+use Rattle.pixel_formats.specs.Row.{Pixel, pixel_count}
+use Rattle.sample_rows.proofs.ConvertLaws.{converted_by_parts, converted_by_samples, gray_to, colors_to, colors_alpha_to, four_channels, whole_pixels}
 use Rattle.sample_rows.proofs.convert.convert_layout.Goals as goal
 
 pub returns-then-channels : goal.returns-then-channels
@@ -16,8 +16,8 @@ returns-in-1 g c =
     let to = c.args.to in
     let is : channels from ≡ 1 = omega arith in
     converted_by_parts from to g.S.Lanes.depth g.D.Lanes.depth 1
-    (λ (greatest : ℕ) (pixel : Pixel) (i : ℕ). parts_of_grey greatest pixel (part_for (channels to) i)) c.args.src.now c.convert_channels.new.dst c.requires.depth c.requires.to_depth is
-    (grey_to from to is) c.convert_channels.ensures
+    (λ (max_sample : ℕ) (pixel : Pixel) (i : ℕ). components_of_gray max_sample pixel (component_for (channels to) i)) c.args.src.now c.convert_channels.new.dst c.requires.depth c.requires.to_depth is
+    (gray_to from to is) c.convert_channels.ensures
 
 pub returns-in-3 : goal.returns-in-3
 returns-in-3 g c =
@@ -25,8 +25,8 @@ returns-in-3 g c =
     let to = c.args.to in
     let is : channels from ≡ 3 = omega arith in
     converted_by_parts from to g.S.Lanes.depth g.D.Lanes.depth 3
-    (λ (greatest : ℕ) (pixel : Pixel) (i : ℕ). parts_of_colours greatest pixel (part_for (channels to) i)) c.args.src.now c.convert_channels-in-3.new.dst c.requires.depth c.requires.to_depth is
-    (colours_to from to is) c.convert_channels-in-3.ensures
+    (λ (max_sample : ℕ) (pixel : Pixel) (i : ℕ). components_of_colors max_sample pixel (component_for (channels to) i)) c.args.src.now c.convert_channels-in-3.new.dst c.requires.depth c.requires.to_depth is
+    (colors_to from to is) c.convert_channels-in-3.ensures
 
 pub returns-in_default : goal.returns-in_default
 returns-in_default g c =
@@ -34,5 +34,5 @@ returns-in_default g c =
     let to = c.args.to in
     let is : channels from ≡ 4 = four_channels from (λ e. absurd (omega arith)) (λ e. absurd (omega arith)) (λ e. absurd (omega arith)) in
     converted_by_parts from to g.S.Lanes.depth g.D.Lanes.depth 4
-    (λ (greatest : ℕ) (pixel : Pixel) (i : ℕ). parts_of_colours_alpha pixel (part_for (channels to) i)) c.args.src.now c.convert_channels-in_default.new.dst c.requires.depth c.requires.to_depth is
-    (colours_alpha_to from to is) c.convert_channels-in_default.ensures
+    (λ (max_sample : ℕ) (pixel : Pixel) (i : ℕ). components_of_colors_alpha pixel (component_for (channels to) i)) c.args.src.now c.convert_channels-in_default.new.dst c.requires.depth c.requires.to_depth is
+    (colors_alpha_to from to is) c.convert_channels-in_default.ensures

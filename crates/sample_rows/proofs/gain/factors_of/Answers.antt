@@ -16,11 +16,11 @@ returns-clause-small c =
     )
 
 pub returns-clause-exact : goal.returns-clause-exact
-returns-clause-exact c cap colour cap_lt lt =
+returns-clause-exact c cap color cap_lt lt =
     let last = c.last_within.result in
     let levels = c.args.levels in
     let at : c.min.result ≡ min (c.args.num * (65536 * levels) / c.args.den + min 1 (c.args.num * (65536 * levels) % c.args.den)) (65536 * levels * levels - 1) =
     c.min.ensures ∙ ap (λ f. min f (65536 * levels * levels - 1)) c.div_ceil-factor.ensures in
-    (λ p. min cap (cond (leb colour last) ((colour * at p + c.div_ceil.ensures p) / (65536 * levels)) (levels - 1)))
+    (λ p. min cap (cond (leb color last) ((color * at p + c.div_ceil.ensures p) / (65536 * levels)) (levels - 1)))
     ∙ scaled_is_gained c.args.num c.args.den levels last c.requires.num c.requires.some c.requires.den c.requires.some_levels c.requires.few_levels
-    c.last_within.ensures.bound c.last_within.ensures.within c.last_within.ensures.last cap colour cap_lt lt
+    c.last_within.ensures.bound c.last_within.ensures.within c.last_within.ensures.last cap color cap_lt lt

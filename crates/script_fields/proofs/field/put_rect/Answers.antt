@@ -22,4 +22,4 @@ returns-clause-text c =
     let third : c.push_integer-3.new.text.items ≡ c.push_integer-2.new.text.items ++ 32 ∷ signed_decimal c.from-3.result = simp to_z-of_z at c.in_ok-push_integer-3.ensures.ok in
     let fourth : c.push_integer-4.new.text.items ≡ c.push_integer-3.new.text.items ++ 32 ∷ signed_decimal c.from-4.result = simp to_z-of_z at c.in_ok-push_integer-4.ensures.ok in
     rw (fourth, third, second, first, x, y, w, h)
-    (rect_put c.args.text.now.items rect.x rect.y rect.w rect.h c.args.rect.now c.rect.view_is c.rect.invariant.behind_left c.rect.invariant.behind_top)
+    (rect_put c.args.text.now.items rect.x rect.y rect.w rect.h c.args.rect.now c.rect.view_is c.rect.invariant.column_in_plane c.rect.invariant.row_in_plane)

@@ -7,6 +7,6 @@ loop-feed-preserved c =
     let text = c.args.text.now.items in
     let feeds = replicate c.loop-feed._feed 10 in
     c.in_ok-push.ensures.items
-    ∙ ap (λ (front : List ℕ). front ++ 10 ∷ []) c.loop-feed.invariant
+    ∙ ap (λ (prefix : List ℕ). prefix ++ 10 ∷ []) c.loop-feed.invariant
     ∙ append_assoc text feeds (10 ∷ [])
     ∙ ap (λ (rest : List ℕ). text ++ rest) (replicate-append-replicate c.loop-feed._feed 1 10)

@@ -21,5 +21,5 @@ returns-in_ok-put_fields-in-Copy-clause-text c =
     rw c.in-Copy.is
     (on_ok_weaker c.put_fields-in-Copy-2.result
     (λ (put : c.put_fields-in-Copy-2.new.text.items ≡ c.put_fields-in-Copy.new.text.items ++ spaced moved).
-    put ∙ ap (λ (front : List ℕ). front ++ spaced moved) c.in_ok-put_fields-in-Copy.ensures.text ∙ spaced_put text names moved)
+    put ∙ ap (λ (prefix : List ℕ). prefix ++ spaced moved) c.in_ok-put_fields-in-Copy.ensures.text ∙ spaced_put text names moved)
     second)

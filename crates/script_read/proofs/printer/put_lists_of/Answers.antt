@@ -15,6 +15,6 @@ returns-in_ok-put_operation-in-Node-clause-text c =
     (λ (put : c.put_names.new.text.items ≡ c.put_operation.new.text.items ++ spaced c.as_slice-in-Node.result.now).
     put
     ∙ ap (λ (names : List (List ℕ)). c.put_operation.new.text.items ++ spaced names) c.as_slice-in-Node.ensures
-    ∙ ap (λ (front : List ℕ). front ++ spaced inputs) c.in_ok-put_operation-in-Node.ensures.text
+    ∙ ap (λ (prefix : List ℕ). prefix ++ spaced inputs) c.in_ok-put_operation-in-Node.ensures.text
     ∙ spaced_put text op inputs)
     c.put_names.ensures.text)

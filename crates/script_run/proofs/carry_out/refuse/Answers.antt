@@ -1,13 +1,13 @@
 use Rattle.std.proofs.Common.{◌≡◌, ◌∙◌}
-use Rattle.run_events.specs.Texts.{refusal_text}
-use Rattle.script_run.proofs.Leaving.{Leaves-same_text, Leaves-same_end, Leaves-told, Leaves-refused, HasCause-same_end, refused_cause, none_falls}
+use Rattle.run_texts.specs.Texts.{refusal_text}
+use Rattle.script_run.proofs.Leaving.{Leaves-same_text, Leaves-same_end, Leaves-exposed, Leaves-refused, HasCause-same_end, refused_cause, none_falls}
 use Rattle.script_run.proofs.carry_out.refuse.Goals as goal
 
 pub returns-in_err-put-clause-leaves : goal.returns-in_err-put-clause-leaves
 returns-in_err-put-clause-leaves g c = λ files.
     let text : c.deref.result.now ≡ refusal_text c.args.line c.args.cause = c.deref.ensures ∙ c.in_ok-text.ensures in
     Leaves-same_end _ _ _ _ _ c.from_residual-in_err-put.ensures.1
-    (Leaves-told _ _ _ _ _ (Leaves-same_text _ _ _ _ _ text (c.in_err-put.ensures.leaves files)))
+    (Leaves-exposed _ _ _ _ _ (Leaves-same_text _ _ _ _ _ text (c.in_err-put.ensures.leaves files)))
 
 pub returns-in_err-put-clause-cause : goal.returns-in_err-put-clause-cause
 returns-in_err-put-clause-cause g c = λ reads writes.

@@ -1,7 +1,7 @@
 use Rattle.std.proofs.Common.{◌≡◌, ◌∙◌, [], ◌∷◌, length, ap, rules}
-use Rattle.images.specs.Raw.{raw}
-use Rattle.run_events.specs.Texts.{render_text}
-use Rattle.run_events.specs.Events.{Writes, Puts, events_alone}
+use Rattle.model_images.specs.Raw.{raw}
+use Rattle.run_texts.specs.Texts.{render_text}
+use Rattle.run_texts.specs.Events.{Writes, Puts, events_alone}
 use Rattle.script_run.proofs.Leaving.{Leaves-same_end, Leaves-first, Leaves-then, Leaves-same_bytes, Leaves-same_text, HasCause-same_end, HasCause-then, none_falls}
 use Rattle.script_run.proofs.carry_out.render.Goals as goal
 
@@ -23,7 +23,7 @@ returns-clause-leaves g c =
     let count : c.len.result ≡ length image = search rules in
     Leaves-then (Writes c.args.file.now image ∷ []) (events_alone (Puts (render_text c.args.line 1 (length image)) ∷ [])) _ _ _ _
     ((Leaves-same_bytes _ _ _ _ _ _ bytes (c.in_ok-write.ensures.leaves _)).whole tt)
-    (Leaves-same_text _ _ _ _ _ (ap (render_text c.args.line 1) count) (c.tell_render.ensures.leaves _))
+    (Leaves-same_text _ _ _ _ _ (ap (render_text c.args.line 1) count) (c.report_render.ensures.leaves _))
 
 pub returns-clause-cause : goal.returns-clause-cause
-returns-clause-cause g c = HasCause-then _ _ _ _ (none_falls (c.in_ok-write.ensures.cause _)) (c.tell_render.ensures.cause _ _)
+returns-clause-cause g c = HasCause-then _ _ _ _ (none_falls (c.in_ok-write.ensures.cause _)) (c.report_render.ensures.cause _ _)

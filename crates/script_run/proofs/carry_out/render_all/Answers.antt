@@ -15,11 +15,11 @@ loop-step-preserved g c =
     let at : drop i steps ≡ x ∷ drop (i + 1) steps =
     drop_more steps i x below ∙ ap (λ (y : NumberedStep). y ∷ drop (i + 1) steps) (sym c.step-item.is) in
     record {
-      leaves = λ result new left.
+      leaves = λ result new first_column.
           c.loop-step.invariant.leaves result new
           (rw at
           (Leaves-then (render_events x.number image x.step) (renders_outcome image (drop (i + 1) steps)) result _ _ new
-          (c.in_ok-render_line.ensures.leaves.whole tt) left));
+          (c.in_ok-render_line.ensures.leaves.whole tt) first_column));
       falls = falls_then _ _ _ c.loop-step.invariant.falls (none_falls c.in_ok-render_line.ensures.cause);
     }
 

@@ -1,5 +1,5 @@
 use Rattle.std.proofs.Common.{drop, Result}
-use Rattle.run_events.specs.World.{World}
+use Rattle.run_texts.specs.World.{World}
 use Rattle.script_run.specs.declared.status.End.{End}
 use Rattle.script_run.specs.Ending.{Leaves, NoneFalls}
 use Rattle.script_run.specs.Rendering.{renders_outcome}

@@ -1,12 +1,12 @@
 use Rattle.std.proofs.Common.{◌+◌, ◌*◌, ◌≡◌, refl, arith, ◌∙◌, length}
 use Rattle.std.proofs.lemmas.Slice.{take-put_mid}
 use Rattle.std.proofs.lemmas.List.{length-take, length-drop}
-use Rattle.swap_store.proofs.Told.{told_always, read-more}
+use Rattle.swap_store.proofs.Exposed.{exposed_always, read-more}
 use Rattle.swap_store.proofs.extents.read_extent.Goals as goal
 
 pub loop-k-init : goal.loop-k-init
 loop-k-init g c = record {
-  read = told_always _ _ (λ blocks. refl);
+  read = exposed_always _ _ (λ blocks. refl);
   blocks = refl;
   later = omega arith;
   block_count = refl;

@@ -1,11 +1,11 @@
 use Rattle.std.proofs.Common.{Ok, ◌+◌, ◌/◌, refl, arith, ◌∙◌, length}
-use Rattle.swap_store.proofs.Told.{stands-same, stands-written, stands-refused, stands-wider, stands-trans, written-more, told_always, next_part}
+use Rattle.swap_store.proofs.Exposed.{unchanged-same, unchanged-written, unchanged-refused, unchanged-wider, unchanged-trans, written-more, exposed_always, next_part}
 use Rattle.swap_store.proofs.extents.write_whole_blocks.Goals as goal
 
 pub loop-k-init : goal.loop-k-init
 loop-k-init g c = record {
-  others = stands-same c.args.first 0 (g.D.SwapDisk.blocks c.args.disk.now);
-  written = told_always _ _ (λ blocks. refl);
+  others = unchanged-same c.args.first 0 (g.D.SwapDisk.blocks c.args.disk.now);
+  written = exposed_always _ _ (λ blocks. refl);
   later = omega arith;
   block_count = refl;
   loans = refl;
@@ -15,10 +15,10 @@ pub returns-in_err-write_block-clause-others : goal.returns-in_err-write_block-c
 returns-in_err-write_block-clause-others g c =
     let first = c.args.first in
     let k = c.loop-k.k in
-    stands-trans first (length c.args.bytes.now / 4096) _ _ _
-    (stands-wider first k first (length c.args.bytes.now / 4096) _ _ (omega arith) (omega (arith, c.loop-k-test.true)) c.loop-k.invariant.others)
-    (stands-wider (first + k) 1 first (length c.args.bytes.now / 4096) _ _ (omega arith) (omega (arith, c.loop-k-test.true))
-    (stands-refused _ _ (first + k) c.in_err-write_block.ensures.leaves))
+    unchanged-trans first (length c.args.bytes.now / 4096) _ _ _
+    (unchanged-wider first k first (length c.args.bytes.now / 4096) _ _ (omega arith) (omega (arith, c.loop-k-test.true)) c.loop-k.invariant.others)
+    (unchanged-wider (first + k) 1 first (length c.args.bytes.now / 4096) _ _ (omega arith) (omega (arith, c.loop-k-test.true))
+    (unchanged-refused _ _ (first + k) c.in_err-write_block.ensures.leaves))
 
 pub loop-k-preserved : goal.loop-k-preserved
 loop-k-preserved g c =
@@ -26,12 +26,12 @@ loop-k-preserved g c =
     let k = c.loop-k.k in
     let was = c.loop-k.invariant in
     record {
-      others = stands-trans first (k + 1) _ _ _
-          (stands-wider first k first (k + 1) _ _ (omega arith) (omega arith) was.others)
-          (stands-wider (first + k) 1 first (k + 1) _ _ (omega arith) (omega arith)
-          (stands-written _ _ (first + k) _ (Ok tt) c.in_ok-write_block.ensures.leaves));
+      others = unchanged-trans first (k + 1) _ _ _
+          (unchanged-wider first k first (k + 1) _ _ (omega arith) (omega arith) was.others)
+          (unchanged-wider (first + k) 1 first (k + 1) _ _ (omega arith) (omega arith)
+          (unchanged-written _ _ (first + k) _ (Ok tt) c.in_ok-write_block.ensures.leaves));
       written = written-more _ _ first k (g.D.SwapDisk.block_count c.loop-k.disk) _ _ _ c.in_ok-write_block.ensures.leaves
-          (g.met.D.SwapDisk.tells_all c.loop-k.disk) (omega (arith, was.block_count))
+          (g.met.D.SwapDisk.exposes_all c.loop-k.disk) (omega (arith, was.block_count))
           (next_part k _ _ c.args.bytes.now (omega arith) (omega arith)) was.written;
       later = omega (arith, was.later, c.in_ok-write_block.ensures.later);
       block_count = c.in_ok-write_block.ensures.block_count ∙ was.block_count;

@@ -22,7 +22,7 @@ overflow_add-count c =
     let xs = c.args.runs.now.items in
     let g : Gap (2 ^ 20) xs c.runs_before-at.result c.args.first c.args.count =
     gap_of_slice (2 ^ 20) xs _ _ _ _ c.deref.ensures.value c.runs_before-at.ensures.within c.requires.given c.requires.bound c.requires.list
-    c.runs_before-at.ensures.before c.runs_before-at.ensures.behind c.requires.apart in
+    c.runs_before-at.ensures.before c.runs_before-at.ensures.following c.requires.apart in
     omega (arith, sum_with_right (2 ^ 20) xs _ _ _ c.index-right.result.now g (yes_begin xs _ _ _ c.deref-3.ensures.value c.in-false-true.ensures') c.index-right.ensures)
 
 pub overflow_add-left-in-true-true : goal.overflow_add-left-in-true-true
@@ -30,7 +30,7 @@ overflow_add-left-in-true-true c =
     let xs = c.args.runs.now.items in
     let g : Gap (2 ^ 20) xs c.runs_before-at.result c.args.first c.args.count =
     gap_of_slice (2 ^ 20) xs _ _ _ _ c.deref.ensures.value c.runs_before-at.ensures.within c.requires.given c.requires.bound c.requires.list
-    c.runs_before-at.ensures.before c.runs_before-at.ensures.behind c.requires.apart in
+    c.runs_before-at.ensures.before c.runs_before-at.ensures.following c.requires.apart in
     omega (
       arith,
       sum_with_right (2 ^ 20) xs _ _ _ c.remove-right.result g (yes_begin xs _ _ _ c.deref-3.ensures.value c.in-true-true.ensures') c.remove-right.ensures.value,
@@ -42,7 +42,7 @@ returns-in-true-true-clause-list c =
     let xs = c.args.runs.now.items in
     let g : Gap (2 ^ 20) xs c.runs_before-at.result c.args.first c.args.count =
     gap_of_slice (2 ^ 20) xs _ _ _ _ c.deref.ensures.value c.runs_before-at.ensures.within c.requires.given c.requires.bound c.requires.list
-    c.runs_before-at.ensures.before c.runs_before-at.ensures.behind c.requires.apart in
+    c.runs_before-at.ensures.before c.runs_before-at.ensures.following c.requires.apart in
     rw c.remove-right.ensures.items
     (given_to_both (2 ^ 20) xs _ _ _ c.index-left.result.now c.remove-right.result g (yes_end xs _ _ _ c.deref-2.ensures.value c.in-true-true.ensures) (yes_begin xs _ _ _ c.deref-3.ensures.value c.in-true-true.ensures')
     c.index-left.ensures c.remove-right.ensures.value).list
@@ -52,7 +52,7 @@ returns-in-true-false-clause-list c =
     let xs = c.args.runs.now.items in
     let g : Gap (2 ^ 20) xs c.runs_before-at.result c.args.first c.args.count =
     gap_of_slice (2 ^ 20) xs _ _ _ _ c.deref.ensures.value c.runs_before-at.ensures.within c.requires.given c.requires.bound c.requires.list
-    c.runs_before-at.ensures.before c.runs_before-at.ensures.behind c.requires.apart in
+    c.runs_before-at.ensures.before c.runs_before-at.ensures.following c.requires.apart in
     (given_to_left (2 ^ 20) xs _ _ _ c.index-left-in-true-false.result.now g (yes_end xs _ _ _ c.deref-2.ensures.value c.in-true-false.ensures) (no_begin xs _ _ _ c.deref-3.ensures.value c.in-true-false.ensures')
     c.index-left-in-true-false.ensures).list
 
@@ -61,7 +61,7 @@ returns-in-false-true-clause-list c =
     let xs = c.args.runs.now.items in
     let g : Gap (2 ^ 20) xs c.runs_before-at.result c.args.first c.args.count =
     gap_of_slice (2 ^ 20) xs _ _ _ _ c.deref.ensures.value c.runs_before-at.ensures.within c.requires.given c.requires.bound c.requires.list
-    c.runs_before-at.ensures.before c.runs_before-at.ensures.behind c.requires.apart in
+    c.runs_before-at.ensures.before c.runs_before-at.ensures.following c.requires.apart in
     (given_to_right (2 ^ 20) xs _ _ _ c.index-right.result.now g (no_end xs _ _ _ c.deref-2.ensures.value c.in-false-true.ensures) (yes_begin xs _ _ _ c.deref-3.ensures.value c.in-false-true.ensures')
     c.index-right.ensures).list
 
@@ -70,7 +70,7 @@ returns-in-false-false-clause-list c =
     let xs = c.args.runs.now.items in
     let g : Gap (2 ^ 20) xs c.runs_before-at.result c.args.first c.args.count =
     gap_of_slice (2 ^ 20) xs _ _ _ _ c.deref.ensures.value c.runs_before-at.ensures.within c.requires.given c.requires.bound c.requires.list
-    c.runs_before-at.ensures.before c.runs_before-at.ensures.behind c.requires.apart in
+    c.runs_before-at.ensures.before c.runs_before-at.ensures.following c.requires.apart in
     let now : c.insert.new.self.items ≡ insert xs c.runs_before-at.result (record { first = c.args.first; count = c.args.count }) = search rules in
     rw now (inserted (2 ^ 20) xs _ _ _ g (no_end xs _ _ _ c.deref-2.ensures.value c.in-false-false.ensures) (no_begin xs _ _ _ c.deref-3.ensures.value c.in-false-false.ensures')).list
 
@@ -79,7 +79,7 @@ returns-in-true-true-clause-blocks c =
     let xs = c.args.runs.now.items in
     let g : Gap (2 ^ 20) xs c.runs_before-at.result c.args.first c.args.count =
     gap_of_slice (2 ^ 20) xs _ _ _ _ c.deref.ensures.value c.runs_before-at.ensures.within c.requires.given c.requires.bound c.requires.list
-    c.runs_before-at.ensures.before c.runs_before-at.ensures.behind c.requires.apart in
+    c.runs_before-at.ensures.before c.runs_before-at.ensures.following c.requires.apart in
     rw c.remove-right.ensures.items
     (given_to_both (2 ^ 20) xs _ _ _ c.index-left.result.now c.remove-right.result g (yes_end xs _ _ _ c.deref-2.ensures.value c.in-true-true.ensures) (yes_begin xs _ _ _ c.deref-3.ensures.value c.in-true-true.ensures')
     c.index-left.ensures c.remove-right.ensures.value).blocks
@@ -89,7 +89,7 @@ returns-in-true-false-clause-blocks c =
     let xs = c.args.runs.now.items in
     let g : Gap (2 ^ 20) xs c.runs_before-at.result c.args.first c.args.count =
     gap_of_slice (2 ^ 20) xs _ _ _ _ c.deref.ensures.value c.runs_before-at.ensures.within c.requires.given c.requires.bound c.requires.list
-    c.runs_before-at.ensures.before c.runs_before-at.ensures.behind c.requires.apart in
+    c.runs_before-at.ensures.before c.runs_before-at.ensures.following c.requires.apart in
     (given_to_left (2 ^ 20) xs _ _ _ c.index-left-in-true-false.result.now g (yes_end xs _ _ _ c.deref-2.ensures.value c.in-true-false.ensures) (no_begin xs _ _ _ c.deref-3.ensures.value c.in-true-false.ensures')
     c.index-left-in-true-false.ensures).blocks
 
@@ -98,7 +98,7 @@ returns-in-false-true-clause-blocks c =
     let xs = c.args.runs.now.items in
     let g : Gap (2 ^ 20) xs c.runs_before-at.result c.args.first c.args.count =
     gap_of_slice (2 ^ 20) xs _ _ _ _ c.deref.ensures.value c.runs_before-at.ensures.within c.requires.given c.requires.bound c.requires.list
-    c.runs_before-at.ensures.before c.runs_before-at.ensures.behind c.requires.apart in
+    c.runs_before-at.ensures.before c.runs_before-at.ensures.following c.requires.apart in
     (given_to_right (2 ^ 20) xs _ _ _ c.index-right.result.now g (no_end xs _ _ _ c.deref-2.ensures.value c.in-false-true.ensures) (yes_begin xs _ _ _ c.deref-3.ensures.value c.in-false-true.ensures')
     c.index-right.ensures).blocks
 
@@ -107,6 +107,6 @@ returns-in-false-false-clause-blocks c =
     let xs = c.args.runs.now.items in
     let g : Gap (2 ^ 20) xs c.runs_before-at.result c.args.first c.args.count =
     gap_of_slice (2 ^ 20) xs _ _ _ _ c.deref.ensures.value c.runs_before-at.ensures.within c.requires.given c.requires.bound c.requires.list
-    c.runs_before-at.ensures.before c.runs_before-at.ensures.behind c.requires.apart in
+    c.runs_before-at.ensures.before c.runs_before-at.ensures.following c.requires.apart in
     let now : c.insert.new.self.items ≡ insert xs c.runs_before-at.result (record { first = c.args.first; count = c.args.count }) = search rules in
     rw now (inserted (2 ^ 20) xs _ _ _ g (no_end xs _ _ _ c.deref-2.ensures.value c.in-false-false.ensures) (no_begin xs _ _ _ c.deref-3.ensures.value c.in-false-false.ensures')).blocks

@@ -9,7 +9,7 @@ returns-clause-before c = λ k d lt.
     let parts = IsPartitionPoint-from_clause (λ run. ltb run.first c.args.block) _ _ c.partition_point.ensures.partitioned (begins_before_parts (2 ^ 20) _ _ c.requires) (λ a r f called. search (rules, tests)) in
     ltb-true _ _ (parts.0 k d (omega arith) lt)
 
-pub returns-clause-behind : goal.returns-clause-behind
-returns-clause-behind c = λ k d le lt.
+pub returns-clause-following : goal.returns-clause-following
+returns-clause-following c = λ k d le lt.
     let parts = IsPartitionPoint-from_clause (λ run. ltb run.first c.args.block) _ _ c.partition_point.ensures.partitioned (begins_before_parts (2 ^ 20) _ _ c.requires) (λ a r f called. search (rules, tests)) in
     ltb-false _ _ (parts.1 k d le lt)

@@ -1,13 +1,13 @@
 use Rattle.std.proofs.Common.{◌≡◌, ℕ, ◌*◌, length, sym, ap, ◌∙◌, subst, arith}
 use Rattle.plane_rect.specs.Rectangle.{Rectangle, Includes, area, offset}
-use Rattle.sample_rows.specs.Format.{pixel_bytes}
-use Rattle.images.specs.Image.{Image, at, drawn}
-use Rattle.images.specs.Spelled.{spelled}
+use Rattle.pixel_formats.specs.Format.{pixel_bytes}
+use Rattle.model_images.specs.Image.{Image, at, image_from_fn}
+use Rattle.model_images.specs.FromRaw.{image_from_raw}
 use Rattle.patch_abyss.specs.Copied.{AreRows, HaveRoom}
 use Rattle.patch_abyss.proofs.CopiedRows.{rows_have_room}
-use Rattle.patch_abyss.proofs.DrawnRows.{RowsDrawn-all, RowsDrawn-by_pixels}
+use Rattle.patch_abyss.proofs.FilledRows.{RowsFilled-all, RowsFilled-by_pixels}
 use Rattle.patch_abyss.proofs.RowPixels.{part_pixels}
-use Rattle.patch_abyss.proofs.TilesOfPatches.{some_places}
+use Rattle.patch_abyss.proofs.TilesOfPatches.{some_positions}
 use Rattle.patch_abyss.proofs.patch.Patch.cut.Goals as goal
 
 pub of_part-rows-requires-clause-part : goal.of_part-rows-requires-clause-part
@@ -18,7 +18,7 @@ cut_rows-requires-clause-from c =
     let patch = c.self.inside in
     let part = c.args.part in
     let p = c.pixel_bytes-pixel.result in
-    let some = some_places part c.requires.some in
+    let some = some_positions part c.requires.some in
     let inside : Includes patch.rect part = subst (λ (image : Image). Includes image.box part) (sym c.self.view_is) c.requires.part in
     let count : c.part.inside.w * p ≡ part.width * p = ap (λ (r : Rectangle). r.width * p) c.part.view_is in
     subst (λ (m : ℕ). HaveRoom c.of_part-rows.result (c.part.inside.w * p) m c.deref.result.now) (ap (λ (r : Rectangle). r.height) (sym c.part.view_is))
@@ -42,17 +42,17 @@ returns c =
     let p = c.pixel_bytes-pixel.result in
     let n = pixel_bytes patch.format in
     let pixel : p ≡ n = c.pixel_bytes-pixel.ensures in
-    let image = spelled patch.rect patch.format patch.bytes.items in
+    let image = image_from_raw patch.rect patch.format patch.bytes.items in
     let bytes = c.in_ok-bytes.bytes.items in
     let rows = c.of_part-rows.result in
     let inside : Includes patch.rect part = subst (λ (image : Image). Includes image.box part) (sym c.self.view_is) c.requires.part in
     let count : c.part.inside.w * p ≡ part.width * n = ap (λ (r : Rectangle). r.width * p) c.part.view_is ∙ ap (λ (m : ℕ). part.width * m) pixel in
     let high : c.part.inside.h ≡ part.height = ap (λ (r : Rectangle). r.height) c.part.view_is in
     let cut : AreRows rows (c.part.inside.w * p) part.height patch.bytes.items bytes = rw (high, c.deref.ensures.value) at c.in_ok-bytes.ensures in
-    subst (λ (shown : Image). c.from_bytes.result ≡ drawn part shown.format (at shown)) c.self.view_is
+    subst (λ (shown : Image). c.from_bytes.result ≡ image_from_fn part shown.format (at shown)) c.self.view_is
     (c.from_bytes.ensures
-    ∙ RowsDrawn-all part patch.format (at image) bytes
-    (RowsDrawn-by_pixels part patch.format (at image) part.height bytes
+    ∙ RowsFilled-all part patch.format (at image) bytes
+    (RowsFilled-by_pixels part patch.format (at image) part.height bytes
     (part_pixels patch.rect part patch.format rows (c.part.inside.w * p) patch.bytes.items bytes inside
-    (c.of_part-rows.ensures.start ∙ ap (λ (m : ℕ). offset patch.rect part.left part.top * m) pixel)
+    (c.of_part-rows.ensures.start ∙ ap (λ (m : ℕ). offset patch.rect part.first_column part.first_row * m) pixel)
     (c.of_part-rows.ensures.stride ∙ ap (λ (m : ℕ). patch.rect.width * m) pixel) count cut)))

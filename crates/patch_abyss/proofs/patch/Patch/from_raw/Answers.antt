@@ -1,7 +1,7 @@
 use Rattle.std.proofs.Common.{◌≡◌, ◌∙◌, ap, rules, length}
-use Rattle.images.specs.Raw.{raw}
-use Rattle.images.specs.Spelled.{byte_count, spelled}
-use Rattle.images.proofs.Spelling.{raw-spelled, are_bytes}
+use Rattle.model_images.specs.Raw.{raw}
+use Rattle.model_images.specs.FromRaw.{byte_count, image_from_raw}
+use Rattle.model_images.proofs.FromRawLaws.{raw-image_from_raw, are_bytes}
 use Rattle.patch_abyss.proofs.patch.Patch.from_raw.Goals as goal
 
 pub returns-clause-raw : goal.returns-clause-raw
@@ -9,5 +9,5 @@ returns-clause-raw c =
     let bytes = c.args.bytes.now in
     let copied : c.in_ok-from_slice.field-0.items ≡ bytes = search rules in
     let whole : length bytes ≡ byte_count c.args.rect c.args.format = search rules in
-    ap (λ bytes. raw (spelled c.args.rect c.args.format bytes) c.args.rect) copied
-    ∙ raw-spelled c.args.rect c.args.format bytes (are_bytes bytes c.type_inv.bytes) whole
+    ap (λ bytes. raw (image_from_raw c.args.rect c.args.format bytes) c.args.rect) copied
+    ∙ raw-image_from_raw c.args.rect c.args.format bytes (are_bytes bytes c.type_inv.bytes) whole

@@ -1,9 +1,9 @@
 use Rattle.std.proofs.Common.{◌≡◌, ◌∙◌, sym, ap, rules, length, subst}
 use Rattle.std.proofs.lemmas.List.{with_items_is}
 use Rattle.plane_rect.specs.Rectangle.{meet}
-use Rattle.plane_rect.proofs.Rectangles.{Lies-meet}
-use Rattle.sample_rows.specs.Format.{pixel_bytes}
-use Rattle.images.specs.Spelled.{spelled, AreBytes}
+use Rattle.plane_rect.proofs.Rectangles.{Inside-meet}
+use Rattle.pixel_formats.specs.Format.{pixel_bytes}
+use Rattle.model_images.specs.FromRaw.{image_from_raw, AreBytes}
 use Rattle.patch_abyss.specs.Copied.{HasPart}
 use Rattle.patch_abyss.proofs.Parts.{blitted}
 use Rattle.patch_abyss.proofs.patch.Patch.lay.Goals as goal
@@ -18,9 +18,9 @@ returns c =
     let has : HasPart to.rect rect (meet to.rect rect) (pixel_bytes to.format) bytes to.bytes.items new =
     rw (c.pixel_bytes-pixel.ensures, c.deref_mut.ensures.value) at c.copy_meet.ensures.part in
     rw (← c.self.view_is)
-    (ap (spelled to.rect to.format) (with_items_is to.bytes new fits)
+    (ap (image_from_raw to.rect to.format) (with_items_is to.bytes new fits)
     ∙ blitted to.rect rect (meet to.rect rect) to.format bytes to.bytes.items new
-    (λ u v p q. (Lies-meet u v to.rect rect).1 (p, q)) (λ u v h. ((Lies-meet u v to.rect rect).0 h).1) has)
+    (λ u v p q. (Inside-meet u v to.rect rect).1 (p, q)) (λ u v h. ((Inside-meet u v to.rect rect).0 h).1) has)
 
 pub invariant_of-self : goal.invariant_of-self
 invariant_of-self c =

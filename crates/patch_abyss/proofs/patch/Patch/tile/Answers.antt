@@ -1,12 +1,12 @@
 use Rattle.std.proofs.Common.{◌≡◌, ◌*◌, ◌∙◌, ap, arith, rules, length, replicate}
 use Rattle.plane_rect.specs.Rectangle.{empty}
 use Rattle.plane_rect.specs.Tile.{tile_square}
-use Rattle.sample_rows.specs.Format.{pixel_bytes}
-use Rattle.images.specs.Image.{Image}
-use Rattle.images.specs.Raw.{raw}
-use Rattle.abyss_levels.specs.Abyss.{tile_bytes}
-use Rattle.images.specs.Spelled.{spelled, byte_count}
-use Rattle.patch_abyss.proofs.TilesOfPatches.{no_tile_place, zero_tile, some_places, whole_tile, few_bytes, raw-part}
+use Rattle.pixel_formats.specs.Format.{pixel_bytes}
+use Rattle.model_images.specs.Image.{Image}
+use Rattle.model_images.specs.Raw.{raw}
+use Rattle.model_images.specs.Abyss.{tile_bytes}
+use Rattle.model_images.specs.FromRaw.{image_from_raw, byte_count}
+use Rattle.patch_abyss.proofs.TilesOfPatches.{no_tile_pixel, zero_tile, some_positions, whole_tile, few_bytes, raw-part}
 use Rattle.patch_abyss.proofs.patch.Patch.tile.Goals as goal
 
 pub returns-then-is_empty : goal.returns-then-is_empty
@@ -14,21 +14,21 @@ returns-then-is_empty c =
     let to = c.self.inside in
     let h = c.if-is_empty.ensures.empty in
     let none : c.rect-rect.result ≡ empty = search rules in
-    let zeros : tile_bytes (spelled to.rect to.format to.bytes.items) c.args.at ≡ replicate (4096 * pixel_bytes to.format) 0 =
-    zero_tile (spelled to.rect to.format to.bytes.items) c.args.at
-    (no_tile_place c.rect-rect.result to.rect c.args.at c.rect-rect.ensures.places none c.self.invariant.rectangle) in
+    let zeros : tile_bytes (image_from_raw to.rect to.format to.bytes.items) c.args.at ≡ replicate (4096 * pixel_bytes to.format) 0 =
+    zero_tile (image_from_raw to.rect to.format to.bytes.items) c.args.at
+    (no_tile_pixel c.rect-rect.result to.rect c.args.at c.rect-rect.ensures.positions none c.self.invariant.rectangle) in
     rw (← c.self.view_is) (rw zeros (rw c.pixel_bytes.ensures at c.zero.ensures))
 
 pub part-requires : goal.part-requires
 part-requires c =
-    let some = some_places c.rect-rect.result c.if-is_empty.ensures.value in
-    let square : c.rect-rect.result ≡ tile_square c.args.at = c.rect-rect.ensures.whole (whole_tile c.rect-rect.result c.args.at c.rect-rect.ensures.places some.0 some.1) in
+    let some = some_positions c.rect-rect.result c.if-is_empty.ensures.value in
+    let square : c.rect-rect.result ≡ tile_square c.args.at = c.rect-rect.ensures.whole (whole_tile c.rect-rect.result c.args.at c.rect-rect.ensures.positions some.0 some.1) in
     rw square (omega arith, omega arith, omega arith)
 
 pub from_vec-requires : goal.from_vec-requires
 from_vec-requires c =
-    let some = some_places c.rect-rect.result c.if-is_empty.ensures.value in
-    let square : c.rect-rect.result ≡ tile_square c.args.at = c.rect-rect.ensures.whole (whole_tile c.rect-rect.result c.args.at c.rect-rect.ensures.places some.0 some.1) in
+    let some = some_positions c.rect-rect.result c.if-is_empty.ensures.value in
+    let square : c.rect-rect.result ≡ tile_square c.args.at = c.rect-rect.ensures.whole (whole_tile c.rect-rect.result c.args.at c.rect-rect.ensures.positions some.0 some.1) in
     let few = few_bytes c.args.self.now.format in
     let count : length c.into_raw.result.items ≡ 4096 * pixel_bytes c.args.self.now.format =
     c.into_raw.ensures.count ∙ ap (λ (image : Image). byte_count image.box image.format) c.in_ok-part.ensures
@@ -37,8 +37,8 @@ from_vec-requires c =
 
 pub returns : goal.returns
 returns c =
-    let some = some_places c.rect-rect.result c.if-is_empty.ensures.value in
-    let square : c.rect-rect.result ≡ tile_square c.args.at = c.rect-rect.ensures.whole (whole_tile c.rect-rect.result c.args.at c.rect-rect.ensures.places some.0 some.1) in
+    let some = some_positions c.rect-rect.result c.if-is_empty.ensures.value in
+    let square : c.rect-rect.result ≡ tile_square c.args.at = c.rect-rect.ensures.whole (whole_tile c.rect-rect.result c.args.at c.rect-rect.ensures.positions some.0 some.1) in
     let image = c.args.self.now in
     let bytes : c.into_raw.result.items ≡ tile_bytes image c.args.at =
     c.into_raw.ensures.value ∙ ap (λ (image : Image). raw image image.box) c.in_ok-part.ensures

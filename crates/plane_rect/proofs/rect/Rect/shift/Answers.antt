@@ -12,8 +12,8 @@ returns-clause-value c =
     let r = c.args.self.now in
     let dx : to_z w64 (of_z w64 c.args.dx) ≡ c.args.dx = omega (arith, ints) in
     let dy : to_z w64 (of_z w64 c.args.dy) ≡ c.args.dy = omega (arith, ints) in
-    let x : to_z w64 (of_z w64 c.corner-x.result.0) ≡ plane_coordinate r.left = omega (arith, ints) in
-    let y : to_z w64 (of_z w64 c.corner-x.result.1) ≡ plane_coordinate r.top = omega (arith, ints) in
+    let x : to_z w64 (of_z w64 c.corner-x.result.0) ≡ plane_coordinate r.first_column = omega (arith, ints) in
+    let y : to_z w64 (of_z w64 c.corner-x.result.1) ≡ plane_coordinate r.first_row = omega (arith, ints) in
     let a = rw (x, dx) at c.saturating_add.ensures in
     let b = rw (y, dy) at c.saturating_add-2.ensures in
     let to_a : to_z w64 (of_z w64 c.saturating_add.result) ≡ c.saturating_add.result = omega (arith, ints) in
@@ -25,11 +25,11 @@ returns-clause-value c =
     let v = rw (to_a, a, to_b, b, w, h) at c.new.ensures.value in
     v ∙ shifted-saturated c.args.dx c.args.dy r (some c)
 
-pub returns-clause-place : goal.returns-clause-place
-returns-clause-place c = shifted-refuses_place c.args.dx c.args.dy c.args.self.now (some c) c.new.result (returns-clause-value c)
+pub returns-clause-position : goal.returns-clause-position
+returns-clause-position c = shifted-refuses_place c.args.dx c.args.dy c.args.self.now (some c) c.new.result (returns-clause-value c)
 
 pub returns-clause-size : goal.returns-clause-size
 returns-clause-size c = shifted-refuses_size c.args.dx c.args.dy c.args.self.now (some c) c.new.result (returns-clause-value c)
 
-pub returns-clause-places : goal.returns-clause-places
-returns-clause-places c = shifted-moves c.args.dx c.args.dy c.args.self.now (some c) c.new.result (returns-clause-value c)
+pub returns-clause-positions : goal.returns-clause-positions
+returns-clause-positions c = shifted-moves c.args.dx c.args.dy c.args.self.now (some c) c.new.result (returns-clause-value c)

@@ -1,6 +1,6 @@
 use Rattle.std.proofs.Common.{◌≡◌, ◌+◌, set, get_or, ap, sym, arith, ◌∙◌, rules, filter, take, length}
 use Rattle.plane_rect.specs.declared.sets.Parts.{Parts}
-use Rattle.plane_rect.specs.Rectangle.{Rectangle, has_places}
+use Rattle.plane_rect.specs.Rectangle.{Rectangle, has_positions}
 use Rattle.plane_rect.specs.Parts.{parts_of}
 use Rattle.plane_rect.proofs.Gathered.{gathered_more, gathered_same, length-gathered}
 use Rattle.plane_rect.proofs.sets.Parts.gather.Goals as goal
@@ -8,7 +8,7 @@ use Rattle.plane_rect.proofs.sets.Parts.gather.Goals.{then-not-is_empty, else-no
 
 pub bounds-gathered-gathered : goal.bounds-gathered-gathered
 bounds-gathered-gathered c =
-    let count : c.loop-rectangle.gathered.count ≡ length (filter has_places (take c.loop-rectangle.rectangle-index c.args.rectangles)) = ap (λ (p : Parts). p.count) c.loop-rectangle.invariant in
+    let count : c.loop-rectangle.gathered.count ≡ length (filter has_positions (take c.loop-rectangle.rectangle-index c.args.rectangles)) = ap (λ (p : Parts). p.count) c.loop-rectangle.invariant in
     omega (arith, length-gathered c.args.rectangles c.loop-rectangle.rectangle-index)
 
 -- the parts with one more

@@ -16,16 +16,16 @@ returns-clause-extents c = λ d.
 
 pub invariant_of-self-2 : goal.invariant_of-self-2
 invariant_of-self-2 c = (
-  added c.self.inside.extents.entries c.insert.new.self.entries c.self.inside.free.items c.take_front.new.runs.items c.self.inside.used
+  added c.self.inside.extents.entries c.insert.new.self.entries c.self.inside.free.items c.take_first.new.runs.items c.self.inside.used
       c.args.name c.args.len c.args.index c.index.result.now c.self.invariant.0 c.in_ok-insert.ensures.updates.0
       (none_there _ (rw (← c.self.view_is) at c.requires.absent)) c.requires.size
       (rw (← c.self.view_is) at c.requires.known) c.index.ensures
-      (rw (← c.self.view_is) at c.requires.long) c.take_front.ensures.list
-      (rw (c.reserve.ensures.items, c.blocks_for-count.ensures) at c.take_front.ensures.blocks),
+      (rw (← c.self.view_is) at c.requires.long) c.take_first.ensures.list
+      (rw (c.reserve.ensures.items, c.blocks_for-count.ensures) at c.take_first.ensures.blocks),
   omega (
     arith,
-    c.take_front.ensures.shorter,
-    c.take_front.ensures.capacity,
+    c.take_first.ensures.shorter,
+    c.take_first.ensures.capacity,
     c.in_ok-reserve.ensures.ok,
     c.len.ensures.len,
     room_after_added _ _ _ c.in_ok-insert.ensures.len,

@@ -4,7 +4,7 @@ use Rattle.std.proofs.lemmas.List.{take_at, length-take-le}
 use Rattle.outside_io.specs.Swap.{Blocks}
 use Rattle.swap_store.specs.declared.block_map.Extent.{Extent}
 use Rattle.swap_store.specs.Content.{bytes_in}
-use Rattle.swap_store.proofs.Told.{told_weaker}
+use Rattle.swap_store.proofs.Exposed.{exposed_weaker}
 use Rattle.swap_store.proofs.Contents.{known_len, known_extent, content-get}
 use Rattle.swap_store.proofs.store.Store.get.Goals as goal
 
@@ -86,11 +86,11 @@ returns-clause-bytes g c =
     let same : c.deref.result.now ≡ into = c.deref.ensures.value ∙ take_at into _ _ (omega (arith, whole, c.self.invariant.1)) in
     let size : length (take c.args.len c.deref.result.now) ≡ c.args.len =
     length-take-le c.args.len c.deref.result.now (omega (arith, ap (λ (ys : List ℕ). length ys) same, whole, len, fits.0)) in
-    let told = g.D.SwapDisk.blocks c.self.inside.disk in
+    let exposed = g.D.SwapDisk.blocks c.self.inside.disk in
     let tile : c.in_ok-of.field-0 ≡ take c.args.len into = c.in_ok-of.ensures ∙ ap (take c.args.len) same in
     let R : Blocks → Type 0 = λ blocks. take c.args.len into ≡ bytes_in blocks (record { first = e.first; len = c.args.len }) in
     let B : Blocks → Type 0 = λ blocks. c.in_ok-of.field-0 ≡ bytes_in blocks e in
     rw (← c.self.view_is)
-    (content-get c.self.inside.map.extents c.args.name e c.in_ok-of.field-0 told known
-    (told_weaker told R B (λ blocks is. tile ∙ is ∙ ap (λ n. bytes_in blocks (record { first = e.first; len = n })) (sym len))
+    (content-get c.self.inside.map.extents c.args.name e c.in_ok-of.field-0 exposed known
+    (exposed_weaker exposed R B (λ blocks is. tile ∙ is ∙ ap (λ n. bytes_in blocks (record { first = e.first; len = n })) (sym len))
     c.in_ok-read_extent.ensures.read))

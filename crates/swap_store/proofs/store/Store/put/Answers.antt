@@ -4,10 +4,10 @@ use Rattle.swap_store.specs.declared.runs.Run.{Run}
 use Rattle.swap_store.specs.declared.block_map.Extent.{Extent}
 use Rattle.swap_store.specs.Run.{blocks_for, IsFirstFit}
 use Rattle.swap_store.specs.Placement.{Placement}
-use Rattle.swap_store.specs.Content.{content_of, StandsOutside}
+use Rattle.swap_store.specs.Content.{content_of, UnchangedOutside}
 use Rattle.swap_store.proofs.FoundRoom.{room-free, room-used, fit-longest}
 use Rattle.swap_store.proofs.PlacementLaws.{blocks_for-some}
-use Rattle.swap_store.proofs.Contents.{content-stands, content-put, map_values-insert, OnErr-always}
+use Rattle.swap_store.proofs.Contents.{content-unchanged, content-put, map_values-insert, OnErr-always}
 use Rattle.swap_store.proofs.store.Store.put.Goals as goal
 
 pub write_extent-requires-clause-known : goal.write_extent-requires-clause-known
@@ -38,13 +38,13 @@ returns-in_err-write_extent-clause-unchanged g c =
     let size : IsTileLength len = c.bytes-bytes.ensures.size in
     let fit : IsFirstFit p.free (blocks_for len) c.in_ok-index.index = rw c.bytes-bytes.ensures.value at c.in_ok-index.ensures.found in
     let first = (get_or p.free c.in_ok-index.index d).first in
-    let stands : StandsOutside first (blocks_for len) (g.D.SwapDisk.blocks c.self.inside.disk) (g.D.SwapDisk.blocks c.write_extent.new.disk) =
+    let unchanged : UnchangedOutside first (blocks_for len) (g.D.SwapDisk.blocks c.self.inside.disk) (g.D.SwapDisk.blocks c.write_extent.new.disk) =
     rw (c.free_runs.ensures.value, c.bytes-bytes.ensures.value) at c.write_extent.ensures.others in
     let free = room-free p c.free_runs.ensures.laws len c.in_ok-index.index d size fit in
     let same : content_of c.self.inside.map.extents (g.D.SwapDisk.blocks c.write_extent.new.disk)
     ≡ content_of c.args.self.now.placement.extents (g.D.SwapDisk.blocks c.args.self.now.disk) =
     rw (← c.self.view_is)
-    (content-stands p c.free_runs.ensures.laws first (blocks_for len) (blocks_for-some len size.0) free _ _ stands) in
+    (content-unchanged p c.free_runs.ensures.laws first (blocks_for len) (blocks_for-some len size.0) free _ _ unchanged) in
     OnErr-always _ _ same
 
 pub returns-in_err-add-clause-unchanged : goal.returns-in_err-add-clause-unchanged
@@ -55,13 +55,13 @@ returns-in_err-add-clause-unchanged g c =
     let size : IsTileLength len = c.bytes-bytes.ensures.size in
     let fit : IsFirstFit p.free (blocks_for len) c.in_ok-index.index = rw c.bytes-bytes.ensures.value at c.in_ok-index.ensures.found in
     let first = (get_or p.free c.in_ok-index.index d).first in
-    let stands : StandsOutside first (blocks_for len) (g.D.SwapDisk.blocks c.self.inside.disk) (g.D.SwapDisk.blocks c.write_extent.new.disk) =
+    let unchanged : UnchangedOutside first (blocks_for len) (g.D.SwapDisk.blocks c.self.inside.disk) (g.D.SwapDisk.blocks c.write_extent.new.disk) =
     rw (c.free_runs.ensures.value, c.bytes-bytes.ensures.value) at c.write_extent.ensures.others in
     let free = room-free p c.free_runs.ensures.laws len c.in_ok-index.index d size fit in
     let same : content_of c.add.new.self.extents (g.D.SwapDisk.blocks c.write_extent.new.disk)
     ≡ content_of c.args.self.now.placement.extents (g.D.SwapDisk.blocks c.args.self.now.disk) =
     rw (c.in_err-add.ensures.unchanged, ← c.self.view_is)
-    (content-stands p c.free_runs.ensures.laws first (blocks_for len) (blocks_for-some len size.0) free _ _ stands) in
+    (content-unchanged p c.free_runs.ensures.laws first (blocks_for len) (blocks_for-some len size.0) free _ _ unchanged) in
     OnErr-always _ _ same
 
 pub returns-in_err-write_extent-clause-full : goal.returns-in_err-write_extent-clause-full
@@ -99,12 +99,12 @@ returns-clause-kept g c =
     let size : IsTileLength len = c.bytes-bytes.ensures.size in
     let fit : IsFirstFit p.free (blocks_for len) c.in_ok-index.index = rw c.bytes-bytes.ensures.value at c.in_ok-index.ensures.found in
     let first = (get_or p.free c.in_ok-index.index d).first in
-    let stands : StandsOutside first (blocks_for len) (g.D.SwapDisk.blocks c.self.inside.disk) (g.D.SwapDisk.blocks c.write_extent.new.disk) =
+    let unchanged : UnchangedOutside first (blocks_for len) (g.D.SwapDisk.blocks c.self.inside.disk) (g.D.SwapDisk.blocks c.write_extent.new.disk) =
     rw (c.free_runs.ensures.value, c.bytes-bytes.ensures.value) at c.write_extent.ensures.others in
     let free = room-free p c.free_runs.ensures.laws len c.in_ok-index.index d size fit in
     let extents = rw c.bytes-bytes.ensures.value at c.in_ok-add.ensures.extents d in
     rw (extents, ← c.self.view_is)
-    (content-put p c.free_runs.ensures.laws c.args.name (record { first = first; len = len }) c.args.tile.now (blocks_for-some len size.0) free _ _ stands
+    (content-put p c.free_runs.ensures.laws c.args.name (record { first = first; len = len }) c.args.tile.now (blocks_for-some len size.0) free _ _ unchanged
     (rw (c.free_runs.ensures.value, c.bytes-bytes.ensures.value) at c.in_ok-write_extent.ensures.written))
 
 pub returns-clause-lengths : goal.returns-clause-lengths

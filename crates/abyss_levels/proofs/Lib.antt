@@ -1,5 +1,0 @@
-pub mod Sides
-pub mod PolicyLaws
-pub mod ByteLaws
-pub mod LevelLaws
-pub mod RowLaws

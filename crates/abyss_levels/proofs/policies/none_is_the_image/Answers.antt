@@ -1,5 +1,0 @@
-use Rattle.abyss_levels.proofs.PolicyLaws as laws
-use Rattle.abyss_levels.proofs.policies.none_is_the_image.Goals as goal
-
-pub returns : goal.returns
-returns c = laws.none-everywhere

@@ -1,5 +1,0 @@
-use Rattle.abyss_levels.proofs.PolicyLaws as laws
-use Rattle.abyss_levels.proofs.policies.white_outside.Goals as goal
-
-pub returns : goal.returns
-returns c = laws.white-outside

@@ -1,4 +1,0 @@
-pub mod Abyss
-pub mod Examples
-pub mod Level
-pub mod Rows

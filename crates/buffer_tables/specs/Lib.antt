@@ -1,6 +1,0 @@
-pub mod Table
-pub mod Edits
-pub mod Effects
-pub mod Causes
-pub mod Examples
-pub use Rattle.images.specs.Image

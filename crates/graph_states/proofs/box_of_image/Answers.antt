@@ -1,7 +1,0 @@
-use Rattle.std.proofs.Common.{ap}
-use Rattle.graphs.specs.Shapes.{Shape}
-use Rattle.graph_states.proofs.Stated as laws
-use Rattle.graph_states.proofs.box_of_image.Goals as goal
-
-pub returns : goal.returns
-returns g c = λ meanings buffers nodes name. ap (λ (s : Shape). s.box) (laws.scene_shape-is meanings (record { table = buffers; nodes = nodes }) name)

@@ -1,5 +1,0 @@
-use Rattle.graph_states.proofs.HistoryLaws as laws
-use Rattle.graph_states.proofs.commit_appends_one_state.Goals as goal
-
-pub returns : goal.returns
-returns g c = laws.commit_appends

@@ -1,5 +1,0 @@
-use Rattle.graph_states.proofs.CacheLaws as laws
-use Rattle.graph_states.proofs.counts_add_up.Goals as goal
-
-pub returns : goal.returns
-returns g c = laws.counts_add_up

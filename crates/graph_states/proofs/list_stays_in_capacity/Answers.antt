@@ -1,5 +1,0 @@
-use Rattle.graph_states.proofs.CacheLaws as laws
-use Rattle.graph_states.proofs.list_stays_in_capacity.Goals as goal
-
-pub returns : goal.returns
-returns g c = laws.stays_in_capacity

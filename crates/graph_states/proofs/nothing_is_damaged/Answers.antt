@@ -1,5 +1,0 @@
-use Rattle.graph_states.proofs.Steady as laws
-use Rattle.graph_states.proofs.nothing_is_damaged.Goals as goal
-
-pub returns : goal.returns
-returns g c = laws.nothing_damaged

@@ -1,5 +1,0 @@
-use Rattle.graph_states.proofs.CacheLaws as laws
-use Rattle.graph_states.proofs.pairs_stay_distinct.Goals as goal
-
-pub returns : goal.returns
-returns g c = laws.stays_distinct

@@ -1,8 +1,0 @@
-use Rattle.std.proofs.Common.{not}
-use Rattle.graph_states.specs.Regions.{meets}
-use Rattle.graph_states.proofs.CacheLaws as laws
-use Rattle.graph_states.proofs.voided_pairs_stay_distinct.Goals as goal
-
-pub returns : goal.returns
-returns g c = λ key damage list distinct.
-    laws.distinct-filter key (λ x. not (meets (key x).tile (damage (key x).node))) list distinct

@@ -1,5 +1,0 @@
-pub mod Node
-pub mod Operation
-pub mod Evaluation
-pub mod Shapes
-pub mod Facts

@@ -1,6 +1,0 @@
-pub mod Ranges
-pub mod Samples
-pub mod Places
-pub mod Laws
-pub mod Spelling
-pub mod Tests

@@ -1,0 +1,64 @@
+//! What a type of operations means, and the laws that its meanings keep.
+#![tactic(auto)]
+
+ghost use Rattle.std.specs.Prelude.{◌≡◌, ℕ, Bool, List, [], ◌∷◌};
+ghost use Rattle.plane_rect.specs.Rectangle.{Inside, Rectangle};
+ghost use Rattle.model_images.specs.Agreement.{AgreeOutside};
+ghost use Rattle.model_images.specs.Image.{at, Image};
+ghost use Rattle.model_graphs.specs.Changes.{ChangedWithin};
+ghost use Rattle.model_graphs.specs.Laws.{IsBoxed, IsDual, IsEquality, IsLocal, KeepsLaws};
+ghost use Rattle.model_graphs.specs.Meanings.{boxes_of, Meanings, result_box, result_of};
+
+/// The meanings of a type of operations: what each takes and gives, and what of its inputs and of its result belongs
+/// together. They belong to the type, so that all that carry out its operations mean the same.
+pub trait OpMeaning {
+    /// The number of inputs, the format, the box, the samples, and both regions.
+    ghost meanings: { Meanings Self };
+
+    /// The test that two operations are one, with the same arguments.
+    ghost same: { Self → Self → Bool };
+
+    /// The samples of a part of the box depend only on what the part requires.
+    ghost local: { IsLocal meanings };
+
+    /// A place of the box that a change does not invalidate requires no position that changed.
+    ghost dual: { IsDual meanings };
+
+    /// What is required is in the input's box, what is invalidated in the result's.
+    ghost boxed: { IsBoxed meanings };
+
+    /// The test tells exactly whether two operations are one.
+    ghost distinguished: { IsEquality same };
+}
+
+/// The laws by which damage is found hold of the meanings of each type of operations.
+pub fn meanings_keep_laws<Op: OpMeaning>()
+    ensures { KeepsLaws Op.meanings }
+{}
+
+/// Outside the box of a result each sample is 0.
+pub fn outside_is_zero<Op: OpMeaning>()
+    ensures { (operation : Op) (images : List Image) (u v c : ℕ) →
+        (Inside u v (result_box Op.meanings operation (boxes_of images)) → ⊥) →
+        at (result_of Op.meanings operation images) u v c ≡ 0 }
+{}
+
+/// Where an input changes in a region alone, the result changes only in what the region invalidates.
+pub fn changes_stay_inside<Op: OpMeaning>()
+    ensures { (operation : Op) (i : ℕ) (region : Rectangle) (before after : List Image) →
+        ChangedWithin i region before after →
+        AgreeOutside (result_of Op.meanings operation before) (result_of Op.meanings operation after)
+        (Op.meanings.invalidated operation (boxes_of before) i region) }
+{}
+
+/// Two images that agree outside a region are inputs of which one changed in the region alone.
+pub fn input_changed()
+    ensures only { (a b : Image) (region : Rectangle) →
+        AgreeOutside a b region → ChangedWithin 0 region (a ∷ []) (b ∷ []) }
+    ensures first { (a b second : Image) (region : Rectangle) →
+        AgreeOutside a b region →
+        ChangedWithin 0 region (a ∷ second ∷ []) (b ∷ second ∷ []) }
+    ensures second { (first a b : Image) (region : Rectangle) →
+        AgreeOutside a b region →
+        ChangedWithin 1 region (first ∷ a ∷ []) (first ∷ b ∷ []) }
+{}

@@ -1,0 +1,11 @@
+pub mod Sides
+pub mod PolicyLaws
+pub mod ByteLaws
+pub mod LevelLaws
+pub mod RowLaws
+pub mod Ranges
+pub mod Samples
+pub mod Positions
+pub mod Laws
+pub mod FromRawLaws
+pub mod Tests

@@ -1,0 +1,117 @@
+-- The laws of the policies.
+use Rattle.std.proofs.Common.{◌≡◌, ℕ, ◌+◌, ◌<◌, ◌≤◌, Bool, true, false, cond, refl, sym, ap, ◌∙◌, arith}
+use Rattle.plane_rect.specs.Rectangle.{Rectangle, Inside}
+use Rattle.pixel_formats.specs.Format.{max_sample}
+use Rattle.pixel_formats.specs.Recolor.{is_alpha}
+use Rattle.model_images.specs.Image.{Image, at}
+use Rattle.model_images.proofs.Samples.{inside_where}
+use Rattle.model_images.proofs.Laws.{at_outside}
+use Rattle.pixel_formats.specs.declared.abyss.Abyss.{Abyss}
+use Rattle.pixel_formats.specs.declared.abyss.Abyss.TheVariants.{None, Clamp, Loop, Black, White}
+use Rattle.model_images.specs.Abyss.{abyss_at, outside_at, black_sample, nearest, wrapped}
+use Rattle.model_images.proofs.Positions.{by_positions, not_inside}
+use Rattle.model_images.proofs.Sides.{nearest-within, nearest-inside, wrapped-within, wrapped-inside, wrapped-periodic}
+
+pub abyss_at-inside : (image : Image) (policy : Abyss) (u v c : ℕ) → Inside u v image.box → abyss_at image policy u v c ≡ at image u v c
+unfolding abyss_at
+abyss_at-inside image policy u v c h = let there = inside_where u v image.box h in rw there refl
+
+pub abyss_at-outside : (image : Image) (policy : Abyss) (u v c : ℕ) → ¬ Inside u v image.box → abyss_at image policy u v c ≡ outside_at image policy u v c
+unfolding abyss_at
+abyss_at-outside image policy u v c out = let nowhere = not_inside u v image.box out in rw nowhere refl
+
+pub none-everywhere : (image : Image) (u v c : ℕ) → abyss_at image None u v c ≡ at image u v c
+none-everywhere image u v c =
+    by_positions _ u v image.box (abyss_at-inside image None u v c)
+    (λ out. abyss_at-outside image None u v c out ∙ sym (at_outside image u v c out))
+
+-- the sample of the nearest position
+abbrev pub clamped : Image → ℕ → ℕ → ℕ → ℕ
+clamped image u v c = at image (nearest image.box.first_column image.box.width u) (nearest image.box.first_row image.box.height v) c
+
+pub clamp-everywhere : (image : Image) (u v c : ℕ) → abyss_at image Clamp u v c ≡ clamped image u v c
+clamp-everywhere image u v c =
+    by_positions _ u v image.box
+    (λ h.
+    let column = nearest-inside image.box.first_column image.box.width u h.column in
+    let row = nearest-inside image.box.first_row image.box.height v h.row in
+    abyss_at-inside image Clamp u v c h
+    ∙ sym (ap (λ (a : ℕ). at image a (nearest image.box.first_row image.box.height v) c) column ∙ ap (λ (b : ℕ). at image u b c) row))
+    (λ out. abyss_at-outside image Clamp u v c out)
+
+pub clamp-position : (r : Rectangle) (u v : ℕ) → 0 < r.width → 0 < r.height → Inside (nearest r.first_column r.width u) (nearest r.first_row r.height v) r
+clamp-position r u v wide high = record { column = nearest-within r.first_column r.width u wide; row = nearest-within r.first_row r.height v high }
+
+-- the sample of the position moved into the box by whole widths and heights
+abbrev pub looped : Image → ℕ → ℕ → ℕ → ℕ
+looped image u v c = at image (wrapped image.box.first_column image.box.width u) (wrapped image.box.first_row image.box.height v) c
+
+pub loop-everywhere : (image : Image) (u v c : ℕ) → abyss_at image Loop u v c ≡ looped image u v c
+loop-everywhere image u v c =
+    by_positions _ u v image.box
+    (λ h.
+    let column = wrapped-inside image.box.first_column image.box.width u h.column in
+    let row = wrapped-inside image.box.first_row image.box.height v h.row in
+    abyss_at-inside image Loop u v c h
+    ∙ sym (ap (λ (a : ℕ). at image a (wrapped image.box.first_row image.box.height v) c) column ∙ ap (λ (b : ℕ). at image u b c) row))
+    (λ out. abyss_at-outside image Loop u v c out)
+
+pub loop-position : (r : Rectangle) (u v : ℕ) → 0 < r.width → 0 < r.height → Inside (wrapped r.first_column r.width u) (wrapped r.first_row r.height v) r
+loop-position r u v wide high = record { column = wrapped-within r.first_column r.width u wide; row = wrapped-within r.first_row r.height v high }
+
+pub loop-columns : (image : Image) (u v c : ℕ) → 0 < image.box.width → abyss_at image Loop (u + image.box.width) v c ≡ abyss_at image Loop u v c
+loop-columns image u v c wide =
+    loop-everywhere image (u + image.box.width) v c
+    ∙ ap (λ (a : ℕ). at image a (wrapped image.box.first_row image.box.height v) c) (wrapped-periodic image.box.first_column image.box.width u wide)
+    ∙ sym (loop-everywhere image u v c)
+
+pub loop-rows : (image : Image) (u v c : ℕ) → 0 < image.box.height → abyss_at image Loop u (v + image.box.height) c ≡ abyss_at image Loop u v c
+loop-rows image u v c high =
+    loop-everywhere image u (v + image.box.height) c
+    ∙ ap (λ (b : ℕ). at image (wrapped image.box.first_column image.box.width u) b c) (wrapped-periodic image.box.first_row image.box.height v high)
+    ∙ sym (loop-everywhere image u v c)
+
+pub black-color : (image : Image) (u v c : ℕ) → ¬ Inside u v image.box → is_alpha image.format c ≡ false → abyss_at image Black u v c ≡ 0
+black-color image u v c out color = abyss_at-outside image Black u v c out ∙ rw color refl
+
+pub black-alpha : (image : Image) (u v c : ℕ) → ¬ Inside u v image.box → is_alpha image.format c ≡ true → abyss_at image Black u v c ≡ max_sample image.format
+black-alpha image u v c out alpha = abyss_at-outside image Black u v c out ∙ rw alpha refl
+
+pub white-outside : (image : Image) (u v c : ℕ) → ¬ Inside u v image.box → abyss_at image White u v c ≡ max_sample image.format
+white-outside image u v c out = abyss_at-outside image White u v c out
+
+-- an image without a position
+module _ (image : Image) (empty : (u v : ℕ) → ¬ Inside u v image.box) (u v c : ℕ) where
+  pub none-empty : abyss_at image None u v c ≡ 0
+  none-empty = abyss_at-outside image None u v c (empty u v)
+
+  pub clamp-empty : abyss_at image Clamp u v c ≡ 0
+  clamp-empty = clamp-everywhere image u v c ∙ at_outside image _ _ c (empty _ _)
+
+  pub loop-empty : abyss_at image Loop u v c ≡ 0
+  loop-empty = loop-everywhere image u v c ∙ at_outside image _ _ c (empty _ _)
+
+  pub black-empty : abyss_at image Black u v c ≡ black_sample image.format c
+  black-empty = abyss_at-outside image Black u v c (empty u v)
+
+  pub white-empty : abyss_at image White u v c ≡ max_sample image.format
+  white-empty = abyss_at-outside image White u v c (empty u v)
+
+-- samples up to a number are read as such under each policy, where the number is the largest sample or above it
+pub abyss_at-most : (image : Image) (policy : Abyss) (c most : ℕ) → max_sample image.format ≤ most → ((u v : ℕ) → at image u v c ≤ most)
+    → (u v : ℕ) → abyss_at image policy u v c ≤ most
+abyss_at-most image None c most room below u v = rw (none-everywhere image u v c) (below u v)
+abyss_at-most image Clamp c most room below u v = rw (clamp-everywhere image u v c) (below _ _)
+abyss_at-most image Loop c most room below u v = rw (loop-everywhere image u v c) (below _ _)
+abyss_at-most image Black c most room below u v =
+    by_positions _ u v image.box
+    (λ h. rw (abyss_at-inside image Black u v c h) (below u v))
+    (λ out. rw (abyss_at-outside image Black u v c out) (black (is_alpha image.format c)))
+  where
+    black : (b : Bool) → cond b (max_sample image.format) 0 ≤ most
+    black true = room
+    black false = omega arith
+abyss_at-most image White c most room below u v =
+    by_positions _ u v image.box
+    (λ h. rw (abyss_at-inside image White u v c h) (below u v))
+    (λ out. rw (abyss_at-outside image White u v c out) room)

@@ -1,0 +1,5 @@
+use Rattle.model_images.proofs.PolicyLaws as laws
+use Rattle.model_images.proofs.policies.inside_is_the_image.Goals as goal
+
+pub returns : goal.returns
+returns c = laws.abyss_at-inside

@@ -1,0 +1,11 @@
+pub mod Abyss
+pub mod Examples
+pub mod Level
+pub mod Rows
+pub mod Image
+pub mod FromRaw
+pub mod Raw
+pub mod Paint
+pub mod Agreement
+pub use Rattle.plane_rect.specs.Rectangle
+pub use Rattle.pixel_formats.specs.Format

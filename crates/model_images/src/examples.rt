@@ -1,0 +1,72 @@
+//! The definitions worked out by hand on small images.
+#![tactic(auto, unfolding(crate::specs::Image::at, crate::specs::Raw::raw, crate::specs::Abyss::abyss_at, crate::specs::Abyss::raw_with, crate::specs::Level::level))]
+
+ghost use Rattle.std.specs.Prelude.{◌≡◌, [], ◌∷◌, negsuc, pos};
+ghost use Rattle.model_images.specs.Raw.{raw};
+ghost use Rattle.model_images.specs.Abyss.{raw_with};
+ghost use Rattle.model_images.specs.Examples.{faint_of_16_bits, faint_ten, four_positions, left_edge, no_position, one_to_four, positions_from, ten_twenty, three_from, two_positions, upper_left};
+ghost use Rattle.model_images.specs.Level.{level};
+
+use crate::abyss::Abyss;
+
+/// A row of 10 and 20 from x = 0 on, read from x = -1 over four positions.
+pub fn around_a_row()
+    ensures none { raw_with ten_twenty Abyss.None four_positions ≡ 0 ∷ 10 ∷ 20 ∷ 0 ∷ [] }
+    ensures clamp { raw_with ten_twenty Abyss.Clamp four_positions ≡ 10 ∷ 10 ∷ 20 ∷ 20 ∷ [] }
+    ensures wrap { raw_with ten_twenty Abyss.Loop four_positions ≡ 20 ∷ 10 ∷ 20 ∷ 10 ∷ [] }
+    ensures black { raw_with ten_twenty Abyss.Black four_positions ≡ 0 ∷ 10 ∷ 20 ∷ 0 ∷ [] }
+    ensures white { raw_with ten_twenty Abyss.White four_positions ≡ 255 ∷ 10 ∷ 20 ∷ 255 ∷ [] }
+{}
+
+/// The same row, read from the plane's left edge over two positions.
+pub fn far_from_a_row()
+    ensures none { raw_with ten_twenty Abyss.None left_edge ≡ 0 ∷ 0 ∷ [] }
+    ensures clamp { raw_with ten_twenty Abyss.Clamp left_edge ≡ 10 ∷ 10 ∷ [] }
+    ensures wrap { raw_with ten_twenty Abyss.Loop left_edge ≡ 10 ∷ 20 ∷ [] }
+    ensures black { raw_with ten_twenty Abyss.Black left_edge ≡ 0 ∷ 0 ∷ [] }
+    ensures white { raw_with ten_twenty Abyss.White left_edge ≡ 255 ∷ 255 ∷ [] }
+{}
+
+/// Two rows, 1 and 2 above 3 and 4, read around their upper left corner.
+pub fn around_a_corner()
+    ensures none { raw_with one_to_four Abyss.None upper_left ≡ 0 ∷ 0 ∷ 0 ∷ 1 ∷ [] }
+    ensures clamp { raw_with one_to_four Abyss.Clamp upper_left ≡ 1 ∷ 1 ∷ 1 ∷ 1 ∷ [] }
+    ensures wrap { raw_with one_to_four Abyss.Loop upper_left ≡ 4 ∷ 3 ∷ 2 ∷ 1 ∷ [] }
+    ensures black { raw_with one_to_four Abyss.Black upper_left ≡ 0 ∷ 0 ∷ 0 ∷ 1 ∷ [] }
+    ensures white { raw_with one_to_four Abyss.White upper_left ≡ 255 ∷ 255 ∷ 255 ∷ 1 ∷ [] }
+{}
+
+/// An image of no position, read over two.
+pub fn over_an_empty_image()
+    ensures none { raw_with no_position Abyss.None two_positions ≡ 0 ∷ 0 ∷ [] }
+    ensures clamp { raw_with no_position Abyss.Clamp two_positions ≡ 0 ∷ 0 ∷ [] }
+    ensures wrap { raw_with no_position Abyss.Loop two_positions ≡ 0 ∷ 0 ∷ [] }
+    ensures black { raw_with no_position Abyss.Black two_positions ≡ 0 ∷ 0 ∷ [] }
+    ensures white { raw_with no_position Abyss.White two_positions ≡ 255 ∷ 255 ∷ [] }
+{}
+
+/// One position with alpha, of 8 bits and of 16, read over itself and the next.
+pub fn beside_one_position()
+    ensures black { raw_with faint_ten Abyss.Black two_positions ≡ 10 ∷ 200 ∷ 0 ∷ 255 ∷ [] }
+    ensures white { raw_with faint_ten Abyss.White two_positions ≡ 10 ∷ 200 ∷ 255 ∷ 255 ∷ [] }
+    ensures black_of_16_bits { raw_with faint_of_16_bits Abyss.Black two_positions
+        ≡ 2 ∷ 1 ∷ 4 ∷ 3 ∷ 0 ∷ 0 ∷ 255 ∷ 255 ∷ [] }
+    ensures clamp_of_16_bits { raw_with faint_of_16_bits Abyss.Clamp two_positions
+        ≡ 2 ∷ 1 ∷ 4 ∷ 3 ∷ 2 ∷ 1 ∷ 4 ∷ 3 ∷ [] }
+{}
+
+/// A row of 10, 20 and 31 from x = 0 on: its first level has two positions, (10 + 20 + 2) / 4 and
+/// (31 + 2) / 4.
+pub fn level_of_odd_width()
+    ensures bounds { (level (three_from (pos 0)) 1).box ≡ two_positions }
+    ensures samples { raw (level (three_from (pos 0)) 1) two_positions ≡ 8 ∷ 8 ∷ [] }
+{}
+
+/// The same row from x = -3 on: its first level begins at x = -2, with (10 + 2) / 4 and
+/// (20 + 31 + 2) / 4, and its second has one position, (3 + 13 + 2) / 4.
+pub fn levels_left_of_the_origin()
+    ensures first_bounds { (level (three_from (negsuc 2)) 1).box ≡ positions_from (negsuc 1) 2 }
+    ensures first { raw (level (three_from (negsuc 2)) 1) (positions_from (negsuc 1) 2) ≡ 3 ∷ 13 ∷ [] }
+    ensures second_bounds { (level (three_from (negsuc 2)) 2).box ≡ positions_from (negsuc 0) 1 }
+    ensures second { raw (level (three_from (negsuc 2)) 2) (positions_from (negsuc 0) 1) ≡ 4 ∷ [] }
+{}

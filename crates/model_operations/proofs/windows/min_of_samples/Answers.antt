@@ -1,0 +1,8 @@
+use Rattle.model_operations.proofs.WindowLaws as laws
+use Rattle.model_operations.proofs.windows.min_of_samples.Goals as goal
+
+pub returns-clause-among : goal.returns-clause-among
+returns-clause-among c = laws.minimum-among
+
+pub returns-clause-bound : goal.returns-clause-bound
+returns-clause-bound c = laws.minimum-below

@@ -1,0 +1,13 @@
+pub mod Inputs
+pub mod Arguments
+pub mod Formats
+pub mod Moves
+pub mod Boxes
+pub mod Windows
+pub mod Values
+pub mod Regions
+pub mod Meanings
+pub mod Results
+pub mod Lawful
+pub mod Examples
+pub use Rattle.model_images.specs.Abyss

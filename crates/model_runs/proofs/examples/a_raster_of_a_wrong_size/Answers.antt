@@ -1,0 +1,11 @@
+use Rattle.std.proofs.Common.{refl}
+use Rattle.std.specs.Fmt.{digits}
+use Rattle.model_images.specs.Image.{at}
+use Rattle.model_images.specs.Raw.{raw}
+use Rattle.model_images.specs.Abyss.{abyss_at, raw_with}
+use Rattle.model_images.specs.Level.{level}
+use Rattle.model_runs.proofs.examples.a_raster_of_a_wrong_size.Goals as goal
+
+pub returns-clause-events : goal.returns-clause-events
+unfolding digits raw raw_with abyss_at at level
+returns-clause-events c files has = rw has refl

@@ -1,0 +1,5 @@
+use Rattle.model_states.proofs.HistoryLaws as laws
+use Rattle.model_states.proofs.redo_reverts_undo.Goals as goal
+
+pub returns : goal.returns
+returns g c = laws.redo_repeats

@@ -1,0 +1,5 @@
+use Rattle.model_states.proofs.HistoryLaws as laws
+use Rattle.model_states.proofs.undo_appends_one_state.Goals as goal
+
+pub returns : goal.returns
+returns g c = laws.undo_appends

@@ -1,6 +1,0 @@
-use Rattle.operation_meanings.proofs.ChangeLaws as laws
-use Rattle.operation_meanings.proofs.changes_stay_inside.Goals as goal
-
-pub returns : goal.returns
-returns g c = λ operation i region before after changed.
-    laws.change_inside g.Op.OpMeaning.meanings g.Op.OpMeaning.local g.Op.OpMeaning.dual operation i region before after changed

@@ -1,6 +1,0 @@
-use Rattle.images.proofs.Laws.{at_outside}
-use Rattle.operation_meanings.specs.Meanings.{result_of}
-use Rattle.operation_meanings.proofs.outside_is_zero.Goals as goal
-
-pub returns : goal.returns
-returns g c = λ operation images u v k out. at_outside (result_of g.Op.OpMeaning.meanings operation images) u v k out

@@ -1,3 +1,0 @@
-pub mod Meanings
-pub mod Laws
-pub mod Changes

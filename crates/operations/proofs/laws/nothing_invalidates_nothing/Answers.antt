@@ -1,5 +1,0 @@
-use Rattle.operations.specs.Lawful.MeaningLaws.{keeps_nothing}
-use Rattle.operations.proofs.laws.nothing_invalidates_nothing.Goals as goal
-
-pub returns : goal.returns
-returns c = keeps_nothing

@@ -1,0 +1,14 @@
+pub mod Add
+pub mod Average
+pub mod Convert
+pub mod Extremes
+pub mod Format
+pub mod Gain
+pub mod Invert
+pub mod Mask
+pub mod Over
+pub mod Policies
+pub mod Recolor
+pub mod Row
+pub mod Sample
+pub mod Threshold

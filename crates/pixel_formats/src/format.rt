@@ -1,0 +1,102 @@
+//! The formats of pixels.
+
+ghost use Rattle.std.specs.Prelude.{◌≡◌, IfSome, IfNone, ◌≢◌};
+ghost use Rattle.pixel_formats.specs.Format.{channels, depth, has_alpha, max_sample, pixel_bytes, word as word_of};
+
+/// How the samples of a pixel are laid out. Samples of two bytes have the less significant byte first.
+#[derive(Clone, Copy, Debug, PartialEq, Eq, Hash)]
+pub enum Format {
+    Y8,
+    YA8,
+    RGB8,
+    RGBA8,
+    Y16,
+    YA16,
+    RGB16,
+    RGBA16,
+}
+
+impl Format {
+    /// How many channels a pixel has, alpha among them.
+    pub fn channels(self) -> u32
+        ensures { result ≡ channels self }
+    {
+        match self {
+            Format::Y8 | Format::Y16 => 1,
+            Format::YA8 | Format::YA16 => 2,
+            Format::RGB8 | Format::RGB16 => 3,
+            Format::RGBA8 | Format::RGBA16 => 4,
+        }
+    }
+
+    /// The bytes of a sample.
+    pub fn depth(self) -> u32
+        ensures { result ≡ depth self }
+    {
+        match self {
+            Format::Y8 | Format::YA8 | Format::RGB8 | Format::RGBA8 => 1,
+            Format::Y16 | Format::YA16 | Format::RGB16 | Format::RGBA16 => 2,
+        }
+    }
+
+    /// The largest sample.
+    pub fn max(self) -> u32
+        ensures { result ≡ max_sample self }
+    {
+        match self.depth() {
+            1 => 255,
+            _ => 65_535,
+        }
+    }
+
+    /// The bytes of a pixel.
+    pub fn pixel_bytes(self) -> u32
+        ensures { result ≡ pixel_bytes self }
+    {
+        self.channels() * self.depth()
+    }
+
+    /// Whether the last channel is alpha.
+    pub fn has_alpha(self) -> bool
+        ensures { result ≡ has_alpha self }
+    {
+        match self {
+            Format::Y8 | Format::RGB8 | Format::Y16 | Format::RGB16 => false,
+            Format::YA8 | Format::RGBA8 | Format::YA16 | Format::RGBA16 => true,
+        }
+    }
+
+    /// The name in a script.
+    pub fn word(self) -> &'static str
+        ensures { result.now ≡ word_of self }
+    {
+        match self {
+            Format::Y8 => "Y8",
+            Format::YA8 => "YA8",
+            Format::RGB8 => "RGB8",
+            Format::RGBA8 => "RGBA8",
+            Format::Y16 => "Y16",
+            Format::YA16 => "YA16",
+            Format::RGB16 => "RGB16",
+            Format::RGBA16 => "RGBA16",
+        }
+    }
+
+    /// The format of a name, and None where it names none.
+    pub fn parse(word: &[u8]) -> Option<Format>
+        ensures some { IfSome result (λ format. word.now ≡ word_of format) }
+        ensures none { IfNone result ((format : _) → word.now ≢ word_of format) }
+    {
+        match word {
+            b"Y8" => Some(Format::Y8),
+            b"YA8" => Some(Format::YA8),
+            b"RGB8" => Some(Format::RGB8),
+            b"RGBA8" => Some(Format::RGBA8),
+            b"Y16" => Some(Format::Y16),
+            b"YA16" => Some(Format::YA16),
+            b"RGB16" => Some(Format::RGB16),
+            b"RGBA16" => Some(Format::RGBA16),
+            _ => None,
+        }
+    }
+}

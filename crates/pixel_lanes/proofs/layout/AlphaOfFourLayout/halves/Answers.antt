@@ -1,8 +1,0 @@
-use Rattle.std.proofs.Common.{◌+◌, ◌*◌, ap, ◌∙◌, arith}
-use Rattle.pixel_lanes.proofs.layout.AlphaOfFourLayout.halves.Goals as goal
-
-pub returns-clause-even : goal.returns-clause-even
-returns-clause-even g c s both k i lt within = c.deinterleave_fours.ensures.even s both (k * 4 + i) (omega arith) ∙ ap s (omega arith)
-
-pub returns-clause-odd : goal.returns-clause-odd
-returns-clause-odd g c s both k i lt within = c.deinterleave_fours.ensures.odd s both (k * 4 + i) (omega arith) ∙ ap s (omega arith)

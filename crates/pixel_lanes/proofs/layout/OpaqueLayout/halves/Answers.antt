@@ -1,8 +1,0 @@
-use Rattle.std.proofs.Common.{◌+◌, ◌*◌, ap, ◌∙◌, arith}
-use Rattle.pixel_lanes.proofs.layout.OpaqueLayout.halves.Goals as goal
-
-pub returns-clause-even : goal.returns-clause-even
-returns-clause-even g c s both k i lt within = c.deinterleave.ensures.even s both (k * 1 + i) (omega arith) ∙ ap s (omega arith)
-
-pub returns-clause-odd : goal.returns-clause-odd
-returns-clause-odd g c s both k i lt within = c.deinterleave.ensures.odd s both (k * 1 + i) (omega arith) ∙ ap s (omega arith)

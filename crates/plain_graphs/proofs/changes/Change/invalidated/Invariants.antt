@@ -1,0 +1,11 @@
+use Rattle.std.proofs.Common.{◌≡◌, ◌++◌, ℕ, List, map, drop}
+use Rattle.std.specs.List.{enumerate_from}
+use Rattle.model_operations.specs.Regions.{invalidated}
+use Rattle.model_states.specs.Damage.{known_damage}
+use Rattle.plain_graphs.proofs.changes.Change.invalidated.Given as goal
+
+abbrev pub invariant-loop-input : goal.invariant-loop-input
+invariant-loop-input l =
+    l.rects.items
+    ++ map (λ (input : ℕ × List ℕ). invalidated l.op l.boxes.items input.0 (known_damage l.self l.known input.1)) (enumerate_from l.input (drop l.input l.inputs))
+    ≡ map (λ (input : ℕ × List ℕ). invalidated l.op l.boxes.items input.0 (known_damage l.self l.known input.1)) (enumerate_from 0 l.inputs)

@@ -1,0 +1,133 @@
+//! Images and their raw bytes.
+
+ghost use Rattle.std.specs.Prelude.{◌≡◌, ◌<◌, ◌≤◌, ◌^◌, IfOk, length, slice_index};
+ghost use Rattle.std.specs.List.{flat_map};
+ghost use Rattle.plane_rect.specs.Rectangle.{InLimits};
+ghost use Rattle.pixel_formats.specs.Format.{depth, max_sample};
+ghost use Rattle.pixel_formats.specs.Row.{sample_at};
+ghost use Rattle.model_images.specs.Raw.{raw, sample_bytes};
+ghost use Rattle.model_images.specs.FromRaw.{byte_count, image_from_raw, pixels_from_raw};
+ghost use Rattle.model_images.specs.Abyss.{raw_with};
+ghost use Rattle.plain_images.specs.Picture.{AreSamples};
+
+use crate::picture::{Picture, Samples, draw, sample_all};
+use crate::policies::Read;
+use model_images::Abyss;
+use no_memory::NoMemory;
+use plane_rect::Rect;
+use sample_rows::Format;
+use std::alloc::Global;
+
+/// The samples that the raw bytes of a rectangle spell.
+#[derive(Drop)]
+struct RawBytes<'a> {
+    rect: Rect,
+    format: Format,
+    bytes: &'a [u8],
+}
+
+impl Samples for RawBytes<'_> {
+    ghost sample_format = { λ text. text.format };
+
+    ghost value = { λ text. pixels_from_raw text.rect text.format text.bytes.now };
+
+    fn format(&self) -> Format {
+        self.format
+    }
+
+    fn sample(&self, column: u32, row: u32, channel: u32) -> u32 {
+        let width = u64::from(self.rect.end_column() - self.rect.first_column());
+        let above = u64::from(row.saturating_sub(self.rect.first_row()));
+        let before = u64::from(column.saturating_sub(self.rect.first_column()));
+        let index = (above * width + before) * u64::from(self.format.channels())
+            + u64::from(channel);
+        sample_at(self.format, self.bytes, index as usize)
+    }
+}
+
+/// The image that the raw bytes of a rectangle spell: its places row by row, each row from the
+/// left, the less significant byte of a sample first.
+///
+/// # Errors
+///
+/// No memory was left.
+pub fn from_raw(
+    alloc: Global,
+    rect: Rect,
+    format: Format,
+    bytes: &[u8],
+) -> Result<Picture, NoMemory>
+    requires limits { InLimits rect }
+    requires size { length bytes.now ≡ byte_count rect format }
+    ensures image { IfOk result (λ picture. picture ≡ image_from_raw rect format bytes.now) }
+    ensures raw { IfOk result (λ picture. raw picture rect ≡ bytes.now) }
+{
+    draw(
+        alloc,
+        rect,
+        &RawBytes {
+            rect,
+            format,
+            bytes,
+        },
+    )
+}
+
+/// The raw bytes of a rectangle of an image under a policy.
+///
+/// # Errors
+///
+/// No memory was left.
+pub fn raw_with(
+    alloc: Global,
+    picture: &Picture,
+    policy: Abyss,
+    rect: &Rect,
+) -> Result<Vec<u8>, NoMemory>
+    ensures { IfOk result (λ bytes. bytes.items ≡ raw_with picture.now policy rect.now) }
+{
+    let samples = sample_all(alloc, rect, &Read { picture, policy })?;
+    to_bytes(alloc, picture.format(), &samples)
+}
+
+/// The raw bytes of samples.
+///
+/// # Errors
+///
+/// No memory was left.
+fn to_bytes(alloc: Global, format: Format, samples: &[u32]) -> Result<Vec<u8>, NoMemory>
+    requires { AreSamples format samples.now }
+    ensures { IfOk result (λ bytes. bytes.items ≡ flat_map (sample_bytes (depth format)) samples.now) }
+{
+    let mut bytes = Vec::new(alloc);
+    for sample in samples {
+        match format.depth() {
+            1 => bytes.push(*sample as u8)?,
+            _ => {
+                bytes.push((*sample % 256) as u8)?;
+                bytes.push((*sample / 256) as u8)?;
+            }
+        }
+    }
+    Ok(bytes)
+}
+
+/// A sample of raw bytes, by its index: 0 after the last.
+fn sample_at(format: Format, bytes: &[u8], index: usize) -> u32
+    requires { index < 2 ^ 62 }
+    ensures value { result ≡ sample_at (depth format) bytes.now index }
+    ensures range { result ≤ max_sample format }
+{
+    match format.depth() {
+        1 => byte_at(bytes, index),
+        _ => byte_at(bytes, 2 * index) + 256 * byte_at(bytes, 2 * index + 1),
+    }
+}
+
+/// A byte, and 0 after the last.
+fn byte_at(bytes: &[u8], index: usize) -> u32
+    ensures value { result ≡ slice_index bytes.now index }
+    ensures range { result < 256 }
+{
+    bytes.get(index).map_or(0, |byte| u32::from(*byte))
+}

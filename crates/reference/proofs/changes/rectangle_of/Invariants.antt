@@ -1,6 +1,0 @@
-use Rattle.std.proofs.Common.{◌≡◌, drop}
-use Rattle.graph_states.specs.History.{rectangle_of}
-use Rattle.reference.proofs.changes.rectangle_of.Given as goal
-
-abbrev pub invariant-loop-name : goal.invariant-loop-name
-invariant-loop-name l = rectangle_of (drop l.name-index l.rectangles) l.root ≡ rectangle_of l.rectangles l.root

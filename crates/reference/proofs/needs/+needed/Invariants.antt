@@ -1,4 +1,0 @@
-use Rattle.reference.proofs.needs.+needed.Given as goal
-
-abbrev pub decreases-needed : goal.decreases-needed
-decreases-needed l = l.count

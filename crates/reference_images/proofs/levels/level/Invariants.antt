@@ -1,6 +1,0 @@
-use Rattle.std.proofs.Common.{◌≡◌}
-use Rattle.abyss_levels.specs.Level.{level}
-use Rattle.reference_images.proofs.levels.level.Given as goal
-
-abbrev pub invariant-loop-halving : goal.invariant-loop-halving
-invariant-loop-halving l = l.reduced ≡ level l.picture l._halving

@@ -1,5 +1,0 @@
-use Rattle.runs.proofs.Loading.{inverted}
-use Rattle.runs.proofs.examples.an_inverted_raster.Goals as goal
-
-pub returns-clause-events : goal.returns-clause-events
-returns-clause-events c files has = inverted files has

@@ -1,9 +1,0 @@
-use Rattle.sample_lanes.proofs.VectorLaws.{sixteen_more}
-use Rattle.sample_lanes.proofs.vectors.store_three.Goals as goal
-
-pub returns-clause-here : goal.returns-clause-here
-returns-clause-here g c s all =
-    let L = g.L.Lanes in
-    let d = L.depth in
-    sixteen_more d 2 c.store_two.new.dst c.store_at.new.dst (L.lane c.args.third) s
-    (c.store_two.ensures.here s (all.0, all.1)) c.store_at.ensures.kept c.store_at.ensures.made all.2

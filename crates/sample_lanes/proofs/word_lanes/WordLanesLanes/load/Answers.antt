@@ -1,8 +1,0 @@
-use Rattle.sample_lanes.proofs.Moves.{Makes-load_of_words}
-use Rattle.sample_lanes.proofs.word_lanes.WordLanesLanes.load.Goals as goal
-
-pub invariant_of-result : goal.invariant_of-result
-invariant_of-result c = record { samples = (Makes-load_of_words c.args.src.now c.requires c.type_inv.src).0 }
-
-pub returns : goal.returns
-returns c = (Makes-load_of_words c.args.src.now c.requires c.type_inv.src).1

@@ -1,0 +1,72 @@
+-- Vectors that are multiplied by one number, in lanes below w.
+use Rattle.std.proofs.Common.{◌≡◌, ℕ, ◌+◌, ◌*◌, ◌/◌, ◌%◌, ◌^◌, ◌<◌, ◌≤◌, List, get_or, map, replicate, min, refl, ap, ◌∙◌, inl, inr, arith}
+use Rattle.std.proofs.Math.Nat.{mod-eq_of_lt, div-le_self, div-lt_iff_lt-mul, mul-le-mul}
+use Rattle.std.proofs.lemmas.Bool.{cases_lt}
+use Rattle.std.proofs.lemmas.List.{get_or_past}
+use lib.Lanes.{zip2}
+use Rattle.simd_samples.specs.Lanes.{AreLanes}
+use Rattle.simd_samples.proofs.Arithmetic.{below_le, over, plus, same, shifted, splat_at, times}
+use Rattle.simd_samples.proofs.Pointwise.{Makes, Makes-from_four, Makes-from_lanes}
+use Rattle.simd_samples.proofs.Saturation.{Makes-minimum, min_of_longs, where_below}
+
+-- the products and sums of a vector
+abbrev pub multiplied : ℕ → List ℕ → List ℕ → List ℕ → List ℕ
+multiplied w xs ys zs = zip2 (plus w) (zip2 (times w) (map same xs) ys) zs
+
+one_multiplied : (w a b c : ℕ) → a * b + c < w → plus w (times w a b) c ≡ a * b + c
+one_multiplied w a b c room = ap (λ n. (n + c) % w) (mod-eq_of_lt (omega (arith, room))) ∙ mod-eq_of_lt room
+
+-- a lane of the splats
+three_splats : (f : ℕ → ℕ → ℕ → ℕ) (j b c d : ℕ) → j < 16 → f (get_or (replicate 16 b) j 0) (get_or (replicate 16 c) j 0) (get_or (replicate 16 d) j 0) ≡ f b c d
+three_splats f j b c d lt = λ p. f (splat_at b j lt p) (splat_at c j lt p) (splat_at d j lt p)
+
+pub Makes-scaled : (w bound shift : ℕ) (xs : List ℕ) (factor offset : ℕ) → 0 < bound → 0 < 2 ^ shift → bound * 2 ^ shift ≤ w → AreLanes bound xs
+    → ((j : ℕ) → j < 16 → get_or xs j 0 * factor + offset < bound * 2 ^ shift)
+    → Makes bound (zip2 shifted (multiplied w xs (replicate 16 factor) (replicate 16 offset)) (replicate 16 shift)) (λ j. (get_or xs j 0 * factor + offset) / 2 ^ shift)
+Makes-scaled w bound shift xs factor offset some some_part wide p small =
+    Makes-from_four (λ xs ys zs ws. zip2 shifted (multiplied w xs ys zs) ws) (λ a b c d. shifted (plus w (times w a b) c) d) (λ a b c d xs ys zs ws. refl) refl bound _ some
+    xs (replicate 16 factor) (replicate 16 offset) (replicate 16 shift) p.long refl refl refl
+    (λ j lt. (
+      three_splats (λ b c d. shifted (plus w (times w (get_or xs j 0) b) c) d) j factor offset shift lt
+          ∙ ap (λ n. n / 2 ^ shift) (one_multiplied w (get_or xs j 0) factor offset (omega (arith, small j lt))),
+      (div-lt_iff_lt-mul some_part).1 (small j lt),
+    ))
+
+-- ---- a division in lanes of 64 bits, of samples that are at most m
+
+abbrev pub quotients : List ℕ → ℕ → ℕ → ℕ → List ℕ
+quotients xs number offset divisor =
+    zip2 over (multiplied 18446744073709551616 xs (replicate 16 number) (replicate 16 offset)) (replicate 16 divisor)
+
+product_few : (m a number offset : ℕ) → m ≤ 65535 → a ≤ m → number < 4294967296 → offset < 4294967296 → a * number + offset < 18446744073709551616
+product_few m a number offset few le n o = omega (arith, mul-le-mul {n₁ = a} {m₁ = number} {n₂ = 65535} {m₂ = 4294967295} (omega arith) (omega arith))
+
+Makes-quotients : (m : ℕ) (xs : List ℕ) (number offset divisor : ℕ) → m ≤ 65535 → AreLanes (m + 1) xs → number < 4294967296 → offset < 4294967296
+    → Makes 18446744073709551616 (quotients xs number offset divisor) (λ j. (get_or xs j 0 * number + offset) / divisor)
+Makes-quotients m xs number offset divisor few p n o =
+    let w : ℕ = 18446744073709551616 in
+    Makes-from_four (λ xs ys zs ws. zip2 over (multiplied w xs ys zs) ws) (λ a b c d. over (plus w (times w a b) c) d) (λ a b c d xs ys zs ws. refl) refl w _ (omega arith)
+    xs (replicate 16 number) (replicate 16 offset) (replicate 16 divisor) p.long refl refl refl
+    (λ j lt.
+    let small = product_few m (get_or xs j 0) number offset few (below_le m xs p j) n o in (
+      three_splats (λ b c d. over (plus w (times w (get_or xs j 0) b) c) d) j number offset divisor lt
+          ∙ ap (λ k. k / divisor) (one_multiplied w (get_or xs j 0) number offset small),
+      omega (arith, small, div-le_self (get_or xs j 0 * number + offset) divisor),
+    ))
+
+splat_lanes : (bound n : ℕ) → n < bound → AreLanes bound (replicate 16 n)
+splat_lanes bound n few = record { long = refl; below = λ j. elim (cases_lt j 16) [ inl lt ↦ omega (arith, splat_at n j lt) | inr past ↦ omega (arith, get_or_past (replicate 16 n) j 0 past) ] }
+
+-- the quotients, at most m
+abbrev pub limited : List ℕ → List ℕ → List ℕ
+limited xs ys = where_below 63 18446744073709551616 xs ys xs ys
+
+pub Makes-divided : (m : ℕ) (xs : List ℕ) (number offset divisor : ℕ) → m ≤ 65535 → AreLanes (m + 1) xs → number < 4294967296 → offset < 4294967296
+    → Makes (m + 1) (limited (quotients xs number offset divisor) (replicate 16 m)) (λ j. min m ((get_or xs j 0 * number + offset) / divisor))
+Makes-divided m xs number offset divisor few p n o =
+    let w : ℕ = 18446744073709551616 in
+    let made = Makes-quotients m xs number offset divisor few p n o in
+    let v = quotients xs number offset divisor in
+    let minimum = Makes-minimum 63 w (omega arith) v (replicate 16 m) made.0 (splat_lanes w m (omega arith)) min_of_longs in
+    Makes-from_lanes (m + 1) (limited v (replicate 16 m)) _ (omega arith) minimum.0.long
+    (λ j lt. minimum.1 j lt ∙ ap (min (get_or v j 0)) (splat_at m j lt) ∙ ap (λ k. min k m) (made.1 j lt) ∙ omega arith) (λ j lt. omega arith)

@@ -1,0 +1,57 @@
+-- Samples of rows that agree in their bytes, and of slices of rows.
+use Rattle.std.proofs.Common.{◌≡◌, ℕ, zero, suc, ◌+◌, ◌-◌, ◌*◌, ◌<◌, ◌≤◌, List, ◌++◌, length, take, drop, get_or, refl, sym, ap, ◌∙◌, inl, inr, arith}
+use Rattle.std.proofs.lemmas.Bool.{cases_lt}
+use Rattle.std.proofs.lemmas.List.{get_or-drop, get_or-append-add, get_or_append_left, get_or_past, get_or-take, length-take}
+use Rattle.std.proofs.Math.ListN.{length-append, length-drop}
+use Rattle.std.proofs.lemmas.Slice.{between_to_end}
+use borrow.Rule.Slice.PartMut.{put_mid, post_of}
+use Rattle.pixel_formats.specs.Sample.{sample_at}
+
+same_index : (row : List ℕ) (p q : ℕ) → p ≡ q → get_or row p 0 ≡ get_or row q 0
+same_index row p q e = ap (λ k. get_or row k 0) e
+
+-- samples that stand m positions further on in the one row than in the other
+pub sample_at-shift : (d : ℕ) (a b : List ℕ) (m n i j : ℕ) → n ≡ d * m → j ≡ m + i → ((p : ℕ) → get_or a p 0 ≡ get_or b (n + p) 0) → sample_at d a i ≡ sample_at d b j
+sample_at-shift zero a b m n i j at_n at_j same = refl
+sample_at-shift (suc zero) a b m n i j at_n at_j same = same i ∙ same_index b (n + i) j (omega arith)
+sample_at-shift (suc (suc zero)) a b m n i j at_n at_j same =
+    let low = same (2 * i) ∙ same_index b (n + 2 * i) (2 * j) (omega arith) in
+    let high = same (2 * i + 1) ∙ same_index b (n + (2 * i + 1)) (2 * j + 1) (omega arith) in
+    omega (arith, low, high)
+sample_at-shift (suc (suc (suc d))) a b m n i j at_n at_j same = refl
+
+-- samples of rows that agree up to there
+pub sample_at-below : (d : ℕ) (a b : List ℕ) (n j : ℕ) → d * (j + 1) ≤ n → ((p : ℕ) → p < n → get_or a p 0 ≡ get_or b p 0) → sample_at d a j ≡ sample_at d b j
+sample_at-below zero a b n j far same = refl
+sample_at-below (suc zero) a b n j far same = same j (omega arith)
+sample_at-below (suc (suc zero)) a b n j far same =
+    let low = same (2 * j) (omega arith) in
+    let high = same (2 * j + 1) (omega arith) in
+    omega (arith, low, high)
+sample_at-below (suc (suc (suc d))) a b n j far same = refl
+
+-- ---- slices
+
+-- the bytes of `&row[a..]`
+pub part_from : (row : List ℕ) (a p : ℕ) → get_or (take (length row - a) (drop a row)) p 0 ≡ get_or row (a + p) 0
+part_from row a p = ap (λ l. get_or l p 0) (between_to_end row a (length row) (omega arith)) ∙ get_or-drop a row p 0
+
+pub length-part_from : (row : List ℕ) (a : ℕ) → length (take (length row - a) (drop a row)) ≡ length row - a
+length-part_from row a = ap length (between_to_end row a (length row) (omega arith)) ∙ length-drop a row
+
+-- the bytes of the row after `&mut row[a..]` was made `part`
+pub part_written : (row part : List ℕ) (a k p : ℕ) → a + k ≡ length row → length part ≡ k → get_or part p 0 ≡ get_or (put_mid a k row part) (a + p) 0
+part_written row part a k p whole long =
+    let prefix : length (take a row) ≡ a = omega (arith, length-take a row) in
+    let after = part ++ post_of a k row in
+    let at : get_or (put_mid a k row part) (a + p) 0 ≡ get_or after p 0 =
+    ap (λ i. get_or (take a row ++ after) i 0) (omega arith) ∙ get_or-append-add (take a row) after p 0 in
+    elim (cases_lt p k) [
+      | inl lt ↦ sym (at ∙ get_or_append_left part (post_of a k row) 0 p (omega arith))
+      | inr past ↦ get_or_past part p 0 (omega arith) ∙ sym (at ∙ get_or_past after p 0 (omega (arith, length-append part (post_of a k row), length-drop k (drop a row), length-drop a row)))
+    ]
+
+-- and before it those of the row as it was
+pub part_kept : (row part : List ℕ) (a k p : ℕ) → a ≤ length row → p < a → get_or (put_mid a k row part) p 0 ≡ get_or row p 0
+part_kept row part a k p room lt =
+    get_or_append_left (take a row) (part ++ post_of a k row) 0 p (omega (arith, length-take a row)) ∙ get_or-take a row p 0 lt

@@ -1,0 +1,56 @@
+//! Samples at another depth.
+
+ghost use Rattle.std.specs.Prelude.{◌≡◌, ℕ};
+ghost use Rattle.pixel_formats.specs.Sample.{rescaled};
+ghost use Rattle.simd_samples.specs.Lanes.{Hold};
+
+use crate::byte_lanes::ByteLanes;
+use crate::lanes::Lanes;
+use crate::positions::DOUBLED;
+use crate::word_lanes::WordLanes;
+use std::simd::prelude::*;
+
+/// Samples that can be had at the depth of `D`.
+pub trait Rescale<D: Lanes>: Lanes {
+    /// The samples at the other depth, rounded to the nearest.
+    fn rescale(self) -> D
+        ensures { Hold (D.lane result) (λ j. rescaled Self.depth D.depth (Self.lane self j)) };
+}
+
+impl Rescale<ByteLanes> for ByteLanes {
+    #[inline(always)]
+    fn rescale(self) -> ByteLanes {
+        self
+    }
+}
+
+impl Rescale<WordLanes> for WordLanes {
+    #[inline(always)]
+    fn rescale(self) -> WordLanes {
+        self
+    }
+}
+
+impl Rescale<WordLanes> for ByteLanes {
+    #[inline(always)]
+    fn rescale(self) -> WordLanes {
+        // 257 times a byte is the byte twice.
+        let bytes = self.lanes.swizzle(DOUBLED);
+        WordLanes {
+            lanes: u16x16::from_le_bytes(bytes),
+        }
+    }
+}
+
+impl Rescale<ByteLanes> for WordLanes {
+    #[inline(always)]
+    fn rescale(self) -> ByteLanes {
+        // The rounded quotient by 257, without leaving sixteen bits.
+        let less = self.lanes - (self.lanes >> u16x16::splat(8));
+        let half = u16x16::splat(127) + (self.lanes >> u16x16::splat(15));
+        let quotient = (less + half) >> u16x16::splat(8);
+        ByteLanes {
+            lanes: quotient.cast::<u8>(),
+        }
+    }
+}

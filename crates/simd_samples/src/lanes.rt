@@ -1,0 +1,157 @@
+//! Sixteen samples side by side, as kernels compute with them.
+
+ghost use Rattle.std.specs.Prelude.{◌≡◌, ℕ, ◌+◌, ◌-◌, ◌*◌, ◌/◌, ◌%◌, ◌^◌, ◌<◌, ◌≤◌, ◌==◌, length, slice_index, min, max, nat_le, if◌then◌else◌};
+ghost use Rattle.simd_samples.specs.Lanes.{Hold, HoldThree, HoldTwo};
+ghost use Rattle.pixel_formats.specs.Sample.{added, max_sample_of, mean_of_four, mean_of_three, sample_at, thresholded, unit_of, scaled_by};
+
+/// A vector of sixteen samples of one depth, which is one byte or two. Lane 0 is the leftmost.
+pub trait Lanes: Copy {
+    /// The sample in each lane.
+    ghost lane: { Self → ℕ → ℕ };
+
+    /// The bytes of a sample.
+    ghost depth: { ℕ };
+
+    ghost BYTES: { ℕ };
+
+    /// The bytes of the sixteen samples.
+    const BYTES: usize;
+
+    ghost LEVELS: { ℕ };
+
+    /// How many values a sample has.
+    const LEVELS: u64;
+
+    /// The first sixteen samples of a row of bytes.
+    fn load(src: &[u8]) -> Self
+        requires { BYTES ≤ length src.now }
+        ensures { Hold (lane result) (sample_at depth src.now) };
+
+    /// Writes the first sixteen samples of a row of bytes, and leaves those after them.
+    fn store(self, dst: &mut [u8])
+        requires { BYTES ≤ length dst.old }
+        ensures here { Hold (sample_at depth dst.new) (lane self) }
+        ensures after { (k : ℕ) → BYTES ≤ k → slice_index dst.new k ≡ slice_index dst.old k };
+
+    /// The largest sample in each lane.
+    fn max_sample() -> Self
+        ensures { Hold (lane result) (λ j. max_sample_of depth) };
+
+    /// The difference, and 0 where the other is greater.
+    fn saturating_sub(self, other: Self) -> Self
+        ensures { Hold (lane result) (λ j. lane self j - lane other j) };
+
+    /// The sum, and the largest sample where the sum is greater.
+    fn saturating_add(self, other: Self) -> Self
+        ensures { Hold (lane result) (λ j. added (max_sample_of depth) (lane self j) (lane other j)) };
+
+    /// The smaller sample in each lane.
+    fn min(self, other: Self) -> Self
+        ensures { Hold (lane result) (λ j. min (lane self j) (lane other j)) };
+
+    /// The greater sample in each lane.
+    fn max(self, other: Self) -> Self
+        ensures { Hold (lane result) (λ j. max (lane self j) (lane other j)) };
+
+    /// In each pair of lanes the second, twice.
+    fn spread_second(self) -> Self
+        ensures { Hold (lane result) (λ j. lane self (j / 2 * 2 + 1)) };
+
+    /// In each four lanes the fourth, four times.
+    fn spread_fourth(self) -> Self
+        ensures { Hold (lane result) (λ j. lane self (j / 4 * 4 + 3)) };
+
+    /// The same lanes, but the second of each pair from `old`.
+    fn with_second(self, old: Self) -> Self
+        ensures { Hold (lane result) (λ j. if j % 2 == 1 then lane old j else lane self j) };
+
+    /// The same lanes, but the fourth of each four from `old`.
+    fn with_fourth(self, old: Self) -> Self
+        ensures { Hold (lane result) (λ j. if j % 4 == 3 then lane old j else lane self j) };
+
+    /// A sample in each lane, and the largest sample where that is less.
+    fn splat(sample: u32) -> Self
+        ensures { Hold (lane result) (λ j. min (max_sample_of depth) sample) };
+
+    /// `self`, which is the cap, where a color reaches its threshold, and else 0.
+    fn threshold(self, colors: Self, thresholds: Self) -> Self
+        ensures { Hold (lane result) (λ j. thresholded (lane thresholds j) (lane self j) (lane colors j)) };
+
+    /// The part of each sample that its weight leaves, rounded to the nearest: all of it at the
+    /// largest sample, and nothing at 0.
+    fn scale_by(self, weights: Self) -> Self
+        ensures { Hold (lane result) (λ j. scaled_by (max_sample_of depth) (lane self j) (lane weights j)) };
+
+    /// Each sample times a factor, with an offset; both are counted in parts of 65,536 times the
+    /// number of levels.
+    fn scale(self, factor: u64, offset: u64) -> Self
+        requires factor { factor < LEVELS * unit_of depth }
+        requires small { (j : ℕ) → j < 16 → lane self j * factor + offset < LEVELS * unit_of depth }
+        ensures { Hold (lane result) (λ j. (lane self j * factor + offset) / unit_of depth) };
+
+    /// Each sample times a number, with an offset, divided by another number, and at most the
+    /// largest sample.
+    fn divide(self, number: u64, offset: u64, divisor: u64) -> Self
+        requires number { number < 2 ^ 32 }
+        requires offset { offset < 2 ^ 32 }
+        requires divisor { 0 < divisor }
+        ensures { Hold (lane result) (λ j. min (max_sample_of depth) ((lane self j * number + offset) / divisor)) };
+
+    /// The largest sample where a color is above its limit, and else the sample of `self`.
+    fn max_above(self, colors: Self, limits: Self) -> Self
+        ensures { Hold (lane result) (λ j. if nat_le (lane colors j) (lane limits j) then lane self j else max_sample_of depth) };
+
+    /// The mean of three samples in each lane, rounded to the nearest.
+    fn mean_of_three(self, second: Self, third: Self) -> Self
+        ensures { Hold (lane result) (λ j. mean_of_three (lane self j) (lane second j) (lane third j)) };
+
+    /// The mean of four samples in each lane, rounded to the nearest and a half upwards.
+    fn mean_of_four(self, second: Self, third: Self, fourth: Self) -> Self
+        ensures { Hold (lane result) (λ j. mean_of_four (lane self j) (lane second j) (lane third j) (lane fourth j)) };
+
+    /// Of two vectors, one after the other, the lanes with even and those with odd numbers.
+    fn deinterleave(self, other: Self) -> (Self, Self)
+        ensures even { (s : ℕ → ℕ) → HoldTwo (lane self) (lane other) s → Hold (lane result.0) (λ j. s (2 * j)) }
+        ensures odd { (s : ℕ → ℕ) → HoldTwo (lane self) (lane other) s → Hold (lane result.1) (λ j. s (2 * j + 1)) };
+
+    /// Of two vectors, one after the other, the pairs of lanes with even and those with odd numbers.
+    fn deinterleave_pairs(self, other: Self) -> (Self, Self)
+        ensures even { (s : ℕ → ℕ) → HoldTwo (lane self) (lane other) s → Hold (lane result.0) (λ j. s (j / 2 * 4 + j % 2)) }
+        ensures odd { (s : ℕ → ℕ) → HoldTwo (lane self) (lane other) s → Hold (lane result.1) (λ j. s (j / 2 * 4 + 2 + j % 2)) };
+
+    /// Of two vectors, one after the other, the fours of lanes with even and those with odd numbers.
+    fn deinterleave_fours(self, other: Self) -> (Self, Self)
+        ensures even { (s : ℕ → ℕ) → HoldTwo (lane self) (lane other) s → Hold (lane result.0) (λ j. s (j / 4 * 8 + j % 4)) }
+        ensures odd { (s : ℕ → ℕ) → HoldTwo (lane self) (lane other) s → Hold (lane result.1) (λ j. s (j / 4 * 8 + 4 + j % 4)) };
+
+    /// The lanes of two vectors by turns, as two vectors.
+    fn interleave(self, other: Self) -> (Self, Self)
+        ensures { (s : ℕ → ℕ) → Hold (lane self) (λ j. s (2 * j)) → Hold (lane other) (λ j. s (2 * j + 1))
+            → HoldTwo (lane result.0) (lane result.1) s };
+
+    /// Of three vectors, one after the other, every third lane: from the first, the second and the
+    /// third lane on.
+    fn split_thirds(self, second: Self, third: Self) -> (Self, Self, Self)
+        ensures first { (s : ℕ → ℕ) → HoldThree (lane self) (lane second) (lane third) s → Hold (lane result.0) (λ j. s (3 * j)) }
+        ensures second { (s : ℕ → ℕ) → HoldThree (lane self) (lane second) (lane third) s → Hold (lane result.1) (λ j. s (3 * j + 1)) }
+        ensures third { (s : ℕ → ℕ) → HoldThree (lane self) (lane second) (lane third) s → Hold (lane result.2) (λ j. s (3 * j + 2)) };
+
+    /// The lanes of three vectors by turns, as three vectors.
+    fn join_thirds(self, second: Self, third: Self) -> (Self, Self, Self)
+        ensures { (s : ℕ → ℕ) → Hold (lane self) (λ j. s (3 * j)) → Hold (lane second) (λ j. s (3 * j + 1)) → Hold (lane third) (λ j. s (3 * j + 2))
+            → HoldThree (lane result.0) (lane result.1) (lane result.2) s };
+
+    ghost sixteen: { BYTES ≡ 16 * depth };
+
+    ghost some_depth: { 0 < depth };
+
+    ghost few: { BYTES ≤ 32 };
+
+    ghost fits: { (v : Self) (j : ℕ) → lane v j ≤ max_sample_of depth };
+
+    ghost levels: { LEVELS ≡ 256 ^ depth };
+
+    ghost some_levels: { 0 < LEVELS };
+
+    ghost few_levels: { LEVELS ≤ 65536 };
+}

@@ -1,0 +1,96 @@
+//! Several vectors of sixteen samples in a row, one after the other.
+
+ghost use Rattle.std.specs.Prelude.{◌≡◌, ℕ, ◌+◌, ◌*◌, ◌<◌, ◌≤◌, length, slice_index};
+ghost use Rattle.simd_samples.specs.Lanes.{Hold, HoldTwo, HoldThree, HoldFour};
+ghost use Rattle.pixel_formats.specs.Sample.{sample_at};
+
+use crate::lanes::Lanes;
+
+/// The sixteen samples after `n` times sixteen.
+#[inline(always)]
+fn load_at<L: Lanes>(src: &[u8], n: usize) -> L
+    requires { (n + 1) * L.BYTES ≤ length src.now }
+    ensures { Hold (L.lane result) (λ j. sample_at L.depth src.now (16 * n + j)) }
+{
+    L::load(&src[L::BYTES * n..])
+}
+
+/// Writes the sixteen samples after `n` times sixteen, and leaves all others.
+#[inline(always)]
+fn store_at<L: Lanes>(lanes: L, dst: &mut [u8], n: usize)
+    requires { (n + 1) * L.BYTES ≤ length dst.old }
+    ensures kept { (i : ℕ) → i < 16 * n → sample_at L.depth dst.new i ≡ sample_at L.depth dst.old i }
+    ensures made { Hold (λ j. sample_at L.depth dst.new (16 * n + j)) (L.lane lanes) }
+    ensures after { (k : ℕ) → (n + 1) * L.BYTES ≤ k → slice_index dst.new k ≡ slice_index dst.old k }
+{
+    lanes.store(&mut dst[L::BYTES * n..]);
+}
+
+/// The first thirty-two samples of a row of bytes.
+#[inline(always)]
+pub fn load_two<L: Lanes>(src: &[u8]) -> (L, L)
+    requires { 2 * L.BYTES ≤ length src.now }
+    ensures { HoldTwo (L.lane result.0) (L.lane result.1) (sample_at L.depth src.now) }
+{
+    (load_at(src, 0), load_at(src, 1))
+}
+
+/// Forty-eight samples of a row of bytes, after `from` times sixteen.
+#[inline(always)]
+pub fn load_three<L: Lanes>(src: &[u8], from: usize) -> (L, L, L)
+    requires { (from + 3) * L.BYTES ≤ length src.now }
+    ensures { HoldThree (L.lane result.0) (L.lane result.1) (L.lane result.2) (λ j. sample_at L.depth src.now (16 * from + j)) }
+{
+    (
+        load_at(src, from),
+        load_at(src, from + 1),
+        load_at(src, from + 2),
+    )
+}
+
+/// The first sixty-four samples of a row of bytes.
+#[inline(always)]
+pub fn load_four<L: Lanes>(src: &[u8]) -> (L, L, L, L)
+    requires { 4 * L.BYTES ≤ length src.now }
+    ensures { HoldFour (L.lane result.0) (L.lane result.1) (L.lane result.2) (L.lane result.3) (sample_at L.depth src.now) }
+{
+    (
+        load_at(src, 0),
+        load_at(src, 1),
+        load_at(src, 2),
+        load_at(src, 3),
+    )
+}
+
+/// Writes the first thirty-two samples of a row of bytes, and leaves those after them.
+#[inline(always)]
+pub fn store_two<L: Lanes>(first: L, second: L, dst: &mut [u8])
+    requires { 2 * L.BYTES ≤ length dst.old }
+    ensures here { (s : ℕ → ℕ) → HoldTwo (L.lane first) (L.lane second) s → (i : ℕ) → i < 32 → sample_at L.depth dst.new i ≡ s i }
+    ensures after { (k : ℕ) → 2 * L.BYTES ≤ k → slice_index dst.new k ≡ slice_index dst.old k }
+{
+    store_at(first, dst, 0);
+    store_at(second, dst, 1);
+}
+
+/// Writes the first forty-eight samples of a row of bytes, and leaves those after them.
+#[inline(always)]
+pub fn store_three<L: Lanes>(first: L, second: L, third: L, dst: &mut [u8])
+    requires { 3 * L.BYTES ≤ length dst.old }
+    ensures here { (s : ℕ → ℕ) → HoldThree (L.lane first) (L.lane second) (L.lane third) s → (i : ℕ) → i < 48 → sample_at L.depth dst.new i ≡ s i }
+    ensures after { (k : ℕ) → 3 * L.BYTES ≤ k → slice_index dst.new k ≡ slice_index dst.old k }
+{
+    store_two(first, second, dst);
+    store_at(third, dst, 2);
+}
+
+/// Writes the first sixty-four samples of a row of bytes, and leaves those after them.
+#[inline(always)]
+pub fn store_four<L: Lanes>(first: L, second: L, third: L, fourth: L, dst: &mut [u8])
+    requires { 4 * L.BYTES ≤ length dst.old }
+    ensures here { (s : ℕ → ℕ) → HoldFour (L.lane first) (L.lane second) (L.lane third) (L.lane fourth) s → (i : ℕ) → i < 64 → sample_at L.depth dst.new i ≡ s i }
+    ensures after { (k : ℕ) → 4 * L.BYTES ≤ k → slice_index dst.new k ≡ slice_index dst.old k }
+{
+    store_three(first, second, third, dst);
+    store_at(fourth, dst, 3);
+}

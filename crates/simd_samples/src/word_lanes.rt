@@ -1,0 +1,276 @@
+//! Sixteen samples of two bytes, the less significant first.
+
+ghost use Rattle.std.specs.Prelude.{◌*◌, slice_index, refl};
+ghost use Rattle.std.proofs.Common.{rules};
+ghost use Rattle.simd_samples.specs.Lanes.{AreLanes};
+
+use crate::lanes::Lanes;
+use crate::positions::{
+    EVEN_FOURS, EVEN_PAIRS, FIRST_JOINED_BY_LAST, FIRST_JOINED_BY_TWO, FIRST_OF_LAST,
+    FIRST_OF_THREE, FOURTH_OF_FOUR, KEEPING_FOURTH, KEEPING_SECOND, ODD_FOURS, ODD_PAIRS,
+    SECOND_JOINED_BY_LAST, SECOND_JOINED_BY_TWO, SECOND_OF_LAST, SECOND_OF_THREE, SECOND_OF_TWO,
+    THIRD_JOINED_BY_LAST, THIRD_JOINED_BY_TWO, THIRD_OF_LAST, THIRD_OF_THREE,
+};
+use std::simd::prelude::*;
+
+/// Sixteen samples of two bytes, the less significant first.
+#[derive(Clone, Copy)]
+pub struct WordLanes {
+    pub(crate) lanes: u16x16,
+    ghost samples: { AreLanes 65536 lanes },
+}
+
+impl Lanes for WordLanes {
+    ghost lane = { λ v j. slice_index v.lanes j };
+
+    ghost depth = { 2 };
+
+    ghost BYTES = { 32 };
+
+    const BYTES: usize = 32;
+
+    ghost LEVELS = { 65536 };
+
+    const LEVELS: u64 = 65536;
+
+    #[inline(always)]
+    fn load(src: &[u8]) -> Self {
+        WordLanes {
+            lanes: u16x16::from_le_bytes(u8x32::from_slice(src)),
+        }
+    }
+
+    #[inline(always)]
+    fn store(self, dst: &mut [u8]) {
+        self.lanes.to_le_bytes().copy_to_slice(dst);
+    }
+
+    #[inline(always)]
+    fn max_sample() -> Self {
+        WordLanes {
+            lanes: u16x16::splat(u16::MAX),
+        }
+    }
+
+    #[inline(always)]
+    fn saturating_sub(self, other: Self) -> Self {
+        WordLanes {
+            lanes: self.lanes.saturating_sub(other.lanes),
+        }
+    }
+
+    #[inline(always)]
+    fn saturating_add(self, other: Self) -> Self {
+        WordLanes {
+            lanes: self.lanes.saturating_add(other.lanes),
+        }
+    }
+
+    #[inline(always)]
+    fn min(self, other: Self) -> Self {
+        WordLanes {
+            lanes: self.lanes.simd_min(other.lanes),
+        }
+    }
+
+    #[inline(always)]
+    fn max(self, other: Self) -> Self {
+        WordLanes {
+            lanes: self.lanes.simd_max(other.lanes),
+        }
+    }
+
+    #[inline(always)]
+    fn spread_second(self) -> Self {
+        WordLanes {
+            lanes: self.lanes.swizzle(SECOND_OF_TWO),
+        }
+    }
+
+    #[inline(always)]
+    fn spread_fourth(self) -> Self {
+        WordLanes {
+            lanes: self.lanes.swizzle(FOURTH_OF_FOUR),
+        }
+    }
+
+    #[inline(always)]
+    fn with_second(self, old: Self) -> Self {
+        WordLanes {
+            lanes: self.lanes.shuffle(old.lanes, KEEPING_SECOND),
+        }
+    }
+
+    #[inline(always)]
+    fn with_fourth(self, old: Self) -> Self {
+        WordLanes {
+            lanes: self.lanes.shuffle(old.lanes, KEEPING_FOURTH),
+        }
+    }
+
+    #[inline(always)]
+    fn splat(sample: u32) -> Self {
+        WordLanes {
+            lanes: u16x16::splat(sample.min(u32::from(u16::MAX)) as u16),
+        }
+    }
+
+    #[inline(always)]
+    fn threshold(self, colors: Self, thresholds: Self) -> Self {
+        let reached = thresholds.lanes.simd_le(colors.lanes);
+        WordLanes {
+            lanes: reached.select(self.lanes, u16x16::splat(0)),
+        }
+    }
+
+    #[inline(always)]
+    fn scale_by(self, weights: Self) -> Self {
+        let sum = self.lanes.cast::<u32>() * weights.lanes.cast::<u32>() + u32x16::splat(32_767);
+        // Dividing by 65,535 with shifts, which is exact for what two samples give.
+        let quotient = (sum + u32x16::splat(1) + (sum >> u32x16::splat(16))) >> u32x16::splat(16);
+        WordLanes {
+            lanes: quotient.cast::<u16>(),
+        }
+    }
+
+    #[inline(always)]
+    fn scale(self, factor: u64, offset: u64) -> Self {
+        let products = self.lanes.cast::<u64>() * u64x16::splat(factor);
+        let scaled = (products + u64x16::splat(offset)) >> u64x16::splat(32);
+        WordLanes {
+            lanes: scaled.cast::<u16>(),
+        }
+    }
+
+    #[inline(always)]
+    fn divide(self, number: u64, offset: u64, divisor: u64) -> Self {
+        let products = self.lanes.cast::<u64>() * u64x16::splat(number);
+        let sums = products + u64x16::splat(offset);
+        let quotients = sums / u64x16::splat(divisor);
+        let most = u64x16::splat(65_535);
+        WordLanes {
+            lanes: quotients.simd_min(most).cast::<u16>(),
+        }
+    }
+
+    #[inline(always)]
+    fn max_above(self, colors: Self, limits: Self) -> Self {
+        let within = colors.lanes.simd_le(limits.lanes);
+        WordLanes {
+            lanes: within.select(self.lanes, u16x16::splat(u16::MAX)),
+        }
+    }
+
+    #[inline(always)]
+    fn mean_of_three(self, second: Self, third: Self) -> Self {
+        let pair = self.lanes.cast::<u32>() + second.lanes.cast::<u32>();
+        let sum = pair + (third.lanes.cast::<u32>() + u32x16::splat(1));
+        WordLanes {
+            lanes: (sum / u32x16::splat(3)).cast::<u16>(),
+        }
+    }
+
+    #[inline(always)]
+    fn mean_of_four(self, second: Self, third: Self, fourth: Self) -> Self {
+        let pair = self.lanes.cast::<u32>() + second.lanes.cast::<u32>();
+        let other = third.lanes.cast::<u32>() + fourth.lanes.cast::<u32>();
+        let sum = pair + other + u32x16::splat(2);
+        WordLanes {
+            lanes: (sum >> u32x16::splat(2)).cast::<u16>(),
+        }
+    }
+
+    #[inline(always)]
+    fn deinterleave(self, other: Self) -> (Self, Self) {
+        let (even, odd) = self.lanes.deinterleave(other.lanes);
+        (WordLanes { lanes: even }, WordLanes { lanes: odd })
+    }
+
+    #[inline(always)]
+    fn deinterleave_pairs(self, other: Self) -> (Self, Self) {
+        let even = WordLanes {
+            lanes: self.lanes.shuffle(other.lanes, EVEN_PAIRS),
+        };
+        let odd = WordLanes {
+            lanes: self.lanes.shuffle(other.lanes, ODD_PAIRS),
+        };
+        (even, odd)
+    }
+
+    #[inline(always)]
+    fn deinterleave_fours(self, other: Self) -> (Self, Self) {
+        let even = WordLanes {
+            lanes: self.lanes.shuffle(other.lanes, EVEN_FOURS),
+        };
+        let odd = WordLanes {
+            lanes: self.lanes.shuffle(other.lanes, ODD_FOURS),
+        };
+        (even, odd)
+    }
+
+    #[inline(always)]
+    fn interleave(self, other: Self) -> (Self, Self) {
+        let (low, high) = self.lanes.interleave(other.lanes);
+        (WordLanes { lanes: low }, WordLanes { lanes: high })
+    }
+
+    #[inline(always)]
+    fn split_thirds(self, second: Self, third: Self) -> (Self, Self, Self) {
+        let a = WordLanes {
+            lanes: self
+                .lanes
+                .shuffle(second.lanes, FIRST_OF_THREE)
+                .shuffle(third.lanes, FIRST_OF_LAST),
+        };
+        let b = WordLanes {
+            lanes: self
+                .lanes
+                .shuffle(second.lanes, SECOND_OF_THREE)
+                .shuffle(third.lanes, SECOND_OF_LAST),
+        };
+        let c = WordLanes {
+            lanes: self
+                .lanes
+                .shuffle(second.lanes, THIRD_OF_THREE)
+                .shuffle(third.lanes, THIRD_OF_LAST),
+        };
+        (a, b, c)
+    }
+
+    #[inline(always)]
+    fn join_thirds(self, second: Self, third: Self) -> (Self, Self, Self) {
+        let a = WordLanes {
+            lanes: self
+                .lanes
+                .shuffle(second.lanes, FIRST_JOINED_BY_TWO)
+                .shuffle(third.lanes, FIRST_JOINED_BY_LAST),
+        };
+        let b = WordLanes {
+            lanes: self
+                .lanes
+                .shuffle(second.lanes, SECOND_JOINED_BY_TWO)
+                .shuffle(third.lanes, SECOND_JOINED_BY_LAST),
+        };
+        let c = WordLanes {
+            lanes: self
+                .lanes
+                .shuffle(second.lanes, THIRD_JOINED_BY_TWO)
+                .shuffle(third.lanes, THIRD_JOINED_BY_LAST),
+        };
+        (a, b, c)
+    }
+
+    ghost sixteen = { refl };
+
+    ghost some_depth = { Prim.search rules };
+
+    ghost few = { Prim.search rules };
+
+    ghost fits = { λ v j. Prim.search (rules, v.samples.below j) };
+
+    ghost levels = { refl };
+
+    ghost some_levels = { Prim.search rules };
+
+    ghost few_levels = { Prim.search rules };
+}

@@ -1,0 +1,231 @@
+//! Expected values are worked out by hand from the doc comments, but for those of the tables.
+
+ghost use Rattle.std.specs.Prelude.{IfOk, ◌≡◌};
+ghost use Rattle.plane_rect.specs.Rectangle.{InLimits};
+ghost use Rattle.pixel_formats.specs.declared.format.Format.TheVariants.{Y8};
+
+use crate::cases::Samples;
+use crate::halved_cases::HALVED;
+use crate::read_cases::READ;
+use patch_abyss::{Abyss, Patch, PatchRefused, fetch, halve};
+use plane_rect::{Rect, TileAt};
+use sample_rows::Format;
+use std::alloc::Global;
+use std::test::Fail;
+use tile_cow::Tile;
+
+/// A rectangle of fields that are one's, or else the one without a position.
+fn rect(fields: [i64; 4]) -> Rect
+    ensures { InLimits result }
+{
+    let [x, y, w, h] = fields;
+    match Rect::new(x, y, w, h) {
+        Ok(rect) if rect.in_limits() => rect,
+        _ => Rect::EMPTY,
+    }
+}
+
+/// The policies, in the order of the tables.
+const POLICIES: [Abyss; 5] = [
+    Abyss::None,
+    Abyss::Clamp,
+    Abyss::Loop,
+    Abyss::Black,
+    Abyss::White,
+];
+
+impl Samples {
+    /// The patch of these.
+    fn patch(self, alloc: Global) -> Result<Patch, PatchRefused> {
+        Patch::from_raw(alloc, rect(self.bounds), self.format, self.bytes)
+    }
+}
+
+/// The patch of rows 1 2 and 3 4 from x = y = -1 on.
+fn one_to_four(alloc: Global) -> Result<Patch, PatchRefused>
+    ensures { IfOk result (λ patch. patch.format ≡ Y8) }
+{
+    Patch::from_raw(alloc, rect([-1, -1, 2, 2]), Format::Y8, &[1, 2, 3, 4])
+}
+
+#[test]
+fn from_raw_refuses_a_wrong_length(rt: HostRuntime) -> Result<(), Fail> {
+    let alloc = rt.alloc();
+    let bounds = rect([0, 0, 3, 2]);
+    for bytes in [&[0; 17].as_slice(), &[0; 19].as_slice(), &[].as_slice()] {
+        let refused = Patch::from_raw(alloc, bounds, Format::RGB8, bytes).err();
+        let found = bytes.len() as u64;
+        assert!(rt; refused == Some(PatchRefused::WrongSize { found, wanted: 18 }));
+    }
+    Ok(())
+}
+
+#[test]
+fn samples_by_x_and_y(rt: HostRuntime) -> Result<(), Fail> {
+    let patch = one_to_four(rt.alloc())?;
+    let table = [
+        (-1, -1, 1),
+        (0, -1, 2),
+        (-1, 0, 3),
+        (0, 0, 4),
+        (1, 0, 0),
+        (0, -2, 0),
+        (i32::MIN, 0, 0),
+        (0, i32::MAX, 0),
+    ];
+    for (x, y, sample) in table {
+        assert_eq!(rt; patch.at(x, y, 0), sample);
+    }
+    Ok(())
+}
+
+#[test]
+fn parts(rt: HostRuntime) -> Result<(), Fail> {
+    let alloc = rt.alloc();
+    let patch = one_to_four(alloc)?;
+    let table = [
+        ([-1, -1, 2, 2], [1, 2, 3, 4]),
+        ([0, 0, 2, 2], [4, 0, 0, 0]),
+        ([-2, -1, 2, 2], [0, 1, 0, 3]),
+        ([-2, 0, 4, 1], [0, 3, 4, 0]),
+        ([-16_777_216, -16_777_216, 2, 2], [0, 0, 0, 0]),
+    ];
+    for (fields, samples) in table {
+        let part = patch.part(alloc, rect(fields))?;
+        assert_eq!(rt; part.raw_bytes(), samples.as_slice());
+    }
+    Ok(())
+}
+
+#[test]
+fn blits_the_meet(rt: HostRuntime) -> Result<(), Fail> {
+    let alloc = rt.alloc();
+    let mut patch = Patch::zero(alloc, rect([0, -1, 3, 2]), Format::Y8)?;
+    patch.blit(&one_to_four(alloc)?);
+    assert_eq!(rt; patch.raw_bytes(), [2, 0, 0, 4, 0, 0].as_slice());
+    Ok(())
+}
+
+#[test]
+fn tiles_of_a_patch(rt: HostRuntime) -> Result<(), Fail> {
+    let alloc = rt.alloc();
+    let patch = one_to_four(alloc)?;
+    let tile = patch.tile(alloc, TileAt::of(-1, 0))?;
+    assert!(rt; tile.bytes().len() == 4096);
+    assert!(rt; tile.bytes().get(63) == Some(&3) && tile.bytes().get(62) == Some(&0));
+    let after = patch.tile(alloc, TileAt::of(16_777_216, 0))?;
+    assert!(rt; after.bytes().iter().all(|byte| *byte == 0));
+    Ok(())
+}
+
+#[test]
+fn puts_tiles(rt: HostRuntime) -> Result<(), Fail> {
+    let alloc = rt.alloc();
+    let mut patch = Patch::zero(alloc, rect([63, -1, 2, 2]), Format::YA8)?;
+    let tile = Tile::of(alloc, &[7; 8_192])?;
+    patch.put_tile(TileAt::of(64, 0), &tile);
+    assert_eq!(rt; patch.raw_bytes(), [0, 0, 0, 0, 0, 0, 7, 7].as_slice());
+    let back = patch.tile(alloc, TileAt::of(64, 0))?;
+    assert_eq!(rt; back.bytes().len(), 8_192);
+    assert_eq!(rt; back.bytes().iter().filter(|byte| **byte == 7).count(), 2);
+    assert!(rt; back.bytes().starts_with(&[7, 7, 0]));
+    Ok(())
+}
+
+#[test]
+fn reads_under_each_policy(rt: HostRuntime) -> Result<(), Fail> {
+    let alloc = rt.alloc();
+    for case in READ {
+        let image = case.image.patch(alloc)?;
+        for (abyss, bytes) in POLICIES.into_iter().zip(case.gives) {
+            let patch = fetch(alloc, &image, abyss, rect(case.over))?;
+            assert!(rt; patch.rect() == rect(case.over) && patch.format() == case.image.format);
+            assert_eq!(rt; patch.raw_bytes(), bytes, "{abyss:?} over {:?}", case.over);
+        }
+    }
+    Ok(())
+}
+
+/// How many bytes a row has: one block of each size by which rows are copied, one byte less and one
+/// more, and rows that are long.
+const LENGTHS: [u16; 19] = [
+    1, 3, 4, 5, 15, 16, 17, 31, 63, 64, 65, 127, 128, 129, 200, 255, 256, 257, 300,
+];
+
+/// The bytes 0, 1, 2 and so on to 250, periodically.
+fn counted(alloc: Global, count: u16) -> Result<Vec<u8>, Fail> {
+    let mut bytes = vec![in alloc; 0; usize::from(count)]?;
+    for (position, byte) in bytes.iter_mut().enumerate() {
+        *byte = (position % 251) as u8;
+    }
+    Ok(bytes)
+}
+
+#[test]
+fn parts_of_each_length(rt: HostRuntime) -> Result<(), Fail> {
+    let alloc = rt.alloc();
+    let bytes = counted(alloc, 800)?;
+    let image = Patch::from_raw(alloc, rect([0, 0, 400, 2]), Format::Y8, &bytes)?;
+    for length in LENGTHS {
+        let part = image.part(alloc, rect([20, 0, i64::from(length), 2]))?;
+        let count = usize::from(length);
+        let first = bytes.iter().skip(20).take(count);
+        let second = bytes.iter().skip(420).take(count);
+        assert_eq!(rt; part.raw_bytes().len(), 2 * count);
+        for (byte, expected) in part.raw_bytes().iter().zip(first.chain(second)) {
+            assert_eq!(rt; byte, expected, "{length}");
+        }
+    }
+    Ok(())
+}
+
+/// What a row of 40 samples from the origin on gives under a policy, sample by sample.
+fn plain_sample(abyss: Abyss, row: &[u8], x: i64) -> u8 {
+    let position = match abyss {
+        Abyss::Clamp => x.clamp(0, 39),
+        Abyss::Loop => x.rem_euclid(40),
+        _ => x,
+    };
+    let outside = if abyss == Abyss::White { 255 } else { 0 };
+    usize::try_from(position)
+        .ok()
+        .and_then(|position| row.get(position).copied())
+        .unwrap_or(outside)
+}
+
+#[test]
+fn reads_of_each_length(rt: HostRuntime) -> Result<(), Fail> {
+    let alloc = rt.alloc();
+    let bytes = counted(alloc, 40)?;
+    let image = Patch::from_raw(alloc, rect([0, 0, 40, 1]), Format::Y8, &bytes)?;
+    for length in LENGTHS {
+        for abyss in POLICIES {
+            let read = fetch(alloc, &image, abyss, rect([-30, 0, i64::from(length), 1]))?;
+            assert_eq!(rt; read.raw_bytes().len(), usize::from(length));
+            for (x, byte) in (-30..).zip(read.raw_bytes()) {
+                assert_eq!(rt;
+                    *byte,
+                    plain_sample(abyss, &bytes, x),
+                    "{abyss:?} of {length} at {x}"
+                );
+            }
+        }
+    }
+    Ok(())
+}
+
+#[test]
+fn halves(rt: HostRuntime) -> Result<(), Fail> {
+    let alloc = rt.alloc();
+    for case in HALVED {
+        let half = halve(alloc, &case.image.patch(alloc)?)?;
+        assert!(rt; half.rect() == rect(case.half.bounds) && half.format() == case.half.format);
+        assert_eq!(rt;
+            half.raw_bytes(),
+            case.half.bytes,
+            "{:?}",
+            case.image.bounds
+        );
+    }
+    Ok(())
+}

@@ -1,0 +1,207 @@
+//! Rows of each length near that of a block, through a kernel for each shape of loop.
+
+ghost use Rattle.std.specs.Prelude.{◌<◌, ◌≤◌};
+
+use sample_rows::{Format, convert_row, row_add, row_average4, row_invert, row_mask, row_over};
+
+/// How many bytes the rows have that are read and written, of which a kernel uses a front.
+const ROOM: usize = 200;
+
+/// What stands in a row before it is written.
+const OLD: u8 = 7;
+
+/// None, one, and one less and one more than what kernels take at once: four pixels, eight,
+/// sixteen and thirty-two.
+const COUNTS: [usize; 14] = [0, 1, 3, 4, 5, 7, 8, 9, 15, 16, 17, 31, 32, 33];
+
+/// The shapes of loops.
+const SHAPES: [Shape; 10] = [
+    Shape::Samples,
+    Shape::PixelsWithAlpha,
+    Shape::Pairs,
+    Shape::PairsWithAlpha,
+    Shape::Widening,
+    Shape::Narrowing,
+    Shape::Halving,
+    Shape::HalvingColors,
+    Shape::Masked,
+    Shape::Layouts,
+];
+
+/// A shape of loop, by one kernel that has it.
+#[derive(Clone, Copy, Debug)]
+enum Shape {
+    /// Inverting Y8.
+    Samples,
+    /// Inverting RGBA8.
+    PixelsWithAlpha,
+    /// Adding Y8.
+    Pairs,
+    /// Laying YA8 over YA8.
+    PairsWithAlpha,
+    /// Y8 to Y16.
+    Widening,
+    /// Y16 to Y8.
+    Narrowing,
+    /// The means of four of Y8.
+    Halving,
+    /// The means of four of RGB8.
+    HalvingColors,
+    /// Masking RGB8.
+    Masked,
+    /// RGBA8 to Y8.
+    Layouts,
+}
+
+impl Shape {
+    /// The bytes of so many pixels that are written.
+    fn written(self, n: usize) -> usize
+        requires { n ≤ 33 }
+    {
+        match self {
+            Shape::Samples | Shape::Pairs | Shape::Narrowing | Shape::Halving | Shape::Layouts => n,
+            Shape::PairsWithAlpha | Shape::Widening => n * 2,
+            Shape::HalvingColors | Shape::Masked => n * 3,
+            Shape::PixelsWithAlpha => n * 4,
+        }
+    }
+
+    /// Writes a row of so many pixels.
+    fn write(self, n: usize, first: &[u8; ROOM], second: &[u8; ROOM], dst: &mut [u8; ROOM])
+        requires { n ≤ 33 }
+    {
+        match self {
+            Shape::Samples => row_invert(Format::Y8, &first[..n], &mut dst[..n]),
+            Shape::PixelsWithAlpha => {
+                row_invert(Format::RGBA8, &first[..n * 4], &mut dst[..n * 4]);
+            }
+            Shape::Pairs => row_add(Format::Y8, &first[..n], &second[..n], &mut dst[..n]),
+            Shape::PairsWithAlpha => row_over(
+                Format::YA8,
+                &first[..n * 2],
+                &second[..n * 2],
+                &mut dst[..n * 2],
+            ),
+            Shape::Widening => convert_row(Format::Y8, &first[..n], Format::Y16, &mut dst[..n * 2]),
+            Shape::Narrowing => {
+                convert_row(Format::Y16, &first[..n * 2], Format::Y8, &mut dst[..n]);
+            }
+            Shape::Halving => row_average4(
+                Format::Y8,
+                &first[..n * 2],
+                &second[..n * 2],
+                &mut dst[..n],
+            ),
+            Shape::HalvingColors => row_average4(
+                Format::RGB8,
+                &first[..n * 6],
+                &second[..n * 6],
+                &mut dst[..n * 3],
+            ),
+            Shape::Masked => row_mask(
+                Format::RGB8,
+                &first[..n * 3],
+                &second[..n],
+                &mut dst[..n * 3],
+            ),
+            Shape::Layouts => convert_row(
+                Format::RGBA8,
+                &first[..n * 4],
+                Format::Y8,
+                &mut dst[..n],
+            ),
+        }
+    }
+
+    /// What the byte at a position is, by the kernel's formula.
+    fn expected(self, place: usize) -> usize
+        requires { place < 200 }
+    {
+        let s = first(place);
+        match self {
+            Shape::Samples => 255 - s,
+            Shape::PixelsWithAlpha if place % 4 == 3 => s,
+            Shape::PixelsWithAlpha => first(place / 4 * 4 + 3).saturating_sub(s),
+            Shape::Pairs => (s + second(place)).min(255),
+            Shape::PairsWithAlpha => {
+                let left = 255 - first(place / 2 * 2 + 1);
+                (s + (second(place) * left + 127) / 255).min(255)
+            }
+            // 257 times a byte is the byte twice.
+            Shape::Widening => first(place / 2),
+            Shape::Narrowing => {
+                let wide = first(place * 2) + 256 * first(place * 2 + 1);
+                (wide * 255 + 32_767) / 65_535
+            }
+            Shape::Halving => {
+                let up = first(place * 2) + first(place * 2 + 1);
+                let down = second(place * 2) + second(place * 2 + 1);
+                (up + down + 2) / 4
+            }
+            Shape::HalvingColors => {
+                let left = place / 3 * 6 + place % 3;
+                let up = first(left) + first(left + 3);
+                let down = second(left) + second(left + 3);
+                (up + down + 2) / 4
+            }
+            Shape::Masked => (s * second(place / 3) + 127) / 255,
+            Shape::Layouts => {
+                let colors = first(place * 4) + first(place * 4 + 1) + first(place * 4 + 2);
+                (colors + 1) / 3
+            }
+        }
+    }
+}
+
+/// The byte at a place of the first row that is read.
+fn first(place: usize) -> usize
+    requires { place < 1000 }
+    ensures { result < 256 }
+{
+    place * 37 % 256
+}
+
+/// The byte at a place of the second.
+fn second(place: usize) -> usize
+    requires { place < 1000 }
+    ensures { result < 256 }
+{
+    place * 91 % 256
+}
+
+/// A row that begins with 0 and in which each byte is `step` above the one before it, round the
+/// largest byte.
+fn row(step: u8) -> [u8; ROOM] {
+    let mut row = [0u8; ROOM];
+    let mut value = 0u8;
+    for byte in &mut row {
+        *byte = value;
+        value = value.wrapping_add(step);
+    }
+    row
+}
+
+#[test]
+fn lengths(rt: HostRuntime) {
+    let first = row(37);
+    let second = row(91);
+    for shape in SHAPES {
+        for count in COUNTS {
+            let mut dst = [OLD; ROOM];
+            shape.write(count, &first, &second, &mut dst);
+            let written = shape.written(count);
+            for place in 0..ROOM {
+                let want = if place < written {
+                    shape.expected(place)
+                } else {
+                    usize::from(OLD)
+                };
+                assert_eq!(rt;
+                    usize::from(dst[place]),
+                    want,
+                    "{shape:?}, {count}: {place}"
+                );
+            }
+        }
+    }
+}

@@ -1,0 +1,6 @@
+use Rattle.std.proofs.Common.{rules}
+use Rattle.std.specs.FinMap.{gets}
+use Rattle.test_stores.proofs.lending.keep.Goals as goal
+
+pub put-answer-requires : goal.put-answer-requires
+put-answer-requires g c = rw c.in_ok-store.ensures.empty search (rules, gets)

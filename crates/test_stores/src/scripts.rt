@@ -1,0 +1,163 @@
+//! Calls that are made on a store and on a naive one.
+
+use crate::naive::NaiveStore;
+use outside_io::{NoMemory, SwapDisk};
+use std::alloc::Global;
+use std::process::Abort;
+use std::test::Fail;
+use swap_store::{Store, SwapRefused, SwapStore};
+use tile_cow::Tile;
+
+/// A tile of so many bytes, which differ by their positions and by `seed`.
+pub fn tile_of(rt: &impl Abort, alloc: Global, len: u64, seed: u64) -> Result<Tile, NoMemory> {
+    let mut bytes = Vec::new(alloc);
+    for place in 0..len {
+        let byte = place
+            .wrapping_mul(7)
+            .wrapping_add(place / 4096)
+            .wrapping_add(seed)
+            % 251;
+        bytes.push(byte as u8)?;
+    }
+    assert!(rt; !bytes.is_empty());
+    assert!(rt; bytes.len() <= 65_536);
+    Tile::of(alloc, &bytes)
+}
+
+/// Puts a tile under a name that isn't there.
+pub fn put<D: SwapDisk>(
+    rt: &impl Abort,
+    store: &mut Store<D>,
+    name: u64,
+    tile: &Tile,
+) -> Result<(), SwapRefused> {
+    assert!(rt; !store.has(name), "{name} is there");
+    store.put(name, tile)
+}
+
+/// The tile of a name that is there.
+pub fn get<D: SwapDisk>(
+    rt: &impl Abort,
+    store: &mut Store<D>,
+    name: u64,
+) -> Result<Tile, SwapRefused> {
+    let len = store.len_of(name).expect(rt, "the name is there");
+    store.get(name, len)
+}
+
+/// Forgets a name that is there.
+pub fn forget<D: SwapDisk>(rt: &impl Abort, store: &mut Store<D>, name: u64) {
+    assert!(rt; store.has(name), "{name} isn't there");
+    store.forget(name);
+}
+
+/// The next number of a fixed sequence without order.
+fn next(random: u64) -> u64 {
+    random
+        .wrapping_mul(6_364_136_223_846_793_005)
+        .wrapping_add(1_442_695_040_888_963_407)
+}
+
+/// Checks that the store has the naive one's free runs, and the bytes of each of its names.
+fn compare<D: SwapDisk>(
+    rt: &impl Abort,
+    alloc: Global,
+    store: &mut Store<D>,
+    naive: &NaiveStore,
+) -> Result<u32, Fail> {
+    let runs = naive.free_runs(alloc)?;
+    assert_eq!(rt; store.free_runs(), runs.as_slice());
+    let mut faults = 0u32;
+    for entry in &naive.entries {
+        faults = faults.saturating_add(compare_bytes(rt, store, entry.0, &entry.1));
+    }
+    Ok(faults)
+}
+
+/// Checks that a name has these bytes. The one read that fails is made again.
+fn compare_bytes<D: SwapDisk>(
+    rt: &impl Abort,
+    store: &mut Store<D>,
+    name: u64,
+    bytes: &[u8],
+) -> u32 {
+    match get(rt, store, name) {
+        Ok(tile) => {
+            assert_eq!(rt; tile.bytes(), bytes, "the bytes of {name}");
+            0
+        }
+        Err(refused) => {
+            assert_eq!(rt; refused, SwapRefused::SwapFault);
+            let tile = get(rt, store, name).expect(rt, "only one read fails");
+            assert_eq!(rt; tile.bytes(), bytes, "the bytes of {name}");
+            1
+        }
+    }
+}
+
+/// Puts a tile into both. The one write that fails is made again, after a look at what it left.
+fn put_into_both<D: SwapDisk>(
+    rt: &impl Abort,
+    alloc: Global,
+    store: &mut Store<D>,
+    naive: &mut NaiveStore,
+    name: u64,
+    tile: &Tile,
+) -> Result<u32, Fail> {
+    let wanted = naive.wanted_answer(alloc, tile.bytes().len())?;
+    let mut faults = 0u32;
+    let mut answer = put(rt, store, name, tile);
+    if answer == Err(SwapRefused::SwapFault) {
+        assert!(rt; !store.has(name), "{name} was kept");
+        faults = compare(rt, alloc, store, naive)?.saturating_add(1);
+        answer = put(rt, store, name, tile);
+    }
+    assert_eq!(rt; answer, wanted);
+    if wanted.is_ok() {
+        naive.put(alloc, name, tile.bytes())?;
+    }
+    Ok(faults)
+}
+
+/// Makes this many calls on a store over the disk, compares it with a naive one after each, and
+/// gives the number of calls that answered an I/O error.
+pub fn play<D: SwapDisk>(
+    rt: &impl Abort,
+    alloc: Global,
+    disk: &mut D,
+    blocks: u32,
+    steps: u64,
+) -> Result<u32, Fail> {
+    let mut store = SwapStore::new(alloc, disk, blocks)?;
+    let mut naive = NaiveStore::new(alloc, blocks as usize)?;
+    let mut faults = 0u32;
+    let mut random = next(steps);
+    for step in 0..steps {
+        random = next(random);
+        let name = (random >> 33) % 6;
+        let len = 1 + (random >> 40) % 9_000;
+        let more = match naive.bytes(name) {
+            None => put_into_both(
+                rt,
+                alloc,
+                &mut store,
+                &mut naive,
+                name,
+                &tile_of(rt, alloc, len, step)?,
+            )?,
+            Some(_) if random >> 62 == 0 => {
+                forget(rt, &mut store, name);
+                naive.forget(name);
+                0
+            }
+            Some(bytes) => compare_bytes(rt, &mut store, name, bytes),
+        };
+        faults = faults.saturating_add(more);
+        assert_eq!(rt;
+            store.free_runs(),
+            naive.free_runs(alloc)?.as_slice(),
+            "at step {step}"
+        );
+    }
+    Ok(faults.saturating_add(compare(rt, alloc, &mut store, &naive)?))
+}
