@@ -3,7 +3,7 @@
 ghost use Rattle.std.specs.Prelude.{◌≡◌, ◌*◌, ◌≤◌, IfOk, length};
 ghost use Rattle.pixel_formats.specs.Format.{pixel_bytes};
 
-use sample_rows::Format;
+use pixel_formats::Format;
 use std::alloc::{AllocError, Global};
 
 /// A row of so many pixels. Each byte is `step` above the one before it, round the largest byte.

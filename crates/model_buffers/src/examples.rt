@@ -8,7 +8,7 @@ ghost use Rattle.model_buffers.specs.Edits.{copied, created, duplicated, filled,
 ghost use Rattle.model_buffers.specs.Examples.{and_then, bytes_of, column_of_two_rows, duplicate_filled, duplicate_then_fill, first_name, full_table, image_after, nines_by_column, no_buffer, one_color, one_two_three, part_of_four, right_column, second_name, two_rows, zeros_over};
 
 use crate::refused::EditRefused;
-use sample_rows::Format;
+use pixel_formats::Format;
 
 /// A buffer of 10 and 10 is duplicated. Then 20 is written to its first position, and 30 to the
 /// duplicate's second.

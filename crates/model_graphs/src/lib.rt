@@ -1,23 +1,12 @@
-//! What graphs of operations are, and what they stand for.
+//! Graphs of operations: what a type of operations means with its laws, what graphs are, and what
+//! they stand for. Nodes, edits and facts of buffers are plain data.
 #![tactic(auto)]
 
 mod buffer;
+pub mod inverses;
+pub mod meanings;
 mod node;
 
 pub use buffer::{BufferFact, Edited};
+pub use meanings::OpMeaning;
 pub use node::{Body, NodeEdit, NodeFact, NodeSpec};
-
-ghost use Rattle.std.specs.Prelude.{◌≡◌, ◌≢◌, ℕ, List, [], ◌∷◌};
-ghost use Rattle.model_images.specs.Paint.{inverted_image};
-ghost use Rattle.model_graphs.specs.Evaluation.{Buffers, buffer_image, evaluated};
-ghost use Rattle.model_graphs.specs.Node.{Node};
-ghost use Rattle.model_graphs.specs.declared.node.Body.TheVariants.{Source, Compute};
-ghost use Rattle.model_graphs.specs.Operation.{Invert, result_of};
-
-/// The node that inverts a source stands for the inverse of the source's buffer.
-pub fn inverse_of_buffer()
-    ensures { (buffers : Buffers) (buffer source node : List ℕ) → source ≢ node →
-        evaluated result_of buffers
-        (record { name = source; body = Source buffer } ∷ record { name = node; body = Compute Invert (source ∷ []) } ∷ [])
-        node ≡ inverted_image (buffer_image buffers buffer) }
-{}

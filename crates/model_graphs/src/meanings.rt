@@ -1,5 +1,4 @@
 //! What a type of operations means, and the laws that its meanings keep.
-#![tactic(auto)]
 
 ghost use Rattle.std.specs.Prelude.{◌≡◌, ℕ, Bool, List, [], ◌∷◌};
 ghost use Rattle.plane_rect.specs.Rectangle.{Inside, Rectangle};

@@ -1,7 +1,7 @@
 //! Nodes of graphs, as plain data.
 
 use plane_rect::{Name, NameList, Rect};
-use sample_rows::Format;
+use pixel_formats::Format;
 
 /// What the image of a node is.
 #[derive(Drop)]

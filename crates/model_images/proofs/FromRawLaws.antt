@@ -6,7 +6,7 @@ use Rattle.pixel_formats.specs.Format.{channels, depth}
 use Rattle.pixel_formats.specs.Row.{sample_at}
 use Rattle.pixel_formats.specs.declared.format.Format.{Format}
 use Rattle.pixel_formats.specs.declared.format.Format.TheVariants.{Y8, YA8, RGB8, RGBA8, Y16, YA16, RGB16, RGBA16}
-use Rattle.sample_rows.proofs.GroupLaws.{get_or-zeros}
+use Rattle.pixel_formats.proofs.Zeros.{get_or-zeros}
 use Rattle.model_images.specs.Image.{Image, at, sampled, sample_index, sample_count}
 use Rattle.model_images.specs.Paint.{blank}
 use Rattle.model_images.specs.Raw.{raw, sample_bytes}

@@ -7,7 +7,7 @@ ghost use Rattle.model_images.specs.Abyss.{raw_with};
 ghost use Rattle.model_images.specs.Examples.{faint_of_16_bits, faint_ten, four_positions, left_edge, no_position, one_to_four, positions_from, ten_twenty, three_from, two_positions, upper_left};
 ghost use Rattle.model_images.specs.Level.{level};
 
-use crate::abyss::Abyss;
+use pixel_formats::Abyss;
 
 /// A row of 10 and 20 from x = 0 on, read from x = -1 over four positions.
 pub fn around_a_row()

@@ -8,7 +8,7 @@ ghost use Rattle.pixel_formats.specs.Recolor.{is_alpha};
 ghost use Rattle.model_images.specs.Image.{Image, at};
 ghost use Rattle.model_images.specs.Abyss.{abyss_at, black_sample, nearest, wrapped};
 
-use crate::abyss::Abyss;
+use pixel_formats::Abyss;
 
 /// The nearest of some numbers in a row is one of them, and none of them is nearer. A number that
 /// is one of them stays.

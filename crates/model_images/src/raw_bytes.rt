@@ -9,7 +9,7 @@ ghost use Rattle.model_images.specs.Raw.{raw};
 ghost use Rattle.model_images.specs.Abyss.{abyss_at, raw_with, tile_bytes};
 ghost use Rattle.model_images.specs.Rows.{first_rows, row_below};
 
-use crate::abyss::Abyss;
+use pixel_formats::Abyss;
 
 /// Under `None` the bytes of a rectangle are the image's, and inside the box they are so whatever
 /// the policy. They are those of the image that is generated over the rectangle under the policy.

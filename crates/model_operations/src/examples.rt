@@ -10,8 +10,7 @@ ghost use Rattle.model_operations.specs.Regions.{invalidated, required};
 ghost use Rattle.model_operations.specs.Examples.{color, square_around, whole};
 
 use crate::operation::IntOp;
-use model_images::Abyss;
-use sample_rows::Format;
+use pixel_formats::{Abyss, Format};
 
 /// Samples of other depths and channels: 128 of 255 is 32,896 of 65,535, and back; (10 + 20 + 31 + 1) / 3
 /// is 20.

@@ -7,8 +7,6 @@ pub mod laws;
 mod meanings;
 mod operation;
 pub mod regions;
-mod samples;
 pub mod windows;
 
 pub use operation::IntOp;
-pub use samples::PixelSamples;

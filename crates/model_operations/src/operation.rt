@@ -1,9 +1,7 @@
 //! The operations and their arguments.
 
-use crate::samples::PixelSamples;
-use model_images::Abyss;
+use pixel_formats::{Abyss, Format, PixelSamples};
 use plane_rect::Rect;
-use sample_rows::Format;
 
 /// An operation on whole images, with its arguments. Coordinates, sizes and radii are in places,
 /// and samples count from 0 to the format's largest. A color is at most its cap: the alpha of its

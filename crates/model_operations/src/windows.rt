@@ -6,7 +6,7 @@ ghost use Rattle.model_images.specs.Image.{Image, sample_index};
 ghost use Rattle.model_images.specs.Abyss.{abyss_at};
 ghost use Rattle.model_operations.specs.Windows.{Has, max_of_all, min_of_all, read_before, window, window_side, window_square};
 
-use model_images::Abyss;
+use pixel_formats::Abyss;
 
 /// A window has the sample under the policy of each place of its square, and no other: as many as
 /// the square has positions. Its columns and rows count from left of and above the plane's corner, so

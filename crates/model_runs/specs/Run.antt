@@ -8,6 +8,7 @@ use Rattle.run_texts.specs.Texts.{report_text}
 use Rattle.run_texts.specs.declared.cause.Cause.TheVariants as causes
 use Rattle.script_read.specs.declared.command.Line.{Line}
 use Rattle.script_read.specs.Script as grammar
+use Rattle.pixel_formats.specs.Limits.{max_script_bytes}
 use Rattle.model_runs.specs.State.{Numbers, RunState, Effect, Watched, first_state}
 use Rattle.model_runs.specs.Effects.{effect}
 
@@ -73,7 +74,7 @@ turns_or_refusal capacity numbers files (Err refused) =
 abbrev pub script_turns : ℕ → Numbers → Files → Option (List ℕ) → Result (List Effect) Refusal
 script_turns capacity numbers files None = Err (record { line = 0; cause = causes.Absent })
 script_turns capacity numbers files (Some text) =
-    if nat_lt grammar.script_limit (length text) then Err (record { line = 0; cause = causes.TooLong })
+    if nat_lt max_script_bytes (length text) then Err (record { line = 0; cause = causes.TooLong })
     else turns_or_refusal capacity numbers files (grammar.script_of text)
 
 abbrev pub outcome_or_refusal : Result (List Effect) Refusal → Outcome

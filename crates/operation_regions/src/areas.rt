@@ -6,7 +6,7 @@ ghost use Rattle.model_images.specs.Abyss.{nearest};
 ghost use Rattle.model_operations.specs.Moves.{moved_into, surrounded};
 ghost use Rattle.model_operations.specs.Regions.{area_read};
 
-use model_images::Abyss;
+use pixel_formats::Abyss;
 use plane_rect::Rect;
 
 /// What is in `within` of the positions from which the windows of a part are read, of an input over
@@ -28,9 +28,13 @@ pub(crate) fn surrounded(by: u32, part: &Rect, within: &Rect) -> Rect
         return Rect::EMPTY;
     }
     Rect::spanning(
-        part.first_column().saturating_sub(by).max(within.first_column()),
+        part.first_column()
+            .saturating_sub(by)
+            .max(within.first_column()),
         part.first_row().saturating_sub(by).max(within.first_row()),
-        part.end_column().saturating_add(by).min(within.end_column()),
+        part.end_column()
+            .saturating_add(by)
+            .min(within.end_column()),
         part.end_row().saturating_add(by).min(within.end_row()),
     )
 }
@@ -47,8 +51,16 @@ fn nearest_positions(by: u32, part: &Rect, within: &Rect) -> Rect
         part.end_row().saturating_add(by),
     );
     Rect::spanning(
-        nearest(within.first_column(), within.w, part.first_column().saturating_sub(by)),
-        nearest(within.first_row(), within.h, part.first_row().saturating_sub(by)),
+        nearest(
+            within.first_column(),
+            within.w,
+            part.first_column().saturating_sub(by),
+        ),
+        nearest(
+            within.first_row(),
+            within.h,
+            part.first_row().saturating_sub(by),
+        ),
         nearest(within.first_column(), within.w, end_column - 1) + 1,
         nearest(within.first_row(), within.h, end_row - 1) + 1,
     )

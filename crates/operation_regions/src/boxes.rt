@@ -6,8 +6,8 @@ ghost use Rattle.model_operations.specs.Boxes.{area_box, box_in_limits, box_of, 
 ghost use Rattle.model_operations.specs.Inputs.{input_box};
 
 use crate::formats::input_count;
-use model_images::Abyss;
 use model_operations::IntOp;
+use pixel_formats::Abyss;
 use plane_rect::{Rect, RectRefused};
 
 /// The box of what an operation gives of inputs of these boxes, and None exactly where their number

@@ -2,10 +2,10 @@
 
 ghost use Rattle.std.specs.Prelude.{◌≡◌, IfOk};
 
+use model_operations::IntOp;
 use no_memory::NoMemory;
-use model_operations::{IntOp, PixelSamples};
+use pixel_formats::{Format, PixelSamples};
 use plane_rect::Rect;
-use sample_rows::Format;
 use std::alloc::Global;
 
 /// An equal operation.

@@ -2,16 +2,14 @@
 
 ghost use Rattle.std.specs.Prelude.{◌≡◌};
 ghost use Rattle.std.specs.List.{list_all};
-ghost use Rattle.model_operations.specs.Arguments.{in_range, is_area, is_between, is_move};
+ghost use Rattle.model_operations.specs.Arguments.{in_range};
+ghost use Rattle.pixel_formats.specs.Limits.{is_area, is_in, is_move};
 ghost use Rattle.model_operations.specs.Formats.{are_samples, format_if, format_of, format_with, is_mask_of, is_sample};
 ghost use Rattle.model_operations.specs.Inputs.{input_count, input_format};
 
-use model_images::Abyss;
-use model_operations::{IntOp, PixelSamples};
-use sample_rows::Format;
-
-/// The largest distance by which an image is moved, in places.
-const MAX_MOVE: u64 = 1 << 25;
+use model_operations::IntOp;
+use pixel_formats::limits::{MAX_CHECKER_SIZE, MAX_SAMPLE, is_area, is_in, is_move};
+use pixel_formats::{Format, PixelSamples};
 
 /// How many images an operation takes.
 pub fn input_count(op: &IntOp) -> usize
@@ -121,8 +119,8 @@ fn in_range(op: &IntOp) -> bool
     ensures { result ≡ in_range op.now }
 {
     match op {
-        IntOp::Checker { size, .. } => 1 <= *size && *size <= 4096,
-        IntOp::Gain { num, den } => *num <= 0xFFFF && 1 <= *den && *den <= 0xFFFF,
+        IntOp::Checker { size, .. } => is_in(1, MAX_CHECKER_SIZE, *size),
+        IntOp::Gain { num, den } => *num <= MAX_SAMPLE && is_in(1, MAX_SAMPLE, *den),
         IntOp::Translate { dx, dy } => is_move(*dx) && is_move(*dy),
         IntOp::BoxMean { radius, abyss }
         | IntOp::Dilate { radius, abyss }
@@ -137,18 +135,4 @@ fn in_range(op: &IntOp) -> bool
         | IntOp::Over
         | IntOp::Mask => true,
     }
-}
-
-/// Whether an image may be moved by so much.
-fn is_move(distance: i64) -> bool
-    ensures { result ≡ is_move distance }
-{
-    distance.unsigned_abs() <= MAX_MOVE
-}
-
-/// Whether an area has this radius and policy.
-fn is_area(radius: u32, abyss: Abyss) -> bool
-    ensures { result ≡ is_area radius abyss }
-{
-    1 <= radius && radius <= 64 && abyss != Abyss::Loop
 }

@@ -10,7 +10,10 @@ use plane_rect::Rect;
 pub(crate) fn moved(part: &Rect, dx: i64, dy: i64, within: &Rect) -> Rect
     ensures { result ≡ meet (moved dx dy part.now) within.now }
 {
-    let (first_column, first_row) = (moved_index(dx, part.first_column()), moved_index(dy, part.first_row()));
+    let (first_column, first_row) = (
+        moved_index(dx, part.first_column()),
+        moved_index(dy, part.first_row()),
+    );
     placed_within(first_column, first_row, part, within)
 }
 
@@ -18,7 +21,10 @@ pub(crate) fn moved(part: &Rect, dx: i64, dy: i64, within: &Rect) -> Rect
 pub(crate) fn moved_back(part: &Rect, dx: i64, dy: i64, within: &Rect) -> Rect
     ensures { result ≡ meet (moved_back dx dy part.now) within.now }
 {
-    let (first_column, first_row) = (source_index(dx, part.first_column()), source_index(dy, part.first_row()));
+    let (first_column, first_row) = (
+        source_index(dx, part.first_column()),
+        source_index(dy, part.first_row()),
+    );
     placed_within(first_column, first_row, part, within)
 }
 
@@ -29,7 +35,11 @@ pub(crate) fn mirrored_part(sideways: bool, whole: &Rect, part: &Rect, within: &
 {
     let (first_column, first_row) = (u64::from(part.first_column()), u64::from(part.first_row()));
     if sideways {
-        let first_column = mirrored_start(whole.first_column(), whole.end_column(), part.end_column());
+        let first_column = mirrored_start(
+            whole.first_column(),
+            whole.end_column(),
+            part.end_column(),
+        );
         placed_within(first_column, first_row, part, within)
     } else {
         let first_row = mirrored_start(whole.first_row(), whole.end_row(), part.end_row());

@@ -10,7 +10,7 @@ use Rattle.model_images.proofs.Samples.{Inside_from, inside_where}
 use Rattle.model_images.proofs.Laws.{generated_equal, at_outside}
 use Rattle.model_images.specs.FromRaw.{image_from_raw, pixels_from_raw}
 use Rattle.patch_abyss.specs.Copied.{HasPart, byte_at}
-use Rattle.sample_rows.proofs.GroupLaws.{get_or-zeros}
+use Rattle.pixel_formats.proofs.Zeros.{get_or-zeros}
 use Rattle.model_images.proofs.FromRawLaws.{sample_equal, sample_zero, at-image_from_raw}
 
 -- where the bytes of a sample stand

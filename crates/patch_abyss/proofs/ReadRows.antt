@@ -15,7 +15,7 @@ use Rattle.model_images.proofs.PolicyLaws.{abyss_at-outside, clamp-everywhere, l
 use Rattle.model_images.proofs.Sides.{nearest-within, nearest-inside, wrapped-within, wrapped-inside}
 use Rattle.patch_abyss.specs.Fetched.{outside_sample}
 use Rattle.patch_abyss.specs.Rows.{ReadsNothing, EqualRows, ReadsInOrder, OnOneSide}
-use Rattle.sample_rows.proofs.GroupLaws.{get_or-zeros}
+use Rattle.pixel_formats.proofs.Zeros.{get_or-zeros}
 use Rattle.model_images.proofs.FromRawLaws.{sample_zero}
 
 -- an image without a position

@@ -7,15 +7,15 @@ use Rattle.patch_abyss.specs.declared.fill.RowParts.{RowParts}
 use Rattle.patch_abyss.specs.declared.rows.Rows.{Rows}
 
 -- where the sides of rows stand that follow one another: the left ones at their beginnings, the right ones up to their ends
-module _ (parts : RowParts) (first_column end_column : Rows) (is_left : first_column ≡ record { start = 0; stride = parts.count }) (is_right : end_column ≡ record { start = parts.end; stride = parts.count })
+module _ (parts : RowParts) (left right : Rows) (is_left : left ≡ record { start = 0; stride = parts.count }) (is_right : right ≡ record { start = parts.end; stride = parts.count })
     (order : parts.start ≤ parts.end) (inside : parts.end ≤ parts.count) where
-  left_index : (j k : ℕ) → row_byte first_column j k ≡ j * parts.count + k
+  left_index : (j k : ℕ) → row_byte left j k ≡ j * parts.count + k
   left_index j k = ap (λ (r : Rows). row_byte r j k) is_left ∙ omega arith
 
-  right_index : (j k : ℕ) → row_byte end_column j k ≡ j * parts.count + (parts.end + k)
+  right_index : (j k : ℕ) → row_byte right j k ≡ j * parts.count + (parts.end + k)
   right_index j k = ap (λ (r : Rows). row_byte r j k) is_right ∙ omega arith
 
-  beside_left : (j k m : ℕ) → parts.start ≤ k → k < parts.count → (j * parts.count + k < row_byte first_column m 0) ⊎ (row_byte first_column m parts.start ≤ j * parts.count + k)
+  beside_left : (j k m : ℕ) → parts.start ≤ k → k < parts.count → (j * parts.count + k < row_byte left m 0) ⊎ (row_byte left m parts.start ≤ j * parts.count + k)
   beside_left j k m past within =
       elim (cases_lt j m) [
         | inl above ↦
@@ -26,7 +26,7 @@ module _ (parts : RowParts) (first_column end_column : Rows) (is_left : first_co
             inr (omega (arith, left_index m parts.start, rows))
       ]
 
-  beside_right : (j k m : ℕ) → k < parts.end → (j * parts.count + k < row_byte end_column m 0) ⊎ (row_byte end_column m (parts.count - parts.end) ≤ j * parts.count + k)
+  beside_right : (j k m : ℕ) → k < parts.end → (j * parts.count + k < row_byte right m 0) ⊎ (row_byte right m (parts.count - parts.end) ≤ j * parts.count + k)
   beside_right j k m before =
       elim (cases_lt m j) [
         | inl above ↦
@@ -37,8 +37,8 @@ module _ (parts : RowParts) (first_column end_column : Rows) (is_left : first_co
             inl (omega (arith, right_index m 0, rows))
       ]
 
-  pub HasSides-rows : (many n : ℕ) (f g : ℕ → ℕ → ℕ) (old half new : List ℕ) → HasRows first_column parts.start many (λ j k. f j (k % n)) old half →
-      HasRows end_column (parts.count - parts.end) many (λ j k. g j (k % n)) half new → HasSides parts many n f g old new
+  pub HasSides-rows : (many n : ℕ) (f g : ℕ → ℕ → ℕ) (old half new : List ℕ) → HasRows left parts.start many (λ j k. f j (k % n)) old half →
+      HasRows right (parts.count - parts.end) many (λ j k. g j (k % n)) half new → HasSides parts many n f g old new
   HasSides-rows many n f g old half new leading trailing = record {
     leading = λ j k below within.
         trailing.kept (j * parts.count + k) (λ m _. beside_right j k m (omega arith))

@@ -35,11 +35,11 @@ pub(crate) fn wrap_rows(
 {
     let prefix = count.min(period - first);
     let both = count.min(period);
-    let (first_column, end_column) = (Rows::new(0, count), Rows::new(prefix, count));
-    copy_rows(to, first_column, from, Rows::new(first, period), prefix, many);
-    copy_rows(to, end_column, from, Rows::new(0, period), both - prefix, many);
+    let (left, right) = (Rows::new(0, count), Rows::new(prefix, count));
+    copy_rows(to, left, from, Rows::new(first, period), prefix, many);
+    copy_rows(to, right, from, Rows::new(0, period), both - prefix, many);
     if period < count {
-        repeat_in_rows(to, first_column, count, period, many);
+        repeat_in_rows(to, left, count, period, many);
     }
 }
 
@@ -63,11 +63,11 @@ pub(crate) fn fill_sides(
     ensures len { length to.new ≡ length to.old }
     ensures sides { HasSides parts many pixel (bytes_of leading from.now) (bytes_of trailing from.now) to.old to.new }
 {
-    let (first_column, end_column) = (Rows::new(0, parts.count), Rows::new(parts.end, parts.count));
-    cycle_rows(to, first_column, parts.start, from, leading, pixel, many);
+    let (left, right) = (Rows::new(0, parts.count), Rows::new(parts.end, parts.count));
+    cycle_rows(to, left, parts.start, from, leading, pixel, many);
     cycle_rows(
         to,
-        end_column,
+        right,
         parts.count - parts.end,
         from,
         trailing,

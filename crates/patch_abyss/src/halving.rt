@@ -12,8 +12,8 @@ ghost use Rattle.model_images.specs.FromRaw.{byte_count};
 
 use crate::patch::{Patch, byte_count, has_rows};
 use crate::reading::read_row;
-use model_images::Abyss;
 use no_memory::NoMemory;
+use pixel_formats::Abyss;
 use plane_rect::{PLANE_ORIGIN, Rect};
 use sample_rows::row_average4;
 use std::alloc::Global;

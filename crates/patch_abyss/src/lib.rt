@@ -8,7 +8,7 @@ mod patch;
 mod reading;
 mod rows;
 
-pub use model_images::Abyss;
 pub use halving::halve;
 pub use patch::{Patch, PatchRefused};
+pub use pixel_formats::Abyss;
 pub use reading::fetch;

@@ -9,9 +9,8 @@ ghost use Rattle.pixel_formats.specs.declared.abyss.Abyss.TheVariants.{Loop};
 ghost use Rattle.patch_abyss.specs.Fetched.{outside_sample};
 ghost use Rattle.patch_abyss.specs.Rows.{AreRepeated, OnOneSide, ReadsInOrder, ReadsNothing};
 
-use model_images::Abyss;
+use pixel_formats::{Abyss, Format};
 use plane_rect::Rect;
-use sample_rows::Format;
 use std::ops::Range;
 
 /// Rows that read a box as rows above them do.
@@ -51,7 +50,12 @@ pub(crate) fn source_rows(bounds: &Rect, abyss: Abyss, row: u32) -> Option<Range
 
 /// The rows of a rectangle from one on that read a box as those above them do, and None where that
 /// row has none above it that it reads equal.
-pub(crate) fn repeated_rows(bounds: &Rect, abyss: Abyss, rect: &Rect, row: u32) -> Option<Repetition>
+pub(crate) fn repeated_rows(
+    bounds: &Rect,
+    abyss: Abyss,
+    rect: &Rect,
+    row: u32,
+) -> Option<Repetition>
     requires { Within rect.now.first_row rect.now.height row }
     ensures { IfSome result (AreRepeated bounds.now abyss rect.now row) }
 {

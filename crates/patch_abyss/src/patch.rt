@@ -15,8 +15,8 @@ ghost use Rattle.patch_abyss.specs.declared.patch.PatchRefused.TheVariants.{NoMe
 
 use crate::rows::{LONG_ROW, Rows, copy_meet, cut_rows};
 use no_memory::NoMemory;
+use pixel_formats::Format;
 use plane_rect::{Rect, TileAt, plane_index};
-use sample_rows::Format;
 use std::alloc::{AllocError, Global};
 use std::marker::Model;
 use std::ops::Range;

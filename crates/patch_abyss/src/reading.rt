@@ -12,13 +12,12 @@ ghost use Rattle.patch_abyss.specs.Rows.{AreRepeated, moved_to};
 ghost use Rattle.model_images.specs.FromRaw.{byte_count};
 
 use crate::fill::{RowParts, cycle, fill_sides, repeat, wrap_rows};
-use crate::outside::{Repetition, repeated_rows, outside_pixel, source_rows, wrapped};
+use crate::outside::{Repetition, outside_pixel, repeated_rows, source_rows, wrapped};
 use crate::patch::{Patch, byte_count};
 use crate::rows::{Rows, copy_rows};
-use model_images::Abyss;
 use no_memory::NoMemory;
+use pixel_formats::{Abyss, Format};
 use plane_rect::Rect;
-use sample_rows::Format;
 use std::alloc::Global;
 use std::ops::Range;
 

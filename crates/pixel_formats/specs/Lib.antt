@@ -5,6 +5,7 @@ pub mod Extremes
 pub mod Format
 pub mod Gain
 pub mod Invert
+pub mod Limits
 pub mod Mask
 pub mod Over
 pub mod Policies

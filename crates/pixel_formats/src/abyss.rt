@@ -1,5 +1,9 @@
 //! The policies for positions outside an image.
 
+ghost use Rattle.std.specs.Prelude.{◌≡◌};
+ghost use Rattle.std.specs.Str.{bytes_eq};
+ghost use Rattle.pixel_formats.specs.Policies.{policy_named, policy_word};
+
 /// What the samples of a position outside an image's box are read as. The names are those of GEGL's
 /// `GeglAbyssPolicy`; the samples are as known here.
 #[derive(Clone, Copy, Debug, PartialEq, Eq)]
@@ -15,4 +19,46 @@ pub enum Abyss {
     Black,
     /// Every sample is the format's largest.
     White,
+}
+
+/// All policies.
+const POLICIES: [Abyss; 5] = [
+    Abyss::None,
+    Abyss::Clamp,
+    Abyss::Loop,
+    Abyss::Black,
+    Abyss::White,
+];
+
+impl Abyss {
+    /// Returns the word of the policy in a script.
+    pub fn word(self) -> &'static str
+        ensures { result.now ≡ policy_word self }
+    {
+        match self {
+            Abyss::None => "NONE",
+            Abyss::Clamp => "CLAMP",
+            Abyss::Loop => "LOOP",
+            Abyss::Black => "BLACK",
+            Abyss::White => "WHITE",
+        }
+    }
+
+    /// Returns the policy of a word, and None exactly where it names none.
+    #[tactic(auto, unfolding(crate::specs::Policies::policy_named))]
+    pub fn parse(word: &[u8]) -> Option<Abyss>
+        ensures { result ≡ policy_named word.now }
+    {
+        POLICIES
+            .iter()
+            .copied()
+            .find(|policy| is_named(*policy, word))
+    }
+}
+
+/// Whether a word is that of a policy.
+fn is_named(policy: Abyss, word: &[u8]) -> bool
+    ensures { result ≡ bytes_eq (policy_word policy) word.now }
+{
+    policy.word().as_bytes() == word
 }

@@ -18,7 +18,7 @@ use plane_rect::Name;
 use std::alloc::Global;
 
 /// The largest number of nodes.
-const MOST_NODES: usize = 256;
+const MAX_NODES: usize = 256;
 
 /// An edit of the nodes of a graph.
 #[derive(Drop)]
@@ -71,7 +71,7 @@ fn set_refused(buffers: &[Buffer], nodes: &[Node], node: &Node) -> Option<Refuse
     if !reads_earlier(buffers, nodes, index, &node.body) {
         return Some(Refused::UnknownInput);
     }
-    if !has_node(nodes, node.name) && nodes.len() == MOST_NODES {
+    if !has_node(nodes, node.name) && nodes.len() == MAX_NODES {
         return Some(Refused::TooManyNodes);
     }
     None

@@ -1,8 +1,8 @@
 //! Buffers, nodes and graphs.
 
 use crate::body::Body;
+use pixel_formats::Format;
 use plane_rect::{Name, Rect};
-use sample_rows::Format;
 use std::marker::Model;
 
 /// What a graph is reported of a buffer: its name, the buffer at the root of its views, what it sees of

@@ -10,11 +10,11 @@ ghost use Rattle.model_operations.specs.Meanings.{int_meanings};
 use crate::body::Body;
 use crate::graph::{Buffer, Graph, Node, Shape};
 use crate::names::{indices_of, source_of};
+use model_operations::IntOp;
 use no_memory::NoMemory;
 use operation_regions::{box_of, format_of};
-use model_operations::IntOp;
+use pixel_formats::Format;
 use plane_rect::{Name, Rect};
-use sample_rows::Format;
 use std::alloc::Global;
 
 /// The shape of the image of no position.

@@ -14,9 +14,9 @@ use crate::graph::{Buffer, Graph, Node, Shape};
 use crate::names::{indices_of, source_of};
 use crate::refusals::Refused;
 use crate::shapes::{input_boxes, input_formats, shape_of_body};
+use model_operations::IntOp;
 use no_memory::NoMemory;
 use operation_regions::{box_of, format_of, input_count};
-use model_operations::IntOp;
 use plane_rect::Rect;
 use std::alloc::Global;
 

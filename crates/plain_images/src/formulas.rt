@@ -56,7 +56,11 @@ pub fn composited(max_sample: u32, alpha: u32, first_row: u32, end_row: u32) -> 
     ensures { result ≡ composited max_sample alpha first_row end_row }
 {
     let first_column = max_sample.saturating_sub(alpha);
-    added(max_sample, first_row, scaled_by(max_sample, end_row, first_column))
+    added(
+        max_sample,
+        first_row,
+        scaled_by(max_sample, end_row, first_column),
+    )
 }
 
 /// The mean of four samples, a half rounded up.

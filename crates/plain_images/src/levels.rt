@@ -7,8 +7,8 @@ ghost use Rattle.model_images.specs.Level.{doubled, halved_image, level, mean_at
 use crate::formulas::mean_of_four;
 use crate::picture::{Picture, Samples, draw};
 use no_memory::NoMemory;
+use pixel_formats::Format;
 use plane_rect::PLANE_ORIGIN;
-use sample_rows::Format;
 use std::alloc::Global;
 
 /// The means of the positions of an image, four by four.

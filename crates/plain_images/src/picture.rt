@@ -10,8 +10,8 @@ ghost use Rattle.model_images.specs.Paint.{no_image};
 ghost use Rattle.plain_images.specs.Picture.{AreSamples, IsPicture, IsPosition};
 
 use no_memory::NoMemory;
+use pixel_formats::Format;
 use plane_rect::Rect;
-use sample_rows::Format;
 use std::alloc::Global;
 use std::marker::Model;
 

@@ -8,15 +8,15 @@ ghost use Rattle.pixel_formats.specs.Mask.{masked_pixel};
 ghost use Rattle.pixel_formats.specs.Over.{over_pixel};
 ghost use Rattle.pixel_formats.specs.Recolor.{cap, is_alpha};
 ghost use Rattle.model_images.specs.Image.{at};
-ghost use Rattle.model_operations.specs.Arguments.{is_move};
+ghost use Rattle.pixel_formats.specs.Limits.{is_move};
 ghost use Rattle.model_operations.specs.Moves.{source_index, mirrored};
 ghost use Rattle.model_operations.specs.Values.{checker_pixel, flipped_pixel, square_number};
 
 use crate::formulas::{composited, mean_of_three, rescaled, scaled_by};
 use crate::picture::{Picture, Samples};
 use crate::policies::is_alpha;
+use pixel_formats::Format;
 use plane_rect::PLANE_ORIGIN;
-use sample_rows::Format;
 
 /// What a color of a pixel is at most: its alpha, or the largest sample where there is none.
 pub(crate) fn cap_at(picture: &Picture, column: u32, row: u32) -> u32
@@ -117,9 +117,17 @@ pub(crate) fn flipped_at(
 {
     let rect = picture.rect();
     if sideways {
-        picture.at(mirrored(rect.first_column(), rect.end_column(), column), row, channel)
+        picture.at(
+            mirrored(rect.first_column(), rect.end_column(), column),
+            row,
+            channel,
+        )
     } else {
-        picture.at(column, mirrored(rect.first_row(), rect.end_row(), row), channel)
+        picture.at(
+            column,
+            mirrored(rect.first_row(), rect.end_row(), row),
+            channel,
+        )
     }
 }
 
@@ -176,7 +184,13 @@ fn square_number(size: u32, n: u32) -> u64
 }
 
 /// The sample of one pixel composited over another.
-pub(crate) fn over_at(first_row: &Picture, end_row: &Picture, column: u32, row: u32, channel: u32) -> u32
+pub(crate) fn over_at(
+    first_row: &Picture,
+    end_row: &Picture,
+    column: u32,
+    row: u32,
+    channel: u32,
+) -> u32
     ensures { result ≡ over_pixel first_row.now.format (at first_row.now column row) (at end_row.now column row) channel }
 {
     let format = first_row.format();

@@ -7,8 +7,7 @@ ghost use Rattle.pixel_formats.specs.Recolor.{is_alpha};
 ghost use Rattle.model_images.specs.Abyss.{abyss_at, nearest, outside_at, wrapped};
 
 use crate::picture::{Picture, Samples};
-use model_images::Abyss;
-use sample_rows::Format;
+use pixel_formats::{Abyss, Format};
 
 /// The samples of an image under a policy.
 #[derive(Drop)]
@@ -86,7 +85,11 @@ fn looped_at(picture: &Picture, column: u32, row: u32, channel: u32) -> u32
         return 0;
     }
     picture.at(
-        wrapped(rect.first_column(), rect.end_column() - rect.first_column(), column),
+        wrapped(
+            rect.first_column(),
+            rect.end_column() - rect.first_column(),
+            column,
+        ),
         wrapped(rect.first_row(), rect.end_row() - rect.first_row(), row),
         channel,
     )

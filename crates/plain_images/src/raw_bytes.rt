@@ -12,10 +12,9 @@ ghost use Rattle.plain_images.specs.Picture.{AreSamples};
 
 use crate::picture::{Picture, Samples, draw, sample_all};
 use crate::policies::Read;
-use model_images::Abyss;
 use no_memory::NoMemory;
+use pixel_formats::{Abyss, Format};
 use plane_rect::Rect;
-use sample_rows::Format;
 use std::alloc::Global;
 
 /// The samples that the raw bytes of a rectangle spell.

@@ -11,14 +11,14 @@ ghost use Rattle.plain_images.specs.Picture.{IsPicture, IsPosition};
 use crate::formulas::{added, gained, inverted, thresholded};
 use crate::picture::{Picture, Samples, draw};
 use crate::pixels::{
-    source_index, cap_at, checker_at, converted_at, flipped_at, masked_at, over_at, recolored,
+    cap_at, checker_at, converted_at, flipped_at, masked_at, over_at, recolored, source_index,
 };
 use crate::windows::{box_mean_at, dilated_at, eroded_at};
+use model_operations::IntOp;
 use no_memory::NoMemory;
 use operation_regions::{box_of, format_of};
-use model_operations::IntOp;
+use pixel_formats::Format;
 use plane_rect::Rect;
-use sample_rows::Format;
 use std::alloc::Global;
 
 /// The samples that an operation gives of images, in the format that it tells of theirs.
@@ -151,7 +151,11 @@ fn changed(op: &IntOp, input: &Picture, column: u32, row: u32, channel: u32) -> 
         IntOp::Gain { num, den } => {
             recolored(format, channel, color, gained(*num, *den, cap, color))
         }
-        IntOp::Translate { dx, dy } => input.at(source_index(*dx, column), source_index(*dy, row), channel),
+        IntOp::Translate { dx, dy } => input.at(
+            source_index(*dx, column),
+            source_index(*dy, row),
+            channel,
+        ),
         IntOp::Crop { .. } => color,
         IntOp::Flip { sideways } => flipped_at(input, *sideways, column, row, channel),
         IntOp::BoxMean { radius, abyss } => {

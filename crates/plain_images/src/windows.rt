@@ -8,7 +8,7 @@ ghost use Rattle.plain_images.specs.Picture.{IsPosition};
 
 use crate::picture::Picture;
 use crate::policies::{outside_at, read_at};
-use model_images::Abyss;
+use pixel_formats::Abyss;
 use std::marker::Model;
 
 /// The samples of a channel in the square of `2 * radius + 1` places a side around a position, row by

@@ -197,7 +197,10 @@ impl Rect {
     pub fn has_position(&self, column: u32, row: u32) -> bool
         ensures { IsTrue result ↔ Inside column row self.now }
     {
-        self.first_column() <= column && column < self.end_column() && self.first_row() <= row && row < self.end_row()
+        self.first_column() <= column
+            && column < self.end_column()
+            && self.first_row() <= row
+            && row < self.end_row()
     }
 
     /// The index of a position among those of the rectangle, which stand row by row.
@@ -207,7 +210,8 @@ impl Rect {
         ensures in_area { result < area self.now }
         ensures rectangle { IsRectangle self.now }
     {
-        (row - self.first_row()) as usize * self.w as usize + (column - self.first_column()) as usize
+        (row - self.first_row()) as usize * self.w as usize
+            + (column - self.first_column()) as usize
     }
 
     /// Where a row of a part of it stands among its places, which stand row by row.

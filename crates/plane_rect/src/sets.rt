@@ -92,8 +92,18 @@ impl Rect {
         let (end_column, end_row) = (self.end_column(), self.end_row());
         [
             Rect::spanning(first_column, first_row, end_column, part.first_row()),
-            Rect::spanning(first_column, part.first_row(), part.first_column(), part.end_row()),
-            Rect::spanning(part.end_column(), part.first_row(), end_column, part.end_row()),
+            Rect::spanning(
+                first_column,
+                part.first_row(),
+                part.first_column(),
+                part.end_row(),
+            ),
+            Rect::spanning(
+                part.end_column(),
+                part.first_row(),
+                end_column,
+                part.end_row(),
+            ),
             Rect::spanning(first_column, part.end_row(), end_column, end_row),
         ]
     }

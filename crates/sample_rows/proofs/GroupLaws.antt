@@ -6,6 +6,7 @@ use Rattle.std.proofs.lemmas.Bool.{cases_lt}
 use Rattle.std.proofs.lemmas.List.{get_or-drop, get_or_append_left, get_or-append_right, get_or_past, get_or-replicate}
 use Rattle.std.proofs.lemmas.Simd.{length-replicate}
 use Rattle.simd_samples.proofs.SliceLaws.{sample_at-below, sample_at-shift}
+use Rattle.pixel_formats.proofs.Zeros.{get_or-zeros}
 use Rattle.sample_rows.specs.Groups.{Groups, group_bytes, group_at, MapsPairs}
 
 -- the groups of a part of a row
@@ -34,10 +35,6 @@ MapsPairs-extended first second to value a b old new m n total at_n before kept 
           let at : m + (k - m) ≡ k = omega arith in
           subst P at (made (k - m) i (omega arith) within)
     ]
-
--- a row with zeros after it reads as the row alone, since 0 is read past its end
-pub get_or-zeros : (n i : ℕ) → ◌≡◌ {A = ℕ} (get_or (replicate n 0) i 0) 0
-get_or-zeros n i = elim (cases_lt i n) [ inl lt ↦ get_or-replicate n i 0 0 lt | inr past ↦ get_or_past (replicate n 0) i 0 (omega (arith, length-replicate {A = ℕ} n 0)) ]
 
 pub before_zeros : (row : List ℕ) (m n p : ℕ) → get_or (row ++ drop m (replicate n 0)) p 0 ≡ get_or row p 0
 before_zeros row m n p =

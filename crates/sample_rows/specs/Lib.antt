@@ -1,3 +1,4 @@
 pub mod Groups
 pub mod SizeLaws
 pub mod Averages
+pub mod ScaledGain

@@ -6,7 +6,7 @@ ghost use Rattle.pixel_formats.specs.Format.{pixel_bytes};
 ghost use Rattle.pixel_formats.specs.Row.{HasPixels, pixel_at};
 
 use crate::combine::{Combine, combine_rows};
-use crate::format::Format;
+use pixel_formats::Format;
 use simd_samples::{ByteLanes, Lanes, WordLanes};
 
 /// The sum of two samples, at most the largest.

@@ -12,7 +12,7 @@ ghost use Rattle.sample_rows.specs.SizeLaws.{pair_bytes, some_bytes, twice_some,
 ghost use Rattle.simd_pixels.specs.SizeLaws.{planes_bytes};
 
 use crate::blocks::{PairKernel, transform_rows};
-use crate::format::Format;
+use pixel_formats::Format;
 use simd_pixels::{AlphaOfFour, AlphaOfTwo, Layout, Opaque};
 use simd_samples::{ByteLanes, Lanes, WordLanes, load_three, load_two, store_three};
 use std::marker::PhantomData;

@@ -9,7 +9,7 @@ ghost use Rattle.pixel_formats.specs.Row.{HasPixels, pixel_at};
 ghost use Rattle.sample_rows.specs.SizeLaws.{some_bytes, vector_bytes};
 
 use crate::blocks::{PairKernel, transform_rows};
-use crate::format::Format;
+use pixel_formats::Format;
 use simd_samples::Lanes;
 use std::marker::PhantomData;
 

@@ -10,8 +10,8 @@ ghost use Rattle.pixel_formats.specs.Row.{HasPixels, pixel_at, pixel_count};
 ghost use Rattle.sample_rows.specs.SizeLaws.{some_bytes};
 
 use crate::blocks::{RowKernel, transform_row};
-use crate::format::Format;
-use simd_pixels::{Colors, ColorsAlpha, FromComponents, Gray, GrayAlpha, Components};
+use pixel_formats::Format;
+use simd_pixels::{Colors, ColorsAlpha, Components, FromComponents, Gray, GrayAlpha};
 use simd_samples::{ByteLanes, Lanes, Rescale, WordLanes};
 use std::marker::PhantomData;
 
@@ -54,7 +54,11 @@ fn convert_layout<S: Rescale<D>, D: Lanes>(from: Format, src: &[u8], to: Format,
     }
 }
 
-fn convert_channels<S: Rescale<D>, D: Lanes, P: Components<S>>(src: &[u8], to: Format, dst: &mut [u8])
+fn convert_channels<S: Rescale<D>, D: Lanes, P: Components<S>>(
+    src: &[u8],
+    to: Format,
+    dst: &mut [u8],
+)
     requires { SameGroups (groups P.channels S.depth) (groups (channels to) D.depth) src.now dst.old }
     ensures { Maps (groups P.channels S.depth) (groups (channels to) D.depth) (length dst.new / (channels to * D.depth))
         (λ pixel i. rescaled S.depth D.depth (P.components (max_sample_of S.depth) pixel (component_for (channels to) i))) src.now dst.new }
@@ -73,7 +77,8 @@ struct Conversion<S, D, P, Q> {
     of: PhantomData<(S, D, P, Q)>,
 }
 
-impl<S: Rescale<D>, D: Lanes, P: Components<S>, Q: FromComponents<D>> RowKernel for Conversion<S, D, P, Q> {
+impl<S: Rescale<D>, D: Lanes, P: Components<S>, Q: FromComponents<D>> RowKernel
+    for Conversion<S, D, P, Q> {
     ghost value = { λ s pixel i. rescaled S.depth D.depth (P.components (max_sample_of S.depth) pixel (component_for Q.channels i)) };
 
     ghost from = { groups P.channels S.depth };
@@ -110,7 +115,10 @@ impl<S: Rescale<D>, D: Lanes, P: Components<S>, Q: FromComponents<D>> RowKernel 
     ghost written_few = { Prim.search (rules, Q.few) };
 }
 
-fn convert_pixels<S: Rescale<D>, D: Lanes, P: Components<S>, Q: FromComponents<D>>(src: &[u8], dst: &mut [u8])
+fn convert_pixels<S: Rescale<D>, D: Lanes, P: Components<S>, Q: FromComponents<D>>(
+    src: &[u8],
+    dst: &mut [u8],
+)
     requires { SameGroups (groups P.channels S.depth) (groups Q.channels D.depth) src.now dst.old }
     ensures { Maps (groups P.channels S.depth) (groups Q.channels D.depth) (length dst.new / (Q.channels * D.depth))
         (λ pixel i. rescaled S.depth D.depth (P.components (max_sample_of S.depth) pixel (component_for Q.channels i))) src.now dst.new }

@@ -2,13 +2,14 @@
 
 ghost use Rattle.std.specs.Prelude.{◌≡◌, ℕ, ◌+◌, ◌-◌, ◌*◌, ◌/◌, ◌%◌, ◌^◌, ◌<◌, ◌≤◌, length, min, nat_le, if◌then◌else◌, ⊤};
 ghost use Rattle.pixel_formats.specs.Format.{max_sample_of, pixel_bytes};
-ghost use Rattle.pixel_formats.specs.Gain.{gained, gained_pixel, scaled};
+ghost use Rattle.pixel_formats.specs.Gain.{gained, gained_pixel};
+ghost use Rattle.sample_rows.specs.ScaledGain.{scaled};
 ghost use Rattle.simd_samples.specs.Lanes.{Hold};
 ghost use Rattle.pixel_formats.specs.Sample.{unit_of};
 ghost use Rattle.pixel_formats.specs.Row.{HasPixels, pixel_at};
 
-use crate::format::Format;
 use crate::recolor::{Recolor, recolor_row};
+use pixel_formats::Format;
 use simd_pixels::Layout;
 use simd_samples::{ByteLanes, Lanes, WordLanes};
 use std::alloc::AllocError;

@@ -5,8 +5,8 @@ ghost use Rattle.pixel_formats.specs.Format.{pixel_bytes};
 ghost use Rattle.pixel_formats.specs.Invert.{inverted, inverted_pixel};
 ghost use Rattle.pixel_formats.specs.Row.{HasPixels, pixel_at};
 
-use crate::format::Format;
 use crate::recolor::{Recolor, recolor_row};
+use pixel_formats::Format;
 use simd_pixels::Layout;
 use simd_samples::{ByteLanes, Lanes, WordLanes};
 

@@ -1,4 +1,4 @@
-//! The formats of pixels, and kernels over rows of samples.
+//! Kernels over rows of samples.
 #![tactic(auto)]
 
 mod add;
@@ -7,7 +7,6 @@ mod blocks;
 mod combine;
 mod convert;
 mod extremes;
-mod format;
 mod gain;
 mod invert;
 mod mask;
@@ -19,9 +18,9 @@ pub use add::row_add;
 pub use average::row_average4;
 pub use convert::convert_row;
 pub use extremes::{row_max, row_min};
-pub use format::Format;
 pub use gain::row_gain;
 pub use invert::row_invert;
 pub use mask::row_mask;
 pub use over::row_over;
+pub use pixel_formats::Format;
 pub use threshold::row_threshold;

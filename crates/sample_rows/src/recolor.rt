@@ -9,7 +9,7 @@ ghost use Rattle.pixel_formats.specs.Recolor.{recolored};
 ghost use Rattle.pixel_formats.specs.Row.{HasPixels, pixel_at};
 
 use crate::blocks::{RowKernel, transform_row};
-use crate::format::Format;
+use pixel_formats::Format;
 use simd_pixels::{AlphaOfFour, AlphaOfTwo, Layout, Opaque};
 use simd_samples::{Lanes, load_two, store_two};
 use std::marker::PhantomData;
@@ -75,12 +75,7 @@ impl<L: Lanes, P: Layout, K: Recolor<L>> RowKernel for Recoloring<L, P, K> {
 }
 
 /// Writes the row `src` to `dst` with each color changed under its cap.
-pub(crate) fn recolor_row<L: Lanes, K: Recolor<L>>(
-    f: Format,
-    change: K,
-    src: &[u8],
-    dst: &mut [u8],
-)
+pub(crate) fn recolor_row<L: Lanes, K: Recolor<L>>(f: Format, change: K, src: &[u8], dst: &mut [u8])
     requires depth { depth f ≡ L.depth }
     requires whole { length src.now % pixel_bytes f ≡ 0 }
     requires same_length { length dst.old ≡ length src.now }

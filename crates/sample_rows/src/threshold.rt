@@ -6,8 +6,8 @@ ghost use Rattle.pixel_formats.specs.Recolor.{recolored};
 ghost use Rattle.pixel_formats.specs.Row.{HasPixels, pixel_at};
 ghost use Rattle.pixel_formats.specs.Threshold.{thresholded, thresholded_pixel};
 
-use crate::format::Format;
 use crate::recolor::{Recolor, recolor_row};
+use pixel_formats::Format;
 use simd_pixels::Layout;
 use simd_samples::{ByteLanes, Lanes, WordLanes};
 

@@ -16,8 +16,9 @@ use Rattle.pixel_formats.specs.declared.format.Format.{Format}
 use Rattle.script_words.specs.Numbers.{natural_in, integer_in}
 use Rattle.script_words.proofs.NumberLaws.{natural_in-decimal, integer_in-signed_decimal}
 use Rattle.script_fields.proofs.FormatLaws.{format_named-word}
-use Rattle.script_fields.specs.Fields.{◌>>=◌, coordinate_at, rect_numbers_at, count_in, each, file_at, format_at, format_named, max_move, max_sample, integer_at, is_near, kept, level_rect_of, longest_prefix, may_watch, move_at, name_of, names_of, natural_at, near_policy_at, passed, policy_at, prefix_at, rect_of, sample_of, samples_of, sideways_at, watched_rect_of, word_at}
-use Rattle.script_fields.specs.Limits.{IsLevelRect, IsMove, IsSample}
+use Rattle.script_fields.specs.Fields.{◌>>=◌, coordinate_at, rect_numbers_at, count_in, each, file_at, format_at, format_named, integer_at, kept, level_rect_of, may_watch, move_at, name_of, names_of, natural_at, near_policy_at, passed, policy_at, prefix_at, rect_of, sample_of, samples_of, sideways_at, watched_rect_of, word_at}
+use Rattle.pixel_formats.specs.Limits.{IsMove, IsSample, max_move, max_prefix_bytes, max_sample, suits_areas}
+use Rattle.script_fields.specs.Limits.{IsLevelRect}
 use Rattle.pixel_formats.specs.Policies.{policy_named, policy_word}
 use Rattle.script_fields.specs.Spelling.{AreNames}
 use Rattle.script_fields.specs.declared.cause.ScriptCause.{ScriptCause}
@@ -159,13 +160,13 @@ unfolding file_at
 file_at-name words index name is file =
     ap (λ (word : List ℕ). passed (is_file_name word) causes.Name word) is ∙ ap (λ (test : Bool). passed test causes.Name name) file
 
-pub prefix_at-name : (words : List (List ℕ)) (index : ℕ) (name : List ℕ) → word_at words index ≡ name → IsTrue (is_file_name name) → length name ≤ longest_prefix →
+pub prefix_at-name : (words : List (List ℕ)) (index : ℕ) (name : List ℕ) → word_at words index ≡ name → IsTrue (is_file_name name) → length name ≤ max_prefix_bytes →
     prefix_at words index ≡ Ok name
 unfolding prefix_at
 prefix_at-name words index name is file short =
-    ap (λ (word : List ℕ). passed (is_file_name word && nat_le (length word) longest_prefix) causes.Name word) is
-    ∙ ap (λ (test : Bool). passed (test && nat_le (length name) longest_prefix) causes.Name name) file
-    ∙ ap (λ (test : Bool). passed test causes.Name name) (le-leb (length name) longest_prefix short)
+    ap (λ (word : List ℕ). passed (is_file_name word && nat_le (length word) max_prefix_bytes) causes.Name word) is
+    ∙ ap (λ (test : Bool). passed (test && nat_le (length name) max_prefix_bytes) causes.Name name) file
+    ∙ ap (λ (test : Bool). passed test causes.Name name) (le-leb (length name) max_prefix_bytes short)
 
 pub format_at-word : (words : List (List ℕ)) (index : ℕ) (format : Format) → word_at words index ≡ word format → format_at words index ≡ Ok format
 unfolding format_at
@@ -185,11 +186,11 @@ unfolding policy_at
 policy_at-word words index policy is =
     ap (λ (name : List ℕ). ok_or (policy_named name) causes.Name) is ∙ ap (λ (found : Option Abyss). ok_or found causes.Name) (policy_named-word policy)
 
-pub near_policy_at-word : (words : List (List ℕ)) (index : ℕ) (policy : Abyss) → word_at words index ≡ policy_word policy → IsTrue (is_near policy) →
+pub near_policy_at-word : (words : List (List ℕ)) (index : ℕ) (policy : Abyss) → word_at words index ≡ policy_word policy → IsTrue (suits_areas policy) →
     near_policy_at words index ≡ Ok policy
 unfolding near_policy_at
 near_policy_at-word words index policy is near =
-    ap (λ (read : Result Abyss ScriptCause). read >>= (λ (p : Abyss). passed (is_near p) causes.Name p)) (policy_at-word words index policy is)
+    ap (λ (read : Result Abyss ScriptCause). read >>= (λ (p : Abyss). passed (suits_areas p) causes.Name p)) (policy_at-word words index policy is)
     ∙ ap (λ (test : Bool). passed test causes.Name policy) near
 
 -- the word of a direction

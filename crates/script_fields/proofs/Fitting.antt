@@ -20,7 +20,7 @@ use Rattle.script_words.proofs.Passing.{and_back, and_both, and_prefix}
 use Rattle.script_words.proofs.NumberLaws.{is_word-decimal, is_word-signed_decimal, length-decimal, length-signed_decimal}
 use Rattle.script_words.proofs.WordLaws.{is_word-file_name, is_word-name}
 use Rattle.script_fields.proofs.FieldsBack.{small-coordinate}
-use Rattle.script_fields.specs.Limits.{IsSample}
+use Rattle.pixel_formats.specs.Limits.{IsSample}
 use Rattle.pixel_formats.specs.Policies.{policy_word}
 use Rattle.script_fields.specs.Spelling.{AreValid, AreNames, IsValid, field_words, words_of_fields}
 use Rattle.script_fields.specs.declared.field.Field.{Field}

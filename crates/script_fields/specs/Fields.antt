@@ -16,6 +16,8 @@ use Rattle.script_words.specs.Numbers.{natural_in, integer_in}
 use Rattle.pixel_formats.specs.Policies.{policy_named}
 use Rattle.script_fields.specs.declared.cause.ScriptCause.{ScriptCause}
 use Rattle.script_fields.specs.declared.cause.ScriptCause.TheVariants as causes
+use Rattle.pixel_formats.specs.Limits.{max_move, max_prefix_bytes, max_sample, suits_areas}
+use Rattle.script_fields.specs.Limits.{may_watch}
 use Rattle.script_fields.specs.declared.fields.RectNumbers.{RectNumbers}
 
 -- what is read, then what is read by it; the first cause is reported
@@ -52,14 +54,6 @@ natural_at low high words index = ok_or (natural_in low high (word_at words inde
 unfoldable pub integer_at : ℤ → ℤ → List (List ℕ) → ℕ → Result ℤ ScriptCause
 integer_at low high words index = ok_or (integer_in low high (word_at words index)) causes.Number
 
--- the largest sample of all formats
-abbrev pub max_sample : ℕ
-max_sample = 2 ^ 16 - 1
-
--- how far an image or a copy may be moved along each axis
-abbrev pub max_move : ℕ
-max_move = 2 ^ 25
-
 -- a column, a row, a width or a height as it may be written
 abbrev pub coordinate_at : List (List ℕ) → ℕ → Result ℤ ScriptCause
 coordinate_at words index = integer_at (neg_ℤ (pos (2 ^ 31))) (pos (2 ^ 31 - 1)) words index
@@ -94,13 +88,9 @@ name_at words index = name_of (word_at words index)
 unfoldable pub file_at : List (List ℕ) → ℕ → Result (List ℕ) ScriptCause
 file_at words index = passed (is_file_name (word_at words index)) causes.Name (word_at words index)
 
--- the most bytes of what names of files begin with
-abbrev pub longest_prefix : ℕ
-longest_prefix = 58
-
 unfoldable pub prefix_at : List (List ℕ) → ℕ → Result (List ℕ) ScriptCause
 prefix_at words index =
-    passed (is_file_name (word_at words index) && nat_le (length (word_at words index)) longest_prefix)
+    passed (is_file_name (word_at words index) && nat_le (length (word_at words index)) max_prefix_bytes)
     causes.Name (word_at words index)
 
 -- all formats
@@ -117,13 +107,8 @@ format_at words index = ok_or (format_named (word_at words index)) causes.Name
 unfoldable pub policy_at : List (List ℕ) → ℕ → Result Abyss ScriptCause
 policy_at words index = ok_or (policy_named (word_at words index)) causes.Name
 
--- a policy that an operation may have
-abbrev pub is_near : Abyss → Bool
-is_near policies.Loop = false
-is_near policy = true
-
 unfoldable pub near_policy_at : List (List ℕ) → ℕ → Result Abyss ScriptCause
-near_policy_at words index = policy_at words index >>= λ policy. passed (is_near policy) causes.Name policy
+near_policy_at words index = policy_at words index >>= λ policy. passed (suits_areas policy) causes.Name policy
 
 -- `h` for left and right, `v` for top and bottom
 unfoldable pub sideways_at : List (List ℕ) → ℕ → Result Bool ScriptCause
@@ -144,14 +129,6 @@ rect_of numbers = kept (new_rectangle numbers.x numbers.y numbers.w numbers.h)
 -- a rectangle of a level whose positions are in limits at level 0 too
 unfoldable pub level_rect_of : ℕ → RectNumbers → Result Rectangle ScriptCause
 level_rect_of level numbers = rect_of numbers >>= λ rect. passed (is_some (scaled level rect)) causes.Rect rect
-
--- the most samples of one channel that viewers may render
-abbrev pub watch_limit : ℕ
-watch_limit = 2 ^ 25
-
--- viewers may render so many frames of a rectangle, and one more each
-abbrev pub may_watch : ℕ → ℕ → Rectangle → Bool
-may_watch viewers frames rect = nat_le (viewers * (frames + 1) * area rect) watch_limit
 
 unfoldable pub watched_rect_of : ℕ → ℕ → RectNumbers → Result Rectangle ScriptCause
 watched_rect_of viewers frames numbers =

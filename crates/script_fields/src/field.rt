@@ -6,11 +6,9 @@ ghost use Rattle.script_words.specs.Words.{spaced};
 ghost use Rattle.plane_rect.specs.Rectangle.{IsRectangle};
 ghost use Rattle.script_fields.specs.Spelling.{field_words, AreValid, AreNames, words_of_fields};
 
-use crate::policy::policy_word;
-use model_images::Abyss;
 use no_memory::NoMemory;
+use pixel_formats::{Abyss, Format};
 use plane_rect::{Name, Rect};
-use sample_rows::Format;
 use script_words::{FileName, push_integer, push_natural, push_word};
 
 /// A field of a command: one word, or a rectangle's four.
@@ -40,7 +38,7 @@ impl Field {
             Field::Name(name) => push_word(text, name.as_bytes()),
             Field::File(file) => push_word(text, file.as_bytes()),
             Field::Format(format) => push_word(text, format.word().as_bytes()),
-            Field::Policy(policy) => push_word(text, policy_word(*policy).as_bytes()),
+            Field::Policy(policy) => push_word(text, policy.word().as_bytes()),
             Field::Natural(value) => push_natural(text, *value),
             Field::Integer(value) => push_integer(text, *value),
             Field::Sideways(true) => push_word(text, b"h"),

@@ -7,26 +7,15 @@ ghost use Rattle.std.specs.Prelude.{◌≡◌, ◌<◌, ◌≤◌, ◌≤ℤ◌,
 ghost use Rattle.outside_io.specs.FileName.{is_file_name};
 ghost use Rattle.plane_rect.specs.Name.{is_name};
 ghost use Rattle.plane_rect.specs.Rectangle.{in_limits};
-ghost use Rattle.script_fields.specs.Fields.{coordinate_at, count, count_in, file_at, format_at, format_named, rect_numbers_at, max_move, max_sample, integer_at, is_near, kept, longest_prefix, may_watch, move_at, name_at, name_of, natural_at, near_policy_at, policy_at, prefix_at, sample_at, sample_of, sideways_at, texts, word_at};
+ghost use Rattle.script_fields.specs.Fields.{coordinate_at, count, count_in, file_at, format_at, format_named, rect_numbers_at, integer_at, kept, move_at, name_at, name_of, natural_at, near_policy_at, policy_at, prefix_at, sample_at, sample_of, sideways_at, texts, word_at};
+ghost use Rattle.pixel_formats.specs.Limits.{max_move, max_sample, suits_areas, max_prefix_bytes};
 
 use crate::cause::ScriptCause;
-use crate::policy::policy_named;
-use model_images::Abyss;
+use crate::limits::may_watch;
+use pixel_formats::limits::{MAX_MOVE, MAX_PREFIX_BYTES, MAX_SAMPLE};
+use pixel_formats::{Abyss, Format};
 use plane_rect::{Name, Rect, RectRefused};
-use sample_rows::Format;
 use script_words::{FileName, integer_in, natural_in};
-
-/// The largest sample of all formats.
-pub const MAX_SAMPLE: u32 = 65_535;
-
-/// How far an image or a copy may be moved along each axis, in places.
-pub const MAX_MOVE: i64 = 1 << 25;
-
-/// The most bytes of what names of files begin with.
-pub const LONGEST_PREFIX: usize = 58;
-
-/// The most samples of one channel that viewers may render.
-const WATCH_LIMIT: u64 = 1 << 25;
 
 /// Four numbers that may be a rectangle's: its left column, its top row, its width and its height, in places.
 #[derive(Clone, Copy, Debug)]
@@ -171,10 +160,10 @@ pub fn file_at(words: &[&[u8]], index: usize) -> Result<FileName, ScriptCause>
 pub fn prefix_at(words: &[&[u8]], index: usize) -> Result<FileName, ScriptCause>
     requires { index < length words.now }
     ensures value { result ≡ prefix_at (texts words.now) index }
-    ensures short { IfOk result (λ prefix. length prefix ≤ longest_prefix) }
+    ensures short { IfOk result (λ prefix. length prefix ≤ max_prefix_bytes) }
 {
     let word = word_at(words, index);
-    if word.len() > LONGEST_PREFIX {
+    if word.len() > MAX_PREFIX_BYTES {
         return Err(ScriptCause::Name);
     }
     FileName::parse(word).ok_or(ScriptCause::Name)
@@ -202,7 +191,7 @@ pub fn policy_at(words: &[&[u8]], index: usize) -> Result<Abyss, ScriptCause>
     requires { index < length words.now }
     ensures { result ≡ policy_at (texts words.now) index }
 {
-    policy_named(word_at(words, index)).ok_or(ScriptCause::Name)
+    Abyss::parse(word_at(words, index)).ok_or(ScriptCause::Name)
 }
 
 /// A policy that an operation may have, or `Name`.
@@ -210,7 +199,7 @@ pub fn policy_at(words: &[&[u8]], index: usize) -> Result<Abyss, ScriptCause>
 pub fn near_policy_at(words: &[&[u8]], index: usize) -> Result<Abyss, ScriptCause>
     requires { index < length words.now }
     ensures value { result ≡ near_policy_at (texts words.now) index }
-    ensures near { IfOk result (λ policy. IsTrue (is_near policy)) }
+    ensures near { IfOk result (λ policy. IsTrue (suits_areas policy)) }
 {
     match policy_at(words, index)? {
         Abyss::Loop => Err(ScriptCause::Name),
@@ -237,7 +226,8 @@ pub fn sideways_at(words: &[&[u8]], index: usize) -> Result<bool, ScriptCause>
 impl RectNumbers {
     ghost use Rattle.std.specs.Prelude.{◌≡◌, ◌≤◌, ◌<◌, IfOk, IsTrue, is_some};
     ghost use Rattle.plane_rect.specs.Rectangle.{in_limits, scaled};
-    ghost use Rattle.script_fields.specs.Fields.{level_rect_of, may_watch, rect_of, watched_rect_of};
+    ghost use Rattle.script_fields.specs.Fields.{level_rect_of, rect_of, watched_rect_of};
+    ghost use Rattle.script_fields.specs.Limits.{may_watch};
 
     /// Their rectangle, in limits, or `Rect`.
     pub fn rect(self) -> Result<Rect, ScriptCause>
@@ -291,13 +281,4 @@ fn kept(rect: Result<Rect, RectRefused>) -> Result<Rect, ScriptCause>
         Ok(rect) if rect.in_limits() => Ok(rect),
         _ => Err(ScriptCause::Rect),
     }
-}
-
-/// Whether so many viewers may render a rectangle so many times and once more.
-pub fn may_watch(viewers: u32, frames: u32, rect: &Rect) -> bool
-    requires viewers { viewers ≤ 16 }
-    requires frames { frames ≤ 64 }
-    ensures { result ≡ may_watch viewers frames rect.now }
-{
-    u64::from(viewers) * u64::from(frames + 1) * rect.area() <= WATCH_LIMIT
 }

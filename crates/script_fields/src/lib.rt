@@ -6,18 +6,13 @@ mod field;
 mod fields;
 mod limits;
 mod lists;
-mod policy;
 
 pub use cause::{LineAnswer, ScriptAnswer, ScriptCause};
 pub use field::{Field, put_fields, put_names, put_samples};
 pub use fields::{
-    RectNumbers, MAX_MOVE, MAX_SAMPLE, LONGEST_PREFIX, rect_numbers_at, count, count_in, file_at,
-    format_at, may_watch, move_at, name_at, natural_at, near_policy_at, policy_at, prefix_at,
-    sample_at, sideways_at, word_at,
+    RectNumbers, count, count_in, file_at, format_at, move_at, name_at, natural_at, near_policy_at,
+    policy_at, prefix_at, rect_numbers_at, sample_at, sideways_at, word_at,
 };
-pub use limits::{
-    MAX_LEVEL, MAX_RADIUS, MAX_SIZE, are_pixel, is_in, is_level_rect, is_move,
-    is_square,
-};
+pub use limits::{is_level_rect, may_watch};
 pub use lists::{Names, names_from, samples_from};
 pub use script_words::FileName;

@@ -3,11 +3,12 @@
 ghost use Rattle.std.specs.Prelude.{◌≡◌, ◌+◌, ◌≤◌, IfOk, length, All, IsTrue};
 ghost use Rattle.plane_rect.specs.Name.{is_name};
 ghost use Rattle.script_fields.specs.Answers.{Answers};
-ghost use Rattle.script_fields.specs.Fields.{max_sample, names_from, names_of, samples_from, samples_of, texts};
+ghost use Rattle.script_fields.specs.Fields.{names_from, names_of, samples_from, samples_of, texts};
+ghost use Rattle.pixel_formats.specs.Limits.{max_sample};
 
 use crate::cause::LineAnswer;
 use crate::fields::{name_of, sample_of};
-use model_operations::PixelSamples;
+use pixel_formats::PixelSamples;
 use plane_rect::Name;
 use std::alloc::Global;
 use std::marker::Model;
@@ -86,7 +87,11 @@ fn samples_of(alloc: Global, words: &[&[u8]]) -> Result<PixelSamples, LineAnswer
 }
 
 /// The samples from a word on, or `Number`.
-pub fn samples_from(alloc: Global, index: usize, words: &[&[u8]]) -> Result<PixelSamples, LineAnswer>
+pub fn samples_from(
+    alloc: Global,
+    index: usize,
+    words: &[&[u8]],
+) -> Result<PixelSamples, LineAnswer>
     requires { index ≤ length words.now }
     ensures value { Answers result (samples_from index (texts words.now)) }
     ensures length { IfOk result (λ samples. length samples + index ≡ length words.now) }

@@ -3,7 +3,7 @@ use Rattle.std.proofs.Common.{◌≡◌, ◌≤◌, Some, Ok, decimal, length, m
 use Rattle.std.proofs.lemmas.List.{length-map}
 use Rattle.script_fields.proofs.FieldsBack.{rect_numbers_at-rect, count_in-of, file_at-name, format_at-word, level_rect_of-numbers, move_at-signed, name_of-name, natural_at-decimal, policy_at-word, prefix_at-name, rect_of-numbers, samples_of-decimal, watched_rect_of-numbers}
 use Rattle.script_read.proofs.NodesBack.{node_read}
-use Rattle.script_fields.specs.Limits.{max_level}
+use Rattle.pixel_formats.specs.Limits.{max_level}
 use Rattle.script_read.specs.Keywords.{keyword_of, keyword_word}
 use Rattle.script_read.specs.Limits.{IsInLimits}
 use Rattle.script_read.specs.Script.{command_by, command_of}

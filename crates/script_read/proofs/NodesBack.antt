@@ -6,7 +6,7 @@ use Rattle.std.proofs.lemmas.List.{append-nil, length-map}
 use Rattle.plane_rect.specs.Name.{is_name}
 use Rattle.script_fields.proofs.FieldsBack.{rect_numbers_at-rect, count_in-of, format_at-word, move_at-signed, name_of-name, names_of-names, natural_at-decimal, near_policy_at-word, rect_of-numbers, sample_of-decimal, samples_of-decimal, sideways_at-word}
 use Rattle.script_fields.specs.Fields.{name_of, names_of, samples_of, word_at}
-use Rattle.script_fields.specs.Limits.{max_radius, max_size}
+use Rattle.pixel_formats.specs.Limits.{max_radius, max_checker_size}
 use Rattle.script_read.specs.Keywords.{keyword_word}
 use Rattle.script_read.specs.Limits.{InRange, input_count}
 use Rattle.script_read.specs.Nodes.{ends_from, node, node_by}
@@ -100,7 +100,7 @@ op_read name (Checker format rect size v1 v2) inputs named range are number name
     (let words = node_words name (Checker format rect size v1 v2) [] in
     rw (
       rect_numbers_at-rect words 4 rect are.1.0 refl refl refl refl,
-      natural_at-decimal 1 max_size words 8 size refl range.1.0 range.1.1 (omega (arith, range.1.1)),
+      natural_at-decimal 1 max_checker_size words 8 size refl range.1.0 range.1.1 (omega (arith, range.1.1)),
       sample_of-decimal v1 range.2,
       sample_of-decimal v2 range.3,
       ends_from-ends 11 words name [] refl refl named tt,

@@ -4,7 +4,8 @@ use Rattle.script_words.specs.Lines.{text_of}
 use Rattle.script_words.specs.Words.{joined, spaced}
 use Rattle.script_fields.proofs.PrintLaws.{spaced_put}
 use Rattle.script_read.specs.IsScript.{MayFollow, MayContinue}
-use Rattle.script_read.specs.Script.{most_lines, open_after}
+use Rattle.script_read.specs.Script.{open_after}
+use Rattle.pixel_formats.specs.Limits.{max_lines}
 use Rattle.script_read.specs.Spelling.{HasValidFields, lines_printed, printed, spelled}
 use Rattle.script_fields.specs.declared.cause.ScriptCause.{ScriptCause}
 use Rattle.script_read.specs.declared.command.Line.{Line}
@@ -17,7 +18,7 @@ AreTyped (line ∷ lines) = HasValidFields line.command × AreTyped lines
 -- the numbers of lines rise, from a number on
 abbrev pub Rises : ℕ → List Line → Type 0
 Rises next [] = Unit {0}
-Rises next (line ∷ lines) = (next ≤ line.number) × (line.number ≤ most_lines) × Rises (line.number + 1) lines
+Rises next (line ∷ lines) = (next ≤ line.number) × (line.number ≤ max_lines) × Rises (line.number + 1) lines
 
 Rises-remaining : (next : ℕ) (lines : List Line) (watching : Result (Option ℕ) ScriptCause) →
     ((after : Option ℕ) → MayFollow next after lines → Rises next lines) → MayContinue watching (λ (after : Option ℕ). MayFollow next after lines) → Rises next lines

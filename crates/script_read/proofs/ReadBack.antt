@@ -14,7 +14,8 @@ use Rattle.script_read.proofs.ScriptLaws.{command_in-of_words}
 use Rattle.script_read.specs.IsScript.{IsScript, MayFollow, MayContinue}
 use Rattle.script_read.specs.Keywords.{keyword_word}
 use Rattle.script_read.specs.Limits.{IsInLimits}
-use Rattle.script_read.specs.Script.{Refusal, before, begins_comment, command_in, ended, from_step, longest_line, most_lines, open_after, script_from, script_of, spoken, step_of}
+use Rattle.script_read.specs.Script.{Refusal, before, begins_comment, command_in, ended, from_step, open_after, script_from, script_of, spoken, step_of}
+use Rattle.pixel_formats.specs.Limits.{max_line_bytes, max_lines}
 use Rattle.script_read.specs.Spelling.{HasValidFields, keyword, lines_printed, printed, spelled}
 use Rattle.script_fields.specs.declared.cause.ScriptCause.{ScriptCause}
 use Rattle.script_read.specs.declared.command.Command.{Command}
@@ -25,16 +26,16 @@ use Rattle.script_read.specs.declared.reader.ReadLine.{ReadLine}
 
 -- ---- empty lines
 
-command_in-nothing : (number : ℕ) → number ≤ most_lines → command_in number [] ≡ Ok None
+command_in-nothing : (number : ℕ) → number ≤ max_lines → command_in number [] ≡ Ok None
 unfolding spoken
 command_in-nothing number early =
-    command_in-of_words number [] refl refl (le-leb number most_lines early) ∙ ap spoken (words_of-joined [] refl)
+    command_in-of_words number [] refl refl (le-leb number max_lines early) ∙ ap spoken (words_of-joined [] refl)
 
-step_of-nothing : (number : ℕ) (watching : Option ℕ) → number ≤ most_lines → step_of number watching [] ≡ Ok (record { command = None; watching = watching })
+step_of-nothing : (number : ℕ) (watching : Option ℕ) → number ≤ max_lines → step_of number watching [] ≡ Ok (record { command = None; watching = watching })
 unfolding step_of
 step_of-nothing number watching early = rw (command_in-nothing number early) refl
 
-skips : (count number : ℕ) (watching : Option ℕ) (rest : List (List ℕ)) → number + count ≤ most_lines →
+skips : (count number : ℕ) (watching : Option ℕ) (rest : List (List ℕ)) → number + count ≤ max_lines →
     script_from number watching (replicate count [] ++ rest) ≡ script_from (number + count) watching rest
 skips zero number watching rest early =
     let same : number ≡ number + 0 = omega arith in
@@ -69,23 +70,23 @@ spoken-spelled : (command : Command) → IsInLimits command → HasValidFields c
 unfolding spoken
 spoken-spelled command limits types = rw (no_comment (keyword command), command_of-spelled command limits types) refl
 
-command_in-spelled : (number : ℕ) (command : Command) → number ≤ most_lines → IsInLimits command → HasValidFields command →
+command_in-spelled : (number : ℕ) (command : Command) → number ≤ max_lines → IsInLimits command → HasValidFields command →
     command_in number (joined (spelled command)) ≡ Ok (Some command)
 command_in-spelled number command early limits types =
     let words = are_words-spelled command limits types in
     command_in-of_words number (joined (spelled command)) (is_text-joined (spelled command) words)
-    (le-leb (length (joined (spelled command))) longest_line (short-spelled command limits types)) (le-leb number most_lines early)
+    (le-leb (length (joined (spelled command))) max_line_bytes (short-spelled command limits types)) (le-leb number max_lines early)
     ∙ ap spoken (words_of-joined (spelled command) words)
     ∙ spoken-spelled command limits types
 
-step_of-spelled : (number : ℕ) (watching after : Option ℕ) (command : Command) → number ≤ most_lines → IsInLimits command → HasValidFields command →
+step_of-spelled : (number : ℕ) (watching after : Option ℕ) (command : Command) → number ≤ max_lines → IsInLimits command → HasValidFields command →
     open_after number watching command ≡ Ok after → step_of number watching (joined (spelled command)) ≡ Ok (record { command = Some command; watching = after })
 unfolding step_of
 step_of-spelled number watching after command early limits types unchanged = rw (command_in-spelled number command early limits types, unchanged) refl
 
 -- ---- all lines
 
-line_read : (line : Line) (lines : List Line) (watching : Option ℕ) (remaining : List (List ℕ)) → line.number ≤ most_lines → IsInLimits line.command → HasValidFields line.command →
+line_read : (line : Line) (lines : List Line) (watching : Option ℕ) (remaining : List (List ℕ)) → line.number ≤ max_lines → IsInLimits line.command → HasValidFields line.command →
     ((after : Option ℕ) → MayFollow (line.number + 1) after lines → script_from (line.number + 1) after remaining ≡ Ok lines) →
     (standing : Result (Option ℕ) ScriptCause) → open_after line.number watching line.command ≡ standing → MayContinue standing (λ (after : Option ℕ). MayFollow (line.number + 1) after lines) →
     script_from line.number watching (joined (spelled line.command) ∷ remaining) ≡ Ok (line ∷ lines)
@@ -102,7 +103,7 @@ lines_read number watching [] follows typed = ap (λ (w : Option ℕ). ended w) 
 lines_read number watching (line ∷ lines) follows typed =
     let remaining = lines_printed (line.number + 1) lines in
     let early : number ≤ line.number = follows.0 in
-    let last : line.number ≤ most_lines = follows.1 in
+    let last : line.number ≤ max_lines = follows.1 in
     let there : number + (line.number - number) ≡ line.number = omega arith in
     skips (line.number - number) number watching (joined (spelled line.command) ∷ remaining) (omega arith)
     ∙ ap (λ (n : ℕ). script_from n watching (joined (spelled line.command) ∷ remaining)) there

@@ -5,14 +5,15 @@ use Rattle.script_words.specs.Lines.{is_text, lines_of}
 use Rattle.script_words.specs.Words.{words_of}
 use Rattle.script_read.specs.IsScript.{IsScript, MayFollow, MayContinue}
 use Rattle.script_read.specs.Limits.{IsInLimits}
-use Rattle.script_read.specs.Script.{Refusal, before, command_in, ended, from_step, longest_line, most_lines, open_after, open_past, script_from, script_of, spoken, step_of}
+use Rattle.script_read.specs.Script.{Refusal, before, command_in, ended, from_step, open_after, open_past, script_from, script_of, spoken, step_of}
+use Rattle.pixel_formats.specs.Limits.{max_line_bytes, max_lines}
 use Rattle.script_fields.specs.declared.cause.ScriptCause.{ScriptCause}
 use Rattle.script_read.specs.declared.command.Command.{Command}
 use Rattle.script_read.specs.declared.command.Line.{Line}
 use Rattle.script_read.specs.declared.reader.ReadLine.{ReadLine}
 
 -- the words of a line of text, neither too long nor too late, are what is read of it
-pub command_in-of_words : (number : ℕ) (line : List ℕ) → is_text line ≡ true → nat_le (length line) longest_line ≡ true → nat_le number most_lines ≡ true →
+pub command_in-of_words : (number : ℕ) (line : List ℕ) → is_text line ≡ true → nat_le (length line) max_line_bytes ≡ true → nat_le number max_lines ≡ true →
     command_in number line ≡ spoken (words_of line)
 unfolding command_in
 command_in-of_words number line text short early = rw (text, short, early) refl
@@ -58,7 +59,7 @@ MayFollow-earlier number watching (line ∷ lines) follows =
 abbrev pub LeadsTo : List Line → ℕ → Option ℕ → Type 0
 LeadsTo lines number watching = (rest : List Line) → MayFollow number watching rest → IsScript (lines ++ rest)
 
-pub leads_on : (lines : List Line) (number : ℕ) (watching after : Option ℕ) (command : Option Command) → LeadsTo lines number watching → number ≤ most_lines →
+pub leads_on : (lines : List Line) (number : ℕ) (watching after : Option ℕ) (command : Option Command) → LeadsTo lines number watching → number ≤ max_lines →
     IfSome command IsInLimits → open_past number watching command ≡ Ok after → LeadsTo (lines ++ reported number command) (number + 1) after
 leads_on lines number watching after None leads early keeps is rest follows =
     let same : watching ≡ after = cc in

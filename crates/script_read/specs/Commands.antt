@@ -3,7 +3,7 @@
 use Rattle.std.specs.Prelude.{ℕ, List, Result, Ok}
 use Rattle.script_fields.specs.Fields.{◌>>=◌, count, count_in, natural_at, move_at, rect_numbers_at, name_at, file_at, prefix_at, format_at, policy_at, rect_of, level_rect_of, watched_rect_of, samples_from}
 use Rattle.script_fields.specs.declared.cause.ScriptCause.{ScriptCause}
-use Rattle.script_fields.specs.Limits.{max_level}
+use Rattle.pixel_formats.specs.Limits.{max_frames, max_level, max_viewers}
 use Rattle.script_read.specs.declared.command.Command.{Command}
 use Rattle.script_read.specs.declared.command.Command.TheVariants.{Buffer, Sub, Dup, Load, Fill, Copy, Drop, Render, Grab, Watch}
 
@@ -108,8 +108,8 @@ abbrev pub watch : List (List ℕ) → Result Command ScriptCause
 watch words = do
   _ ← count 9 words
   numbers ← rect_numbers_at words 2
-  viewers ← natural_at 1 16 words 6
-  frames ← natural_at 1 64 words 7
+  viewers ← natural_at 1 max_viewers words 6
+  frames ← natural_at 1 max_frames words 7
   name ← name_at words 1
   prefix ← prefix_at words 8
   rect ← watched_rect_of viewers frames numbers

@@ -1,7 +1,8 @@
 -- The lines that are a script's.
 use Rattle.std.specs.Prelude.{ℕ, ◌+◌, ◌≡◌, ◌≤◌, List, [], ◌∷◌, Option, None, Result, Ok, Err}
 use Rattle.script_read.specs.Limits.{IsInLimits}
-use Rattle.script_read.specs.Script.{most_lines, open_after}
+use Rattle.script_read.specs.Script.{open_after}
+use Rattle.pixel_formats.specs.Limits.{max_lines}
 use Rattle.script_fields.specs.declared.cause.ScriptCause.{ScriptCause}
 use Rattle.script_read.specs.declared.command.Line.{Line}
 
@@ -15,7 +16,7 @@ MayContinue (Err cause) After = ⊥
 abbrev pub MayFollow : ℕ → Option ℕ → List Line → Type 0
 MayFollow number watching [] = watching ≡ None
 MayFollow number watching (line ∷ lines) =
-    (number ≤ line.number) × (line.number ≤ most_lines) × IsInLimits line.command
+    (number ≤ line.number) × (line.number ≤ max_lines) × IsInLimits line.command
     × MayContinue (open_after line.number watching line.command) (λ watching. MayFollow (line.number + 1) watching lines)
 
 -- the lines are a script's

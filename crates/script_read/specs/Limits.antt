@@ -1,8 +1,8 @@
 -- The limits that a script's commands keep.
 use Rattle.std.specs.Prelude.{ℕ, ◌≡◌, ◌≤◌, IsTrue, length}
 use Rattle.plane_rect.specs.Rectangle.{in_limits}
-use Rattle.script_fields.specs.Fields.{max_sample, longest_prefix, may_watch}
-use Rattle.script_fields.specs.Limits.{ArePixel, IsIn, IsLevelRect, IsMove, IsSample, IsSquare, max_size}
+use Rattle.script_fields.specs.Limits.{IsLevelRect, may_watch}
+use Rattle.pixel_formats.specs.Limits.{ArePixel, IsArea, IsIn, IsMove, IsSample, max_checker_size, max_frames, max_prefix_bytes, max_sample, max_viewers}
 use Rattle.script_read.specs.declared.command.Command.{Command}
 use Rattle.script_read.specs.declared.command.Command.TheVariants.{Buffer, Sub, Load, Fill, Copy, Node, Render, Grab, Watch}
 use Rattle.script_read.specs.declared.command.OpWords.{OpWords}
@@ -22,14 +22,14 @@ input_count op = 1
 abbrev pub InRange : OpWords → Type 0
 InRange (Color format rect samples) = IsTrue (in_limits rect) × ArePixel samples
 InRange (Checker format rect size v1 v2) =
-    IsTrue (in_limits rect) × IsIn 1 max_size size × IsSample v1 × IsSample v2
+    IsTrue (in_limits rect) × IsIn 1 max_checker_size size × IsSample v1 × IsSample v2
 InRange (Threshold at) = IsSample at
 InRange (Gain num den) = IsSample num × IsIn 1 max_sample den
 InRange (Translate dx dy) = IsMove dx × IsMove dy
 InRange (Crop rect) = IsTrue (in_limits rect)
-InRange (BoxMean radius policy) = IsSquare radius policy
-InRange (Dilate radius policy) = IsSquare radius policy
-InRange (Erode radius policy) = IsSquare radius policy
+InRange (BoxMean radius policy) = IsArea radius policy
+InRange (Dilate radius policy) = IsArea radius policy
+InRange (Erode radius policy) = IsArea radius policy
 InRange op = Unit {0}
 
 -- The numbers of a command are in their ranges, its rectangle is one that it may have, and a node has its inputs.
@@ -43,6 +43,6 @@ IsInLimits (Node name op inputs) = InRange op × (length inputs ≡ input_count 
 IsInLimits (Render name level rect file) = IsLevelRect level rect
 IsInLimits (Grab name level policy rect file) = IsLevelRect level rect
 IsInLimits (Watch name rect viewers frames prefix) =
-    IsTrue (in_limits rect) × IsIn 1 16 viewers × IsIn 1 64 frames × IsTrue (may_watch viewers frames rect)
-    × (length prefix ≤ longest_prefix)
+    IsTrue (in_limits rect) × IsIn 1 max_viewers viewers × IsIn 1 max_frames frames × IsTrue (may_watch viewers frames rect)
+    × (length prefix ≤ max_prefix_bytes)
 IsInLimits command = Unit {0}

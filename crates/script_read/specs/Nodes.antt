@@ -2,7 +2,7 @@
 use Rattle.std.specs.Prelude.{ℕ, nat_lt, List, length, Result, Ok}
 use Rattle.std.specs.Option.{ok_or}
 use Rattle.script_fields.specs.Fields.{◌>>=◌, word_at, passed, count, count_in, natural_at, sample_at, move_at, rect_numbers_at, name_at, format_at, near_policy_at, sideways_at, rect_of, names_from, samples_from}
-use Rattle.script_fields.specs.Limits.{max_radius, max_size}
+use Rattle.pixel_formats.specs.Limits.{max_checker_size, max_radius, max_sample}
 use Rattle.script_read.specs.OperationWords.{operation_of}
 use Rattle.script_read.specs.declared.operation_word.OperationWord.{OperationWord}
 use Rattle.script_read.specs.declared.operation_word.OperationWord.TheVariants as words_of
@@ -49,7 +49,7 @@ abbrev pub checker : List (List ℕ) → Result Command ScriptCause
 checker words = do
   _ ← count 11 words
   numbers ← rect_numbers_at words 4
-  size ← natural_at 1 max_size words 8
+  size ← natural_at 1 max_checker_size words 8
   v1 ← sample_at words 9
   v2 ← sample_at words 10
   ends ← ends_from 11 words
@@ -78,7 +78,7 @@ abbrev pub gain : List (List ℕ) → Result Command ScriptCause
 gain words = do
   _ ← count 6 words
   num ← sample_at words 3
-  den ← natural_at 1 65535 words 4
+  den ← natural_at 1 max_sample words 4
   ends ← ends_from 5 words
   Ok (node_of ends (Gain num den))
 

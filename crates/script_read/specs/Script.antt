@@ -2,6 +2,7 @@
 -- causes.
 use Rattle.std.specs.Prelude.{ℕ, ◌+◌, ◌^◌, ◌==◌, nat_le, Bool, true, false, if◌then◌else◌, List, [], ◌∷◌, length, Option, Some, None, Result, Ok, Err}
 use Rattle.std.specs.Option.{ok_or}
+use Rattle.pixel_formats.specs.Limits.{max_line_bytes, max_lines}
 use Rattle.script_words.specs.Lines.{is_text, lines_of}
 use Rattle.script_words.specs.Words.{words_of}
 use Rattle.script_read.specs.Commands.{buffer, sub, dup, load, fill, copy, drop_node, alone, render, grab, watch}
@@ -16,18 +17,6 @@ use Rattle.script_read.specs.declared.command.Line.{Line}
 use Rattle.script_read.specs.declared.keyword.Keyword.{Keyword}
 use Rattle.script_read.specs.declared.keyword.Keyword.TheVariants.{Buffer, Sub, Dup, Load, Fill, Copy, Node, Drop, Commit, Undo, Redo, Render, Grab, Watch, EndWatch}
 use Rattle.script_read.specs.declared.reader.ReadLine.{ReadLine}
-
--- the most bytes that a script may have
-abbrev pub script_limit : ℕ
-script_limit = 2 ^ 20
-
--- the most bytes of a line, without its end
-abbrev pub longest_line : ℕ
-longest_line = 1024
-
--- the most lines of a script
-abbrev pub most_lines : ℕ
-most_lines = 10000
 
 -- ---- one line
 
@@ -71,8 +60,8 @@ spoken words = if is_silent words then Ok None else (command_of words >>= λ com
 unfoldable pub command_in : ℕ → List ℕ → Result (Option Command) ScriptCause
 command_in number line = do
   _ ← passed {A = Unit {0}} (is_text line) causes.NotAscii tt
-  _ ← passed {A = Unit {0}} (nat_le (length line) longest_line) causes.LineTooLong tt
-  _ ← passed {A = Unit {0}} (nat_le number most_lines) causes.TooManyLines tt
+  _ ← passed {A = Unit {0}} (nat_le (length line) max_line_bytes) causes.LineTooLong tt
+  _ ← passed {A = Unit {0}} (nat_le number max_lines) causes.TooManyLines tt
   spoken (words_of line)
 
 -- ---- watches

@@ -2,10 +2,8 @@
 
 use crate::keyword::Keyword;
 use crate::operation_word::OperationWord;
-use model_images::Abyss;
-use model_operations::PixelSamples;
+use pixel_formats::{Abyss, Format, PixelSamples};
 use plane_rect::{Name, Rect};
-use sample_rows::Format;
 use script_fields::{FileName, Names};
 
 /// A command, and the number of its line in the script, counted from 1.

@@ -5,15 +5,16 @@
 
 ghost use Rattle.std.specs.Prelude.{◌≡◌, IfOk};
 ghost use Rattle.script_fields.specs.Answers.{Answers};
-ghost use Rattle.script_fields.specs.Limits.{max_level};
+ghost use Rattle.pixel_formats.specs.Limits.{max_level};
 ghost use Rattle.script_read.specs.Commands.{alone, buffer, copy, drop_node, dup, fill, grab, load, render, sub, watch};
 ghost use Rattle.script_fields.specs.Fields.{texts};
 ghost use Rattle.script_read.specs.Limits.{IsInLimits};
 
 use crate::command::Command;
+use pixel_formats::limits::{MAX_FRAMES, MAX_LEVEL, MAX_VIEWERS};
 use script_fields::{
-    MAX_LEVEL, LineAnswer, rect_numbers_at, count, count_in, file_at, format_at, move_at, name_at,
-    natural_at, policy_at, prefix_at, samples_from,
+    LineAnswer, count, count_in, file_at, format_at, move_at, name_at, natural_at, policy_at,
+    prefix_at, rect_numbers_at, samples_from,
 };
 use std::alloc::Global;
 
@@ -172,8 +173,8 @@ pub(crate) fn watch(words: &[&[u8]]) -> Result<Command, LineAnswer>
 {
     count(9, words)?;
     let numbers = rect_numbers_at(words, 2)?;
-    let viewers = natural_at(1, 16, words, 6)?;
-    let frames = natural_at(1, 64, words, 7)?;
+    let viewers = natural_at(1, MAX_VIEWERS, words, 6)?;
+    let frames = natural_at(1, MAX_FRAMES, words, 7)?;
     let name = name_at(words, 1)?;
     let prefix = prefix_at(words, 8)?;
     let rect = numbers.watched_rect(viewers, frames)?;

@@ -2,15 +2,17 @@
 
 ghost use Rattle.std.specs.Prelude.{◌≡◌, ◌↔◌, ◌≤◌, IsTrue};
 ghost use Rattle.script_read.specs.IsScript.{IsScript};
-ghost use Rattle.script_fields.specs.Limits.{ArePixel, IsIn, IsLevelRect, IsMove, IsSample, IsSquare};
+ghost use Rattle.script_fields.specs.Limits.{IsLevelRect};
+ghost use Rattle.pixel_formats.specs.Limits.{ArePixel, IsIn, IsMove, IsSample, IsArea};
 ghost use Rattle.script_read.specs.Limits.{InRange, IsInLimits, input_count};
 
 use crate::command::{Command, Line, OpWords};
-use crate::reader::{MOST_LINES, open_after};
-use script_fields::{
-    MAX_SAMPLE, MAX_SIZE, LONGEST_PREFIX, are_pixel, is_in, is_level_rect, is_move,
-    is_square, may_watch,
+use crate::reader::open_after;
+use pixel_formats::limits::{
+    MAX_CHECKER_SIZE, MAX_FRAMES, MAX_LINES, MAX_PREFIX_BYTES, MAX_SAMPLE, MAX_VIEWERS, are_pixel,
+    is_area, is_in, is_move,
 };
+use script_fields::{is_level_rect, may_watch};
 
 /// Whether lines are a script's: their numbers rise from 1 or more up to at most 10,000, the fields of their commands
 /// keep their limits, and each watch is ended before another begins.
@@ -20,7 +22,7 @@ pub fn is_script(lines: &[Line]) -> bool
     let mut next = 1;
     let mut watching = None;
     for line in lines {
-        if line.number < next || line.number > MOST_LINES || !is_in_limits(&line.command) {
+        if line.number < next || line.number > MAX_LINES || !is_in_limits(&line.command) {
             return false;
         }
         watching = match open_after(line.number, watching, &line.command) {
@@ -57,10 +59,10 @@ fn is_in_limits(command: &Command) -> bool
             ..
         } => {
             rect.in_limits()
-                && is_in(1, 16, *viewers)
-                && is_in(1, 64, *frames)
+                && is_in(1, MAX_VIEWERS, *viewers)
+                && is_in(1, MAX_FRAMES, *frames)
                 && may_watch(*viewers, *frames, rect)
-                && prefix.as_bytes().len() <= LONGEST_PREFIX
+                && prefix.as_bytes().len() <= MAX_PREFIX_BYTES
         }
         Command::Dup { .. }
         | Command::Drop { .. }
@@ -85,7 +87,7 @@ fn is_in_range(op: &OpWords) -> bool
             ..
         } => {
             rect.in_limits()
-                && is_in(1, MAX_SIZE, *size)
+                && is_in(1, MAX_CHECKER_SIZE, *size)
                 && *v1 <= MAX_SAMPLE
                 && *v2 <= MAX_SAMPLE
         }
@@ -95,7 +97,7 @@ fn is_in_range(op: &OpWords) -> bool
         OpWords::Crop { rect } => rect.in_limits(),
         OpWords::BoxMean { radius, abyss }
         | OpWords::Dilate { radius, abyss }
-        | OpWords::Erode { radius, abyss } => is_square(*radius, *abyss),
+        | OpWords::Erode { radius, abyss } => is_area(*radius, *abyss),
         OpWords::Source { .. }
         | OpWords::Convert { .. }
         | OpWords::Invert

@@ -11,11 +11,11 @@ ghost use Rattle.script_read.specs.Nodes.{bare, box_mean, checker, color, conver
 
 use crate::command::{Command, OpWords};
 use crate::operation_word::OperationWord;
+use pixel_formats::limits::{MAX_CHECKER_SIZE, MAX_RADIUS, MAX_SAMPLE};
 use plane_rect::Name;
 use script_fields::{
-    MAX_RADIUS, MAX_SIZE, LineAnswer, Names, ScriptCause, rect_numbers_at, count, count_in,
-    format_at, move_at, name_at, names_from, natural_at, near_policy_at, sample_at, samples_from,
-    sideways_at, word_at,
+    LineAnswer, Names, ScriptCause, count, count_in, format_at, move_at, name_at, names_from,
+    natural_at, near_policy_at, rect_numbers_at, sample_at, samples_from, sideways_at, word_at,
 };
 use std::alloc::Global;
 
@@ -149,7 +149,7 @@ fn checker(alloc: Global, words: &[&[u8]]) -> Result<Command, LineAnswer>
 {
     count(11, words)?;
     let numbers = rect_numbers_at(words, 4)?;
-    let size = natural_at(1, MAX_SIZE, words, 8)?;
+    let size = natural_at(1, MAX_CHECKER_SIZE, words, 8)?;
     let v1 = sample_at(words, 9)?;
     let v2 = sample_at(words, 10)?;
     let ends = Ends::parse(alloc, 11, words)?;
@@ -193,7 +193,7 @@ fn gain(alloc: Global, words: &[&[u8]]) -> Result<Command, LineAnswer>
 {
     count(6, words)?;
     let num = sample_at(words, 3)?;
-    let den = natural_at(1, 65_535, words, 4)?;
+    let den = natural_at(1, MAX_SAMPLE, words, 4)?;
     let ends = Ends::parse(alloc, 5, words)?;
     Ok(ends.node(OpWords::Gain { num, den }))
 }

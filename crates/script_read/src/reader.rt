@@ -7,20 +7,16 @@ ghost use Rattle.script_read.specs.Answers.{Reads};
 ghost use Rattle.script_fields.specs.Fields.{texts};
 ghost use Rattle.script_read.specs.IsScript.{IsScript};
 ghost use Rattle.script_read.specs.Limits.{IsInLimits};
-ghost use Rattle.script_read.specs.Script.{begins_comment, command_by, command_in, command_of, is_silent, most_lines, open_after, open_past, script_of, spoken, step_of};
+ghost use Rattle.script_read.specs.Script.{begins_comment, command_by, command_in, command_of, is_silent, open_after, open_past, script_of, spoken, step_of};
+ghost use Rattle.pixel_formats.specs.Limits.{max_lines};
 
 use crate::command::{Command, Line};
 use crate::keyword::Keyword;
 use crate::{commands, nodes};
+use pixel_formats::limits::{MAX_LINE_BYTES, MAX_LINES};
 use script_fields::{LineAnswer, ScriptAnswer, ScriptCause, word_at};
 use script_words::{is_text, next_line, split_words};
 use std::alloc::Global;
-
-/// The most bytes of a line, without its end.
-const LONGEST_LINE: usize = 1024;
-
-/// The most lines of a script.
-pub(crate) const MOST_LINES: u32 = 10_000;
 
 /// What is read of a line.
 #[derive(Drop)]
@@ -80,7 +76,7 @@ fn step_of<'t>(
     words: &mut Vec<&'t [u8]>,
 ) -> Result<ReadLine, LineAnswer>
     ensures value { Answers result (step_of number watching line.now) }
-    ensures number { IfOk result (λ step. number ≤ most_lines) }
+    ensures number { IfOk result (λ step. number ≤ max_lines) }
     ensures watch { IfOk result (λ step. open_past number watching step.command ≡ Ok step.watching) }
     ensures limits { IfOk result (λ step. IfSome step.command IsInLimits) }
 {
@@ -117,16 +113,16 @@ fn command_in<'t>(
     words: &mut Vec<&'t [u8]>,
 ) -> Result<Option<Command>, LineAnswer>
     ensures value { Answers result (command_in number line.now) }
-    ensures number { IfOk result (λ command. number ≤ most_lines) }
+    ensures number { IfOk result (λ command. number ≤ max_lines) }
     ensures limits { IfOk result (λ command. IfSome command IsInLimits) }
 {
     if !is_text(line) {
         return Err(LineAnswer::Refused(ScriptCause::NotAscii));
     }
-    if line.len() > LONGEST_LINE {
+    if line.len() > MAX_LINE_BYTES {
         return Err(LineAnswer::Refused(ScriptCause::LineTooLong));
     }
-    if number > MOST_LINES {
+    if number > MAX_LINES {
         return Err(LineAnswer::Refused(ScriptCause::TooManyLines));
     }
     split_words(line, words)?;

@@ -11,6 +11,7 @@ use Rattle.model_graphs.specs.Operation.{Operation, result_of}
 use Rattle.model_graphs.specs.Operation as operations
 use Rattle.model_graphs.specs.Evaluation.{Buffers, buffer_image, evaluated}
 use Rattle.script_read.specs.Script as reading
+use Rattle.pixel_formats.specs.Limits.{max_script_bytes}
 use Rattle.script_fields.specs.declared.cause.ScriptCause.TheVariants as grammar
 use Rattle.script_read.specs.declared.command.Line.{Line}
 use Rattle.run_texts.specs.Events.{Event, Writes, Puts, Outcome, nothing, refusal, then_do}
@@ -105,7 +106,7 @@ lines_outcome files (Err refused) = refusal refused.0 (causes.Grammar refused.1)
 abbrev pub text_outcome : Files → Option (List ℕ) → Outcome
 text_outcome files None = refusal 0 causes.Absent
 text_outcome files (Some text) =
-    if nat_lt reading.script_limit (length text) then refusal 0 causes.TooLong else lines_outcome files (reading.script_of text)
+    if nat_lt max_script_bytes (length text) then refusal 0 causes.TooLong else lines_outcome files (reading.script_of text)
 
 abbrev pub script_outcome : Files → Option (List ℕ) → Outcome
 script_outcome files None = nothing

@@ -6,7 +6,8 @@ ghost use Rattle.outside_io.specs.FileName.{is_file_name};
 ghost use Rattle.outside_io.specs.Files.{file};
 ghost use Rattle.outside_io.specs.Faults.{Rose};
 ghost use Rattle.script_run.specs.Words.{script_of as script_of_words};
-ghost use Rattle.script_read.specs.Script.{script_limit, script_of};
+ghost use Rattle.script_read.specs.Script.{script_of};
+ghost use Rattle.pixel_formats.specs.Limits.{max_script_bytes};
 ghost use Rattle.run_texts.specs.World.{LeavesSome, after_all};
 ghost use Rattle.script_run.specs.Form.{steps_of};
 ghost use Rattle.script_run.specs.Outcome.{outcome, text_outcome, lines_outcome, form_outcome};
@@ -18,12 +19,10 @@ use crate::form::{FormRefused, steps_of};
 use crate::status::{End, status_of};
 use crate::words::script_of;
 use outside_io::{Gate, Shelf, ShelfAnswer, Sink, SwapDisk};
+use pixel_formats::limits::MAX_SCRIPT_BYTES;
 use run_texts::Cause;
 use script_read::{Line, ScriptAnswer, ScriptCause, read_script};
 use std::alloc::Global;
-
-/// The most bytes that a script may have.
-const SCRIPT_LIMIT: u64 = 1 << 20;
 
 /// The status of words that are no command line.
 const WRONG_WORDS: u8 = 1;
@@ -95,7 +94,7 @@ fn run_script<F: Shelf, O: Sink>(
         (record { reads = F.read_faults shelf.old; writes = F.write_faults shelf.old; puts = O.faults out.old })
         (record { reads = F.read_faults shelf.new; writes = F.write_faults shelf.new; puts = O.faults out.new }) }
 {
-    match shelf.read(script, SCRIPT_LIMIT) {
+    match shelf.read(script, MAX_SCRIPT_BYTES) {
         Ok(text) => run_text(alloc, &text, shelf, out),
         Err(ShelfAnswer::TooLong { .. }) => refuse(alloc, 0, Cause::TooLong, out),
         Err(ShelfAnswer::Absent) => refuse(alloc, 0, Cause::Absent, out),

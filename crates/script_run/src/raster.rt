@@ -1,7 +1,8 @@
 //! Images of format Y8.
 
+use pixel_formats::Format;
 use plane_rect::Rect;
-use sample_rows::{Format, row_invert};
+use sample_rows::row_invert;
 use std::alloc::{AllocError, Global};
 use std::marker::Model;
 

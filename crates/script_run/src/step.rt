@@ -3,8 +3,8 @@
 ghost use Rattle.std.specs.Prelude.{◌≡◌};
 ghost use Rattle.script_run.specs.Steps.{node_step, step_of};
 
+use pixel_formats::Format;
 use plane_rect::{Name, Rect};
-use sample_rows::Format;
 use script_read::{Command, FileName, Names, OpWords};
 
 /// A command that is carried out.

@@ -4,7 +4,7 @@
 //! an image is found by the remainder of x and y under `Loop`, by the nearest x and y under `Clamp`,
 //! and a halved sample is (a + b + c + d + 2) / 4.
 
-use sample_rows::Format;
+use pixel_formats::Format;
 
 /// An image: its rectangle as x, y, width and height, and its raw bytes.
 #[derive(Clone, Copy)]

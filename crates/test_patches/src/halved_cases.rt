@@ -1,7 +1,7 @@
 //! Images that are halved.
 
 use crate::cases::{Halved, Samples};
-use sample_rows::Format;
+use pixel_formats::Format;
 
 /// Images that are halved, with what that gives.
 pub const HALVED: [Halved; 18] = [

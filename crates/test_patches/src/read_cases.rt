@@ -1,7 +1,7 @@
 //! Images that are read under each policy.
 
 use crate::cases::{Read, Samples};
-use sample_rows::Format;
+use pixel_formats::Format;
 
 /// 10 and 20 from the origin on.
 const ROW: Samples = Samples {

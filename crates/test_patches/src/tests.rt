@@ -9,7 +9,7 @@ use crate::halved_cases::HALVED;
 use crate::read_cases::READ;
 use patch_abyss::{Abyss, Patch, PatchRefused, fetch, halve};
 use plane_rect::{Rect, TileAt};
-use sample_rows::Format;
+use pixel_formats::Format;
 use std::alloc::Global;
 use std::test::Fail;
 use tile_cow::Tile;

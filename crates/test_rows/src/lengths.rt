@@ -2,7 +2,8 @@
 
 ghost use Rattle.std.specs.Prelude.{◌<◌, ◌≤◌};
 
-use sample_rows::{Format, convert_row, row_add, row_average4, row_invert, row_mask, row_over};
+use sample_rows::{convert_row, row_add, row_average4, row_invert, row_mask, row_over};
+use pixel_formats::Format;
 
 /// How many bytes the rows have that are read and written, of which a kernel uses a front.
 const ROOM: usize = 200;

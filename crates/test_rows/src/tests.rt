@@ -1,9 +1,7 @@
 //! Small rows through each kernel, with results that were worked out by hand.
 
-use sample_rows::{
-    Format, convert_row, row_add, row_average4, row_gain, row_invert, row_mask, row_max, row_min,
-    row_over, row_threshold,
-};
+use sample_rows::{convert_row, row_add, row_average4, row_gain, row_invert, row_mask, row_max, row_min, row_over, row_threshold};
+use pixel_formats::Format;
 
 #[test]
 fn names(rt: HostRuntime) {

@@ -2,7 +2,7 @@
 
 use crate::cases::{FIRST_RUN, PRINTED, REFUSED};
 use plane_rect::{Name, Rect};
-use sample_rows::Format;
+use pixel_formats::Format;
 use script_read::{Command, Line, OpWords, ScriptAnswer, is_script, print_script, read_script};
 use std::alloc::{AllocError, Global};
 use std::test::Fail;

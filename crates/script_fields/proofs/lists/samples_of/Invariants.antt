@@ -1,6 +1,7 @@
 use Rattle.std.proofs.Common.{◌≡◌, ◌≤◌, All, drop, length}
 use Rattle.script_fields.proofs.ListLaws.{after}
-use Rattle.script_fields.specs.Fields.{each, max_sample, sample_of, texts}
+use Rattle.script_fields.specs.Fields.{each, sample_of, texts}
+use Rattle.pixel_formats.specs.Limits.{max_sample}
 use Rattle.script_fields.proofs.lists.samples_of.Given as goal
 
 abbrev pub invariant-loop-word : goal.invariant-loop-word

@@ -1,5 +1,5 @@
 use Rattle.std.proofs.Common.{◌+◌, ◌*◌}
-use Rattle.pixel_formats.specs.Gain.{scaled}
+use Rattle.sample_rows.specs.ScaledGain.{scaled}
 use Rattle.sample_rows.proofs.RecolorLaws.{lane_with_alpha}
 use Rattle.sample_rows.proofs.gain.GainRecolor.recolor.Goals as goal
 

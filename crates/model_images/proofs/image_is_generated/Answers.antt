@@ -1,5 +1,0 @@
-use Rattle.model_images.proofs.Laws as laws
-use Rattle.model_images.proofs.image_is_generated.Goals as goal
-
-pub returns : goal.returns
-returns c = laws.image_from_fn-at

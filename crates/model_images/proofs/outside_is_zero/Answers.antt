@@ -1,5 +1,0 @@
-use Rattle.model_images.proofs.Laws as laws
-use Rattle.model_images.proofs.outside_is_zero.Goals as goal
-
-pub returns : goal.returns
-returns c = laws.at_outside

@@ -1,5 +1,0 @@
-use Rattle.model_images.proofs.FromRawLaws.{raw-image_from_raw}
-use Rattle.model_images.proofs.raw_round_trip.Goals as goal
-
-pub returns : goal.returns
-returns c = raw-image_from_raw
