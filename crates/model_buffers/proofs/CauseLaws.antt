@@ -3,7 +3,7 @@ use Rattle.std.proofs.Common.{◌≡◌, ℕ, ℤ, List, None, Some, Ok, Err, in
 use Rattle.std.specs.Prelude.{MatchOption}
 use Rattle.plane_rect.specs.declared.rect.RectRefused.{RectRefused}
 use Rattle.plane_rect.specs.Rectangle.{Rectangle, Includes, shifted}
-use Rattle.model_images.specs.Shape.{Shape}
+use Rattle.model_graphs.specs.Shapes.{Shape}
 use Rattle.model_buffers.specs.declared.refused.EditRefused.{EditRefused}
 use Rattle.model_buffers.specs.declared.edit.BufferEdit.{BufferEdit}
 use Rattle.model_buffers.specs.declared.edit.BufferEdit.TheVariants.{Create, Sub, Duplicate, Fill, Put, Copy}

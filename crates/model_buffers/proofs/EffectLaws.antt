@@ -6,7 +6,7 @@ use Rattle.plane_rect.specs.Rectangle.{Rectangle, Includes, IsRectangle, meet, s
 use Rattle.pixel_formats.specs.declared.format.Format.{Format}
 use Rattle.model_images.specs.Image.{Image, IsImage}
 use Rattle.model_images.specs.Paint.{blank, cut}
-use Rattle.model_images.specs.Shape.{Shape}
+use Rattle.model_graphs.specs.Shapes.{Shape}
 use Rattle.model_images.specs.FromRaw.{pixels_from_raw}
 use Rattle.model_images.proofs.Laws.{IsImage-image_from_fn}
 use Rattle.model_buffers.specs.declared.edit.BufferEdit.{BufferEdit}

@@ -7,7 +7,7 @@ use Rattle.plane_rect.specs.Rectangle.{Rectangle, Includes, IsRectangle, InLimit
 use Rattle.plane_rect.proofs.Rectangles.{Inside-meet}
 use Rattle.plane_rect.proofs.RectangleLaws.{IsRectangle-meet}
 use Rattle.pixel_formats.specs.Limits.{max_buffers}
-use Rattle.model_images.specs.Shape.{Shape}
+use Rattle.model_graphs.specs.Shapes.{Shape}
 use Rattle.model_buffers.specs.declared.edit.BufferEdit.{BufferEdit}
 use Rattle.model_buffers.specs.declared.edit.BufferEdit.TheVariants.{Create, Sub, Duplicate, Fill, Put, Copy}
 use Rattle.model_buffers.specs.BufferEdit.{IsProperEdit, added, layout_with, layout_with_root, part_of}

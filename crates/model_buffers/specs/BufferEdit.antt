@@ -7,7 +7,7 @@ use Rattle.plane_rect.specs.Rectangle.{Rectangle, IsRectangle, InLimits, include
 use Rattle.pixel_formats.specs.Limits.{max_buffers}
 use Rattle.pixel_formats.specs.declared.format.Format.{Format}
 use Rattle.pixel_formats.specs.Format.{channels, max_sample, same_format}
-use Rattle.model_images.specs.Shape.{Shape}
+use Rattle.model_graphs.specs.Shapes.{Shape}
 use Rattle.model_images.specs.FromRaw.{byte_count}
 use Rattle.model_buffers.specs.declared.edit.BufferEdit.{BufferEdit}
 use Rattle.model_buffers.specs.declared.edit.BufferEdit.TheVariants.{Copy, Create, Duplicate, Fill, Put, Sub}
