@@ -1,13 +1,14 @@
 //! The edits worked out by hand on small tables.
 #![tactic(auto, unfolding(model_images::specs::Image::at, model_images::specs::Abyss::abyss_at, model_images::specs::Abyss::raw_with))]
 
-ghost use Rattle.std.specs.Prelude.{◌≡◌, [], ◌∷◌, negsuc, pos, Err};
+ghost use Rattle.std.specs.Prelude.{◌≡◌, [], ◌∷◌, negsuc, pos, Err, codes, None, Some};
 ghost use Rattle.plane_rect.specs.Rectangle.{placed};
 ghost use Rattle.model_images.specs.Examples.{positions_from};
 ghost use Rattle.model_buffers.specs.declared.edit.BufferEdit.TheVariants.{Copy, Create, Duplicate, Fill, Put};
 ghost use Rattle.model_buffers.specs.Edits.{edited_table};
 ghost use Rattle.model_buffers.specs.Table.{no_buffers};
-ghost use Rattle.model_buffers.specs.Examples.{and_then, bytes_of, column_of_two_rows, duplicate_filled, duplicate_then_fill, first_name, full_table, image_after, nines_by_column, one_color, one_two_three, part_of_four, right_column, second_name, two_rows, zeros_over};
+ghost use Rattle.model_buffers.specs.Examples.{and_then, bytes_of, column_of_two_rows, duplicate_filled, duplicate_then_fill, first_name, full_table, image_after, nines_by_column, one_color, one_two_three, part_of_four, right_column, second_name, two_rows, zeros_over, fact_of_row, facts_after, refused_after, written_after};
+ghost use Rattle.model_buffers.specs.Counts.{tiles_added};
 
 use crate::refused::EditRefused;
 use pixel_formats::Format;
@@ -70,4 +71,24 @@ pub fn refused_samples()
         ≡ Err EditRefused.OutOfBounds }
     ensures past_the_plane { and_then one_two_three (λ table. edited_table table (Copy first_name first_name (positions_from (pos 0) 2) (pos 16777216) (pos 0)))
         ≡ Err EditRefused.OutOfBounds }
+{}
+
+/// A buffer of four positions and its part from the second on: what a graph knows of them, and what a fill
+/// of the part writes to their root.
+pub fn layouts()
+    ensures facts { facts_after part_of_four ≡ fact_of_row first_name 0 4 ∷ fact_of_row second_name 1 3 ∷ [] }
+    ensures written { written_after part_of_four (Fill second_name (positions_from (pos 2) 1) (7 ∷ []))
+        ≡ Some (first_name, positions_from (pos 2) 1) }
+    ensures adding { written_after part_of_four (Duplicate (codes "c") first_name) ≡ None }
+    ensures refused { refused_after part_of_four (Fill second_name (positions_from (pos 0) 1) (7 ∷ []))
+        ≡ Some EditRefused.OutOfBounds }
+{}
+
+/// A fill across the edge of a tile adds two tiles, and so does a copy whose moved rectangle does so.
+/// A new buffer adds none.
+pub fn tiles_of_edits()
+    ensures filled { tiles_added (Fill first_name (positions_from (pos 63) 2) (1 ∷ [])) ≡ 2 }
+    ensures around_the_origin { tiles_added (Fill first_name (positions_from (negsuc 0) 2) (1 ∷ [])) ≡ 2 }
+    ensures copied { tiles_added (Copy first_name first_name (positions_from (pos 0) 64) (pos 1) (pos 0)) ≡ 2 }
+    ensures created { tiles_added (Create first_name Format.Y8 (positions_from (pos 0) 64)) ≡ 0 }
 {}

@@ -10,6 +10,7 @@ pub mod Laws
 pub mod FromRawLaws
 pub mod Tests
 pub mod Agreeing
+pub mod Painting
 pub mod AgreeingLevels
 pub mod HeldTiles
 pub mod PutTiles

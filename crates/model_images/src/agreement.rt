@@ -1,10 +1,11 @@
 //! The laws of images that agree, and of parts of images.
 
-ghost use Rattle.std.specs.Prelude.{◌≡◌, ℕ};
-ghost use Rattle.plane_rect.specs.Rectangle.{Includes, Inside, Rectangle, empty};
+ghost use Rattle.std.specs.Prelude.{◌≡◌, ◌<◌, ℕ};
+ghost use Rattle.plane_rect.specs.Rectangle.{Includes, Inside, Rectangle};
+ghost use Rattle.pixel_formats.specs.Format.{channels};
 ghost use Rattle.model_images.specs.Agreement.{AgreeEverywhere, AgreeOutside, IsOldOrNew};
 ghost use Rattle.model_images.specs.Image.{Image, IsImage, at};
-ghost use Rattle.model_images.specs.Paint.{cut};
+ghost use Rattle.model_images.specs.Paint.{cut, painted};
 ghost use Rattle.model_images.specs.Raw.{raw};
 
 /// Agreement everywhere is an equivalence. Images of one box that agree so are equal.
@@ -22,11 +23,19 @@ pub fn agreement_of_parts()
 {}
 
 /// A part of an image has the image's samples, and a part of a part is a part. The image over a box that
-/// contains its own agrees with it everywhere.
+/// contains its own agrees with it everywhere. Parts of images agree where the images do.
 pub fn parts_of_images()
     ensures samples { (image : Image) (box : Rectangle) (u v c : ℕ) → Inside u v box → at (cut image box) u v c ≡ at image u v c }
     ensures part { (image : Image) (box part : Rectangle) → Includes box part → cut (cut image box) part ≡ cut image part }
+    ensures agreement { (a b : Image) (box r : Rectangle) → AgreeOutside a b r → AgreeOutside (cut a box) (cut b box) r }
     ensures wider { (image : Image) (box : Rectangle) → Includes box image.box → AgreeEverywhere (cut image box) image }
+{}
+
+/// A painted image has the new samples over the rectangle as far as its box goes, and its own outside.
+pub fn painted_images()
+    ensures over { (image : Image) (r : Rectangle) (f : ℕ → ℕ → ℕ → ℕ) (u v c : ℕ) →
+        Inside u v r → Inside u v image.box → c < channels image.format → at (painted image r f) u v c ≡ f u v c }
+    ensures outside { (image : Image) (r : Rectangle) (f : ℕ → ℕ → ℕ → ℕ) → AgreeOutside image (painted image r f) r }
 {}
 
 /// An image of which nothing was written has its old samples, and one of which all was written its new ones. Where

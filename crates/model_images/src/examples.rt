@@ -4,8 +4,11 @@
 ghost use Rattle.std.specs.Prelude.{◌≡◌, [], ◌∷◌, negsuc, pos};
 ghost use Rattle.model_images.specs.Raw.{raw};
 ghost use Rattle.model_images.specs.Abyss.{raw_with};
-ghost use Rattle.model_images.specs.Examples.{faint_of_16_bits, faint_ten, four_positions, left_edge, no_position, one_to_four, positions_from, ten_twenty, three_from, two_positions, upper_left};
+ghost use Rattle.model_images.specs.Examples.{faint_of_16_bits, faint_ten, four_positions, left_edge, no_position, one_to_four, positions_from, ten_twenty, three_from, two_positions, two_tiles, upper_left};
 ghost use Rattle.model_images.specs.Level.{level};
+ghost use Rattle.model_images.specs.TileCounts.{level_tiles, tile_count};
+ghost use Rattle.model_images.specs.Tiles.{hull_of_tiles};
+ghost use Rattle.plane_rect.specs.Rectangle.{placed};
 
 use pixel_formats::Abyss;
 
@@ -69,4 +72,13 @@ pub fn levels_left_of_the_origin()
     ensures first { raw (level (three_from (negsuc 2)) 1) (positions_from (negsuc 1) 2) ≡ 3 ∷ 13 ∷ [] }
     ensures second_bounds { (level (three_from (negsuc 2)) 2).box ≡ positions_from (negsuc 0) 1 }
     ensures second { raw (level (three_from (negsuc 2)) 2) (positions_from (negsuc 0) 1) ≡ 4 ∷ [] }
+{}
+
+/// Two tiles, one left of the origin and one a tile away from it in both directions: their hull, and how
+/// many tiles it meets. Levels 1 and 2 of four tiles in a row have two tiles and one.
+pub fn tiles_and_their_hull()
+    ensures hull { hull_of_tiles two_tiles ≡ placed (negsuc 63) (pos 0) 192 128 }
+    ensures met { tile_count (hull_of_tiles two_tiles) ≡ 6 }
+    ensures across { tile_count (positions_from (negsuc 0) 2) ≡ 2 }
+    ensures levels { level_tiles (placed (pos 0) (pos 0) 256 64) 2 ≡ 3 }
 {}
