@@ -9,6 +9,7 @@ pub mod Positions
 pub mod Laws
 pub mod FromRawLaws
 pub mod Tests
+pub mod RawLaws
 pub mod Agreeing
 pub mod Painting
 pub mod AgreeingLevels

@@ -1,12 +1,19 @@
 //! The laws of images that agree, and of parts of images.
 
 ghost use Rattle.std.specs.Prelude.{◌≡◌, ◌<◌, ℕ};
-ghost use Rattle.plane_rect.specs.Rectangle.{Includes, Inside, Rectangle};
+ghost use Rattle.plane_rect.specs.Rectangle.{AreDisjoint, Includes, Inside, Rectangle};
 ghost use Rattle.pixel_formats.specs.Format.{channels};
-ghost use Rattle.model_images.specs.Agreement.{AgreeEverywhere, AgreeOutside, IsOldOrNew};
+ghost use Rattle.model_images.specs.Agreement.{AgreeElsewhere, AgreeEverywhere, AgreeOutside, IsOldOrNew};
 ghost use Rattle.model_images.specs.Image.{Image, IsImage, at};
 ghost use Rattle.model_images.specs.Paint.{cut, painted};
 ghost use Rattle.model_images.specs.Raw.{raw};
+
+/// Images that agree outside a rectangle agree elsewhere, and those that agree outside one of no position agree
+/// everywhere.
+pub fn weaker_agreements()
+    ensures elsewhere { (a b : Image) (r : Rectangle) → AgreeOutside a b r → AgreeElsewhere a b r }
+    ensures everywhere { (a b : Image) (r : Rectangle) → AgreeElsewhere a b r → ((u v : ℕ) → ¬ Inside u v r) → AgreeEverywhere a b }
+{}
 
 /// Agreement everywhere is an equivalence. Images of one box that agree so are equal.
 pub fn agreement_everywhere()
@@ -16,9 +23,11 @@ pub fn agreement_everywhere()
     ensures equal { (a b : Image) → IsImage a → IsImage b → a.box ≡ b.box → AgreeEverywhere a b → a ≡ b }
 {}
 
-/// Images that agree everywhere have the same raw bytes, and are the same over each box.
+/// Images that agree everywhere have the same raw bytes, and are the same over each box. Those that agree elsewhere
+/// have the same raw bytes there.
 pub fn agreement_of_parts()
     ensures bytes { (a b : Image) (r : Rectangle) → AgreeEverywhere a b → raw a r ≡ raw b r }
+    ensures outside { (a b : Image) (r part : Rectangle) → AgreeElsewhere a b r → AreDisjoint part r → raw a part ≡ raw b part }
     ensures parts { (a b : Image) (box : Rectangle) → AgreeEverywhere a b → cut a box ≡ cut b box }
 {}
 

@@ -1,14 +1,15 @@
 //! The laws of levels.
 
-ghost use Rattle.std.specs.Prelude.{◌≡◌, ◌⊎◌, ◌↔◌, ℕ, ◌+◌, ◌/◌, ◌<◌, ◌≤◌};
+ghost use Rattle.std.specs.Prelude.{◌≡◌, ◌≢◌, ◌⊎◌, ◌↔◌, replicate, ℕ, ◌+◌, ◌/◌, ◌<◌, ◌≤◌};
 ghost use Rattle.plane_rect.specs.Rectangle.{InLimits, IsRectangle, Inside, InsideHalved, Rectangle, empty, half, halved, origin};
 ghost use Rattle.pixel_formats.specs.Average.{mean_of_four};
 ghost use Rattle.pixel_formats.specs.Format.{channels};
-ghost use Rattle.model_images.specs.Agreement.{AgreeEverywhere, AgreeOutside};
+ghost use Rattle.model_images.specs.Agreement.{AgreeElsewhere, AgreeEverywhere, AgreeOutside, AgreeOver};
 ghost use Rattle.model_images.specs.Image.{Image, IsImage, at};
-ghost use Rattle.model_images.specs.Level.{doubled, halved_image, level, level_box, mean_at, square_below};
-ghost use Rattle.model_images.specs.Raw.{tile_bytes};
-ghost use Rattle.plane_rect.specs.Tile.{Tile};
+ghost use Rattle.model_images.specs.Level.{doubled, halved_image, level, level_box, mean_at, source_of_level, tile_at_level};
+ghost use Rattle.model_images.specs.Raw.{raw, tile_bytes};
+ghost use Rattle.model_images.specs.FromRaw.{byte_count};
+ghost use Rattle.plane_rect.specs.Tile.{Tile, tile_square};
 
 /// Level 0 is the image, and each next level halves the one before it.
 pub fn level_after_level()
@@ -89,10 +90,24 @@ pub fn levels_agree()
         AgreeEverywhere a b → AgreeEverywhere (level a z) (level b z) }
 {}
 
-/// The bytes of a tile of a halved image depend on the samples of the square below it alone.
-pub fn halved_tile_is_local()
-    ensures { (a b : Image) (tile : Tile) →
-        IsRectangle a.box → IsRectangle b.box → a.format ≡ b.format →
-        ((u v c : ℕ) → Inside u v (square_below tile) → at a u v c ≡ at b u v c) →
-        tile_bytes (halved_image a) tile ≡ tile_bytes (halved_image b) tile }
+/// A rectangle of a level depends on the positions of the image that are averaged for it alone. Its bytes are zeros
+/// where all of these are.
+pub fn levels_are_local()
+    ensures samples { (a b : Image) (z : ℕ) (r : Rectangle) → IsRectangle a.box → IsRectangle b.box →
+        AgreeOver a b (source_of_level r z) → AgreeOver (level a z) (level b z) r }
+    ensures bytes { (a b : Image) (z : ℕ) (r : Rectangle) → IsRectangle a.box → IsRectangle b.box → a.format ≡ b.format →
+        AgreeOver a b (source_of_level r z) → raw (level a z) r ≡ raw (level b z) r }
+    ensures zeros { (image : Image) (z : ℕ) (r : Rectangle) → IsRectangle image.box →
+        ((u v c : ℕ) → Inside u v (source_of_level r z) → at image u v c ≡ 0) →
+        raw (level image z) r ≡ replicate (byte_count r image.format) 0 }
+{}
+
+/// Where one tile of an image changes, one tile of each level does, whatever the boxes are before and after.
+pub fn one_tile_of_each_level()
+    ensures samples { (a b : Image) (tile : Tile) (z : ℕ) → IsRectangle a.box → IsRectangle b.box →
+        AgreeElsewhere a b (tile_square tile) →
+        AgreeElsewhere (level a z) (level b z) (tile_square (tile_at_level tile z)) }
+    ensures bytes { (a b : Image) (tile other : Tile) (z : ℕ) → IsRectangle a.box → IsRectangle b.box →
+        AgreeElsewhere a b (tile_square tile) → other ≢ tile_at_level tile z →
+        tile_bytes (level a z) other ≡ tile_bytes (level b z) other }
 {}

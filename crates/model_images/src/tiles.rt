@@ -1,15 +1,15 @@
 //! The laws of images that are held by tiles, and of the image of put tiles.
 
-ghost use Rattle.std.specs.Prelude.{◌≡◌, ◌≢◌, ℕ, ◌*◌, ◌<◌, All, Contains, IfSome, List, None, Some, replicate};
+ghost use Rattle.std.specs.Prelude.{◌≡◌, ◌≢◌, ℕ, ◌*◌, ◌<◌, Contains, IfSome, IsSome, List, None, Some, replicate};
 ghost use Rattle.plane_rect.specs.Rectangle.{Includes, Inside, IsRectangle, Rectangle};
 ghost use Rattle.plane_rect.specs.Tile.{IsWhole, Meets, Tile, tile_rectangle, tile_square};
 ghost use Rattle.pixel_formats.specs.Format.{channels, pixel_bytes};
 ghost use Rattle.pixel_formats.specs.declared.format.Format.{Format};
-ghost use Rattle.model_images.specs.Agreement.{AgreeEverywhere, AgreeOutside};
+ghost use Rattle.model_images.specs.Agreement.{AgreeElsewhere, AgreeEverywhere};
 ghost use Rattle.model_images.specs.FromRaw.{byte_count, pixels_from_raw};
 ghost use Rattle.model_images.specs.Image.{Image, IsImage, at};
 ghost use Rattle.model_images.specs.Raw.{raw, tile_bytes};
-ghost use Rattle.model_images.specs.Tiles.{AreTileBytes, AreZeroAround, AreZeroOutside, HeldTiles, held_image, hull_of_tiles, put_image};
+ghost use Rattle.model_images.specs.Tiles.{AreTileBytes, AreZeroAround, AreZeroOutside, HeldTiles, held_image, hull_of_tiles, put_image, tile_or_zeros};
 
 /// The raw bytes of a rectangle encode the image's samples there. They are zeros exactly where all of these
 /// are.
@@ -28,36 +28,42 @@ pub fn held_tiles_are_read()
     ensures held { (box : Rectangle) (format : Format) (held : HeldTiles) (tile : Tile) (bytes : List ℕ) →
         held tile ≡ Some bytes → AreTileBytes format bytes → AreZeroOutside box format tile bytes →
         tile_bytes (held_image box format held) tile ≡ bytes }
+    ensures either { (box : Rectangle) (format : Format) (held : HeldTiles) (tile : Tile) →
+        IfSome (held tile) (AreTileBytes format) → IfSome (held tile) (AreZeroOutside box format tile) →
+        tile_bytes (held_image box format held) tile ≡ tile_or_zeros format held tile }
     ensures lacking { (box : Rectangle) (format : Format) (held : HeldTiles) (tile : Tile) →
         held tile ≡ None → tile_bytes (held_image box format held) tile ≡ replicate (4096 * pixel_bytes format) 0 }
 {}
 
-/// Where one tile changes, the image changes in this tile alone.
+/// Where one tile changes, the image changes in this tile alone, over whatever boxes outside which the tiles are
+/// zero. Where none changes, the images over both boxes agree everywhere.
 pub fn one_tile_changes()
-    ensures { (box : Rectangle) (format : Format) (held later : HeldTiles) (tile : Tile) →
+    ensures one { (a b : Rectangle) (format : Format) (held later : HeldTiles) (tile : Tile) →
+        AreZeroAround a format held → AreZeroAround b format later →
         ((other : Tile) → other ≢ tile → later other ≡ held other) →
-        AgreeOutside (held_image box format held) (held_image box format later) (tile_square tile) }
-{}
-
-/// Tiles that are zero outside two boxes hold images over both that agree everywhere.
-pub fn boxes_of_held_images()
-    ensures { (a b : Rectangle) (format : Format) (held : HeldTiles) →
+        AgreeElsewhere (held_image a format held) (held_image b format later) (tile_square tile) }
+    ensures none { (a b : Rectangle) (format : Format) (held : HeldTiles) →
         AreZeroAround a format held → AreZeroAround b format held →
         AgreeEverywhere (held_image a format held) (held_image b format held) }
 {}
 
-/// An image is held by its own tiles: by those that meet its box, whatever else is held.
+/// An image is held by its own tiles: by those that meet its box, of which those of zeros may be lacking, and
+/// whatever else is held.
 pub fn images_are_held()
     ensures { (image : Image) (held : HeldTiles) → IsImage image →
-        ((tile : Tile) → Meets tile image.box → held tile ≡ Some (tile_bytes image tile)) →
+        ((tile : Tile) → Meets tile image.box → tile_or_zeros image.format held tile ≡ tile_bytes image tile) →
         held_image image.box image.format held ≡ image }
 {}
 
-/// The hull of tiles is the smallest rectangle that contains them.
+/// The hull of tiles is the smallest rectangle that contains them. So tiles that are held are zero outside the hull
+/// of those that were put, if they are among these.
 pub fn hull_contains_tiles()
     ensures rectangle { (tiles : List Tile) → IsRectangle (hull_of_tiles tiles) }
     ensures contains { (tiles : List Tile) (tile : Tile) → Contains tiles tile → IsWhole tile →
         Includes (hull_of_tiles tiles) (tile_square tile) }
+    ensures around { (format : Format) (tiles : List Tile) (held : HeldTiles) →
+        ((tile : Tile) → IsSome (held tile) → Contains tiles tile × IsWhole tile) →
+        AreZeroAround (hull_of_tiles tiles) format held }
     ensures smallest { (tiles : List Tile) (r : Rectangle) →
         ((tile : Tile) → Contains tiles tile → Includes r (tile_rectangle tile)) → Includes r (hull_of_tiles tiles) }
 {}

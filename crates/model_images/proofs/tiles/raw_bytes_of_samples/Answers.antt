@@ -1,4 +1,4 @@
-use Rattle.model_images.proofs.HeldTiles as laws
+use Rattle.model_images.proofs.RawLaws as laws
 use Rattle.model_images.proofs.tiles.raw_bytes_of_samples.Goals as goal
 
 pub returns-clause-samples : goal.returns-clause-samples
