@@ -12,3 +12,4 @@ mod MoveLaws
 pub mod SeenLaws
 mod SharingLaws
 mod CountLaws
+mod HeldLaws
