@@ -147,9 +147,9 @@ halves-elsewhere : (a b : Image) (tile : Tile) → IsRectangle a.box → IsRecta
 halves-elsewhere a b tile is_a is_b agreed = record {
   format = agreed.format;
   samples = λ u v c out. halves-same a b u v c is_a is_b (λ wide high m n p q. agreed.samples m n c (λ there. out (record {
-      column = above-side tile.column u m wide p there.column.0 there.column.1;
-      row = above-side tile.row v n high q there.row.0 there.row.1;
-    })));
+    column = above-side tile.column u m wide p there.column.0 there.column.1;
+    row = above-side tile.row v n high q there.row.0 there.row.1;
+  })));
 }
 
 pub levels-elsewhere : (a b : Image) (tile : Tile) (z : ℕ) → IsRectangle a.box → IsRectangle b.box → AgreeElsewhere a b (tile_square tile)

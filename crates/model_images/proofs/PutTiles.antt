@@ -1,7 +1,7 @@
 -- The hull of tiles, and the image of put tiles.
-use Rattle.std.proofs.Common.{◌≡◌, ℕ, ◌≤◌, max, min, Bool, true, false, cond, List, [], ◌∷◌, Option, Some, None, Contains, inl, inr, refl, sym, ap, subst, arith}
+use Rattle.std.proofs.Common.{◌≡◌, ℕ, max, min, Bool, true, false, cond, List, [], ◌∷◌, Option, Some, None, Contains, inl, inr, refl, subst, arith}
 use Rattle.std.specs.Prelude.{IfSome, IsSome}
-use Rattle.plane_rect.specs.Rectangle.{Rectangle, Includes, Inside, IsRectangle, empty, end_column, end_row, hull, is_empty, plane_side, spanning}
+use Rattle.plane_rect.specs.Rectangle.{Rectangle, Includes, IsRectangle, end_column, end_row, hull, is_empty, spanning}
 use Rattle.plane_rect.specs.Tile.{IsWhole, Tile, plane, tile_rectangle, tile_square}
 use Rattle.plane_rect.proofs.Differences.{hull-minimum}
 use Rattle.plane_rect.proofs.Lists.{Contains-cases, Contains-first, Contains-later}

@@ -3,6 +3,7 @@ use Rattle.std.proofs.Common.{◌≡◌, ℕ, zero, suc, ◌+◌, ◌*◌, ◌<�
 use Rattle.std.specs.List.{flat_map}
 use Rattle.std.proofs.lemmas.Simd.{length-replicate}
 use Rattle.plane_rect.specs.Rectangle.{Rectangle, Inside}
+use Rattle.plane_rect.specs.Tile.{Tile, tile_square}
 use Rattle.pixel_formats.specs.Format.{channels, depth}
 use Rattle.pixel_formats.specs.Row.{sample_at}
 use Rattle.pixel_formats.specs.declared.format.Format.{Format}
@@ -10,9 +11,10 @@ use Rattle.pixel_formats.proofs.Zeros.{get_or-zeros}
 use Rattle.model_images.specs.Agreement.{AgreeOver}
 use Rattle.model_images.specs.FromRaw.{byte_count, pixels_from_raw}
 use Rattle.model_images.specs.Image.{Image, at, sampled, sample_index}
-use Rattle.model_images.specs.Raw.{raw, sample_bytes}
+use Rattle.model_images.specs.Raw.{raw, sample_bytes, tile_bytes}
+use Rattle.model_images.specs.Tiles.{AreZeroOutside}
 use Rattle.model_images.proofs.FromRawLaws.{by_depth, raw-is, sample_zero, zeros_are_bytes}
-use Rattle.model_images.proofs.Laws.{get_or-sampled, sampled_equal}
+use Rattle.model_images.proofs.Laws.{at_outside, get_or-sampled, sampled_equal}
 use Rattle.model_images.proofs.Samples.{position_of_index, sample_index_below}
 
 -- the samples that raw bytes encode are those that they are made of
@@ -65,3 +67,6 @@ unfolding raw
 raw-over a b r format same =
     ap (flat_map (sample_bytes (depth a.format))) (sampled_equal r (channels a.format) (at a) (at b) (λ u v c there known. same u v c there))
     ∙ ap (λ (f : Format). flat_map (sample_bytes (depth f)) (sampled r (channels f) (at b))) format
+
+pub tile-outside : (image : Image) (tile : Tile) → AreZeroOutside image.box image.format tile (tile_bytes image tile)
+tile-outside image tile u v c there out known = raw-samples image (tile_square tile) u v c there known ∙ at_outside image u v c out

@@ -11,11 +11,12 @@ ghost use Rattle.model_images.specs.Image.{Image, IsImage, at};
 ghost use Rattle.model_images.specs.Raw.{raw, tile_bytes};
 ghost use Rattle.model_images.specs.Tiles.{AreTileBytes, AreZeroAround, AreZeroOutside, HeldTiles, held_image, hull_of_tiles, put_image, tile_or_zeros};
 
-/// The raw bytes of a rectangle encode the image's samples there. They are zeros exactly where all of these
-/// are.
+/// The raw bytes of a rectangle encode the image's samples there, and so zeros outside its box. They are zeros
+/// where all of these are.
 pub fn raw_bytes_of_samples()
     ensures samples { (image : Image) (r : Rectangle) (u v c : ℕ) → Inside u v r → c < channels image.format →
         pixels_from_raw r image.format (raw image r) u v c ≡ at image u v c }
+    ensures outside { (image : Image) (tile : Tile) → AreZeroOutside image.box image.format tile (tile_bytes image tile) }
     ensures zeros { (image : Image) (r : Rectangle) →
         ((u v c : ℕ) → Inside u v r → c < channels image.format → at image u v c ≡ 0) →
         raw image r ≡ replicate (byte_count r image.format) 0 }

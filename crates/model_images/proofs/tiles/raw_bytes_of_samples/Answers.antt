@@ -6,3 +6,6 @@ returns-clause-samples c = laws.raw-samples
 
 pub returns-clause-zeros : goal.returns-clause-zeros
 returns-clause-zeros c = laws.raw-zeros
+
+pub returns-clause-outside : goal.returns-clause-outside
+returns-clause-outside c = laws.tile-outside
