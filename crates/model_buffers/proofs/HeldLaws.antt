@@ -1,5 +1,5 @@
 -- The laws of tables whose roots are held by tiles.
-use Rattle.std.proofs.Common.{◌≡◌, ◌≢◌, ℕ, suc, ◌<◌, Bool, true, false, cond, List, [], ◌∷◌, ◌++◌, map, length, get_or, Option, Some, None, refl, sym, ap, ◌∙◌, subst, arith}
+use Rattle.std.proofs.Common.{◌≡◌, ℕ, suc, ◌<◌, Bool, true, false, cond, List, [], ◌∷◌, ◌++◌, map, length, get_or, Option, Some, None, refl, sym, ap, ◌∙◌, subst, arith}
 use Rattle.std.specs.Prelude.{IfSome, option_map, unwrap_or}
 use Rattle.std.specs.Option.{option_map_or}
 use Rattle.std.specs.Str.{bytes_eq}
@@ -20,7 +20,7 @@ use Rattle.model_buffers.specs.BufferEdit.{added, layout_with, layout_with_dupli
 use Rattle.model_buffers.specs.Edits.{by_view, table_with, with_root, with_view, written}
 use Rattle.model_buffers.specs.Held.{ArePainted, AreSameBut, HeldRoots, held_root, held_table}
 use Rattle.model_buffers.specs.Layout.{IsLayout, TableLayout, View, find, root_shape}
-use Rattle.model_buffers.specs.Table.{IsTable, Table, layout_of, root_image}
+use Rattle.model_buffers.specs.Table.{IsTable, layout_of, root_image}
 use Rattle.model_buffers.specs.declared.edit.BufferEdit.TheVariants.{Create, Duplicate, Sub}
 use Rattle.model_buffers.proofs.FindLaws.{find-listed, find-mapped, name_from_test, same_name, unlisted}
 

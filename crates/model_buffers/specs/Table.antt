@@ -2,7 +2,7 @@
 use Rattle.std.specs.Prelude.{ℕ, List, [], map, Option, Some, None, IfSome, unwrap_or}
 use Rattle.model_images.specs.Image.{Image, IsImage}
 use Rattle.model_images.specs.Paint.{cut, no_image}
-use Rattle.model_graphs.specs.Shapes.{Shape, shape_of_image}
+use Rattle.model_graphs.specs.Shapes.{shape_of_image}
 use Rattle.model_buffers.specs.Layout.{IsLayout, TableLayout, View, find, root_named}
 
 -- The images of the roots by the roots' names, and what stands for each name of a buffer.
