@@ -93,7 +93,7 @@ module _ (layout : TableLayout) (held : HeldRoots) where
     root-more shape extent image is =
         ap (λ (roots : List (List ℕ × Image)). record { roots = roots; buffers = added layout.buffers name (record { root = name; extent = extent }) })
         (map-append later_entry layout.roots ((name, shape) ∷ [])
-        ∙ ap (λ (front : List (List ℕ × Image)). front ++ (name, held_root later name shape) ∷ []) others-same
+        ∙ ap (λ (first : List (List ℕ × Image)). first ++ (name, held_root later name shape) ∷ []) others-same
         ∙ ap (λ (i : Image). map entry layout.roots ++ (name, i) ∷ []) is)
 
     pub created-tiles : (format : Format) (extent : Rectangle) → ((tile : Tile) → later name tile ≡ None)

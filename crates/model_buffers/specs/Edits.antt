@@ -37,7 +37,7 @@ with_root table name image extent = record {
 abbrev pub with_view : Table → List ℕ → View → Table
 with_view table name view = record { roots = table.roots; buffers = added table.buffers name view }
 
--- the table in which f's samples are over a rectangle of one root, in place of the root's own
+-- the table in which one root is painted with f's samples over a rectangle
 abbrev pub written : Table → List ℕ → Rectangle → (ℕ → ℕ → Pixel) → Table
 written table root rectangle f = record {
   roots = map (λ (entry : List ℕ × Image). (entry.0, if bytes_eq root entry.0 then painted entry.1 rectangle f else entry.1)) table.roots;

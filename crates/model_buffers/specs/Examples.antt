@@ -52,7 +52,7 @@ duplicate_then_fill =
     (λ table. edited_table table (Duplicate second_name first_name)))
     (λ table. edited_table table (Fill first_name (positions_from (pos 0) 1) (20 ∷ [])))
 
--- the same, and then 30 in the second place of the duplicate
+-- the same, and then 30 in the second position of the duplicate
 abbrev pub duplicate_filled : Edited
 duplicate_filled = and_then duplicate_then_fill (λ table. edited_table table (Fill second_name (positions_from (pos 1) 1) (30 ∷ [])))
 
@@ -80,7 +80,7 @@ column_of_two_rows = and_then two_rows (λ table. edited_table table (Sub second
 abbrev pub nines_by_column : Edited
 nines_by_column = and_then column_of_two_rows (λ table. edited_table table (Fill second_name right_column (9 ∷ [])))
 
--- one place of three channels
+-- one position of three channels
 abbrev pub one_color : Edited
 one_color = edited_table no_buffers (Create first_name RGB8 (positions_from (pos 0) 1))
 

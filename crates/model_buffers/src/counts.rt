@@ -8,20 +8,21 @@ ghost use Rattle.model_buffers.specs.Layout.{TableLayout};
 ghost use Rattle.model_buffers.specs.BufferEdit.{written_by};
 ghost use Rattle.model_buffers.specs.declared.edit.BufferEdit.{BufferEdit};
 
-/// An edit adds the tiles that meet the rectangle that it writes.
+/// States that an edit adds the tiles that meet the rectangle that it writes.
 pub fn tiles_of_written_rectangles()
     ensures { (layout : TableLayout) (edit : BufferEdit) →
         IfSome (written_by layout edit) (λ (written : List ℕ × Rectangle). tiles_added edit ≡ tile_count written.1) }
 {}
 
-/// A render leaves no more names where there were fewer before it, or fewer pairs are applied in all.
+/// States that a render leaves no more names where there were fewer before it, or fewer pairs are applied in
+/// all.
 pub fn fewer_names_after_renders()
     ensures { (others more cached applied later total capacity : ℕ) →
         others ≤ more → cached + applied ≤ later + total →
         names_after_render others cached capacity applied ≤ names_after_render more later capacity total }
 {}
 
-/// Where there is room for some names there is room for fewer, and so in a store of more blocks.
+/// States that where there is room for some names there is room for fewer, and so in a store of more blocks.
 pub fn room_for_fewer()
     ensures { (k fewer used more : ℕ) → fewer ≤ k → used ≤ more → RoomFor k used → RoomFor fewer more }
 {}

@@ -11,7 +11,7 @@ ghost use Rattle.model_buffers.specs.Layout.{IsLayout, TableLayout, View, find, 
 ghost use Rattle.model_buffers.specs.Table.{IsTable, layout_of, root_image};
 ghost use Rattle.model_buffers.specs.declared.edit.BufferEdit.TheVariants.{Create, Duplicate, Sub};
 
-/// A table that is held by tiles has the layout that it is held for, and is a table.
+/// States that a table that is held by tiles has the layout that it is held for, and is a table.
 pub fn held_tables()
     ensures layout { (layout : TableLayout) (held : HeldRoots) → layout_of (held_table layout held) ≡ layout }
     ensures table { (layout : TableLayout) (held : HeldRoots) → IsLayout layout → IsTable (held_table layout held) }
@@ -19,7 +19,8 @@ pub fn held_tables()
         root_image (held_table layout held) root ≡ held_root held root (root_shape layout root) }
 {}
 
-/// A new buffer has no tiles, a sub-buffer none of its own, and a duplicate those of the other root.
+/// States that a new buffer has no tiles, a sub-buffer none of its own, and a duplicate those of the other
+/// root.
 pub fn added_buffers_by_tiles()
     ensures created { (layout : TableLayout) (held later : HeldRoots) (name : List ℕ) (format : Format) (extent : Rectangle) →
         find layout.roots name ≡ None → AreSameBut name held later → ((tile : Tile) → later name tile ≡ None) →
@@ -34,7 +35,7 @@ pub fn added_buffers_by_tiles()
         held_table (layout_with layout (Duplicate name from)) later ≡ table_with (held_table layout held) (Duplicate name from) }
 {}
 
-/// Samples are written to a root where its tiles are painted, and no other root's tiles change.
+/// States that samples are written to a root where its tiles are painted, and no other root's tiles change.
 pub fn written_tiles()
     ensures { (layout : TableLayout) (held later : HeldRoots) (root : List ℕ) (rectangle : Rectangle) (f : ℕ → ℕ → ℕ → ℕ) →
         IsLayout layout → AreSameBut root held later → ArePainted held later root (root_shape layout root) rectangle f →

@@ -11,21 +11,21 @@ ghost use Rattle.model_images.specs.Raw.{raw, tile_bytes};
 ghost use Rattle.model_images.specs.FromRaw.{byte_count};
 ghost use Rattle.plane_rect.specs.Tile.{Tile, tile_square};
 
-/// Level 0 is the image, and each next level halves the one before it.
+/// States that level 0 is the image, and each next level halves the one before it.
 pub fn level_after_level()
     ensures first { (image : Image) → level image 0 ≡ image }
     ensures next { (image : Image) (z : ℕ) →
         level image (z + 1) ≡ halved_image (level image z) }
 {}
 
-/// A level of an image is an image, of the same format.
+/// States that a level of an image is an image, of the same format.
 pub fn level_is_an_image()
     ensures whole { (image : Image) (z : ℕ) → IsImage image → IsImage (level image z) }
     ensures format { (image : Image) (z : ℕ) → (level image z).format ≡ image.format }
 {}
 
-/// The box of a level is a rectangle of the plane, in the limits of images, and has a position exactly
-/// where the image's has.
+/// States that the box of a level is a rectangle of the plane, in the limits of images, and has a position
+/// exactly where the image's has.
 pub fn box_of_a_level()
     ensures rectangle { (image : Image) (z : ℕ) →
         IsRectangle image.box → IsRectangle (level image z).box }
@@ -36,15 +36,15 @@ pub fn box_of_a_level()
     ensures value { (image : Image) (z : ℕ) → (level image z).box ≡ level_box image.box z }
 {}
 
-/// The box of a halved image has the half of each place of the image's, and no other. A position is
-/// one of the four that are averaged at its half.
+/// States that the box of a halved image has the half of each position of the image's, and no other. A
+/// position is one of the four that are averaged at its half.
 pub fn halving_covers()
     ensures positions { (image : Image) (u v : ℕ) → IsRectangle image.box →
         Inside u v (halved_image image).box ↔ InsideHalved u v image.box }
     ensures four { (n : ℕ) → (n ≡ doubled (half n)) ⊎ (n ≡ doubled (half n) + 1) }
 {}
 
-/// A halved image has at each place of its box the mean of four samples of the image, and the
+/// States that a halved image has at each position of its box the mean of four samples of the image, and the
 /// sample of all four where they are equal.
 pub fn halved_samples()
     ensures mean { (image : Image) (u v c : ℕ) →
@@ -63,19 +63,19 @@ pub fn halved_samples()
         at (halved_image image) u v c ≡ sample }
 {}
 
-/// No level has a sample above what the image's samples are at most.
+/// States that no level has a sample above what the image's samples are at most.
 pub fn levels_stay_in_range()
     ensures { (image : Image) (z c most : ℕ) →
         ((u v : ℕ) → at image u v c ≤ most) → (u v : ℕ) → at (level image z) u v c ≤ most }
 {}
 
-/// Where images agree outside a rectangle, their halves agree outside its half.
+/// States that where images agree outside a rectangle, their halves agree outside its half.
 pub fn halving_is_local()
     ensures { (a b : Image) (r : Rectangle) →
         IsRectangle r → AgreeOutside a b r → AgreeOutside (halved_image a) (halved_image b) (halved r) }
 {}
 
-/// From the first column and row of halves on, a halved image has the mean of four samples also
+/// States that from the first column and row of halves on, a halved image has the mean of four samples also
 /// outside its box, where each of them is 0. It has nothing before them.
 pub fn halved_everywhere()
     ensures mean { (image : Image) (u v c : ℕ) → IsRectangle image.box →
@@ -84,14 +84,14 @@ pub fn halved_everywhere()
         (u < origin / 2) ⊎ (v < origin / 2) → at (halved_image image) u v c ≡ 0 }
 {}
 
-/// Images of one format with the same samples everywhere have such levels, whatever their boxes.
+/// States that images of one format with the same samples everywhere have such levels, whatever their boxes.
 pub fn levels_agree()
     ensures { (a b : Image) (z : ℕ) → IsRectangle a.box → IsRectangle b.box →
         AgreeEverywhere a b → AgreeEverywhere (level a z) (level b z) }
 {}
 
-/// A rectangle of a level depends on the positions of the image that are averaged for it alone. Its bytes are zeros
-/// where all of these are.
+/// States that a rectangle of a level depends on the positions of the image that are averaged for it alone.
+/// Its bytes are zeros where all of these are.
 pub fn levels_are_local()
     ensures samples { (a b : Image) (z : ℕ) (r : Rectangle) → IsRectangle a.box → IsRectangle b.box →
         AgreeOver a b (source_of_level r z) → AgreeOver (level a z) (level b z) r }
@@ -102,7 +102,8 @@ pub fn levels_are_local()
         raw (level image z) r ≡ replicate (byte_count r image.format) 0 }
 {}
 
-/// Where one tile of an image changes, one tile of each level does, whatever the boxes are before and after.
+/// States that where one tile of an image changes, one tile of each level does, whatever the boxes are before
+/// and after.
 pub fn one_tile_of_each_level()
     ensures samples { (a b : Image) (tile : Tile) (z : ℕ) → IsRectangle a.box → IsRectangle b.box →
         AgreeElsewhere a b (tile_square tile) →

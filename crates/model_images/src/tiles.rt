@@ -11,8 +11,8 @@ ghost use Rattle.model_images.specs.Image.{Image, IsImage, at};
 ghost use Rattle.model_images.specs.Raw.{raw, tile_bytes};
 ghost use Rattle.model_images.specs.Tiles.{AreTileBytes, AreZeroAround, AreZeroOutside, HeldTiles, held_image, hull_of_tiles, put_image, tile_or_zeros};
 
-/// The raw bytes of a rectangle encode the image's samples there, and so zeros outside its box. They are zeros
-/// where all of these are.
+/// States that the raw bytes of a rectangle encode the image's samples there, and so zeros outside its box.
+/// They are zeros where all of these are.
 pub fn raw_bytes_of_samples()
     ensures samples { (image : Image) (r : Rectangle) (u v c : ℕ) → Inside u v r → c < channels image.format →
         pixels_from_raw r image.format (raw image r) u v c ≡ at image u v c }
@@ -22,8 +22,8 @@ pub fn raw_bytes_of_samples()
         raw image r ≡ replicate (byte_count r image.format) 0 }
 {}
 
-/// An image that is held by tiles has each tile's bytes as they are held, if these are zero outside the
-/// box, and zeros where a tile isn't held.
+/// States that an image that is held by tiles has each tile's bytes as they are held, if these are zero
+/// outside the box, and zeros where a tile isn't held.
 pub fn held_tiles_are_read()
     ensures whole { (box : Rectangle) (format : Format) (held : HeldTiles) → IsImage (held_image box format held) }
     ensures held { (box : Rectangle) (format : Format) (held : HeldTiles) (tile : Tile) (bytes : List ℕ) →
@@ -36,8 +36,8 @@ pub fn held_tiles_are_read()
         held tile ≡ None → tile_bytes (held_image box format held) tile ≡ replicate (4096 * pixel_bytes format) 0 }
 {}
 
-/// Where one tile changes, the image changes in this tile alone, over whatever boxes outside which the tiles are
-/// zero. Where none changes, the images over both boxes agree everywhere.
+/// States that where one tile changes, the image changes in this tile alone, over whatever boxes outside
+/// which the tiles are zero. Where none changes, the images over both boxes agree everywhere.
 pub fn one_tile_changes()
     ensures one { (a b : Rectangle) (format : Format) (held later : HeldTiles) (tile : Tile) →
         AreZeroAround a format held → AreZeroAround b format later →
@@ -48,16 +48,16 @@ pub fn one_tile_changes()
         AgreeEverywhere (held_image a format held) (held_image b format held) }
 {}
 
-/// An image is held by its own tiles: by those that meet its box, of which those of zeros may be lacking, and
-/// whatever else is held.
+/// States that an image is held by its own tiles: by those that meet its box, of which those of zeros may be
+/// lacking, and whatever else is held.
 pub fn images_are_held()
     ensures { (image : Image) (held : HeldTiles) → IsImage image →
         ((tile : Tile) → Meets tile image.box → tile_or_zeros image.format held tile ≡ tile_bytes image tile) →
         held_image image.box image.format held ≡ image }
 {}
 
-/// The hull of tiles is the smallest rectangle that contains them. So tiles that are held are zero outside the hull
-/// of those that were put, if they are among these.
+/// States that the hull of tiles is the smallest rectangle that contains them. So tiles that are held are
+/// zero outside the hull of those that were put, if they are among these.
 pub fn hull_contains_tiles()
     ensures rectangle { (tiles : List Tile) → IsRectangle (hull_of_tiles tiles) }
     ensures contains { (tiles : List Tile) (tile : Tile) → Contains tiles tile → IsWhole tile →
@@ -69,7 +69,7 @@ pub fn hull_contains_tiles()
         ((tile : Tile) → Contains tiles tile → Includes r (tile_rectangle tile)) → Includes r (hull_of_tiles tiles) }
 {}
 
-/// The image of tiles that were put has the bytes of each as they were put.
+/// States that the image of tiles that were put has the bytes of each as they were put.
 pub fn put_tiles_are_read()
     ensures { (format : Format) (tiles : List Tile) (held : HeldTiles) (tile : Tile) (bytes : List ℕ) →
         Contains tiles tile → IsWhole tile → held tile ≡ Some bytes → AreTileBytes format bytes →
