@@ -11,17 +11,18 @@ use Rattle.pixel_formats.specs.declared.format.Format.{Format}
 use Rattle.pixel_formats.specs.declared.format.Format.TheVariants.{Y8}
 use Rattle.model_images.specs.FromRaw.{pixels_from_raw}
 use Rattle.model_images.specs.Image.{Image, IsImage, at, is_inside}
-use Rattle.model_images.specs.Paint.{blank, no_image, painted}
+use Rattle.model_images.specs.Paint.{blank, cut, no_image, painted}
 use Rattle.model_images.specs.Tiles.{HeldTiles, held_image, held_pixels}
-use Rattle.model_images.proofs.HeldTiles.{image-held}
+use Rattle.model_images.proofs.HeldTiles.{image-held, part-held}
 use Rattle.model_images.proofs.Laws.{IsImage-image_from_fn, generated_equal}
 use Rattle.model_graphs.specs.Shapes.{Shape, no_shape, shape_of_image}
 use Rattle.model_buffers.specs.BufferEdit.{added, layout_with, layout_with_duplicate, layout_with_part, layout_with_root, part_of}
 use Rattle.model_buffers.specs.Edits.{by_view, table_with, with_root, with_view, written}
 use Rattle.model_buffers.specs.Held.{ArePainted, AreSameBut, HeldRoots, held_root, held_table}
-use Rattle.model_buffers.specs.Layout.{IsLayout, TableLayout, View, find, root_shape}
-use Rattle.model_buffers.specs.Table.{IsTable, layout_of, root_image}
+use Rattle.model_buffers.specs.Layout.{IsLayout, TableLayout, View, find, root_shape, view_shape}
+use Rattle.model_buffers.specs.Table.{IsTable, layout_of, image_of, root_image, seen}
 use Rattle.model_buffers.specs.declared.edit.BufferEdit.TheVariants.{Create, Duplicate, Sub}
+use Rattle.model_buffers.proofs.LayoutLaws.{rooted_view}
 use Rattle.model_buffers.proofs.FindLaws.{find-listed, find-mapped, name_from_test, same_name, unlisted}
 
 -- ---- lists
@@ -74,6 +75,14 @@ module _ (layout : TableLayout) (held : HeldRoots) where
       of : (o : Option Shape) → unwrap_or (option_map (held_root held root) o) no_image ≡ held_root held root (unwrap_or o no_shape)
       of (Some shape) = refl
       of None = generated_equal empty Y8 (λ u v c. 0) (held_pixels Y8 (held root)) (λ u v c there known. absurd (omega (arith, there.column)))
+
+  pub held-buffer : (name : List ℕ) (view : View) → IsLayout layout → find layout.buffers name ≡ Some view
+      → image_of (held_table layout held) name ≡ held_root held view.root (view_shape layout view)
+  held-buffer name view is e =
+      let shape = root_shape layout view.root in
+      ap (seen (held_table layout held)) e
+      ∙ ap (λ (image : Image). cut image view.extent) (held-root view.root)
+      ∙ part-held shape.box view.extent shape.format (held view.root) (rooted_view layout is name view e).inside
 
   -- ---- buffers more
 

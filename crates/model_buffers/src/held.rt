@@ -7,16 +7,20 @@ ghost use Rattle.pixel_formats.specs.declared.format.Format.{Format};
 ghost use Rattle.model_buffers.specs.BufferEdit.{layout_with};
 ghost use Rattle.model_buffers.specs.Edits.{table_with, written};
 ghost use Rattle.model_buffers.specs.Held.{ArePainted, AreSameBut, HeldRoots, held_root, held_table};
-ghost use Rattle.model_buffers.specs.Layout.{IsLayout, TableLayout, View, find, root_shape};
-ghost use Rattle.model_buffers.specs.Table.{IsTable, layout_of, root_image};
+ghost use Rattle.model_buffers.specs.Layout.{IsLayout, TableLayout, View, find, root_shape, view_shape};
+ghost use Rattle.model_buffers.specs.Table.{IsTable, image_of, layout_of, root_image};
 ghost use Rattle.model_buffers.specs.declared.edit.BufferEdit.TheVariants.{Create, Duplicate, Sub};
 
-/// States that a table that is held by tiles has the layout that it is held for, and is a table.
+/// States that a table that is held by tiles has the layout that it is held for, and is a table. Its buffers
+/// are held by the tiles of their roots.
 pub fn held_tables()
     ensures layout { (layout : TableLayout) (held : HeldRoots) → layout_of (held_table layout held) ≡ layout }
     ensures table { (layout : TableLayout) (held : HeldRoots) → IsLayout layout → IsTable (held_table layout held) }
     ensures root { (layout : TableLayout) (held : HeldRoots) (root : List ℕ) →
         root_image (held_table layout held) root ≡ held_root held root (root_shape layout root) }
+    ensures buffer { (layout : TableLayout) (held : HeldRoots) (name : List ℕ) (view : View) →
+        IsLayout layout → find layout.buffers name ≡ Some view →
+        image_of (held_table layout held) name ≡ held_root held view.root (view_shape layout view) }
 {}
 
 /// States that a new buffer has no tiles, a sub-buffer none of its own, and a duplicate those of the other

@@ -2,7 +2,7 @@
 use Rattle.std.proofs.Common.{◌≡◌, ◌≢◌, ℕ, ◌*◌, ◌<◌, List, replicate, Option, Some, None, refl, sym, ap, ◌∙◌}
 use Rattle.std.specs.Prelude.{IfSome, unwrap_or}
 use Rattle.std.specs.Option.{option_map_or}
-use Rattle.plane_rect.specs.Rectangle.{Rectangle, Inside}
+use Rattle.plane_rect.specs.Rectangle.{Includes, Rectangle, Inside}
 use Rattle.plane_rect.specs.Tile.{Meets, Tile, tile_at, tile_square}
 use Rattle.plane_rect.proofs.TileLists.{Inside-tile_square}
 use Rattle.pixel_formats.specs.Format.{channels, pixel_bytes}
@@ -10,6 +10,7 @@ use Rattle.pixel_formats.specs.declared.format.Format.{Format}
 use Rattle.model_images.specs.Agreement.{AgreeElsewhere, AgreeEverywhere}
 use Rattle.model_images.specs.FromRaw.{pixels_from_raw}
 use Rattle.model_images.specs.Image.{Image, IsImage, at}
+use Rattle.model_images.specs.Paint.{cut}
 use Rattle.model_images.specs.Raw.{tile_bytes}
 use Rattle.model_images.specs.Tiles.{AreTileBytes, AreZeroAround, AreZeroOutside, HeldTiles, held_image, held_pixels, tile_or_zeros}
 use Rattle.model_images.proofs.Agreeing.{at-by_channels}
@@ -118,3 +119,8 @@ image-held image held whole tiles =
     ∙ ap (λ (bytes : List ℕ). pixels_from_raw (tile_square tile) image.format bytes u v c) (tiles tile (u, v, inside, refl))
     ∙ raw-samples image (tile_square tile) u v c ((Inside-tile_square u v tile).1 refl) known)
     ∙ image_from_fn-at image whole
+
+pub part-held : (box part : Rectangle) (format : Format) (held : HeldTiles) → Includes box part → cut (held_image box format held) part ≡ held_image part format held
+part-held box part format held inside =
+    generated_equal part format (at (held_image box format held)) (held_pixels format held)
+    (λ u v c there known. at-image_from_fn box format (held_pixels format held) u v c (inside u v there) known)

@@ -8,6 +8,7 @@ ghost use Rattle.pixel_formats.specs.declared.format.Format.{Format};
 ghost use Rattle.model_images.specs.Agreement.{AgreeElsewhere, AgreeEverywhere};
 ghost use Rattle.model_images.specs.FromRaw.{byte_count, pixels_from_raw};
 ghost use Rattle.model_images.specs.Image.{Image, IsImage, at};
+ghost use Rattle.model_images.specs.Paint.{cut};
 ghost use Rattle.model_images.specs.Raw.{raw, tile_bytes};
 ghost use Rattle.model_images.specs.Tiles.{AreTileBytes, AreZeroAround, AreZeroOutside, HeldTiles, held_image, hull_of_tiles, put_image, tile_or_zeros};
 
@@ -46,6 +47,12 @@ pub fn one_tile_changes()
     ensures none { (a b : Rectangle) (format : Format) (held : HeldTiles) →
         AreZeroAround a format held → AreZeroAround b format held →
         AgreeEverywhere (held_image a format held) (held_image b format held) }
+{}
+
+/// States that a part of an image that is held by tiles is held by the same tiles.
+pub fn parts_of_held_images()
+    ensures { (box part : Rectangle) (format : Format) (held : HeldTiles) → Includes box part →
+        cut (held_image box format held) part ≡ held_image part format held }
 {}
 
 /// States that an image is held by its own tiles: by those that meet its box, of which those of zeros may be

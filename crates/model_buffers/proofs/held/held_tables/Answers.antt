@@ -9,3 +9,6 @@ returns-clause-table c = laws.held-table
 
 pub returns-clause-root : goal.returns-clause-root
 returns-clause-root c = laws.held-root
+
+pub returns-clause-buffer : goal.returns-clause-buffer
+returns-clause-buffer c = laws.held-buffer
