@@ -1,8 +1,8 @@
 -- The laws of levels of images that agree.
-use Rattle.std.proofs.Common.{◌≡◌, ◌≢◌, ℕ, zero, suc, ◌+◌, ◌*◌, ◌/◌, ◌<◌, ◌≤◌, ◌⊎◌, inl, inr, replicate, refl, sym, ap, ◌∙◌, arith}
+use Rattle.std.proofs.Common.{◌≡◌, ◌≢◌, ℕ, zero, suc, ◌+◌, ◌-◌, ◌*◌, ◌/◌, ◌<◌, ◌≤◌, ◌↔◌, ◌⊎◌, inl, inr, replicate, refl, sym, ap, ◌∙◌, arith}
 use Rattle.std.proofs.lemmas.Bool.{cases_lt}
-use Rattle.plane_rect.specs.Rectangle.{Rectangle, Inside, IsRectangle, empty, end_column, end_row, half, halved, origin}
-use Rattle.plane_rect.specs.Tile.{Tile, tile_origin, tile_square}
+use Rattle.plane_rect.specs.Rectangle.{Includes, Rectangle, Inside, IsRectangle, empty, end_column, end_row, half, halved, origin}
+use Rattle.plane_rect.specs.Tile.{Tile, tile_at, tile_of, tile_origin, tile_square}
 use Rattle.plane_rect.proofs.Moved.{halved-positions}
 use Rattle.plane_rect.proofs.RectangleLaws.{IsRectangle-empty}
 use Rattle.plane_rect.proofs.Rectangles.{Inside-spanning}
@@ -13,8 +13,9 @@ use Rattle.model_images.specs.Agreement.{AgreeElsewhere, AgreeEverywhere, AgreeO
 use Rattle.model_images.specs.FromRaw.{byte_count}
 use Rattle.model_images.specs.Image.{Image, at}
 use Rattle.model_images.specs.Level.{below, doubled, halved_image, level, level_box, mean_at, source_of_level, tile_above, tile_at_level}
-use Rattle.model_images.specs.Paint.{blank}
+use Rattle.model_images.specs.Paint.{blank, cut}
 use Rattle.model_images.specs.Raw.{raw, tile_bytes}
+use Rattle.model_images.proofs.Agreeing.{at-cut}
 use Rattle.model_images.proofs.Laws.{at_no_channel, at_outside}
 use Rattle.model_images.proofs.LevelLaws.{IsRectangle-level, at-halved_image, half-of_four, level-format, level-most}
 use Rattle.model_images.proofs.Positions.{by_positions}
@@ -94,7 +95,7 @@ level-box image (suc z) = ap halved (level-box image z)
 
 -- along one side: the two positions that are averaged for one of a part
 below-side : (first width u m : ℕ) → first ≤ u → u < first + width → origin / 2 ≤ u → (m ≡ doubled u) ⊎ (m ≡ doubled u + 1)
-    → (doubled first ≤ m) × (m < doubled first + 2 * width)
+    → (doubled first ≤ m) × (m < doubled first + (doubled (first + width) - doubled first))
 below-side first width u m from to wide (inl e) = (omega (arith, from, e), omega (arith, from, to, wide, e))
 below-side first width u m from to wide (inr e) = (omega (arith, from, e), omega (arith, from, to, wide, e))
 
@@ -115,6 +116,11 @@ pub levels-local-bytes : (a b : Image) (z : ℕ) (r : Rectangle) → IsRectangle
     → AgreeOver a b (source_of_level r z) → raw (level a z) r ≡ raw (level b z) r
 levels-local-bytes a b z r is_a is_b format same =
     raw-over (level a z) (level b z) r (level-format a z ∙ format ∙ sym (level-format b z)) (levels-local a b z r is_a is_b same)
+
+pub level-part : (image : Image) (box : Rectangle) (z : ℕ) (r : Rectangle) → IsRectangle image.box → IsRectangle box → Includes box (source_of_level r z)
+    → raw (level (cut image box) z) r ≡ raw (level image z) r
+level-part image box z r is is_box inside =
+    levels-local-bytes (cut image box) image z r is_box is refl (λ u v c there. at-cut image box u v c (inside u v there))
 
 -- the image of no position has none at each level
 level-blank : (format : Format) (z u v c : ℕ) → at (level (blank empty format) z) u v c ≡ 0
@@ -166,3 +172,49 @@ levels-other_tiles a b tile other z is_a is_b agreed apart =
     let levels = levels-elsewhere a b tile z is_a is_b agreed in
     raw-over (level a z) (level b z) (tile_square other) levels.format (λ u v c there.
     levels.samples u v c (λ here. apart ((Inside-tile_square u v other).0 there ∙ sym ((Inside-tile_square u v changed).0 here))))
+
+-- ---- which positions are averaged
+
+-- along one side: a position is below exactly those that are the half of it
+below-exact : (first width u : ℕ) → ((doubled first ≤ u) × (u < doubled first + (doubled (first + width) - doubled first))) ↔ ((first ≤ half u) × (half u < first + width))
+below-exact first width u = (λ h. (omega (arith, h.0, h.1), omega (arith, h.0, h.1)), λ h. (omega (arith, h.0, h.1), omega (arith, h.0, h.1)))
+
+pub Inside-below : (u v : ℕ) (r : Rectangle) → Inside u v (below r) ↔ Inside (half u) (half v) r
+Inside-below u v r =
+    let columns = below-exact r.first_column r.width u in
+    let rows = below-exact r.first_row r.height v in
+    (λ h. record { column = columns.0 h.column; row = rows.0 h.row }, λ h. record { column = columns.1 h.column; row = rows.1 h.row })
+
+-- a column or row halved so many times
+halves : ℕ → ℕ → ℕ
+halves n zero = n
+halves n (suc z) = half (halves n z)
+
+Inside-source : (z : ℕ) (u v : ℕ) (r : Rectangle) → Inside u v (source_of_level r z) ↔ Inside (halves u z) (halves v z) r
+unfolding halves
+Inside-source zero u v r = (λ h. h, λ h. h)
+Inside-source (suc z) u v r =
+    let before = Inside-source z u v (below r) in
+    let here = Inside-below (halves u z) (halves v z) r in
+    (λ h. here.0 (before.0 h), λ h. before.1 (here.1 h))
+
+-- the tile above that of a position is the tile of its half
+above-half : (u v : ℕ) → tile_above (tile_at u v) ≡ tile_at (half u) (half v)
+above-half u v =
+    let column : tile_of u / 2 + tile_origin / 2 ≡ tile_of (half u) = omega arith in
+    let row : tile_of v / 2 + tile_origin / 2 ≡ tile_of (half v) = omega arith in
+    ap (λ (n : ℕ). let tile : Tile = record { column = n; row = tile_of v / 2 + tile_origin / 2 } in tile) column
+    ∙ ap (λ (n : ℕ). let tile : Tile = record { column = tile_of (half u); row = n } in tile) row
+
+tile-halves : (u v z : ℕ) → tile_at_level (tile_at u v) z ≡ tile_at (halves u z) (halves v z)
+unfolding halves
+tile-halves u v zero = refl
+tile-halves u v (suc z) =
+    ap tile_above (tile-halves u v z)
+    ∙ above-half (halves u z) (halves v z)
+
+pub Inside-source_of_tile : (u v : ℕ) (tile : Tile) (z : ℕ) → Inside u v (source_of_level (tile_square tile) z) ↔ (tile_at_level (tile_at u v) z ≡ tile)
+Inside-source_of_tile u v tile z =
+    let source = Inside-source z u v (tile_square tile) in
+    let square = Inside-tile_square (halves u z) (halves v z) tile in
+    (λ h. tile-halves u v z ∙ sym (square.0 (source.0 h)), λ e. source.1 (square.1 (sym e ∙ tile-halves u v z)))

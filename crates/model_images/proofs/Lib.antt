@@ -16,3 +16,4 @@ pub mod AgreeingLevels
 pub mod HeldTiles
 pub mod PutTiles
 pub mod CountLaws
+pub mod LackingTiles

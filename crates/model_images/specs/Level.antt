@@ -1,11 +1,11 @@
 -- Images at reduced levels: each level halves the one before it.
 use Rattle.std.specs.Prelude.{ℕ, zero, suc, ◌+◌, ◌-◌, ◌*◌, ◌/◌}
-use Rattle.plane_rect.specs.Rectangle.{Rectangle, halved, origin}
+use Rattle.plane_rect.specs.Rectangle.{Rectangle, end_column, end_row, halved, origin}
 use Rattle.plane_rect.specs.Tile.{Tile, tile_origin}
 use Rattle.pixel_formats.specs.Average.{mean_of_four}
 use Rattle.model_images.specs.Image.{Image, at, image_from_fn}
 
--- the column of twice an x, or the row of twice a y
+-- the column of twice an x, or the row of twice a y; the first of the plane where twice it is outside
 abbrev pub doubled : ℕ → ℕ
 doubled n = 2 * n - origin
 
@@ -34,7 +34,12 @@ level_box box (suc z) = halved (level_box box z)
 
 -- the positions of a level that are averaged for a rectangle of the next level
 abbrev pub below : Rectangle → Rectangle
-below r = record { first_column = doubled r.first_column; first_row = doubled r.first_row; width = 2 * r.width; height = 2 * r.height }
+below r = record {
+  first_column = doubled r.first_column;
+  first_row = doubled r.first_row;
+  width = doubled (end_column r) - doubled r.first_column;
+  height = doubled (end_row r) - doubled r.first_row;
+}
 
 -- the positions of an image that are averaged for a rectangle of its level z
 abbrev pub source_of_level : Rectangle → ℕ → Rectangle

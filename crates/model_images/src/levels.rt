@@ -1,15 +1,16 @@
 //! The laws of levels.
 
 ghost use Rattle.std.specs.Prelude.{◌≡◌, ◌≢◌, ◌⊎◌, ◌↔◌, replicate, ℕ, ◌+◌, ◌/◌, ◌<◌, ◌≤◌};
-ghost use Rattle.plane_rect.specs.Rectangle.{InLimits, IsRectangle, Inside, InsideHalved, Rectangle, empty, half, halved, origin};
+ghost use Rattle.plane_rect.specs.Rectangle.{InLimits, Includes, IsRectangle, Inside, InsideHalved, Rectangle, empty, half, halved, origin};
 ghost use Rattle.pixel_formats.specs.Average.{mean_of_four};
 ghost use Rattle.pixel_formats.specs.Format.{channels};
 ghost use Rattle.model_images.specs.Agreement.{AgreeElsewhere, AgreeEverywhere, AgreeOutside, AgreeOver};
 ghost use Rattle.model_images.specs.Image.{Image, IsImage, at};
-ghost use Rattle.model_images.specs.Level.{doubled, halved_image, level, level_box, mean_at, source_of_level, tile_at_level};
+ghost use Rattle.model_images.specs.Level.{below, doubled, halved_image, level, level_box, mean_at, source_of_level, tile_at_level};
+ghost use Rattle.model_images.specs.Paint.{cut};
 ghost use Rattle.model_images.specs.Raw.{raw, tile_bytes};
 ghost use Rattle.model_images.specs.FromRaw.{byte_count};
-ghost use Rattle.plane_rect.specs.Tile.{Tile, tile_square};
+ghost use Rattle.plane_rect.specs.Tile.{Tile, tile_at, tile_square};
 
 /// States that level 0 is the image, and each next level halves the one before it.
 pub fn level_after_level()
@@ -90,16 +91,26 @@ pub fn levels_agree()
         AgreeEverywhere a b → AgreeEverywhere (level a z) (level b z) }
 {}
 
-/// States that a rectangle of a level depends on the positions of the image that are averaged for it alone.
-/// Its bytes are zeros where all of these are.
+/// States that a rectangle of a level depends on the positions of the image that are averaged for it alone,
+/// so a part of the image that contains these has it too. Its bytes are zeros where all of these are.
 pub fn levels_are_local()
     ensures samples { (a b : Image) (z : ℕ) (r : Rectangle) → IsRectangle a.box → IsRectangle b.box →
         AgreeOver a b (source_of_level r z) → AgreeOver (level a z) (level b z) r }
     ensures bytes { (a b : Image) (z : ℕ) (r : Rectangle) → IsRectangle a.box → IsRectangle b.box → a.format ≡ b.format →
         AgreeOver a b (source_of_level r z) → raw (level a z) r ≡ raw (level b z) r }
+    ensures parts { (image : Image) (box : Rectangle) (z : ℕ) (r : Rectangle) → IsRectangle image.box → IsRectangle box →
+        Includes box (source_of_level r z) → raw (level (cut image box) z) r ≡ raw (level image z) r }
     ensures zeros { (image : Image) (z : ℕ) (r : Rectangle) → IsRectangle image.box →
         ((u v c : ℕ) → Inside u v (source_of_level r z) → at image u v c ≡ 0) →
         raw (level image z) r ≡ replicate (byte_count r image.format) 0 }
+{}
+
+/// States which positions are averaged: those whose halves are in the rectangle, and for a tile of a level those
+/// of the tiles that are averaged for it.
+pub fn averaged_positions()
+    ensures next { (u v : ℕ) (r : Rectangle) → Inside u v (below r) ↔ Inside (half u) (half v) r }
+    ensures tiles { (u v : ℕ) (tile : Tile) (z : ℕ) →
+        Inside u v (source_of_level (tile_square tile) z) ↔ (tile_at_level (tile_at u v) z ≡ tile) }
 {}
 
 /// States that where one tile of an image changes, one tile of each level does, whatever the boxes are before

@@ -8,6 +8,7 @@ ghost use Rattle.pixel_formats.specs.declared.format.Format.{Format};
 ghost use Rattle.model_images.specs.Agreement.{AgreeElsewhere, AgreeEverywhere};
 ghost use Rattle.model_images.specs.FromRaw.{byte_count, pixels_from_raw};
 ghost use Rattle.model_images.specs.Image.{Image, IsImage, at};
+ghost use Rattle.model_images.specs.Level.{level, tile_at_level};
 ghost use Rattle.model_images.specs.Paint.{cut};
 ghost use Rattle.model_images.specs.Raw.{raw, tile_bytes};
 ghost use Rattle.model_images.specs.Tiles.{AreTileBytes, AreZeroAround, AreZeroOutside, HeldTiles, held_image, hull_of_tiles, put_image, tile_or_zeros};
@@ -53,6 +54,13 @@ pub fn one_tile_changes()
 pub fn parts_of_held_images()
     ensures { (box part : Rectangle) (format : Format) (held : HeldTiles) → Includes box part →
         cut (held_image box format held) part ≡ held_image part format held }
+{}
+
+/// States that a tile of a level is zeros where no tile is held that is averaged for it.
+pub fn levels_of_lacking_tiles()
+    ensures { (box : Rectangle) (format : Format) (held : HeldTiles) (z : ℕ) (tile : Tile) → IsRectangle box →
+        ((other : Tile) → tile_at_level other z ≡ tile → held other ≡ None) →
+        tile_bytes (level (held_image box format held) z) tile ≡ replicate (4096 * pixel_bytes format) 0 }
 {}
 
 /// States that an image is held by its own tiles: by those that meet its box, of which those of zeros may be

@@ -9,3 +9,6 @@ returns-clause-bytes c = laws.levels-local-bytes
 
 pub returns-clause-zeros : goal.returns-clause-zeros
 returns-clause-zeros c = laws.level-zeros
+
+pub returns-clause-parts : goal.returns-clause-parts
+returns-clause-parts c = laws.level-part
