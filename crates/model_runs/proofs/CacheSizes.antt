@@ -4,14 +4,17 @@ use Rattle.plane_rect.specs.Rectangle.{Rectangle}
 use Rattle.outside_io.specs.Files.{Files, file}
 use Rattle.model_operations.specs.declared.operation.IntOp.{IntOp}
 use Rattle.pixel_formats.specs.declared.abyss.Abyss.{Abyss}
-use Rattle.model_buffers.specs.Table.{Table, View, find}
+use Rattle.model_buffers.specs.Layout.{View, find}
+use Rattle.model_buffers.specs.Table.{Table}
 use Rattle.model_buffers.specs.Edits.{Edited}
 use Rattle.model_states.specs.Cache.{Cached, Counted}
 use Rattle.model_states.specs.Edits.{Remove, Set, StateRefused, has_node}
 use Rattle.model_states.specs.History.{History, committed, redone, undone}
 use Rattle.model_operations.specs.Meanings.{int_meanings}
 use Rattle.model_sessions.specs.Sessions.{fit}
-use Rattle.model_sessions.specs.Steps.{BufferEdit, Copy, Create, Duplicate, Fill, Put, Sub, edited_table}
+use Rattle.model_buffers.specs.declared.edit.BufferEdit.{BufferEdit}
+use Rattle.model_buffers.specs.declared.edit.BufferEdit.TheVariants.{Copy, Create, Duplicate, Fill, Put, Sub}
+use Rattle.model_buffers.specs.Edits.{edited_table}
 use Rattle.model_sessions.specs.Tables.{sources_of}
 use Rattle.run_texts.specs.Events.{Event}
 use Rattle.run_texts.specs.declared.cause.Cause.TheVariants.{Strip, UnknownNode}

@@ -1,21 +1,23 @@
 -- What each line of a script does, and the order of its refusals.
-use Rattle.std.specs.Prelude.{ℕ, if◌then◌else◌, List, [], ◌∷◌, map, length, sum, Option, Some, None, Result, Ok, Err, unwrap_or}
-use Rattle.std.specs.List.{range_with_len}
-use Rattle.plane_rect.specs.Rectangle.{Rectangle, empty, includes, scaled, shifted}
-use Rattle.plane_rect.specs.Tile.{tiles}
-use Rattle.plane_rect.specs.declared.rect.RectRefused.{RectRefused}
+use Rattle.std.specs.Prelude.{ℕ, if◌then◌else◌, List, [], ◌∷◌, length, Option, Some, None, Result, Ok, Err, unwrap_or}
+use Rattle.plane_rect.specs.Rectangle.{Rectangle, empty, includes, scaled}
 use Rattle.outside_io.specs.Files.{Files, file}
 use Rattle.model_images.specs.Image.{Image}
 use Rattle.model_images.specs.Raw.{raw}
 use Rattle.model_images.specs.Abyss.{raw_with}
 use Rattle.model_images.specs.Level.{level}
+use Rattle.model_images.specs.TileCounts.{level_tiles}
 use Rattle.pixel_formats.specs.declared.abyss.Abyss.{Abyss}
 use Rattle.model_operations.specs.declared.operation.IntOp.{IntOp}
 use Rattle.model_graphs.specs.Node.{index_of}
 use Rattle.model_buffers.specs.declared.refused.EditRefused.{EditRefused}
 use Rattle.model_buffers.specs.declared.refused.EditRefused.TheVariants as edit_refusals
-use Rattle.model_buffers.specs.Table.{Table, View, find, image_of, root_image}
-use Rattle.model_buffers.specs.Edits.{Edited}
+use Rattle.model_buffers.specs.declared.edit.BufferEdit.{BufferEdit}
+use Rattle.model_buffers.specs.declared.edit.BufferEdit.TheVariants.{Copy, Create, Duplicate, Fill, Put, Sub}
+use Rattle.model_buffers.specs.Counts.{tiles_added}
+use Rattle.model_buffers.specs.Edits.{Edited, edited_table}
+use Rattle.model_buffers.specs.Layout.{View, find}
+use Rattle.model_buffers.specs.Table.{Table, image_of, root_image}
 use Rattle.model_states.specs.Cache.{Counted, cached_for, without_damaged}
 use Rattle.model_states.specs.Damage.{damage}
 use Rattle.model_states.specs.Edits as nodes
@@ -27,7 +29,7 @@ use Rattle.model_states.specs.State.{Scene}
 use Rattle.model_sessions.specs.Histories.{change_to, scene_of}
 use Rattle.model_sessions.specs.Sessions.{fit}
 use Rattle.model_operations.specs.Meanings.{int_meanings, same_operation}
-use Rattle.model_sessions.specs.Steps.{BufferEdit, Copy, Create, Duplicate, Fill, Put, Sub, edited_table, with_buffer_edit}
+use Rattle.model_sessions.specs.Steps.{with_buffer_edit}
 use Rattle.model_sessions.specs.Tables.{sources_of}
 use Rattle.run_texts.specs.Events.{Event, Puts, Writes}
 use Rattle.run_texts.specs.Texts.{grab_text, render_text}
@@ -62,27 +64,10 @@ cause_of_state nodes.TooManyCommits = causes.TooManyCommits
 
 -- ---- edits of buffers
 
--- how many tiles meet a rectangle
-abbrev pub tile_count : Rectangle → ℕ
-tile_count rectangle = length (tiles rectangle)
-
--- how many tiles an edit may make: those that meet the rectangle that it writes
-abbrev pub tiles_moved : Result Rectangle RectRefused → ℕ
-tiles_moved (Ok rectangle) = tile_count rectangle
-tiles_moved (Err refused) = 0
-
-abbrev pub tiles_made : BufferEdit → ℕ
-tiles_made (Create name format extent) = 0
-tiles_made (Sub name parent rectangle) = 0
-tiles_made (Duplicate name from) = 0
-tiles_made (Fill name rectangle samples) = tile_count rectangle
-tiles_made (Put name rectangle bytes) = tile_count rectangle
-tiles_made (Copy from to rectangle dx dy) = tiles_moved (shifted dx dy rectangle)
-
 -- an edit that gives this table, or is refused
 abbrev pub edit_gives : ℕ → RunState → BufferEdit → Edited → Effect
 edit_gives line state edit (Ok table) =
-    record (leaves line (record state { history = with_buffer_edit state.history edit (Ok table) })) { tiles = tiles_made edit }
+    record (leaves line (record state { history = with_buffer_edit state.history edit (Ok table) })) { tiles = tiles_added edit }
 edit_gives line state edit (Err refused) = refuses line state (cause_of_edit refused)
 
 abbrev pub edits : ℕ → RunState → BufferEdit → Effect
@@ -162,10 +147,6 @@ renders_known capacity line state name z rectangle target =
     if has_node (last_scene state).nodes name then renders capacity line state name z rectangle target
     else refuses line state causes.UnknownNode
 
--- how many tiles of reduced levels a grab may make: for each level up to its own those that meet the level of the root
-abbrev pub level_tiles : Image → ℕ → ℕ
-level_tiles image z = sum (map (λ k. tile_count (level image k).box) (range_with_len 1 z))
-
 abbrev pub grabs_view : ℕ → RunState → List ℕ → ℕ → Abyss → Rectangle → List ℕ → Option View → Effect
 grabs_view line state name z policy rectangle target None = refuses line state causes.UnknownBuffer
 grabs_view line state name z policy rectangle target (Some view) =
@@ -173,7 +154,7 @@ grabs_view line state name z policy rectangle target (Some view) =
     let bytes = raw_with (level (image_of table name) z) policy rectangle in
     record (leaves line state) {
       events = writes target bytes (grab_text line (length bytes));
-      tiles = level_tiles (root_image table view.root) z;
+      tiles = level_tiles (root_image table view.root).box z;
     }
 
 abbrev pub grabs : ℕ → RunState → List ℕ → ℕ → Abyss → Rectangle → List ℕ → Effect

@@ -2,10 +2,9 @@
 use Rattle.std.specs.Prelude.{ℕ, List, [], ◌∷◌, Option, Some, None}
 use Rattle.plane_rect.specs.Rectangle.{Rectangle}
 use Rattle.model_operations.specs.declared.operation.IntOp.{IntOp}
-use Rattle.model_buffers.specs.Table.{Table}
+use Rattle.model_buffers.specs.Table.{Table, no_buffers}
 use Rattle.model_states.specs.Cache.{Cached}
 use Rattle.model_states.specs.History.{History, new_history}
-use Rattle.model_sessions.specs.Steps.{no_buffers}
 use Rattle.run_texts.specs.Events.{Event, Puts}
 use Rattle.run_texts.specs.Texts.{refusal_text}
 use Rattle.run_texts.specs.declared.cause.Cause.{Cause}

@@ -6,8 +6,10 @@ use Rattle.std.specs.Result.{result_unwrap_or}
 use Rattle.std.proofs.lemmas.Bool.Decides.{nat_tests}
 use Rattle.std.proofs.lemmas.List.{length-append}
 use Rattle.plane_rect.specs.Rectangle.{Rectangle}
-use Rattle.model_buffers.specs.Edits.{Edited}
-use Rattle.model_buffers.specs.Table.{Table}
+use Rattle.model_buffers.specs.declared.edit.BufferEdit.{BufferEdit}
+use Rattle.model_buffers.specs.BufferEdit.{written_by}
+use Rattle.model_buffers.specs.Edits.{Edited, edited_table}
+use Rattle.model_buffers.specs.Table.{Table, layout_of, no_buffers}
 use Rattle.model_operations.specs.declared.operation.IntOp.{IntOp}
 use Rattle.model_graphs.specs.Node.{index_of}
 use Rattle.model_states.specs.Cache.{AreRight, Cached, HasDistinctPairs, all_looked_up, needed_pairs, pair_bytes, uncounted, without_damaged}
@@ -24,7 +26,7 @@ use Rattle.model_states.proofs.RightPairs.{stay_right}
 use Rattle.model_sessions.specs.Histories.{IsHistory, change_to, scene_of}
 use Rattle.model_operations.specs.Meanings.{int_meanings, same_operation}
 use Rattle.model_sessions.specs.Sessions.{Action, AreProperActions, IsProperAction, Make, Render, Session, after_action, after_render, fit, session_of}
-use Rattle.model_sessions.specs.Steps.{BufferEdit, Commit, EditBuffer, EditNode, IsProper, Redo, HistoryEdit, Undo, after_step, edited_table, no_buffers, with_buffer_edit, with_working, written_by}
+use Rattle.model_sessions.specs.Steps.{Commit, EditBuffer, EditNode, IsProper, Redo, HistoryEdit, Undo, after_step, with_buffer_edit, with_working}
 use Rattle.model_sessions.specs.Tables.{sources_of}
 use Rattle.model_sessions.proofs.RightPairs.{appended, keeps_laws}
 use Rattle.model_operations.specs.Lawful.MeaningLaws.{is_boxed}
@@ -47,7 +49,7 @@ unless_refused history (Err refused) appends = inl (record { latest = refl; numb
 
 edit_stepped : (history : History Table IntOp) (edit : BufferEdit) (r : Edited) → Stepped history (with_buffer_edit history edit r)
 edit_stepped history edit (Err refused) = inl (record { latest = refl; number = refl })
-edit_stepped history edit (Ok table) = of (written_by history.working edit)
+edit_stepped history edit (Ok table) = of (written_by (layout_of history.working) edit)
   where
     of : (o : Option (List ℕ × Rectangle)) → Stepped history (with_working history table o)
     of None = inl (record { latest = refl; number = refl })

@@ -11,7 +11,8 @@ use Rattle.model_images.specs.Agreement.{AgreeOutside}
 use Rattle.model_images.specs.Image.{Image, at}
 use Rattle.model_images.specs.Paint.{no_image}
 use Rattle.model_images.proofs.Laws.{IsImage-image_from_fn}
-use Rattle.model_buffers.specs.Table.{AreDistinct, IsTable, Table, View, find, image_of, root_image, root_of, seen}
+use Rattle.model_buffers.specs.Layout.{AreDistinct, View, find}
+use Rattle.model_buffers.specs.Table.{IsTable, Table, image_of, root_image, root_of, seen}
 use Rattle.model_graphs.specs.Evaluation.{buffer_image}
 use Rattle.model_states.proofs.Shapes.{buffer_image-is}
 use Rattle.model_states.specs.Damage.{AreNeighbours}
@@ -62,7 +63,7 @@ pub tables_are_sources : (table : Table) → IsTable table → AreSources (sourc
 tables_are_sources table is =
     record {
       names = subst (IsDistinct bytes_eq) (sym (names-same table table.buffers))
-          (IsDistinct-from_AllPairs bytes_eq-Decides (map (λ (entry : List ℕ × View). entry.0) table.buffers) (names_apart table.buffers is.buffer_names));
+          (IsDistinct-from_AllPairs bytes_eq-Decides (map (λ (entry : List ℕ × View). entry.0) table.buffers) (names_apart table.buffers is.layout.buffer_names));
       buffers = whole table table.buffers;
     }
 

@@ -5,8 +5,11 @@ use Rattle.std.specs.List.{AllByRecursion, IsDistinct}
 use Rattle.std.specs.Result.{result_unwrap_or}
 use Rattle.std.proofs.lemmas.Option.{same_Some}
 use Rattle.plane_rect.specs.Rectangle.{Rectangle}
-use Rattle.model_buffers.specs.Edits.{Edited}
-use Rattle.model_buffers.specs.Table.{IsTable, Table}
+use Rattle.model_buffers.specs.declared.edit.BufferEdit.{BufferEdit}
+use Rattle.model_buffers.specs.BufferEdit.{IsProperEdit, written_by}
+use Rattle.model_buffers.specs.Edits.{Edited, edited_table}
+use Rattle.model_buffers.specs.Table.{IsTable, Table, layout_of, no_buffers}
+use Rattle.model_buffers.proofs.SeenLaws.{IsTable-no_buffers}
 use Rattle.model_graphs.specs.Node.{Node}
 use Rattle.model_states.specs.Edits.{NodeEdit, StateRefused, edited}
 use Rattle.model_states.specs.History.{History, Parted, committed, committed_states, commit_of, last_number, left_after, most_undoable, new_history, number_of, redo_to, redone, undo_to, undone, with_state}
@@ -16,7 +19,7 @@ use Rattle.model_states.specs.Valid.{AreValid}
 use Rattle.model_states.proofs.EditLaws.{edits_leave_valid}
 use Rattle.model_states.proofs.HistoryLaws.{at_last}
 use Rattle.model_sessions.specs.Histories.{AreInTurn, ArePartedBy, IsHistory, IsTrail, IsValidState}
-use Rattle.model_sessions.specs.Steps.{AreProper, BufferEdit, Commit, EditBuffer, EditNode, IsProper, IsProperEdit, Redo, HistoryEdit, Undo, after_step, edited_table, made_by, no_buffers, only, with_buffer_edit, with_working, written_by}
+use Rattle.model_sessions.specs.Steps.{AreProper, Commit, EditBuffer, EditNode, IsProper, Redo, HistoryEdit, Undo, after_step, made_by, only, with_buffer_edit, with_working}
 use Rattle.model_sessions.specs.Tables.{Continues, sources_of}
 use Rattle.model_sessions.proofs.Continuing.{continues-itself, continues-then, edit-continues, edit-table}
 use Rattle.model_sessions.proofs.Sources.{neighbours, neighbours-back}
@@ -33,18 +36,6 @@ all_last P (first ∷ xs) x all = all_last P xs x all.1
 
 none_at : {X : Type 0} (x after : X) (k : ℕ) → slice_get (x ∷ []) (suc k) ≡ Some after → ⊥
 none_at x after k found = cc
-
--- the table without a buffer is one
-empty_table : IsTable no_buffers
-empty_table =
-    record {
-      few = omega arith;
-      buffer_names = λ i j d before below. absurd (omega (arith, before, below));
-      root_names = λ i j d before below. absurd (omega (arith, before, below));
-      named = λ root some. absurd (cc);
-      rooted = λ name. tt;
-      kept = λ root. tt;
-    }
 
 module _ {Op : Type 0} where
   -- the first of a list that goes on is the first of its front
@@ -174,8 +165,8 @@ module _ {Op : Type 0} where
             redoable = is.redoable;
           }
 
-      of : (r : Edited) → IfOk r IsTable → IfOk r (Continues history.working (only (written_by history.working edit))) → IsHistory meanings (with_buffer_edit history edit r)
-      of (Ok table) whole continued = with_table table (written_by history.working edit) whole continued
+      of : (r : Edited) → IfOk r IsTable → IfOk r (Continues history.working (only (written_by (layout_of history.working) edit))) → IsHistory meanings (with_buffer_edit history edit r)
+      of (Ok table) whole continued = with_table table (written_by (layout_of history.working) edit) whole continued
       of (Err refused) whole continued = is
 
   pending_keeps : (meanings : Meanings Op) (history : History Table Op) (edit : NodeEdit Op) → IsHistory meanings history → IsHistory meanings (record history { pending = history.pending ++ edit ∷ [] })
@@ -208,9 +199,9 @@ module _ {Op : Type 0} where
   start meanings =
       let history : History Table Op = new_history no_buffers in
       record {
-        states = (record { table = empty_table; scene = record { few = omega arith; distinct = tt; steps = tt } }, tt);
+        states = (record { table = IsTable-no_buffers; scene = record { few = omega arith; distinct = tt; steps = tt } }, tt);
         in_turn = λ k before after found next. absurd (none_at history.latest after k next);
-        working = empty_table;
+        working = IsTable-no_buffers;
         continued = continues-itself no_buffers;
         undoable = tt;
         redoable = tt;

@@ -17,7 +17,8 @@ use Rattle.model_states.specs.Need.{Strip, need}
 use Rattle.model_states.specs.Sources.{Sources}
 use Rattle.model_states.specs.State.{Scene}
 use Rattle.model_operations.specs.Meanings.{int_meanings, same_operation}
-use Rattle.model_sessions.specs.Steps.{Commit, Create, EditBuffer, EditNode, Fill, HistoryEdit, made_by}
+use Rattle.model_buffers.specs.declared.edit.BufferEdit.TheVariants.{Create, Fill}
+use Rattle.model_sessions.specs.Steps.{Commit, EditBuffer, EditNode, HistoryEdit, made_by}
 use Rattle.model_sessions.specs.Tables.{sources_of}
 
 -- ---- histories

@@ -2,7 +2,7 @@
 use Rattle.std.specs.Prelude.{ℕ, Bool, ◌&&◌, ◌==◌, nat_le, if◌then◌else◌, ⊤, List, [], length, fold}
 use Rattle.std.specs.List.{AllByRecursion, list_all}
 use Rattle.plane_rect.specs.Rectangle.{Rectangle}
-use Rattle.model_buffers.specs.Table.{Table}
+use Rattle.model_buffers.specs.Table.{Table, no_buffers}
 use Rattle.model_operations.specs.declared.operation.IntOp.{IntOp}
 use Rattle.model_graphs.specs.Node.{index_of}
 use Rattle.model_states.specs.Cache.{Counted, all_looked_up, needed_pairs, pair_bytes, uncounted, without_damaged}
@@ -12,7 +12,7 @@ use Rattle.model_states.specs.History.{History, new_history, number_of}
 use Rattle.model_states.specs.Need.{Strip, need}
 use Rattle.model_sessions.specs.Histories.{change_to, scene_of}
 use Rattle.model_operations.specs.Meanings.{int_meanings, same_operation}
-use Rattle.model_sessions.specs.Steps.{IsProper, HistoryEdit, after_step, no_buffers}
+use Rattle.model_sessions.specs.Steps.{IsProper, HistoryEdit, after_step}
 
 -- A history, the cached pairs of its last state, and how many pairs its renders applied and reused.
 pub record Session : Type 0 where

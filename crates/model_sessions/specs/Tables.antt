@@ -1,7 +1,9 @@
 -- Tables of buffers as graphs read them.
 use Rattle.std.specs.Prelude.{◌≡◌, ℕ, List, map, Some}
 use Rattle.model_images.specs.Agreement.{AgreeOutside}
-use Rattle.model_buffers.specs.Table.{Table, View, cut, image_of, root_image, root_of}
+use Rattle.model_images.specs.Paint.{cut}
+use Rattle.model_buffers.specs.Layout.{View}
+use Rattle.model_buffers.specs.Table.{Table, image_of, root_image, root_of}
 use Rattle.model_states.specs.History.{Rectangles, rectangle_of}
 use Rattle.model_states.specs.Sources.{SourceBuffer, Sources}
 

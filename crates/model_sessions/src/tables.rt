@@ -2,13 +2,17 @@
 
 ghost use Rattle.std.specs.Prelude.{◌≡◌, ℕ, List, IfOk, option_map, [], unwrap_or};
 ghost use Rattle.plane_rect.specs.Rectangle.{Rectangle};
-ghost use Rattle.model_buffers.specs.Table.{find, image_of, IsTable, Table};
+ghost use Rattle.model_buffers.specs.declared.edit.BufferEdit.{BufferEdit};
+ghost use Rattle.model_buffers.specs.BufferEdit.{IsProperEdit};
+ghost use Rattle.model_buffers.specs.Edits.{edited_table};
+ghost use Rattle.model_buffers.specs.Layout.{find};
+ghost use Rattle.model_buffers.specs.Table.{image_of, IsTable, Table};
 ghost use Rattle.model_graphs.specs.Evaluation.{buffer_image};
 ghost use Rattle.model_states.specs.Damage.{AreNeighbours};
 ghost use Rattle.model_states.specs.History.{Rectangles};
 ghost use Rattle.model_states.specs.Sources.{AreSources, images_of, source_of};
 ghost use Rattle.model_sessions.specs.Tables.{Continues, source_in, sources_of};
-ghost use Rattle.model_sessions.specs.Steps.{BufferEdit, edited_table, IsProperEdit, rectangles_by};
+ghost use Rattle.model_sessions.specs.Steps.{rectangles_by};
 
 /// A table's buffers have distinct names and whole images over their extents, and a graph reads them as they are.
 pub fn tables_are_sources()

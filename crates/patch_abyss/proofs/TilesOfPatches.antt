@@ -11,10 +11,9 @@ use Rattle.std.specs.List.{flat_map}
 use Rattle.std.proofs.lemmas.Bool.Decides.{nat_tests}
 use Rattle.model_images.specs.Image.{Image, at, image_from_fn, is_inside}
 use Rattle.model_images.specs.Paint.{painted, put_raw}
-use Rattle.model_images.specs.Raw.{raw, sample_bytes}
+use Rattle.model_images.specs.Raw.{raw, sample_bytes, tile_bytes}
 use Rattle.model_images.proofs.Samples.{Inside_from}
 use Rattle.model_images.proofs.Laws.{at_outside, at-image_from_fn, generated_equal, sampled_equal}
-use Rattle.model_images.specs.Abyss.{tile_bytes}
 use Rattle.model_images.specs.FromRaw.{image_from_raw, pixels_from_raw}
 use Rattle.model_images.proofs.FromRawLaws.{raw-is, at-image_from_raw, zeros_are_bytes}
 use Rattle.patch_abyss.proofs.Parts.{pixels_zero}

@@ -5,10 +5,9 @@ ghost use Rattle.plane_rect.specs.Rectangle.{InLimits, Includes, IsRectangle, In
 ghost use Rattle.plane_rect.specs.Tile.{tile_square};
 ghost use Rattle.pixel_formats.specs.Format.{channels, depth, pixel_bytes};
 ghost use Rattle.pixel_formats.specs.Row.{pixel_at, sample_at};
-ghost use Rattle.model_images.specs.Image.{IsImage, at, image_from_fn};
-ghost use Rattle.model_images.specs.Paint.{blank, painted, put_raw};
-ghost use Rattle.model_images.specs.Raw.{raw};
-ghost use Rattle.model_images.specs.Abyss.{tile_bytes};
+ghost use Rattle.model_images.specs.Image.{IsImage, at};
+ghost use Rattle.model_images.specs.Paint.{blank, cut, painted, put_raw};
+ghost use Rattle.model_images.specs.Raw.{raw, tile_bytes};
 ghost use Rattle.model_images.specs.FromRaw.{byte_count, image_from_raw};
 ghost use Rattle.patch_abyss.specs.Rows.{HasWholeRows};
 ghost use Rattle.patch_abyss.specs.declared.patch.PatchRefused.TheVariants.{NoMemory, WrongSize};
@@ -150,7 +149,7 @@ impl Patch {
     /// No memory was left.
     pub fn part(&self, alloc: Global, rect: Rect) -> Result<Patch, NoMemory>
         requires { InLimits rect }
-        ensures { IfOk result (λ patch. patch ≡ image_from_fn rect self.now.format (at self.now)) }
+        ensures { IfOk result (λ patch. patch ≡ cut self.now rect) }
     {
         let format = self.format;
         let pixel = format.pixel_bytes() as usize;
@@ -170,7 +169,7 @@ impl Patch {
         requires limits { InLimits rows }
         requires rectangle { IsRectangle rows }
         requires rows { HasWholeRows self.now.box rows rows.first_row (end_row rows) }
-        ensures { IfOk result (λ patch. patch ≡ image_from_fn rows self.now.format (at self.now)) }
+        ensures { IfOk result (λ patch. patch ≡ cut self.now rows) }
     {
         let bytes = Vec::from_slice(alloc, self.rows(rows.first_row()..rows.end_row()))?;
         Ok(Patch::from_bytes(rows, self.format, bytes))
@@ -181,7 +180,7 @@ impl Patch {
         requires limits { InLimits part }
         requires part { Includes self.now.box part }
         requires some { false ≡ is_empty part }
-        ensures { IfOk result (λ patch. patch ≡ image_from_fn part self.now.format (at self.now)) }
+        ensures { IfOk result (λ patch. patch ≡ cut self.now part) }
     {
         let format = self.format;
         let pixel = format.pixel_bytes() as usize;
