@@ -7,10 +7,12 @@ use Rattle.plane_rect.specs.Rectangle.{Rectangle, IsRectangle, InLimits, shifted
 use Rattle.pixel_formats.specs.declared.format.Format.{Format}
 use Rattle.model_buffers.specs.Edits.{Edited, copied, created, duplicated, filled, put, sub_buffer}
 use Rattle.model_buffers.specs.Table.{Table, root_of}
-use Rattle.model_states.specs.Edits.{NodeEdit}
-use Rattle.model_states.specs.History.{History, Rectangles, committed, new_history, redone, undone, with_pending, with_table}
+use Rattle.model_graphs.specs.declared.node.NodeEdit.{NodeEdit}
+use Rattle.model_states.specs.History.{History, committed, new_history, redone, undone}
+use Rattle.model_states.specs.Rectangles.{Rectangles}
+use Rattle.model_states.specs.Workspace.{with_pending, with_table}
 use Rattle.model_graphs.specs.Meanings.{Meanings}
-use Rattle.model_sessions.specs.Tables.{sources_of}
+use Rattle.model_sessions.specs.Tables.{table_shapes}
 
 -- ---- edits of buffers
 
@@ -83,18 +85,19 @@ IsProper Redo = ⊤
 
 -- the history with another working table, and what was written to it
 abbrev pub with_working : {Op : Type 0} → History Table Op → Table → Option (List ℕ × Rectangle) → History Table Op
-with_working history table None = record history { working = table }
-with_working history table (Some written) = with_table history table written.0 written.1
+with_working history table None = record history { workspace = record history.workspace { working = table } }
+with_working history table (Some written) =
+    record history { workspace = with_table history.workspace table written.0 written.1 }
 
 abbrev pub with_buffer_edit : {Op : Type 0} → History Table Op → BufferEdit → Edited → History Table Op
-with_buffer_edit history edit (Ok table) = with_working history table (written_by history.working edit)
+with_buffer_edit history edit (Ok table) = with_working history table (written_by history.workspace.working edit)
 with_buffer_edit history edit (Err refused) = history
 
 -- the history after a step
 abbrev pub after_step : {Op : Type 0} → Meanings Op → History Table Op → HistoryEdit Op → History Table Op
-after_step meanings history (EditBuffer edit) = with_buffer_edit history edit (edited_table history.working edit)
-after_step meanings history (EditNode edit) = with_pending history edit
-after_step meanings history Commit = result_unwrap_or (committed meanings sources_of history) history
+after_step meanings history (EditBuffer edit) = with_buffer_edit history edit (edited_table history.workspace.working edit)
+after_step meanings history (EditNode edit) = record history { workspace = with_pending history.workspace edit }
+after_step meanings history Commit = result_unwrap_or (committed meanings table_shapes history) history
 after_step meanings history Undo = result_unwrap_or (undone history) history
 after_step meanings history Redo = result_unwrap_or (redone history) history
 

@@ -2,6 +2,3 @@
 #![tactic(auto)]
 
 pub mod examples;
-pub mod histories;
-pub mod sessions;
-pub mod tables;
