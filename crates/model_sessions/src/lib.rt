@@ -2,3 +2,6 @@
 #![tactic(auto)]
 
 pub mod examples;
+pub mod histories;
+pub mod sessions;
+pub mod tables;

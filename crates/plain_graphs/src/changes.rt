@@ -258,12 +258,12 @@ impl<'a> Change<'a> {
     ///
     /// No memory was left.
     pub fn without_damaged(&self, alloc: Global, pairs: &[Pair]) -> Result<Vec<Pair>, NoMemory>
-        ensures { IfOk result (λ first_column. (list : List Cached) → pairs_of list ≡ pairs.now →
-            pairs_of (without_damaged (damage same_operation int_meanings self.now) list) ≡ first_column.items) }
+        ensures { IfOk result (λ left. (list : List Cached) → pairs_of list ≡ pairs.now →
+            pairs_of (without_damaged (damage same_operation int_meanings self.now) list) ≡ left.items) }
     {
         let known = self.damages(alloc)?;
-        let first_column = self.undamaged(alloc, &known, pairs)?;
-        Ok(first_column)
+        let left = self.undamaged(alloc, &known, pairs)?;
+        Ok(left)
     }
 
     /// The same, where the damages of the new graph's nodes are known.
@@ -274,16 +274,16 @@ impl<'a> Change<'a> {
         pairs: &[Pair],
     ) -> Result<Vec<Pair>, NoMemory>
         requires { known.now ≡ damages same_operation int_meanings self.now }
-        ensures { IfOk result (λ first_column. first_column.items
+        ensures { IfOk result (λ left. left.items
             ≡ undamaged (damage same_operation int_meanings self.now) pairs.now) }
     {
-        let mut first_column = Vec::new(alloc);
+        let mut left = Vec::new(alloc);
         for pair in pairs {
             if !self.is_damaged(known, pair) {
-                first_column.push(*pair)?;
+                left.push(*pair)?;
             }
         }
-        Ok(first_column)
+        Ok(left)
     }
 
     /// Whether the tile of a pair meets the damage of its node.

@@ -7,5 +7,5 @@ use Rattle.plain_graphs.proofs.changes.Change.undamaged.Given as goal
 
 abbrev pub invariant-loop-pair : goal.invariant-loop-pair
 invariant-loop-pair l =
-    l.first_column.items ++ undamaged (damage same_operation int_meanings l.self) (drop l.pair-index l.pairs)
+    l.left.items ++ undamaged (damage same_operation int_meanings l.self) (drop l.pair-index l.pairs)
     ≡ undamaged (damage same_operation int_meanings l.self) l.pairs

@@ -10,4 +10,4 @@ pub returns : goal.returns
 returns c list listed =
     pairs_of-without_damaged (damage same_operation int_meanings c.args.self.now) list
     ∙ ap (undamaged (damage same_operation int_meanings c.args.self.now)) listed
-    ∙ sym c.in_ok-first_column.ensures
+    ∙ sym c.in_ok-left.ensures

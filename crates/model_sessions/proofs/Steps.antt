@@ -1,0 +1,299 @@
+-- Steps keep histories.
+use Rattle.std.proofs.Common.{◌≡◌, ℕ, zero, suc, ◌+◌, ◌≤◌, List, [], ◌∷◌, ◌++◌, take, length, refl, sym, ◌∙◌, subst, arith, Option, Some, None, Result, Ok, Err, IfOk}
+use Rattle.std.specs.Prelude.{slice_get, fold}
+use Rattle.std.specs.List.{AllByRecursion, IsDistinct}
+use Rattle.std.specs.Result.{result_unwrap_or}
+use Rattle.std.proofs.lemmas.List.{length-append}
+use Rattle.std.proofs.lemmas.Option.{same_Some}
+use Rattle.pixel_formats.specs.Limits.{max_undoable}
+use Rattle.plane_rect.specs.Rectangle.{Rectangle}
+use Rattle.model_buffers.specs.Edits.{Edited}
+use Rattle.model_buffers.specs.Table.{IsTable, Table}
+use Rattle.model_graphs.specs.declared.node.NodeEdit.{NodeEdit}
+use Rattle.model_graphs.specs.Meanings.{Meanings}
+use Rattle.model_graphs.specs.Node.{Node}
+use Rattle.model_states.specs.declared.refused.StateRefused.{StateRefused}
+use Rattle.model_states.specs.Edits.{edited}
+use Rattle.model_states.specs.History.{Committed, History, appended, committed, committed_states, latest_of, new_history, number_of, redone, undone, with_step}
+use Rattle.model_states.specs.Rectangles.{Rectangles}
+use Rattle.model_states.specs.Retained as retained
+use Rattle.model_states.specs.Retained.{AreFew, Retained, Stepped, left_state}
+use Rattle.model_states.specs.State.{State}
+use Rattle.model_states.specs.Valid.{AreValid}
+use Rattle.model_states.specs.Workspace as workspace
+use Rattle.model_states.specs.Workspace.{Workspace, settled, settled_step}
+use Rattle.model_states.proofs.EditLaws.{edits_leave_valid}
+use Rattle.model_states.proofs.RetainedLaws.{at_last, commit_few}
+use Rattle.model_sessions.specs.Histories.{AreInTurn, AreSeparated, IsHistory, IsTrail, IsValidState, last_state}
+use Rattle.model_sessions.specs.Steps.{AreProper, BufferEdit, Commit, EditBuffer, EditNode, HistoryEdit, IsProper, IsProperEdit, Redo, Undo, after_step, edited_table, made_by, no_buffers, only, with_buffer_edit, with_working, written_by}
+use Rattle.model_sessions.specs.Tables.{Continues, table_shapes}
+use Rattle.model_sessions.proofs.Continuing.{continues-itself, continues-then, edit-continues, edit-table}
+use Rattle.model_sessions.proofs.Sources.{neighbors, neighbors-back}
+
+-- ---- lists
+
+all_push : {X : Type 0} (P : X → Type 0) (xs : List X) (x : X) → AllByRecursion P xs → P x → AllByRecursion P (xs ++ x ∷ [])
+all_push P [] x all p = (p, tt)
+all_push P (first ∷ xs) x all p = (all.0, all_push P xs x all.1 p)
+
+all_last : {X : Type 0} (P : X → Type 0) (xs : List X) (x : X) → AllByRecursion P (xs ++ x ∷ []) → P x
+all_last P [] x all = all.0
+all_last P (first ∷ xs) x all = all_last P xs x all.1
+
+none_at : {X : Type 0} (x after : X) (k : ℕ) → slice_get (x ∷ []) (suc k) ≡ Some after → ⊥
+none_at x after k found = cc
+
+-- the table without a buffer is one
+empty_table : IsTable no_buffers
+empty_table =
+    record {
+      few = omega arith;
+      buffer_names = λ i j d before below. absurd (omega (arith, before, below));
+      root_names = λ i j d before below. absurd (omega (arith, before, below));
+      named = λ root some. absurd (cc);
+      rooted = λ name. tt;
+      kept = λ root. tt;
+    }
+
+abbrev States : Type 0 → Type 0
+States Op = Retained (State Table Op) Rectangles
+
+module _ {Op : Type 0} where
+  -- the first of a list that goes on is the first of its prefix
+  first_same : (xs : List (Committed Table Op)) (x y : Committed Table Op) → slice_get (xs ++ x ∷ [] ++ y ∷ []) 0 ≡ slice_get (xs ++ x ∷ []) 0
+  first_same [] x y = refl
+  first_same (z ∷ xs) x y = refl
+
+  turn_push : (xs : List (Committed Table Op)) (x y : Committed Table Op) → AreInTurn (xs ++ x ∷ []) → AreSeparated x y → AreInTurn (xs ++ x ∷ [] ++ y ∷ [])
+  turn_push [] x y turn separated zero before after found next =
+      subst (λ (p : Committed Table Op). AreSeparated p after) (same_Some x before found)
+      (subst (λ (p : Committed Table Op). AreSeparated x p) (same_Some y after next) separated)
+  turn_push [] x y turn separated (suc k) before after found next = absurd (cc)
+  turn_push (z ∷ xs) x y turn separated zero before after found next = turn zero before after found (sym (first_same xs x y) ∙ next)
+  turn_push (z ∷ xs) x y turn separated (suc k) before after found next =
+      turn_push xs x y (λ k before after found next. turn (suc k) before after found next) separated k before after found next
+
+  pub turn_last : (xs : List (Committed Table Op)) (x y : Committed Table Op) → AreInTurn (xs ++ x ∷ [] ++ y ∷ []) → AreSeparated x y
+  turn_last [] x y turn = turn 0 x y refl refl
+  turn_last (z ∷ xs) x y turn = turn_last xs x y (λ k before after found next. turn (suc k) before after found next)
+
+  trail_take : (meanings : Meanings Op) (n : ℕ) (state : State Table Op) (trail : List (Committed Table Op)) → IsTrail meanings state trail → IsTrail meanings state (take n trail)
+  trail_take meanings zero state trail is = tt
+  trail_take meanings (suc n) state [] is = tt
+  trail_take meanings (suc n) state (next ∷ rest) is = (is.0, is.1, trail_take meanings n next.state rest is.2)
+
+  -- ---- a state more
+
+  pub latest_valid : (meanings : Meanings Op) (history : History Table Op) → IsHistory meanings history → IsValidState meanings (last_state history)
+  latest_valid meanings history is = all_last (λ (committed : Committed Table Op). IsValidState meanings committed.state) history.earlier (latest_of history) is.states
+
+  -- what a step leaves
+  record IsNext (meanings : Meanings Op) (history : History Table Op) (step : Stepped (States Op) Rectangles) : Type 0 where
+    number : step.next.number ≡ number_of history + 1
+    valid : IsValidState meanings step.next.latest
+    separated : AreSeparated (latest_of history) (record { state = step.next.latest; delta = step.delta })
+    back : IsTrail meanings step.next.latest step.next.undoable
+    on : IsTrail meanings step.next.latest step.next.redoable
+    few : AreFew step.next
+
+  abbrev settle : Stepped (States Op) Rectangles → Stepped (Workspace Table Op Rectangles) Rectangles
+  settle step = record { next = settled step.next; delta = step.delta }
+
+  state_more : (meanings : Meanings Op) (history : History Table Op) (step : Stepped (States Op) Rectangles) → IsHistory meanings history → IsNext meanings history step →
+      IsHistory meanings (with_step history (settle step))
+  state_more meanings history step is next =
+      let latest : Committed Table Op = record { state = step.next.latest; delta = step.delta } in
+      record {
+        states = all_push (λ (committed : Committed Table Op). IsValidState meanings committed.state) (committed_states history) latest is.states next.valid;
+        in_turn = turn_push history.earlier (latest_of history) latest is.in_turn next.separated;
+        number = omega (arith, next.number, is.number, length-append history.earlier (latest_of history ∷ []));
+        working = next.valid.table;
+        continued = continues-itself step.next.latest.table;
+        undoable = next.back;
+        redoable = next.on;
+        few = next.few;
+      }
+
+  -- the state that is left is away from the next one by the same rectangles
+  left_trail : (meanings : Meanings Op) (history : History Table Op) (next : Committed Table Op) (trail : List (Committed Table Op)) →
+      IsHistory meanings history → AreSeparated (latest_of history) next → IsTrail meanings (last_state history) trail →
+      IsTrail meanings next.state (left_state history.workspace.retained next.delta ∷ trail)
+  left_trail meanings history next trail is separated rest =
+      (latest_valid meanings history is, neighbors-back (last_state history).table next.state.table next.delta separated, rest)
+
+  -- ---- steps that append a state
+
+  if_appended : (P : History Table Op → Type 0) (history : History Table Op) (r : Result (Stepped (Workspace Table Op Rectangles) Rectangles) StateRefused) →
+      IfOk r (λ step. P (with_step history step)) → IfOk (appended history r) P
+  if_appended P history (Ok step) holds = holds
+  if_appended P history (Err refused) holds = tt
+
+  commit_keeps : (meanings : Meanings Op) (history : History Table Op) → IsHistory meanings history → IfOk (committed meanings table_shapes history) (IsHistory meanings)
+  commit_keeps meanings history is =
+      if_appended (IsHistory meanings) history _
+      (at_last (λ step. IsHistory meanings (with_step history step)) (number_of history)
+      (workspace.commit_edited space (λ state. space.written) nodes)
+      (of nodes (edits_leave_valid meanings (table_shapes space.working) (last_state history).nodes space.pending valid.nodes.few valid.nodes.distinct)))
+    where
+      space : Workspace Table Op Rectangles
+      space = history.workspace
+
+      nodes : Result (List (Node Op)) StateRefused
+      nodes = edited meanings (table_shapes space.working) (last_state history).nodes space.pending
+
+      valid : IsValidState meanings (last_state history)
+      valid = latest_valid meanings history is
+
+      next : List (Node Op) → State Table Op
+      next nodes = record { table = space.working; nodes = nodes }
+
+      more : (nodes : List (Node Op)) → AreValid meanings (table_shapes space.working) nodes → IsNext meanings history (record { next = retained.with_commit space.retained (next nodes) space.written; delta = space.written })
+      more nodes are =
+          let separated = neighbors (last_state history).table space.working space.written is.continued in
+          record {
+            number = refl;
+            valid = record { table = is.working; nodes = are };
+            separated = separated;
+            back = trail_take meanings max_undoable (next nodes) (left_state space.retained space.written ∷ space.retained.undoable)
+                (left_trail meanings history (record { state = next nodes; delta = space.written }) space.retained.undoable is separated is.undoable);
+            on = tt;
+            few = commit_few space.retained (next nodes) space.written;
+          }
+
+      of : (r : Result (List (Node Op)) StateRefused) → IfOk r (AreValid meanings (table_shapes space.working)) →
+          IfOk (workspace.commit_edited space (λ state. space.written) r) (λ step. IsHistory meanings (with_step history step))
+      of (Err refused) are = tt
+      of (Ok nodes) are = state_more meanings history (record { next = retained.with_commit space.retained (next nodes) space.written; delta = space.written }) is (more nodes are)
+
+  if_settled : (meanings : Meanings Op) (history : History Table Op) (r : Result (Stepped (States Op) Rectangles) StateRefused) → IsHistory meanings history → IfOk r (IsNext meanings history) →
+      IfOk (appended history (settled_step r)) (IsHistory meanings)
+  if_settled meanings history (Err refused) is next = tt
+  if_settled meanings history (Ok step) is next = state_more meanings history step is next
+
+  undo_keeps : (meanings : Meanings Op) (history : History Table Op) → IsHistory meanings history → IfOk (undone history) (IsHistory meanings)
+  undo_keeps meanings history is =
+      if_settled meanings history (retained.undone states) is
+      (at_last (IsNext meanings history) states.number (retained.undo_to states states.undoable) (of states.undoable is.undoable is.few))
+    where
+      states : States Op
+      states = history.workspace.retained
+
+      of : (trail : List (Committed Table Op)) → IsTrail meanings (last_state history) trail → length trail + length states.redoable ≤ max_undoable → IfOk (retained.undo_to states trail) (IsNext meanings history)
+      of [] back few = tt
+      of (next ∷ rest) back few =
+          record {
+            number = refl;
+            valid = back.0;
+            separated = back.1;
+            back = back.2;
+            on = left_trail meanings history next states.redoable is back.1 is.redoable;
+            few = omega (arith, few);
+          }
+
+  redo_keeps : (meanings : Meanings Op) (history : History Table Op) → IsHistory meanings history → IfOk (redone history) (IsHistory meanings)
+  redo_keeps meanings history is =
+      if_settled meanings history (retained.redone states) is
+      (at_last (IsNext meanings history) states.number (retained.redo_to states states.redoable) (of states.redoable is.redoable is.few))
+    where
+      states : States Op
+      states = history.workspace.retained
+
+      of : (trail : List (Committed Table Op)) → IsTrail meanings (last_state history) trail → length states.undoable + length trail ≤ max_undoable → IfOk (retained.redo_to states trail) (IsNext meanings history)
+      of [] on few = tt
+      of (next ∷ rest) on few =
+          record {
+            number = refl;
+            valid = on.0;
+            separated = on.1;
+            back = left_trail meanings history next states.undoable is on.1 is.undoable;
+            on = on.2;
+            few = omega (arith, few);
+          }
+
+  or_before : (P : History Table Op → Type 0) (history : History Table Op) (r : Result (History Table Op) StateRefused) → P history → IfOk r P → P (result_unwrap_or r history)
+  or_before P history (Ok next) was is = is
+  or_before P history (Err refused) was is = was
+
+  -- ---- edits
+
+  edit_keeps : (meanings : Meanings Op) (history : History Table Op) (edit : BufferEdit) → IsHistory meanings history → IsProperEdit edit →
+      IsHistory meanings (with_buffer_edit history edit (edited_table history.workspace.working edit))
+  edit_keeps meanings history edit is proper =
+      of (edited_table space.working edit) (edit-table space.working edit is.working proper) (edit-continues space.working edit is.working proper)
+    where
+      space : Workspace Table Op Rectangles
+      space = history.workspace
+
+      with_table : (table : Table) (o : Option (List ℕ × Rectangle)) → IsTable table → Continues space.working (only o) table → IsHistory meanings (with_working history table o)
+      with_table table None whole continued =
+          record {
+            states = is.states;
+            in_turn = is.in_turn;
+            number = is.number;
+            working = whole;
+            continued = continues-then (last_state history).table space.working table space.written None is.continued continued;
+            undoable = is.undoable;
+            redoable = is.redoable;
+            few = is.few;
+          }
+      with_table table (Some entry) whole continued =
+          record {
+            states = is.states;
+            in_turn = is.in_turn;
+            number = is.number;
+            working = whole;
+            continued = continues-then (last_state history).table space.working table space.written (Some entry) is.continued continued;
+            undoable = is.undoable;
+            redoable = is.redoable;
+            few = is.few;
+          }
+
+      of : (r : Edited) → IfOk r IsTable → IfOk r (Continues space.working (only (written_by space.working edit))) → IsHistory meanings (with_buffer_edit history edit r)
+      of (Ok table) whole continued = with_table table (written_by space.working edit) whole continued
+      of (Err refused) whole continued = is
+
+  pending_keeps : (meanings : Meanings Op) (history : History Table Op) (edit : NodeEdit Op) → IsHistory meanings history →
+      IsHistory meanings (record history { workspace = workspace.with_pending history.workspace edit })
+  pending_keeps meanings history edit is =
+      record {
+        states = is.states;
+        in_turn = is.in_turn;
+        number = is.number;
+        working = is.working;
+        continued = is.continued;
+        undoable = is.undoable;
+        redoable = is.redoable;
+        few = is.few;
+      }
+
+  -- ---- all steps
+
+  pub step_keeps : (meanings : Meanings Op) (history : History Table Op) (step : HistoryEdit Op) → IsHistory meanings history → IsProper step → IsHistory meanings (after_step meanings history step)
+  step_keeps meanings history (EditBuffer edit) is proper = edit_keeps meanings history edit is proper
+  step_keeps meanings history (EditNode edit) is proper = pending_keeps meanings history edit is
+  step_keeps meanings history Commit is proper = or_before (IsHistory meanings) history (committed meanings table_shapes history) is (commit_keeps meanings history is)
+  step_keeps meanings history Undo is proper = or_before (IsHistory meanings) history (undone history) is (undo_keeps meanings history is)
+  step_keeps meanings history Redo is proper = or_before (IsHistory meanings) history (redone history) is (redo_keeps meanings history is)
+
+  steps_keep : (meanings : Meanings Op) (history : History Table Op) (steps : List (HistoryEdit Op)) → IsHistory meanings history → AreProper steps → IsHistory meanings (fold (after_step meanings) history steps)
+  steps_keep meanings history [] is proper = is
+  steps_keep meanings history (step ∷ steps) is proper =
+      steps_keep meanings (after_step meanings history step) steps (step_keeps meanings history step is proper.0) proper.1
+
+  pub start : (meanings : Meanings Op) → IsHistory meanings (new_history {Op = Op} no_buffers)
+  unfolding IsDistinct
+  start meanings =
+      let history : History Table Op = new_history no_buffers in
+      record {
+        states = (record { table = empty_table; nodes = record { few = omega arith; distinct = tt; steps = tt } }, tt);
+        in_turn = λ k before after found next. absurd (none_at (latest_of history) after k next);
+        number = refl;
+        working = empty_table;
+        continued = continues-itself no_buffers;
+        undoable = tt;
+        redoable = tt;
+        few = omega arith;
+      }
+
+  pub made_keeps : (meanings : Meanings Op) (steps : List (HistoryEdit Op)) → AreProper steps → IsHistory meanings (made_by meanings steps)
+  made_keeps meanings steps proper = steps_keep meanings (new_history no_buffers) steps (start meanings) proper
