@@ -7,12 +7,14 @@ use Rattle.pixel_formats.specs.declared.abyss.Abyss.{Abyss}
 use Rattle.model_buffers.specs.Table.{Table, View, find}
 use Rattle.model_buffers.specs.Edits.{Edited}
 use Rattle.model_states.specs.Cache.{Cached, Counted}
-use Rattle.model_states.specs.Edits.{Remove, Set, StateRefused, has_node}
+use Rattle.model_graphs.specs.declared.node.NodeEdit.TheVariants.{Remove, Set}
+use Rattle.model_states.specs.declared.refused.StateRefused.{StateRefused}
+use Rattle.model_states.specs.Edits.{has_node}
 use Rattle.model_states.specs.History.{History, committed, redone, undone}
 use Rattle.model_operations.specs.Meanings.{int_meanings}
 use Rattle.model_sessions.specs.Sessions.{fit}
 use Rattle.model_sessions.specs.Steps.{BufferEdit, Copy, Create, Duplicate, Fill, Put, Sub, edited_table}
-use Rattle.model_sessions.specs.Tables.{sources_of}
+use Rattle.model_sessions.specs.Tables.{table_shapes}
 use Rattle.run_texts.specs.Events.{Event}
 use Rattle.run_texts.specs.declared.cause.Cause.TheVariants.{Strip, UnknownNode}
 use Rattle.script_read.specs.declared.command.Command.{Command}
@@ -54,7 +56,7 @@ gives-equal line base c d edit (Err refused) = refuses-equal line base c d _
 
 edits-equal : (line : ℕ) (base : RunState) (c d : List Cached) (edit : BufferEdit) →
     Equal (edits line (with_cached base c) edit) (edits line (with_cached base d) edit)
-edits-equal line base c d edit = gives-equal line base c d edit (edited_table base.history.working edit)
+edits-equal line base c d edit = gives-equal line base c d edit (edited_table base.history.workspace.working edit)
 
 into-equal : (line : ℕ) (base : RunState) (c d : List Cached) (name : List ℕ) (r : Rectangle) (found : Option (List ℕ)) (view : Option View) →
     Equal (load_into line (with_cached base c) name r found view) (load_into line (with_cached base d) name r found view)
@@ -102,7 +104,7 @@ fitted-equal true true a b r s equal wide other fits fits_too = equal
 fitted-equal false y a b r s equal wide other fits fits_too = absurd (fits wide)
 fitted-equal true false a b r s equal wide other fits fits_too = absurd (fits_too other)
 
-counted-equal : (line : ℕ) (base : RunState) (c d : List Cached) (target bytes : List ℕ) (first second : Counted) →
+counted-equal : (line : ℕ) (base : RunState) (c d : List Cached) (target bytes : List ℕ) (first second : Counted Cached) →
     Equal (render_counted line (with_cached base c) target bytes first) (render_counted line (with_cached base d) target bytes second)
 counted-equal line base c d target bytes first second =
     record { events = refl; refused = refl; base = base; first = first.list; second = second.list; one = refl; other = refl }
@@ -129,21 +131,21 @@ effect-equal p q base c d files line (commands.Buffer name format rect) fits fit
 effect-equal p q base c d files line (commands.Sub name parent rect) fits fits_too = edits-equal line base c d (Sub name parent rect)
 effect-equal p q base c d files line (commands.Dup name from) fits fits_too = edits-equal line base c d (Duplicate name from)
 effect-equal p q base c d files line (commands.Load name rect source) fits fits_too =
-    into-equal line base c d name rect (file files source) (find base.history.working.buffers name)
+    into-equal line base c d name rect (file files source) (find base.history.workspace.working.buffers name)
 effect-equal p q base c d files line (commands.Fill name rect samples) fits fits_too = edits-equal line base c d (Fill name rect samples)
 effect-equal p q base c d files line (commands.Copy from to rect dx dy) fits fits_too = edits-equal line base c d (Copy from to rect dx dy)
 effect-equal p q base c d files line (commands.Node name op inputs) fits fits_too =
     pending-equal line (notes base (Set (node_of name op inputs))) c d
 effect-equal p q base c d files line (commands.Drop name) fits fits_too = pending-equal line (notes base (Remove name)) c d
 effect-equal p q base c d files line commands.Commit fits fits_too =
-    step-equal line base c d (committed int_meanings sources_of base.history)
+    step-equal line base c d (committed int_meanings table_shapes base.history)
 effect-equal p q base c d files line commands.Undo fits fits_too = step-equal line base c d (undone base.history)
 effect-equal p q base c d files line commands.Redo fits fits_too = step-equal line base c d (redone base.history)
 effect-equal p q base c d files line (commands.Render name z rect target) fits fits_too =
     known-equal (has_node (last_scene base).nodes name) _ _ _ _ (renders-equal p q line base c d name z rect target)
     (refuses-equal line base c d UnknownNode) fits fits_too
 effect-equal p q base c d files line (commands.Grab name z policy rect target) fits fits_too =
-    view-equal line base c d name z policy rect target (find base.history.working.buffers name)
+    view-equal line base c d name z policy rect target (find base.history.workspace.working.buffers name)
 effect-equal p q base c d files line (commands.Watch name rect viewers frames prefix) fits fits_too =
     known-equal (has_node (last_scene base).nodes name) _ _ _ _
     (λ _ _. pending-equal line (opens line base name rect viewers frames prefix) c d)

@@ -16,19 +16,24 @@ use Rattle.model_buffers.specs.declared.refused.EditRefused.{EditRefused}
 use Rattle.model_buffers.specs.declared.refused.EditRefused.TheVariants as edit_refusals
 use Rattle.model_buffers.specs.Table.{Table, View, find, image_of, root_image}
 use Rattle.model_buffers.specs.Edits.{Edited}
-use Rattle.model_states.specs.Cache.{Counted, cached_for, without_damaged}
+use Rattle.model_graphs.specs.declared.node.NodeEdit.{NodeEdit}
+use Rattle.model_graphs.specs.declared.node.NodeEdit.TheVariants.{Remove, Set}
+use Rattle.model_states.specs.declared.refused.StateRefused.{StateRefused}
+use Rattle.model_states.specs.declared.refused.StateRefused.TheVariants as nodes
+use Rattle.model_states.specs.declared.strip.Strip.{Strip}
+use Rattle.model_states.specs.Cache.{Cached, Counted, by_pair, cached_for, without_damaged}
 use Rattle.model_states.specs.Damage.{damage}
-use Rattle.model_states.specs.Edits as nodes
-use Rattle.model_states.specs.Edits.{NodeEdit, Remove, Set, StateRefused, has_node}
-use Rattle.model_states.specs.History.{History, committed, number_of, redone, undone, with_pending}
-use Rattle.model_states.specs.Need.{Strip, need}
+use Rattle.model_states.specs.Edits.{has_node}
+use Rattle.model_states.specs.History.{History, committed, number_of, redone, undone}
+use Rattle.model_states.specs.Need.{need}
 use Rattle.model_states.specs.State as states
-use Rattle.model_states.specs.State.{Scene}
-use Rattle.model_sessions.specs.Histories.{change_to, scene_of}
+use Rattle.model_states.specs.State.{Scene, stated_nodes}
+use Rattle.model_states.specs.Workspace.{with_pending}
+use Rattle.model_sessions.specs.Histories.{change_to, last_state, scene_of}
 use Rattle.model_sessions.specs.Sessions.{fit}
 use Rattle.model_operations.specs.Meanings.{int_meanings, same_operation}
 use Rattle.model_sessions.specs.Steps.{BufferEdit, Copy, Create, Duplicate, Fill, Put, Sub, edited_table, with_buffer_edit}
-use Rattle.model_sessions.specs.Tables.{sources_of}
+use Rattle.model_sessions.specs.Tables.{table_shapes}
 use Rattle.run_texts.specs.Events.{Event, Puts, Writes}
 use Rattle.run_texts.specs.Texts.{grab_text, render_text}
 use Rattle.run_texts.specs.declared.cause.Cause.{Cause}
@@ -86,7 +91,7 @@ edit_gives line state edit (Ok table) =
 edit_gives line state edit (Err refused) = refuses line state (cause_of_edit refused)
 
 abbrev pub edits : ℕ → RunState → BufferEdit → Effect
-edits line state edit = edit_gives line state edit (edited_table state.history.working edit)
+edits line state edit = edit_gives line state edit (edited_table state.history.workspace.working edit)
 
 -- A file is loaded, whose bytes these are, or that there is none. The buffer and its rectangle are looked at before.
 abbrev pub load_into : ℕ → RunState → List ℕ → Rectangle → Option (List ℕ) → Option View → Effect
@@ -97,7 +102,7 @@ load_into line state name rectangle (Some bytes) (Some view) = edits line state 
 
 abbrev pub loads : ℕ → RunState → List ℕ → Rectangle → Option (List ℕ) → Effect
 loads line state name rectangle found =
-    load_into line state name rectangle found (find state.history.working.buffers name)
+    load_into line state name rectangle found (find state.history.workspace.working.buffers name)
 
 -- ---- states
 
@@ -106,7 +111,7 @@ abbrev pub with_state : RunState → History Table IntOp → RunState
 with_state state next =
     record state {
       history = next;
-      cached = without_damaged (damage same_operation int_meanings (change_to state.history next)) state.cached;
+      cached = without_damaged by_pair (damage same_operation int_meanings (change_to int_meanings state.history next)) state.cached;
     }
 
 abbrev pub step_gives : ℕ → RunState → Result (History Table IntOp) StateRefused → Effect
@@ -114,13 +119,13 @@ step_gives line state (Ok next) = leaves line (with_state state next)
 step_gives line state (Err refused) = refuses line state (cause_of_state refused)
 
 abbrev pub notes : RunState → NodeEdit IntOp → RunState
-notes state edit = record state { history = with_pending state.history edit }
+notes state edit = record state { history = record state.history { workspace = with_pending state.history.workspace edit } }
 
 -- ---- files
 
 -- the last committed state, as its nodes read it
 abbrev pub last_scene : RunState → Scene IntOp
-last_scene state = scene_of state.history.latest.state
+last_scene state = scene_of (last_state state.history)
 
 -- the image of a node of the last committed state
 abbrev pub node_image : RunState → List ℕ → Image
@@ -133,14 +138,14 @@ at_level_zero z rectangle = unwrap_or (scaled z rectangle) empty
 -- the tiles that a render needs, strip by strip
 abbrev pub render_need : RunState → List ℕ → ℕ → Rectangle → List Strip
 render_need state name z rectangle =
-    need int_meanings (last_scene state) (index_of (last_scene state).nodes name) (at_level_zero z rectangle)
+    need int_meanings (stated_nodes int_meanings (last_scene state)) (index_of (last_scene state).nodes name) (at_level_zero z rectangle)
 
 -- a file is written, and then its text is put
 abbrev pub writes : List ℕ → List ℕ → List ℕ → List Event
 writes name bytes text = Writes name bytes ∷ Puts text ∷ []
 
 -- a render that evaluates and finds so many tiles
-abbrev pub render_counted : ℕ → RunState → List ℕ → List ℕ → Counted → Effect
+abbrev pub render_counted : ℕ → RunState → List ℕ → List ℕ → Counted Cached → Effect
 render_counted line state target bytes counted =
     record (leaves line (record state { cached = counted.list })) {
       events = writes target bytes (render_text line (number_of state.history) (length bytes));
@@ -154,7 +159,7 @@ renders capacity line state name z rectangle target =
     if fit capacity strips
     then
     render_counted line state target (raw (level (node_image state name) z) rectangle)
-    (cached_for int_meanings (last_scene state) capacity state.cached strips)
+    (cached_for int_meanings (last_scene state) (Some capacity) state.cached strips)
     else refuses line state causes.Strip
 
 abbrev pub renders_known : ℕ → ℕ → RunState → List ℕ → ℕ → Rectangle → List ℕ → Effect
@@ -169,7 +174,7 @@ level_tiles image z = sum (map (λ k. tile_count (level image k).box) (range_wit
 abbrev pub grabs_view : ℕ → RunState → List ℕ → ℕ → Abyss → Rectangle → List ℕ → Option View → Effect
 grabs_view line state name z policy rectangle target None = refuses line state causes.UnknownBuffer
 grabs_view line state name z policy rectangle target (Some view) =
-    let table = state.history.working in
+    let table = state.history.workspace.working in
     let bytes = raw_with (level (image_of table name) z) policy rectangle in
     record (leaves line state) {
       events = writes target bytes (grab_text line (length bytes));
@@ -178,7 +183,7 @@ grabs_view line state name z policy rectangle target (Some view) =
 
 abbrev pub grabs : ℕ → RunState → List ℕ → ℕ → Abyss → Rectangle → List ℕ → Effect
 grabs line state name z policy rectangle target =
-    grabs_view line state name z policy rectangle target (find state.history.working.buffers name)
+    grabs_view line state name z policy rectangle target (find state.history.workspace.working.buffers name)
 
 -- a watch is open over the last committed state
 abbrev pub opens : ℕ → RunState → List ℕ → Rectangle → ℕ → ℕ → List ℕ → RunState
@@ -213,7 +218,7 @@ effect capacity state files line (commands.Fill name rect samples) = edits line 
 effect capacity state files line (commands.Copy from to rect dx dy) = edits line state (Copy from to rect dx dy)
 effect capacity state files line (commands.Node name op inputs) = leaves line (notes state (Set (node_of name op inputs)))
 effect capacity state files line (commands.Drop name) = leaves line (notes state (Remove name))
-effect capacity state files line commands.Commit = step_gives line state (committed int_meanings sources_of state.history)
+effect capacity state files line commands.Commit = step_gives line state (committed int_meanings table_shapes state.history)
 effect capacity state files line commands.Undo = step_gives line state (undone state.history)
 effect capacity state files line commands.Redo = step_gives line state (redone state.history)
 effect capacity state files line (commands.Render name z rect target) = renders_known capacity line state name z rect target

@@ -6,7 +6,7 @@ use Rattle.model_images.specs.Raw.{raw}
 use Rattle.model_operations.specs.declared.operation.IntOp.{IntOp}
 use Rattle.model_buffers.specs.Table.{Table}
 use Rattle.model_states.specs.Edits.{has_node}
-use Rattle.model_states.specs.History.{History, committed_states, number_of}
+use Rattle.model_states.specs.History.{History, committed_states, latest_of, number_of}
 use Rattle.model_states.specs.State as states
 use Rattle.model_states.specs.State.{State}
 use Rattle.model_sessions.specs.Histories.{scene_of}
@@ -17,7 +17,7 @@ use Rattle.model_runs.specs.State.{Numbers, RunState, Effect, Watched, Watching,
 
 -- the committed state of a number
 abbrev pub state_of : History Table IntOp → ℕ → State Table IntOp
-state_of history number = (slice_index_or (committed_states history) number history.latest).state
+state_of history number = (slice_index_or (committed_states history) number (latest_of history)).state
 
 -- the bytes of a frame: its rectangle of the node, and none where the state lacks the node
 abbrev pub frame_bytes : Watching → State Table IntOp → List ℕ
