@@ -11,9 +11,10 @@ use Rattle.model_graphs.specs.declared.node.NodeEdit.TheVariants.{Set, Remove}
 use Rattle.model_graphs.specs.Node.{Node, Step, FromBuffer, Apply, index_of}
 use Rattle.model_graphs.specs.Shapes.{Shape, Shapes, shape_in}
 use Rattle.model_graphs.specs.Meanings.{Meanings}
+use Rattle.pixel_formats.specs.Limits.{max_nodes}
 use Rattle.model_states.specs.declared.refused.StateRefused.{StateRefused}
 use Rattle.model_states.specs.declared.refused.StateRefused.TheVariants.{UnknownInput, Arity, Formats, Bounds, InUse, TooManyNodes}
-use Rattle.model_states.specs.Valid.{step_shape, steps_of, input_boxes, input_formats, most_nodes}
+use Rattle.model_states.specs.Valid.{step_shape, steps_of, input_boxes, input_formats}
 
 -- ---- an edit
 
@@ -36,7 +37,7 @@ reads_node name (Compute operation inputs) = list_any (bytes_eq name) inputs
 abbrev pub edit_refused : {Op : Type 0} → Shapes → List (Node Op) → NodeEdit Op → Option StateRefused
 edit_refused shapes nodes (Set node) =
     if not (reads_earlier shapes nodes (index_of nodes node.name) node.body) then Some UnknownInput
-    else if not (has_node nodes node.name) && length nodes == most_nodes then Some TooManyNodes
+    else if not (has_node nodes node.name) && length nodes == max_nodes then Some TooManyNodes
     else None
 edit_refused {Op} shapes nodes (Remove name) =
     if not (has_node nodes name) then Some UnknownInput
@@ -67,8 +68,8 @@ with_edits shapes nodes (edit ∷ edits) = with_edits shapes (then_edit shapes n
 -- ---- the walk over all nodes after the edits
 
 -- a box that is there and in limits
-abbrev pub is_unedited_box : Option Rectangle → Bool
-is_unedited_box box = option_map_or in_limits box false
+abbrev pub is_box_in_limits : Option Rectangle → Bool
+is_box_in_limits box = option_map_or in_limits box false
 
 -- why a step is refused after steps of these shapes, where it is
 abbrev pub step_refused : {Op : Type 0} → Meanings Op → Shapes → List Shape → Step Op → Option StateRefused
@@ -78,7 +79,7 @@ step_refused meanings shapes known (Apply operation inputs) =
     if not (list_all (λ i. nat_lt i (length known)) inputs) then Some UnknownInput
     else if not (length inputs == meanings.input_count operation) then Some Arity
     else if is_none (meanings.format operation (input_formats known inputs)) then Some Formats
-    else if not (is_unedited_box (meanings.box operation (input_boxes known inputs))) then Some Bounds
+    else if not (is_box_in_limits (meanings.box operation (input_boxes known inputs))) then Some Bounds
     else None
 
 -- why the first step that is refused is, where one is

@@ -16,10 +16,9 @@ fn mean_of_a_square(alloc: Global) -> Result<Graph, Fail> {
         radius: 1,
         abyss: Abyss::None,
     };
-    Ok(Graph {
-        buffers: vec![in alloc; buffer("a", Format::Y8, [0, 0, 128, 128])?]?,
-        nodes: vec![in alloc; source("s", "a")?, node(alloc, "b", mean, &["s"])?]?,
-    })
+    let buffers = vec![in alloc; buffer("a", Format::Y8, [0, 0, 128, 128])?]?;
+    let nodes = vec![in alloc; source("s", "a")?, node(alloc, "b", mean, &["s"])?]?;
+    Ok(Graph::new(alloc, buffers, nodes)?)
 }
 
 #[test]
@@ -68,12 +67,11 @@ fn captioned_photograph(alloc: Global) -> Result<Graph, Fail> {
         abyss: Abyss::Clamp,
     };
     let format = Format::RGBA8;
-    Ok(Graph {
-        buffers: vec![in alloc;
+    let buffers = vec![in alloc;
             buffer("photo", Format::RGB8, [0, 0, 1024, 768])?,
             buffer("caption", Format::YA8, [40, 680, 400, 60])?,
-        ]?,
-        nodes: vec![in alloc;
+        ]?;
+    let nodes = vec![in alloc;
             source("p", "photo")?,
             node(alloc, "c", crop, &["p"])?,
             node(alloc, "g", IntOp::Gain { num: 5, den: 4 }, &["c"])?,
@@ -82,8 +80,8 @@ fn captioned_photograph(alloc: Global) -> Result<Graph, Fail> {
             source("t", "caption")?,
             node(alloc, "u", IntOp::Convert { format }, &["t"])?,
             node(alloc, "o", IntOp::Over, &["u", "a"])?,
-        ]?,
-    })
+        ]?;
+    Ok(Graph::new(alloc, buffers, nodes)?)
 }
 
 #[test]
@@ -111,10 +109,9 @@ fn a_strip_of_many_tiles(rt: HostRuntime) -> Result<(), Fail> {
         v1: 0,
         v2: 255,
     };
-    let graph = Graph {
-        buffers: Vec::new(alloc),
-        nodes: vec![in alloc; node(alloc, "c", checker, &[])?]?,
-    };
+    let buffers = Vec::new(alloc);
+    let nodes = vec![in alloc; node(alloc, "c", checker, &[])?]?;
+    let graph = Graph::new(alloc, buffers, nodes)?;
     let strips = strip_counts(alloc, &graph, "c", [0, 0, 4160, 64])?;
     assert_eq!(rt; strips.as_slice(), [65].as_slice());
     Ok(())
@@ -129,14 +126,13 @@ fn mean_of_columns(alloc: Global, count: i64) -> Result<Graph, Fail> {
         radius: 1,
         abyss: Abyss::Clamp,
     };
-    Ok(Graph {
-        buffers: vec![in alloc; buffer("a", Format::Y8, [0, 0, 200, 1])?]?,
-        nodes: vec![in alloc;
+    let buffers = vec![in alloc; buffer("a", Format::Y8, [0, 0, 200, 1])?]?;
+    let nodes = vec![in alloc;
             source("s", "a")?,
             node(alloc, "c", crop, &["s"])?,
             node(alloc, "b", mean, &["c"])?,
-        ]?,
-    })
+        ]?;
+    Ok(Graph::new(alloc, buffers, nodes)?)
 }
 
 #[test]
@@ -156,14 +152,13 @@ fn a_box_that_changes(rt: HostRuntime) -> Result<(), Fail> {
 fn a_box_that_grows(rt: HostRuntime) -> Result<(), Fail> {
     let alloc = rt.alloc();
     let mean = |abyss| IntOp::BoxMean { radius: 1, abyss };
-    let graph = Graph {
-        buffers: vec![in alloc; buffer("a", Format::Y8, [0, 0, 1, 1])?]?,
-        nodes: vec![in alloc;
+    let buffers = vec![in alloc; buffer("a", Format::Y8, [0, 0, 1, 1])?]?;
+    let nodes = vec![in alloc;
             source("s", "a")?,
             node(alloc, "b", mean(Abyss::None), &["s"])?,
             node(alloc, "c", mean(Abyss::Clamp), &["s"])?,
-        ]?,
-    };
+        ]?;
+    let graph = Graph::new(alloc, buffers, nodes)?;
     let mut lookups = nothing_cached(alloc);
     render(alloc, &graph, "b", [-1, -1, 3, 3], &mut lookups)?;
     render(alloc, &graph, "c", [0, 0, 1, 1], &mut lookups)?;
@@ -188,17 +183,16 @@ fn made_job(alloc: Global) -> Result<Graph, Fail> {
         radius: 1,
         abyss: Abyss::None,
     };
-    Ok(Graph {
-        buffers: vec![in alloc; buffer("a", Format::RGB8, [0, 0, 512, 384])?]?,
-        nodes: vec![in alloc;
+    let buffers = vec![in alloc; buffer("a", Format::RGB8, [0, 0, 512, 384])?]?;
+    let nodes = vec![in alloc;
             source("s", "a")?,
             node(alloc, "k", checker, &[])?,
             node(alloc, "d", IntOp::Add, &["s", "k"])?,
             node(alloc, "b", mean, &["d"])?,
             node(alloc, "e", erode, &["b"])?,
             node(alloc, "i", IntOp::Invert, &["e"])?,
-        ]?,
-    })
+        ]?;
+    Ok(Graph::new(alloc, buffers, nodes)?)
 }
 
 /// Numbers from 0 to 255, each from the one before it.

@@ -6,7 +6,7 @@ use pixel_formats::{Abyss, Format, PixelSamples as Pixel};
 use model_operations::IntOp;
 use plane_rect::{Name, Rect};
 use plain_images::{
-    Buffer, Picture, PixelSamples, Step, evaluate, from_raw, level, raw_with, result_of,
+    Buffer, Picture, Samples, Step, evaluate, from_raw, level, raw_with, result_of,
 };
 use std::alloc::Global;
 use std::test::Fail;
