@@ -10,6 +10,8 @@ ghost use Rattle.model_operations.specs.declared.operation.IntOp.{IntOp};
 ghost use Rattle.model_operations.specs.Boxes.{box_of, result_box};
 ghost use Rattle.model_operations.specs.Formats.{format_of};
 ghost use Rattle.model_operations.specs.Inputs.{boxes_of, formats_of, input_image, input_count};
+ghost use Rattle.model_graphs.specs.Laws.{KeepsNothing};
+ghost use Rattle.model_operations.specs.Meanings.{int_meanings};
 ghost use Rattle.model_operations.specs.Results.{IsInRange, result_format, result_of};
 ghost use Rattle.model_operations.specs.Values.{value_at};
 
@@ -46,4 +48,9 @@ pub fn result_in_range()
         format_of op (formats_of images) ≡ Some format →
         ((i : ℕ) → i < input_count op → IsInRange (input_image images i)) →
         (u v c : ℕ) → at (result_of op images) u v c ≤ max_sample format }
+{}
+
+/// A change without a pixel invalidates none.
+pub fn nothing_invalidates_nothing()
+    ensures { KeepsNothing int_meanings }
 {}

@@ -1,11 +1,15 @@
-pub mod Sources
 pub mod Valid
 pub mod State
 pub mod Edits
+pub mod Rectangles
+pub mod Retained
+pub mod Workspace
 pub mod History
 pub mod Regions
 pub mod Damage
+pub mod Neighbors
+pub mod Commits
+pub mod Samples
 pub mod Need
 pub mod Cache
-pub mod Samples
 pub mod Examples
