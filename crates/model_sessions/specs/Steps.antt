@@ -1,15 +1,17 @@
--- The steps by which a history grows. One that is refused leaves it as it is.
-use Rattle.std.specs.Prelude.{ℕ, ⊤, List, [], ◌∷◌, fold, Option, Some, None, Ok, Err}
+-- The steps by which a workspace and its history grow. One that is refused leaves them as they are.
+use Rattle.std.specs.Prelude.{ℕ, ⊤, List, [], ◌∷◌, fold, Option, Some, None, Result, Ok, Err}
 use Rattle.std.specs.List.{AllByRecursion}
 use Rattle.std.specs.Result.{result_unwrap_or}
 use Rattle.plane_rect.specs.Rectangle.{Rectangle}
 use Rattle.model_buffers.specs.BufferEdit.{BufferEdit, IsProperEdit, written_by}
 use Rattle.model_buffers.specs.Edits.{Edited, edited_table}
 use Rattle.model_buffers.specs.Table.{Table, layout_of, no_buffers}
-use Rattle.model_states.specs.Edits.{NodeEdit}
-use Rattle.model_states.specs.History.{History, Rectangles, committed, new_history, redone, undone, with_pending, with_table}
+use Rattle.model_graphs.specs.declared.node.NodeEdit.{NodeEdit}
 use Rattle.model_graphs.specs.Meanings.{Meanings}
-use Rattle.model_sessions.specs.Tables.{sources_of}
+use Rattle.model_states.specs.History.{History, committed, new_history, redone, undone}
+use Rattle.model_states.specs.Rectangles.{Rectangles}
+use Rattle.model_states.specs.Workspace.{Workspace, with_pending, with_table}
+use Rattle.model_sessions.specs.Tables.{table_shapes}
 
 -- ---- edits of buffers
 
@@ -18,9 +20,23 @@ abbrev pub only : Option (List ℕ × Rectangle) → Rectangles
 only None = []
 only (Some entry) = entry ∷ []
 
--- the rectangles of roots that an edit writes
+-- what an edit writes, as rectangles of roots
 abbrev pub rectangles_by : Table → BufferEdit → Rectangles
 rectangles_by table edit = only (written_by (layout_of table) edit)
+
+-- the workspace with another working table, and what was written to it
+abbrev pub with_working : {Op Delta : Type 0} → Workspace Table Op Delta → Table → Option (List ℕ × Rectangle) → Workspace Table Op Delta
+with_working workspace table None = record workspace { working = table }
+with_working workspace table (Some written) = with_table workspace table written.0 written.1
+
+-- the workspace after an edit that gives this
+abbrev pub with_edit : {Op Delta : Type 0} → Workspace Table Op Delta → BufferEdit → Edited → Workspace Table Op Delta
+with_edit workspace edit (Ok table) = with_working workspace table (written_by (layout_of workspace.working) edit)
+with_edit workspace edit (Err refused) = workspace
+
+-- The workspace after an edit of a buffer.
+abbrev pub after_edit : {Op Delta : Type 0} → Workspace Table Op Delta → BufferEdit → Workspace Table Op Delta
+after_edit workspace edit = with_edit workspace edit (edited_table workspace.working edit)
 
 -- ---- steps
 
@@ -38,20 +54,15 @@ IsProper Commit = ⊤
 IsProper Undo = ⊤
 IsProper Redo = ⊤
 
--- the history with another working table, and what was written to it
-abbrev pub with_working : {Op : Type 0} → History Table Op → Table → Option (List ℕ × Rectangle) → History Table Op
-with_working history table None = record history { working = table }
-with_working history table (Some written) = with_table history table written.0 written.1
-
-abbrev pub with_buffer_edit : {Op : Type 0} → History Table Op → BufferEdit → Edited → History Table Op
-with_buffer_edit history edit (Ok table) = with_working history table (written_by (layout_of history.working) edit)
-with_buffer_edit history edit (Err refused) = history
+-- the history of the same states with another workspace
+abbrev pub with_workspace : {Op : Type 0} → History Table Op → Workspace Table Op Rectangles → History Table Op
+with_workspace history workspace = record history { workspace = workspace }
 
 -- the history after a step
 abbrev pub after_step : {Op : Type 0} → Meanings Op → History Table Op → HistoryEdit Op → History Table Op
-after_step meanings history (EditBuffer edit) = with_buffer_edit history edit (edited_table history.working edit)
-after_step meanings history (EditNode edit) = with_pending history edit
-after_step meanings history Commit = result_unwrap_or (committed meanings sources_of history) history
+after_step meanings history (EditBuffer edit) = with_workspace history (after_edit history.workspace edit)
+after_step meanings history (EditNode edit) = with_workspace history (with_pending history.workspace edit)
+after_step meanings history Commit = result_unwrap_or (committed meanings table_shapes history) history
 after_step meanings history Undo = result_unwrap_or (undone history) history
 after_step meanings history Redo = result_unwrap_or (redone history) history
 

@@ -1,20 +1,49 @@
 -- Tables of buffers as graphs read them.
 use Rattle.std.specs.Prelude.{◌≡◌, ℕ, List, map, Some}
 use Rattle.model_images.specs.Agreement.{AgreeOutside}
+use Rattle.model_images.specs.Image.{Image}
 use Rattle.model_images.specs.Paint.{cut}
-use Rattle.model_buffers.specs.Layout.{View}
-use Rattle.model_buffers.specs.Table.{Table, image_of, root_image, root_of}
-use Rattle.model_states.specs.History.{Rectangles, rectangle_of}
-use Rattle.model_states.specs.Sources.{SourceBuffer, Sources}
+use Rattle.model_images.specs.Shape.{Fact}
+use Rattle.model_buffers.specs.Layout.{TableLayout, View, facts_of}
+use Rattle.model_buffers.specs.Table.{Table, image_of, layout_of, root_image, root_of}
+use Rattle.model_graphs.specs.declared.buffer.BufferFact.{BufferFact}
+use Rattle.model_graphs.specs.Evaluation.{Buffers}
+use Rattle.model_graphs.specs.Facts.{Facts, shapes_of_facts}
+use Rattle.model_graphs.specs.Shapes.{Shapes}
+use Rattle.model_states.specs.Rectangles.{Rectangles, rectangle_of}
+
+-- ---- what is known without samples
+
+-- what a graph knows of a buffer of a layout
+abbrev pub buffer_fact : List ℕ × Fact → BufferFact
+buffer_fact entry = record {
+  name = entry.0;
+  root = entry.1.root;
+  bounds = entry.1.shape.box;
+  format = entry.1.shape.format;
+}
+
+-- of all buffers of a layout, in their order
+abbrev pub layout_facts : TableLayout → Facts
+layout_facts layout = map buffer_fact (facts_of layout)
+
+-- of all buffers of a table
+abbrev pub table_facts : Table → Facts
+table_facts table = layout_facts (layout_of table)
+
+-- their boxes and formats, by their names
+abbrev pub table_shapes : Table → Shapes
+table_shapes table = shapes_of_facts (table_facts table)
+
+-- ---- with samples
 
 -- what a view shows of its table
-abbrev pub source_in : Table → View → SourceBuffer
-source_in table view =
-    record { root = view.root; extent = view.extent; image = cut (root_image table view.root) view.extent }
+abbrev pub view_image : Table → View → Image
+view_image table view = cut (root_image table view.root) view.extent
 
--- the buffers of a table, each after its name
-abbrev pub sources_of : Table → Sources
-sources_of table = map (λ (entry : List ℕ × View). (entry.0, source_in table entry.1)) table.buffers
+-- the images of the buffers of a table, by their names
+abbrev pub table_images : Table → Buffers
+table_images table = map (λ (entry : List ℕ × View). (entry.0, view_image table entry.1)) table.buffers
 
 -- Each buffer of a table is in another one too, on the same root, and there its image is the same outside the rectangle
 -- of that root.
