@@ -7,6 +7,7 @@ use Rattle.std.proofs.lemmas.Bool.Decides.{nat_tests}
 use Rattle.std.proofs.lemmas.List.{length-append, length-map}
 use Rattle.std.proofs.lemmas.Slice.Eq.{bytes_eq-Decides}
 use Rattle.model_graphs.specs.Node.{Node, index_of}
+use Rattle.pixel_formats.specs.Limits.{max_nodes}
 use Rattle.model_states.specs.Edits.{edit_refused, edited, has_node, reads_earlier, steps_refused, then_edit, unless_refused, walked, with_edit, with_edits}
 use Rattle.model_graphs.specs.declared.node.NodeEdit.{NodeEdit}
 use Rattle.model_graphs.specs.declared.node.NodeEdit.TheVariants.{Set, Remove}
@@ -14,13 +15,13 @@ use Rattle.model_states.specs.declared.refused.StateRefused.{StateRefused}
 use Rattle.model_states.specs.declared.refused.StateRefused.TheVariants.{UnknownInput, TooManyNodes}
 use Rattle.model_graphs.specs.Meanings.{Meanings}
 use Rattle.model_graphs.specs.Shapes.{Shapes}
-use Rattle.model_states.specs.Valid.{AreValid, most_nodes, node_names, steps_of}
+use Rattle.model_states.specs.Valid.{AreValid, node_names, steps_of}
 use Rattle.model_states.proofs.PrefixLaws.{before_name, index_of-is}
 use Rattle.model_states.proofs.Walks.{valid_steps}
 
 -- few enough nodes, of distinct names
 pub record AreNodes {Op : Type 0} (nodes : List (Node Op)) : Type 0 where
-  pub few : length nodes ≤ most_nodes
+  pub few : length nodes ≤ max_nodes
   pub distinct : IsDistinct bytes_eq (node_names nodes)
 
 -- none of these names is another one
@@ -92,9 +93,9 @@ module _ {Op : Type 0} where
           let count = ap length new.1 in
           let is : index ≡ length nodes = new.0 in
           let none : nat_lt index (length nodes) ≡ false = grind (arith, nat_tests, is) in
-          let free : eqb (length nodes) most_nodes ≡ false =
-          room (reads_earlier shapes nodes index node.body) (has_node nodes node.name) (eqb (length nodes) most_nodes) passed none in
-          let less : length nodes < most_nodes = grind (arith, nat_tests, free, are.few) in
+          let free : eqb (length nodes) max_nodes ≡ false =
+          room (reads_earlier shapes nodes index node.body) (has_node nodes node.name) (eqb (length nodes) max_nodes) passed none in
+          let less : length nodes < max_nodes = grind (arith, nat_tests, free, are.few) in
           record {
             few = omega (arith, less, count, length-append (node_names nodes) (node.name ∷ []), length-names nodes, length-names (set_at nodes node index));
             distinct = subst (IsDistinct bytes_eq) (sym new.1) (distinct_push (node_names nodes) node.name are.distinct new.2);
@@ -145,7 +146,7 @@ module _ {Op : Type 0} where
   edits_keep shapes r (edit ∷ edits) are = edits_keep shapes (then_edit shapes r edit) edits (then_keeps shapes r edit are)
 
   pub edits_leave_valid : (meanings : Meanings Op) (shapes : Shapes) (nodes : List (Node Op)) (edits : List (NodeEdit Op)) →
-      length nodes ≤ most_nodes → IsDistinct bytes_eq (node_names nodes) →
+      length nodes ≤ max_nodes → IsDistinct bytes_eq (node_names nodes) →
       IfOk (edited meanings shapes nodes edits) (AreValid meanings shapes)
   edits_leave_valid meanings shapes nodes edits few distinct =
       of_result (with_edits shapes (Ok nodes) edits) (edits_keep shapes (Ok nodes) edits (record { few = few; distinct = distinct }))

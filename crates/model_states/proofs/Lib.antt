@@ -17,3 +17,4 @@ pub mod NeededRight
 pub mod Steady
 pub mod RetainedLaws
 pub mod HistoryLaws
+pub mod Written

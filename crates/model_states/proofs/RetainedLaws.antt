@@ -2,9 +2,10 @@
 use Rattle.std.proofs.Common.{◌≡◌, ℕ, ◌+◌, ◌≤◌, Bool, true, false, List, [], ◌∷◌, cond, length, refl, arith, Result, Err, IfOk}
 use Rattle.std.specs.Prelude.{◌==◌}
 use Rattle.std.proofs.lemmas.List.{length-take}
+use Rattle.pixel_formats.specs.Limits.{max_undoable}
 use Rattle.model_states.specs.declared.refused.StateRefused.{StateRefused}
 use Rattle.model_states.specs.declared.refused.StateRefused.TheVariants.{TooManyCommits}
-use Rattle.model_states.specs.Retained.{AreFew, Leads, Retained, Separated, Stepped, last_number, left_state, most_undoable, redo_to, redone, undo_to, undone, unless_last, with_commit}
+use Rattle.model_states.specs.Retained.{AreFew, Leads, Retained, Separated, Stepped, last_number, left_state, redo_to, redone, undo_to, undone, unless_last, with_commit}
 
 -- a result that is refused at the last number
 pub at_last : {A : Type 0} (P : A → Type 0) (number : ℕ) (r : Result A StateRefused) → IfOk r P → IfOk (unless_last number r) P
@@ -57,18 +58,18 @@ module _ {State Delta : Type 0} where
   LeavesFew step = AreFew step.next
 
   pub commit_few : (before : Retained State Delta) (state : State) (delta : Delta) → AreFew (with_commit before state delta)
-  commit_few before state delta = omega (arith, length-take most_undoable (left_state before delta ∷ before.undoable))
+  commit_few before state delta = omega (arith, length-take max_undoable (left_state before delta ∷ before.undoable))
 
   pub undo_few : (before : Retained State Delta) → AreFew before → IfOk (undone before) LeavesFew
   undo_few before few = at_last LeavesFew before.number (undo_to before before.undoable) (of before.undoable few)
     where
-      of : (undoable : List (Separated State Delta)) → length undoable + length before.redoable ≤ most_undoable → IfOk (undo_to before undoable) LeavesFew
+      of : (undoable : List (Separated State Delta)) → length undoable + length before.redoable ≤ max_undoable → IfOk (undo_to before undoable) LeavesFew
       of [] few = tt
       of (back ∷ rest) few = omega (arith, few)
 
   pub redo_few : (before : Retained State Delta) → AreFew before → IfOk (redone before) LeavesFew
   redo_few before few = at_last LeavesFew before.number (redo_to before before.redoable) (of before.redoable few)
     where
-      of : (redoable : List (Separated State Delta)) → length before.undoable + length redoable ≤ most_undoable → IfOk (redo_to before redoable) LeavesFew
+      of : (redoable : List (Separated State Delta)) → length before.undoable + length redoable ≤ max_undoable → IfOk (redo_to before redoable) LeavesFew
       of [] few = tt
       of (next ∷ rest) few = omega (arith, few)

@@ -11,9 +11,10 @@ use Rattle.model_graphs.specs.declared.node.NodeEdit.TheVariants.{Set, Remove}
 use Rattle.model_graphs.specs.Node.{Node, Step, FromBuffer, Apply, index_of}
 use Rattle.model_graphs.specs.Shapes.{Shape, Shapes, shape_in}
 use Rattle.model_graphs.specs.Meanings.{Meanings}
+use Rattle.pixel_formats.specs.Limits.{max_nodes}
 use Rattle.model_states.specs.declared.refused.StateRefused.{StateRefused}
 use Rattle.model_states.specs.declared.refused.StateRefused.TheVariants.{UnknownInput, Arity, Formats, Bounds, InUse, TooManyNodes}
-use Rattle.model_states.specs.Valid.{step_shape, steps_of, input_boxes, input_formats, most_nodes}
+use Rattle.model_states.specs.Valid.{step_shape, steps_of, input_boxes, input_formats}
 
 -- ---- an edit
 
@@ -36,7 +37,7 @@ reads_node name (Compute operation inputs) = list_any (bytes_eq name) inputs
 abbrev pub edit_refused : {Op : Type 0} → Shapes → List (Node Op) → NodeEdit Op → Option StateRefused
 edit_refused shapes nodes (Set node) =
     if not (reads_earlier shapes nodes (index_of nodes node.name) node.body) then Some UnknownInput
-    else if not (has_node nodes node.name) && length nodes == most_nodes then Some TooManyNodes
+    else if not (has_node nodes node.name) && length nodes == max_nodes then Some TooManyNodes
     else None
 edit_refused {Op} shapes nodes (Remove name) =
     if not (has_node nodes name) then Some UnknownInput

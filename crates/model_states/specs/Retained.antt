@@ -1,5 +1,6 @@
 -- What is retained of a history: its last state, and the states that can be undone and redone to.
 use Rattle.std.specs.Prelude.{◌≡◌, ℕ, ◌+◌, ◌-◌, ◌^◌, ◌≤◌, ◌==◌, if◌then◌else◌, List, [], ◌∷◌, take, length, Result, Ok, Err}
+use Rattle.pixel_formats.specs.Limits.{max_undoable}
 use Rattle.model_states.specs.declared.refused.StateRefused.{StateRefused}
 use Rattle.model_states.specs.declared.refused.StateRefused.TheVariants.{NothingToUndo, NothingToRedo, TooManyCommits}
 
@@ -29,10 +30,6 @@ pub record Stepped (Next Delta : Type 0) : Type 0 where
 abbrev pub last_number : ℕ
 last_number = 2 ^ 32 - 1
 
--- how many states can be undone
-abbrev pub most_undoable : ℕ
-most_undoable = 64
-
 -- ---- steps: each makes one state of the next number the last, or is refused and changes nothing
 
 -- what a step from the state of a number gives, where there may be one more
@@ -50,7 +47,7 @@ with_commit retained state delta =
     record {
       number = retained.number + 1;
       latest = state;
-      undoable = take most_undoable (left_state retained delta ∷ retained.undoable);
+      undoable = take max_undoable (left_state retained delta ∷ retained.undoable);
       redoable = [];
     }
 
@@ -94,7 +91,7 @@ redone retained = unless_last retained.number (redo_to retained retained.redoabl
 
 -- there are at most as many states on both sides as can be undone
 abbrev pub AreFew : {State Delta : Type 0} → Retained State Delta → Type 0
-AreFew retained = length retained.undoable + length retained.redoable ≤ most_undoable
+AreFew retained = length retained.undoable + length retained.redoable ≤ max_undoable
 
 -- a step leads to a state, with a delta
 pub record Leads {State Delta : Type 0} (state : State) (delta : Delta) (stepped : Stepped (Retained State Delta) Delta) : Type 0 where

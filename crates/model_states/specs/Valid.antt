@@ -2,6 +2,7 @@
 use Rattle.std.specs.Prelude.{◌≡◌, ℕ, ◌<◌, ◌≤◌, ⊤, List, [], ◌∷◌, ◌++◌, map, length, All, IsSome, IsSomeAnd, slice_index_or, unwrap_or}
 use Rattle.std.specs.List.{IsDistinct, zip}
 use Rattle.std.specs.Str.{bytes_eq}
+use Rattle.pixel_formats.specs.Limits.{max_nodes}
 use Rattle.plane_rect.specs.Rectangle.{Rectangle, InLimits}
 use Rattle.pixel_formats.specs.declared.format.Format.{Format}
 use Rattle.model_graphs.specs.declared.node.NodeFact.{NodeFact}
@@ -71,12 +72,8 @@ AreValidSteps meanings shapes known (step ∷ steps) =
 abbrev pub node_names : {Op : Type 0} → List (Node Op) → List (List ℕ)
 node_names {Op} nodes = map (λ (node : Node Op). node.name) nodes
 
--- the largest number of nodes
-abbrev pub most_nodes : ℕ
-most_nodes = 256
-
 pub record AreValid {Op : Type 0} (meanings : Meanings Op) (shapes : Shapes) (nodes : List (Node Op)) : Type 0 where
-  pub few : length nodes ≤ most_nodes
+  pub few : length nodes ≤ max_nodes
   pub distinct : IsDistinct bytes_eq (node_names nodes)
   pub steps : AreValidSteps meanings shapes [] (steps_of nodes)
 

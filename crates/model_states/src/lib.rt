@@ -12,7 +12,7 @@ pub use strip::{NeedList, Strip};
 ghost use Rattle.std.specs.List.{AllByRecursion, IsDistinct};
 ghost use Rattle.std.specs.Str.{bytes_eq};
 ghost use Rattle.std.specs.Prelude.{◌≡◌, [], Bool, true, ◌++◌, ◌+◌, ◌≤◌, ◌↔◌, ℕ, None, Option, Some, false, IfOk, IsTrue, length, List, map};
-ghost use Rattle.plane_rect.specs.Rectangle.{Rectangle};
+ghost use Rattle.plane_rect.specs.Rectangle.{hull, Rectangle};
 ghost use Rattle.plane_rect.specs.Tile.{Tile, tile_square};
 ghost use Rattle.model_images.specs.Agreement.{AgreeOutside};
 ghost use Rattle.model_images.specs.Image.{Image};
@@ -25,18 +25,20 @@ ghost use Rattle.model_graphs.specs.Node.{Node, Step};
 ghost use Rattle.model_graphs.specs.Shapes.{Shape, Shapes, shapes_of_images};
 ghost use Rattle.model_graphs.specs.Laws.{IsBoxed, KeepsLaws, KeepsNothing, Distinguishes};
 ghost use Rattle.model_graphs.specs.Meanings.{Meanings};
+ghost use Rattle.pixel_formats.specs.Limits.{max_nodes};
 ghost use Rattle.model_states.specs.Cache.{all_looked_up, by_pair, counted_pairs, itself, needed_pairs, AreRight, AreRightPairs, Cached, Counted, HasDistinctPairs, IsPairOf, IsRight, Pair, pair_of, same_pair, with_bytes, without_damaged};
 ghost use Rattle.model_states.specs.Damage.{Change, damage, damages, is_unedited, own_change, Side};
 ghost use Rattle.model_states.specs.Edits.{edited, has_node, steps_refused};
 ghost use Rattle.model_states.specs.History.{Appends, committed, History, redone, Returns, undone, with_commit};
 ghost use Rattle.model_states.specs.Need.{need};
 ghost use Rattle.model_states.specs.Neighbors.{AreNeighbors, IsChange, SamplesAgreeOutside, scene_of_side};
+ghost use Rattle.model_states.specs.Rectangles.{rectangle_of, Rectangles, with_written};
 ghost use Rattle.model_states.specs.Regions.{HaveNoPosition, meets};
 ghost use Rattle.model_states.specs.Retained as retained;
 ghost use Rattle.model_states.specs.Retained.{AreFew, Leads, Retained};
 ghost use Rattle.model_states.specs.Samples.{HaveSameBuffers};
 ghost use Rattle.model_states.specs.State.{IsValidScene, Scene, body_image, image_of, node_of, shape_of, stated_nodes};
-ghost use Rattle.model_states.specs.Valid.{AreStated, AreValid, AreValidSteps, most_nodes, node_names, shapes_of, stated};
+ghost use Rattle.model_states.specs.Valid.{AreStated, AreValid, AreValidSteps, node_names, shapes_of, stated};
 ghost use Rattle.model_states.specs.declared.strip.Strip.{Strip as StripData};
 
 /// Each pair that is looked up counts once, as applied or as reused.
@@ -239,7 +241,7 @@ pub fn walk_refuses_what_is_not_valid<Op>()
 /// Edits that are not refused leave valid nodes of nodes of distinct names, of which there are few enough.
 pub fn edits_leave_valid_nodes<Op>()
     ensures { (meanings : Meanings Op) (shapes : Shapes) (nodes : List (Node Op)) (edits : List (NodeEdit Op)) →
-        length nodes ≤ most_nodes → IsDistinct bytes_eq (node_names nodes) →
+        length nodes ≤ max_nodes → IsDistinct bytes_eq (node_names nodes) →
         IfOk (edited meanings shapes nodes edits) (AreValid meanings shapes) }
 {}
 
@@ -272,4 +274,13 @@ pub fn retained_states_stay_few<State, Delta>()
         IfOk (retained.undone before) (λ step. AreFew step.next) }
     ensures redo { (before : Retained State Delta) → AreFew before →
         IfOk (retained.redone before) (λ step. AreFew step.next) }
+{}
+
+/// The rectangle of a root that is written becomes the hull with what was written; those of others are unchanged.
+pub fn written_rectangles_grow()
+    ensures own { (rectangles : Rectangles) (root : List ℕ) (r : Rectangle) →
+        rectangle_of (with_written rectangles root r) root ≡ hull (rectangle_of rectangles root) r }
+    ensures others { (rectangles : Rectangles) (root other : List ℕ) (r : Rectangle) →
+        bytes_eq other root ≡ false →
+        rectangle_of (with_written rectangles root r) other ≡ rectangle_of rectangles other }
 {}
