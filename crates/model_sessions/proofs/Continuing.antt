@@ -1,9 +1,7 @@
 -- Edits of buffers continue tables.
-use Rattle.std.proofs.Common.{◌≡◌, ◌≢◌, ℕ, Bool, true, false, not, cond, List, [], ◌∷◌, filter, refl, sym, ap, ◌∙◌, subst, arith, Option, Some, None, Result, Ok, Err, IfOk, ℤ, unwrap_or}
+use Rattle.std.proofs.Common.{◌≡◌, ◌≢◌, ℕ, Bool, true, false, cond, List, [], ◌∷◌, refl, sym, ap, ◌∙◌, subst, arith, Option, Some, None, Result, Ok, Err, IfOk, ℤ, unwrap_or}
 use Rattle.std.specs.Prelude.{option_map}
-use Rattle.std.specs.Map.{lookup}
 use Rattle.std.specs.Str.{bytes_eq}
-use Rattle.std.proofs.lemmas.Map.Entries.{lookup-filter-keys}
 use Rattle.plane_rect.specs.declared.rect.RectRefused.{RectRefused}
 use Rattle.plane_rect.specs.Rectangle.{Rectangle, Includes, Inside, empty, hull, shifted}
 use Rattle.plane_rect.proofs.RectangleLaws.{Includes-hull_left, Includes-hull_right}
@@ -18,8 +16,9 @@ use Rattle.model_buffers.specs.Effects.{IsAdded, IsWritten}
 use Rattle.model_buffers.specs.Layout.{View, find}
 use Rattle.model_buffers.specs.Table.{IsTable, Table, image_of, layout_of, root_of}
 use Rattle.model_buffers.proofs.EffectLaws.{copied-images, copied-nowhere, created-image, duplicated-image, edited-table, filled-images, if_then, put-images, sub_buffer-image}
-use Rattle.model_buffers.proofs.FindLaws.{apart_test, name_from_test, same_name}
-use Rattle.model_states.specs.History.{Rectangles, rectangle_of, with_written}
+use Rattle.model_buffers.proofs.FindLaws.{name_from_test, same_name}
+use Rattle.model_states.specs.Rectangles.{Rectangles, rectangle_of, with_written}
+use Rattle.model_states.proofs.Written.{written-other, written-own}
 use Rattle.model_sessions.specs.Steps.{only, rectangles_by}
 use Rattle.model_sessions.specs.Tables.{Continues}
 
@@ -114,33 +113,23 @@ abbrev pub with_those : Rectangles → Option (List ℕ × Rectangle) → Rectan
 with_those rectangles None = rectangles
 with_those rectangles (Some entry) = with_written rectangles entry.0 entry.1
 
-kept_rectangle : (rectangles : Rectangles) (own other : List ℕ) → bytes_eq other own ≡ false →
-    lookup (bytes_eq other) (filter (λ (entry : List ℕ × Rectangle). not (bytes_eq own entry.0)) rectangles) ≡ lookup (bytes_eq other) rectangles
-kept_rectangle rectangles own other apart =
-    lookup-filter-keys (bytes_eq other) (λ name. not (bytes_eq own name)) true
-    (λ name same. ap not (apart_test own name (λ is. cc (apart, same, ap (bytes_eq other) is)))) rectangles
-
 -- the rectangle of a root that was written includes what there was, and the others are the same
 with_written-wider : (rectangles : Rectangles) (own other : List ℕ) (r : Rectangle) →
     Includes (rectangle_of (with_written rectangles own r) other) (rectangle_of rectangles other)
     × Includes (rectangle_of (with_written rectangles own r) other) (rectangle_of ((own, r) ∷ []) other)
 with_written-wider rectangles own other r = by (bytes_eq other own) refl
   where
-    rest : Rectangles
-    rest = filter (λ (entry : List ℕ × Rectangle). not (bytes_eq own entry.0)) rectangles
-
-    whole : Rectangle
-    whole = hull (rectangle_of rectangles own) r
-
     by : (b : Bool) → bytes_eq other own ≡ b →
-        Includes (unwrap_or (cond b (Some whole) (lookup (bytes_eq other) rest)) empty) (rectangle_of rectangles other)
-        × Includes (unwrap_or (cond b (Some whole) (lookup (bytes_eq other) rest)) empty) (unwrap_or (cond b (Some r) None) empty)
-    by true e = (
-      subst (λ name. Includes whole (rectangle_of rectangles name)) (sym (name_from_test other own e)) (Includes-hull_left (rectangle_of rectangles own) r),
-      Includes-hull_right (rectangle_of rectangles own) r,
-    )
+        Includes (rectangle_of (with_written rectangles own r) other) (rectangle_of rectangles other)
+        × Includes (rectangle_of (with_written rectangles own r) other) (unwrap_or (cond b (Some r) None) empty)
+    by true e =
+        let whole : rectangle_of (with_written rectangles own r) other ≡ hull (rectangle_of rectangles other) r =
+        subst (λ name. rectangle_of (with_written rectangles own r) name ≡ hull (rectangle_of rectangles name) r) (sym (name_from_test other own e)) (written-own rectangles own r) in (
+          subst (λ (wide : Rectangle). Includes wide (rectangle_of rectangles other)) (sym whole) (Includes-hull_left (rectangle_of rectangles other) r),
+          subst (λ (wide : Rectangle). Includes wide r) (sym whole) (Includes-hull_right (rectangle_of rectangles other) r),
+        )
     by false e = (
-      λ u v inside. subst (λ o. Inside u v (unwrap_or o empty)) (sym (kept_rectangle rectangles own other e)) inside,
+      λ u v inside. subst (Inside u v) (sym (written-other rectangles own other r e)) inside,
       λ u v inside. absurd (omega (arith, inside.column)),
     )
 

@@ -1,19 +1,18 @@
 -- Renders among the steps of a history, and the cached pairs that they leave.
-use Rattle.std.specs.Prelude.{ℕ, Bool, ◌&&◌, ◌==◌, if◌then◌else◌, is_none, ⊤, List, [], fold, Some, unwrap_or}
+use Rattle.std.specs.Prelude.{ℕ, ◌≤◌, Bool, ◌&&◌, ◌==◌, if◌then◌else◌, is_none, ⊤, List, [], fold, length, Some, unwrap_or}
 use Rattle.std.specs.List.{AllByRecursion}
 use Rattle.plane_rect.specs.Rectangle.{Rectangle, empty, scaled}
 use Rattle.model_buffers.specs.Table.{Table, no_buffers}
 use Rattle.model_graphs.specs.Meanings.{Meanings}
 use Rattle.model_graphs.specs.Node.{index_of}
-use Rattle.model_graphs.specs.declared.node.NodeEdit.{NodeEdit}
-use Rattle.model_states.specs.Cache.{Cached, Counted, all_looked_up, by_pair, needed_pairs, uncounted, with_bytes, without_damaged}
+use Rattle.model_states.specs.Cache.{AreRight, Cached, Counted, HasDistinctPairs, all_looked_up, by_pair, needed_pairs, uncounted, with_bytes, without_damaged}
 use Rattle.model_states.specs.Damage.{Change, damage}
 use Rattle.model_states.specs.Edits.{has_node}
 use Rattle.model_states.specs.History.{History, new_history, number_of}
 use Rattle.model_states.specs.Need.{need, wide}
 use Rattle.model_states.specs.State.{Scene, stated_nodes}
 use Rattle.model_states.specs.declared.strip.Strip.{Strip}
-use Rattle.model_sessions.specs.Histories.{change_to, scene_of}
+use Rattle.model_sessions.specs.Histories.{IsHistory, change_to, last_state, scene_of}
 use Rattle.model_sessions.specs.Steps.{HistoryEdit, IsProper, after_step}
 
 -- A history of states over tables, the cached pairs of its last state, and how many pairs its renders applied and
@@ -28,7 +27,7 @@ new_session = record { history = new_history no_buffers; cached = uncounted [] }
 
 -- the last committed state, as its nodes read it
 abbrev pub last_scene : {Op : Type 0} → Session Table Op → Scene Op
-last_scene session = scene_of session.history.workspace.retained.latest
+last_scene session = scene_of (last_state session.history)
 
 -- ---- steps
 
@@ -105,3 +104,13 @@ IsProperAction (Render name z rectangle) = ⊤
 
 abbrev pub AreProperActions : {Op : Type 0} → List (Action Op) → Type 0
 AreProperActions {Op} actions = AllByRecursion (λ (action : Action Op). IsProperAction action) actions
+
+-- ---- what holds of sessions
+
+-- What holds of a session: its history is one, and its cached pairs are right for the last state, distinct, and at most
+-- as many as the capacity.
+pub record IsSession {Op : Type 0} (meanings : Meanings Op) (capacity : ℕ) (session : Session Table Op) : Type 0 where
+  pub history : IsHistory meanings session.history
+  pub right : AreRight meanings (last_scene session) session.cached.list
+  pub distinct : HasDistinctPairs by_pair session.cached.list
+  pub few : length session.cached.list ≤ capacity

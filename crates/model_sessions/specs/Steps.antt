@@ -1,5 +1,5 @@
 -- The steps by which a workspace and its history grow. One that is refused leaves them as they are.
-use Rattle.std.specs.Prelude.{ℕ, ⊤, List, [], ◌∷◌, fold, Option, Some, None, Result, Ok, Err}
+use Rattle.std.specs.Prelude.{ℕ, ⊤, List, [], ◌∷◌, fold, Option, Some, None, Ok, Err}
 use Rattle.std.specs.List.{AllByRecursion}
 use Rattle.std.specs.Result.{result_unwrap_or}
 use Rattle.plane_rect.specs.Rectangle.{Rectangle}
