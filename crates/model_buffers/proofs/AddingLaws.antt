@@ -5,7 +5,7 @@ use Rattle.std.specs.Option.{option_map, is_some}
 use Rattle.plane_rect.specs.Rectangle.{Rectangle}
 use Rattle.model_images.specs.Image.{Image, IsImage}
 use Rattle.model_images.specs.Paint.{cut}
-use Rattle.model_images.specs.Shape.{shape_of}
+use Rattle.model_graphs.specs.Shapes.{shape_of_image}
 use Rattle.model_buffers.specs.BufferEdit.{added}
 use Rattle.model_buffers.specs.Edits.{with_root, with_view}
 use Rattle.model_buffers.specs.Effects.{IsAdded, HasOwnRoot}
@@ -16,7 +16,7 @@ use Rattle.model_buffers.proofs.LayoutLaws.{by_option, by_value, find-either, no
 use Rattle.model_buffers.proofs.ShapeLaws.{find-shapes}
 
 -- a root whose shape is there is there
-same_presence : (o : Option Image) → is_some (option_map shape_of o) ≡ is_some o
+same_presence : (o : Option Image) → is_some (option_map shape_of_image o) ≡ is_some o
 same_presence (Some image) = refl
 same_presence None = refl
 
@@ -25,7 +25,7 @@ root_there table root some = sym (ap is_some (find-shapes table root) ∙ same_p
 
 pub root_lacking : (table : Table) (root : List ℕ) → find (layout_of table).roots root ≡ None → find table.roots root ≡ None
 root_lacking table root none = by_option _ (find table.roots root)
-    (λ (image : Image) e. absurd (cc (none, find-shapes table root, ap (option_map shape_of) e)))
+    (λ (image : Image) e. absurd (cc (none, find-shapes table root, ap (option_map shape_of_image) e)))
     (λ lacking. lacking)
 
 module _ (table : Table) (is : IsTable table) (name : List ℕ) (new : find table.buffers name ≡ None) where

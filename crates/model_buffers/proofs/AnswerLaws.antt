@@ -8,15 +8,16 @@ use Rattle.std.proofs.lemmas.List.Sums.{AllPass-from_list_all, list_all-from_All
 use Rattle.plane_rect.specs.declared.rect.RectRefused.{RectRefused}
 use Rattle.plane_rect.specs.Rectangle.{Rectangle, Inside, Includes, includes, is_empty, end_column, end_row}
 use Rattle.plane_rect.proofs.Differences.{reaches}
+use Rattle.pixel_formats.specs.Limits.{max_buffers}
 use Rattle.pixel_formats.specs.declared.format.Format.{Format}
 use Rattle.pixel_formats.specs.Format.{channels, max_sample, same_format}
 use Rattle.model_images.proofs.Tests.{Decides-same_format, both}
-use Rattle.model_images.specs.Shape.{Shape}
+use Rattle.model_graphs.specs.Shapes.{Shape}
 use Rattle.model_images.specs.FromRaw.{byte_count}
 use Rattle.model_buffers.specs.declared.refused.EditRefused.{EditRefused}
 use Rattle.model_buffers.specs.declared.refused.EditRefused.TheVariants.{UnknownBuffer, NameTaken, OutOfBounds, WrongSize, Formats, TooManyBuffers}
 use Rattle.model_buffers.specs.BufferEdit.{Refusal, add_refused, copy_refused, fill_refused, if_known, if_moved, is_pixel, IsPixel, put_refused, unless}
-use Rattle.model_buffers.specs.Layout.{TableLayout, View, find, most_buffers}
+use Rattle.model_buffers.specs.Layout.{TableLayout, View, find}
 
 -- ---- tests
 
@@ -65,18 +66,18 @@ module _ (A : Type 0) (R : EditRefused → Type 0) where
   moved (Err e) next fails holds = fails e refl
 
   pub added : (layout : TableLayout) (name : List ℕ) → (IsSome (find layout.buffers name) → R NameTaken)
-      → (find layout.buffers name ≡ None → most_buffers ≤ length layout.buffers → R TooManyBuffers)
-      → (find layout.buffers name ≡ None → length layout.buffers < most_buffers → A) → MatchOption (add_refused layout name) A R
+      → (find layout.buffers name ≡ None → max_buffers ≤ length layout.buffers → R TooManyBuffers)
+      → (find layout.buffers name ≡ None → length layout.buffers < max_buffers → A) → MatchOption (add_refused layout name) A R
   added layout name taken full room = cases (find layout.buffers name) refl
     where
-      counted : (b : Bool) → leb most_buffers (length layout.buffers) ≡ b → find layout.buffers name ≡ None
+      counted : (b : Bool) → leb max_buffers (length layout.buffers) ≡ b → find layout.buffers name ≡ None
           → MatchOption (cond b (Some TooManyBuffers) None) A R
       counted true t none = full none (grind (arith, nat_tests))
       counted false t none = room none (grind (arith, nat_tests))
 
       cases : (o : Option View) → find layout.buffers name ≡ o → MatchOption (add_refused layout name) A R
       cases (Some view) e = rw e (taken (rw e refl))
-      cases None e = rw e (counted (leb most_buffers (length layout.buffers)) refl e)
+      cases None e = rw e (counted (leb max_buffers (length layout.buffers)) refl e)
 
   -- ---- edits of a rectangle
 

@@ -3,9 +3,11 @@ use Rattle.std.proofs.Common.{◌≡◌, ℕ, ℤ, List, None, Some, Ok, Err, in
 use Rattle.std.specs.Prelude.{MatchOption}
 use Rattle.plane_rect.specs.declared.rect.RectRefused.{RectRefused}
 use Rattle.plane_rect.specs.Rectangle.{Rectangle, Includes, shifted}
-use Rattle.model_images.specs.Shape.{Shape}
+use Rattle.model_graphs.specs.Shapes.{Shape}
 use Rattle.model_buffers.specs.declared.refused.EditRefused.{EditRefused}
-use Rattle.model_buffers.specs.BufferEdit.{BufferEdit, Create, Sub, Duplicate, Fill, Put, Copy, add_refused, copy_refused, edit_refused, fill_refused, if_known, put_refused}
+use Rattle.model_buffers.specs.declared.edit.BufferEdit.{BufferEdit}
+use Rattle.model_buffers.specs.declared.edit.BufferEdit.TheVariants.{Create, Sub, Duplicate, Fill, Put, Copy}
+use Rattle.model_buffers.specs.BufferEdit.{add_refused, copy_refused, edit_refused, fill_refused, if_known, put_refused}
 use Rattle.model_buffers.specs.Layout.{TableLayout, View, find, buffer_shape, view_shape}
 use Rattle.model_buffers.specs.Causes.{IsKnown, IsAddable, AddRefused, AddFromRefused, HasPositions, LacksPositions, IsFillable, FillRefused, IsPuttable, PutRefused, HasMoved, HasBoth, IsCopyable, CopyRefused, IsCarriedOut, IsRefused}
 use Rattle.model_buffers.proofs.AnswerLaws.{known, added, filled, put, copied}

@@ -6,10 +6,12 @@ use Rattle.plane_rect.specs.Rectangle.{Rectangle, Includes, IsRectangle, meet, s
 use Rattle.pixel_formats.specs.declared.format.Format.{Format}
 use Rattle.model_images.specs.Image.{Image, IsImage}
 use Rattle.model_images.specs.Paint.{blank, cut}
-use Rattle.model_images.specs.Shape.{Shape}
+use Rattle.model_graphs.specs.Shapes.{Shape}
 use Rattle.model_images.specs.FromRaw.{pixels_from_raw}
 use Rattle.model_images.proofs.Laws.{IsImage-image_from_fn}
-use Rattle.model_buffers.specs.BufferEdit.{BufferEdit, Create, Sub, Duplicate, Fill, Put, Copy, IsProperEdit, Refusal, edit_refused, part_of}
+use Rattle.model_buffers.specs.declared.edit.BufferEdit.{BufferEdit}
+use Rattle.model_buffers.specs.declared.edit.BufferEdit.TheVariants.{Create, Sub, Duplicate, Fill, Put, Copy}
+use Rattle.model_buffers.specs.BufferEdit.{IsProperEdit, Refusal, edit_refused, part_of}
 use Rattle.model_buffers.specs.Causes.{HasMoved, IsCarriedOut, IsKnown, IsRefused}
 use Rattle.model_buffers.specs.Edits.{Edited, by_move, by_view, edited_table, evenly, moved_samples, table_with, unless_refused, with_root, with_view, written}
 use Rattle.model_buffers.specs.Effects.{IsAdded, HasOwnRoot, IsWritten}

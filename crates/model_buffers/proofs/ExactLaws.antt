@@ -4,7 +4,9 @@ use Rattle.std.specs.Prelude.{IsOk, MatchOption}
 use Rattle.plane_rect.specs.Rectangle.{Rectangle}
 use Rattle.model_buffers.specs.declared.refused.EditRefused.{EditRefused}
 use Rattle.model_buffers.specs.declared.refused.EditRefused.TheVariants.{UnknownBuffer, NameTaken, OutOfBounds, WrongSize, Formats, TooManyBuffers}
-use Rattle.model_buffers.specs.BufferEdit.{BufferEdit, Create, Sub, Duplicate, Fill, Put, Copy, Refusal, edit_refused}
+use Rattle.model_buffers.specs.declared.edit.BufferEdit.{BufferEdit}
+use Rattle.model_buffers.specs.declared.edit.BufferEdit.TheVariants.{Create, Sub, Duplicate, Fill, Put, Copy}
+use Rattle.model_buffers.specs.BufferEdit.{Refusal, edit_refused}
 use Rattle.model_buffers.specs.Causes.{IsKnown, IsUnknown, IsAddable, AddRefused, AddFromRefused, IsFillable, FillRefused, IsPuttable, PutRefused, IsCopyable, CopyRefused, IsCarriedOut, IsRefused}
 use Rattle.model_buffers.specs.Edits.{edited_table, table_with, unless_refused}
 use Rattle.model_buffers.specs.Layout.{TableLayout}

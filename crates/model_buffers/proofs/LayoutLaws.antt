@@ -6,10 +6,13 @@ use Rattle.std.specs.Str.{bytes_eq}
 use Rattle.plane_rect.specs.Rectangle.{Rectangle, Includes, IsRectangle, InLimits, meet}
 use Rattle.plane_rect.proofs.Rectangles.{Inside-meet}
 use Rattle.plane_rect.proofs.RectangleLaws.{IsRectangle-meet}
-use Rattle.model_images.specs.Shape.{Shape}
-use Rattle.model_buffers.specs.BufferEdit.{BufferEdit, Create, Sub, Duplicate, Fill, Put, Copy, IsProperEdit, added, layout_with, layout_with_root, part_of}
+use Rattle.pixel_formats.specs.Limits.{max_buffers}
+use Rattle.model_graphs.specs.Shapes.{Shape}
+use Rattle.model_buffers.specs.declared.edit.BufferEdit.{BufferEdit}
+use Rattle.model_buffers.specs.declared.edit.BufferEdit.TheVariants.{Create, Sub, Duplicate, Fill, Put, Copy}
+use Rattle.model_buffers.specs.BufferEdit.{IsProperEdit, added, layout_with, layout_with_root, part_of}
 use Rattle.model_buffers.specs.Causes.{IsCarriedOut}
-use Rattle.model_buffers.specs.Layout.{TableLayout, View, find, root_shape, IsValidShape, IsRooted, IsLayout, most_buffers}
+use Rattle.model_buffers.specs.Layout.{TableLayout, View, find, root_shape, IsValidShape, IsRooted, IsLayout}
 use Rattle.model_buffers.proofs.FindLaws.{same_name, name_from_test, find-kept, find-added, find-new, find-other, AreDistinct-added}
 
 -- ---- values that may be there
@@ -65,7 +68,7 @@ part-rooted layout view r rooted rectangle = record {
   extent = IsRectangle-meet r view.extent rectangle rooted.extent;
 }
 
-module _ (layout : TableLayout) (is : IsLayout layout) (name : List ℕ) (new : find layout.buffers name ≡ None) (room : length layout.buffers < most_buffers) where
+module _ (layout : TableLayout) (is : IsLayout layout) (name : List ℕ) (new : find layout.buffers name ≡ None) (room : length layout.buffers < max_buffers) where
   -- one of a root that is there
   module _ (view : View) (rooted : IsRooted layout view) where
     abbrev with_view : TableLayout

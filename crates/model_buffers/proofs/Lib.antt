@@ -5,6 +5,7 @@ pub mod CauseLaws
 mod ExactLaws
 pub mod LayoutLaws
 pub mod ShapeLaws
+pub mod FactLaws
 pub mod AddingLaws
 pub mod TableLaws
 pub mod EffectLaws

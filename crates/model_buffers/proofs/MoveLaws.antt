@@ -8,7 +8,7 @@ use Rattle.plane_rect.specs.Rectangle.{Rectangle, Inside, rectangle, new_rectang
 use Rattle.plane_rect.proofs.Rectangles.{coordinate_test, extent_test, rectangle-some, plane_coordinate-plane_index}
 use Rattle.pixel_formats.specs.Format.{channels}
 use Rattle.model_images.specs.Image.{at}
-use Rattle.model_buffers.specs.BufferEdit.{Copy}
+use Rattle.model_buffers.specs.declared.edit.BufferEdit.TheVariants.{Copy}
 use Rattle.model_buffers.specs.Edits.{edited_table}
 use Rattle.model_buffers.specs.Table.{Table, image_of, IsTable}
 use Rattle.model_buffers.proofs.EffectLaws.{copied-images, copied-nowhere, if_then}

@@ -9,7 +9,7 @@ use Rattle.plane_rect.proofs.Rectangles.{some_or_empty}
 use Rattle.plane_rect.proofs.RectangleLaws.{IsRectangle-empty}
 use Rattle.pixel_formats.specs.declared.format.Format.TheVariants.{Y8}
 use Rattle.model_images.specs.Image.{IsImage, at}
-use Rattle.model_images.specs.Shape.{shape_of}
+use Rattle.model_graphs.specs.Shapes.{shape_of_image}
 use Rattle.model_images.proofs.Laws.{IsImage-image_from_fn}
 use Rattle.model_buffers.specs.Layout.{AreDistinct, View, find, IsValidShape, IsLayout, IsRooted, TableLayout, buffer_shape, root_shape, seen_shape}
 use Rattle.model_buffers.specs.Table.{Table, image_of, layout_of, no_buffers, root_image, seen, IsTable}
@@ -41,7 +41,7 @@ IsValidShape-buffer layout is name = cases (find layout.buffers name) (is.rooted
         }
     cases None rooted = record { box = IsRectangle-empty; limits = (omega arith, omega arith, omega arith) }
 
-pub IsValidShape-image_of : (table : Table) → IsTable table → (name : List ℕ) → IsValidShape (shape_of (image_of table name))
+pub IsValidShape-image_of : (table : Table) → IsTable table → (name : List ℕ) → IsValidShape (shape_of_image (image_of table name))
 IsValidShape-image_of table is name = subst IsValidShape (buffer_shape-is table name) (IsValidShape-buffer (layout_of table) is.layout name)
 
 pub IsImage-image_of : (table : Table) (name : List ℕ) → IsImage (image_of table name)
@@ -65,4 +65,4 @@ IsTable-no_buffers = record {
 }
 
 pub AreDistinct-roots : (table : Table) → IsTable table → AreDistinct table.roots
-AreDistinct-roots table is = AreDistinct-from_mapped shape_of table.roots is.layout.root_names
+AreDistinct-roots table is = AreDistinct-from_mapped shape_of_image table.roots is.layout.root_names

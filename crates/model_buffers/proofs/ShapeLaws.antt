@@ -10,49 +10,48 @@ use Rattle.plane_rect.specs.Rectangle.{Rectangle, shifted}
 use Rattle.model_images.specs.Image.{Image}
 use Rattle.model_images.specs.Paint.{no_image, painted}
 use Rattle.model_images.specs.FromRaw.{pixels_from_raw}
-use Rattle.model_images.specs.Shape.{Shape, no_shape, shape_of}
-use Rattle.model_buffers.specs.BufferEdit.{BufferEdit, Create, Sub, Duplicate, Fill, Put, Copy, Refusal, added, edit_refused, layout_with, layout_with_duplicate, layout_with_part, layout_with_root, part_of}
+use Rattle.model_graphs.specs.Shapes.{Shape, no_shape, shape_of_image}
+use Rattle.model_buffers.specs.declared.edit.BufferEdit.{BufferEdit}
+use Rattle.model_buffers.specs.declared.edit.BufferEdit.TheVariants.{Create, Sub, Duplicate, Fill, Put, Copy}
+use Rattle.model_buffers.specs.BufferEdit.{Refusal, added, edit_refused, layout_with, layout_with_duplicate, layout_with_part, layout_with_root, part_of}
 use Rattle.model_buffers.specs.Edits.{by_move, by_view, edited_table, evenly, moved_samples, table_with, unless_refused, with_root, with_view, written}
-use Rattle.model_buffers.specs.Layout.{TableLayout, View, buffer_shape, facts_of, find, root_shape, seen_shape, view_fact}
+use Rattle.model_buffers.specs.Layout.{TableLayout, View, buffer_shape, find, root_shape, seen_shape}
 use Rattle.model_buffers.specs.Table.{Table, image_of, layout_of, root_image, seen}
 
-pub find-shapes : (table : Table) (root : List ℕ) → find (layout_of table).roots root ≡ option_map shape_of (find table.roots root)
-find-shapes table root = lookup-map_values shape_of (bytes_eq root) table.roots
+pub find-shapes : (table : Table) (root : List ℕ) → find (layout_of table).roots root ≡ option_map shape_of_image (find table.roots root)
+find-shapes table root = lookup-map_values shape_of_image (bytes_eq root) table.roots
 
-pub root_shape-is : (table : Table) (root : List ℕ) → root_shape (layout_of table) root ≡ shape_of (root_image table root)
+pub root_shape-is : (table : Table) (root : List ℕ) → root_shape (layout_of table) root ≡ shape_of_image (root_image table root)
 root_shape-is table root = rw (find-shapes table root) (cases (find table.roots root))
   where
-    cases : (o : Option Image) → unwrap_or (option_map shape_of o) no_shape ≡ shape_of (unwrap_or o no_image)
+    cases : (o : Option Image) → unwrap_or (option_map shape_of_image o) no_shape ≡ shape_of_image (unwrap_or o no_image)
     cases (Some image) = refl
     cases None = refl
 
-pub buffer_shape-is : (table : Table) (name : List ℕ) → buffer_shape (layout_of table) name ≡ shape_of (image_of table name)
+pub buffer_shape-is : (table : Table) (name : List ℕ) → buffer_shape (layout_of table) name ≡ shape_of_image (image_of table name)
 buffer_shape-is table name = cases (find table.buffers name)
   where
-    cases : (o : Option View) → seen_shape (layout_of table) o ≡ shape_of (seen table o)
+    cases : (o : Option View) → seen_shape (layout_of table) o ≡ shape_of_image (seen table o)
     cases (Some view) = ap (λ (shape : Shape). record { box = view.extent; format = shape.format }) (root_shape-is table view.root)
     cases None = refl
-
-pub facts-found : (layout : TableLayout) (name : List ℕ) → find (facts_of layout) name ≡ option_map (view_fact layout) (find layout.buffers name)
-facts-found layout name = lookup-map_values (view_fact layout) (bytes_eq name) layout.buffers
 
 -- ---- an edited table
 
 root-added : (table : Table) (name : List ℕ) (image : Image) (extent : Rectangle)
-    → layout_of (with_root table name image extent) ≡ layout_with_root (layout_of table) name (shape_of image) extent
+    → layout_of (with_root table name image extent) ≡ layout_with_root (layout_of table) name (shape_of_image image) extent
 root-added table name image extent =
-    let entry : List ℕ × Image → List ℕ × Shape = λ e. (e.0, shape_of e.1) in
+    let entry : List ℕ × Image → List ℕ × Shape = λ e. (e.0, shape_of_image e.1) in
     ap (λ (roots : List (List ℕ × Shape)). record { roots = roots; buffers = added table.buffers name (record { root = name; extent = extent }) })
     (map-append entry table.roots ((name, image) ∷ []))
 
 module _ (root : List ℕ) (r : Rectangle) (f : ℕ → ℕ → ℕ → ℕ) where
   abbrev shaped : List ℕ × Image → List ℕ × Shape
-  shaped e = (e.0, shape_of e.1)
+  shaped e = (e.0, shape_of_image e.1)
 
   abbrev changed : List ℕ × Image → List ℕ × Image
   changed e = (e.0, cond (bytes_eq root e.0) (painted e.1 r f) e.1)
 
-  same_shape : (b : Bool) (image : Image) → shape_of (cond b (painted image r f) image) ≡ shape_of image
+  same_shape : (b : Bool) (image : Image) → shape_of_image (cond b (painted image r f) image) ≡ shape_of_image image
   same_shape true image = refl
   same_shape false image = refl
 

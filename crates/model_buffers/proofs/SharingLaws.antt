@@ -2,7 +2,8 @@
 use Rattle.std.proofs.Common.{◌≡◌, ◌≢◌, ℕ, List, Some, None, refl, sym, ap, ◌∙◌}
 use Rattle.std.specs.Prelude.{IfOk}
 use Rattle.plane_rect.specs.Rectangle.{Rectangle}
-use Rattle.model_buffers.specs.BufferEdit.{Duplicate, Sub, part_of}
+use Rattle.model_buffers.specs.declared.edit.BufferEdit.TheVariants.{Duplicate, Sub}
+use Rattle.model_buffers.specs.BufferEdit.{part_of}
 use Rattle.model_buffers.specs.Edits.{edited_table, with_view}
 use Rattle.model_buffers.specs.Effects.{IsWritten, ShowsOver}
 use Rattle.model_buffers.specs.Layout.{View, find}

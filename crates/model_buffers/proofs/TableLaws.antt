@@ -9,7 +9,7 @@ use Rattle.pixel_formats.specs.Format.{channels}
 use Rattle.model_images.specs.Agreement.{AgreeOutside}
 use Rattle.model_images.specs.Image.{Image, IsImage, at, is_inside}
 use Rattle.model_images.specs.Paint.{cut, no_image, painted}
-use Rattle.model_images.specs.Shape.{Shape}
+use Rattle.model_graphs.specs.Shapes.{Shape}
 use Rattle.model_images.proofs.Laws.{AgreeOutside-refl, IsImage-image_from_fn}
 use Rattle.model_buffers.specs.Edits.{written}
 use Rattle.model_buffers.specs.Effects.{IsWritten, ShowsOver}

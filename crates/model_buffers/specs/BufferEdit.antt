@@ -4,23 +4,16 @@ use Rattle.std.specs.List.{All, list_all}
 use Rattle.std.specs.Option.{is_some, option_map}
 use Rattle.plane_rect.specs.declared.rect.RectRefused.{RectRefused}
 use Rattle.plane_rect.specs.Rectangle.{Rectangle, IsRectangle, InLimits, includes, meet, shifted}
+use Rattle.pixel_formats.specs.Limits.{max_buffers}
 use Rattle.pixel_formats.specs.declared.format.Format.{Format}
 use Rattle.pixel_formats.specs.Format.{channels, max_sample, same_format}
-use Rattle.model_images.specs.Shape.{Shape}
+use Rattle.model_graphs.specs.Shapes.{Shape}
 use Rattle.model_images.specs.FromRaw.{byte_count}
+use Rattle.model_buffers.specs.declared.edit.BufferEdit.{BufferEdit}
+use Rattle.model_buffers.specs.declared.edit.BufferEdit.TheVariants.{Copy, Create, Duplicate, Fill, Put, Sub}
 use Rattle.model_buffers.specs.declared.refused.EditRefused.{EditRefused}
 use Rattle.model_buffers.specs.declared.refused.EditRefused.TheVariants.{UnknownBuffer, NameTaken, OutOfBounds, WrongSize, Formats, TooManyBuffers}
-use Rattle.model_buffers.specs.Layout.{TableLayout, View, find, root_named, root_shape, view_shape, most_buffers}
-
--- An edit of a table of buffers: a new buffer, a sub-buffer of a parent, a duplicate of another buffer, one pixel over a
--- rectangle, raw bytes over a rectangle, a rectangle of one buffer copied to another or the same, moved by so much.
-pub data BufferEdit : Type 0 where
-  Create : List ℕ → Format → Rectangle → BufferEdit
-  Sub : List ℕ → List ℕ → Rectangle → BufferEdit
-  Duplicate : List ℕ → List ℕ → BufferEdit
-  Fill : List ℕ → Rectangle → List ℕ → BufferEdit
-  Put : List ℕ → Rectangle → List ℕ → BufferEdit
-  Copy : List ℕ → List ℕ → Rectangle → ℤ → ℤ → BufferEdit
+use Rattle.model_buffers.specs.Layout.{TableLayout, View, find, root_named, root_shape, view_shape}
 
 -- the rectangles of an edit are rectangles of the plane, and that of a new buffer is in limits
 abbrev pub IsProperEdit : BufferEdit → Type 0
@@ -55,7 +48,7 @@ if_moved (Err refused) next = Some OutOfBounds
 abbrev pub add_refused : TableLayout → List ℕ → Refusal
 add_refused layout name =
     if is_some (find layout.buffers name) then Some NameTaken
-    else if nat_le most_buffers (length layout.buffers) then Some TooManyBuffers
+    else if nat_le max_buffers (length layout.buffers) then Some TooManyBuffers
     else None
 
 -- a sample for each channel of a format, none above the largest

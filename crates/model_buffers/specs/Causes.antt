@@ -2,11 +2,14 @@
 use Rattle.std.specs.Prelude.{◌≡◌, ◌≢◌, ℕ, ◌<◌, ◌≤◌, ◌⊎◌, ℤ, List, length, None, IsSome, Result, Ok, Err}
 use Rattle.plane_rect.specs.declared.rect.RectRefused.{RectRefused}
 use Rattle.plane_rect.specs.Rectangle.{Rectangle, Includes, shifted}
+use Rattle.pixel_formats.specs.Limits.{max_buffers}
 use Rattle.model_images.specs.FromRaw.{byte_count}
 use Rattle.model_buffers.specs.declared.refused.EditRefused.{EditRefused}
 use Rattle.model_buffers.specs.declared.refused.EditRefused.TheVariants.{UnknownBuffer, NameTaken, OutOfBounds, WrongSize, Formats, TooManyBuffers}
-use Rattle.model_buffers.specs.BufferEdit.{BufferEdit, Copy, Create, Duplicate, Fill, IsPixel, Put, Sub}
-use Rattle.model_buffers.specs.Layout.{TableLayout, find, buffer_shape, most_buffers}
+use Rattle.model_buffers.specs.declared.edit.BufferEdit.{BufferEdit}
+use Rattle.model_buffers.specs.declared.edit.BufferEdit.TheVariants.{Copy, Create, Duplicate, Fill, Put, Sub}
+use Rattle.model_buffers.specs.BufferEdit.{IsPixel}
+use Rattle.model_buffers.specs.Layout.{TableLayout, find, buffer_shape}
 
 -- a buffer has the name
 abbrev pub IsKnown : TableLayout → List ℕ → Type 0
@@ -20,11 +23,11 @@ IsUnknown layout name = find layout.buffers name ≡ None
 
 -- it is new, and there is room for it
 abbrev pub IsAddable : TableLayout → List ℕ → Type 0
-IsAddable layout name = IsUnknown layout name × (length layout.buffers < most_buffers)
+IsAddable layout name = IsUnknown layout name × (length layout.buffers < max_buffers)
 
 abbrev pub AddRefused : TableLayout → List ℕ → EditRefused → Type 0
 AddRefused layout name NameTaken = IsKnown layout name
-AddRefused layout name TooManyBuffers = IsUnknown layout name × (most_buffers ≤ length layout.buffers)
+AddRefused layout name TooManyBuffers = IsUnknown layout name × (max_buffers ≤ length layout.buffers)
 AddRefused layout name _ = ⊥
 
 -- the same where another buffer must be there

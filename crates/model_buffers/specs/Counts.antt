@@ -3,7 +3,8 @@ use Rattle.std.specs.Prelude.{ℕ, ◌+◌, ◌*◌, ◌≤◌, Result, Ok, Err}
 use Rattle.plane_rect.specs.declared.rect.RectRefused.{RectRefused}
 use Rattle.plane_rect.specs.Rectangle.{Rectangle, shifted}
 use Rattle.model_images.specs.TileCounts.{tile_count}
-use Rattle.model_buffers.specs.BufferEdit.{BufferEdit, Copy, Create, Duplicate, Fill, Put, Sub}
+use Rattle.model_buffers.specs.declared.edit.BufferEdit.{BufferEdit}
+use Rattle.model_buffers.specs.declared.edit.BufferEdit.TheVariants.{Copy, Create, Duplicate, Fill, Put, Sub}
 
 -- those that meet a rectangle after a move, where that is one
 abbrev pub moved_count : Result Rectangle RectRefused → ℕ

@@ -9,7 +9,9 @@ use Rattle.model_images.specs.Image.{Image, at}
 use Rattle.model_images.specs.Paint.{blank, painted}
 use Rattle.model_images.specs.FromRaw.{pixels_from_raw}
 use Rattle.model_buffers.specs.declared.refused.EditRefused.{EditRefused}
-use Rattle.model_buffers.specs.BufferEdit.{BufferEdit, Copy, Create, Duplicate, Fill, Put, Refusal, Sub, added, edit_refused, part_of}
+use Rattle.model_buffers.specs.declared.edit.BufferEdit.{BufferEdit}
+use Rattle.model_buffers.specs.declared.edit.BufferEdit.TheVariants.{Copy, Create, Duplicate, Fill, Put, Sub}
+use Rattle.model_buffers.specs.BufferEdit.{Refusal, added, edit_refused, part_of}
 use Rattle.model_buffers.specs.Layout.{View, find}
 use Rattle.model_buffers.specs.Table.{Table, image_of, layout_of, root_image}
 

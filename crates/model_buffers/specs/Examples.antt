@@ -2,15 +2,15 @@
 use Rattle.std.specs.Prelude.{ℕ, pos, List, [], ◌∷◌, map, replicate, codes, Ok, Err}
 use Rattle.std.specs.List.{range_with_len}
 use Rattle.plane_rect.specs.Rectangle.{Rectangle, placed}
+use Rattle.pixel_formats.specs.Limits.{max_buffers}
 use Rattle.pixel_formats.specs.declared.format.Format.TheVariants.{Y8, RGB8}
 use Rattle.model_images.specs.Image.{Image}
 use Rattle.model_images.specs.Abyss.{raw_with}
 use Rattle.pixel_formats.specs.declared.abyss.Abyss.TheVariants as abyss
 use Rattle.model_images.specs.Examples.{positions_from}
 use Rattle.model_images.specs.Paint.{no_image}
-use Rattle.model_buffers.specs.BufferEdit.{Create, Duplicate, Fill, Put, Sub}
+use Rattle.model_buffers.specs.declared.edit.BufferEdit.TheVariants.{Create, Duplicate, Fill, Put, Sub}
 use Rattle.model_buffers.specs.Edits.{Edited, edited_table}
-use Rattle.model_buffers.specs.Layout.{most_buffers}
 use Rattle.model_buffers.specs.Table.{Table, image_of, no_buffers}
 
 -- names of buffers
@@ -83,5 +83,5 @@ one_color = edited_table no_buffers (Create first_name RGB8 (positions_from (pos
 abbrev pub full_table : Table
 full_table = record {
   roots = [];
-  buffers = map (λ (n : ℕ). (replicate n 97, record { root = first_name; extent = positions_from (pos 0) 1 })) (range_with_len 1 most_buffers);
+  buffers = map (λ (n : ℕ). (replicate n 97, record { root = first_name; extent = positions_from (pos 0) 1 })) (range_with_len 1 max_buffers);
 }

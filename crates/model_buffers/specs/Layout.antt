@@ -5,12 +5,10 @@ use Rattle.std.specs.Map.{lookup}
 use Rattle.std.specs.Option.{option_map}
 use Rattle.std.specs.Str.{bytes_eq}
 use Rattle.plane_rect.specs.Rectangle.{Rectangle, IsRectangle, InLimits, Includes}
-use Rattle.pixel_formats.specs.declared.format.Format.{Format}
-use Rattle.model_images.specs.Shape.{Fact, Shape, no_shape}
-
--- the largest number of buffers in a table
-abbrev pub most_buffers : ℕ
-most_buffers = 64
+use Rattle.pixel_formats.specs.Limits.{max_buffers}
+use Rattle.model_graphs.specs.Facts.{Facts}
+use Rattle.model_graphs.specs.Shapes.{Shape, no_shape}
+use Rattle.model_graphs.specs.declared.buffer.BufferFact.{BufferFact}
 
 -- What the name of a buffer stands for: the name of a root, and the part of the root's image that is seen.
 pub record View : Type 0 where
@@ -46,12 +44,14 @@ buffer_shape layout name = seen_shape layout (find layout.buffers name)
 abbrev pub root_named : TableLayout → List ℕ → Option (List ℕ)
 root_named layout name = option_map (λ (view : View). view.root) (find layout.buffers name)
 
--- what a graph knows of each buffer, under its name
-abbrev pub view_fact : TableLayout → View → Fact
-view_fact layout view = record { root = view.root; shape = view_shape layout view }
+-- what a graph knows of a buffer
+abbrev pub fact_in : TableLayout → List ℕ → View → BufferFact
+fact_in layout name view =
+    record { name = name; root = view.root; bounds = view.extent; format = (root_shape layout view.root).format }
 
-abbrev pub facts_of : TableLayout → List (List ℕ × Fact)
-facts_of layout = map (λ (entry : List ℕ × View). (entry.0, view_fact layout entry.1)) layout.buffers
+-- what it knows of all buffers, in their order
+abbrev pub facts_of : TableLayout → Facts
+facts_of layout = map (λ (entry : List ℕ × View). fact_in layout entry.0 entry.1) layout.buffers
 
 -- ---- layouts that edits make
 
@@ -73,7 +73,7 @@ AreDistinct {X} entries = AllPairs (λ (a b : List ℕ × X). a.0 ≢ b.0) entri
 -- A layout: at most 64 buffers of distinct names, each of which sees a part of a root, and roots of distinct names,
 -- each of which is a buffer's name too.
 pub record IsLayout (layout : TableLayout) : Type 0 where
-  pub few : length layout.buffers ≤ most_buffers
+  pub few : length layout.buffers ≤ max_buffers
   pub buffer_names : AreDistinct layout.buffers
   pub root_names : AreDistinct layout.roots
   pub named : (root : List ℕ) → IsSome (find layout.roots root) → IsSome (find layout.buffers root)

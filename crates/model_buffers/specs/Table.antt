@@ -2,7 +2,7 @@
 use Rattle.std.specs.Prelude.{ℕ, List, [], map, Option, Some, None, IfSome, unwrap_or}
 use Rattle.model_images.specs.Image.{Image, IsImage}
 use Rattle.model_images.specs.Paint.{cut, no_image}
-use Rattle.model_images.specs.Shape.{Shape, shape_of}
+use Rattle.model_graphs.specs.Shapes.{Shape, shape_of_image}
 use Rattle.model_buffers.specs.Layout.{IsLayout, TableLayout, View, find, root_named}
 
 -- The images of the roots by the roots' names, and what stands for each name of a buffer.
@@ -17,7 +17,7 @@ no_buffers = record { roots = []; buffers = [] }
 -- the table without its samples
 abbrev pub layout_of : Table → TableLayout
 layout_of table = record {
-  roots = map (λ (entry : List ℕ × Image). (entry.0, shape_of entry.1)) table.roots;
+  roots = map (λ (entry : List ℕ × Image). (entry.0, shape_of_image entry.1)) table.roots;
   buffers = table.buffers;
 }
 

@@ -4,7 +4,7 @@ ghost use Rattle.std.specs.Prelude.{◌≡◌, List, ℕ, IfOk};
 ghost use Rattle.plane_rect.specs.Rectangle.{IsRectangle, Rectangle, meet};
 ghost use Rattle.pixel_formats.specs.declared.format.Format.{Format};
 ghost use Rattle.model_images.specs.Paint.{blank, cut};
-ghost use Rattle.model_buffers.specs.BufferEdit.{Create, Duplicate, Sub};
+ghost use Rattle.model_buffers.specs.declared.edit.BufferEdit.TheVariants.{Create, Duplicate, Sub};
 ghost use Rattle.model_buffers.specs.Edits.{edited_table};
 ghost use Rattle.model_buffers.specs.Effects.{HasOwnRoot, IsAdded};
 ghost use Rattle.model_buffers.specs.Table.{IsTable, Table, image_of, root_of};

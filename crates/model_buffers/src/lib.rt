@@ -5,6 +5,7 @@
 pub mod adding;
 pub mod causes;
 pub mod counts;
+mod edit;
 pub mod examples;
 pub mod layouts;
 mod refused;
@@ -12,4 +13,5 @@ pub mod sharing;
 pub mod tables;
 pub mod writing;
 
+pub use edit::{BufferEdit, RawBytes};
 pub use refused::EditRefused;

@@ -2,7 +2,7 @@
 
 ghost use Rattle.std.specs.Prelude.{◌≡◌, List, ℕ, IfOk};
 ghost use Rattle.plane_rect.specs.Rectangle.{IsRectangle, Rectangle};
-ghost use Rattle.model_buffers.specs.BufferEdit.{Duplicate, Sub};
+ghost use Rattle.model_buffers.specs.declared.edit.BufferEdit.TheVariants.{Duplicate, Sub};
 ghost use Rattle.model_buffers.specs.Edits.{edited_table};
 ghost use Rattle.model_buffers.specs.Effects.{IsWritten, ShowsOver};
 ghost use Rattle.model_buffers.specs.Table.{IsTable, Table, image_of};

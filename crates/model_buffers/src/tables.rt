@@ -2,8 +2,9 @@
 
 ghost use Rattle.std.specs.Prelude.{◌≡◌, ◌<◌, List, ℕ, IfOk, Some, length, slice_index_or};
 ghost use Rattle.model_images.specs.Image.{Image, IsImage};
-ghost use Rattle.model_images.specs.Shape.{shape_of};
-ghost use Rattle.model_buffers.specs.BufferEdit.{BufferEdit, IsProperEdit};
+ghost use Rattle.model_graphs.specs.Shapes.{shape_of_image};
+ghost use Rattle.model_buffers.specs.declared.edit.BufferEdit.{BufferEdit};
+ghost use Rattle.model_buffers.specs.BufferEdit.{IsProperEdit};
 ghost use Rattle.model_buffers.specs.Edits.{edited_table};
 ghost use Rattle.model_buffers.specs.Layout.{IsValidShape, IsLayout, TableLayout, View, find};
 ghost use Rattle.model_buffers.specs.Table.{IsTable, Table, image_of, no_buffers};
@@ -20,7 +21,7 @@ pub fn entries_are_found()
 /// limits.
 pub fn images_are_kept()
     ensures whole { (table : Table) (name : List ℕ) → IsTable table → IsImage (image_of table name) }
-    ensures shape { (table : Table) (name : List ℕ) → IsTable table → IsValidShape (shape_of (image_of table name)) }
+    ensures shape { (table : Table) (name : List ℕ) → IsTable table → IsValidShape (shape_of_image (image_of table name)) }
 {}
 
 /// A table without buffers is a table, and so is one after an edit.

@@ -5,7 +5,7 @@ ghost use Rattle.plane_rect.specs.Rectangle.{Inside, Rectangle, plane_coordinate
 ghost use Rattle.pixel_formats.specs.Format.{channels};
 ghost use Rattle.model_images.specs.Image.{at};
 ghost use Rattle.model_images.specs.FromRaw.{pixels_from_raw};
-ghost use Rattle.model_buffers.specs.BufferEdit.{Copy, Fill, Put};
+ghost use Rattle.model_buffers.specs.declared.edit.BufferEdit.TheVariants.{Copy, Fill, Put};
 ghost use Rattle.model_buffers.specs.Edits.{edited_table, evenly, moved_samples};
 ghost use Rattle.model_buffers.specs.Effects.{IsWritten};
 ghost use Rattle.model_buffers.specs.Table.{IsTable, Table, image_of};

@@ -9,3 +9,8 @@ pub mod Positions
 pub mod Laws
 pub mod FromRawLaws
 pub mod Tests
+pub mod Agreeing
+pub mod AgreeingLevels
+pub mod HeldTiles
+pub mod PutTiles
+pub mod CountLaws

@@ -3,7 +3,7 @@ use Rattle.std.specs.Prelude.{◌≡◌, ◌⊎◌, ℕ}
 use Rattle.plane_rect.specs.Rectangle.{Rectangle, Inside}
 use Rattle.model_images.specs.Image.{Image, at}
 
--- Two images have one box and one format, and the same samples at each position that does not are in a rectangle.
+-- Two images have one box and one format, and the same samples at each position outside a rectangle.
 pub record AgreeOutside (a b : Image) (r : Rectangle) : Type 0 where
   pub box : a.box ≡ b.box
   pub format : a.format ≡ b.format

@@ -1,6 +1,7 @@
 -- Images at reduced levels: each level halves the one before it.
 use Rattle.std.specs.Prelude.{ℕ, zero, suc, ◌+◌, ◌-◌, ◌*◌}
 use Rattle.plane_rect.specs.Rectangle.{Rectangle, halved, origin}
+use Rattle.plane_rect.specs.Tile.{Tile, tile_side}
 use Rattle.pixel_formats.specs.Average.{mean_of_four}
 use Rattle.model_images.specs.Image.{Image, at, image_from_fn}
 
@@ -30,3 +31,12 @@ level image (suc z) = halved_image (level image z)
 abbrev pub level_box : Rectangle → ℕ → Rectangle
 level_box box zero = box
 level_box box (suc z) = halved (level_box box z)
+
+-- the 128 by 128 positions of a level that are averaged for a tile of the next level
+abbrev pub square_below : Tile → Rectangle
+square_below tile = record {
+  first_column = doubled (tile_side * tile.column);
+  first_row = doubled (tile_side * tile.row);
+  width = 2 * tile_side;
+  height = 2 * tile_side;
+}

@@ -8,7 +8,6 @@ pub mod FromRaw
 pub mod Raw
 pub mod Paint
 pub mod Agreement
-pub mod Shape
 pub mod Tiles
 pub use Rattle.plane_rect.specs.Rectangle
 pub use Rattle.pixel_formats.specs.Format

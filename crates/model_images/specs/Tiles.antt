@@ -1,5 +1,5 @@
 -- Images that are held by the raw bytes of tiles: by those of 64 by 64 positions, whatever the box.
-use Rattle.std.specs.Prelude.{◌≡◌, ℕ, ◌*◌, ◌<◌, List, [], ◌∷◌, length, Option}
+use Rattle.std.specs.Prelude.{◌≡◌, ℕ, ◌*◌, ◌<◌, List, [], ◌∷◌, length, IfSome, Option}
 use Rattle.std.specs.Option.{option_map_or}
 use Rattle.plane_rect.specs.Rectangle.{Rectangle, Inside, empty, hull}
 use Rattle.plane_rect.specs.Tile.{Tile, tile_at, tile_rectangle, tile_square}
@@ -41,3 +41,7 @@ abbrev pub AreZeroOutside : Rectangle → Format → Tile → List ℕ → Type 
 AreZeroOutside box format tile bytes =
     (u v c : ℕ) → Inside u v (tile_square tile) → ¬ Inside u v box → c < channels format →
     pixels_from_raw (tile_square tile) format bytes u v c ≡ 0
+
+-- each tile that is held is zero outside a box
+abbrev pub AreZeroAround : Rectangle → Format → HeldTiles → Type 0
+AreZeroAround box format held = (tile : Tile) → IfSome (held tile) (AreZeroOutside box format tile)

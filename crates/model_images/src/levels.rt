@@ -1,12 +1,14 @@
 //! The laws of levels.
 
-ghost use Rattle.std.specs.Prelude.{◌≡◌, ◌⊎◌, ◌↔◌, ℕ, ◌+◌, ◌<◌, ◌≤◌};
-ghost use Rattle.plane_rect.specs.Rectangle.{InLimits, IsRectangle, Inside, InsideHalved, Rectangle, empty, half, halved};
+ghost use Rattle.std.specs.Prelude.{◌≡◌, ◌⊎◌, ◌↔◌, ℕ, ◌+◌, ◌/◌, ◌<◌, ◌≤◌};
+ghost use Rattle.plane_rect.specs.Rectangle.{InLimits, IsRectangle, Inside, InsideHalved, Rectangle, empty, half, halved, origin};
 ghost use Rattle.pixel_formats.specs.Average.{mean_of_four};
 ghost use Rattle.pixel_formats.specs.Format.{channels};
-ghost use Rattle.model_images.specs.Agreement.{AgreeOutside};
+ghost use Rattle.model_images.specs.Agreement.{AgreeEverywhere, AgreeOutside};
 ghost use Rattle.model_images.specs.Image.{Image, IsImage, at};
-ghost use Rattle.model_images.specs.Level.{doubled, halved_image, level};
+ghost use Rattle.model_images.specs.Level.{doubled, halved_image, level, level_box, mean_at, square_below};
+ghost use Rattle.model_images.specs.Raw.{tile_bytes};
+ghost use Rattle.plane_rect.specs.Tile.{Tile};
 
 /// Level 0 is the image, and each next level halves the one before it.
 pub fn level_after_level()
@@ -30,6 +32,7 @@ pub fn box_of_a_level()
         IsRectangle image.box → InLimits image.box → InLimits (level image z).box }
     ensures empty { (image : Image) (z : ℕ) → IsRectangle image.box →
         ((level image z).box ≡ empty) ↔ (image.box ≡ empty) }
+    ensures value { (image : Image) (z : ℕ) → (level image z).box ≡ level_box image.box z }
 {}
 
 /// The box of a halved image has the half of each place of the image's, and no other. A position is
@@ -69,4 +72,27 @@ pub fn levels_stay_in_range()
 pub fn halving_is_local()
     ensures { (a b : Image) (r : Rectangle) →
         IsRectangle r → AgreeOutside a b r → AgreeOutside (halved_image a) (halved_image b) (halved r) }
+{}
+
+/// From the first column and row of halves on, a halved image has the mean of four samples also
+/// outside its box, where each of them is 0. It has nothing before them.
+pub fn halved_everywhere()
+    ensures mean { (image : Image) (u v c : ℕ) → IsRectangle image.box →
+        origin / 2 ≤ u → origin / 2 ≤ v → at (halved_image image) u v c ≡ mean_at image u v c }
+    ensures nothing { (image : Image) (u v c : ℕ) →
+        (u < origin / 2) ⊎ (v < origin / 2) → at (halved_image image) u v c ≡ 0 }
+{}
+
+/// Images of one format with the same samples everywhere have such levels, whatever their boxes.
+pub fn levels_agree()
+    ensures { (a b : Image) (z : ℕ) → IsRectangle a.box → IsRectangle b.box →
+        AgreeEverywhere a b → AgreeEverywhere (level a z) (level b z) }
+{}
+
+/// The bytes of a tile of a halved image depend on the samples of the square below it alone.
+pub fn halved_tile_is_local()
+    ensures { (a b : Image) (tile : Tile) →
+        IsRectangle a.box → IsRectangle b.box → a.format ≡ b.format →
+        ((u v c : ℕ) → Inside u v (square_below tile) → at a u v c ≡ at b u v c) →
+        tile_bytes (halved_image a) tile ≡ tile_bytes (halved_image b) tile }
 {}

@@ -12,7 +12,8 @@ use Rattle.model_states.specs.Edits.{Remove, Set, StateRefused, has_node}
 use Rattle.model_states.specs.History.{History, committed, redone, undone}
 use Rattle.model_operations.specs.Meanings.{int_meanings}
 use Rattle.model_sessions.specs.Sessions.{fit}
-use Rattle.model_buffers.specs.BufferEdit.{BufferEdit, Copy, Create, Duplicate, Fill, Put, Sub}
+use Rattle.model_buffers.specs.declared.edit.BufferEdit.{BufferEdit}
+use Rattle.model_buffers.specs.declared.edit.BufferEdit.TheVariants.{Copy, Create, Duplicate, Fill, Put, Sub}
 use Rattle.model_buffers.specs.Edits.{edited_table}
 use Rattle.model_sessions.specs.Tables.{sources_of}
 use Rattle.run_texts.specs.Events.{Event}

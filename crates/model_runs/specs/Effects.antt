@@ -12,7 +12,8 @@ use Rattle.model_operations.specs.declared.operation.IntOp.{IntOp}
 use Rattle.model_graphs.specs.Node.{index_of}
 use Rattle.model_buffers.specs.declared.refused.EditRefused.{EditRefused}
 use Rattle.model_buffers.specs.declared.refused.EditRefused.TheVariants as edit_refusals
-use Rattle.model_buffers.specs.BufferEdit.{BufferEdit, Copy, Create, Duplicate, Fill, Put, Sub}
+use Rattle.model_buffers.specs.declared.edit.BufferEdit.{BufferEdit}
+use Rattle.model_buffers.specs.declared.edit.BufferEdit.TheVariants.{Copy, Create, Duplicate, Fill, Put, Sub}
 use Rattle.model_buffers.specs.Counts.{tiles_added}
 use Rattle.model_buffers.specs.Edits.{Edited, edited_table}
 use Rattle.model_buffers.specs.Layout.{View, find}

@@ -1,4 +1,4 @@
-use Rattle.model_buffers.specs.BufferEdit.{Copy}
+use Rattle.model_buffers.specs.declared.edit.BufferEdit.TheVariants.{Copy}
 use Rattle.model_buffers.proofs.ExactLaws as exact
 use Rattle.model_buffers.proofs.causes.copy_answers.Goals as goal
 

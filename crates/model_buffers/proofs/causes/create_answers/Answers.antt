@@ -1,4 +1,4 @@
-use Rattle.model_buffers.specs.BufferEdit.{Create}
+use Rattle.model_buffers.specs.declared.edit.BufferEdit.TheVariants.{Create}
 use Rattle.model_buffers.proofs.ExactLaws as exact
 use Rattle.model_buffers.proofs.causes.create_answers.Goals as goal
 

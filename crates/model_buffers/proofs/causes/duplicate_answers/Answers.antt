@@ -1,4 +1,4 @@
-use Rattle.model_buffers.specs.BufferEdit.{Duplicate}
+use Rattle.model_buffers.specs.declared.edit.BufferEdit.TheVariants.{Duplicate}
 use Rattle.model_buffers.proofs.ExactLaws as exact
 use Rattle.model_buffers.proofs.causes.duplicate_answers.Goals as goal
 

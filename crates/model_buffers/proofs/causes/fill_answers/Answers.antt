@@ -1,4 +1,4 @@
-use Rattle.model_buffers.specs.BufferEdit.{Fill}
+use Rattle.model_buffers.specs.declared.edit.BufferEdit.TheVariants.{Fill}
 use Rattle.model_buffers.proofs.ExactLaws as exact
 use Rattle.model_buffers.proofs.causes.fill_answers.Goals as goal
 

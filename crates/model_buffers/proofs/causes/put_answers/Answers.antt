@@ -1,4 +1,4 @@
-use Rattle.model_buffers.specs.BufferEdit.{Put}
+use Rattle.model_buffers.specs.declared.edit.BufferEdit.TheVariants.{Put}
 use Rattle.model_buffers.proofs.ExactLaws as exact
 use Rattle.model_buffers.proofs.causes.put_answers.Goals as goal
 

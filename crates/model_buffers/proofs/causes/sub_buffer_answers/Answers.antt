@@ -1,4 +1,4 @@
-use Rattle.model_buffers.specs.BufferEdit.{Sub}
+use Rattle.model_buffers.specs.declared.edit.BufferEdit.TheVariants.{Sub}
 use Rattle.model_buffers.proofs.ExactLaws as exact
 use Rattle.model_buffers.proofs.causes.sub_buffer_answers.Goals as goal
 

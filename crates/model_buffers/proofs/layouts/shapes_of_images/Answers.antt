@@ -6,6 +6,3 @@ returns-clause-buffer c = laws.buffer_shape-is
 
 pub returns-clause-root : goal.returns-clause-root
 returns-clause-root c = laws.root_shape-is
-
-pub returns-clause-facts : goal.returns-clause-facts
-returns-clause-facts c = laws.facts-found

@@ -1,0 +1,11 @@
+use Rattle.model_images.proofs.Agreeing as laws
+use Rattle.model_images.proofs.agreement.parts_of_images.Goals as goal
+
+pub returns-clause-samples : goal.returns-clause-samples
+returns-clause-samples c = laws.at-cut
+
+pub returns-clause-part : goal.returns-clause-part
+returns-clause-part c = laws.cut-cut
+
+pub returns-clause-wider : goal.returns-clause-wider
+returns-clause-wider c = laws.cut-wider

@@ -1,0 +1,8 @@
+use Rattle.model_images.proofs.HeldTiles as laws
+use Rattle.model_images.proofs.tiles.raw_bytes_of_samples.Goals as goal
+
+pub returns-clause-samples : goal.returns-clause-samples
+returns-clause-samples c = laws.raw-samples
+
+pub returns-clause-zeros : goal.returns-clause-zeros
+returns-clause-zeros c = laws.raw-zeros
