@@ -5,7 +5,8 @@ use Rattle.std.specs.List.{IsDistinct}
 use Rattle.std.specs.Result.{result_unwrap_or}
 use Rattle.std.proofs.lemmas.Bool.Decides.{nat_tests}
 use Rattle.plane_rect.specs.Rectangle.{Rectangle}
-use Rattle.model_buffers.specs.BufferEdit.{BufferEdit, written_by}
+use Rattle.model_buffers.specs.declared.edit.BufferEdit.{BufferEdit}
+use Rattle.model_buffers.specs.BufferEdit.{written_by}
 use Rattle.model_buffers.specs.Edits.{Edited, edited_table}
 use Rattle.model_buffers.specs.Table.{Table, layout_of}
 use Rattle.model_graphs.specs.Laws.{Distinguishes, IsBoxed, KeepsLaws}

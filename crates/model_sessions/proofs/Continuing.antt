@@ -10,7 +10,9 @@ use Rattle.model_images.specs.Image.{Image}
 use Rattle.model_images.specs.Paint.{blank}
 use Rattle.model_images.specs.FromRaw.{pixels_from_raw}
 use Rattle.model_images.proofs.Laws.{AgreeOutside-refl}
-use Rattle.model_buffers.specs.BufferEdit.{BufferEdit, Create, Sub, Duplicate, Fill, Put, Copy, IsProperEdit, on_root}
+use Rattle.model_buffers.specs.declared.edit.BufferEdit.{BufferEdit}
+use Rattle.model_buffers.specs.declared.edit.BufferEdit.TheVariants.{Create, Sub, Duplicate, Fill, Put, Copy}
+use Rattle.model_buffers.specs.BufferEdit.{IsProperEdit, on_root}
 use Rattle.model_buffers.specs.Edits.{edited_table, evenly, moved_samples}
 use Rattle.model_buffers.specs.Effects.{IsAdded, IsWritten}
 use Rattle.model_buffers.specs.Layout.{View, find}

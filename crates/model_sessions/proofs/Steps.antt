@@ -7,7 +7,8 @@ use Rattle.std.proofs.lemmas.List.{length-append}
 use Rattle.std.proofs.lemmas.Option.{same_Some}
 use Rattle.pixel_formats.specs.Limits.{max_undoable}
 use Rattle.plane_rect.specs.Rectangle.{Rectangle}
-use Rattle.model_buffers.specs.BufferEdit.{BufferEdit, IsProperEdit, written_by}
+use Rattle.model_buffers.specs.declared.edit.BufferEdit.{BufferEdit}
+use Rattle.model_buffers.specs.BufferEdit.{IsProperEdit, written_by}
 use Rattle.model_buffers.specs.Edits.{Edited, edited_table}
 use Rattle.model_buffers.specs.Table.{IsTable, Table, layout_of, no_buffers}
 use Rattle.model_buffers.proofs.SeenLaws.{IsTable-no_buffers}

@@ -3,7 +3,7 @@ use Rattle.std.specs.Prelude.{ℕ, List, [], ◌∷◌, map, length, codes, pos,
 use Rattle.plane_rect.specs.Rectangle.{Rectangle, placed}
 use Rattle.pixel_formats.specs.declared.format.Format.TheVariants.{Y8}
 use Rattle.pixel_formats.specs.declared.abyss.Abyss.TheVariants as policies
-use Rattle.model_buffers.specs.BufferEdit.{Create, Fill}
+use Rattle.model_buffers.specs.declared.edit.BufferEdit.TheVariants.{Create, Fill}
 use Rattle.model_buffers.specs.Table.{Table}
 use Rattle.model_operations.specs.declared.operation.IntOp.{IntOp}
 use Rattle.model_operations.specs.declared.operation.IntOp.TheVariants.{BoxMean, Checker, Color, Crop}

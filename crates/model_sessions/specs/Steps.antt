@@ -3,7 +3,8 @@ use Rattle.std.specs.Prelude.{ℕ, ⊤, List, [], ◌∷◌, fold, Option, Some,
 use Rattle.std.specs.List.{AllByRecursion}
 use Rattle.std.specs.Result.{result_unwrap_or}
 use Rattle.plane_rect.specs.Rectangle.{Rectangle}
-use Rattle.model_buffers.specs.BufferEdit.{BufferEdit, IsProperEdit, written_by}
+use Rattle.model_buffers.specs.declared.edit.BufferEdit.{BufferEdit}
+use Rattle.model_buffers.specs.BufferEdit.{IsProperEdit, written_by}
 use Rattle.model_buffers.specs.Edits.{Edited, edited_table}
 use Rattle.model_buffers.specs.Table.{Table, layout_of, no_buffers}
 use Rattle.model_graphs.specs.declared.node.NodeEdit.{NodeEdit}

@@ -3,10 +3,8 @@ use Rattle.std.specs.Prelude.{◌≡◌, ℕ, List, map, Some}
 use Rattle.model_images.specs.Agreement.{AgreeOutside}
 use Rattle.model_images.specs.Image.{Image}
 use Rattle.model_images.specs.Paint.{cut}
-use Rattle.model_images.specs.Shape.{Fact}
-use Rattle.model_buffers.specs.Layout.{TableLayout, View, facts_of}
+use Rattle.model_buffers.specs.Layout.{View, facts_of}
 use Rattle.model_buffers.specs.Table.{Table, image_of, layout_of, root_image, root_of}
-use Rattle.model_graphs.specs.declared.buffer.BufferFact.{BufferFact}
 use Rattle.model_graphs.specs.Evaluation.{Buffers}
 use Rattle.model_graphs.specs.Facts.{Facts, shapes_of_facts}
 use Rattle.model_graphs.specs.Shapes.{Shapes}
@@ -14,22 +12,9 @@ use Rattle.model_states.specs.Rectangles.{Rectangles, rectangle_of}
 
 -- ---- what is known without samples
 
--- what a graph knows of a buffer of a layout
-abbrev pub buffer_fact : List ℕ × Fact → BufferFact
-buffer_fact entry = record {
-  name = entry.0;
-  root = entry.1.root;
-  bounds = entry.1.shape.box;
-  format = entry.1.shape.format;
-}
-
--- of all buffers of a layout, in their order
-abbrev pub layout_facts : TableLayout → Facts
-layout_facts layout = map buffer_fact (facts_of layout)
-
--- of all buffers of a table
+-- what a graph knows of the buffers of a table
 abbrev pub table_facts : Table → Facts
-table_facts table = layout_facts (layout_of table)
+table_facts table = facts_of (layout_of table)
 
 -- their boxes and formats, by their names
 abbrev pub table_shapes : Table → Shapes

@@ -4,23 +4,23 @@ ghost use Rattle.std.specs.Prelude.{◌≡◌, ℕ, List, IfOk};
 ghost use Rattle.std.specs.List.{IsDistinct};
 ghost use Rattle.std.specs.Option.{option_map};
 ghost use Rattle.std.specs.Str.{bytes_eq};
-ghost use Rattle.model_buffers.specs.BufferEdit.{BufferEdit, IsProperEdit};
+ghost use Rattle.model_buffers.specs.declared.edit.BufferEdit.{BufferEdit};
+ghost use Rattle.model_buffers.specs.BufferEdit.{IsProperEdit};
 ghost use Rattle.model_buffers.specs.Edits.{edited_table};
-ghost use Rattle.model_buffers.specs.Layout.{TableLayout, find, view_fact};
-ghost use Rattle.model_buffers.specs.Table.{IsTable, Table, image_of};
+ghost use Rattle.model_buffers.specs.Layout.{fact_in, find};
+ghost use Rattle.model_buffers.specs.Table.{IsTable, Table, image_of, layout_of};
 ghost use Rattle.model_graphs.specs.Evaluation.{buffer_image};
 ghost use Rattle.model_graphs.specs.Facts.{AreImagesOf, fact_names, fact_of};
 ghost use Rattle.model_states.specs.Rectangles.{Rectangles};
 ghost use Rattle.model_sessions.specs.Histories.{AreTablesSeparated};
-ghost use Rattle.model_sessions.specs.Tables.{Continues, buffer_fact, layout_facts, table_facts, table_images};
+ghost use Rattle.model_sessions.specs.Tables.{Continues, table_facts, table_images};
 ghost use Rattle.model_sessions.specs.Steps.{rectangles_by};
 
 /// A table's buffers have distinct names, and a graph knows and reads them as they are.
 pub fn tables_are_sources()
     ensures distinct { (table : Table) → IsTable table → IsDistinct bytes_eq (fact_names (table_facts table)) }
-    ensures found { (layout : TableLayout) (name : List ℕ) →
-        fact_of (layout_facts layout) name
-        ≡ option_map (λ view. buffer_fact (name, view_fact layout view)) (find layout.buffers name) }
+    ensures found { (table : Table) (name : List ℕ) →
+        fact_of (table_facts table) name ≡ option_map (fact_in (layout_of table) name) (find table.buffers name) }
     ensures shapes { (table : Table) → AreImagesOf (table_facts table) (table_images table) }
     ensures images { (table : Table) (name : List ℕ) →
         buffer_image (table_images table) name ≡ image_of table name }
