@@ -107,12 +107,12 @@ returns-clause-generated c =
     let long : length piece ≡ rows * count = c.write_rows.ensures.len ∙ omega (arith, length-take len (drop start bytes), length-drop start bytes, room, at_len) in
     let here : rect.first_row + j ≡ row = omega (arith, c.requires.row) in
     let many : source + rows - source ≡ rows = omega arith in
-    let image_from_fn : RowsFilled (moved_to source rect) image.format f rows piece =
+    let filled : RowsFilled (moved_to source rect) image.format f rows piece =
     subst (λ (i : ℕ). RowsFilled (moved_to source rect) image.format f i piece) many c.write_rows.ensures.generated in
     let few : rows ≤ c.in-Some.sources.end - source = omega (arith, c.min-rows.ensures) in
     subst (λ (i : ℕ). RowsFilled rect image.format f i (put_mid start len bytes piece)) all
     (RowsFilled-written rect image.format f j bytes (put_mid start len bytes piece) c.requires.above count is_count
-    start len rows source piece at_start at_len room long refl image_from_fn
+    start len rows source piece at_start at_len room long refl filled
     (λ i u channel inside.
     sym (c.in-Some.ensures.reads i (omega (arith, inside, few)) image u channel (sym c.rect-2.ensures.value))
     ∙ ap (λ (v : ℕ). f u v channel) (omega (arith, here))))
