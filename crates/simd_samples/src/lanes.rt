@@ -4,6 +4,8 @@ ghost use Rattle.std.specs.Prelude.{◌≡◌, ℕ, ◌+◌, ◌-◌, ◌*◌, �
 ghost use Rattle.simd_samples.specs.Lanes.{Hold, HoldThree, HoldTwo};
 ghost use Rattle.pixel_formats.specs.Sample.{added, max_sample_of, mean_of_four, mean_of_three, sample_at, thresholded, unit_of, scaled_by};
 
+use crate::wide_lanes::WideLanes;
+
 /// A vector of sixteen samples of one depth, which is one byte or two. Lane 0 is the leftmost.
 pub trait Lanes: Copy {
     /// The sample in each lane.
@@ -32,6 +34,15 @@ pub trait Lanes: Copy {
         requires { BYTES ≤ length dst.old }
         ensures here { Hold (sample_at depth dst.new) (lane self) }
         ensures after { (k : ℕ) → BYTES ≤ k → slice_index dst.new k ≡ slice_index dst.old k };
+
+    /// Widens each sample to 32 bits.
+    fn widen(self) -> WideLanes
+        ensures { Hold (slice_index result) (lane self) };
+
+    /// Narrows numbers that are samples.
+    fn narrow(wide: WideLanes) -> Self
+        requires { (j : ℕ) → j < 16 → slice_index wide j ≤ max_sample_of depth }
+        ensures { Hold (lane result) (slice_index wide) };
 
     /// The largest sample in each lane.
     fn max_sample() -> Self

@@ -11,6 +11,7 @@ use crate::positions::{
     SECOND_JOINED_BY_LAST, SECOND_JOINED_BY_TWO, SECOND_OF_LAST, SECOND_OF_THREE, SECOND_OF_TWO,
     THIRD_JOINED_BY_LAST, THIRD_JOINED_BY_TWO, THIRD_OF_LAST, THIRD_OF_THREE,
 };
+use crate::wide_lanes::WideLanes;
 use std::simd::prelude::*;
 
 /// Sixteen samples of two bytes, the less significant first.
@@ -43,6 +44,20 @@ impl Lanes for WordLanes {
     #[inline(always)]
     fn store(self, dst: &mut [u8]) {
         self.lanes.to_le_bytes().copy_to_slice(dst);
+    }
+
+    #[inline(always)]
+    fn widen(self) -> WideLanes {
+        WideLanes {
+            lanes: self.lanes.cast::<u32>(),
+        }
+    }
+
+    #[inline(always)]
+    fn narrow(wide: WideLanes) -> Self {
+        WordLanes {
+            lanes: wide.lanes.cast::<u16>(),
+        }
     }
 
     #[inline(always)]
