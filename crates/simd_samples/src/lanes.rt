@@ -2,8 +2,10 @@
 
 ghost use Rattle.std.specs.Prelude.{◌≡◌, ℕ, ◌+◌, ◌-◌, ◌*◌, ◌/◌, ◌%◌, ◌^◌, ◌<◌, ◌≤◌, ◌==◌, length, slice_index, min, max, nat_le, if◌then◌else◌};
 ghost use Rattle.simd_samples.specs.Lanes.{Hold, HoldThree, HoldTwo};
+ghost use Rattle.simd_samples.specs.Shuffle.{position_of_three, position_of_two};
 ghost use Rattle.pixel_formats.specs.Sample.{added, max_sample_of, mean_of_four, mean_of_three, sample_at, thresholded, unit_of, scaled_by};
 
+use crate::shuffles::{ShuffleOfThree, ShuffleOfTwo};
 use crate::wide_lanes::WideLanes;
 
 /// A vector of sixteen samples of one depth, which is one byte or two. Lane 0 is the leftmost.
@@ -64,21 +66,45 @@ pub trait Lanes: Copy {
     fn max(self, other: Self) -> Self
         ensures { Hold (lane result) (λ j. max (lane self j) (lane other j)) };
 
+    /// Picks sixteen lanes of two vectors, one after the other.
+    fn shuffle_two(self, second: Self, shuffle: ShuffleOfTwo) -> Self
+        ensures { (s : ℕ → ℕ) → HoldTwo (lane self) (lane second) s → Hold (lane result) (λ j. s (position_of_two shuffle j)) };
+
+    /// Picks sixteen lanes of three vectors, one after the other.
+    fn shuffle_three(self, second: Self, third: Self, shuffle: ShuffleOfThree) -> Self
+        ensures { (s : ℕ → ℕ) → HoldThree (lane self) (lane second) (lane third) s → Hold (lane result) (λ j. s (position_of_three shuffle j)) };
+
     /// In each pair of lanes the second, twice.
+    #[inline(always)]
     fn spread_second(self) -> Self
-        ensures { Hold (lane result) (λ j. lane self (j / 2 * 2 + 1)) };
+        ensures { Hold (lane result) (λ j. lane self (j / 2 * 2 + 1)) }
+    {
+        self.shuffle_two(self, ShuffleOfTwo::SpreadSecond)
+    }
 
     /// In each four lanes the fourth, four times.
+    #[inline(always)]
     fn spread_fourth(self) -> Self
-        ensures { Hold (lane result) (λ j. lane self (j / 4 * 4 + 3)) };
+        ensures { Hold (lane result) (λ j. lane self (j / 4 * 4 + 3)) }
+    {
+        self.shuffle_two(self, ShuffleOfTwo::SpreadFourth)
+    }
 
     /// The same lanes, but the second of each pair from `old`.
+    #[inline(always)]
     fn with_second(self, old: Self) -> Self
-        ensures { Hold (lane result) (λ j. if j % 2 == 1 then lane old j else lane self j) };
+        ensures { Hold (lane result) (λ j. if j % 2 == 1 then lane old j else lane self j) }
+    {
+        self.shuffle_two(old, ShuffleOfTwo::WithSecond)
+    }
 
     /// The same lanes, but the fourth of each four from `old`.
+    #[inline(always)]
     fn with_fourth(self, old: Self) -> Self
-        ensures { Hold (lane result) (λ j. if j % 4 == 3 then lane old j else lane self j) };
+        ensures { Hold (lane result) (λ j. if j % 4 == 3 then lane old j else lane self j) }
+    {
+        self.shuffle_two(old, ShuffleOfTwo::WithFourth)
+    }
 
     /// A sample in each lane, and the largest sample where that is less.
     fn splat(sample: u32) -> Self
@@ -121,36 +147,80 @@ pub trait Lanes: Copy {
         ensures { Hold (lane result) (λ j. mean_of_four (lane self j) (lane second j) (lane third j) (lane fourth j)) };
 
     /// Of two vectors, one after the other, the lanes with even and those with odd numbers.
+    #[inline(always)]
     fn deinterleave(self, other: Self) -> (Self, Self)
         ensures even { (s : ℕ → ℕ) → HoldTwo (lane self) (lane other) s → Hold (lane result.0) (λ j. s (2 * j)) }
-        ensures odd { (s : ℕ → ℕ) → HoldTwo (lane self) (lane other) s → Hold (lane result.1) (λ j. s (2 * j + 1)) };
+        ensures odd { (s : ℕ → ℕ) → HoldTwo (lane self) (lane other) s → Hold (lane result.1) (λ j. s (2 * j + 1)) }
+    {
+        (
+            self.shuffle_two(other, ShuffleOfTwo::Evens),
+            self.shuffle_two(other, ShuffleOfTwo::Odds),
+        )
+    }
 
     /// Of two vectors, one after the other, the pairs of lanes with even and those with odd numbers.
+    #[inline(always)]
     fn deinterleave_pairs(self, other: Self) -> (Self, Self)
         ensures even { (s : ℕ → ℕ) → HoldTwo (lane self) (lane other) s → Hold (lane result.0) (λ j. s (j / 2 * 4 + j % 2)) }
-        ensures odd { (s : ℕ → ℕ) → HoldTwo (lane self) (lane other) s → Hold (lane result.1) (λ j. s (j / 2 * 4 + 2 + j % 2)) };
+        ensures odd { (s : ℕ → ℕ) → HoldTwo (lane self) (lane other) s → Hold (lane result.1) (λ j. s (j / 2 * 4 + 2 + j % 2)) }
+    {
+        (
+            self.shuffle_two(other, ShuffleOfTwo::EvenPairs),
+            self.shuffle_two(other, ShuffleOfTwo::OddPairs),
+        )
+    }
 
     /// Of two vectors, one after the other, the fours of lanes with even and those with odd numbers.
+    #[inline(always)]
     fn deinterleave_fours(self, other: Self) -> (Self, Self)
         ensures even { (s : ℕ → ℕ) → HoldTwo (lane self) (lane other) s → Hold (lane result.0) (λ j. s (j / 4 * 8 + j % 4)) }
-        ensures odd { (s : ℕ → ℕ) → HoldTwo (lane self) (lane other) s → Hold (lane result.1) (λ j. s (j / 4 * 8 + 4 + j % 4)) };
+        ensures odd { (s : ℕ → ℕ) → HoldTwo (lane self) (lane other) s → Hold (lane result.1) (λ j. s (j / 4 * 8 + 4 + j % 4)) }
+    {
+        (
+            self.shuffle_two(other, ShuffleOfTwo::EvenFours),
+            self.shuffle_two(other, ShuffleOfTwo::OddFours),
+        )
+    }
 
     /// The lanes of two vectors by turns, as two vectors.
+    #[inline(always)]
     fn interleave(self, other: Self) -> (Self, Self)
         ensures { (s : ℕ → ℕ) → Hold (lane self) (λ j. s (2 * j)) → Hold (lane other) (λ j. s (2 * j + 1))
-            → HoldTwo (lane result.0) (lane result.1) s };
+            → HoldTwo (lane result.0) (lane result.1) s }
+    {
+        (
+            self.shuffle_two(other, ShuffleOfTwo::JoinedLow),
+            self.shuffle_two(other, ShuffleOfTwo::JoinedHigh),
+        )
+    }
 
     /// Of three vectors, one after the other, every third lane: from the first, the second and the
     /// third lane on.
+    #[inline(always)]
     fn split_thirds(self, second: Self, third: Self) -> (Self, Self, Self)
         ensures first { (s : ℕ → ℕ) → HoldThree (lane self) (lane second) (lane third) s → Hold (lane result.0) (λ j. s (3 * j)) }
         ensures second { (s : ℕ → ℕ) → HoldThree (lane self) (lane second) (lane third) s → Hold (lane result.1) (λ j. s (3 * j + 1)) }
-        ensures third { (s : ℕ → ℕ) → HoldThree (lane self) (lane second) (lane third) s → Hold (lane result.2) (λ j. s (3 * j + 2)) };
+        ensures third { (s : ℕ → ℕ) → HoldThree (lane self) (lane second) (lane third) s → Hold (lane result.2) (λ j. s (3 * j + 2)) }
+    {
+        (
+            self.shuffle_three(second, third, ShuffleOfThree::Firsts),
+            self.shuffle_three(second, third, ShuffleOfThree::Seconds),
+            self.shuffle_three(second, third, ShuffleOfThree::Thirds),
+        )
+    }
 
     /// The lanes of three vectors by turns, as three vectors.
+    #[inline(always)]
     fn join_thirds(self, second: Self, third: Self) -> (Self, Self, Self)
         ensures { (s : ℕ → ℕ) → Hold (lane self) (λ j. s (3 * j)) → Hold (lane second) (λ j. s (3 * j + 1)) → Hold (lane third) (λ j. s (3 * j + 2))
-            → HoldThree (lane result.0) (lane result.1) (lane result.2) s };
+            → HoldThree (lane result.0) (lane result.1) (lane result.2) s }
+    {
+        (
+            self.shuffle_three(second, third, ShuffleOfThree::JoinedFirst),
+            self.shuffle_three(second, third, ShuffleOfThree::JoinedSecond),
+            self.shuffle_three(second, third, ShuffleOfThree::JoinedThird),
+        )
+    }
 
     ghost sixteen: { BYTES ≡ 16 * depth };
 
