@@ -1,5 +1,5 @@
 -- Products, sums and quotients of vectors that are computed in wider lanes, of numbers below w, and cast back.
-use Rattle.std.proofs.Common.{◌≡◌, ℕ, ◌+◌, ◌*◌, ◌/◌, ◌%◌, ◌^◌, ◌<◌, ◌≤◌, List, length, get_or, map, replicate, refl, ap, ◌∙◌, arith, w8, w16, Fits}
+use Rattle.std.proofs.Common.{◌≡◌, ℕ, ◌+◌, ◌*◌, ◌/◌, ◌%◌, ◌^◌, ◌<◌, ◌≤◌, List, length, get_or, map, replicate, refl, ap, ◌∙◌, arith, w8, w16, w32, Fits}
 use Rattle.std.proofs.Math.Nat.{mod-eq_of_lt, mul-le-mul}
 use Rattle.std.proofs.lemmas.Simd.{Each1-all, Each1-from_get_or, Each2-splat, get_or-replicate}
 use lib.Lanes.{zip2, Each1, Each2}
@@ -36,6 +36,9 @@ fit_bytes v p = Each1-from_get_or (Fits w8) v 0 (λ i lt. record { fits = p.belo
 
 pub fit_words : (v : List ℕ) → AreLanes 65536 v → Each1 (Fits w16) v
 fit_words v p = Each1-from_get_or (Fits w16) v 0 (λ i lt. record { fits = p.below i })
+
+pub fit_longs : (v : List ℕ) → AreLanes 262144 v → Each1 (Fits w32) v
+fit_longs v p = Each1-from_get_or (Fits w32) v 0 (λ i lt. record { fits = omega (arith, p.below i) })
 
 -- ---- scaled samples
 

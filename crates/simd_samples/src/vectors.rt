@@ -1,4 +1,4 @@
-//! Several vectors of sixteen samples in a row, one after the other.
+//! Vectors of sixteen samples, and several one after the other, in rows of bytes.
 
 ghost use Rattle.std.specs.Prelude.{◌≡◌, ℕ, ◌+◌, ◌*◌, ◌^◌, ◌<◌, ◌≤◌, length, slice_index};
 ghost use Rattle.simd_samples.specs.Lanes.{Hold, HoldTwo, HoldThree, HoldFour};
@@ -24,7 +24,8 @@ pub fn load_at<L: Lanes>(src: &[u8], from: usize) -> L
     L::load(&src[first_byte::<L>(from)..])
 }
 
-/// Writes sixteen samples, from sample `from` of a row of bytes on, and leaves all others.
+/// Writes sixteen samples, from sample `from` of a row of bytes on. All others are unchanged, and so
+/// are all other bytes.
 #[inline(always)]
 pub fn store_at<L: Lanes>(lanes: L, dst: &mut [u8], from: usize)
     requires { L.depth * (from + 16) ≤ length dst.old }
@@ -37,7 +38,7 @@ pub fn store_at<L: Lanes>(lanes: L, dst: &mut [u8], from: usize)
     lanes.store(&mut dst[first_byte::<L>(from)..]);
 }
 
-/// The first thirty-two samples of a row of bytes.
+/// Reads the first thirty-two samples of a row of bytes.
 #[inline(always)]
 pub fn load_two<L: Lanes>(src: &[u8]) -> (L, L)
     requires { 2 * L.BYTES ≤ length src.now }
@@ -46,7 +47,7 @@ pub fn load_two<L: Lanes>(src: &[u8]) -> (L, L)
     (load_at(src, 0), load_at(src, 16))
 }
 
-/// Forty-eight samples of a row of bytes, after `from` times sixteen.
+/// Reads forty-eight samples of a row of bytes, after `from` times sixteen.
 #[inline(always)]
 pub fn load_three<L: Lanes>(src: &[u8], from: usize) -> (L, L, L)
     requires { (from + 3) * L.BYTES ≤ length src.now }
@@ -59,7 +60,7 @@ pub fn load_three<L: Lanes>(src: &[u8], from: usize) -> (L, L, L)
     )
 }
 
-/// The first sixty-four samples of a row of bytes.
+/// Reads the first sixty-four samples of a row of bytes.
 #[inline(always)]
 pub fn load_four<L: Lanes>(src: &[u8]) -> (L, L, L, L)
     requires { 4 * L.BYTES ≤ length src.now }
@@ -73,7 +74,7 @@ pub fn load_four<L: Lanes>(src: &[u8]) -> (L, L, L, L)
     )
 }
 
-/// Writes the first thirty-two samples of a row of bytes, and leaves those after them.
+/// Writes the first thirty-two samples of a row of bytes. Those after them are unchanged.
 #[inline(always)]
 pub fn store_two<L: Lanes>(first: L, second: L, dst: &mut [u8])
     requires { 2 * L.BYTES ≤ length dst.old }
@@ -84,7 +85,7 @@ pub fn store_two<L: Lanes>(first: L, second: L, dst: &mut [u8])
     store_at(second, dst, 16);
 }
 
-/// Writes the first forty-eight samples of a row of bytes, and leaves those after them.
+/// Writes the first forty-eight samples of a row of bytes. Those after them are unchanged.
 #[inline(always)]
 pub fn store_three<L: Lanes>(first: L, second: L, third: L, dst: &mut [u8])
     requires { 3 * L.BYTES ≤ length dst.old }
@@ -95,7 +96,7 @@ pub fn store_three<L: Lanes>(first: L, second: L, third: L, dst: &mut [u8])
     store_at(third, dst, 32);
 }
 
-/// Writes the first sixty-four samples of a row of bytes, and leaves those after them.
+/// Writes the first sixty-four samples of a row of bytes. Those after them are unchanged.
 #[inline(always)]
 pub fn store_four<L: Lanes>(first: L, second: L, third: L, fourth: L, dst: &mut [u8])
     requires { 4 * L.BYTES ≤ length dst.old }

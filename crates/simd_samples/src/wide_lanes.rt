@@ -1,6 +1,6 @@
-//! Sixteen numbers of 32 bits, as sums of samples are.
+//! Sixteen numbers of 32 bits, as kernels sum samples.
 
-ghost use Rattle.std.specs.Prelude.{◌≡◌, ℕ, ◌+◌, ◌-◌, ◌%◌, ◌^◌, ◌<◌, ◌≤◌, length, slice_index};
+ghost use Rattle.std.specs.Prelude.{◌≡◌, ℕ, ◌+◌, ◌-◌, ◌*◌, ◌/◌, ◌%◌, ◌^◌, ◌<◌, ◌≤◌, length, slice_index};
 ghost use Rattle.simd_samples.specs.Lanes.{Hold};
 
 use std::marker::Model;
@@ -38,7 +38,7 @@ impl WideLanes {
         }
     }
 
-    /// Writes sixteen numbers, from number `from` of a row on, and leaves all others.
+    /// Writes sixteen numbers, from number `from` of a row on. All others are unchanged.
     #[inline(always)]
     pub fn store_at(self, dst: &mut [u32], from: usize)
         requires { from + 16 ≤ length dst.old }
@@ -66,6 +66,19 @@ impl WideLanes {
     {
         WideLanes {
             lanes: self.lanes - other.lanes,
+        }
+    }
+    /// Multiplies each number by a factor, adds an offset and divides by 2^46, as the mean of many
+    /// samples is had by the reciprocal of their number.
+    #[inline(always)]
+    pub fn scale(self, factor: u64, offset: u64) -> Self
+        requires { (j : ℕ) → j < 16 → slice_index self j * factor + offset < 2 ^ 64 }
+        ensures { Hold (slice_index result) (λ j. (slice_index self j * factor + offset) / 2 ^ 46) }
+    {
+        let products = self.lanes.cast::<u64>() * u64x16::splat(factor);
+        let scaled = (products + u64x16::splat(offset)) >> u64x16::splat(46);
+        WideLanes {
+            lanes: scaled.cast::<u32>(),
         }
     }
 }

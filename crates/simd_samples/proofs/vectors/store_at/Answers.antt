@@ -1,4 +1,4 @@
-use Rattle.std.proofs.Common.{◌≡◌, ◌+◌, ◌-◌, ◌*◌, ◌≤◌, length, ◌∙◌, arith}
+use Rattle.std.proofs.Common.{◌≤◌, length, ◌∙◌, arith}
 use Rattle.simd_samples.proofs.SliceLaws.{length-part_from, sample_at-after, sample_at-kept, sample_at-written}
 use Rattle.simd_samples.proofs.vectors.store_at.Goals as goal
 
