@@ -28,4 +28,4 @@ keywords = Buffer ∷ Sub ∷ Dup ∷ Load ∷ Fill ∷ Copy ∷ Node ∷ Drop �
 
 -- the one that a word spells
 unfoldable pub keyword_of : List ℕ → Option Keyword
-keyword_of word = find (λ spelled. bytes_eq (keyword_word spelled) word) keywords
+keyword_of word = find (λ keyword. bytes_eq (keyword_word keyword) word) keywords

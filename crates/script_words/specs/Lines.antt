@@ -14,7 +14,7 @@ abbrev pub text_of : List (List ℕ) → List ℕ
 text_of [] = []
 text_of (line ∷ lines) = line ++ 10 ∷ text_of lines
 
--- a line that is read as it stands where a line feed follows it: it has none itself, and its end is no carriage return
+-- a line that is read as it is where a line feed follows it: it has none itself, and its end is no carriage return
 abbrev pub is_line : List ℕ → Bool
 is_line line = list_all (λ byte. not (byte == 10)) line && not (slice_index line (length line - 1) == 13)
 
