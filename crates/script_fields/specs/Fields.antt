@@ -1,16 +1,15 @@
 -- The fields that the words of a line are, or why the line is refused. Each word has an index in its line, from 0 on.
-use Rattle.std.specs.Prelude.{ℕ, ℤ, pos, neg_ℤ, nat_le, is_some, ◌+◌, ◌-◌, ◌*◌, ◌^◌, ◌==◌, Bool, true, false, ◌&&◌, if◌then◌else◌, List, [], ◌∷◌, length, map, drop, find, codes, Option, Result, Ok, Err, slice_index_or}
+use Rattle.std.specs.Prelude.{ℕ, ℤ, pos, neg_ℤ, nat_le, is_some, ◌+◌, ◌-◌, ◌^◌, ◌==◌, Bool, true, false, ◌&&◌, if◌then◌else◌, List, [], ◌∷◌, length, map, drop, find, codes, Option, Result, Ok, Err, slice_index_or}
 use Rattle.std.specs.Borrow.{Bor}
 use Rattle.std.specs.Option.{ok_or}
 use Rattle.std.specs.Str.{bytes_eq}
-use Rattle.plane_rect.specs.Rectangle.{Rectangle, new_rectangle, in_limits, scaled, area}
+use Rattle.plane_rect.specs.Rectangle.{Rectangle, new_rectangle, in_limits, scaled}
 use Rattle.plane_rect.specs.Name.{is_name}
 use Rattle.plane_rect.specs.declared.rect.RectRefused.{RectRefused}
 use Rattle.pixel_formats.specs.Format.{word}
 use Rattle.pixel_formats.specs.declared.format.Format.{Format}
 use Rattle.pixel_formats.specs.declared.format.Format.TheVariants.{Y8, YA8, RGB8, RGBA8, Y16, YA16, RGB16, RGBA16}
 use Rattle.pixel_formats.specs.declared.abyss.Abyss.{Abyss}
-use Rattle.pixel_formats.specs.declared.abyss.Abyss.TheVariants as policies
 use Rattle.outside_io.specs.FileName.{is_file_name}
 use Rattle.script_words.specs.Numbers.{natural_in, integer_in}
 use Rattle.pixel_formats.specs.Policies.{policy_named}

@@ -1,4 +1,4 @@
-//! Scripts are printed, command by command.
+//! Prints scripts, command by command.
 
 ghost use Rattle.std.specs.Prelude.{◌≡◌, ◌++◌, IfOk, OnOk, Ok, map, decimal, replicate};
 ghost use Rattle.script_words.specs.Words.{joined, spaced};
@@ -14,11 +14,13 @@ use script_fields::{put_fields, put_names, put_samples};
 use script_words::push_word;
 use std::alloc::Global;
 
-/// The text of a script: each command on the line of its number, with empty lines between.
+/// Returns the text of a script: each command on the line of its number, with empty lines between.
+/// Takes time in proportion to the text, which has a byte at least for each number up to that of
+/// the last line.
 ///
 /// # Errors
 ///
-/// No memory was left.
+/// `NoMemory` if memory runs out.
 pub fn print_script(alloc: Global, lines: &[Line]) -> Result<Vec<u8>, NoMemory>
     requires { IsScript lines.now }
     ensures text { IfOk result (λ text. text.items ≡ printed lines.now) }
@@ -35,7 +37,7 @@ pub fn print_script(alloc: Global, lines: &[Line]) -> Result<Vec<u8>, NoMemory>
     Ok(text)
 }
 
-/// Puts so many line feeds after a text.
+/// Appends so many line feeds to a text.
 fn put_feeds(text: &mut Vec<u8>, count: u32) -> Result<(), NoMemory>
     ensures { OnOk result (text.new.items ≡ text.old.items ++ replicate count 10) }
 {
@@ -45,7 +47,7 @@ fn put_feeds(text: &mut Vec<u8>, count: u32) -> Result<(), NoMemory>
     Ok(())
 }
 
-/// Puts the words of a command after a text, with single spaces between them.
+/// Appends the words of a command to a text, with single spaces between them.
 #[tactic(auto, using(crate::proofs::PrintLaws::command_put))]
 fn put_command(text: &mut Vec<u8>, command: &Command) -> Result<(), NoMemory>
     ensures text { OnOk result (text.new.items ≡ text.old.items ++ joined (command_words command.now)) }
@@ -56,7 +58,7 @@ fn put_command(text: &mut Vec<u8>, command: &Command) -> Result<(), NoMemory>
     put_lists_of(text, command)
 }
 
-/// Puts the fields of a command after a text, up to those that are lists, each word after a space.
+/// Appends the fields of a command to a text, up to those that are lists, each word after a space.
 fn put_fields_of(text: &mut Vec<u8>, command: &Command) -> Result<(), NoMemory>
     ensures text { OnOk result (text.new.items ≡ text.old.items ++ spaced (words_of_fields (fields_of command.now))) }
     ensures valid { OnOk result (AreValid (fields_of command.now)) }
@@ -88,7 +90,8 @@ fn put_fields_of(text: &mut Vec<u8>, command: &Command) -> Result<(), NoMemory>
     }
 }
 
-/// The same of a command that writes files. Others put nothing.
+/// Appends the fields of a command that writes files to a text, each word after a space. Others
+/// append nothing.
 fn put_output_fields(text: &mut Vec<u8>, command: &Command) -> Result<(), NoMemory>
     ensures text { OnOk result (text.new.items ≡ text.old.items ++ spaced (words_of_fields (output_fields command.now))) }
     ensures valid { OnOk result (AreValid (output_fields command.now)) }
@@ -127,7 +130,8 @@ fn put_output_fields(text: &mut Vec<u8>, command: &Command) -> Result<(), NoMemo
     }
 }
 
-/// Puts the words after the fields of a command, each after a space: samples, or an operation and its inputs.
+/// Appends the words after the fields of a command to a text, each after a space: samples, or an
+/// operation and its inputs.
 fn put_lists_of(text: &mut Vec<u8>, command: &Command) -> Result<(), NoMemory>
     ensures text { OnOk result (text.new.items ≡ text.old.items ++ spaced (list_words command.now)) }
     ensures valid { OnOk result (AreValid (fields_of command.now) → HasValidFields command.now) }
@@ -142,7 +146,7 @@ fn put_lists_of(text: &mut Vec<u8>, command: &Command) -> Result<(), NoMemory>
     }
 }
 
-/// Puts the words of an operation and its arguments after a text, each after a space.
+/// Appends the words of an operation and its arguments to a text, each after a space.
 #[tactic(auto, using(script_fields::proofs::PrintLaws::spaced_put))]
 fn put_operation(text: &mut Vec<u8>, op: &OpWords) -> Result<(), NoMemory>
     ensures text { OnOk result (text.new.items ≡ text.old.items ++ spaced (operation_words op.now)) }
@@ -153,7 +157,7 @@ fn put_operation(text: &mut Vec<u8>, op: &OpWords) -> Result<(), NoMemory>
     put_samples_in(text, op)
 }
 
-/// Puts the arguments of an operation after a text, but samples, each word after a space.
+/// Appends the arguments of an operation to a text, but samples, each word after a space.
 fn put_arguments(text: &mut Vec<u8>, op: &OpWords) -> Result<(), NoMemory>
     ensures text { OnOk result (text.new.items ≡ text.old.items ++ spaced (words_of_fields (arguments op.now))) }
     ensures valid { OnOk result (AreValid (arguments op.now)) }
@@ -186,7 +190,7 @@ fn put_arguments(text: &mut Vec<u8>, op: &OpWords) -> Result<(), NoMemory>
     }
 }
 
-/// Puts the samples of an operation after a text, each after a space.
+/// Appends the samples of an operation to a text, each after a space.
 fn put_samples_in(text: &mut Vec<u8>, op: &OpWords) -> Result<(), NoMemory>
     ensures { OnOk result (text.new.items ≡ text.old.items ++ spaced (map decimal (samples_in op.now))) }
 {

@@ -1,4 +1,5 @@
--- What changes reach: where a place of the result needs a place of an input, a change of the one reaches the other.
+-- What changes reach: where a position of the result needs a position of an input, a change of the one reaches the
+-- other.
 use Rattle.std.proofs.Common.{[], ◌∷◌, ◌≡◌, ℕ, ◌<◌, ◌≤◌, ℤ, pos, negsuc, ◌+ℤ◌, ◌-ℤ◌, ◌≤ℤ◌, Bool, true, false, cond, Some, None, Result, Ok, Err, refl, sym, subst, ap, arith}
 use Rattle.std.proofs.lemmas.Int.{ints}
 use Rattle.std.proofs.lemmas.Bool.Decides.{nat_tests}
@@ -36,13 +37,13 @@ kept_made (Err refused) r e = absurd (cc e)
 no_position : (u v : ℕ) (r : Rectangle) → is_empty r ≡ true → Inside u v r → ⊥
 no_position u v r none there = grind (arith, nat_tests)
 
--- the one place of a rectangle of one
+-- the one position of a rectangle of one
 position-only : (u v u' v' : ℕ) → Inside u' v' (position u v) → (u' ≡ u) × (v' ≡ v)
 position-only u v u' v' h = (omega (arith, h.column), omega (arith, h.row))
 
 -- ---- moved images
 
--- a place of a moved box did not come from before the plane's corner
+-- a position of a moved box did not come from before the plane's corner
 came : (d : ℤ) (start u : ℕ) → plane_coordinate start ≤ℤ (plane_coordinate u -ℤ d) → moved_index d (source_index d u) ≡ u
 came (pos n) start u h = omega (arith, ints, h)
 came (negsuc n) start u h = omega (arith, ints, h)
@@ -188,7 +189,7 @@ input_count-most Add = omega arith
 input_count-most Over = omega arith
 input_count-most Mask = omega arith
 
--- a place of a translated box shows one of the input's
+-- a position of a translated box shows one of the input's
 pub translated-shows : (dx dy : ℤ) (box r : Rectangle) → box_of (Translate dx dy) (box ∷ []) ≡ Some r → (u v : ℕ) → Inside u v r
     → Inside (source_index dx u) (source_index dy v) box
 translated-shows dx dy box r stated u v inside = translated-from dx dy box r stated u v inside
