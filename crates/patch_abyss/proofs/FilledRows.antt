@@ -37,7 +37,7 @@ RowsFilled-pixels box format f v rows bytes one long generated = λ k c inside k
     let here : v - v ≡ 0 = omega arith in
     let level : (v - v) * box.width + (box.first_column + k - box.first_column) ≡ k = omega (arith, ap (λ (i : ℕ). i * box.width) here) in
     ap (λ (i : ℕ). pixel_at format bytes i c) (sym level)
-    ∙ image_from_fn.generated (box.first_column + k) v c (record { column = (omega arith, omega arith); row = (omega arith, omega (arith, one)) }) known
+    ∙ generated.generated (box.first_column + k) v c (record { column = (omega arith, omega arith); row = (omega arith, omega (arith, one)) }) known
 
 module _ (box : Rectangle) (format : Format) (f : ℕ → ℕ → Pixel) (j : ℕ) (now new : List ℕ) (before : RowsFilled box format f j now) where
   abbrev n : ℕ
@@ -72,7 +72,7 @@ module _ (box : Rectangle) (format : Format) (f : ℕ → ℕ → Pixel) (j : �
     pub RowsFilled-written : (start len more source : ℕ) (piece : List ℕ) → start ≡ j * count → len ≡ more * count → start + more * count ≤ length now → length piece ≡ more * count →
         new ≡ put_mid start len now piece → RowsFilled (moved_to source box) format f more piece → ((i u c : ℕ) → i < more → f u (source + i) c ≡ f u (box.first_row + (j + i)) c) →
         RowsFilled box format f (j + more) new
-    RowsFilled-written start len more source piece at_start at_len room long is image_from_fn same =
+    RowsFilled-written start len more source piece at_start at_len room long is filled same =
         let unchanged : start ≡ j * (box.width * n) = at_start ∙ ap (λ (m : ℕ). j * m) is_count in
         let fits : length piece ≡ len = long ∙ sym at_len in
         next_rows more
@@ -88,7 +88,7 @@ module _ (box : Rectangle) (format : Format) (f : ℕ → ℕ → Pixel) (j : �
         (omega (arith, before_position (i * box.width + k) (more * box.width) n b positions within, at_len, ap (λ (m : ℕ). more * m) is_count)))
         ∙ ap (λ (a : ℕ). pixel_at format piece (a * box.width + k) c) (sym at_i)
         ∙ ap (λ (a : ℕ). pixel_at format piece ((source + i - source) * box.width + a) c) (sym aside)
-        ∙ image_from_fn.generated (box.first_column + k) (source + i) c (record { column = (omega arith, omega arith); row = (omega arith, omega arith) }) known
+        ∙ filled.generated (box.first_column + k) (source + i) c (record { column = (omega arith, omega arith); row = (omega arith, omega arith) }) known
         ∙ same i (box.first_column + k) c below)
 
     -- a row that is written where it stands
