@@ -17,9 +17,8 @@ use Rattle.script_words.specs.Numbers.{natural_in, integer_in}
 use Rattle.script_words.proofs.NumberLaws.{natural_in-decimal, integer_in-signed_decimal}
 use Rattle.script_fields.proofs.FormatLaws.{format_named-word}
 use Rattle.script_fields.specs.Fields.{◌>>=◌, coordinate_at, rect_numbers_at, count_in, each, file_at, format_at, format_named, integer_at, rect_in_limits, level_rect_of, move_at, name_of, names_of, natural_at, near_policy_at, passed, policy_at, prefix_at, rect_of, sample_of, samples_of, sideways_at, watched_rect_of, word_at}
-use Rattle.script_fields.specs.Limits.{may_watch}
 use Rattle.pixel_formats.specs.Limits.{IsMove, IsSample, max_move, max_prefix_bytes, max_sample, suits_areas}
-use Rattle.script_fields.specs.Limits.{IsLevelRect}
+use Rattle.script_fields.specs.Limits.{IsLevelRect, may_watch}
 use Rattle.pixel_formats.specs.Policies.{policy_named, policy_word}
 use Rattle.script_fields.specs.Spelling.{AreNames}
 use Rattle.script_fields.specs.declared.cause.ScriptCause.{ScriptCause}

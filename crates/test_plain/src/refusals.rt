@@ -7,7 +7,7 @@ use plain_graphs::{Graph, Node, NodeEdit, Refused, walk_refused, with_edits};
 use std::alloc::{AllocError, Global};
 use std::test::Fail;
 
-/// A row of one color.
+/// Returns a row of one color.
 fn color(alloc: Global, word: &str, width: i64) -> Result<Node, Fail> {
     let op = IntOp::Color {
         format: Format::Y8,
@@ -17,12 +17,12 @@ fn color(alloc: Global, word: &str, width: i64) -> Result<Node, Fail> {
     node(alloc, word, op, &[])
 }
 
-/// Why edits of no nodes over no buffers are refused, where one is.
+/// Returns why edits of no nodes over no buffers are refused, where one is.
 fn edits_refused(alloc: Global, edits: &[NodeEdit]) -> Result<Option<Refused>, Fail> {
     Ok(with_edits(alloc, &[], Vec::new(alloc), edits)?.err())
 }
 
-/// Why the walk over nodes without buffers refuses one, where it does.
+/// Returns why the walk over nodes without buffers refuses one, where it does.
 fn nodes_refused(alloc: Global, nodes: Vec<Node>) -> Result<Option<Refused>, Fail> {
     let buffers = Vec::new(alloc);
     Ok(walk_refused(alloc, &Graph { buffers, nodes })?)
@@ -47,7 +47,7 @@ fn edits_that_are_refused(rt: HostRuntime) -> Result<(), Fail> {
     Ok(())
 }
 
-/// As many edits of new names.
+/// Returns as many edits of new names.
 fn new_names(alloc: Global, count: u32) -> Result<Vec<NodeEdit>, Fail> {
     let mut edits = Vec::new(alloc);
     for number in 0..count {

@@ -10,18 +10,18 @@ use std::test::Fail;
 /// The capacity of the list of cached pairs.
 const CAPACITY: usize = 16_384;
 
-/// The name that a word is.
+/// Returns the name that a word is.
 pub(crate) fn name(word: &str) -> Result<Name, Fail> {
     Ok(Name::parse(word.as_bytes()).ok_or("a name")?)
 }
 
-/// The rectangle of four numbers.
+/// Returns the rectangle of four numbers.
 pub(crate) fn rect(fields: [i64; 4]) -> Result<Rect, Fail> {
     let [x, y, w, h] = fields;
     Ok(Rect::new(x, y, w, h)?)
 }
 
-/// A buffer that sees the whole of a root of its own name.
+/// Returns a buffer that sees the whole of a root of its own name.
 pub(crate) fn buffer(word: &str, format: Format, extent: [i64; 4]) -> Result<Buffer, Fail> {
     let name = name(word)?;
     Ok(Buffer {
@@ -32,7 +32,7 @@ pub(crate) fn buffer(word: &str, format: Format, extent: [i64; 4]) -> Result<Buf
     })
 }
 
-/// A node that stands for a buffer.
+/// Returns a node that is the source of a buffer.
 pub(crate) fn source(word: &str, buffer: &str) -> Result<Node, Fail> {
     Ok(Node {
         name: name(word)?,
@@ -42,7 +42,7 @@ pub(crate) fn source(word: &str, buffer: &str) -> Result<Node, Fail> {
     })
 }
 
-/// A node of an operation.
+/// Returns a node of an operation.
 pub(crate) fn node(alloc: Global, word: &str, op: IntOp, inputs: &[&str]) -> Result<Node, Fail> {
     let mut names = Vec::new(alloc);
     for input in inputs {
@@ -54,7 +54,7 @@ pub(crate) fn node(alloc: Global, word: &str, op: IntOp, inputs: &[&str]) -> Res
     })
 }
 
-/// A list without cached pairs, of which nothing is counted.
+/// Returns a list without cached pairs, of which nothing is counted.
 pub(crate) fn nothing_cached(alloc: Global) -> Lookups {
     Lookups {
         pairs: Vec::new(alloc),
@@ -63,7 +63,7 @@ pub(crate) fn nothing_cached(alloc: Global) -> Lookups {
     }
 }
 
-/// How many pairs each strip of a request for a node needs.
+/// Returns how many pairs each strip of a request for a node needs.
 pub(crate) fn strip_counts(
     alloc: Global,
     graph: &Graph,
@@ -71,12 +71,12 @@ pub(crate) fn strip_counts(
     request: [i64; 4],
 ) -> Result<Vec<usize>, Fail> {
     let wanted = name(word)?;
-    let place = graph
+    let index = graph
         .nodes
         .iter()
         .position(|node| node.name == wanted)
         .ok_or("a node")?;
-    let strips = need(alloc, graph, place, rect(request)?)?;
+    let strips = need(alloc, graph, index, rect(request)?)?;
     Ok(
         strips
             .iter()
@@ -94,22 +94,23 @@ pub(crate) fn render(
     lookups: &mut Lookups,
 ) -> Result<(), Fail> {
     let wanted = name(word)?;
-    let place = graph
+    let index = graph
         .nodes
         .iter()
         .position(|node| node.name == wanted)
         .ok_or("a node")?;
-    let strips = need(alloc, graph, place, rect(request)?)?;
+    let strips = need(alloc, graph, index, rect(request)?)?;
     let pairs = needed_pairs(alloc, &graph.nodes, &strips)?;
-    let most = 1 << 62;
-    if lookups.applied >= most || lookups.reused >= most || pairs.len() as u64 >= most {
+    let limit = 1 << 62;
+    if lookups.applied >= limit || lookups.reused >= limit || pairs.len() as u64 >= limit {
         return Err(Fail::from("too many"));
     }
     lookups.look_up_all(alloc, CAPACITY, &pairs)?;
     Ok(())
 }
 
-/// Takes away what a step from a graph to another damages, where rectangles of roots were written.
+/// Removes the pairs that a step from a graph to another damages, where rectangles of roots were
+/// written.
 pub(crate) fn step(
     alloc: Global,
     old: &Graph,
