@@ -90,7 +90,7 @@ area r = r.width * r.height
 abbrev pub offset : Rectangle → ℕ → ℕ → ℕ
 offset r u v = (v - r.first_row) * r.width + (u - r.first_column)
 
--- a rectangle of which an image may be kept
+-- a rectangle that is in the limits of an image
 abbrev pub in_limits : Rectangle → Bool
 in_limits r = nat_le r.width (2 ^ 15) && nat_le r.height (2 ^ 15) && nat_le (area r) (2 ^ 25)
 

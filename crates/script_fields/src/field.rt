@@ -12,7 +12,7 @@ use plane_rect::{Name, Rect};
 use script_words::{FileName, push_integer, push_natural, push_word};
 
 /// A field of a command: one word, or a rectangle's four.
-#[derive(Clone, Copy, Debug)]
+#[derive(Clone, Copy, Debug, PartialEq)]
 pub enum Field {
     Name(Name),
     File(FileName),

@@ -19,7 +19,7 @@ use script_words::{FileName, integer_in, natural_in};
 
 /// Four numbers that may be a rectangle's: its left column, its top row, its width and its height,
 /// in pixels.
-#[derive(Clone, Copy, Debug)]
+#[derive(Clone, Copy, Debug, PartialEq, Eq)]
 pub struct RectNumbers {
     pub x: i64,
     pub y: i64,

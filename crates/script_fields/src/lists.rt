@@ -16,7 +16,7 @@ use std::marker::Model;
 /// Names, in their order.
 ///
 /// A clause sees it as the list of the names.
-#[derive(Drop)]
+#[derive(Debug, Drop)]
 pub struct Names {
     values: Vec<Name>,
 }

@@ -57,10 +57,10 @@ lines_of-append line rest h =
     λ k d below. not_passed _ (AllPass-from_list_all (λ (byte : ℕ). not (eqb byte 10)) line (and_first _ _ h) k d below) in
     let parts : slice_split is_feed (line ++ 10 ∷ rest) ≡ line ∷ slice_split is_feed rest = slice_split_at is_feed line 10 rest feeds refl in
     let last : eqb (get_or line (length line - 1) 0) 13 ≡ false = not_passed _ (and_second _ _ h) in
-    let kept : strip_carriage_return line ≡ line = rw last refl in
+    let same : strip_carriage_return line ≡ line = rw last refl in
     ap lines_of_parts parts
     ∙ first_of_parts line (slice_split is_feed rest) (omega (arith, length-slice_split is_feed rest))
-    ∙ ap (λ (first : List ℕ). first ∷ lines_of_parts (slice_split is_feed rest)) kept
+    ∙ ap (λ (first : List ℕ). first ∷ lines_of_parts (slice_split is_feed rest)) same
 
 pub lines_of-text_of : (lines : List (List ℕ)) → list_all is_line lines ≡ true → lines_of (text_of lines) ≡ lines
 lines_of-text_of [] h = lines_of_empty

@@ -5,7 +5,7 @@ use Rattle.std.specs.Str.Lines.{lines}
 use Rattle.outside_io.specs.FileName.{is_between}
 
 -- The lines with their ends taken off. A line ends at a line feed or at the end of the text, and a carriage return
--- just before a line feed belongs to the line's end. Behind a line feed at the end of the text there is no line.
+-- just before a line feed belongs to the line's end. After a line feed at the end of the text there is no line.
 unfoldable pub lines_of : List ℕ → List (List ℕ)
 lines_of text = lines text
 

@@ -1,4 +1,4 @@
--- Places moved, mirrored and surrounded.
+-- Positions moved, mirrored and surrounded.
 use Rattle.std.proofs.Common.{◌↔◌, ◌≡◌, ℕ, ℤ, pos, negsuc, ◌+◌, ◌-◌, ◌<◌, ◌≤◌, Bool, true, false, subst, arith}
 use Rattle.std.proofs.lemmas.Bool.Decides.{nat_tests}
 use Rattle.plane_rect.proofs.Rectangles.{rectangle-some}
