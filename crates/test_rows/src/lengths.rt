@@ -2,8 +2,8 @@
 
 ghost use Rattle.std.specs.Prelude.{◌<◌, ◌≤◌};
 
-use sample_rows::{convert_row, row_add, row_average4, row_invert, row_mask, row_over};
 use pixel_formats::Format;
+use sample_rows::{convert_row, row_add, row_average4, row_invert, row_mask, row_over};
 
 /// How many bytes the rows have that are read and written, of which a kernel uses a prefix.
 const ROOM: usize = 200;
