@@ -19,7 +19,7 @@ Repeats-once period old some = record {
   same = λ i below there. ap (λ (k : ℕ). get_or old k 0) (sym (mod-eq_of_lt below));
 }
 
-module _ (period done more : ℕ) (old now new : List ℕ) (before : Repeats period done old now) (first_column : done < length old)
+module _ (period done more : ℕ) (old now new : List ℕ) (before : Repeats period done old now) (remains : done < length old)
     (many : (more ≡ done) ⊎ (more ≡ length old - done)) (few : more ≤ done) (written : (i : ℕ) → i < more → get_or new (done + i) 0 ≡ get_or now i 0)
     (kept : (i : ℕ) → i < done → get_or new i 0 ≡ get_or now i 0) where
   whole : done % period ≡ 0

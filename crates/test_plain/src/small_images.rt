@@ -144,11 +144,11 @@ fn levels(rt: HostRuntime) -> Result<(), Fail> {
     );
     assert!(rt; is(alloc, &level(alloc, &odd, 1)?, [0, 0, 2, 1], gray, &[8, 8])?);
     assert!(rt; is(alloc, &level(alloc, &odd, 2)?, [0, 0, 1, 1], gray, &[4])?);
-    let first_column = picture(alloc, [-3, 0, 3, 1], gray, &[10, 20, 31])?;
+    let left = picture(alloc, [-3, 0, 3, 1], gray, &[10, 20, 31])?;
     assert!(rt;
         is(
             alloc,
-            &level(alloc, &first_column, 1)?,
+            &level(alloc, &left, 1)?,
             [-2, 0, 2, 1],
             gray,
             &[3, 13]
@@ -321,9 +321,9 @@ fn two_images(rt: HostRuntime) -> Result<(), Fail> {
     let alloc = rt.alloc();
     assert!(rt; joins(alloc, &IntOp::Add, 200, 100, 255)?);
     assert!(rt; joins(alloc, &IntOp::Mask, 200, 128, 100)?);
-    let first_column = picture(alloc, [0, 0, 1, 1], Format::Y8, &[200])?;
-    let end_column = picture(alloc, [1, 1, 1, 1], Format::Y8, &[100])?;
-    let apart = vec![in alloc; first_column, end_column]?;
+    let left = picture(alloc, [0, 0, 1, 1], Format::Y8, &[200])?;
+    let right = picture(alloc, [1, 1, 1, 1], Format::Y8, &[100])?;
+    let apart = vec![in alloc; left, right]?;
     let sum = result_of(alloc, &IntOp::Add, &apart)?.ok_or("not taken")?;
     assert!(rt; is(alloc, &sum, [0, 0, 2, 2], Format::Y8, &[200, 0, 0, 100])?);
     let masked = result_of(alloc, &IntOp::Mask, &apart)?.ok_or("not taken")?;
@@ -434,14 +434,14 @@ fn one_color_over_another(rt: HostRuntime) -> Result<(), Fail> {
     let alloc = rt.alloc();
     let position = [0, 0, 1, 1];
     let (format, rect) = (Format::RGBA8, rect(position));
-    let first_row = Pixel::new([100, 0, 0, 128].to_vec(alloc)?);
-    let end_row = Pixel::new([0, 200, 0, 255].to_vec(alloc)?);
+    let upper = Pixel::new([100, 0, 0, 128].to_vec(alloc)?);
+    let lower = Pixel::new([0, 200, 0, 255].to_vec(alloc)?);
     let steps = vec![in alloc;
         Step::Apply(
             IntOp::Color {
                 format,
                 rect,
-                samples: first_row
+                samples: upper
             },
             Vec::new(alloc)
         ),
@@ -449,7 +449,7 @@ fn one_color_over_another(rt: HostRuntime) -> Result<(), Fail> {
             IntOp::Color {
                 format,
                 rect,
-                samples: end_row
+                samples: lower
             },
             Vec::new(alloc)
         ),
