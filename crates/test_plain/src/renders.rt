@@ -10,7 +10,7 @@ use plain_graphs::Graph;
 use std::alloc::Global;
 use std::test::Fail;
 
-/// A mean over a square around each place of a buffer of 128 by 128 pixels.
+/// Returns a mean over a square around each pixel of a buffer of 128 by 128 pixels.
 fn mean_of_a_square(alloc: Global) -> Result<Graph, Fail> {
     let mean = IntOp::BoxMean {
         radius: 1,
@@ -57,7 +57,7 @@ fn work_after_an_undo(rt: HostRuntime) -> Result<(), Fail> {
     Ok(())
 }
 
-/// A photograph, cropped, made brighter and softer, under a caption.
+/// Returns a photograph, cropped, made brighter and softer, under a caption.
 fn captioned_photograph(alloc: Global) -> Result<Graph, Fail> {
     let crop = IntOp::Crop {
         rect: rect([16, 16, 992, 736])?,
@@ -117,7 +117,7 @@ fn a_strip_of_many_tiles(rt: HostRuntime) -> Result<(), Fail> {
     Ok(())
 }
 
-/// A mean of the first columns of a row.
+/// Returns a mean of the first columns of a row.
 fn mean_of_columns(alloc: Global, count: i64) -> Result<Graph, Fail> {
     let crop = IntOp::Crop {
         rect: rect([0, 0, count, 1])?,
@@ -166,7 +166,7 @@ fn a_box_that_grows(rt: HostRuntime) -> Result<(), Fail> {
     Ok(())
 }
 
-/// A source and a checkerboard added, softened, thinned and inverted.
+/// Returns a source and a checkerboard added, softened, thinned and inverted.
 fn made_job(alloc: Global) -> Result<Graph, Fail> {
     let checker = IntOp::Checker {
         format: Format::RGB8,
@@ -211,8 +211,8 @@ impl Randoms {
     }
 }
 
-/// The rectangles of the job's fills: seven draws each, of which the first four are its place and
-/// its sides.
+/// Returns the rectangles of the job's fills: seven random numbers each, of which the first four
+/// are its position and its sides.
 fn filled(alloc: Global) -> Result<Vec<Rect>, Fail> {
     let mut randoms = Randoms { state: 0 };
     let mut rects = Vec::new(alloc);
