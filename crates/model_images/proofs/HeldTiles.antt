@@ -28,7 +28,7 @@ module _ (format : Format) (held : HeldTiles) where
   unfolding tile_pixel
   in-tile tile u v c there = ap (λ (t : Tile). tile_pixel t u v c) (sym ((Inside-tile_square u v tile).0 there))
 
-  pixel-held : (tile : Tile) (bytes : List ℕ) (u v c : ℕ) → held tile ≡ Some bytes → Inside u v (tile_square tile)
+  pub pixel-held : (tile : Tile) (bytes : List ℕ) (u v c : ℕ) → held tile ≡ Some bytes → Inside u v (tile_square tile)
       → held_pixels format held u v c ≡ pixels_from_raw (tile_square tile) format bytes u v c
   unfolding tile_pixel
   pixel-held tile bytes u v c e there =
