@@ -3,10 +3,10 @@
 use crate::small_graphs::{
     buffer, name, node, nothing_cached, rect, render, source, step, strip_counts,
 };
-use pixel_formats::{Abyss, Format};
 use model_operations::IntOp;
-use plane_rect::{Name, Rect};
+use pixel_formats::{Abyss, Format};
 use plain_graphs::Graph;
+use plane_rect::{Name, Rect};
 use std::alloc::Global;
 use std::test::Fail;
 
@@ -68,19 +68,19 @@ fn captioned_photograph(alloc: Global) -> Result<Graph, Fail> {
     };
     let format = Format::RGBA8;
     let buffers = vec![in alloc;
-            buffer("photo", Format::RGB8, [0, 0, 1024, 768])?,
-            buffer("caption", Format::YA8, [40, 680, 400, 60])?,
-        ]?;
+        buffer("photo", Format::RGB8, [0, 0, 1024, 768])?,
+        buffer("caption", Format::YA8, [40, 680, 400, 60])?,
+    ]?;
     let nodes = vec![in alloc;
-            source("p", "photo")?,
-            node(alloc, "c", crop, &["p"])?,
-            node(alloc, "g", IntOp::Gain { num: 5, den: 4 }, &["c"])?,
-            node(alloc, "b", mean, &["g"])?,
-            node(alloc, "a", IntOp::Convert { format }, &["b"])?,
-            source("t", "caption")?,
-            node(alloc, "u", IntOp::Convert { format }, &["t"])?,
-            node(alloc, "o", IntOp::Over, &["u", "a"])?,
-        ]?;
+        source("p", "photo")?,
+        node(alloc, "c", crop, &["p"])?,
+        node(alloc, "g", IntOp::Gain { num: 5, den: 4 }, &["c"])?,
+        node(alloc, "b", mean, &["g"])?,
+        node(alloc, "a", IntOp::Convert { format }, &["b"])?,
+        source("t", "caption")?,
+        node(alloc, "u", IntOp::Convert { format }, &["t"])?,
+        node(alloc, "o", IntOp::Over, &["u", "a"])?,
+    ]?;
     Ok(Graph::new(alloc, buffers, nodes)?)
 }
 
@@ -128,10 +128,10 @@ fn mean_of_columns(alloc: Global, count: i64) -> Result<Graph, Fail> {
     };
     let buffers = vec![in alloc; buffer("a", Format::Y8, [0, 0, 200, 1])?]?;
     let nodes = vec![in alloc;
-            source("s", "a")?,
-            node(alloc, "c", crop, &["s"])?,
-            node(alloc, "b", mean, &["c"])?,
-        ]?;
+        source("s", "a")?,
+        node(alloc, "c", crop, &["s"])?,
+        node(alloc, "b", mean, &["c"])?,
+    ]?;
     Ok(Graph::new(alloc, buffers, nodes)?)
 }
 
@@ -154,10 +154,10 @@ fn a_box_that_grows(rt: HostRuntime) -> Result<(), Fail> {
     let mean = |abyss| IntOp::BoxMean { radius: 1, abyss };
     let buffers = vec![in alloc; buffer("a", Format::Y8, [0, 0, 1, 1])?]?;
     let nodes = vec![in alloc;
-            source("s", "a")?,
-            node(alloc, "b", mean(Abyss::None), &["s"])?,
-            node(alloc, "c", mean(Abyss::Clamp), &["s"])?,
-        ]?;
+        source("s", "a")?,
+        node(alloc, "b", mean(Abyss::None), &["s"])?,
+        node(alloc, "c", mean(Abyss::Clamp), &["s"])?,
+    ]?;
     let graph = Graph::new(alloc, buffers, nodes)?;
     let mut lookups = nothing_cached(alloc);
     render(alloc, &graph, "b", [-1, -1, 3, 3], &mut lookups)?;
@@ -185,13 +185,13 @@ fn made_job(alloc: Global) -> Result<Graph, Fail> {
     };
     let buffers = vec![in alloc; buffer("a", Format::RGB8, [0, 0, 512, 384])?]?;
     let nodes = vec![in alloc;
-            source("s", "a")?,
-            node(alloc, "k", checker, &[])?,
-            node(alloc, "d", IntOp::Add, &["s", "k"])?,
-            node(alloc, "b", mean, &["d"])?,
-            node(alloc, "e", erode, &["b"])?,
-            node(alloc, "i", IntOp::Invert, &["e"])?,
-        ]?;
+        source("s", "a")?,
+        node(alloc, "k", checker, &[])?,
+        node(alloc, "d", IntOp::Add, &["s", "k"])?,
+        node(alloc, "b", mean, &["d"])?,
+        node(alloc, "e", erode, &["b"])?,
+        node(alloc, "i", IntOp::Invert, &["e"])?,
+    ]?;
     Ok(Graph::new(alloc, buffers, nodes)?)
 }
 

@@ -2,12 +2,12 @@
 
 ghost use Rattle.plane_rect.specs.Rectangle.{InLimits};
 
-use pixel_formats::{Abyss, Format, PixelSamples as Pixel};
 use model_operations::IntOp;
-use plane_rect::{Name, Rect};
+use pixel_formats::{Abyss, Format, PixelSamples as Pixel};
 use plain_images::{
     Buffer, Picture, Samples, Step, evaluate, from_raw, level, raw_with, result_of,
 };
+use plane_rect::{Name, Rect};
 use std::alloc::Global;
 use std::test::Fail;
 
@@ -359,7 +359,15 @@ fn without_images(rt: HostRuntime) -> Result<(), Fail> {
         v2: 7,
     };
     let generated = result_of(alloc, &opaque, &[])?.ok_or("not taken")?;
-    assert!(rt; is(alloc, &generated, [0, 0, 2, 1], Format::YA8, &[3, 255, 7, 255])?);
+    assert!(rt;
+        is(
+            alloc,
+            &generated,
+            [0, 0, 2, 1],
+            Format::YA8,
+            &[3, 255, 7, 255]
+        )?
+    );
     Ok(())
 }
 

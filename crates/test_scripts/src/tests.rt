@@ -1,8 +1,8 @@
 //! The tests.
 
 use crate::cases::{FIRST_RUN, PRINTED, REFUSED};
-use plane_rect::{Name, Rect};
 use pixel_formats::Format;
+use plane_rect::{Name, Rect};
 use script_read::{Command, Line, OpWords, ScriptAnswer, is_script, print_script, read_script};
 use std::alloc::{AllocError, Global};
 use std::test::Fail;
