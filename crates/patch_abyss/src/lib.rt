@@ -9,6 +9,6 @@ mod reading;
 mod rows;
 
 pub use halving::halve;
-pub use patch::{Patch, PatchRefused};
+pub use patch::{Patch, PatchRefused, sample_at};
 pub use pixel_formats::Abyss;
 pub use reading::fetch;

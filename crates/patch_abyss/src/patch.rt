@@ -310,7 +310,7 @@ pub(crate) fn byte_count(rect: &Rect, format: Format) -> usize
 }
 
 /// Returns a sample of raw bytes, by its index.
-fn sample_at(format: Format, bytes: &[u8], index: usize) -> u32
+pub fn sample_at(format: Format, bytes: &[u8], index: usize) -> u32
     requires { depth format * (index + 1) ≤ length bytes.now }
     ensures { result ≡ sample_at (depth format) bytes.now index }
 {

@@ -1,0 +1,4 @@
+pub mod Distinct
+pub mod Painted
+pub mod Shown
+pub mod Limits

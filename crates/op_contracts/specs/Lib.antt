@@ -1,0 +1,3 @@
+pub mod Applying
+pub mod Sources
+pub mod TileList

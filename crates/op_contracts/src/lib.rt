@@ -1,0 +1,13 @@
+//! What carries out operations: kits, the windows that they read, and where the tiles of buffers come from.
+#![tactic(auto)]
+
+mod kit;
+mod source_tiles;
+mod window;
+mod window_tiles;
+
+pub use kit::OpKit;
+pub use model_graphs::{Body, BufferFact, Edited, NodeEdit, NodeFact, NodeSpec, OpMeaning};
+pub use source_tiles::SourceTiles;
+pub use window::Window;
+pub use window_tiles::WindowTiles;
