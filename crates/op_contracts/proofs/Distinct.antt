@@ -1,6 +1,6 @@
 -- Tiles of which none is in a list twice.
-use Rattle.std.proofs.Common.{◌≡◌, ℕ, suc, ◌+◌, ◌-◌, ◌<◌, ◌↔◌, List, [], ◌∷◌, Bool, true, false, cond, length, get_or, drop, take, Option, Some, None, option_map, refl, sym, ap, ◌∙◌, add-one, drop-cons}
-use Rattle.std.specs.Prelude.{is_some}
+use Rattle.std.proofs.Common.{◌≡◌, ℕ, suc, ◌+◌, ◌-◌, ◌<◌, ◌↔◌, List, [], ◌∷◌, Bool, true, false, cond, length, get_or, drop, take, Option, Some, None, option_map, refl, sym, ap, ◌∙◌, add-one, drop-cons, rules}
+use Rattle.std.specs.Prelude.{IsSome, is_some}
 use Rattle.std.proofs.lemmas.List.{take_rest}
 use Rattle.std.specs.List.{AllByRecursion, IsDistinct}
 use Rattle.std.specs.Map.{lookup}
@@ -77,3 +77,7 @@ is_some-map f (Some a) = refl
 pub none-from : {A : Type 0} (o : Option A) → is_some o ≡ false → o ≡ None
 none-from None none = refl
 none-from (Some a) none = absurd (cc none)
+
+pub some-from : {A B : Type 0} (f : A → B) (o : Option A) (p : Option B) → option_map f o ≡ p → is_some o ≡ true → IsSome p
+some-from f None p is some = absurd (cc some)
+some-from f (Some a) p is some = rw (← is) (search rules)

@@ -1,5 +1,5 @@
 -- Samples that windows show.
-use Rattle.std.proofs.Common.{◌≡◌, ℕ, zero, suc, ◌+◌, ◌*◌, ◌<◌, ◌≤◌, ◌^◌, List, [], ◌∷◌, Bool, true, false, cond, length, All, Option, Some, None, refl, ap, ◌∙◌, arith}
+use Rattle.std.proofs.Common.{◌≡◌, ℕ, zero, suc, ◌+◌, ◌*◌, ◌<◌, ◌≤◌, List, [], ◌∷◌, Bool, true, false, cond, length, All, Option, Some, None, refl, ap, ◌∙◌, arith}
 use Rattle.std.specs.Map.{lookup}
 use Rattle.std.specs.Option.{option_map_or}
 use Rattle.plane_rect.specs.Rectangle.{Inside, offset}
@@ -32,7 +32,7 @@ first-long format entry bytes rest false long others e = others e
 
 pub found-long : (format : Format) (tile : Tile) (entries : List (Tile × List ℕ)) (bytes : List ℕ) → All (HasTileLength format) entries
     → lookup (same_tile tile) entries ≡ Some bytes → length bytes ≡ 4096 * pixel_bytes format
-found-long format tile [] bytes long e = absurd (grind e)
+found-long format tile [] bytes long e = absurd (cc e)
 found-long format tile (entry ∷ entries) bytes long e =
     first-long format entry bytes (lookup (same_tile tile) entries) (same_tile tile entry.0) (long 0 entry (omega arith))
     (found-long format tile entries bytes (λ k d below. long (suc k) d (omega (arith, below)))) e
@@ -48,14 +48,3 @@ sample-fits Y16 k c below known = omega arith
 sample-fits YA16 k c below known = omega arith
 sample-fits RGB16 k c below known = omega arith
 sample-fits RGBA16 k c below known = omega arith
-
-pub index-small : (format : Format) (k c : ℕ) → k < 4096 → c < channels format
-    → (k * channels format < 2 ^ 64) × (k * channels format + c < 2 ^ 64)
-index-small Y8 k c below known = (omega arith, omega arith)
-index-small YA8 k c below known = (omega arith, omega arith)
-index-small RGB8 k c below known = (omega arith, omega arith)
-index-small RGBA8 k c below known = (omega arith, omega arith)
-index-small Y16 k c below known = (omega arith, omega arith)
-index-small YA16 k c below known = (omega arith, omega arith)
-index-small RGB16 k c below known = (omega arith, omega arith)
-index-small RGBA16 k c below known = (omega arith, omega arith)
