@@ -2,3 +2,4 @@ pub mod Distinct
 pub mod Painted
 pub mod Shown
 pub mod Limits
+pub mod Applied

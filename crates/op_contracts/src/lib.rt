@@ -2,6 +2,7 @@
 #![tactic(auto)]
 
 mod kit;
+pub mod laws;
 mod source_tiles;
 mod window;
 mod window_tiles;

@@ -40,7 +40,6 @@ pub trait SourceTiles<H: ChainMeaning> {
     /// `SwapFault` only where the swap's count of I/O errors rose in this call, `SwapFull` only where
     /// the chain's names can fill the swap, and `NoMemory` if memory runs out.
     fn tile(&mut self, chain: &mut H, buffer: Name, at: TileAt) -> Result<Tile, SwapRefused>
-        requires valid { H.is_valid chain.old }
         requires over { is_over self.old (H.held chain.old) }
         requires known { IsSome (fact_of (facts self.old) buffer) }
         ensures bytes { IfOk result (IsTileOf (images self.old (H.held chain.old)) buffer at) }
@@ -51,7 +50,7 @@ pub trait SourceTiles<H: ChainMeaning> {
         ensures over { is_over self.new (H.held chain.new) }
         ensures others { Respects (H.held chain.old) (H.held chain.new) (names self.old) (names self.new) }
         ensures counts { Grows 0 (H.counts chain.old) (H.counts chain.new) }
-        ensures valid { H.is_valid chain.new }
+        ensures valid { H.is_valid chain.old → H.is_valid chain.new }
         ensures loans { H.loans chain.new ≡ H.loans chain.old };
 
     /// What it is seen as depends on nothing of the chain but the bytes of the names that it holds.
