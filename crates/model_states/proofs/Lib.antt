@@ -18,3 +18,6 @@ pub mod Steady
 pub mod RetainedLaws
 pub mod HistoryLaws
 pub mod Written
+pub mod Voids
+pub mod Suited
+pub mod Symmetric
