@@ -16,7 +16,7 @@ use Rattle.model_graphs.specs.Laws.{IsEquality}
 use Rattle.model_graphs.specs.Meanings.{Meanings}
 use Rattle.model_graphs.specs.Node.{Node, index_of, step_of}
 use Rattle.model_graphs.specs.Shapes.{Shape, no_shape}
-use Rattle.model_states.specs.Damage.{AreSteady, Change, IsStated, IsStatedChange, Side, damage, damage_of_node, damage_passed_on, damages, damages_after, have_same_shapes, inputs_of, invalidated_by, is_unedited, known_damage, new_boxes, new_shape, reversed, same_body, same_shape, side_shape}
+use Rattle.model_states.specs.Damage.{AreSteady, Change, HaveRectangles, IsStated, IsStatedChange, Side, damage, damage_of_node, damage_passed_on, damages, damages_after, have_same_shapes, inputs_of, invalidated_by, is_unedited, known_damage, new_boxes, new_shape, reversed, same_body, same_shape, side_shape}
 use Rattle.model_states.specs.Rectangles.{rectangle_of}
 use Rattle.model_states.specs.Regions.{hull_of}
 use Rattle.model_states.specs.State.{node_of}
@@ -48,10 +48,6 @@ hull_symmetric a b is also = by (is_empty a) refl (is_empty b) refl
     by true e false f = rw (e, f) refl
     by false e true f = rw (e, f) refl
     by false e false f = rw (e, f) (grind (arith, nat_tests))
-
--- the boxes of the stated nodes are rectangles of the plane
-abbrev pub HaveRectangles : {Op : Type 0} → Side Op → Type 0
-HaveRectangles {Op} side = AllByRecursion (λ (fact : NodeFact Op). IsRectangle fact.bounds) side.nodes
 
 empty_rectangle : IsRectangle empty
 empty_rectangle = record { columns = omega arith; rows = omega arith; empty_width = λ e. refl; empty_height = λ e. refl }

@@ -1,10 +1,10 @@
 //! What states of a graph are, how one follows another, and what a render of one needs.
 #![tactic(auto)]
 
+pub mod examples;
+pub mod laws;
 mod refused;
 mod strip;
-
-pub mod examples;
 
 pub use refused::StateRefused;
 pub use strip::{NeedList, Strip};
