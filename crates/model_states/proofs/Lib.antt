@@ -21,3 +21,4 @@ pub mod Written
 pub mod Voids
 pub mod Suited
 pub mod Symmetric
+pub mod Serves

@@ -1,7 +1,12 @@
 //! What holds of damage, of cached pairs and of nodes, for those who compute them.
 
 ghost use Rattle.std.specs.Prelude.{◌≡◌, ◌↔◌, ℕ, Bool, List, map, slice_get, Some, true};
+ghost use Rattle.std.specs.List.{AllByRecursion, Contains};
+ghost use Rattle.plane_rect.specs.Rectangle.{Rectangle};
+ghost use Rattle.plane_rect.specs.Tile.{Tile, tiles};
 ghost use Rattle.model_graphs.specs.declared.node.Body.TheVariants.{Compute};
+ghost use Rattle.model_graphs.specs.declared.node.NodeFact.{NodeFact};
+ghost use Rattle.model_graphs.specs.Facts.{specs_of, stated_shapes};
 ghost use Rattle.model_graphs.specs.Laws.{IsEquality};
 ghost use Rattle.model_graphs.specs.Meanings.{Meanings};
 ghost use Rattle.model_graphs.specs.Node.{index_of, Node};
@@ -9,7 +14,11 @@ ghost use Rattle.model_graphs.specs.Shapes.{Shapes};
 ghost use Rattle.model_states.specs.Cache.{all_voided, Pair, same_pair, without_damaged};
 ghost use Rattle.model_states.specs.Damage.{Change, damage, damage_list, HaveRectangles, IsStatedChange, reversed};
 ghost use Rattle.model_states.specs.Rectangles.{rectangle_of};
-ghost use Rattle.model_states.specs.Valid.{AreValid, shapes_of, Suits};
+ghost use Rattle.model_states.specs.declared.strip.Strip.{Strip as StripData};
+ghost use Rattle.model_states.specs.Need.{need};
+ghost use Rattle.model_states.specs.Regions.{meets};
+ghost use Rattle.model_states.specs.Serving.{ServesItself};
+ghost use Rattle.model_states.specs.Valid.{AreStated, AreValid, shapes_of, steps_of, Suits};
 
 /// The damage of a change is the same from the other side, so that an undo has the damage of its commit.
 pub fn damage_is_symmetric<Op>()
@@ -43,4 +52,17 @@ pub fn operations_suit_all_shapes<Op>()
 /// The test of pairs decides whether they are equal.
 pub fn same_pair_decides()
     ensures { (a b : Pair) → (same_pair a b ≡ true) ↔ (a ≡ b) }
+{}
+
+/// Each tile that a needed one requires of an input is needed before it in the strip, or the input is a source.
+pub fn needs_serve_themselves<Op>()
+    ensures { (meanings : Meanings Op) (buffers : Shapes) (facts : List (NodeFact Op)) (node : ℕ) (request : Rectangle) →
+        AreStated meanings buffers facts →
+        AllByRecursion (λ (strip : StripData). ServesItself meanings (stated_shapes facts) (steps_of (specs_of facts)) strip.need)
+        (need meanings facts node request) }
+{}
+
+/// A tile that meets a rectangle is among its tiles.
+pub fn meeting_tiles_are_listed()
+    ensures { (r : Rectangle) (t : Tile) → meets t r ≡ true → Contains (tiles r) t }
 {}
