@@ -22,3 +22,4 @@ pub mod Voids
 pub mod Suited
 pub mod Symmetric
 pub mod Serves
+pub mod Wide

@@ -1,6 +1,6 @@
 //! What holds of damage, of cached pairs and of nodes, for those who compute them.
 
-ghost use Rattle.std.specs.Prelude.{◌≡◌, ◌↔◌, ℕ, Bool, List, map, slice_get, Some, true};
+ghost use Rattle.std.specs.Prelude.{◌≡◌, ◌↔◌, ◌≤◌, ℕ, Bool, length, List, map, None, slice_get, Some, true};
 ghost use Rattle.std.specs.List.{AllByRecursion, Contains};
 ghost use Rattle.plane_rect.specs.Rectangle.{Rectangle};
 ghost use Rattle.plane_rect.specs.Tile.{Tile, tiles};
@@ -15,7 +15,7 @@ ghost use Rattle.model_states.specs.Cache.{all_voided, Pair, same_pair, without_
 ghost use Rattle.model_states.specs.Damage.{Change, damage, damage_list, HaveRectangles, IsStatedChange, reversed};
 ghost use Rattle.model_states.specs.Rectangles.{rectangle_of};
 ghost use Rattle.model_states.specs.declared.strip.Strip.{Strip as StripData};
-ghost use Rattle.model_states.specs.Need.{need};
+ghost use Rattle.model_states.specs.Need.{need, wide};
 ghost use Rattle.model_states.specs.Regions.{meets};
 ghost use Rattle.model_states.specs.Serving.{ServesItself};
 ghost use Rattle.model_states.specs.Valid.{AreStated, AreValid, shapes_of, steps_of, Suits};
@@ -65,4 +65,10 @@ pub fn needs_serve_themselves<Op>()
 /// A tile that meets a rectangle is among its tiles.
 pub fn meeting_tiles_are_listed()
     ensures { (r : Rectangle) (t : Tile) → meets t r ≡ true → Contains (tiles r) t }
+{}
+
+/// No strip is too wide for a capacity exactly where each needs at most so many tiles.
+pub fn wide_strips_are_found()
+    ensures { (capacity : ℕ) (strips : List StripData) → (wide capacity strips ≡ None)
+        ↔ AllByRecursion (λ (strip : StripData). length strip.need ≤ capacity) strips }
 {}
