@@ -1,5 +1,5 @@
-pub mod Continuing
 pub mod Sources
+pub mod Continuing
 pub mod Steps
 pub mod RightPairs
 pub mod Actions

@@ -7,28 +7,32 @@ use Rattle.std.proofs.lemmas.List.{length-append}
 use Rattle.std.proofs.lemmas.Option.{same_Some}
 use Rattle.pixel_formats.specs.Limits.{max_undoable}
 use Rattle.plane_rect.specs.Rectangle.{Rectangle}
-use Rattle.model_buffers.specs.Edits.{Edited}
-use Rattle.model_buffers.specs.Table.{IsTable, Table}
+use Rattle.model_buffers.specs.declared.edit.BufferEdit.{BufferEdit}
+use Rattle.model_buffers.specs.BufferEdit.{IsProperEdit, written_by}
+use Rattle.model_buffers.specs.Edits.{Edited, edited_table}
+use Rattle.model_buffers.specs.Table.{IsTable, Table, layout_of, no_buffers}
+use Rattle.model_buffers.proofs.SeenLaws.{IsTable-no_buffers}
 use Rattle.model_graphs.specs.declared.node.NodeEdit.{NodeEdit}
 use Rattle.model_graphs.specs.Meanings.{Meanings}
 use Rattle.model_graphs.specs.Node.{Node}
 use Rattle.model_states.specs.declared.refused.StateRefused.{StateRefused}
+use Rattle.model_states.specs.Damage.{IsStated}
 use Rattle.model_states.specs.Edits.{edited}
 use Rattle.model_states.specs.History.{Committed, History, appended, committed, committed_states, latest_of, new_history, number_of, redone, undone, with_step}
 use Rattle.model_states.specs.Rectangles.{Rectangles}
-use Rattle.model_states.specs.Retained as retained
-use Rattle.model_states.specs.Retained.{AreFew, Retained, Stepped, left_state}
-use Rattle.model_states.specs.State.{State}
+use Rattle.model_states.specs.Retained.{AreFew, Retained, Stepped, left_state, redo_to, undo_to, with_commit}
+use Rattle.model_states.specs.State.{IsValidScene, State}
 use Rattle.model_states.specs.Valid.{AreValid}
 use Rattle.model_states.specs.Workspace as workspace
-use Rattle.model_states.specs.Workspace.{Workspace, settled, settled_step}
+use Rattle.model_states.specs.Workspace.{Workspace, settled, settled_step, with_pending}
 use Rattle.model_states.proofs.EditLaws.{edits_leave_valid}
 use Rattle.model_states.proofs.RetainedLaws.{at_last, commit_few}
-use Rattle.model_sessions.specs.Histories.{AreInTurn, AreSeparated, IsHistory, IsTrail, IsValidState, last_state}
-use Rattle.model_sessions.specs.Steps.{AreProper, BufferEdit, Commit, EditBuffer, EditNode, HistoryEdit, IsProper, IsProperEdit, Redo, Undo, after_step, edited_table, made_by, no_buffers, only, with_buffer_edit, with_working, written_by}
+use Rattle.model_states.proofs.Stated.{stated_valid}
+use Rattle.model_sessions.specs.Histories.{AreInTurn, AreSeparated, AreTablesSeparated, IsHistory, IsTrail, IsValidState, last_state, scene_of, side_of_state}
+use Rattle.model_sessions.specs.Steps.{AreProper, Commit, EditBuffer, EditNode, HistoryEdit, IsProper, Redo, Undo, after_step, made_by, only, with_edit, with_working, with_workspace}
 use Rattle.model_sessions.specs.Tables.{Continues, table_shapes}
 use Rattle.model_sessions.proofs.Continuing.{continues-itself, continues-then, edit-continues, edit-table}
-use Rattle.model_sessions.proofs.Sources.{neighbors, neighbors-back}
+use Rattle.model_sessions.proofs.Sources.{images_known, neighbors, neighbors-back}
 
 -- ---- lists
 
@@ -43,20 +47,11 @@ all_last P (first ∷ xs) x all = all_last P xs x all.1
 none_at : {X : Type 0} (x after : X) (k : ℕ) → slice_get (x ∷ []) (suc k) ≡ Some after → ⊥
 none_at x after k found = cc
 
--- the table without a buffer is one
-empty_table : IsTable no_buffers
-empty_table =
-    record {
-      few = omega arith;
-      buffer_names = λ i j d before below. absurd (omega (arith, before, below));
-      root_names = λ i j d before below. absurd (omega (arith, before, below));
-      named = λ root some. absurd (cc);
-      rooted = λ name. tt;
-      kept = λ root. tt;
-    }
-
 abbrev States : Type 0 → Type 0
 States Op = Retained (State Table Op) Rectangles
+
+abbrev Step : Type 0 → Type 0
+Step Op = Stepped (Workspace Table Op Rectangles) Rectangles
 
 module _ {Op : Type 0} where
   -- the first of a list that goes on is the first of its prefix
@@ -82,131 +77,131 @@ module _ {Op : Type 0} where
   trail_take meanings (suc n) state [] is = tt
   trail_take meanings (suc n) state (next ∷ rest) is = (is.0, is.1, trail_take meanings n next.state rest is.2)
 
-  -- ---- a state more
+  -- ---- valid states
+
+  pub valid_scene : (meanings : Meanings Op) (state : State Table Op) → IsValidState meanings state → IsValidScene meanings (scene_of state)
+  valid_scene meanings state is = subst (λ shapes. AreValid meanings shapes state.nodes) (sym (images_known state.table)) is.nodes
+
+  pub valid_side : (meanings : Meanings Op) (state : State Table Op) → IsValidState meanings state → IsStated meanings (side_of_state meanings state)
+  valid_side meanings state is = stated_valid meanings (table_shapes state.table) state.nodes is.nodes
 
   pub latest_valid : (meanings : Meanings Op) (history : History Table Op) → IsHistory meanings history → IsValidState meanings (last_state history)
   latest_valid meanings history is = all_last (λ (committed : Committed Table Op). IsValidState meanings committed.state) history.earlier (latest_of history) is.states
 
-  -- what a step leaves
+  -- ---- a state more
+
+  -- a step to retained states from a history, and what it needs to make a history
   record IsNext (meanings : Meanings Op) (history : History Table Op) (step : Stepped (States Op) Rectangles) : Type 0 where
-    number : step.next.number ≡ number_of history + 1
     valid : IsValidState meanings step.next.latest
-    separated : AreSeparated (latest_of history) (record { state = step.next.latest; delta = step.delta })
-    back : IsTrail meanings step.next.latest step.next.undoable
-    on : IsTrail meanings step.next.latest step.next.redoable
+    separated : AreTablesSeparated (last_state history).table step.next.latest.table step.delta
+    number : step.next.number ≡ number_of history + 1
+    undoable : IsTrail meanings step.next.latest step.next.undoable
+    redoable : IsTrail meanings step.next.latest step.next.redoable
     few : AreFew step.next
 
-  abbrev settle : Stepped (States Op) Rectangles → Stepped (Workspace Table Op Rectangles) Rectangles
-  settle step = record { next = settled step.next; delta = step.delta }
-
   state_more : (meanings : Meanings Op) (history : History Table Op) (step : Stepped (States Op) Rectangles) → IsHistory meanings history → IsNext meanings history step →
-      IsHistory meanings (with_step history (settle step))
+      IsHistory meanings (with_step history (record { next = settled step.next; delta = step.delta }))
   state_more meanings history step is next =
       let latest : Committed Table Op = record { state = step.next.latest; delta = step.delta } in
       record {
         states = all_push (λ (committed : Committed Table Op). IsValidState meanings committed.state) (committed_states history) latest is.states next.valid;
         in_turn = turn_push history.earlier (latest_of history) latest is.in_turn next.separated;
-        number = omega (arith, next.number, is.number, length-append history.earlier (latest_of history ∷ []));
+        number = let count = length-append history.earlier (latest_of history ∷ []) in omega (arith, count, next.number, is.number);
         working = next.valid.table;
         continued = continues-itself step.next.latest.table;
-        undoable = next.back;
-        redoable = next.on;
+        undoable = next.undoable;
+        redoable = next.redoable;
         few = next.few;
       }
 
   -- the state that is left is away from the next one by the same rectangles
-  left_trail : (meanings : Meanings Op) (history : History Table Op) (next : Committed Table Op) (trail : List (Committed Table Op)) →
-      IsHistory meanings history → AreSeparated (latest_of history) next → IsTrail meanings (last_state history) trail →
-      IsTrail meanings next.state (left_state history.workspace.retained next.delta ∷ trail)
-  left_trail meanings history next trail is separated rest =
-      (latest_valid meanings history is, neighbors-back (last_state history).table next.state.table next.delta separated, rest)
+  left_trail : (meanings : Meanings Op) (history : History Table Op) (next : State Table Op) (delta : Rectangles) (trail : List (Committed Table Op)) →
+      IsHistory meanings history → AreTablesSeparated (last_state history).table next.table delta → IsTrail meanings (last_state history) trail →
+      IsTrail meanings next (left_state history.workspace.retained delta ∷ trail)
+  left_trail meanings history next delta trail is separated rest =
+      (latest_valid meanings history is, neighbors-back (last_state history).table next.table delta separated, rest)
 
   -- ---- steps that append a state
 
-  if_appended : (P : History Table Op → Type 0) (history : History Table Op) (r : Result (Stepped (Workspace Table Op Rectangles) Rectangles) StateRefused) →
-      IfOk r (λ step. P (with_step history step)) → IfOk (appended history r) P
-  if_appended P history (Ok step) holds = holds
-  if_appended P history (Err refused) holds = tt
+  keeps_step : (meanings : Meanings Op) (history : History Table Op) (r : Result (Step Op) StateRefused) → IfOk r (λ step. IsHistory meanings (with_step history step)) → IfOk (appended history r) (IsHistory meanings)
+  keeps_step meanings history (Ok step) is = is
+  keeps_step meanings history (Err refused) is = tt
+
+  keeps_settled : (meanings : Meanings Op) (history : History Table Op) (r : Result (Stepped (States Op) Rectangles) StateRefused) → IsHistory meanings history →
+      IfOk r (IsNext meanings history) → IfOk (appended history (settled_step r)) (IsHistory meanings)
+  keeps_settled meanings history (Ok step) is next = state_more meanings history step is next
+  keeps_settled meanings history (Err refused) is next = tt
 
   commit_keeps : (meanings : Meanings Op) (history : History Table Op) → IsHistory meanings history → IfOk (committed meanings table_shapes history) (IsHistory meanings)
   commit_keeps meanings history is =
-      if_appended (IsHistory meanings) history _
-      (at_last (λ step. IsHistory meanings (with_step history step)) (number_of history)
-      (workspace.commit_edited space (λ state. space.written) nodes)
-      (of nodes (edits_leave_valid meanings (table_shapes space.working) (last_state history).nodes space.pending valid.nodes.few valid.nodes.distinct)))
+      let nodes = edited meanings (table_shapes history.workspace.working) (last_state history).nodes history.workspace.pending in
+      let step = workspace.commit_edited history.workspace (λ state. history.workspace.written) nodes in
+      keeps_step meanings history (workspace.committed meanings table_shapes (λ state. history.workspace.written) history.workspace)
+      (at_last (λ step. IsHistory meanings (with_step history step)) (number_of history) step
+      (of nodes (edits_leave_valid meanings (table_shapes history.workspace.working) (last_state history).nodes history.workspace.pending valid.nodes.few valid.nodes.distinct)))
     where
-      space : Workspace Table Op Rectangles
-      space = history.workspace
-
-      nodes : Result (List (Node Op)) StateRefused
-      nodes = edited meanings (table_shapes space.working) (last_state history).nodes space.pending
-
       valid : IsValidState meanings (last_state history)
       valid = latest_valid meanings history is
 
-      next : List (Node Op) → State Table Op
-      next nodes = record { table = space.working; nodes = nodes }
+      separated : AreTablesSeparated (last_state history).table history.workspace.working history.workspace.written
+      separated = neighbors (last_state history).table history.workspace.working history.workspace.written is.continued
 
-      more : (nodes : List (Node Op)) → AreValid meanings (table_shapes space.working) nodes → IsNext meanings history (record { next = retained.with_commit space.retained (next nodes) space.written; delta = space.written })
-      more nodes are =
-          let separated = neighbors (last_state history).table space.working space.written is.continued in
-          record {
-            number = refl;
+      of : (r : Result (List (Node Op)) StateRefused) → IfOk r (AreValid meanings (table_shapes history.workspace.working)) →
+          IfOk (workspace.commit_edited history.workspace (λ state. history.workspace.written) r) (λ step. IsHistory meanings (with_step history step))
+      of (Err refused) are = tt
+      of (Ok nodes) are =
+          let next : State Table Op = record { table = history.workspace.working; nodes = nodes } in
+          let written = history.workspace.written in
+          state_more meanings history (record { next = with_commit history.workspace.retained next written; delta = written }) is
+          (record {
             valid = record { table = is.working; nodes = are };
             separated = separated;
-            back = trail_take meanings max_undoable (next nodes) (left_state space.retained space.written ∷ space.retained.undoable)
-                (left_trail meanings history (record { state = next nodes; delta = space.written }) space.retained.undoable is separated is.undoable);
-            on = tt;
-            few = commit_few space.retained (next nodes) space.written;
-          }
-
-      of : (r : Result (List (Node Op)) StateRefused) → IfOk r (AreValid meanings (table_shapes space.working)) →
-          IfOk (workspace.commit_edited space (λ state. space.written) r) (λ step. IsHistory meanings (with_step history step))
-      of (Err refused) are = tt
-      of (Ok nodes) are = state_more meanings history (record { next = retained.with_commit space.retained (next nodes) space.written; delta = space.written }) is (more nodes are)
-
-  if_settled : (meanings : Meanings Op) (history : History Table Op) (r : Result (Stepped (States Op) Rectangles) StateRefused) → IsHistory meanings history → IfOk r (IsNext meanings history) →
-      IfOk (appended history (settled_step r)) (IsHistory meanings)
-  if_settled meanings history (Err refused) is next = tt
-  if_settled meanings history (Ok step) is next = state_more meanings history step is next
+            number = refl;
+            undoable = trail_take meanings max_undoable next (left_state history.workspace.retained written ∷ history.workspace.retained.undoable)
+                (left_trail meanings history next written history.workspace.retained.undoable is separated is.undoable);
+            redoable = tt;
+            few = commit_few history.workspace.retained next written;
+          })
 
   undo_keeps : (meanings : Meanings Op) (history : History Table Op) → IsHistory meanings history → IfOk (undone history) (IsHistory meanings)
   undo_keeps meanings history is =
-      if_settled meanings history (retained.undone states) is
-      (at_last (IsNext meanings history) states.number (retained.undo_to states states.undoable) (of states.undoable is.undoable is.few))
+      keeps_settled meanings history _ is
+      (at_last (IsNext meanings history) (number_of history) (undo_to retained retained.undoable) (of retained.undoable is.undoable is.few))
     where
-      states : States Op
-      states = history.workspace.retained
+      retained : States Op
+      retained = history.workspace.retained
 
-      of : (trail : List (Committed Table Op)) → IsTrail meanings (last_state history) trail → length trail + length states.redoable ≤ max_undoable → IfOk (retained.undo_to states trail) (IsNext meanings history)
+      of : (trail : List (Committed Table Op)) → IsTrail meanings (last_state history) trail →
+          length trail + length retained.redoable ≤ max_undoable → IfOk (undo_to retained trail) (IsNext meanings history)
       of [] back few = tt
       of (next ∷ rest) back few =
           record {
-            number = refl;
             valid = back.0;
             separated = back.1;
-            back = back.2;
-            on = left_trail meanings history next states.redoable is back.1 is.redoable;
+            number = refl;
+            undoable = back.2;
+            redoable = left_trail meanings history next.state next.delta retained.redoable is back.1 is.redoable;
             few = omega (arith, few);
           }
 
   redo_keeps : (meanings : Meanings Op) (history : History Table Op) → IsHistory meanings history → IfOk (redone history) (IsHistory meanings)
   redo_keeps meanings history is =
-      if_settled meanings history (retained.redone states) is
-      (at_last (IsNext meanings history) states.number (retained.redo_to states states.redoable) (of states.redoable is.redoable is.few))
+      keeps_settled meanings history _ is
+      (at_last (IsNext meanings history) (number_of history) (redo_to retained retained.redoable) (of retained.redoable is.redoable is.few))
     where
-      states : States Op
-      states = history.workspace.retained
+      retained : States Op
+      retained = history.workspace.retained
 
-      of : (trail : List (Committed Table Op)) → IsTrail meanings (last_state history) trail → length states.undoable + length trail ≤ max_undoable → IfOk (retained.redo_to states trail) (IsNext meanings history)
+      of : (trail : List (Committed Table Op)) → IsTrail meanings (last_state history) trail →
+          length retained.undoable + length trail ≤ max_undoable → IfOk (redo_to retained trail) (IsNext meanings history)
       of [] on few = tt
       of (next ∷ rest) on few =
           record {
-            number = refl;
             valid = on.0;
             separated = on.1;
-            back = left_trail meanings history next states.undoable is on.1 is.undoable;
-            on = on.2;
+            number = refl;
+            undoable = left_trail meanings history next.state next.delta retained.undoable is on.1 is.undoable;
+            redoable = on.2;
             few = omega (arith, few);
           }
 
@@ -217,21 +212,21 @@ module _ {Op : Type 0} where
   -- ---- edits
 
   edit_keeps : (meanings : Meanings Op) (history : History Table Op) (edit : BufferEdit) → IsHistory meanings history → IsProperEdit edit →
-      IsHistory meanings (with_buffer_edit history edit (edited_table history.workspace.working edit))
+      IsHistory meanings (with_workspace history (with_edit history.workspace edit (edited_table history.workspace.working edit)))
   edit_keeps meanings history edit is proper =
-      of (edited_table space.working edit) (edit-table space.working edit is.working proper) (edit-continues space.working edit is.working proper)
+      of (edited_table now edit) (edit-table now edit is.working proper) (edit-continues now edit is.working proper)
     where
-      space : Workspace Table Op Rectangles
-      space = history.workspace
+      now : Table
+      now = history.workspace.working
 
-      with_table : (table : Table) (o : Option (List ℕ × Rectangle)) → IsTable table → Continues space.working (only o) table → IsHistory meanings (with_working history table o)
+      with_table : (table : Table) (o : Option (List ℕ × Rectangle)) → IsTable table → Continues now (only o) table → IsHistory meanings (with_workspace history (with_working history.workspace table o))
       with_table table None whole continued =
           record {
             states = is.states;
             in_turn = is.in_turn;
             number = is.number;
             working = whole;
-            continued = continues-then (last_state history).table space.working table space.written None is.continued continued;
+            continued = continues-then (last_state history).table now table history.workspace.written None is.continued continued;
             undoable = is.undoable;
             redoable = is.redoable;
             few = is.few;
@@ -242,18 +237,17 @@ module _ {Op : Type 0} where
             in_turn = is.in_turn;
             number = is.number;
             working = whole;
-            continued = continues-then (last_state history).table space.working table space.written (Some entry) is.continued continued;
+            continued = continues-then (last_state history).table now table history.workspace.written (Some entry) is.continued continued;
             undoable = is.undoable;
             redoable = is.redoable;
             few = is.few;
           }
 
-      of : (r : Edited) → IfOk r IsTable → IfOk r (Continues space.working (only (written_by space.working edit))) → IsHistory meanings (with_buffer_edit history edit r)
-      of (Ok table) whole continued = with_table table (written_by space.working edit) whole continued
+      of : (r : Edited) → IfOk r IsTable → IfOk r (Continues now (only (written_by (layout_of now) edit))) → IsHistory meanings (with_workspace history (with_edit history.workspace edit r))
+      of (Ok table) whole continued = with_table table (written_by (layout_of now) edit) whole continued
       of (Err refused) whole continued = is
 
-  pending_keeps : (meanings : Meanings Op) (history : History Table Op) (edit : NodeEdit Op) → IsHistory meanings history →
-      IsHistory meanings (record history { workspace = workspace.with_pending history.workspace edit })
+  pending_keeps : (meanings : Meanings Op) (history : History Table Op) (edit : NodeEdit Op) → IsHistory meanings history → IsHistory meanings (with_workspace history (with_pending history.workspace edit))
   pending_keeps meanings history edit is =
       record {
         states = is.states;
@@ -285,10 +279,10 @@ module _ {Op : Type 0} where
   start meanings =
       let history : History Table Op = new_history no_buffers in
       record {
-        states = (record { table = empty_table; nodes = record { few = omega arith; distinct = tt; steps = tt } }, tt);
+        states = (record { table = IsTable-no_buffers; nodes = record { few = omega arith; distinct = tt; steps = tt } }, tt);
         in_turn = λ k before after found next. absurd (none_at (latest_of history) after k next);
         number = refl;
-        working = empty_table;
+        working = IsTable-no_buffers;
         continued = continues-itself no_buffers;
         undoable = tt;
         redoable = tt;

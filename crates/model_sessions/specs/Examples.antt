@@ -3,6 +3,7 @@ use Rattle.std.specs.Prelude.{ℕ, List, [], ◌∷◌, map, length, codes, pos,
 use Rattle.plane_rect.specs.Rectangle.{Rectangle, placed}
 use Rattle.pixel_formats.specs.declared.format.Format.TheVariants.{Y8}
 use Rattle.pixel_formats.specs.declared.abyss.Abyss.TheVariants as policies
+use Rattle.model_buffers.specs.declared.edit.BufferEdit.TheVariants.{Create, Fill}
 use Rattle.model_buffers.specs.Table.{Table}
 use Rattle.model_operations.specs.declared.operation.IntOp.{IntOp}
 use Rattle.model_operations.specs.declared.operation.IntOp.TheVariants.{BoxMean, Checker, Color, Crop}
@@ -24,7 +25,7 @@ use Rattle.model_states.specs.Rectangles.{Rectangles}
 use Rattle.model_states.specs.Samples.{samples_change}
 use Rattle.model_states.specs.Valid.{stated}
 use Rattle.model_operations.specs.Meanings.{int_meanings, same_operation}
-use Rattle.model_sessions.specs.Steps.{Commit, Create, EditBuffer, EditNode, Fill, HistoryEdit, made_by}
+use Rattle.model_sessions.specs.Steps.{Commit, EditBuffer, EditNode, HistoryEdit, made_by}
 use Rattle.model_sessions.specs.Tables.{table_shapes}
 
 -- ---- histories

@@ -11,19 +11,24 @@ use Rattle.model_states.specs.Rectangles.{Rectangles}
 use Rattle.model_states.specs.Retained.{AreFew}
 use Rattle.model_states.specs.State.{Scene, State}
 use Rattle.model_states.specs.Valid.{AreValid}
-use Rattle.model_sessions.specs.Tables.{Continues, facts_of, images_of, table_shapes}
+use Rattle.model_sessions.specs.Tables.{Continues, table_facts, table_images, table_shapes}
 
--- a state with the images of its buffers
+-- a state as its nodes read it
 abbrev pub scene_of : {Op : Type 0} → State Table Op → Scene Op
-scene_of state = record { table = images_of state.table; nodes = state.nodes }
+scene_of state = record { table = table_images state.table; nodes = state.nodes }
 
 -- the last committed state
 abbrev pub last_state : {Op : Type 0} → History Table Op → State Table Op
 last_state history = history.workspace.retained.latest
 
 -- what a graph knows of a state
-abbrev pub known_of : {Op : Type 0} → Meanings Op → State Table Op → Side Op
-known_of meanings state = side_of meanings (facts_of state.table) state.nodes
+abbrev pub side_of_state : {Op : Type 0} → Meanings Op → State Table Op → Side Op
+side_of_state meanings state = side_of meanings (table_facts state.table) state.nodes
+
+-- from one state to another, which these rectangles separate
+abbrev pub change_between : {Op : Type 0} → Meanings Op → State Table Op → State Table Op → Rectangles → Change Op
+change_between meanings old new rectangles =
+    record { old = side_of_state meanings old; new = side_of_state meanings new; rectangles = rectangles }
 
 -- a table, and valid nodes over it
 pub record IsValidState {Op : Type 0} (meanings : Meanings Op) (state : State Table Op) : Type 0 where
@@ -33,7 +38,7 @@ pub record IsValidState {Op : Type 0} (meanings : Meanings Op) (state : State Ta
 -- two tables are neighbors with rectangles
 abbrev pub AreTablesSeparated : Table → Table → Rectangles → Type 0
 AreTablesSeparated before after rectangles =
-    AreNeighbors (facts_of before) (facts_of after) (images_of before) (images_of after) rectangles
+    AreNeighbors (table_facts before) (table_facts after) (table_images before) (table_images after) rectangles
 
 -- the tables of two states are neighbors with the rectangles that the second carries
 abbrev pub AreSeparated : {Op : Type 0} → Committed Table Op → Committed Table Op → Type 0
@@ -70,8 +75,4 @@ pub record IsHistory {Op : Type 0} (meanings : Meanings Op) (history : History T
 -- from the last state of a history to that of a later one, with the rectangles that this one carries
 abbrev pub change_to : {Op : Type 0} → Meanings Op → History Table Op → History Table Op → Change Op
 change_to meanings before after =
-    record {
-      old = known_of meanings (last_state before);
-      new = known_of meanings (last_state after);
-      rectangles = after.rectangles;
-    }
+    change_between meanings (last_state before) (last_state after) after.rectangles

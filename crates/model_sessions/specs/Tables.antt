@@ -2,38 +2,33 @@
 use Rattle.std.specs.Prelude.{◌≡◌, ℕ, List, map, Some}
 use Rattle.model_images.specs.Agreement.{AgreeOutside}
 use Rattle.model_images.specs.Image.{Image}
-use Rattle.model_buffers.specs.Table.{Table, View, cut, image_of, root_image, root_of}
-use Rattle.model_graphs.specs.declared.buffer.BufferFact.{BufferFact}
+use Rattle.model_images.specs.Paint.{cut}
+use Rattle.model_buffers.specs.Layout.{View, facts_of}
+use Rattle.model_buffers.specs.Table.{Table, image_of, layout_of, root_image, root_of}
 use Rattle.model_graphs.specs.Evaluation.{Buffers}
 use Rattle.model_graphs.specs.Facts.{Facts, shapes_of_facts}
 use Rattle.model_graphs.specs.Shapes.{Shapes}
 use Rattle.model_states.specs.Rectangles.{Rectangles, rectangle_of}
 
--- what a graph knows of a buffer of a table
-abbrev pub fact_in : Table → List ℕ × View → BufferFact
-fact_in table entry =
-    record {
-      name = entry.0;
-      root = entry.1.root;
-      bounds = entry.1.extent;
-      format = (root_image table entry.1.root).format;
-    }
+-- ---- what is known without samples
 
--- what it knows of all buffers, in their order
-abbrev pub facts_of : Table → Facts
-facts_of table = map (fact_in table) table.buffers
+-- what a graph knows of the buffers of a table
+abbrev pub table_facts : Table → Facts
+table_facts table = facts_of (layout_of table)
 
--- the boxes and the formats of the buffers, by their names
+-- their boxes and formats, by their names
 abbrev pub table_shapes : Table → Shapes
-table_shapes table = shapes_of_facts (facts_of table)
+table_shapes table = shapes_of_facts (table_facts table)
 
--- the image of a view
+-- ---- with samples
+
+-- what a view shows of its table
 abbrev pub view_image : Table → View → Image
 view_image table view = cut (root_image table view.root) view.extent
 
--- the images of the buffers, by their names
-abbrev pub images_of : Table → Buffers
-images_of table = map (λ (entry : List ℕ × View). (entry.0, view_image table entry.1)) table.buffers
+-- the images of the buffers of a table, by their names
+abbrev pub table_images : Table → Buffers
+table_images table = map (λ (entry : List ℕ × View). (entry.0, view_image table entry.1)) table.buffers
 
 -- Each buffer of a table is in another one too, on the same root, and there its image is the same outside the rectangle
 -- of that root.

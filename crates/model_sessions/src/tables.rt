@@ -1,27 +1,29 @@
 //! Tables of buffers are read by graphs as they are.
 
-ghost use Rattle.std.specs.List.{AllByRecursion, IsDistinct};
-ghost use Rattle.std.specs.Prelude.{◌≡◌, ℕ, List, IfOk, option_map};
+ghost use Rattle.std.specs.Prelude.{◌≡◌, ℕ, List, IfOk};
+ghost use Rattle.std.specs.List.{IsDistinct};
+ghost use Rattle.std.specs.Option.{option_map};
 ghost use Rattle.std.specs.Str.{bytes_eq};
-ghost use Rattle.model_images.specs.Image.{Image, IsImage};
-ghost use Rattle.model_buffers.specs.Table.{find, image_of, IsTable, Table};
+ghost use Rattle.model_buffers.specs.declared.edit.BufferEdit.{BufferEdit};
+ghost use Rattle.model_buffers.specs.BufferEdit.{IsProperEdit};
+ghost use Rattle.model_buffers.specs.Edits.{edited_table};
+ghost use Rattle.model_buffers.specs.Layout.{fact_in, find};
+ghost use Rattle.model_buffers.specs.Table.{IsTable, Table, image_of, layout_of};
 ghost use Rattle.model_graphs.specs.Evaluation.{buffer_image};
 ghost use Rattle.model_graphs.specs.Facts.{AreImagesOf, fact_names, fact_of};
 ghost use Rattle.model_states.specs.Rectangles.{Rectangles};
 ghost use Rattle.model_sessions.specs.Histories.{AreTablesSeparated};
-ghost use Rattle.model_sessions.specs.Steps.{BufferEdit, edited_table, IsProperEdit, rectangles_by};
-ghost use Rattle.model_sessions.specs.Tables.{Continues, fact_in, facts_of, images_of};
+ghost use Rattle.model_sessions.specs.Tables.{Continues, table_facts, table_images};
+ghost use Rattle.model_sessions.specs.Steps.{rectangles_by};
 
-/// A table's buffers have distinct names and whole images of their boxes and formats, and a graph reads them as they
-/// are.
+/// A table's buffers have distinct names, and a graph knows and reads them as they are.
 pub fn tables_are_sources()
-    ensures names { (table : Table) → IsTable table → IsDistinct bytes_eq (fact_names (facts_of table)) }
-    ensures whole { (table : Table) → AllByRecursion (λ (entry : List ℕ × Image). IsImage entry.1) (images_of table) }
-    ensures shapes { (table : Table) → AreImagesOf (facts_of table) (images_of table) }
+    ensures distinct { (table : Table) → IsTable table → IsDistinct bytes_eq (fact_names (table_facts table)) }
     ensures found { (table : Table) (name : List ℕ) →
-        fact_of (facts_of table) name ≡ option_map (λ view. fact_in table (name, view)) (find table.buffers name) }
+        fact_of (table_facts table) name ≡ option_map (fact_in (layout_of table) name) (find table.buffers name) }
+    ensures shapes { (table : Table) → AreImagesOf (table_facts table) (table_images table) }
     ensures images { (table : Table) (name : List ℕ) →
-        buffer_image (images_of table) name ≡ image_of table name }
+        buffer_image (table_images table) name ≡ image_of table name }
 {}
 
 /// An edit keeps each buffer on its root, and changes no image outside the rectangle that it writes to its root.
@@ -33,9 +35,10 @@ pub fn edits_continue_tables()
         IfOk (edited_table table edit) (Continues table (rectangles_by table edit)) }
 {}
 
-/// A table and one that continues it are neighbours.
-pub fn continued_tables_are_neighbours()
-    ensures { (table next : Table) (rectangles : Rectangles) →
-        Continues table rectangles next →
-        AreTablesSeparated table next rectangles }
+/// A table and one that continues it are neighbors, also the other way round.
+pub fn continued_tables_are_neighbors()
+    ensures on { (table next : Table) (rectangles : Rectangles) →
+        Continues table rectangles next → AreTablesSeparated table next rectangles }
+    ensures back { (table next : Table) (rectangles : Rectangles) →
+        AreTablesSeparated table next rectangles → AreTablesSeparated next table rectangles }
 {}

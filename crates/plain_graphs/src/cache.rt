@@ -124,12 +124,7 @@ fn recent(
 }
 
 /// Returns the list without a pair, after what it has of the pair.
-fn with_first(
-    alloc: Global,
-    pairs: &[Pair],
-    pair: Pair,
-    first: Pair,
-) -> Result<Vec<Pair>, NoMemory>
+fn with_first(alloc: Global, pairs: &[Pair], pair: Pair, first: Pair) -> Result<Vec<Pair>, NoMemory>
     ensures { IfOk result (λ recent. recent.items ≡ first ∷ without_pair itself pairs.now pair) }
 {
     let mut recent = vec![in alloc; first]?;

@@ -50,11 +50,7 @@ impl<'a> Model for Change<'a> {
 
 impl<'a> Change<'a> {
     /// Makes the change from an old graph to a new one.
-    pub fn between(
-        old: &'a Graph,
-        new: &'a Graph,
-        rectangles: &'a [(Name, Rect)],
-    ) -> Change<'a>
+    pub fn between(old: &'a Graph, new: &'a Graph, rectangles: &'a [(Name, Rect)]) -> Change<'a>
         ensures { result ≡ record { old = old.now; new = new.now; rectangles = rectangles.now } }
     {
         Change {
@@ -96,7 +92,12 @@ impl<'a> Change<'a> {
     }
 
     /// Returns the damage of a node of the new graph, where those of the nodes before it are known.
-    fn damage_of_node(&self, alloc: Global, known: &[Rect], node: &NodeSpec<IntOp>) -> Result<Rect, NoMemory>
+    fn damage_of_node(
+        &self,
+        alloc: Global,
+        known: &[Rect],
+        node: &NodeSpec<IntOp>,
+    ) -> Result<Rect, NoMemory>
         ensures { IfOk result (λ damage. damage
             ≡ damage_of_node same_operation int_meanings self.now known.now node.now) }
     {
@@ -196,7 +197,7 @@ impl<'a> Change<'a> {
     ) -> Result<Vec<Rect>, NoMemory>
         ensures { IfOk result (λ rects. rects.items
             ≡ invalidated_by int_meanings op.now (new_boxes self.now inputs.now)
-                (known_damage self.now known.now) inputs.now) }
+            (known_damage self.now known.now) inputs.now) }
     {
         let boxes = self.new_boxes(alloc, inputs)?;
         let mut rects = Vec::new(alloc);

@@ -46,7 +46,11 @@ pub fn with_edits(
 }
 
 /// Returns why an edit is refused, where it is.
-pub fn edit_refused(buffers: &[BufferFact], nodes: &[NodeSpec<IntOp>], edit: &NodeEdit<IntOp>) -> Option<StateRefused>
+pub fn edit_refused(
+    buffers: &[BufferFact],
+    nodes: &[NodeSpec<IntOp>],
+    edit: &NodeEdit<IntOp>,
+) -> Option<StateRefused>
     ensures { result ≡ edit_refused (shapes_of_facts buffers.now) nodes.now edit.now }
 {
     match edit {
@@ -56,7 +60,11 @@ pub fn edit_refused(buffers: &[BufferFact], nodes: &[NodeSpec<IntOp>], edit: &No
 }
 
 /// Returns why a node can't be set, where it can't.
-fn set_refused(buffers: &[BufferFact], nodes: &[NodeSpec<IntOp>], node: &NodeSpec<IntOp>) -> Option<StateRefused>
+fn set_refused(
+    buffers: &[BufferFact],
+    nodes: &[NodeSpec<IntOp>],
+    node: &NodeSpec<IntOp>,
+) -> Option<StateRefused>
     ensures { result ≡ edit_refused (shapes_of_facts buffers.now) nodes.now (Set node.now) }
 {
     let index = index_of(nodes, node.name);
@@ -91,7 +99,12 @@ fn is_read(nodes: &[NodeSpec<IntOp>], name: Name) -> bool
 
 /// Tests whether a body reads only buffers that are there, and nodes that stand before a position.
 #[tactic(auto, using(crate::proofs::Named::some_shape))]
-fn reads_earlier(buffers: &[BufferFact], nodes: &[NodeSpec<IntOp>], index: usize, body: &Body<IntOp>) -> bool
+fn reads_earlier(
+    buffers: &[BufferFact],
+    nodes: &[NodeSpec<IntOp>],
+    index: usize,
+    body: &Body<IntOp>,
+) -> bool
     ensures { result ≡ reads_earlier (shapes_of_facts buffers.now) nodes.now index body.now }
 {
     match body {
@@ -125,7 +138,11 @@ fn is_among(name: Name, names: &[Name]) -> bool
 }
 
 /// Makes an edit.
-fn make_edit(alloc: Global, nodes: &mut Vec<NodeSpec<IntOp>>, edit: &NodeEdit<IntOp>) -> Result<(), NoMemory>
+fn make_edit(
+    alloc: Global,
+    nodes: &mut Vec<NodeSpec<IntOp>>,
+    edit: &NodeEdit<IntOp>,
+) -> Result<(), NoMemory>
     ensures { OnOk result (nodes.new.items ≡ with_edit nodes.old.items edit.now) }
 {
     match edit {

@@ -1,8 +1,8 @@
 //! Edits of nodes, and nodes, that are refused.
 
 use crate::small_graphs::{name, node, rect};
-use pixel_formats::{Abyss, Format, PixelSamples};
 use model_operations::IntOp;
+use pixel_formats::{Abyss, Format, PixelSamples};
 use plain_graphs::{NodeEdit, NodeSpec, StateRefused, walk_refused, with_edits};
 use std::alloc::{AllocError, Global};
 use std::test::Fail;
@@ -42,7 +42,10 @@ fn edits_that_are_refused(rt: HostRuntime) -> Result<(), Fail> {
     ];
     assert_eq!(rt; edits_refused(alloc, &in_use)?, Some(StateRefused::InUse));
     let absent = [NodeEdit::Remove(name("k")?)];
-    assert_eq!(rt; edits_refused(alloc, &absent)?, Some(StateRefused::UnknownInput));
+    assert_eq!(rt;
+        edits_refused(alloc, &absent)?,
+        Some(StateRefused::UnknownInput)
+    );
     Ok(())
 }
 

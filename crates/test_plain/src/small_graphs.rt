@@ -1,11 +1,9 @@
 //! Graphs made in few words, and renders of them.
 
 use model_operations::IntOp;
-use plane_rect::{Name, NameList, Rect};
-use plain_graphs::{
-    Body, BufferFact, Change, Graph, Lookups, NodeSpec, Strip, need, needed_pairs,
-};
 use pixel_formats::Format;
+use plain_graphs::{Body, BufferFact, Change, Graph, Lookups, NodeSpec, Strip, need, needed_pairs};
+use plane_rect::{Name, NameList, Rect};
 use std::alloc::{AllocError, Global};
 use std::test::Fail;
 
@@ -45,7 +43,12 @@ pub(crate) fn source(word: &str, buffer: &str) -> Result<NodeSpec<IntOp>, Fail> 
 }
 
 /// Returns a node of an operation.
-pub(crate) fn node(alloc: Global, word: &str, op: IntOp, inputs: &[&str]) -> Result<NodeSpec<IntOp>, Fail> {
+pub(crate) fn node(
+    alloc: Global,
+    word: &str,
+    op: IntOp,
+    inputs: &[&str],
+) -> Result<NodeSpec<IntOp>, Fail> {
     let mut names = Vec::new(alloc);
     for input in inputs {
         names.push(name(input)?).map_err(AllocError::from)?;
