@@ -29,6 +29,7 @@ use std::rt::{Clock, Env};
 
 /// How many rounds of rows and of patches there are where the command line says nothing.
 const FEW_ROWS: u32 = 4;
+
 const FEW_PATCHES: u32 = 1;
 
 /// The lengths of the rows, in bytes, and for how many of them there are as many bytes as in one

@@ -3,8 +3,7 @@
 
 ghost use Rattle.tile_cow.specs.Tile.{IsTileLength};
 
-use crate::arc_loops;
-use crate::tile_loops;
+use crate::{arc_loops, tile_loops};
 use anyhow::Result;
 use std::alloc::Global;
 use std::io;
