@@ -1,18 +1,17 @@
 -- The laws of buffers that are added to a table.
-use Rattle.std.proofs.Common.{◌≡◌, ◌≢◌, ℕ, List, [], ◌∷◌, length, Option, Some, None, refl, sym, ap, ◌∙◌, subst, arith, length-append}
+use Rattle.std.proofs.Common.{◌≡◌, ℕ, List, [], ◌∷◌, Option, Some, None, refl, sym, ap, ◌∙◌, arith, length-append}
 use Rattle.std.specs.Prelude.{IsSome, IfSome}
 use Rattle.std.specs.Option.{option_map, is_some}
 use Rattle.plane_rect.specs.Rectangle.{Rectangle}
 use Rattle.model_images.specs.Image.{Image, IsImage}
 use Rattle.model_images.specs.Paint.{cut}
 use Rattle.model_graphs.specs.Shapes.{shape_of_image}
-use Rattle.model_buffers.specs.BufferEdit.{added}
 use Rattle.model_buffers.specs.Edits.{with_root, with_view}
 use Rattle.model_buffers.specs.Effects.{IsAdded, HasOwnRoot}
 use Rattle.model_buffers.specs.Layout.{View, find, IsRooted}
 use Rattle.model_buffers.specs.Table.{Table, layout_of, root_image, seen, root_of, IsTable}
 use Rattle.model_buffers.proofs.FindLaws.{find-kept, find-new, find-other}
-use Rattle.model_buffers.proofs.LayoutLaws.{by_option, by_value, find-either, no_root, rooted_view}
+use Rattle.model_buffers.proofs.LayoutLaws.{by_option, by_value, find-either, no_root}
 use Rattle.model_buffers.proofs.ShapeLaws.{find-shapes}
 
 -- a root whose shape is there is there

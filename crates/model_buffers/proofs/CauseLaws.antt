@@ -1,7 +1,6 @@
 -- Each answer of an edit has its cause.
-use Rattle.std.proofs.Common.{◌≡◌, ℕ, ℤ, List, None, Some, Ok, Err, inl, inr, refl, sym, ◌∙◌, subst}
+use Rattle.std.proofs.Common.{◌≡◌, ℕ, ℤ, List, Some, Ok, inl, inr, refl, sym, subst}
 use Rattle.std.specs.Prelude.{MatchOption}
-use Rattle.plane_rect.specs.declared.rect.RectRefused.{RectRefused}
 use Rattle.plane_rect.specs.Rectangle.{Rectangle, Includes, shifted}
 use Rattle.model_graphs.specs.Shapes.{Shape}
 use Rattle.model_buffers.specs.declared.refused.EditRefused.{EditRefused}
@@ -9,7 +8,7 @@ use Rattle.model_buffers.specs.declared.edit.BufferEdit.{BufferEdit}
 use Rattle.model_buffers.specs.declared.edit.BufferEdit.TheVariants.{Create, Sub, Duplicate, Fill, Put, Copy}
 use Rattle.model_buffers.specs.BufferEdit.{add_refused, copy_refused, edit_refused, fill_refused, if_known, put_refused}
 use Rattle.model_buffers.specs.Layout.{TableLayout, View, find, buffer_shape, view_shape}
-use Rattle.model_buffers.specs.Causes.{IsKnown, IsAddable, AddRefused, AddFromRefused, HasPositions, LacksPositions, IsFillable, FillRefused, IsPuttable, PutRefused, HasMoved, HasBoth, IsCopyable, CopyRefused, IsCarriedOut, IsRefused}
+use Rattle.model_buffers.specs.Causes.{IsKnown, IsAddable, AddRefused, AddFromRefused, IsFillable, FillRefused, IsPuttable, PutRefused, HasMoved, HasBoth, IsCopyable, CopyRefused, IsCarriedOut, IsRefused}
 use Rattle.model_buffers.proofs.AnswerLaws.{known, added, filled, put, copied}
 
 module _ (layout : TableLayout) where

@@ -19,7 +19,8 @@ use Rattle.model_buffers.specs.Layout.{IsLayout, View, buffer_shape, find}
 use Rattle.model_buffers.specs.Table.{Table, image_of, layout_of, root_image, root_of, IsTable}
 use Rattle.model_buffers.proofs.AddingLaws.{IsAdded-with_view, root-with_view, IsAdded-with_root, HasOwnRoot-with_root, root_there, whole-with_root}
 use Rattle.model_buffers.proofs.CauseLaws.{causes}
-use Rattle.model_buffers.proofs.CutLaws.{cut-cut, cut-image_from_fn}
+use Rattle.model_images.proofs.Agreeing.{cut-cut}
+use Rattle.model_images.proofs.Painting.{cut-image_from_fn}
 use Rattle.model_buffers.proofs.LayoutLaws.{by_value, edit-keeps, meet-part, of_some, rooted_view}
 use Rattle.model_buffers.proofs.ShapeLaws.{buffer_shape-is, layout-with}
 use Rattle.model_buffers.proofs.TableLaws.{IsWritten-written, whole-written}

@@ -69,10 +69,10 @@ module _ {X : Type 0} where
       all_pairs_push (λ (a b : List ℕ × X). a.0 ≢ b.0) entries (k, v) distinct (unlisted entries k none)
 
   -- values that are changed each under its name
-  pub find-mapped : (change : List ℕ → X → X) (entries : List (List ℕ × X)) (q : List ℕ)
+  pub find-mapped : {Y : Type 0} (change : List ℕ → X → Y) (entries : List (List ℕ × X)) (q : List ℕ)
       → find (map (λ (e : List ℕ × X). (e.0, change e.0 e.1)) entries) q ≡ option_map (change q) (find entries q)
   find-mapped change [] q = refl
-  find-mapped change (e ∷ entries) q = cases (bytes_eq q e.0) refl (find-mapped change entries q)
+  find-mapped {Y = Y} change (e ∷ entries) q = cases (bytes_eq q e.0) refl (find-mapped change entries q)
     where
       cases : (b : Bool) → bytes_eq q e.0 ≡ b
           → find (map (λ (e : List ℕ × X). (e.0, change e.0 e.1)) entries) q ≡ option_map (change q) (find entries q)

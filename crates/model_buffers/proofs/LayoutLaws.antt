@@ -1,9 +1,9 @@
 -- Edits keep layouts.
-use Rattle.std.proofs.Common.{◌≡◌, ◌≢◌, ℕ, ◌<◌, Bool, true, false, cond, List, [], ◌∷◌, ◌++◌, length, Option, Some, None, refl, sym, ap, ◌∙◌, subst, arith, length-append}
+use Rattle.std.proofs.Common.{◌≡◌, ◌≢◌, ℕ, ◌<◌, Bool, true, false, cond, List, [], ◌∷◌, length, Option, Some, None, refl, sym, ap, ◌∙◌, subst, arith, length-append}
 use Rattle.std.specs.Prelude.{IsSome, IfSome}
 use Rattle.std.specs.Option.{is_some}
 use Rattle.std.specs.Str.{bytes_eq}
-use Rattle.plane_rect.specs.Rectangle.{Rectangle, Includes, IsRectangle, InLimits, meet}
+use Rattle.plane_rect.specs.Rectangle.{Rectangle, Includes, IsRectangle, meet}
 use Rattle.plane_rect.proofs.Rectangles.{Inside-meet}
 use Rattle.plane_rect.proofs.RectangleLaws.{IsRectangle-meet}
 use Rattle.pixel_formats.specs.Limits.{max_buffers}

@@ -1,5 +1,4 @@
 pub mod FindLaws
-pub mod CutLaws
 pub mod AnswerLaws
 pub mod CauseLaws
 mod ExactLaws
@@ -12,3 +11,5 @@ pub mod EffectLaws
 mod MoveLaws
 pub mod SeenLaws
 mod SharingLaws
+mod CountLaws
+mod HeldLaws

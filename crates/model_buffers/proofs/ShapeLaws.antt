@@ -1,5 +1,5 @@
 -- The layouts of tables, and the layout of an edited one.
-use Rattle.std.proofs.Common.{◌≡◌, ℕ, Bool, true, false, cond, List, [], ◌∷◌, ◌++◌, map, Option, Some, None, Result, Ok, Err, IfOk, refl, sym, ap, ◌∙◌}
+use Rattle.std.proofs.Common.{◌≡◌, ℕ, Bool, true, false, cond, List, [], ◌∷◌, map, Option, Some, None, Result, Ok, Err, IfOk, refl, sym, ap, ◌∙◌}
 use Rattle.std.specs.Prelude.{unwrap_or}
 use Rattle.std.specs.Option.{option_map}
 use Rattle.std.specs.Str.{bytes_eq}
@@ -15,7 +15,7 @@ use Rattle.model_buffers.specs.declared.edit.BufferEdit.{BufferEdit}
 use Rattle.model_buffers.specs.declared.edit.BufferEdit.TheVariants.{Create, Sub, Duplicate, Fill, Put, Copy}
 use Rattle.model_buffers.specs.BufferEdit.{Refusal, added, edit_refused, layout_with, layout_with_duplicate, layout_with_part, layout_with_root, part_of}
 use Rattle.model_buffers.specs.Edits.{by_move, by_view, edited_table, evenly, moved_samples, table_with, unless_refused, with_root, with_view, written}
-use Rattle.model_buffers.specs.Layout.{TableLayout, View, buffer_shape, find, root_shape, seen_shape}
+use Rattle.model_buffers.specs.Layout.{View, buffer_shape, find, root_shape, seen_shape}
 use Rattle.model_buffers.specs.Table.{Table, image_of, layout_of, root_image, seen}
 
 pub find-shapes : (table : Table) (root : List ℕ) → find (layout_of table).roots root ≡ option_map shape_of_image (find table.roots root)

@@ -17,7 +17,8 @@ use Rattle.model_buffers.specs.Layout.{View, find, IsRooted}
 use Rattle.model_buffers.specs.Table.{Table, image_of, layout_of, root_image, root_of, seen, IsTable}
 use Rattle.model_buffers.proofs.AddingLaws.{root_there}
 use Rattle.model_buffers.proofs.FindLaws.{same_name, apart_test, find-mapped}
-use Rattle.model_buffers.proofs.CutLaws.{at-cut, at-painted, AgreeOutside-painted, AgreeOutside-cut}
+use Rattle.model_images.proofs.Agreeing.{at-cut}
+use Rattle.model_images.proofs.Painting.{at-painted, AgreeOutside-painted, AgreeOutside-cut}
 use Rattle.model_buffers.proofs.LayoutLaws.{by_value, rooted_view}
 use Rattle.model_buffers.proofs.ShapeLaws.{root_shape-is}
 

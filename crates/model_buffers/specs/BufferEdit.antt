@@ -1,5 +1,5 @@
 -- The edits of tables of buffers, and what each asks of a layout and makes of it.
-use Rattle.std.specs.Prelude.{◌≡◌, ℕ, ◌≤◌, ◌==◌, ◌&&◌, nat_le, Bool, if◌then◌else◌, ⊤, ℤ, List, [], ◌∷◌, ◌++◌, length, Option, Some, None, Result, Ok, Err}
+use Rattle.std.specs.Prelude.{◌≡◌, ℕ, ◌≤◌, ◌==◌, ◌&&◌, nat_le, Bool, if◌then◌else◌, ⊤, List, [], ◌∷◌, ◌++◌, length, Option, Some, None, Result, Ok, Err}
 use Rattle.std.specs.List.{All, list_all}
 use Rattle.std.specs.Option.{is_some, option_map}
 use Rattle.plane_rect.specs.declared.rect.RectRefused.{RectRefused}

@@ -1,9 +1,8 @@
 -- What the edits make of tables.
-use Rattle.std.specs.Prelude.{ℕ, ◌+◌, ◌-◌, if◌then◌else◌, ℤ, List, map, slice_index, Option, Some, None, Result, Ok, Err}
+use Rattle.std.specs.Prelude.{ℕ, ◌+◌, ◌-◌, if◌then◌else◌, List, map, slice_index, Option, Some, None, Result, Ok, Err}
 use Rattle.std.specs.Str.{bytes_eq}
 use Rattle.plane_rect.specs.declared.rect.RectRefused.{RectRefused}
 use Rattle.plane_rect.specs.Rectangle.{Rectangle, shifted}
-use Rattle.pixel_formats.specs.declared.format.Format.{Format}
 use Rattle.pixel_formats.specs.Row.{Pixel}
 use Rattle.model_images.specs.Image.{Image, at}
 use Rattle.model_images.specs.Paint.{blank, painted}
@@ -38,7 +37,7 @@ with_root table name image extent = record {
 abbrev pub with_view : Table → List ℕ → View → Table
 with_view table name view = record { roots = table.roots; buffers = added table.buffers name view }
 
--- the table in which f's samples are over a rectangle of one root, in place of the root's own
+-- the table in which one root is painted with f's samples over a rectangle
 abbrev pub written : Table → List ℕ → Rectangle → (ℕ → ℕ → Pixel) → Table
 written table root rectangle f = record {
   roots = map (λ (entry : List ℕ × Image). (entry.0, if bytes_eq root entry.0 then painted entry.1 rectangle f else entry.1)) table.roots;

@@ -1,5 +1,5 @@
 -- Small tables, on which the edits are worked out by hand.
-use Rattle.std.specs.Prelude.{ℕ, pos, List, [], ◌∷◌, map, replicate, codes, Ok, Err}
+use Rattle.std.specs.Prelude.{ℕ, pos, List, [], ◌∷◌, map, replicate, codes, Option, None, Ok, Err}
 use Rattle.std.specs.List.{range_with_len}
 use Rattle.plane_rect.specs.Rectangle.{Rectangle, placed}
 use Rattle.pixel_formats.specs.Limits.{max_buffers}
@@ -9,9 +9,14 @@ use Rattle.model_images.specs.Abyss.{raw_with}
 use Rattle.pixel_formats.specs.declared.abyss.Abyss.TheVariants as abyss
 use Rattle.model_images.specs.Examples.{positions_from}
 use Rattle.model_images.specs.Paint.{no_image}
+use Rattle.model_graphs.specs.Facts.{Facts}
+use Rattle.model_graphs.specs.declared.buffer.BufferFact.{BufferFact}
+use Rattle.model_buffers.specs.BufferEdit.{Refusal, edit_refused, written_by}
+use Rattle.model_buffers.specs.Layout.{facts_of}
+use Rattle.model_buffers.specs.declared.edit.BufferEdit.{BufferEdit}
 use Rattle.model_buffers.specs.declared.edit.BufferEdit.TheVariants.{Create, Duplicate, Fill, Put, Sub}
 use Rattle.model_buffers.specs.Edits.{Edited, edited_table}
-use Rattle.model_buffers.specs.Table.{Table, image_of, no_buffers}
+use Rattle.model_buffers.specs.Table.{Table, image_of, layout_of, no_buffers}
 
 -- names of buffers
 abbrev pub first_name : List ℕ
@@ -47,7 +52,7 @@ duplicate_then_fill =
     (λ table. edited_table table (Duplicate second_name first_name)))
     (λ table. edited_table table (Fill first_name (positions_from (pos 0) 1) (20 ∷ [])))
 
--- the same, and then 30 in the second place of the duplicate
+-- the same, and then 30 in the second position of the duplicate
 abbrev pub duplicate_filled : Edited
 duplicate_filled = and_then duplicate_then_fill (λ table. edited_table table (Fill second_name (positions_from (pos 1) 1) (30 ∷ [])))
 
@@ -75,7 +80,7 @@ column_of_two_rows = and_then two_rows (λ table. edited_table table (Sub second
 abbrev pub nines_by_column : Edited
 nines_by_column = and_then column_of_two_rows (λ table. edited_table table (Fill second_name right_column (9 ∷ [])))
 
--- one place of three channels
+-- one position of three channels
 abbrev pub one_color : Edited
 one_color = edited_table no_buffers (Create first_name RGB8 (positions_from (pos 0) 1))
 
@@ -85,3 +90,22 @@ full_table = record {
   roots = [];
   buffers = map (λ (n : ℕ). (replicate n 97, record { root = first_name; extent = positions_from (pos 0) 1 })) (range_with_len 1 max_buffers);
 }
+
+-- what a graph knows of the buffers of a table
+abbrev pub facts_after : Edited → Facts
+facts_after (Ok table) = facts_of (layout_of table)
+facts_after (Err refused) = []
+
+-- a buffer of 8 bits on the first root, of so many positions from an x on
+abbrev pub fact_of_row : List ℕ → ℕ → ℕ → BufferFact
+fact_of_row name x width = record { name = name; root = first_name; bounds = positions_from (pos x) width; format = Y8 }
+
+-- what an edit writes to a table
+abbrev pub written_after : Edited → BufferEdit → Option (List ℕ × Rectangle)
+written_after (Ok table) edit = written_by (layout_of table) edit
+written_after (Err refused) edit = None
+
+-- why an edit of a table is refused
+abbrev pub refused_after : Edited → BufferEdit → Refusal
+refused_after (Ok table) edit = edit_refused (layout_of table) edit
+refused_after (Err refused) edit = None

@@ -10,17 +10,18 @@ use Rattle.model_graphs.specs.Facts.{Facts}
 use Rattle.model_graphs.specs.Shapes.{Shape, no_shape}
 use Rattle.model_graphs.specs.declared.buffer.BufferFact.{BufferFact}
 
--- What the name of a buffer stands for: the name of a root, and the part of the root's image that is seen.
+-- What a buffer shows: the name of a root, and the part of the root's image that is seen.
 pub record View : Type 0 where
   pub root : List ℕ
   pub extent : Rectangle
 
--- The shapes of the roots by the roots' names, and what stands for each name of a buffer.
+-- The shapes of the roots by the roots' names, and the view of each buffer by its name, both in the order in which they
+-- were added.
 pub record TableLayout : Type 0 where
   pub roots : List (List ℕ × Shape)
   pub buffers : List (List ℕ × View)
 
--- what stands beside a name in a list
+-- the first value of a name in a list
 abbrev pub find : {X : Type 0} → List (List ℕ × X) → List ℕ → Option X
 find entries name = lookup (bytes_eq name) entries
 
@@ -66,7 +67,7 @@ pub record IsRooted (layout : TableLayout) (view : View) : Type 0 where
   pub inside : Includes (root_shape layout view.root).box view.extent
   pub extent : IsRectangle view.extent
 
--- No name stands twice.
+-- No name is there twice.
 abbrev pub AreDistinct : {X : Type 0} → List (List ℕ × X) → Type 0
 AreDistinct {X} entries = AllPairs (λ (a b : List ℕ × X). a.0 ≢ b.0) entries
 

@@ -4,5 +4,6 @@ pub mod BufferEdit
 pub mod Edits
 pub mod Causes
 pub mod Effects
+pub mod Held
 pub mod Counts
 pub mod Examples

@@ -2,10 +2,10 @@
 use Rattle.std.specs.Prelude.{ℕ, List, [], map, Option, Some, None, IfSome, unwrap_or}
 use Rattle.model_images.specs.Image.{Image, IsImage}
 use Rattle.model_images.specs.Paint.{cut, no_image}
-use Rattle.model_graphs.specs.Shapes.{Shape, shape_of_image}
+use Rattle.model_graphs.specs.Shapes.{shape_of_image}
 use Rattle.model_buffers.specs.Layout.{IsLayout, TableLayout, View, find, root_named}
 
--- The images of the roots by the roots' names, and what stands for each name of a buffer.
+-- The images of the roots by the roots' names, and the view of each buffer by its name.
 pub record Table : Type 0 where
   pub roots : List (List ℕ × Image)
   pub buffers : List (List ℕ × View)

@@ -9,7 +9,7 @@ ghost use Rattle.model_buffers.specs.Edits.{edited_table};
 ghost use Rattle.model_buffers.specs.Effects.{HasOwnRoot, IsAdded};
 ghost use Rattle.model_buffers.specs.Table.{IsTable, Table, image_of, root_of};
 
-/// A created buffer shows zeros, on a root of its own.
+/// States that a created buffer shows zeros, on a root of its own.
 pub fn created_buffer()
     ensures image { (table : Table) (name : List ℕ) (format : Format) (extent : Rectangle) →
         IsTable table → IfOk (edited_table table (Create name format extent)) (IsAdded table name (blank extent format)) }
@@ -17,7 +17,8 @@ pub fn created_buffer()
         IsTable table → IfOk (edited_table table (Create name format extent)) (λ after. HasOwnRoot after name) }
 {}
 
-/// A sub-buffer shows the part of its parent's image that is in the rectangle, on the parent's root.
+/// States that a sub-buffer shows the part of its parent's image that is in the rectangle, on the parent's
+/// root.
 pub fn sub_buffer_of_parent()
     ensures image { (table : Table) (name parent : List ℕ) (rectangle : Rectangle) →
         IsTable table → IsRectangle rectangle → IfOk (edited_table table (Sub name parent rectangle))
@@ -27,7 +28,7 @@ pub fn sub_buffer_of_parent()
         (λ after. root_of after name ≡ root_of table parent) }
 {}
 
-/// A duplicate shows the same image, on a root of its own.
+/// States that a duplicate shows the same image, on a root of its own.
 pub fn duplicated_buffer()
     ensures image { (table : Table) (name from : List ℕ) →
         IsTable table → IfOk (edited_table table (Duplicate name from)) (IsAdded table name (image_of table from)) }

@@ -12,7 +12,7 @@ ghost use Rattle.model_buffers.specs.Layout.{TableLayout};
 ghost use Rattle.model_buffers.specs.Table.{Table, layout_of};
 ghost use Rattle.model_buffers.specs.declared.refused.EditRefused.{EditRefused as Refused};
 
-/// An edit is carried out, or refused by one cause, by the layout alone.
+/// States that an edit is carried out, or refused by one cause, by the layout alone.
 pub fn answers_by_layout()
     ensures carried_out { (layout : TableLayout) (edit : BufferEdit) →
         (edit_refused layout edit ≡ None) ↔ IsCarriedOut layout edit }
@@ -20,8 +20,8 @@ pub fn answers_by_layout()
         (edit_refused layout edit ≡ Some cause) ↔ IsRefused layout edit cause }
 {}
 
-/// An edited table is what the edit makes of it, exactly where the edit is carried out. It is refused exactly by the
-/// edit's cause.
+/// States that an edited table is what the edit makes of it, exactly where the edit is carried out. It is
+/// refused exactly by the edit's cause.
 pub fn answers_of_tables()
     ensures carried_out { (table : Table) (edit : BufferEdit) →
         IsOk (edited_table table edit) ↔ IsCarriedOut (layout_of table) edit }
@@ -31,8 +31,8 @@ pub fn answers_of_tables()
         edit_refused (layout_of table) edit ≡ None → edited_table table edit ≡ Ok (table_with table edit) }
 {}
 
-/// A buffer is created exactly where its name is new and there is room. It is refused exactly where
-/// the name is taken, and else where 64 buffers are there.
+/// States that a buffer is created exactly where its name is new and there is room. It is refused exactly
+/// where the name is taken, and else where 64 buffers are there.
 pub fn create_answers()
     ensures carried_out { (table : Table) (name : List ℕ) (format : Format) (extent : Rectangle) →
         IsOk (edited_table table (Create name format extent)) ↔ IsAddable (layout_of table) name }
@@ -40,7 +40,7 @@ pub fn create_answers()
         (edited_table table (Create name format extent) ≡ Err cause) ↔ AddRefused (layout_of table) name cause }
 {}
 
-/// A sub-buffer is made exactly where its parent is there, its name is new and there is room. The
+/// States that a sub-buffer is made exactly where its parent is there, its name is new and there is room. The
 /// causes of refusals come in this order.
 pub fn sub_buffer_answers()
     ensures carried_out { (table : Table) (name parent : List ℕ) (rectangle : Rectangle) →
@@ -50,7 +50,7 @@ pub fn sub_buffer_answers()
         (edited_table table (Sub name parent rectangle) ≡ Err cause) ↔ AddFromRefused (layout_of table) name parent cause }
 {}
 
-/// A buffer is duplicated exactly where it is there, the new name is new and there is room. The
+/// States that a buffer is duplicated exactly where it is there, the new name is new and there is room. The
 /// causes of refusals come in this order.
 pub fn duplicate_answers()
     ensures carried_out { (table : Table) (name from : List ℕ) →
@@ -60,8 +60,8 @@ pub fn duplicate_answers()
         (edited_table table (Duplicate name from) ≡ Err cause) ↔ AddFromRefused (layout_of table) name from cause }
 {}
 
-/// A rectangle is filled exactly where the buffer is there and has all its positions, and the samples
-/// are a pixel of the buffer's format. The causes of refusals come in this order.
+/// States that a rectangle is filled exactly where the buffer is there and has all its positions, and the
+/// samples are a pixel of the buffer's format. The causes of refusals come in this order.
 pub fn fill_answers()
     ensures carried_out { (table : Table) (name : List ℕ) (rectangle : Rectangle) (samples : List ℕ) →
         IsOk (edited_table table (Fill name rectangle samples)) ↔ IsFillable (layout_of table) name rectangle samples }
@@ -70,8 +70,8 @@ pub fn fill_answers()
         ↔ FillRefused (layout_of table) name rectangle samples cause }
 {}
 
-/// Raw bytes are put exactly where the buffer is there and has all positions of the rectangle, and
-/// there are as many bytes as these positions have. The causes of refusals come in this order.
+/// States that raw bytes are put exactly where the buffer is there and has all positions of the rectangle,
+/// and there are as many bytes as these positions have. The causes of refusals come in this order.
 pub fn put_answers()
     ensures carried_out { (table : Table) (name : List ℕ) (rectangle : Rectangle) (bytes : List ℕ) →
         IsOk (edited_table table (Put name rectangle bytes)) ↔ IsPuttable (layout_of table) name rectangle bytes }
@@ -80,9 +80,9 @@ pub fn put_answers()
         ↔ PutRefused (layout_of table) name rectangle bytes cause }
 {}
 
-/// A rectangle is copied exactly where both buffers are there, the first has all its positions, the
-/// second all positions of the moved rectangle, and both have one format. The causes of refusals come
-/// in this order.
+/// States that a rectangle is copied exactly where both buffers are there, the first has all its positions,
+/// the second all positions of the moved rectangle, and both have one format. The causes of refusals come in
+/// this order.
 pub fn copy_answers()
     ensures carried_out { (table : Table) (from to : List ℕ) (rectangle : Rectangle) (dx dy : ℤ) →
         IsOk (edited_table table (Copy from to rectangle dx dy)) ↔ IsCopyable (layout_of table) from to rectangle dx dy }

@@ -11,7 +11,7 @@ ghost use Rattle.model_buffers.specs.Edits.{edited_table, table_with};
 ghost use Rattle.model_buffers.specs.Layout.{IsLayout, TableLayout, buffer_shape, fact_in, facts_of, find, root_shape, view_shape};
 ghost use Rattle.model_buffers.specs.Table.{Table, image_of, layout_of, root_image};
 
-/// The shape of a buffer, or of a root, is that of its image.
+/// States that the shape of a buffer, or of a root, is that of its image.
 pub fn shapes_of_images()
     ensures buffer { (table : Table) (name : List ℕ) →
         buffer_shape (layout_of table) name ≡ shape_of_image (image_of table name) }
@@ -19,7 +19,8 @@ pub fn shapes_of_images()
         root_shape (layout_of table) root ≡ shape_of_image (root_image table root) }
 {}
 
-/// What a graph knows of a buffer is found by its name, and its shape is the buffer's. No name is there twice.
+/// States that what a graph knows of a buffer is found by its name, and its shape is the buffer's. No name is
+/// there twice.
 pub fn facts_of_buffers()
     ensures found { (layout : TableLayout) (name : List ℕ) →
         fact_of (facts_of layout) name ≡ option_map (fact_in layout name) (find layout.buffers name) }
@@ -28,7 +29,7 @@ pub fn facts_of_buffers()
     ensures distinct { (layout : TableLayout) → IsLayout layout → IsDistinct bytes_eq (fact_names (facts_of layout)) }
 {}
 
-/// The layout after an edit depends on the layout before it alone.
+/// States that the layout after an edit depends on the layout before it alone.
 pub fn layout_after_an_edit()
     ensures table { (table : Table) (edit : BufferEdit) →
         layout_of (table_with table edit) ≡ layout_with (layout_of table) edit }
@@ -36,7 +37,7 @@ pub fn layout_after_an_edit()
         IfOk (edited_table table edit) (λ after. layout_of after ≡ layout_with (layout_of table) edit) }
 {}
 
-/// An edit that isn't refused makes a layout of a layout.
+/// States that an edit that isn't refused makes a layout of a layout.
 pub fn edits_keep_layouts()
     ensures { (layout : TableLayout) (edit : BufferEdit) →
         IsLayout layout → IsProperEdit edit → edit_refused layout edit ≡ None → IsLayout (layout_with layout edit) }

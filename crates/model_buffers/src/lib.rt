@@ -7,6 +7,7 @@ pub mod causes;
 pub mod counts;
 mod edit;
 pub mod examples;
+pub mod held;
 pub mod layouts;
 mod refused;
 pub mod sharing;

@@ -7,7 +7,7 @@ ghost use Rattle.model_buffers.specs.Edits.{edited_table};
 ghost use Rattle.model_buffers.specs.Effects.{IsWritten, ShowsOver};
 ghost use Rattle.model_buffers.specs.Table.{IsTable, Table, image_of};
 
-/// A sub-buffer shows what is written to its parent, and its parent what is written to it.
+/// States that a sub-buffer shows what is written to its parent, and its parent what is written to it.
 pub fn sub_buffer_shares_samples()
     ensures of_parent { (table : Table) (name parent : List ℕ) (part : Rectangle) →
         IsTable table → IsRectangle part → IfOk (edited_table table (Sub name parent part)) (λ both.
@@ -19,7 +19,7 @@ pub fn sub_buffer_shares_samples()
         IsWritten both name rectangle f after → ShowsOver rectangle f (image_of after parent)) }
 {}
 
-/// A duplicate keeps its image whatever is written to the buffer that it was made from, and that
+/// States that a duplicate keeps its image whatever is written to the buffer that it was made from, and that
 /// buffer keeps its own whatever is written to the duplicate.
 pub fn duplicate_shares_none()
     ensures of_original { (table : Table) (name from : List ℕ) →

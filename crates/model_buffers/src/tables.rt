@@ -9,7 +9,7 @@ ghost use Rattle.model_buffers.specs.Edits.{edited_table};
 ghost use Rattle.model_buffers.specs.Layout.{IsValidShape, IsLayout, TableLayout, View, find};
 ghost use Rattle.model_buffers.specs.Table.{IsTable, Table, image_of, no_buffers};
 
-/// Each entry of a table's lists is found by its name.
+/// States that each entry of a table's lists is found by its name.
 pub fn entries_are_found()
     ensures buffers { (layout : TableLayout) (i : ℕ) (d : List ℕ × View) → IsLayout layout → i < length layout.buffers →
         find layout.buffers (slice_index_or layout.buffers i d).0 ≡ Some (slice_index_or layout.buffers i d).1 }
@@ -17,14 +17,14 @@ pub fn entries_are_found()
         find table.roots (slice_index_or table.roots i d).0 ≡ Some (slice_index_or table.roots i d).1 }
 {}
 
-/// The image of a buffer is one that a table may hold: it is whole, and its box is a rectangle in
+/// States that the image of a buffer is one that a table may hold: it is whole, and its box is a rectangle in
 /// limits.
 pub fn images_are_kept()
     ensures whole { (table : Table) (name : List ℕ) → IsTable table → IsImage (image_of table name) }
     ensures shape { (table : Table) (name : List ℕ) → IsTable table → IsValidShape (shape_of_image (image_of table name)) }
 {}
 
-/// A table without buffers is a table, and so is one after an edit.
+/// States that a table without buffers is a table, and so is one after an edit.
 pub fn edits_keep_tables()
     ensures first { IsTable no_buffers }
     ensures edited { (table : Table) (edit : BufferEdit) →

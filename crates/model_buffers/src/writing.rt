@@ -10,22 +10,23 @@ ghost use Rattle.model_buffers.specs.Edits.{edited_table, evenly, moved_samples}
 ghost use Rattle.model_buffers.specs.Effects.{IsWritten};
 ghost use Rattle.model_buffers.specs.Table.{IsTable, Table, image_of};
 
-/// A filled rectangle has the pixel at each of its positions, and nothing else changes.
+/// States that a filled rectangle has the pixel at each of its positions, and nothing else changes.
 pub fn filled_rectangle()
     ensures { (table : Table) (name : List ℕ) (rectangle : Rectangle) (samples : List ℕ) →
         IsTable table → IfOk (edited_table table (Fill name rectangle samples)) (IsWritten table name rectangle (evenly samples)) }
 {}
 
-/// A rectangle that is put has the samples that the bytes spell, and nothing else changes.
+/// States that a rectangle that is put has the samples that are decoded from the bytes, and nothing else
+/// changes.
 pub fn put_rectangle()
     ensures { (table : Table) (name : List ℕ) (rectangle : Rectangle) (bytes : List ℕ) →
         IsTable table → IfOk (edited_table table (Put name rectangle bytes))
         (IsWritten table name rectangle (pixels_from_raw rectangle (image_of table name).format bytes)) }
 {}
 
-/// A moved rectangle has the samples that the rectangle had before the copy, and nothing else changes.
-/// So the sample of a position goes to the position that is dx and dy away, also where a buffer is copied
-/// onto itself and the two rectangles overlap.
+/// States that a moved rectangle has the samples that the rectangle had before the copy, and nothing else
+/// changes. So the sample of a position goes to the position that is dx and dy away, also where a buffer is
+/// copied onto itself and the two rectangles overlap.
 pub fn copied_rectangle()
     ensures moved { (table : Table) (from to : List ℕ) (rectangle moved : Rectangle) (dx dy : ℤ) →
         IsTable table → shifted dx dy rectangle ≡ Ok moved → IfOk (edited_table table (Copy from to rectangle dx dy))

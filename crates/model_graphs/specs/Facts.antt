@@ -1,6 +1,6 @@
 -- What a graph knows of its buffers: names, roots, boxes and formats, and no samples.
 use Rattle.std.specs.Prelude.{◌≡◌, ℕ, List, map, Option, option_map, unwrap_or, []}
-use Rattle.std.specs.List.{find, IsDistinct}
+use Rattle.std.specs.List.{find}
 use Rattle.std.specs.Str.{bytes_eq}
 use Rattle.plane_rect.specs.Rectangle.{Rectangle}
 use Rattle.model_graphs.specs.declared.buffer.BufferFact.{BufferFact}

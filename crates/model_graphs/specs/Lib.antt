@@ -6,3 +6,5 @@ pub mod Facts
 pub mod Meanings
 pub mod Laws
 pub mod Changes
+pub mod Windows
+pub mod Permits

@@ -1,5 +1,5 @@
 -- The box and the format of an image, without its samples.
-use Rattle.std.specs.Prelude.{ℕ, List, map, Option, unwrap_or}
+use Rattle.std.specs.Prelude.{ℕ, List, map, Option}
 use Rattle.std.specs.Map.{lookup}
 use Rattle.std.specs.Str.{bytes_eq}
 use Rattle.plane_rect.specs.Rectangle.{Rectangle, empty}

@@ -1,7 +1,7 @@
 //! Buffers as graphs read them, as plain data.
 
-use plane_rect::{Name, Rect};
 use pixel_formats::Format;
+use plane_rect::{Name, Rect};
 
 /// What a graph knows of a buffer: its name, the root buffer that it is a view on, its bounding box
 /// and its format.

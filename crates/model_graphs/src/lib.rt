@@ -6,6 +6,7 @@ mod buffer;
 pub mod inverses;
 pub mod meanings;
 mod node;
+pub mod windows;
 
 pub use buffer::{BufferFact, Edited};
 pub use meanings::OpMeaning;

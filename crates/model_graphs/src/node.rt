@@ -1,7 +1,7 @@
 //! Nodes of graphs, as plain data.
 
-use plane_rect::{Name, NameList, Rect};
 use pixel_formats::Format;
+use plane_rect::{Name, NameList, Rect};
 
 /// What the image of a node is.
 #[derive(Drop)]

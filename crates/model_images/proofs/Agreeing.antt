@@ -1,16 +1,16 @@
 -- The laws of images that agree, and of parts of images.
 use Rattle.std.proofs.Common.{◌≡◌, ℕ, ◌<◌, ◌≤◌, inl, inr, refl, sym, ap, ◌∙◌, subst}
-use Rattle.std.specs.List.{flat_map}
 use Rattle.std.proofs.lemmas.Bool.{cases_lt}
-use Rattle.plane_rect.specs.Rectangle.{Rectangle, Includes, Inside, empty}
-use Rattle.pixel_formats.specs.Format.{channels, depth}
+use Rattle.plane_rect.specs.Rectangle.{AreDisjoint, Rectangle, Includes, Inside}
+use Rattle.pixel_formats.specs.Format.{channels}
 use Rattle.pixel_formats.specs.declared.format.Format.{Format}
-use Rattle.model_images.specs.Agreement.{AgreeEverywhere, AgreeOutside, IsOldOrNew}
-use Rattle.model_images.specs.Image.{Image, IsImage, at, image_from_fn, sampled}
+use Rattle.model_images.specs.Agreement.{AgreeElsewhere, AgreeEverywhere, AgreeOutside, IsOldOrNew}
+use Rattle.model_images.specs.Image.{Image, IsImage, at, image_from_fn}
 use Rattle.model_images.specs.Paint.{cut}
-use Rattle.model_images.specs.Raw.{raw, sample_bytes}
-use Rattle.model_images.proofs.Laws.{at-image_from_fn, at_no_channel, at_outside, generated_equal, same_images, sampled_equal}
+use Rattle.model_images.specs.Raw.{raw}
+use Rattle.model_images.proofs.Laws.{at-image_from_fn, at_no_channel, at_outside, generated_equal, same_images}
 use Rattle.model_images.proofs.Positions.{by_positions}
+use Rattle.model_images.proofs.RawLaws.{raw-over}
 
 -- images of one format are equal at a position where they are in each channel
 pub at-by_channels : (a b : Image) (u v c : ℕ) → a.format ≡ b.format → (c < channels a.format → at a u v c ≡ at b u v c) → at a u v c ≡ at b u v c
@@ -24,10 +24,10 @@ everywhere-equal a b whole_a whole_b box agreed =
     same_images a b whole_a whole_b (record { box = box; format = agreed.format; samples = λ u v c out. agreed.samples u v c })
 
 pub everywhere-raw : (a b : Image) (r : Rectangle) → AgreeEverywhere a b → raw a r ≡ raw b r
-unfolding raw
-everywhere-raw a b r agreed =
-    ap (flat_map (sample_bytes (depth a.format))) (sampled_equal r (channels a.format) (at a) (at b) (λ u v c there known. agreed.samples u v c))
-    ∙ ap (λ (f : Format). flat_map (sample_bytes (depth f)) (sampled r (channels f) (at b))) agreed.format
+everywhere-raw a b r agreed = raw-over a b r agreed.format (λ u v c there. agreed.samples u v c)
+
+pub elsewhere-raw : (a b : Image) (r part : Rectangle) → AgreeElsewhere a b r → AreDisjoint part r → raw a part ≡ raw b part
+elsewhere-raw a b r part agreed apart = raw-over a b part agreed.format (λ u v c there. agreed.samples u v c (apart u v there))
 
 pub everywhere-cut : (a b : Image) (box : Rectangle) → AgreeEverywhere a b → cut a box ≡ cut b box
 everywhere-cut a b box agreed =

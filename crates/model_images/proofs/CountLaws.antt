@@ -1,9 +1,9 @@
 -- How many tiles parts and levels have.
-use Rattle.std.proofs.Common.{◌≡◌, ℕ, zero, suc, ◌+◌, ◌-◌, ◌≤◌, true, length, inl, inr, refl, sym, ap, ◌∙◌, subst, arith}
+use Rattle.std.proofs.Common.{◌≡◌, ℕ, zero, suc, ◌+◌, ◌-◌, ◌≤◌, true, inl, inr, sym, subst, arith}
 use Rattle.std.proofs.lemmas.Bool.Decides.{nat_tests}
 use Rattle.std.proofs.lemmas.Nat.{mul-le}
-use Rattle.plane_rect.specs.Rectangle.{Rectangle, Includes, Inside, IsRectangle, empty, end_column, end_row, halved, has_positions}
-use Rattle.plane_rect.specs.Tile.{tile_columns, tile_end, tile_lines, tile_of, tiles}
+use Rattle.plane_rect.specs.Rectangle.{Rectangle, Includes, IsRectangle, empty, end_column, end_row, halved, has_positions}
+use Rattle.plane_rect.specs.Tile.{tile_columns, tile_end, tile_lines, tile_of}
 use Rattle.plane_rect.proofs.Differences.{reaches}
 use Rattle.plane_rect.proofs.Moved.{halved-positions}
 use Rattle.plane_rect.proofs.RectangleLaws.{IsRectangle-halved}

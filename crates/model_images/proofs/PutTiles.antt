@@ -1,6 +1,7 @@
 -- The hull of tiles, and the image of put tiles.
-use Rattle.std.proofs.Common.{◌≡◌, ℕ, ◌≤◌, max, min, Bool, true, false, cond, List, [], ◌∷◌, Some, Contains, inl, inr, refl, sym, ap, subst, arith}
-use Rattle.plane_rect.specs.Rectangle.{Rectangle, Includes, Inside, IsRectangle, empty, end_column, end_row, hull, is_empty, plane_side, spanning}
+use Rattle.std.proofs.Common.{◌≡◌, ℕ, max, min, Bool, true, false, cond, List, [], ◌∷◌, Option, Some, None, Contains, inl, inr, refl, subst, arith}
+use Rattle.std.specs.Prelude.{IfSome, IsSome}
+use Rattle.plane_rect.specs.Rectangle.{Rectangle, Includes, IsRectangle, end_column, end_row, hull, is_empty, spanning}
 use Rattle.plane_rect.specs.Tile.{IsWhole, Tile, plane, tile_rectangle, tile_square}
 use Rattle.plane_rect.proofs.Differences.{hull-minimum}
 use Rattle.plane_rect.proofs.Lists.{Contains-cases, Contains-first, Contains-later}
@@ -8,7 +9,7 @@ use Rattle.plane_rect.proofs.RectangleLaws.{Includes-hull_left, Includes-hull_ri
 use Rattle.plane_rect.proofs.Rectangles.{Inside-meet}
 use Rattle.pixel_formats.specs.declared.format.Format.{Format}
 use Rattle.model_images.specs.Raw.{tile_bytes}
-use Rattle.model_images.specs.Tiles.{AreTileBytes, HeldTiles, hull_of_tiles, put_image}
+use Rattle.model_images.specs.Tiles.{AreTileBytes, AreZeroAround, AreZeroOutside, HeldTiles, hull_of_tiles, put_image}
 use Rattle.model_images.proofs.HeldTiles.{tile-held}
 
 -- from the first columns and rows of two rectangles to their ends
@@ -61,3 +62,13 @@ pub put-read : (format : Format) (tiles : List Tile) (held : HeldTiles) (tile : 
     → held tile ≡ Some bytes → AreTileBytes format bytes → tile_bytes (put_image format tiles held) tile ≡ bytes
 put-read format tiles held tile bytes there whole e are =
     tile-held format held (hull_of_tiles tiles) tile bytes e are (λ u v c inside out known. absurd (out (hull-square tiles tile there whole u v inside)))
+
+pub around-hull : (format : Format) (tiles : List Tile) (held : HeldTiles) → ((tile : Tile) → IsSome (held tile) → Contains tiles tile × IsWhole tile)
+    → AreZeroAround (hull_of_tiles tiles) format held
+around-hull format tiles held among tile = of (held tile) refl
+  where
+    of : (o : Option (List ℕ)) → held tile ≡ o → IfSome o (AreZeroOutside (hull_of_tiles tiles) format tile)
+    of (Some bytes) e =
+        let put = among tile (rw e refl) in
+        λ u v c inside out known. absurd (out (hull-square tiles tile put.0 put.1 u v inside))
+    of None e = tt

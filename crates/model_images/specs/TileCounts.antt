@@ -13,3 +13,7 @@ tile_count rectangle = length (tiles rectangle)
 abbrev pub level_tiles : Rectangle → ℕ → ℕ
 level_tiles box zero = 0
 level_tiles box (suc z) = level_tiles box z + tile_count (level_box box (suc z))
+
+-- How many names a chain has at most after a read of a level of a root over this box, where it had so many.
+abbrev pub names_after_read : ℕ → Rectangle → ℕ → ℕ
+names_after_read names box level = names + level_tiles box level

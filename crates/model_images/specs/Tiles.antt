@@ -1,5 +1,5 @@
 -- Images that are held by the raw bytes of tiles: by those of 64 by 64 positions, whatever the box.
-use Rattle.std.specs.Prelude.{◌≡◌, ℕ, ◌*◌, ◌<◌, List, [], ◌∷◌, length, IfSome, Option}
+use Rattle.std.specs.Prelude.{◌≡◌, ℕ, ◌*◌, ◌<◌, List, [], ◌∷◌, length, replicate, IfSome, Option, unwrap_or}
 use Rattle.std.specs.Option.{option_map_or}
 use Rattle.plane_rect.specs.Rectangle.{Rectangle, Inside, empty, hull}
 use Rattle.plane_rect.specs.Tile.{Tile, tile_at, tile_rectangle, tile_square}
@@ -17,6 +17,10 @@ HeldTiles = Tile → Option (List ℕ)
 pub record AreTileBytes (format : Format) (bytes : List ℕ) : Type 0 where
   pub whole : length bytes ≡ 4096 * pixel_bytes format
   pub small : AreBytes bytes
+
+-- the bytes of a tile, which are zeros where it isn't held
+abbrev pub tile_or_zeros : Format → HeldTiles → Tile → List ℕ
+tile_or_zeros format held tile = unwrap_or (held tile) (replicate (4096 * pixel_bytes format) 0)
 
 -- the pixel of a position that the bytes of its tile encode, and zeros where that tile isn't held
 abbrev pub held_pixels : Format → HeldTiles → ℕ → ℕ → Pixel

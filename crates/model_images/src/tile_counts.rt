@@ -4,8 +4,8 @@ ghost use Rattle.std.specs.Prelude.{ℕ, ◌≤◌};
 ghost use Rattle.plane_rect.specs.Rectangle.{Includes, IsRectangle, Rectangle};
 ghost use Rattle.model_images.specs.TileCounts.{level_tiles, tile_count};
 
-/// A part of a rectangle meets at most as many tiles, and its levels do so too. A read of a lower level may
-/// make at most as many.
+/// States that a part of a rectangle meets at most as many tiles, and its levels do so too. A read of a lower
+/// level may make at most as many.
 pub fn fewer_tiles()
     ensures part { (r part : Rectangle) → IsRectangle r → IsRectangle part → Includes r part → tile_count part ≤ tile_count r }
     ensures levels { (r part : Rectangle) (z : ℕ) → IsRectangle r → IsRectangle part → Includes r part →

@@ -56,7 +56,7 @@ one_index_each xs d i j apart below also same = elim (cases_lt i j) [
 
 before-apart : (s t : Tile) → IsBefore s t → s ≢ t
 before-apart s t (inl above) same = let row = ap (λ (t : Tile). t.row) same in omega (arith, above, row)
-before-apart s t (inr first_column) same = let column = ap (λ (t : Tile). t.column) same in omega (arith, first_column.1, column)
+before-apart s t (inr left) same = let column = ap (λ (t : Tile). t.column) same in omega (arith, left.1, column)
 
 no_tile : Tile
 no_tile = record { column = 0; row = 0 }

@@ -8,8 +8,8 @@ use Rattle.model_states.proofs.CacheLaws.{recent-all}
 pub render_leaves_right : {Op : Type 0} (meanings : Meanings Op) (scene : Scene Op) (capacity : Option ℕ) (counted : Counted Cached) (pairs : List Pair) →
     AreRight meanings scene counted.list → AreRightPairs meanings scene pairs →
     AreRight meanings scene (all_looked_up by_pair (with_bytes meanings scene) capacity counted pairs).list
-render_leaves_right meanings scene capacity counted [] end_column fresh = end_column
-render_leaves_right meanings scene capacity counted (pair ∷ pairs) end_column fresh =
+render_leaves_right meanings scene capacity counted [] right fresh = right
+render_leaves_right meanings scene capacity counted (pair ∷ pairs) right fresh =
     render_leaves_right meanings scene capacity (looked_up by_pair (with_bytes meanings scene) capacity counted pair) pairs
-    (recent-all by_pair (with_bytes meanings scene) capacity (IsRight meanings scene) counted.list pair end_column fresh.0)
+    (recent-all by_pair (with_bytes meanings scene) capacity (IsRight meanings scene) counted.list pair right fresh.0)
     fresh.1

@@ -25,7 +25,7 @@ use Rattle.model_states.proofs.Stated.{scene_shape-is, side_shape-of}
 
 -- ---- tiles
 
-a_position : (r : Rectangle) → has_positions r ≡ true → Inside r.first_column r.first_row r
+pub a_position : (r : Rectangle) → has_positions r ≡ true → Inside r.first_column r.first_row r
 a_position r some = grind (arith, nat_tests)
 
 -- a tile that does not meet a rectangle meets no part of it
@@ -79,7 +79,7 @@ module _ {Op : Type 0} (same : Op → Op → Bool) (meanings : Meanings Op) (cha
 
   pub stays_right : (cached : Cached) → meets cached.pair.tile (damage same meanings change cached.pair.node) ≡ false →
       IsRight meanings before cached → IsRight meanings after cached
-  stays_right cached apart end_column =
+  stays_right cached apart right =
       let name = cached.pair.node in
       let r = damage same meanings change name in
       let all = unchanged same meanings change old new laws tells valid name in
@@ -90,20 +90,20 @@ module _ {Op : Type 0} (same : Op → Op → Bool) (meanings : Meanings Op) (cha
       ap (λ (s : Shape). s.box) (scene_shape-is meanings before name) ∙ agreed.box ∙ sym (ap (λ (s : Shape). s.box) (scene_shape-is meanings after name)) in
       record {
         pair = record {
-          computed = computed name kept end_column.pair.computed;
-          meets_box = subst (λ r. IsTrue (meets cached.pair.tile r)) box end_column.pair.meets_box;
+          computed = computed name kept right.pair.computed;
+          meets_box = subst (λ r. IsTrue (meets cached.pair.tile r)) box right.pair.meets_box;
         };
-        bytes = end_column.bytes ∙ same_tile_bytes (image_of meanings before name) (image_of meanings after name) r cached.pair.tile agreed apart;
+        bytes = right.bytes ∙ same_tile_bytes (image_of meanings before name) (image_of meanings after name) r cached.pair.tile agreed apart;
       })
       (λ lost.
       absurd (meets_no_part cached.pair.tile r (shape_of meanings before name).box
-      (subst (Includes r) (old_box name) (all.changed (λ node found test. lost (node, found, test)))) apart end_column.pair.meets_box))
+      (subst (Includes r) (old_box name) (all.changed (λ node found test. lost (node, found, test)))) apart right.pair.meets_box))
 
   -- what is left of a list of right pairs
   pub stay_right : (list : List Cached) → AllByRecursion (IsRight meanings before) list →
       AllByRecursion (IsRight meanings after) (without_damaged by_pair (damage same meanings change) list)
-  stay_right [] end_column = tt
-  stay_right (c ∷ list) end_column = by (meets c.pair.tile (damage same meanings change c.pair.node)) refl (stay_right list end_column.1)
+  stay_right [] right = tt
+  stay_right (c ∷ list) right = by (meets c.pair.tile (damage same meanings change c.pair.node)) refl (stay_right list right.1)
     where
       rest : List Cached
       rest = without_damaged by_pair (damage same meanings change) list
@@ -111,4 +111,4 @@ module _ {Op : Type 0} (same : Op → Op → Bool) (meanings : Meanings Op) (cha
       by : (b : Bool) → meets c.pair.tile (damage same meanings change c.pair.node) ≡ b →
           AllByRecursion (IsRight meanings after) rest → AllByRecursion (IsRight meanings after) (cond (not b) (c ∷ rest) rest)
       by true e others = others
-      by false e others = (stays_right c e end_column.0, others)
+      by false e others = (stays_right c e right.0, others)

@@ -7,7 +7,7 @@ use Rattle.std.proofs.lemmas.Bool.Decides.{nat_tests}
 use Rattle.plane_rect.specs.Rectangle.{Rectangle, InLimits}
 use Rattle.model_images.proofs.Tests.{both}
 use Rattle.model_graphs.specs.Node.{Step, FromBuffer, Apply}
-use Rattle.model_states.specs.Edits.{is_unedited_box, step_refused, steps_refused}
+use Rattle.model_states.specs.Edits.{is_box_in_limits, step_refused, steps_refused}
 use Rattle.model_states.specs.declared.refused.StateRefused.{StateRefused}
 use Rattle.model_states.specs.declared.refused.StateRefused.TheVariants.{UnknownInput, Arity, Formats, Bounds}
 use Rattle.model_graphs.specs.Meanings.{Meanings}
@@ -39,11 +39,11 @@ some-test : {A : Type 0} (o : Option A) → IsSome o → is_none o ≡ false
 some-test None h = absurd (cc)
 some-test (Some a) h = refl
 
-limits-from_test : (o : Option Rectangle) → is_unedited_box o ≡ true → IsSomeAnd o InLimits
+limits-from_test : (o : Option Rectangle) → is_box_in_limits o ≡ true → IsSomeAnd o InLimits
 limits-from_test None h = absurd (cc)
 limits-from_test (Some r) h = grind (arith, nat_tests)
 
-limits-test : (o : Option Rectangle) → IsSomeAnd o InLimits → is_unedited_box o ≡ true
+limits-test : (o : Option Rectangle) → IsSomeAnd o InLimits → is_box_in_limits o ≡ true
 limits-test None h = absurd h
 limits-test (Some r) h = grind (arith, nat_tests)
 
@@ -72,7 +72,7 @@ step_valid meanings shapes known (Apply operation inputs) h =
     let b = length inputs == meanings.input_count operation in
     let format = meanings.format operation (input_formats known inputs) in
     let box = meanings.box operation (input_boxes known inputs) in
-    let facts = none_refused a b (is_none format) (is_unedited_box box) h in
+    let facts = none_refused a b (is_none format) (is_box_in_limits box) h in
     record {
       inputs_earlier = below-from_test (length known) inputs facts.0;
       arity = arity facts.1;

@@ -68,8 +68,8 @@ with_edits shapes nodes (edit ∷ edits) = with_edits shapes (then_edit shapes n
 -- ---- the walk over all nodes after the edits
 
 -- a box that is there and in limits
-abbrev pub is_unedited_box : Option Rectangle → Bool
-is_unedited_box box = option_map_or in_limits box false
+abbrev pub is_box_in_limits : Option Rectangle → Bool
+is_box_in_limits box = option_map_or in_limits box false
 
 -- why a step is refused after steps of these shapes, where it is
 abbrev pub step_refused : {Op : Type 0} → Meanings Op → Shapes → List Shape → Step Op → Option StateRefused
@@ -79,7 +79,7 @@ step_refused meanings shapes known (Apply operation inputs) =
     if not (list_all (λ i. nat_lt i (length known)) inputs) then Some UnknownInput
     else if not (length inputs == meanings.input_count operation) then Some Arity
     else if is_none (meanings.format operation (input_formats known inputs)) then Some Formats
-    else if not (is_unedited_box (meanings.box operation (input_boxes known inputs))) then Some Bounds
+    else if not (is_box_in_limits (meanings.box operation (input_boxes known inputs))) then Some Bounds
     else None
 
 -- why the first step that is refused is, where one is

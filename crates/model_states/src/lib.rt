@@ -1,13 +1,10 @@
 //! What states of a graph are, how one follows another, and what a render of one needs.
 #![tactic(auto)]
 
+pub mod examples;
+pub mod laws;
 mod refused;
 mod strip;
-
-pub mod examples;
-
-pub use refused::StateRefused;
-pub use strip::{NeedList, Strip};
 
 ghost use Rattle.std.specs.List.{AllByRecursion, IsDistinct};
 ghost use Rattle.std.specs.Str.{bytes_eq};
@@ -40,6 +37,9 @@ ghost use Rattle.model_states.specs.Samples.{HaveSameBuffers};
 ghost use Rattle.model_states.specs.State.{IsValidScene, Scene, body_image, image_of, node_of, shape_of, stated_nodes};
 ghost use Rattle.model_states.specs.Valid.{AreStated, AreValid, AreValidSteps, node_names, shapes_of, stated};
 ghost use Rattle.model_states.specs.declared.strip.Strip.{Strip as StripData};
+
+pub use refused::StateRefused;
+pub use strip::{NeedList, Strip};
 
 /// Each pair that is looked up counts once, as applied or as reused.
 pub fn counts_add_up<X>()

@@ -9,5 +9,8 @@ returns-clause-whole c = λ box format held. IsImage-image_from_fn box format (h
 pub returns-clause-held : goal.returns-clause-held
 returns-clause-held c = λ box format held. laws.tile-held format held box
 
+pub returns-clause-either : goal.returns-clause-either
+returns-clause-either c = λ box format held. laws.tile-either format held box
+
 pub returns-clause-lacking : goal.returns-clause-lacking
 returns-clause-lacking c = λ box format held. laws.tile-lacking format held box

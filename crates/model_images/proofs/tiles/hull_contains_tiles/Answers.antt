@@ -7,5 +7,8 @@ returns-clause-rectangle c = laws.hull-is
 pub returns-clause-contains : goal.returns-clause-contains
 returns-clause-contains c = laws.hull-square
 
+pub returns-clause-around : goal.returns-clause-around
+returns-clause-around c = laws.around-hull
+
 pub returns-clause-smallest : goal.returns-clause-smallest
 returns-clause-smallest c = laws.hull-smallest
