@@ -4,7 +4,7 @@ use Rattle.std.specs.List.{AllByRecursion, IsDistinct}
 use Rattle.std.specs.Str.{bytes_eq}
 use Rattle.plane_rect.specs.Rectangle.{Rectangle}
 use Rattle.plane_rect.specs.Tile.{Tile, same_tile}
-use Rattle.model_images.specs.Abyss.{tile_bytes}
+use Rattle.model_images.specs.Raw.{tile_bytes}
 use Rattle.model_graphs.specs.declared.node.Body.{Body}
 use Rattle.model_graphs.specs.declared.node.Body.TheVariants.{Source, Compute}
 use Rattle.model_graphs.specs.Node.{Node, index_of}
