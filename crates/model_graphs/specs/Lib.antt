@@ -1,5 +1,4 @@
 pub mod Node
-pub mod Operation
 pub mod Evaluation
 pub mod Shapes
 pub mod Facts

@@ -3,7 +3,6 @@
 #![tactic(auto)]
 
 mod buffer;
-pub mod inverses;
 pub mod meanings;
 mod node;
 pub mod windows;

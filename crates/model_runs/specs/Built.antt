@@ -11,6 +11,7 @@ use Rattle.script_fields.specs.declared.cause.ScriptCause.TheVariants.{UnknownCo
 use Rattle.script_read.specs.declared.command.Command.{Command}
 use Rattle.script_read.specs.declared.command.Command.TheVariants as commands
 use Rattle.script_read.specs.declared.command.Line.{Line}
+use Rattle.script_read.specs.declared.command.OpWords.{OpWords}
 use Rattle.script_read.specs.declared.command.OpWords.TheVariants as words
 use Rattle.model_runs.specs.Run.{Ending, Plan, lines_of_file, plan_of_lines}
 use Rattle.model_runs.specs.State.{Numbers}
@@ -33,6 +34,17 @@ built_script (command ∷ script ∷ word ∷ more) = None
 abbrev pub if_passed : {A : Type 0} → Bool → A → Option A
 if_passed test value = if test then Some value else None
 
+-- the stage after a node that is to be the source of a buffer
+abbrev pub sourced : List ℕ → List ℕ → OpWords → List (List ℕ) → Option Stage
+sourced name node (words.Source buffer) [] = if_passed (bytes_eq buffer name) (stages.Sourced node)
+sourced name node op inputs = None
+
+-- the stage after a node that is to invert a source
+abbrev pub inverted : List ℕ → List ℕ → OpWords → List (List ℕ) → Option Stage
+inverted source node words.Invert (input ∷ []) =
+    if_passed (bytes_eq input source && not (bytes_eq node source)) (stages.Inverted node)
+inverted source node op inputs = None
+
 -- Of scripts those that load a raster, invert it and render regions of it. They are any prefix of these lines, with as
 -- many render lines as one likes, in which R is one rectangle and S isn't I:
 --     buffer A Y8 R
@@ -46,10 +58,8 @@ abbrev pub next_stage : Stage → Command → Option Stage
 next_stage stages.Empty (commands.Buffer name Y8 rect) = Some (stages.Buffered name rect)
 next_stage (stages.Buffered name rect) (commands.Load loaded part file) =
     if_passed (bytes_eq loaded name && same_rectangle part rect) (stages.Loaded name)
-next_stage (stages.Loaded name) (commands.Node node (words.Source buffer) []) =
-    if_passed (bytes_eq buffer name) (stages.Sourced node)
-next_stage (stages.Sourced source) (commands.Node node words.Invert (input ∷ [])) =
-    if_passed (bytes_eq input source && not (bytes_eq node source)) (stages.Inverted node)
+next_stage (stages.Loaded name) (commands.Node node op inputs) = sourced name node op inputs
+next_stage (stages.Sourced source) (commands.Node node op inputs) = inverted source node op inputs
 next_stage (stages.Inverted node) commands.Commit = Some (stages.Committed node)
 next_stage (stages.Committed node) (commands.Render rendered level rect file) =
     if_passed (level == 0 && bytes_eq rendered node) (stages.Committed node)
@@ -83,7 +93,10 @@ built_ending state files = []
 
 -- ---- runs
 
+-- What a run is to do today of what was read of a script.
+abbrev pub plan_of_read : Numbers → Files → Result (List Line) Refusal → Plan
+plan_of_read numbers files read = plan_of_lines built_ending default_options numbers files (built_lines read)
+
 -- What a run of a script is to do today.
 abbrev pub built_plan : Numbers → Files → List ℕ → Plan
-built_plan numbers files script =
-    plan_of_lines built_ending default_options numbers files (built_lines (lines_of_file (file files script)))
+built_plan numbers files script = plan_of_read numbers files (lines_of_file (file files script))

@@ -1,5 +1,6 @@
 //! How a run ends.
 
+use no_memory::NoMemory;
 use std::alloc::AllocError;
 
 /// Why a run ends before its last line.
@@ -28,6 +29,17 @@ impl From<AllocError> for End {
     ghost from_gives = { λ _ end. end ≡ NoMemory };
 
     fn from(_: AllocError) -> End {
+        End::NoMemory
+    }
+}
+
+impl From<NoMemory> for End {
+    ghost use Rattle.std.specs.Prelude.{◌≡◌};
+    ghost use Rattle.model_runs.specs.declared.ending.End.TheVariants as ends;
+
+    ghost from_gives = { λ _ end. end ≡ ends.NoMemory };
+
+    fn from(_: NoMemory) -> End {
         End::NoMemory
     }
 }

@@ -18,3 +18,8 @@ pub mod Steady
 pub mod RetainedLaws
 pub mod HistoryLaws
 pub mod Written
+pub mod Voids
+pub mod Suited
+pub mod Symmetric
+pub mod Serves
+pub mod Wide

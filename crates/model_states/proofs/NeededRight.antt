@@ -58,7 +58,7 @@ all_of P Q (x ∷ xs) step all = (step x all.0, all_of P Q xs step all.1)
 -- ---- tiles of what is asked of a box
 
 -- a tile that meets a rectangle in a box meets the box
-meets_whole : (t : Tile) (box part : Rectangle) → Includes box part → meets t part ≡ true → meets t box ≡ true
+pub meets_whole : (t : Tile) (box part : Rectangle) → Includes box part → meets t part ≡ true → meets t box ≡ true
 meets_whole t box part inside met = by (meets t box) refl
   where
     by : (b : Bool) → meets t box ≡ b → b ≡ true
@@ -99,6 +99,30 @@ asked_inside shapes node (a ∷ asked) all = by (eqb a.0 node) refl (asked_insid
         (subst (λ n. Includes (get_or shapes n no_shape).box a.1) here all.0, others)
     by false e others = others
 
+module _ {Op : Type 0} where
+  -- these steps, from the last to the first, are the first of all
+  abbrev pub AreFirst : List (Step Op) → List (Step Op) → Type 0
+  AreFirst all [] = Unit {0}
+  AreFirst all (step ∷ before) = (slice_get all (length before) ≡ Some step) × AreFirst all before
+
+  pub first_steps : (all : List (Step Op)) (n : ℕ) → AreFirst all (reverse (take n all))
+  first_steps all zero = tt
+  first_steps all (suc n) = elim (cases_lt n (length all)) [
+    | inl there ↦ more n there (first_steps all n)
+    | inr past ↦
+        let whole : take (suc n) all ≡ take n all = take_all (suc n) all (omega (arith, past)) ∙ sym (take_all n all past) in
+        subst (λ steps. AreFirst all (reverse steps)) (sym whole) (first_steps all n)
+  ]
+    where
+      more : (n : ℕ) → n < length all → AreFirst all (reverse (take n all)) → AreFirst all (reverse (take (suc n) all))
+      more n there rest =
+          let none : Step Op = FromBuffer [] in
+          let step = get_or all n none in
+          let count : length (reverse (take n all)) ≡ n = length-reverse (take n all) ∙ length-take-le n all (omega (arith, there)) in
+          let here : slice_get all (length (reverse (take n all))) ≡ Some step = ap (λ k. slice_get all k) count ∙ slice_get-get_or all n none there in
+          let is : reverse (take (suc n) all) ≡ step ∷ reverse (take n all) = ap reverse (take-suc all n none there) ∙ reverse-append (take n all) (step ∷ []) in
+          subst (AreFirst all) (sym is) (here, rest)
+
 module _ {Op : Type 0} (meanings : Meanings Op) (boxed : IsBoxed meanings) where
   -- what a part asks of the inputs from one on
   inputs_asked : (shapes : List Shape) (operation : Op) (all rest : List ℕ) (part : Rectangle) (n : ℕ) → ((i : ℕ) → i < length rest → get_or all (n + i) 0 ≡ get_or rest i 0) → n + length rest ≤ length all →
@@ -129,29 +153,6 @@ module _ {Op : Type 0} (meanings : Meanings Op) (boxed : IsBoxed meanings) where
     inputs : List ℕ
     step : slice_get all n.0 ≡ Some (Apply operation inputs)
     met : meets n.1 (get_or shapes n.0 no_shape).box ≡ true
-
-  -- these steps, from the last to the first, are the first of all
-  abbrev AreFirst : List (Step Op) → List (Step Op) → Type 0
-  AreFirst all [] = Unit {0}
-  AreFirst all (step ∷ before) = (slice_get all (length before) ≡ Some step) × AreFirst all before
-
-  first_steps : (all : List (Step Op)) (n : ℕ) → AreFirst all (reverse (take n all))
-  first_steps all zero = tt
-  first_steps all (suc n) = elim (cases_lt n (length all)) [
-    | inl there ↦ more n there (first_steps all n)
-    | inr past ↦
-        let whole : take (suc n) all ≡ take n all = take_all (suc n) all (omega (arith, past)) ∙ sym (take_all n all past) in
-        subst (λ steps. AreFirst all (reverse steps)) (sym whole) (first_steps all n)
-  ]
-    where
-      more : (n : ℕ) → n < length all → AreFirst all (reverse (take n all)) → AreFirst all (reverse (take (suc n) all))
-      more n there rest =
-          let none : Step Op = FromBuffer [] in
-          let step = get_or all n none in
-          let count : length (reverse (take n all)) ≡ n = length-reverse (take n all) ∙ length-take-le n all (omega (arith, there)) in
-          let here : slice_get all (length (reverse (take n all))) ≡ Some step = ap (λ k. slice_get all k) count ∙ slice_get-get_or all n none there in
-          let is : reverse (take (suc n) all) ≡ step ∷ reverse (take n all) = ap reverse (take-suc all n none there) ∙ reverse-append (take n all) (step ∷ []) in
-          subst (AreFirst all) (sym is) (here, rest)
 
   wanted_of_node : (shapes : List Shape) (all : List (Step Op)) (node : ℕ) (step : Step Op) (ts : List Tile) → slice_get all node ≡ Some step →
       AllByRecursion (λ t. meets t (get_or shapes node no_shape).box ≡ true) ts → AllByRecursion (IsWanted shapes all) (needed_of node step ts)

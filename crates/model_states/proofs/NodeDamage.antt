@@ -42,7 +42,7 @@ image_past {Op} meanings scene name past =
     (omega (arith, past, length-images_after (result_of meanings) scene.table [] (steps_of scene.nodes), length-map scene.nodes (λ (node : Node Op). step_of scene.nodes node.body)))
 
 -- a buffer whose shape is there
-buffer_there : (facts : Facts) (name : List ℕ) → IsSome (shape_in (shapes_of_facts facts) name) → IsSome (fact_of facts name)
+pub buffer_there : (facts : Facts) (name : List ℕ) → IsSome (shape_in (shapes_of_facts facts) name) → IsSome (fact_of facts name)
 buffer_there facts name there = of (fact_of facts name) (subst (λ o. IsSome o) (shape_in-facts facts name) there)
   where
     of : (o : Option BufferFact) → IsSome (option_map shape_of_fact o) → IsSome o
@@ -51,6 +51,17 @@ buffer_there facts name there = of (fact_of facts name) (subst (λ o. IsSome o) 
 
 nowhere : (u v : ℕ) → ¬ Inside u v empty
 nowhere u v there = omega (arith, there.column)
+
+-- as many damages as nodes of the new state
+length-damages_after : {Op : Type 0} (same : Op → Op → Bool) (meanings : Meanings Op) (change : Change Op) (known : List Rectangle) (rest : List (Node Op)) →
+    length (damages_after same meanings change known rest) ≡ length known + length rest
+length-damages_after same meanings change known [] = omega arith
+length-damages_after same meanings change known (node ∷ rest) =
+    let r = damage_of_node same meanings change known node in
+    length-damages_after same meanings change (known ++ r ∷ []) rest ∙ omega (arith, length-append known (r ∷ []))
+
+pub length-damages : {Op : Type 0} (same : Op → Op → Bool) (meanings : Meanings Op) (change : Change Op) → length (damages same meanings change) ≡ length (specs_of change.new.nodes)
+length-damages same meanings change = length-damages_after same meanings change [] (specs_of change.new.nodes) ∙ omega arith
 
 module _ {Op : Type 0} (same : Op → Op → Bool) (meanings : Meanings Op) (change : Change Op)
     (old new : Buffers) (laws : KeepsLaws meanings) (apart : Distinguishes same) (valid : IsChange meanings change old new) where
@@ -229,18 +240,12 @@ module _ {Op : Type 0} (same : Op → Op → Bool) (meanings : Meanings Op) (cha
       let next : length (known ++ r ∷ []) + i ≡ length known + suc i = omega (arith, length-append known (r ∷ [])) in
       ap (λ n. slice_get (specs_of change.new.nodes) n) next ∙ after (suc i))
 
-  length-damages_after : (known : List Rectangle) (rest : List (Node Op)) → length (damages_after same meanings change known rest) ≡ length known + length rest
-  length-damages_after known [] = omega arith
-  length-damages_after known (node ∷ rest) =
-      let r = damage_of_node same meanings change known node in
-      length-damages_after (known ++ r ∷ []) rest ∙ omega (arith, length-append known (r ∷ []))
-
   pub unchanged : (name : List ℕ) → Unchanged name (damage same meanings change name)
   unchanged name =
       let nodes = (specs_of change.new.nodes) in
       let i = index_of nodes name in
       let rs = damages same meanings change in
-      let count : length rs ≡ length nodes = length-damages_after [] nodes ∙ omega arith in
+      let count : length rs ≡ length nodes = length-damages same meanings change in
       elim (cases_lt i (length nodes)) [
         | inl inside ↦
             let less : i < length rs = omega (arith, count) in

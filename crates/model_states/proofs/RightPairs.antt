@@ -25,7 +25,7 @@ use Rattle.model_states.proofs.Stated.{scene_shape-is, side_shape-of}
 
 -- ---- tiles
 
-a_position : (r : Rectangle) → has_positions r ≡ true → Inside r.first_column r.first_row r
+pub a_position : (r : Rectangle) → has_positions r ≡ true → Inside r.first_column r.first_row r
 a_position r some = grind (arith, nat_tests)
 
 -- a tile that does not meet a rectangle meets no part of it

@@ -14,7 +14,7 @@ use Rattle.model_states.specs.State.{IsValidScene, Scene, image_of, node_shapes,
 use Rattle.model_states.specs.Valid.{AreStated, AreValid, shapes_after, shapes_of, stated, step_shape, steps_of, with_shape}
 use Rattle.model_states.proofs.Shapes.{shape_at}
 
-length-shapes_after : {Op : Type 0} (meanings : Meanings Op) (shapes : Shapes) (known : List Shape) (steps : List (Step Op)) →
+pub length-shapes_after : {Op : Type 0} (meanings : Meanings Op) (shapes : Shapes) (known : List Shape) (steps : List (Step Op)) →
     length (shapes_after meanings shapes known steps) ≡ length known + length steps
 length-shapes_after meanings shapes known [] = omega arith
 length-shapes_after meanings shapes known (step ∷ steps) =

@@ -45,7 +45,7 @@ own_neighbor facts images =
 
 -- ---- tests of a thing against itself
 
-same_shape-itself : (s : Shape) → same_shape s s ≡ true
+pub same_shape-itself : (s : Shape) → same_shape s s ≡ true
 same_shape-itself s =
     let box = same_rectangle-itself s.box in
     let format : same_format s.format s.format ≡ true = grind (arith, nat_tests) in
@@ -55,7 +55,7 @@ same_names-itself : (names : List (List ℕ)) → same_names names names ≡ tru
 same_names-itself [] = refl
 same_names-itself (name ∷ names) = rw (same_bytes name, same_names-itself names) refl
 
-same_body-itself : {Op : Type 0} (same : Op → Op → Bool) → ((f : Op) → same f f ≡ true) → (body : Body Op) → same_body same body body ≡ true
+pub same_body-itself : {Op : Type 0} (same : Op → Op → Bool) → ((f : Op) → same f f ≡ true) → (body : Body Op) → same_body same body body ≡ true
 same_body-itself same itself (Source buffer) = same_bytes buffer
 same_body-itself same itself (Compute operation inputs) = rw (itself operation, same_names-itself inputs) refl
 

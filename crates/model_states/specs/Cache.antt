@@ -3,8 +3,8 @@ use Rattle.std.specs.Prelude.{◌≡◌, ℕ, ◌+◌, Bool, ◌&&◌, not, ⊤,
 use Rattle.std.specs.List.{AllByRecursion, IsDistinct}
 use Rattle.std.specs.Str.{bytes_eq}
 use Rattle.plane_rect.specs.Rectangle.{Rectangle}
-use Rattle.plane_rect.specs.Tile.{Tile, same_tile, tile_square}
-use Rattle.model_images.specs.Raw.{raw}
+use Rattle.plane_rect.specs.Tile.{Tile, same_tile}
+use Rattle.model_images.specs.Raw.{tile_bytes}
 use Rattle.model_graphs.specs.declared.node.Body.{Body}
 use Rattle.model_graphs.specs.declared.node.Body.TheVariants.{Source, Compute}
 use Rattle.model_graphs.specs.Node.{Node, index_of}
@@ -147,7 +147,7 @@ needed_pairs nodes strips = map (pair_of nodes) (flat_map (λ (strip : Strip). s
 
 -- the bytes of a pair: the samples of the node's image on the 64 by 64 pixels of the tile
 abbrev pub pair_bytes : {Op : Type 0} → Meanings Op → Scene Op → Pair → List ℕ
-pair_bytes meanings scene pair = raw (image_of meanings scene pair.node) (tile_square pair.tile)
+pair_bytes meanings scene pair = tile_bytes (image_of meanings scene pair.node) pair.tile
 
 -- a pair with its bytes
 abbrev pub with_bytes : {Op : Type 0} → Meanings Op → Scene Op → Pair → Cached

@@ -1,8 +1,8 @@
 -- Changes from one state to the next. Damage: where the image of a node may differ between the two. It reads no sample.
 use Rattle.std.specs.Prelude.{◌≡◌, ℕ, Bool, true, false, ◌&&◌, not, if◌then◌else◌, List, [], ◌∷◌, ◌++◌, map, filter, length, Option, Some, None, slice_index_or}
-use Rattle.std.specs.List.{list_all, enumerate_from}
+use Rattle.std.specs.List.{AllByRecursion, list_all, enumerate_from}
 use Rattle.std.specs.Str.{bytes_eq}
-use Rattle.plane_rect.specs.Rectangle.{Rectangle, empty, hull, meet, same_rectangle}
+use Rattle.plane_rect.specs.Rectangle.{IsRectangle, Rectangle, empty, hull, meet, same_rectangle}
 use Rattle.pixel_formats.specs.Format.{same_format}
 use Rattle.model_graphs.specs.declared.buffer.BufferFact.{BufferFact}
 use Rattle.model_graphs.specs.declared.node.Body.{Body}
@@ -58,6 +58,10 @@ pub record IsStatedChange {Op : Type 0} (meanings : Meanings Op) (change : Chang
   pub old : IsStated meanings change.old
   pub new : IsStated meanings change.new
   pub steady : AreSteady change.old.buffers change.new.buffers
+
+-- the stated boxes are rectangles of the plane
+abbrev pub HaveRectangles : {Op : Type 0} → Side Op → Type 0
+HaveRectangles {Op} side = AllByRecursion (λ (fact : NodeFact Op). IsRectangle fact.bounds) side.nodes
 
 -- ---- what is the same in both
 

@@ -12,4 +12,5 @@ pub mod Commits
 pub mod Samples
 pub mod Need
 pub mod Cache
+pub mod Serving
 pub mod Examples

@@ -2,6 +2,7 @@
 #![tactic(auto)]
 
 pub mod examples;
+pub mod laws;
 mod refused;
 mod strip;
 
@@ -219,7 +220,7 @@ pub fn redo_reverts_undo<Table, Op>()
 {}
 
 /// A table of buffers is its own neighbour, with no rectangles.
-pub fn buffers_are_their_own_neighbour()
+pub fn buffers_are_their_own_neighbor()
     ensures { (facts : Facts) (images : Buffers) → AreNeighbors facts facts images images [] }
 {}
 

@@ -1,5 +1,5 @@
 -- Edits made one after another.
-use Rattle.std.proofs.Common.{◌≡◌, ℕ, suc, ◌<◌, List, [], ◌∷◌, length, get_or, drop, map, refl, ap, ◌∙◌, drop-cons, Option, Some, Ok, Err}
+use Rattle.std.proofs.Common.{◌≡◌, ℕ, suc, ◌<◌, List, [], ◌∷◌, length, get_or, drop, refl, ap, ◌∙◌, drop-cons, Option, Some, Ok, Err}
 use Rattle.model_operations.specs.declared.operation.IntOp.{IntOp}
 use Rattle.model_graphs.specs.Node.{Node}
 use Rattle.model_states.specs.Edits.{edit_refused, unless_refused, with_edit, with_edits}

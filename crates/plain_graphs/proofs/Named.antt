@@ -8,7 +8,7 @@ use Rattle.model_graphs.specs.declared.buffer.BufferFact.{BufferFact}
 use Rattle.model_graphs.specs.declared.node.NodeFact.{NodeFact}
 use Rattle.model_graphs.specs.Facts.{Facts, fact_of, shape_of_fact, shapes_of_facts, specs_of}
 use Rattle.model_graphs.specs.Node.{Node, index_of}
-use Rattle.model_graphs.specs.Shapes.{Shape, no_shape, shape_in}
+use Rattle.model_graphs.specs.Shapes.{no_shape, shape_in}
 use Rattle.model_states.proofs.PrefixLaws.{before_name}
 use Rattle.model_states.proofs.Shapes.{shape_in-facts}
 

@@ -2,12 +2,13 @@
 use Rattle.std.proofs.Common.{◌≡◌, ℕ, List, [], ◌∷◌, Option, Some, None, Result, Ok, Err, IfSome, refl, sym, ◌∙◌, subst, arith}
 use Rattle.std.specs.Result.{IsErrAnd}
 use Rattle.outside_io.specs.Files.{Files}
-use Rattle.script_run.specs.declared.status.End.{End}
-use Rattle.script_run.specs.declared.status.End.TheVariants as ends
+use Rattle.model_runs.specs.declared.ending.End.{End}
+use Rattle.model_runs.specs.declared.ending.End.TheVariants as ends
 use Rattle.run_texts.specs.Events.{Event, Writes, Puts, Outcome, Refusal, events_alone, then_do}
 use Rattle.run_texts.specs.World.{World, after_all, LeavesSome}
 use Rattle.run_texts.proofs.Leaving.{none_yet, all_came, after_all-append, some_after, some_of_first}
-use Rattle.script_run.specs.Ending.{MayTear, Leaves, Faults, HasCause, NoneFalls}
+use Rattle.model_runs.specs.Ending.{Leaves, MayTear}
+use Rattle.script_run.specs.Causes.{Counts, HasCause, NoneFell}
 
 -- a part whose events have all come, and then the rest
 pub Leaves-then : (events : List Event) (rest : Outcome) (result : Result (Unit {0}) End) (old mid new : World) →
@@ -23,6 +24,10 @@ Leaves-then events rest result old mid new came leaves =
 -- nothing is done for running out of memory
 pub nothing_done : (outcome : Outcome) (world : World) → Leaves outcome (Err ends.NoMemory) world world
 nothing_done outcome world = record { refused = tt; whole = λ whole. absurd whole; some = none_yet _ outcome.events world }
+
+pub nothing_done-end : (outcome : Outcome) (end : End) (world : World) → end ≡ ends.NoMemory → Leaves outcome (Err end) world world
+nothing_done-end outcome end world none =
+    subst (λ (e : End). Leaves outcome (Err e) world world) (sym none) (nothing_done outcome world)
 
 -- nothing is done after an I/O error of a read
 pub nothing_read : (outcome : Outcome) (world : World) → Leaves outcome (Err ends.ReadFault) world world
@@ -44,6 +49,10 @@ Leaves-first events outcome ends.OutputFault old new leaves =
     record { refused = tt; whole = λ whole. absurd whole; some = some_of_first _ events outcome.events old new leaves.some }
 Leaves-first events outcome ends.NoMemory old new leaves =
     record { refused = tt; whole = λ whole. absurd whole; some = some_of_first _ events outcome.events old new leaves.some }
+Leaves-first events outcome ends.SwapFault old new leaves =
+    record { refused = tt; whole = λ whole. absurd whole; some = some_of_first _ events outcome.events old new leaves.some }
+Leaves-first events outcome ends.SwapFull old new leaves =
+    record { refused = tt; whole = λ whole. absurd whole; some = some_of_first _ events outcome.events old new leaves.some }
 
 -- the text of a refusal did not go out whole
 pub Leaves-exposed : (events : List Event) (refused : Option Refusal) (end : End) (old new : World) →
@@ -53,6 +62,8 @@ Leaves-exposed events refused ends.ReadFault old new leaves = record { refused =
 Leaves-exposed events refused ends.WriteFault old new leaves = record { refused = tt; whole = λ whole. absurd whole; some = leaves.some }
 Leaves-exposed events refused ends.OutputFault old new leaves = record { refused = tt; whole = λ whole. absurd whole; some = leaves.some }
 Leaves-exposed events refused ends.NoMemory old new leaves = record { refused = tt; whole = λ whole. absurd whole; some = leaves.some }
+Leaves-exposed events refused ends.SwapFault old new leaves = record { refused = tt; whole = λ whole. absurd whole; some = leaves.some }
+Leaves-exposed events refused ends.SwapFull old new leaves = record { refused = tt; whole = λ whole. absurd whole; some = leaves.some }
 
 -- the text of a refusal went out
 pub Leaves-refused : (events : List Event) (refusal : Refusal) (old new : World) → new ≡ after_all events old →
@@ -60,26 +71,30 @@ pub Leaves-refused : (events : List Event) (refusal : Refusal) (old new : World)
 Leaves-refused events refusal old new came =
     record { refused = tt; whole = λ whole. came; some = subst (λ (w : World). LeavesSome ⊥ events old w) (sym came) (all_came ⊥ events old) }
 
-pub none_falls : {result : Result (Unit {0}) End} {old new : Faults} → HasCause result old new → NoneFalls old new
+pub none_falls : {result : Result (Unit {0}) End} {old new : Counts} → HasCause result old new → NoneFell old new
 none_falls cause = record { reads = cause.reads; writes = cause.writes; puts = cause.puts }
 
 -- an I/O error after a part
-pub HasCause-then : (result : Result (Unit {0}) End) (old mid new : Faults) → NoneFalls old mid → HasCause result mid new → HasCause result old new
+pub HasCause-then : (result : Result (Unit {0}) End) (old mid new : Counts) → NoneFell old mid → HasCause result mid new → HasCause result old new
 HasCause-then result old mid new first cause = record {
   read = λ e. omega (arith, cause.read e);
   write = λ e. omega (arith, cause.write e);
   put = λ e. omega (arith, cause.put e);
+  swap = cause.swap;
+  room = cause.room;
   reads = omega arith;
   writes = omega arith;
   puts = omega arith;
 }
 
 -- a refusal is no I/O error
-pub refused_cause : (old new : Faults) → NoneFalls old new → HasCause (Err ends.Refused) old new
+pub refused_cause : (old new : Counts) → NoneFell old new → HasCause (Err ends.Refused) old new
 refused_cause old new first = record {
   read = λ e. absurd (cc);
   write = λ e. absurd (cc);
   put = λ e. absurd (cc);
+  swap = λ e. cc;
+  room = λ e. cc;
   reads = first.reads;
   writes = first.writes;
   puts = first.puts;
@@ -96,7 +111,7 @@ pub Leaves-same_end : (outcome : Outcome) (end : End) (result : Result (Unit {0}
 Leaves-same_end outcome end (Ok done) old new same leaves = absurd same
 Leaves-same_end outcome end (Err other) old new same leaves = subst (λ (e : End). Leaves outcome (Err e) old new) (sym same) leaves
 
-pub HasCause-same_end : (end : End) (result : Result (Unit {0}) End) (old new : Faults) →
+pub HasCause-same_end : (end : End) (result : Result (Unit {0}) End) (old new : Counts) →
     IsErrAnd result (λ other. other ≡ end) → HasCause (Err end) old new → HasCause result old new
 HasCause-same_end end (Ok done) old new same cause = absurd same
 HasCause-same_end end (Err other) old new same cause = subst (λ (e : End). HasCause (Err e) old new) (sym same) cause
@@ -106,7 +121,7 @@ pub Leaves-same_bytes : (name a b : List ℕ) (result : Result (Unit {0}) End) (
     Leaves (events_alone (Writes name a ∷ [])) result old new → Leaves (events_alone (Writes name b ∷ [])) result old new
 Leaves-same_bytes name a b result old new same leaves = subst (λ (bytes : List ℕ). Leaves (events_alone (Writes name bytes ∷ [])) result old new) same leaves
 
-pub falls_then : (old mid new : Faults) → NoneFalls old mid → NoneFalls mid new → NoneFalls old new
+pub falls_then : (old mid new : Counts) → NoneFell old mid → NoneFell mid new → NoneFell old new
 falls_then old mid new first then = record { reads = omega arith; writes = omega arith; puts = omega arith }
 
 -- the same files before

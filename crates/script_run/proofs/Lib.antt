@@ -1,7 +1,10 @@
-pub mod FormLemmas
-pub mod RasterLemmas
-pub mod RowsLemmas
-pub mod Leaving
-pub mod Carrying
-pub mod Reading
-pub mod Statuses
+mod Leaving
+mod Statuses
+mod Rasters
+mod Loads
+mod Strips
+mod Committed
+mod Fitting
+mod Unwatched
+mod Carrying
+mod Promises

@@ -1,69 +1,81 @@
-//! Carrying out the steps of a script.
+//! Carrying out the lines of a script.
 
-ghost use Rattle.std.specs.Prelude.{◌≡◌, [], ◌∷◌, Option, IfSome, List, ℕ};
+ghost use Rattle.std.specs.Prelude.{◌≡◌, [], ◌∷◌, All, IsTrue, List, None, Option, IfSome, ℕ, length};
+ghost use Rattle.plane_rect.specs.Rectangle.{in_limits};
 ghost use Rattle.outside_io.specs.Files.{Files, file as bytes_of};
 ghost use Rattle.model_images.specs.Raw.{raw};
-ghost use Rattle.script_run.specs.Ending.{Leaves, HasCause};
-ghost use Rattle.script_run.specs.Form.{Follows};
-ghost use Rattle.script_run.specs.Outcome.{rendered, steps_outcome, empty_state};
+ghost use Rattle.model_runs.specs.Built.{built_ending, first_unbuilt};
+ghost use Rattle.model_runs.specs.Effects.{writes};
+ghost use Rattle.model_runs.specs.Ending.{Leaves};
+ghost use Rattle.model_runs.specs.Run.{outcome_from};
+ghost use Rattle.model_runs.specs.State.{first_state};
+ghost use Rattle.model_runs.specs.Words.{default_options};
+ghost use Rattle.model_runs.specs.declared.stage.Stage.TheVariants as stages;
+ghost use Rattle.script_read.specs.IsScript.{IsScript};
+ghost use Rattle.script_read.specs.Limits.{IsInLimits};
+ghost use Rattle.script_read.specs.declared.command.Line.{Line as LineData};
+ghost use Rattle.script_run.specs.Causes.{HasCause};
+ghost use Rattle.script_run.specs.Loading.{loads, loads_bytes, loads_found, render_events, renders};
 ghost use Rattle.run_texts.specs.Events.{Puts, Writes, events_alone, refusal};
 ghost use Rattle.run_texts.specs.Texts.{render_text as text_of_render};
-ghost use Rattle.script_run.specs.Rendering.{load_outcome, file_outcome, raster_outcome, render_events, renders_outcome};
 
-use crate::form::Stage;
-use crate::raster::Raster;
-use crate::status::End;
-use crate::step::{NumberedStep, Step};
+use crate::images::inverted;
+use model_runs::End;
 use outside_io::{Shelf, ShelfAnswer, Sink, SinkAnswer};
+use patch_abyss::Patch;
 use plane_rect::Rect;
 use run_texts::{Cause, refusal_text, render_text};
-use script_read::FileName;
+use script_read::{Command, FileName, Line};
 use std::alloc::Global;
 
-/// How many steps stand before the first render.
-const STEPS_BEFORE_RENDERS: usize = 5;
+/// How many lines with commands stand before the first render.
+const LINES_BEFORE_RENDERS: usize = 5;
 
 /// The number of the only commit.
 const FIRST_COMMIT: u32 = 1;
 
-/// Carries out the steps of a script that has the form.
+/// Carries out the lines of a script that are all built.
 pub fn carry_out<F: Shelf, O: Sink>(
     alloc: Global,
-    steps: &[NumberedStep],
+    lines: &[Line],
     shelf: &mut F,
     out: &mut O,
 ) -> Result<(), End>
-    requires { Follows Stage.Empty steps.now }
-    ensures leaves { IfSome (F.files shelf.old) (λ files. Leaves (steps_outcome empty_state files steps.now) result
+    requires script { IsScript lines.now }
+    requires built { first_unbuilt stages.Empty lines.now ≡ None }
+    ensures leaves { IfSome (F.files shelf.old)
+        (λ files. Leaves (outcome_from built_ending default_options.cache (first_state []) files lines.now) result
         (record { files = F.files shelf.old; text = O.written out.old }) (record { files = F.files shelf.new; text = O.written out.new })) }
     ensures cause { HasCause result
         (record { reads = F.read_faults shelf.old; writes = F.write_faults shelf.old; puts = O.faults out.old })
         (record { reads = F.read_faults shelf.new; writes = F.write_faults shelf.new; puts = O.faults out.new }) }
 {
-    let Some(second) = steps.get(1) else {
+    let Some(second) = lines.get(1) else {
         return Ok(());
     };
-    let renders = &steps[STEPS_BEFORE_RENDERS.min(steps.len())..];
-    load_line(alloc, second.number, &second.step, renders, shelf, out)
+    let later = &lines[LINES_BEFORE_RENDERS.min(lines.len())..];
+    load_line(alloc, second.number, &second.command, later, shelf, out)
 }
 
-/// Carries out the second step, which loads a raster, and the renders after the commit.
+/// Carries out the line that loads a raster, and the renders after the commit.
 fn load_line<F: Shelf, O: Sink>(
     alloc: Global,
     line: u32,
-    step: &Step,
-    renders: &[NumberedStep],
+    command: &Command,
+    later: &[Line],
     shelf: &mut F,
     out: &mut O,
 ) -> Result<(), End>
-    ensures leaves { IfSome (F.files shelf.old) (λ files. Leaves (load_outcome files line step.now renders.now) result
+    requires limits { IsInLimits command.now }
+    requires later { All (λ (line : LineData). IsInLimits line.command) later.now }
+    ensures leaves { IfSome (F.files shelf.old) (λ files. Leaves (loads files line command.now later.now) result
         (record { files = F.files shelf.old; text = O.written out.old }) (record { files = F.files shelf.new; text = O.written out.new })) }
     ensures cause { HasCause result
         (record { reads = F.read_faults shelf.old; writes = F.write_faults shelf.old; puts = O.faults out.old })
         (record { reads = F.read_faults shelf.new; writes = F.write_faults shelf.new; puts = O.faults out.new }) }
 {
-    match step {
-        Step::Load(_, rect, file) => load(alloc, line, rect, file, renders, shelf, out),
+    match command {
+        Command::Load { rect, file, .. } => load(alloc, line, rect, file, later, shelf, out),
         _ => Ok(()),
     }
 }
@@ -74,21 +86,20 @@ fn load<F: Shelf, O: Sink>(
     line: u32,
     rect: &Rect,
     file: &FileName,
-    renders: &[NumberedStep],
+    later: &[Line],
     shelf: &mut F,
     out: &mut O,
 ) -> Result<(), End>
-    ensures leaves { IfSome (F.files shelf.old) (λ files. Leaves (file_outcome line rect.now (bytes_of files file.now) renders.now) result
+    requires limits { IsTrue (in_limits rect.now) }
+    requires later { All (λ (line : LineData). IsInLimits line.command) later.now }
+    ensures leaves { IfSome (F.files shelf.old) (λ files. Leaves (loads_found line rect.now (bytes_of files file.now) later.now) result
         (record { files = F.files shelf.old; text = O.written out.old }) (record { files = F.files shelf.new; text = O.written out.new })) }
     ensures cause { HasCause result
         (record { reads = F.read_faults shelf.old; writes = F.write_faults shelf.old; puts = O.faults out.old })
         (record { reads = F.read_faults shelf.new; writes = F.write_faults shelf.new; puts = O.faults out.new }) }
 {
     match shelf.read(file.as_str(), rect.area()) {
-        Ok(bytes) => {
-            let raster = Raster::from_raw(*rect, bytes);
-            render_raster(alloc, line, raster, renders, shelf, out)
-        }
+        Ok(bytes) => load_bytes(alloc, line, rect, &bytes, later, shelf, out),
         Err(ShelfAnswer::TooLong { .. }) => refuse(alloc, line, Cause::WrongSize, out),
         Err(ShelfAnswer::Absent) => refuse(alloc, line, Cause::Absent, out),
         Err(ShelfAnswer::Failed) => Err(End::ReadFault),
@@ -96,67 +107,70 @@ fn load<F: Shelf, O: Sink>(
     }
 }
 
-/// Inverts a raster and carries out the renders; None is a raster of a wrong size, loaded at that line.
-fn render_raster<F: Shelf, O: Sink>(
+/// Loads a raster of these bytes at a line, and carries out the renders of its inverse.
+fn load_bytes<F: Shelf, O: Sink>(
     alloc: Global,
     line: u32,
-    raster: Option<Raster>,
-    renders: &[NumberedStep],
+    rect: &Rect,
+    bytes: &[u8],
+    later: &[Line],
     shelf: &mut F,
     out: &mut O,
 ) -> Result<(), End>
-    ensures leaves { Leaves (raster_outcome line raster renders.now) result
+    requires limits { IsTrue (in_limits rect.now) }
+    requires later { All (λ (line : LineData). IsInLimits line.command) later.now }
+    ensures leaves { Leaves (loads_bytes line rect.now bytes.now later.now) result
         (record { files = F.files shelf.old; text = O.written out.old }) (record { files = F.files shelf.new; text = O.written out.new }) }
     ensures cause { HasCause result
         (record { reads = F.read_faults shelf.old; writes = F.write_faults shelf.old; puts = O.faults out.old })
         (record { reads = F.read_faults shelf.new; writes = F.write_faults shelf.new; puts = O.faults out.new }) }
 {
-    match raster {
-        Some(raster) => {
-            let image = raster.inverted(alloc)?;
-            render_all(alloc, &image, renders, shelf, out)
-        }
-        None => refuse(alloc, line, Cause::WrongSize, out),
+    if bytes.len() as u64 != rect.area() {
+        return refuse(alloc, line, Cause::WrongSize, out);
     }
+    let image = inverted(alloc, *rect, bytes)?;
+    render_all(alloc, &image, later, shelf, out)
 }
 
-/// Carries out the steps after the commit.
+/// Carries out the lines after the commit.
 fn render_all<F: Shelf, O: Sink>(
     alloc: Global,
-    image: &Raster,
-    steps: &[NumberedStep],
+    image: &Patch,
+    lines: &[Line],
     shelf: &mut F,
     out: &mut O,
 ) -> Result<(), End>
-    ensures leaves { Leaves (renders_outcome image.now steps.now) result
+    requires { All (λ (line : LineData). IsInLimits line.command) lines.now }
+    ensures leaves { Leaves (renders image.now lines.now) result
         (record { files = F.files shelf.old; text = O.written out.old }) (record { files = F.files shelf.new; text = O.written out.new }) }
     ensures cause { HasCause result
         (record { reads = F.read_faults shelf.old; writes = F.write_faults shelf.old; puts = O.faults out.old })
         (record { reads = F.read_faults shelf.new; writes = F.write_faults shelf.new; puts = O.faults out.new }) }
 {
-    for step in steps {
-        render_line(alloc, image, step.number, &step.step, shelf, out)?;
+    for line in lines {
+        render_line(alloc, image, line.number, &line.command, shelf, out)?;
     }
     Ok(())
 }
 
-/// Carries out a step after the commit.
+/// Carries out a line after the commit.
 fn render_line<F: Shelf, O: Sink>(
     alloc: Global,
-    image: &Raster,
+    image: &Patch,
     line: u32,
-    step: &Step,
+    command: &Command,
     shelf: &mut F,
     out: &mut O,
 ) -> Result<(), End>
-    ensures leaves { Leaves (events_alone (render_events line image.now step.now)) result
+    requires { IsInLimits command.now }
+    ensures leaves { Leaves (events_alone (render_events image.now line command.now)) result
         (record { files = F.files shelf.old; text = O.written out.old }) (record { files = F.files shelf.new; text = O.written out.new }) }
     ensures cause { HasCause result
         (record { reads = F.read_faults shelf.old; writes = F.write_faults shelf.old; puts = O.faults out.old })
         (record { reads = F.read_faults shelf.new; writes = F.write_faults shelf.new; puts = O.faults out.new }) }
 {
-    match step {
-        Step::Render(_, rect, file) => render(alloc, image, line, rect, file, shelf, out),
+    match command {
+        Command::Render { rect, file, .. } => render(alloc, image, line, rect, file, shelf, out),
         _ => Ok(()),
     }
 }
@@ -164,21 +178,23 @@ fn render_line<F: Shelf, O: Sink>(
 /// Renders a rectangle into a file, and puts the text of its line.
 fn render<F: Shelf, O: Sink>(
     alloc: Global,
-    image: &Raster,
+    image: &Patch,
     line: u32,
     rect: &Rect,
     file: &FileName,
     shelf: &mut F,
     out: &mut O,
 ) -> Result<(), End>
-    ensures leaves { Leaves (events_alone (rendered line 1 file.now (raw image.now rect.now))) result
+    requires { IsTrue (in_limits rect.now) }
+    ensures leaves { Leaves (events_alone (writes file.now (raw image.now rect.now) (text_of_render line 1 (length (raw image.now rect.now))))) result
         (record { files = F.files shelf.old; text = O.written out.old }) (record { files = F.files shelf.new; text = O.written out.new }) }
     ensures cause { HasCause result
         (record { reads = F.read_faults shelf.old; writes = F.write_faults shelf.old; puts = O.faults out.old })
         (record { reads = F.read_faults shelf.new; writes = F.write_faults shelf.new; puts = O.faults out.new }) }
 {
-    let bytes = image.raw(alloc, rect)?;
-    write(&bytes, file, shelf)?;
+    let part = image.part(alloc, *rect)?;
+    let bytes = part.raw_bytes();
+    write(bytes, file, shelf)?;
     report_render(alloc, line, bytes.len(), out)
 }
 

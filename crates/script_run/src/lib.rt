@@ -1,12 +1,10 @@
 //! Carries out scripts: `run` is what the program's `main` calls.
 #![tactic(auto)]
 
+mod built;
 mod carry_out;
-mod form;
+mod images;
 mod program;
-mod raster;
-mod status;
-mod step;
 mod words;
 
 pub use program::run;

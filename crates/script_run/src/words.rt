@@ -3,13 +3,13 @@
 ghost use Rattle.std.specs.Prelude.{◌≡◌, map, string_bytes, IfSome, IsTrue};
 ghost use Rattle.std.specs.Option.{option_map};
 ghost use Rattle.outside_io.specs.FileName.{is_file_name};
-ghost use Rattle.script_run.specs.Words.{script_of};
+ghost use Rattle.model_runs.specs.Built.{built_script};
 
 use outside_io::is_file_name;
 
-/// The script that the words name, `run SCRIPT`, and None where they are no such words.
+/// Returns the script that the words `run SCRIPT` name, and None where they are other words.
 pub fn script_of(words: &[String]) -> Option<&str>
-    ensures script { option_map (λ name. name.now) result ≡ script_of (map string_bytes words.now) }
+    ensures script { option_map (λ name. name.now) result ≡ built_script (map string_bytes words.now) }
     ensures name { IfSome result (λ name. IsTrue (is_file_name name.now)) }
 {
     let [command, script] = words else {

@@ -1,4 +1,4 @@
-use Rattle.std.proofs.Common.{◌≡◌, ap, sym, ◌∙◌, length, drop}
+use Rattle.std.proofs.Common.{ap, sym, length}
 use Rattle.model_graphs.specs.Facts.{specs_of}
 use Rattle.model_states.specs.Cache.{Pair, pair_of}
 use Rattle.plane_rect.specs.Tile.{Tile}

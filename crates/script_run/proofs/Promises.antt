@@ -1,0 +1,157 @@
+-- What a run promises, by what it leaves and why it ends.
+use Rattle.std.proofs.Common.{◌≡◌, ◌≢◌, ℕ, ◌+◌, ◌⊎◌, List, [], ◌∷◌, ◌++◌, drop, length, take, append_assoc, Option, Some, None, Result, Ok, Err, IfSome, inl, inr, refl, sym, ap, ◌∙◌, subst}
+use Rattle.std.specs.Prelude.{⊤}
+use Rattle.std.specs.Option.{option_map}
+use Rattle.std.proofs.lemmas.List.{append-nil, take-append-drop}
+use Rattle.std.proofs.Math.Seq.{take-append_seam, take-append-add}
+use Rattle.outside_io.specs.Files.{Files, file}
+use Rattle.model_runs.specs.Built.{built_plan, plan_of_read}
+use Rattle.model_runs.specs.Ending.{IsRefusal, IsWhole, Leaves, MayTear, end_status, status_of}
+use Rattle.model_runs.specs.Ran.{Faults, NoneRose, Ran, SufficesFor, bytes_put, texts_in}
+use Rattle.model_runs.specs.Run.{Plan, lines_of_file, watched_in}
+use Rattle.model_runs.specs.State.{Numbers, Watched}
+use Rattle.model_runs.specs.Watching.{AreNumbers}
+use Rattle.model_runs.specs.declared.ending.End.{End}
+use Rattle.model_runs.specs.declared.ending.End.TheVariants as ends
+use Rattle.run_texts.specs.Events.{Event, Outcome, Puts, Refusal, Writes}
+use Rattle.run_texts.specs.World.{World, LeavesSome, after, after_all}
+use Rattle.run_texts.proofs.Leaving.{some_weaker}
+use Rattle.script_run.specs.Causes.{Counts, HasCause}
+use Rattle.script_run.proofs.Statuses.{may_tear_at}
+use Rattle.script_run.proofs.Unwatched.{plan_unwatched}
+
+-- ---- texts
+
+put_after : (a b : List ℕ) (o : Option (List ℕ)) → option_map (λ text. text ++ b) (option_map (λ text. text ++ a) o) ≡ option_map (λ text. text ++ (a ++ b)) o
+put_after a b None = refl
+put_after a b (Some text) = ap Some (append_assoc text a b)
+
+put_none : (o : Option (List ℕ)) → o ≡ option_map (λ text. text ++ []) o
+put_none None = refl
+put_none (Some text) = ap Some (sym (append-nil text))
+
+text_after : (events : List Event) (world : World) → (after_all events world).text ≡ option_map (λ text. text ++ texts_in events) world.text
+text_after [] world = put_none world.text
+text_after (Writes name bytes ∷ events) world = text_after events (after (Writes name bytes) world)
+text_after (Puts text ∷ events) world = text_after events (after (Puts text) world) ∙ put_after text (texts_in events) world.text
+
+-- the new text is the old one and a prefix of a text
+abbrev IsPrefixOf : List ℕ → Option (List ℕ) → Option (List ℕ) → Type 0
+IsPrefixOf text old new = (n : ℕ) × (new ≡ option_map (λ t. t ++ take n text) old)
+
+part_prefix : (n : ℕ) (text rest : List ℕ) → take (length (take n text)) (text ++ rest) ≡ take n text
+part_prefix n text rest =
+    let p = take n text in
+    ap (λ t. take (length p) (t ++ rest)) (sym (take-append-drop n text))
+    ∙ ap (take (length p)) (append_assoc p (drop n text) rest)
+    ∙ take-append_seam p (drop n text ++ rest)
+
+text_prefix : (torn : Type 0) (events : List Event) (old new : World) → LeavesSome torn events old new → IsPrefixOf (texts_in events) old.text new.text
+text_prefix torn [] old new same = (0, ap (λ (w : World). w.text) same ∙ put_none old.text)
+text_prefix torn (event ∷ events) old new (inl same) = (0, ap (λ (w : World). w.text) same ∙ put_none old.text)
+text_prefix torn (Writes name bytes ∷ events) old new (inr (inl part)) = (0, ap (λ (w : World). w.text) part.1.1 ∙ put_none old.text)
+text_prefix torn (Puts text ∷ events) old new (inr (inl part)) = (
+  length (take part.0 text),
+  ap (λ (w : World). w.text) part.1 ∙ ap (λ p. option_map (λ t. t ++ p) old.text) (sym (part_prefix part.0 text (texts_in events))),
+)
+text_prefix torn (Writes name bytes ∷ events) old new (inr (inr later)) = text_prefix torn events (after (Writes name bytes) old) new later
+text_prefix torn (Puts text ∷ events) old new (inr (inr later)) =
+    let rest = text_prefix torn events (after (Puts text) old) new later in (
+      length text + rest.0,
+      rest.1 ∙ put_after text (take rest.0 (texts_in events)) old.text
+          ∙ ap (λ p. option_map (λ t. t ++ p) old.text) (sym (take-append-add text (texts_in events) rest.0)),
+    )
+
+-- ---- statuses
+
+done_by : (outcome : Outcome) (ended : Result (Unit {0}) End) (old new : World) → Leaves outcome ended old new → status_of ended ≡ 0 → outcome.refused ≡ None
+done_by outcome (Ok done) old new leaves e = leaves.refused
+done_by outcome (Err ends.Refused) old new leaves e = absurd (cc)
+done_by outcome (Err ends.ReadFault) old new leaves e = absurd (cc)
+done_by outcome (Err ends.WriteFault) old new leaves e = absurd (cc)
+done_by outcome (Err ends.SwapFault) old new leaves e = absurd (cc)
+done_by outcome (Err ends.OutputFault) old new leaves e = absurd (cc)
+done_by outcome (Err ends.NoMemory) old new leaves e = absurd (cc)
+done_by outcome (Err ends.SwapFull) old new leaves e = absurd (cc)
+
+refused_by : (outcome : Outcome) (ended : Result (Unit {0}) End) (old new : World) → Leaves outcome ended old new → status_of ended ≡ 2 → IsRefusal outcome.refused
+refused_by outcome (Err ends.Refused) old new leaves e = leaves.refused
+refused_by outcome (Ok done) old new leaves e = absurd (cc)
+refused_by outcome (Err ends.ReadFault) old new leaves e = absurd (cc)
+refused_by outcome (Err ends.WriteFault) old new leaves e = absurd (cc)
+refused_by outcome (Err ends.SwapFault) old new leaves e = absurd (cc)
+refused_by outcome (Err ends.OutputFault) old new leaves e = absurd (cc)
+refused_by outcome (Err ends.NoMemory) old new leaves e = absurd (cc)
+refused_by outcome (Err ends.SwapFull) old new leaves e = absurd (cc)
+
+whole_by : (ended : Result (Unit {0}) End) → (status_of ended ≡ 0) ⊎ (status_of ended ≡ 2) → IsWhole ended
+whole_by (Ok done) e = tt
+whole_by (Err ends.Refused) e = tt
+whole_by (Err ends.ReadFault) (inl e) = cc
+whole_by (Err ends.ReadFault) (inr e) = cc
+whole_by (Err ends.WriteFault) (inl e) = cc
+whole_by (Err ends.WriteFault) (inr e) = cc
+whole_by (Err ends.SwapFault) (inl e) = cc
+whole_by (Err ends.SwapFault) (inr e) = cc
+whole_by (Err ends.OutputFault) (inl e) = cc
+whole_by (Err ends.OutputFault) (inr e) = cc
+whole_by (Err ends.NoMemory) (inl e) = cc
+whole_by (Err ends.NoMemory) (inr e) = cc
+whole_by (Err ends.SwapFull) (inl e) = cc
+whole_by (Err ends.SwapFull) (inr e) = cc
+
+abbrev counts_of : Faults → Counts
+counts_of faults = record { reads = faults.reads; writes = faults.writes; puts = faults.puts }
+
+never_full : (ended : Result (Unit {0}) End) (old new : Counts) → HasCause ended old new → status_of ended ≡ 8 → ⊥
+never_full (Err ends.SwapFull) old new cause e = cause.room refl
+never_full (Ok done) old new cause e = cc
+never_full (Err ends.Refused) old new cause e = cc
+never_full (Err ends.ReadFault) old new cause e = cc
+never_full (Err ends.WriteFault) old new cause e = cc
+never_full (Err ends.SwapFault) old new cause e = cc
+never_full (Err ends.OutputFault) old new cause e = cc
+never_full (Err ends.NoMemory) old new cause e = cc
+
+status_at_refusal : (refused : Option Refusal) → IsRefusal refused → end_status refused ≡ 2
+status_at_refusal None is = absurd is
+status_at_refusal (Some refusal) is = refl
+
+complete_by : (outcome : Outcome) (ended : Result (Unit {0}) End) (old new : World) (before after : Faults) → Leaves outcome ended old new →
+    HasCause ended (counts_of before) (counts_of after) → NoneRose before after → (status_of ended ≡ 7) ⊎ (status_of ended ≡ end_status outcome.refused)
+complete_by outcome (Ok done) old new before after leaves cause none = inr (ap end_status (sym leaves.refused))
+complete_by outcome (Err ends.Refused) old new before after leaves cause none = inr (sym (status_at_refusal outcome.refused leaves.refused))
+complete_by outcome (Err ends.ReadFault) old new before after leaves cause none = absurd (none.reads (cause.read refl))
+complete_by outcome (Err ends.WriteFault) old new before after leaves cause none = absurd (none.writes (cause.write refl))
+complete_by outcome (Err ends.SwapFault) old new before after leaves cause none = absurd (cause.swap refl)
+complete_by outcome (Err ends.OutputFault) old new before after leaves cause none = absurd (none.puts (cause.put refl))
+complete_by outcome (Err ends.NoMemory) old new before after leaves cause none = inl refl
+complete_by outcome (Err ends.SwapFull) old new before after leaves cause none = absurd (cause.room refl)
+
+-- ---- a run
+
+ran_by : (plan : Plan) (ended : Result (Unit {0}) End) (size : ℕ) (old new : World) (before after : Faults) → watched_in plan.effects ≡ [] →
+    Leaves plan.outcome ended old new → HasCause ended (counts_of before) (counts_of after) → Ran ⊤ plan [] size old new before after (status_of ended)
+ran_by plan ended size old new before after unwatched leaves cause =
+    record {
+      meets = subst (λ (watched : List Watched). AreNumbers watched []) (sym unwatched) refl;
+      done = done_by plan.outcome ended old new leaves;
+      refused = refused_by plan.outcome ended old new leaves;
+      whole = λ exposes at_end. leaves.whole (whole_by ended at_end);
+      texts = λ at_end. ap (λ (w : World). w.text) (leaves.whole (whole_by ended at_end)) ∙ text_after plan.outcome.events old;
+      prefix = λ exposes. some_weaker (MayTear ended) _ (may_tear_at ended) plan.outcome.events old new leaves.some;
+      texts_prefix = text_prefix (MayTear ended) plan.outcome.events old new leaves.some;
+      full = λ at_full. absurd (never_full ended (counts_of before) (counts_of after) cause at_full);
+      complete = λ none suffices. complete_by plan.outcome ended old new before after leaves cause none;
+    }
+
+-- the promise of a run whose words name a script
+pub ran_named : (found : Option (List ℕ)) (script : List ℕ) (exposed : Option Files) (ended : Result (Unit {0}) End) (status size : ℕ) (text : Option (List ℕ)) (new : World) (before after : Faults) →
+    found ≡ Some script → status ≡ status_of ended →
+    IfSome exposed (λ files. Leaves (plan_of_read [] files (lines_of_file (file files script))).outcome ended (record { files = exposed; text = text }) new) →
+    HasCause ended (counts_of before) (counts_of after) →
+    IfSome found (λ script. IfSome exposed (λ files. (numbers : Numbers) × Ran ⊤ (built_plan numbers files script) numbers size (record { files = Some files; text = text }) new before after status))
+ran_named found script None ended status size text new before after named is leaves cause = rw named tt
+ran_named found script (Some files) ended status size text new before after named is leaves cause =
+    let plan = plan_of_read [] files (lines_of_file (file files script)) in
+    rw (named, is) ([], ran_by plan ended size (record { files = Some files; text = text }) new before after (plan_unwatched files (lines_of_file (file files script))) leaves cause)

@@ -1,0 +1,140 @@
+-- No line that is built ends a watch.
+use Rattle.std.proofs.Common.{◌≡◌, ℕ, Bool, true, false, cond, List, [], ◌∷◌, Option, Some, None, Result, Ok, Err, is_none, refl, ap, ◌∙◌}
+use Rattle.std.specs.List.{cons_option}
+use Rattle.outside_io.specs.Files.{Files, file}
+use Rattle.plane_rect.specs.Rectangle.{Rectangle}
+use Rattle.model_buffers.specs.Edits.{Edited, edited_table}
+use Rattle.model_buffers.specs.Layout.{View, find}
+use Rattle.model_buffers.specs.Table.{Table}
+use Rattle.model_buffers.specs.declared.edit.BufferEdit.{BufferEdit}
+use Rattle.model_buffers.specs.declared.edit.BufferEdit.TheVariants.{Copy, Create, Duplicate, Fill, Put, Sub}
+use Rattle.model_operations.specs.Meanings.{int_meanings}
+use Rattle.model_operations.specs.declared.operation.IntOp.{IntOp}
+use Rattle.model_states.specs.Edits.{has_node}
+use Rattle.model_states.specs.History.{History, committed, redone, undone}
+use Rattle.model_states.specs.Need.{wide}
+use Rattle.model_states.specs.declared.refused.StateRefused.{StateRefused}
+use Rattle.model_sessions.specs.Sessions.{render_need}
+use Rattle.model_sessions.specs.Tables.{table_shapes}
+use Rattle.model_runs.specs.Built.{built_ending, first_unbuilt, next_stage, plan_of_read, unless_built, unless_unbuilt}
+use Rattle.model_runs.specs.Effects.{edit_gives, effect, grabs_view, load_into, opens, renders, renders_known, step_gives}
+use Rattle.model_runs.specs.Run.{and_on, effects, files_after_all, plan_of_lines, watched_in}
+use Rattle.model_runs.specs.Words.{default_options}
+use Rattle.model_runs.specs.State.{Effect, RunState, Watched, first_state, leaves, refuses, scene_in, workspace_of}
+use Rattle.model_runs.specs.declared.stage.Stage.{Stage}
+use Rattle.model_runs.specs.declared.stage.Stage.TheVariants as stages
+use Rattle.pixel_formats.specs.declared.abyss.Abyss.{Abyss}
+use Rattle.run_texts.specs.Events.{Refusal}
+use Rattle.run_texts.specs.declared.cause.Cause.TheVariants.{Strip, UnknownNode}
+use Rattle.script_read.specs.declared.command.Command.{Command}
+use Rattle.script_read.specs.declared.command.Command.TheVariants as commands
+use Rattle.script_read.specs.declared.command.Line.{Line}
+
+-- the effect ends no watch
+abbrev IsQuiet : Effect → Type 0
+IsQuiet effect = effect.watched ≡ None
+
+either : (b : Bool) (x y : Effect) → IsQuiet x → IsQuiet y → IsQuiet (cond b x y)
+either true x y one other = one
+either false x y one other = other
+
+edit_quiet : (line : ℕ) (state : RunState) (edit : BufferEdit) (given : Edited) → IsQuiet (edit_gives line state edit given)
+edit_quiet line state edit (Ok table) = refl
+edit_quiet line state edit (Err refused) = refl
+
+load_quiet : (line : ℕ) (state : RunState) (name : List ℕ) (r : Rectangle) (found : Option (List ℕ)) (view : Option View) → IsQuiet (load_into line state name r found view)
+load_quiet line state name r None None = refl
+load_quiet line state name r (Some bytes) None = refl
+load_quiet line state name r None (Some view) = refl
+load_quiet line state name r (Some bytes) (Some view) = edit_quiet line state (Put name r bytes) (edited_table (workspace_of state).working (Put name r bytes))
+
+step_quiet : (line : ℕ) (state : RunState) (next : Result (History Table IntOp) StateRefused) → IsQuiet (step_gives line state next)
+step_quiet line state (Ok next) = refl
+step_quiet line state (Err refused) = refl
+
+grab_quiet : (line : ℕ) (state : RunState) (name : List ℕ) (z : ℕ) (policy : Abyss) (r : Rectangle) (target : List ℕ) (view : Option View) →
+    IsQuiet (grabs_view line state name z policy r target view)
+grab_quiet line state name z policy r target None = refl
+grab_quiet line state name z policy r target (Some view) = refl
+
+-- the end of a watch isn't built
+not_ended : (stage next : Stage) → next_stage stage commands.EndWatch ≡ Some next → ⊥
+not_ended stages.Empty next built = cc
+not_ended (stages.Buffered name r) next built = cc
+not_ended (stages.Loaded name) next built = cc
+not_ended (stages.Sourced name) next built = cc
+not_ended (stages.Inverted name) next built = cc
+not_ended (stages.Committed name) next built = cc
+
+-- a command that is built
+quiet : (capacity : ℕ) (state : RunState) (files : Files) (line : ℕ) (stage : Stage) (command : Command) (next : Stage) → next_stage stage command ≡ Some next →
+    IsQuiet (effect capacity state files line command)
+quiet capacity state files line stage (commands.Buffer name format r) next built =
+    edit_quiet line state (Create name format r) (edited_table (workspace_of state).working (Create name format r))
+quiet capacity state files line stage (commands.Load name r source) next built =
+    load_quiet line state name r (file files source) (find (workspace_of state).working.buffers name)
+quiet capacity state files line stage (commands.Node name op inputs) next built = refl
+quiet capacity state files line stage commands.Commit next built = step_quiet line state (committed int_meanings table_shapes state.session.history)
+quiet capacity state files line stage (commands.Render name z r target) next built =
+    either (has_node (scene_in state).nodes name) (renders_known capacity line state name z r target) (refuses line state UnknownNode)
+    (either (is_none (wide capacity (render_need int_meanings (scene_in state) name z r))) (renders capacity line state name z r target) (refuses line state Strip) refl refl)
+    refl
+quiet capacity state files line stage (commands.Sub name parent r) next built =
+    edit_quiet line state (Sub name parent r) (edited_table (workspace_of state).working (Sub name parent r))
+quiet capacity state files line stage (commands.Dup name from) next built =
+    edit_quiet line state (Duplicate name from) (edited_table (workspace_of state).working (Duplicate name from))
+quiet capacity state files line stage (commands.Fill name r samples) next built =
+    edit_quiet line state (Fill name r samples) (edited_table (workspace_of state).working (Fill name r samples))
+quiet capacity state files line stage (commands.Copy from to r dx dy) next built =
+    edit_quiet line state (Copy from to r dx dy) (edited_table (workspace_of state).working (Copy from to r dx dy))
+quiet capacity state files line stage (commands.Drop name) next built = refl
+quiet capacity state files line stage commands.Undo next built = step_quiet line state (undone state.session.history)
+quiet capacity state files line stage commands.Redo next built = step_quiet line state (redone state.session.history)
+quiet capacity state files line stage (commands.Grab name z policy r target) next built =
+    grab_quiet line state name z policy r target (find (workspace_of state).working.buffers name)
+quiet capacity state files line stage (commands.Watch name r viewers frames prefix) next built =
+    either (has_node (scene_in state).nodes name) (leaves line (opens line state name r viewers frames prefix)) (refuses line state UnknownNode) refl refl
+quiet capacity state files line stage commands.EndWatch next built = absurd (not_ended stage next built)
+
+-- an effect before others
+before : (files : Files) (rest : RunState → Files → List Effect) (effect : Effect) → IsQuiet effect → watched_in (rest effect.next (files_after_all effect.events files)) ≡ [] →
+    watched_in (and_on files rest effect) ≡ []
+before files rest effect quiet none = by (is_none effect.refused)
+  where
+    tail : List Effect
+    tail = rest effect.next (files_after_all effect.events files)
+
+    by : (b : Bool) → watched_in (cond b (effect ∷ tail) (effect ∷ [])) ≡ []
+    by true = ap (λ w. cons_option w (watched_in tail)) quiet ∙ none
+    by false = ap (λ w. cons_option w []) quiet
+
+pub unwatched : (capacity : ℕ) (state : RunState) (files : Files) (stage : Stage) (lines : List Line) → first_unbuilt stage lines ≡ None →
+    watched_in (effects capacity state files lines) ≡ []
+unwatched capacity state files stage [] built = refl
+unwatched capacity state files stage (line ∷ lines) built =
+    of (next_stage stage line.command) refl built (λ state files stage built. unwatched capacity state files stage lines built)
+  where
+    done : Effect
+    done = effect capacity state files line.number line.command
+
+    rest : RunState → Files → List Effect
+    rest next later = effects capacity next later lines
+
+    of : (o : Option Stage) → next_stage stage line.command ≡ o → unless_built line.number o (λ next. first_unbuilt next lines) ≡ None →
+        ((state : RunState) (files : Files) (stage : Stage) → first_unbuilt stage lines ≡ None → watched_in (effects capacity state files lines) ≡ []) →
+        watched_in (and_on files rest done) ≡ []
+    of None e built follow = absurd (cc)
+    of (Some next) e built follow =
+        before files rest done (quiet capacity state files line.number stage line.command next e)
+        (follow done.next (files_after_all done.events files) next built)
+
+-- ---- plans
+
+plan_of_built : (files : Files) (lines : List Line) (o : Option ℕ) → first_unbuilt stages.Empty lines ≡ o →
+    watched_in (plan_of_lines built_ending default_options [] files (unless_unbuilt lines o)).effects ≡ []
+plan_of_built files lines None built = unwatched default_options.cache (first_state []) files stages.Empty lines built
+plan_of_built files lines (Some line) built = refl
+
+pub plan_unwatched : (files : Files) (read : Result (List Line) Refusal) → watched_in (plan_of_read [] files read).effects ≡ []
+plan_unwatched files (Ok lines) = plan_of_built files lines (first_unbuilt stages.Empty lines) refl
+plan_unwatched files (Err refused) = refl
