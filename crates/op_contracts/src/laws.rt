@@ -4,7 +4,7 @@ ghost use Rattle.std.specs.Prelude.{◌≡◌, ℕ, ◌++◌, All, List, Option}
 ghost use Rattle.chain_owners.specs.Counts.{Counts};
 ghost use Rattle.chain_owners.specs.Held.{Held};
 ghost use Rattle.chain_owners.specs.Owners.{Owns, Respects};
-ghost use Rattle.plane_rect.specs.Rectangle.{Includes, Rectangle};
+ghost use Rattle.plane_rect.specs.Rectangle.{InLimits, Includes, IsRectangle, Rectangle};
 ghost use Rattle.model_images.specs.Image.{Image};
 ghost use Rattle.model_images.specs.Paint.{cut};
 ghost use Rattle.model_graphs.specs.Meanings.{boxes_of, formats_of, result_box, result_of};
@@ -12,7 +12,7 @@ ghost use Rattle.model_graphs.specs.Windows.{AreWindowsOf, IsWholeWindow, IsWind
 ghost use Rattle.swap_store.specs.Cause.{HasSwapCause};
 ghost use Rattle.swap_store.specs.declared.refusal.SwapRefused.{SwapRefused as Refusal};
 ghost use Rattle.swap_store.specs.declared.refusal.SwapRefused.TheVariants.{NoMemory};
-ghost use Rattle.op_contracts.specs.Applying.{HaveRequired, result_of_windows, window_bounds, window_formats};
+ghost use Rattle.op_contracts.specs.Applying.{HaveRequired, IsInOneTile, result_of_windows, window_bounds, window_formats};
 
 use crate::source_tiles::SourceTiles;
 use chain_owners::ChainMeaning;
@@ -30,6 +30,11 @@ pub fn windows_may_be_applied<Op: OpMeaning>()
     ensures required { (operation : Op) (images : List Image) (windows : List Window) (part : Rectangle) →
         AreWindowsOf Op.meanings operation images windows part →
         HaveRequired Op.meanings operation (boxes_of images) windows part }
+{}
+
+/// States that a part that an operation is applied for is in limits, since it is in one tile.
+pub fn parts_are_in_limits()
+    ensures { (part : Rectangle) → IsRectangle part → IsInOneTile part → InLimits part }
 {}
 
 /// States that a part of what an operation gives of windows is that part of what it gives of the images
