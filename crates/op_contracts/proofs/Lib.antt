@@ -3,3 +3,4 @@ pub mod Painted
 pub mod Shown
 pub mod Limits
 pub mod Applied
+pub mod Bounds

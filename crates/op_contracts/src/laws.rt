@@ -1,6 +1,6 @@
 //! Laws by which callers speak of windows, of kits and of sources of tiles.
 
-ghost use Rattle.std.specs.Prelude.{◌≡◌, ℕ, ◌++◌, All, List, Option};
+ghost use Rattle.std.specs.Prelude.{◌≡◌, ℕ, ◌++◌, All, IsSomeAnd, List, Option};
 ghost use Rattle.chain_owners.specs.Counts.{Counts};
 ghost use Rattle.chain_owners.specs.Held.{Held};
 ghost use Rattle.chain_owners.specs.Owners.{Owns, Respects};
@@ -12,11 +12,22 @@ ghost use Rattle.model_graphs.specs.Windows.{AreWindowsOf, IsWholeWindow, IsWind
 ghost use Rattle.swap_store.specs.Cause.{HasSwapCause};
 ghost use Rattle.swap_store.specs.declared.refusal.SwapRefused.{SwapRefused as Refusal};
 ghost use Rattle.swap_store.specs.declared.refusal.SwapRefused.TheVariants.{NoMemory};
-ghost use Rattle.op_contracts.specs.Applying.{HaveRequired, IsInOneTile, result_of_windows, window_bounds, window_formats};
+ghost use Rattle.op_contracts.specs.Applying.{HaveRequired, IsInOneTile, bounds_of, result_of_windows, window_bounds, window_formats};
 
 use crate::source_tiles::SourceTiles;
 use chain_owners::ChainMeaning;
 use model_graphs::OpMeaning;
+
+/// States that bounds that a kit gives are the result's box, and in limits; and that a box in limits is
+/// given as it is.
+pub fn bounds_of_results<Op: OpMeaning>()
+    ensures boxes { (operation : Op) (boxes : List Rectangle) (bounds : Rectangle) →
+        bounds_of Op.meanings operation boxes ≡ Option.Some bounds → result_box Op.meanings operation boxes ≡ bounds }
+    ensures limits { (operation : Op) (boxes : List Rectangle) (bounds : Rectangle) →
+        bounds_of Op.meanings operation boxes ≡ Option.Some bounds → InLimits bounds }
+    ensures valid { (operation : Op) (boxes : List Rectangle) → IsSomeAnd (Op.meanings.box operation boxes) InLimits →
+        bounds_of Op.meanings operation boxes ≡ Op.meanings.box operation boxes }
+{}
 
 /// States that windows of the inputs' images are what an application of an operation asks for: they have
 /// the images' boxes and formats, are whole, and are needed at all that the part requires.

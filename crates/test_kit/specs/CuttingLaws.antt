@@ -1,5 +1,5 @@
 -- The cut keeps the laws of meanings.
-use Rattle.std.proofs.Common.{◌≡◌, ℕ, ◌<◌, List, [], ◌∷◌, true, refl, sym, ap, ◌∙◌, subst, arith, slice_index_or}
+use Rattle.std.proofs.Common.{◌≡◌, ℕ, ◌<◌, List, [], ◌∷◌, true, refl, sym, ap, ◌∙◌, subst, arith, length, slice_index_or}
 use Rattle.plane_rect.specs.Rectangle.{AreDisjoint, Includes, Inside, Rectangle, empty}
 use Rattle.plane_rect.specs.SameRectangle.{same_rectangle-itself, same_rectangle-true}
 use Rattle.plane_rect.proofs.Rectangles.{Inside-meet}

@@ -52,7 +52,6 @@ impl<H: ChainMeaning> SourceTiles<H> for BlankTiles {
         ensures valid { H.is_valid chain.old → H.is_valid chain.new }
         ensures loans { H.loans chain.new ≡ H.loans chain.old }
     {
-        let _ = (chain, buffer, at);
         Ok(Tile::zero(self.alloc, 64 * 64 * self.fact.format.pixel_bytes())?)
     }
 

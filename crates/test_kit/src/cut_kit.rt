@@ -52,7 +52,6 @@ impl OpKit for CutKit {
     fn arity(&self, op: &CutTo) -> u32
         ensures { result ≡ 1 }
     {
-        let _ = op;
         1
     }
 
@@ -60,7 +59,6 @@ impl OpKit for CutKit {
         requires { length formats.now ≡ 1 }
         ensures { result ≡ cut_format op.now formats.now }
     {
-        let _ = op;
         Some(formats[0])
     }
 
@@ -82,7 +80,6 @@ impl OpKit for CutKit {
         requires bounds { IsSome (bounds_of cutting op.now boxes.now) }
         ensures { result ≡ cut_required op.now boxes.now input out }
     {
-        let _ = op;
         out.meet(&boxes[input])
     }
 
@@ -117,7 +114,6 @@ impl OpKit for CutKit {
     fn copy_op(&self, alloc: Global, op: &CutTo) -> Result<CutTo, NoMemory>
         ensures { IfOk result (λ copy. copy ≡ op.now) }
     {
-        let _ = alloc;
         Ok(*op)
     }
 
@@ -141,7 +137,7 @@ impl OpKit for CutKit {
         ensures { IfOk result (λ patch. patch ≡ cut (result_of_windows cutting op.now windows.now) out) }
     {
         let CutPermit { _spent } = permit;
-        prove!(out.area() <= 64 * 64);
+        prove!(out.area() <= 1 << 25);
         windows[0].part(alloc, out)
     }
 }

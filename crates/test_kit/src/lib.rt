@@ -5,9 +5,11 @@ mod blank_tiles;
 mod cut_kit;
 mod cutting;
 mod meanings;
+mod step;
 #[cfg(test)]
 mod tests;
 
 pub use blank_tiles::BlankTiles;
 pub use cut_kit::{CutKit, CutPermit, CutPurse};
 pub use cutting::CutTo;
+pub use step::applied_tile;
