@@ -1,12 +1,12 @@
 -- Windows that operations are applied to.
-use Rattle.std.proofs.Common.{◌≡◌, ℕ, zero, suc, ◌<◌, List, [], ◌∷◌, All, map, length, get_or, Option, Some, None, refl, sym, ap, ◌∙◌, arith}
+use Rattle.std.proofs.Common.{◌≡◌, ℕ, zero, suc, ◌<◌, List, [], ◌∷◌, All, map, length, get_or, Some, refl, ap, ◌∙◌, arith}
 use Rattle.std.specs.Prelude.{slice_get}
-use Rattle.plane_rect.specs.Rectangle.{Includes, Inside, Rectangle}
+use Rattle.plane_rect.specs.Rectangle.{Includes, Rectangle}
 use Rattle.pixel_formats.specs.declared.format.Format.{Format}
 use Rattle.model_images.specs.Image.{Image, at, image_from_fn}
 use Rattle.model_images.specs.Paint.{cut, no_image}
 use Rattle.model_images.proofs.Laws.{generated_equal}
-use Rattle.model_graphs.specs.Laws.{AgreeInside, IsLocal}
+use Rattle.model_graphs.specs.Laws.{IsLocal}
 use Rattle.model_graphs.specs.Meanings.{Meanings, boxes_of, formats_of, result_box, result_format, result_of}
 use Rattle.model_graphs.specs.Windows.{AreWindowsOf, IsWholeWindow, Window}
 use Rattle.model_graphs.proofs.WindowLaws.{windows-give}

@@ -1,7 +1,7 @@
 -- Parts of rectangles in limits.
-use Rattle.std.proofs.Common.{◌≡◌, ℕ, ◌+◌, ◌-◌, ◌*◌, ◌^◌, ◌≤◌, ◌==◌, ◌||◌, Bool, true, false, cond, inl, inr, min, max, sym, subst, arith}
+use Rattle.std.proofs.Common.{◌+◌, ◌-◌, ◌≤◌, ◌==◌, ◌||◌, Bool, true, false, cond, inl, inr, min, max, sym, subst, arith}
 use Rattle.std.proofs.lemmas.Nat.{mul-le}
-use Rattle.plane_rect.specs.Rectangle.{InLimits, Includes, Inside, IsRectangle, Rectangle, area, empty, end_column, end_row, meet}
+use Rattle.plane_rect.specs.Rectangle.{InLimits, Includes, Inside, IsRectangle, Rectangle, empty, end_column, end_row, meet}
 use Rattle.plane_rect.specs.Tile.{Tile, tile_square}
 use Rattle.plane_rect.proofs.Rectangles.{some_or_empty}
 

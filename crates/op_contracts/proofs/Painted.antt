@@ -1,9 +1,8 @@
 -- Images into which the tiles of windows are put.
-use Rattle.std.proofs.Common.{◌≡◌, ℕ, ◌+◌, ◌<◌, List, length, get_or, drop, [], ◌∷◌, Bool, true, false, cond, map, Option, Some, None, refl, sym, ap, ◌∙◌}
+use Rattle.std.proofs.Common.{◌≡◌, ℕ, ◌+◌, ◌<◌, List, length, get_or, drop, [], ◌∷◌, Bool, true, false, cond, Option, Some, None, refl, sym, ap, ◌∙◌}
 use Rattle.std.specs.List.{IsDistinct}
 use Rattle.std.specs.Map.{lookup}
 use Rattle.std.specs.Option.{option_map_or}
-use Rattle.std.proofs.lemmas.Bool.Decides.{nat_tests}
 use Rattle.plane_rect.specs.Rectangle.{Includes, Inside, Rectangle}
 use Rattle.plane_rect.specs.SameTile.{same_tile-true, same_tile-laws}
 use Rattle.plane_rect.specs.Tile.{Tile, same_tile, tile_at, tile_square}
@@ -59,7 +58,7 @@ pub put_tiles-are : (box : Rectangle) (format : Format) (f : ℕ → ℕ → ℕ
 put_tiles-are box format f [] distinct = refl
 put_tiles-are box format f (entry ∷ entries) distinct =
     let put : ℕ → ℕ → ℕ → ℕ = λ u v c.
-        cond (is_inside u v (tile_square entry.0)) (pixels_from_raw (tile_square entry.0) format entry.1 u v c) (at (image_from_fn box format f) u v c) in
+    cond (is_inside u v (tile_square entry.0)) (pixels_from_raw (tile_square entry.0) format entry.1 u v c) (at (image_from_fn box format f) u v c) in
     put_tiles-are box format put entries (distinct-rest entry entries distinct)
     ∙ generated_equal box format
     (λ u v c. pixel_or format u v c (lookup (same_tile (tile_at u v)) entries) (put u v c))
@@ -68,7 +67,7 @@ put_tiles-are box format f (entry ∷ entries) distinct =
   where
     of : (u v c : ℕ) → Inside u v box → c < channels format → (b : Bool) → same_tile (tile_at u v) entry.0 ≡ b
         → pixel_or format u v c (lookup (same_tile (tile_at u v)) entries)
-          (cond (is_inside u v (tile_square entry.0)) (pixels_from_raw (tile_square entry.0) format entry.1 u v c) (at (image_from_fn box format f) u v c))
+        (cond (is_inside u v (tile_square entry.0)) (pixels_from_raw (tile_square entry.0) format entry.1 u v c) (at (image_from_fn box format f) u v c))
         ≡ pixel_or format u v c (cond b (Some entry.1) (lookup (same_tile (tile_at u v)) entries)) (f u v c)
     of u v c inside known true e =
         let none : lookup (same_tile (tile_at u v)) entries ≡ None =

@@ -1,5 +1,5 @@
 -- What an operation asks of its inputs, and of the windows that it is applied to.
-use Rattle.std.specs.Prelude.{◌≡◌, ℕ, List, map, length, slice_get, Some, IsSome, Option, None, if◌then◌else◌}
+use Rattle.std.specs.Prelude.{◌≡◌, ℕ, List, map, slice_get, Some, Option, None, if◌then◌else◌}
 use Rattle.std.specs.Option.{option_and_then}
 use Rattle.plane_rect.specs.Rectangle.{Includes, Rectangle, in_limits}
 use Rattle.plane_rect.specs.Tile.{Tile, tile_square}

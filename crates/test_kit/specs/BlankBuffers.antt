@@ -1,5 +1,5 @@
 -- A buffer of zeros, over whatever chain.
-use Rattle.std.specs.Prelude.{◌≡◌, ℕ, List, [], ◌∷◌, Option, Some, IsSome}
+use Rattle.std.specs.Prelude.{[], ◌∷◌, Some}
 use Rattle.std.proofs.Common.{refl, inr, arith}
 use Rattle.chain_owners.specs.Held.{Held}
 use Rattle.chain_owners.specs.Owners.{Owns}

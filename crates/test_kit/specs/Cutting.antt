@@ -2,7 +2,7 @@
 use Rattle.std.specs.Prelude.{ℕ, Bool, List, [], ◌∷◌, Option, Some, None, unwrap_or, slice_index_or}
 use Rattle.plane_rect.specs.Rectangle.{Rectangle, empty, meet, same_rectangle}
 use Rattle.pixel_formats.specs.declared.format.Format.{Format}
-use Rattle.model_images.specs.Image.{Image, at}
+use Rattle.model_images.specs.Image.{at}
 use Rattle.model_images.specs.Paint.{no_image}
 use Rattle.model_graphs.specs.Meanings.{Meanings}
 use Rattle.test_kit.specs.declared.cutting.CutTo.{CutTo}

@@ -1,6 +1,6 @@
 -- The cut keeps the laws of meanings.
-use Rattle.std.proofs.Common.{◌≡◌, ℕ, ◌<◌, List, [], ◌∷◌, true, refl, sym, ap, ◌∙◌, subst, arith, length, slice_index_or}
-use Rattle.plane_rect.specs.Rectangle.{AreDisjoint, Includes, Inside, Rectangle, empty}
+use Rattle.std.proofs.Common.{◌≡◌, ℕ, ◌<◌, List, [], ◌∷◌, sym, ap, ◌∙◌, subst, arith, length, slice_index_or}
+use Rattle.plane_rect.specs.Rectangle.{Inside, Rectangle, empty}
 use Rattle.plane_rect.specs.SameRectangle.{same_rectangle-itself, same_rectangle-true}
 use Rattle.plane_rect.proofs.Rectangles.{Inside-meet}
 use Rattle.pixel_formats.specs.Format.{channels}
@@ -9,9 +9,9 @@ use Rattle.model_images.specs.Image.{Image, at}
 use Rattle.model_images.specs.Paint.{no_image}
 use Rattle.model_images.proofs.Agreeing.{at-by_channels}
 use Rattle.model_images.proofs.Laws.{at-image_from_fn}
-use Rattle.model_graphs.specs.Laws.{AgreeInside, AgreeWhereRequired, IsBoxed, IsDual, IsEquality, IsLocal, unit_rectangle}
+use Rattle.model_graphs.specs.Laws.{IsBoxed, IsDual, IsEquality, IsLocal, unit_rectangle}
 use Rattle.model_graphs.specs.Meanings.{boxes_of, formats_of, result_box, result_format, result_of}
-use Rattle.test_kit.specs.Cutting.{cut_invalidated, cut_required, cutting, same_cut}
+use Rattle.test_kit.specs.Cutting.{cut_required, cutting, same_cut}
 use Rattle.test_kit.specs.declared.cutting.CutTo.{CutTo}
 
 -- a position of the result is one of the only input's box

@@ -44,7 +44,9 @@ impl CutPurse {
 
 impl OpKit for CutKit {
     type Op = CutTo;
+
     type Purse = CutPurse;
+
     type Permit = CutPermit;
 
     ghost permits = { λ purse. purse.left };

@@ -25,7 +25,7 @@ pub fn applied_tile<K: OpKit>(
 ) -> Result<Option<Patch>, NoMemory>
     ensures { IfOk result (λ given. IfSome given (λ patch.
         patch ≡ cut (result_of_windows K.Op.meanings op.now windows.now)
-            (meet (tile_rectangle at) (result_box K.Op.meanings op.now (window_bounds windows.now))))) }
+        (meet (tile_rectangle at) (result_box K.Op.meanings op.now (window_bounds windows.now))))) }
 {
     if windows.len() != 1 || kit.arity(op) != 1 {
         return Ok(None);

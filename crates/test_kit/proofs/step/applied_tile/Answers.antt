@@ -1,4 +1,4 @@
-use Rattle.std.proofs.Common.{◌≡◌, ℕ, [], ◌∷◌, List, refl, sym, ap, ◌∙◌, subst, rules}
+use Rattle.std.proofs.Common.{◌≡◌, ℕ, [], ◌∷◌, refl, sym, ap, ◌∙◌, subst}
 use Rattle.plane_rect.specs.Rectangle.{Includes, Inside, Rectangle, meet}
 use Rattle.plane_rect.specs.Tile.{plane, tile_rectangle, tile_square}
 use Rattle.plane_rect.proofs.Rectangles.{Inside-meet}

@@ -1,9 +1,8 @@
-use Rattle.std.proofs.Common.{◌≡◌, ◌+◌, ◌*◌, ◌<◌, length, Some, None, refl, sym, ap, ◌∙◌, subst, arith, rules}
+use Rattle.std.proofs.Common.{◌≡◌, ◌*◌, ◌<◌, length, Some, None, refl, sym, ap, ◌∙◌, subst, arith, rules}
 use Rattle.plane_rect.specs.Rectangle.{Inside, InsideSigned, Rectangle, offset, plane_index as index_of}
 use Rattle.plane_rect.specs.Tile.{IsWhole, tile_at, tile_square}
 use Rattle.plane_rect.proofs.Rectangles.{InsideSigned-index}
-use Rattle.pixel_formats.specs.Format.{channels, pixel_bytes}
-use Rattle.pixel_formats.specs.declared.format.Format.{Format}
+use Rattle.pixel_formats.specs.Format.{pixel_bytes}
 use Rattle.model_graphs.specs.Windows.{Window, tiles_of}
 use Rattle.op_contracts.proofs.Shown.{found-long, sample-fits, shown-of}
 use Rattle.op_contracts.proofs.window.Window.at.Goals as goal

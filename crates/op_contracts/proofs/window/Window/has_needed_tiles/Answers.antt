@@ -1,4 +1,4 @@
-use Rattle.std.proofs.Common.{◌≡◌, List, ◌∷◌, Contains, inl, inr, sym, ap, ◌∙◌, subst}
+use Rattle.std.proofs.Common.{◌≡◌, List, ◌∷◌, Contains, inl, inr, sym, ap, subst}
 use Rattle.std.specs.Prelude.{IsSome}
 use Rattle.plane_rect.specs.Rectangle.{Rectangle}
 use Rattle.plane_rect.specs.Tile.{Meets, Tile}
@@ -11,8 +11,7 @@ pub loop-at-init : goal.loop-at-init
 loop-at-init c =
     let meets = c.tiles-at-items.ensures.meeting in
     let given : c.into_iter-at-iterator.result ≡ c.tiles-at-items.result = c.into_iter-at-iterator.ensures.into_iter_gives in
-    let need : c.self.inside.need ≡ c.args.self.now.need = ap (λ (w : Window). w.need) c.self.view_is in
-    (
+    let need : c.self.inside.need ≡ c.args.self.now.need = ap (λ (w : Window). w.need) c.self.view_is in (
       tt,
       tt,
       λ t h. subst (λ (r : Rectangle). Meets t r) need ((meets t).0 (subst (λ (ts : List Tile). Contains ts t) given h)),
@@ -23,8 +22,7 @@ pub loop-at-preserved : goal.loop-at-preserved
 loop-at-preserved c =
     let at = c.in-Some.at in
     let rest = c.next.new.self in
-    let steps : c.loop-at.at-iterator ≡ at ∷ rest = c.in-Some.ensures.steps in
-    (
+    let steps : c.loop-at.at-iterator ≡ at ∷ rest = c.in-Some.ensures.steps in (
       tt,
       tt,
       λ t h. c.loop-at.invariant.2 t (subst (λ (ts : List Tile). Contains ts t) (sym steps) (Contains-later at rest t h)),

@@ -10,11 +10,10 @@ use Rattle.op_contracts.proofs.window.Window.inner_part.Goals as goal
 pub loop-entry-preserved : goal.loop-entry-preserved
 loop-entry-preserved c =
     let all = c.as_slice-entry-items.result.now in
-    let n = c.loop-entry.entry-index in
-    (
+    let n = c.loop-entry.entry-index in (
       ap (λ (image : Image). put_tiles image (drop (n + 1) all)) c.put_tile.ensures
-      ∙ put_tiles-next c.loop-entry.patch all n c.entry-item.result c.loop-entry-test.true c.entry-item.is
-      ∙ c.loop-entry.invariant.0,
+          ∙ put_tiles-next c.loop-entry.patch all n c.entry-item.result c.loop-entry-test.true c.entry-item.is
+          ∙ c.loop-entry.invariant.0,
       ap (λ (image : Image). image.format) c.put_tile.ensures ∙ c.loop-entry.invariant.1,
     )
 

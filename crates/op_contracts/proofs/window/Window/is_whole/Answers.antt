@@ -1,4 +1,4 @@
-use Rattle.std.proofs.Common.{◌≡◌, All, sym, ◌∙◌, subst}
+use Rattle.std.proofs.Common.{All, sym, ◌∙◌, subst}
 use Rattle.std.specs.List.{IsDistinct}
 use Rattle.plane_rect.specs.Tile.{same_tile}
 use Rattle.model_graphs.specs.Windows.{HasTileLength, Window}
@@ -8,8 +8,7 @@ use Rattle.op_contracts.proofs.window.Window.is_whole.Goals.{then-are_distinct, 
 
 pub returns-else-have_length : goal.returns-else-have_length
 returns-else-have_length c =
-    let view = sym c.self.view_is in
-    (
+    let view = sym c.self.view_is in (
       λ h. absurd (cc (sym c.if-have_length.false ∙ h)),
       λ whole. elim c.if-are_distinct.branch [
         | then-are_distinct w ↦

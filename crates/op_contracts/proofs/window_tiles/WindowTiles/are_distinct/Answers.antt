@@ -1,10 +1,8 @@
-use Rattle.std.proofs.Common.{◌≡◌, ℕ, ◌+◌, [], drop, None, true, false, sym, ap, ◌∙◌, rules}
+use Rattle.std.proofs.Common.{◌≡◌, ◌+◌, [], drop, true, false, sym, ap, ◌∙◌, rules}
 use Rattle.std.specs.Prelude.{is_some}
-use Rattle.std.specs.List.{IsDistinct}
 use Rattle.std.specs.Map.{lookup}
 use Rattle.std.proofs.lemmas.List.{drop_all}
 use Rattle.plane_rect.specs.Tile.{same_tile}
-use Rattle.op_contracts.specs.TileList.{tiles_in}
 use Rattle.op_contracts.proofs.Distinct.{distinct-lacks, distinct-next, distinct-none, found-in-rest, is_some-map, none-from}
 use Rattle.op_contracts.proofs.window_tiles.WindowTiles.are_distinct.Goals as goal
 
@@ -17,8 +15,7 @@ returns-then-is_some c =
     let sliced : c.deref.result.now ≡ all = c.deref.ensures.value ∙ c.self.view_is in
     let found = c.find_bytes.ensures ∙ found-in-rest c.deref.result.now all (n + 1) entry.0 sliced in
     let some : is_some (lookup (same_tile entry.0) (drop (n + 1) all)) ≡ true =
-    sym (ap is_some found) ∙ is_some-map (λ x. x.now) c.find_bytes.result ∙ sym c.if-is_some.ensures in
-    (
+    sym (ap is_some found) ∙ is_some-map (λ x. x.now) c.find_bytes.result ∙ sym c.if-is_some.ensures in (
       λ h. absurd (cc h),
       λ distinct.
           let lacks = distinct-lacks all n entry (rw given at c.loop-number-test.true) (rw given at c.entry-item.is) (c.loop-number.invariant.0 distinct) in

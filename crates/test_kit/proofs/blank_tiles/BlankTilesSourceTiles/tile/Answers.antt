@@ -1,4 +1,3 @@
-use Rattle.std.proofs.Common.{◌≡◌}
 use Rattle.test_kit.proofs.BlankTile.{blank-tile}
 use Rattle.test_kit.proofs.blank_tiles.BlankTilesSourceTiles.tile.Goals as goal
 
