@@ -1,0 +1,30 @@
+//! A prefix of the list of a hub's scenes.
+
+ghost use Rattle.std.specs.Prelude.{◌≡◌};
+
+use crate::book::HubBook;
+use crate::entry::Entry;
+use logbook::Seen;
+
+/// A log that was reached.
+pub type Log<S> = Seen<Entry<S>, (), HubBook<S>>;
+
+/// A prefix of the list of a hub's scenes, which is `scenes` of it: those that the log at `reached`
+/// has of the list that begins at `origin`. It has no bytes.
+#[derive(Drop)]
+pub struct ListPrefix<S> {
+    pub origin: Log<S>,
+    pub reached: Log<S>,
+}
+
+impl<S> ListPrefix<S> {
+    /// Returns a copy.
+    pub fn again(&self) -> ListPrefix<S>
+        ensures { result ≡ self.now }
+    {
+        ListPrefix {
+            origin: self.origin.again(),
+            reached: self.reached.again(),
+        }
+    }
+}
