@@ -1,8 +1,8 @@
 -- The rule of the book of a hub's log, and what its steps tell.
 use Rattle.std.specs.Prelude.{◌≡◌, ◌≢◌, ℕ, ◌<◌, true, List, [], ◌∷◌, ◌++◌, length, All}
-use mathlib.Core.List.{IsPrefix}
 use Rattle.logbook.specs.Pages.{Cell, cell, Step, View, Book, Named, may_make}
 use Rattle.scene_hub.specs.declared.entry.Entry.{Entry}
+use Rattle.scene_hub.specs.SceneLog.{Begins}
 
 abbrev pub base_of : Book → Named
 base_of b = record { tracked = true; key = 0; book = b }
@@ -26,6 +26,9 @@ module _ {S : Type 0} where
   abbrev pub PenTaken : Step (Entry S) → View (Entry S) (Unit {0}) → ℕ → View (Entry S) (Unit {0}) → Type 0
   PenTaken s v found w = w.1.0.right ≡ may_make
 
-  -- the entry was appended. No other entry that the log has gained has its key
+  -- the entry was appended to all that the old log had, and perhaps more. No entry before it has its key
+  abbrev pub IsAppended : List (Entry S) → List (Entry S) → Entry S → Type 0
+  IsAppended old new e = (before : List (Entry S)) × (new ≡ before ++ e ∷ []) × Begins old before × All (λ x. x.key ≢ e.key) before
+
   abbrev pub EntryAppended : Step (Entry S) → View (Entry S) (Unit {0}) → ℕ → View (Entry S) (Unit {0}) → Type 0
-  EntryAppended s v found w = (others : List (Entry S)) × (w.0 ≡ v.0 ++ others ++ s.ask ∷ []) × All (λ e. e.key ≢ s.ask.key) others
+  EntryAppended s v found w = IsAppended v.0 w.0 s.ask

@@ -2,7 +2,7 @@
 
 ghost use Rattle.std.specs.Prelude.{◌≡◌, [], ◌∷◌, ◌++◌};
 ghost use Rattle.logbook.specs.Pages.{may_write};
-ghost use Rattle.scene_hub.specs.HubBook.{base_of};
+ghost use Rattle.scene_hub.specs.HubBook.{IsAppended, base_of};
 ghost use Rattle.scene_hub.specs.SceneLog.{Begins};
 ghost use Rattle.scene_hub.specs.HubList.{scenes, next_key, IsReached, IsSameHub, ComesBefore};
 
@@ -10,6 +10,7 @@ use crate::book::{AppendEntry, BeginList, HubBook, Nothing, TakePen};
 use crate::entry::{Entry, NewEntry};
 use crate::prefix::{ListPrefix, Log};
 use logbook::{Offer, Pen, Seen, Start, Word};
+use std::mem::replace;
 use std::snapshot::Snapshot;
 
 type Base<S> = Word<Entry<S>, (), HubBook<S>>;
@@ -40,6 +41,23 @@ fn new_pen<S>(base: &Base<S>, log: &mut Log<S>, scene: &Snapshot<S>) -> Pen
     pen
 }
 
+/// Appends a scene to the log, which uses up the pen. The scene after it is appended by the next pen.
+fn append_entry<S>(base: &Base<S>, log: &mut Log<S>, pen: Pen, next: &Pen, scene: Snapshot<S>)
+    requires base { base.now ≡ base_of log.old.book }
+    requires pen { (pen.book ≡ log.old.book) × (pen.nib.right ≡ may_write) }
+    ensures book { log.new.book ≡ log.old.book }
+    ensures entry { IsAppended log.old.log log.new.log (record { key = pen.nib.key; next = next.now.nib.key; scene = scene.value }) }
+{
+    let mut pen = pen;
+    let entry = NewEntry {
+        pen: Snapshot::of(&pen),
+        next: Snapshot::of(next),
+        scene,
+    };
+    let mut offer: Nought<S> = log.plain::<Nothing, NewEntry<S>, AppendEntry>(&entry);
+    base.compare_exchange::<AppendEntry, Nothing>(0, 0, log, &mut offer, &mut pen);
+}
+
 impl<S> SceneList<S> {
     /// Begins a list with its first scene.
     pub fn begin(first: &S) -> SceneList<S>
@@ -68,16 +86,14 @@ impl<S> SceneList<S> {
         ensures later { ComesBefore self.old.whole self.new.whole }
     {
         let scene = Snapshot::of(scene);
-        let log = &mut self.whole.reached;
-        let next = new_pen(&self.base, log, &scene);
-        let entry = NewEntry {
-            pen: Snapshot::of(&self.pen),
-            next: Snapshot::of(&next),
+        let next = new_pen(&self.base, &mut self.whole.reached, &scene);
+        let pen = replace(&mut self.pen, next);
+        append_entry(
+            &self.base,
+            &mut self.whole.reached,
+            pen,
+            &self.pen,
             scene,
-        };
-        let mut offer: Nought<S> = log.plain::<Nothing, NewEntry<S>, AppendEntry>(&entry);
-        self.base
-            .compare_exchange::<AppendEntry, Nothing>(0, 0, log, &mut offer, &mut self.pen);
-        self.pen = next;
+        );
     }
 }
