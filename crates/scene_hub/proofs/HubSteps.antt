@@ -7,7 +7,7 @@ use Rattle.atomic_table.proofs.Lists.{at_set, at_snoc}
 use Rattle.scene_hub.specs.declared.prefix.ListPrefix.{ListPrefix}
 use Rattle.scene_hub.specs.declared.showing.Showing.{Showing}
 use Rattle.scene_hub.specs.HubList.{ComesBefore}
-use Rattle.scene_hub.specs.HubRule.{IsSeen, AllSeen, IsShown, Sees}
+use Rattle.scene_hub.specs.HubRule.{HasSeen, IsSeen, AllSeen, IsShown, Sees}
 use Rattle.scene_hub.proofs.Prefixes.{begins_same, begins_trans}
 
 module _ {S : Type 0} where
@@ -39,7 +39,7 @@ module _ {S : Type 0} where
   turns number seat v x y shown later views h at =
       let grown : (w : Option (ListPrefix S)) → IsSeen x.list w → IsSeen y.list w = λ w seen p is. comes_trans p x.list y.list (seen p is) later in
       let all : AllSeen y.list views = λ j u e. grown u (h.1 j u e) in
-      let own : IsSeen y.list (Some y.list) = λ p is. subst (λ q. ComesBefore q y.list) (cc is) (comes_same y.list) in (
+      let own : IsSeen y.list (Some y.list) = λ p is. let e : y.list ≡ p = cc is in subst (λ q. ComesBefore q y.list) e (comes_same y.list) in (
         Some y.list,
         (shown h.0, all_set y.list views seat (Some y.list) all own),
         (shown h.0, grown v (h.1 seat v at), refl),
@@ -54,3 +54,8 @@ module _ {S : Type 0} where
   merges number seat v other w x views h at apart there =
       let told : IsSeen x.list w = ⊎_elim (λ (t : (other ≡ seat) × (w ≡ w)). absurd (apart t.0)) (λ (t : (other ≢ seat) × (get_elem? views other ≡ some w)). h.1 other w t.1) (at_set views seat other w w there) in
       (h.0, all_set x.list (set views seat w) other None (all_set x.list views seat w h.1 told) (nothing_seen x.list))
+
+  -- what a pass has seen it has seen still after a step by which it sees what is shown
+  pub seen_grows : (before after : Option (ListPrefix S)) (shown p : ListPrefix S) → IsSeen shown before → after ≡ Some shown → HasSeen before p → HasSeen after p
+  seen_grows None after shown p seen is h = absurd (cc (h.0))
+  seen_grows (Some q) after shown p seen is h = subst (λ v. HasSeen v p) (sym is) (refl, λ r same. let e : shown ≡ r = cc same in subst (ComesBefore p) e (comes_trans p q shown (h.1 q refl) (seen q refl)))

@@ -1,14 +1,21 @@
 -- The list that a log gives, as the log grows.
-use Rattle.std.proofs.Common.{◌≡◌, ◌≢◌, ℕ, suc, ◌+◌, ◌<◌, ◌≤◌, ◌==◌, Bool, true, false, List, [], ◌∷◌, ◌++◌, length, take, drop, fold, refl, ap, sym, ◌∙◌, subst, arith, length-append}
+use Rattle.std.proofs.Common.{◌≡◌, ◌≢◌, ℕ, suc, ◌+◌, ◌<◌, ◌≤◌, ◌==◌, ◌⊎◌, inl, inr, ⊎_elim, Bool, true, false, List, [], ◌∷◌, ◌++◌, length, take, drop, fold, refl, ap, sym, ◌∙◌, subst, arith, length-append}
 use Rattle.std.specs.Prelude.{All, if◌then◌else◌}
 use Rattle.std.proofs.lemmas.List.{take-append-drop, append-nil, drop-append-le}
 use Rattle.std.proofs.lemmas.List.Sums.{fold-append}
 use Rattle.std.proofs.Math.Seq.{drop-append_seam}
+use Rattle.std.proofs.lemmas.Bool.{cases_lt}
 use Rattle.std.proofs.lemmas.Bool.Decides.{nat_tests}
 use Rattle.scene_hub.specs.declared.entry.Entry.{Entry}
 use Rattle.scene_hub.specs.HubBook.{IsAppended}
 use Rattle.scene_hub.specs.SceneLog.{Begins, begun, with_entry, list_of}
-use Rattle.scene_hub.proofs.Prefixes.{begins-append, begins_same, begins_rest, begins_length, begins_trans, all_rest}
+use Rattle.scene_hub.proofs.Prefixes.{begins-append, begins_same, begins_rest, begins_length, begins_shorter, begins_trans, all_rest}
+
+le_of_lt : (m n : ℕ) → m < n → m ≤ n
+le_of_lt m n lt = omega arith
+
+either_le : (m n : ℕ) → (m ≤ n) ⊎ (n ≤ m)
+either_le m n = ⊎_elim (λ (lt : m < n). inl (le_of_lt m n lt)) (λ (le : n ≤ m). inr le) (cases_lt m n)
 
 module _ {S : Type 0} where
   -- what an entry does, where its key is the next scene's or not
@@ -70,3 +77,13 @@ module _ {S : Type 0} where
       let log = before ++ e ∷ [] in
       let none : drop (length log) log ≡ [] = ap (drop (length log)) (sym (append-nil log)) ∙ drop-append_seam log [] in
       ap (fold with_entry (begun log)) none ∙ fold-append (λ _ x. (x.next, x.scene ∷ [])) (0, []) before (e ∷ [])
+
+  -- of the lists of two logs that begin one log one begins the other
+  pub lists_meet : (origin one other all : List (Entry S)) → Begins origin one → Begins origin other → Begins one all → Begins other all
+      → Begins (list_of origin one).1 (list_of origin other).1 ⊎ Begins (list_of origin other).1 (list_of origin one).1
+  lists_meet origin one other all b c d e =
+      let p = lists_grow origin one all b d in
+      let q = lists_grow origin other all c e in
+      let whole = (list_of origin all).1 in
+      ⊎_elim (λ (le : length (list_of origin one).1 ≤ length (list_of origin other).1). inl (begins_shorter (list_of origin one).1 (list_of origin other).1 whole p q le))
+          (λ (le : length (list_of origin other).1 ≤ length (list_of origin one).1). inr (begins_shorter (list_of origin other).1 (list_of origin one).1 whole q p le)) (either_le (length (list_of origin one).1) (length (list_of origin other).1))

@@ -1,12 +1,19 @@
 -- Lists whose numbers rise, and their last numbers.
 use Rattle.std.proofs.Common.{◌≡◌, ℕ, ◌+◌, ◌<◌, ◌≤◌, ◌⊎◌, List, [], ◌∷◌, ◌++◌, length, drop, fold, refl, ap, sym, ◌∙◌, subst, arith, append_assoc, length-append, Option, Some, None, ⊎_elim, slice_index_or}
 use Rattle.std.specs.Prelude.{AllPairs, option_map}
+use Rattle.std.proofs.lemmas.Bool.{cases_lt}
 use Rattle.std.proofs.lemmas.List.{append-nil}
 use Rattle.std.proofs.lemmas.List.Sums.{fold-append}
 use Rattle.std.proofs.lemmas.List.Quantifiers.{all_pairs_push}
 use Rattle.std.proofs.Math.Seq.{get_or-append_seam}
 use Rattle.scene_hub.specs.SceneLog.{Begins, last_of, NumbersRise}
 use Rattle.scene_hub.proofs.Prefixes.{begins_same, begins_rest}
+
+le_of_lt : (m n : ℕ) → m < n → m ≤ n
+le_of_lt m n lt = omega arith
+
+le_of_same : (m n : ℕ) → m ≡ n → m ≤ n
+le_of_same m n same = omega (arith, same)
 
 module _ {S : Type 0} where
   ends : (xs : List S) (y : S) → (before : List S) × (z : S) × (fold (λ _ x. Some x) (Some y) xs ≡ Some z) × (y ∷ xs ≡ before ++ z ∷ [])
@@ -54,7 +61,11 @@ module _ {S : Type 0} where
   newer_is_longer number ps qs m n either rises p q le = ⊎_elim (λ (b : Begins ps qs). b) (λ (b : Begins qs ps). newer_from number ps qs (drop (length qs) ps) m n (begins_rest qs ps b) rises p q le) either
 
   up_to_last : (number : S → ℕ) (xs before : List S) (s : S) → NumbersRise number xs → xs ≡ before ++ s ∷ [] → (k : ℕ) (d : S) → k < length xs → number (slice_index_or xs k d) ≤ number s
-  up_to_last number xs before s rises is k d lt = ?
+  up_to_last number xs before s rises is k d lt =
+      let size : length xs ≡ length before + 1 = ap length is ∙ length-append before (s ∷ []) in
+      let last : slice_index_or xs (length before) d ≡ s = ap (λ l. slice_index_or l (length before) d) is ∙ get_or-append_seam before s [] d in
+      ⊎_elim (λ (less : k < length before). le_of_lt _ _ (subst (λ t. number (slice_index_or xs k d) < number t) last (rises k (length before) d less (omega arith))))
+          (λ (le : length before ≤ k). let same : k ≡ length before = omega arith in le_of_same _ _ (ap (λ j. number (slice_index_or xs j d)) same ∙ ap number last)) (cases_lt k (length before))
 
   -- a scene with a greater number may come next
   pub rises_push : (number : S → ℕ) (xs : List S) (m : ℕ) (s : S) → NumbersRise number xs → option_map number (last_of xs) ≡ Some m → m < number s → NumbersRise number (xs ++ s ∷ [])

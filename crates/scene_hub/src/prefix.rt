@@ -1,6 +1,8 @@
 //! A prefix of the list of a hub's scenes.
 
-ghost use Rattle.std.specs.Prelude.{◌≡◌};
+ghost use Rattle.std.specs.Prelude.{◌≡◌, ◌⊎◌};
+ghost use Rattle.scene_hub.specs.SceneLog.{Begins};
+ghost use Rattle.scene_hub.specs.HubList.{IsReached, IsSameHub, scenes};
 
 use crate::book::HubBook;
 use crate::entry::Entry;
@@ -26,5 +28,14 @@ impl<S> ListPrefix<S> {
             origin: self.origin.again(),
             reached: self.reached.again(),
         }
+    }
+
+    /// Shows that one of two prefixes of the same list begins the other. It does nothing at run time.
+    pub(crate) fn compare(&self, other: &ListPrefix<S>)
+        requires { IsSameHub self.now other.now × IsReached self.now × IsReached other.now }
+        ensures { Begins (scenes self.now) (scenes other.now) ⊎ Begins (scenes other.now) (scenes self.now) }
+    {
+        let mut both = self.reached.again();
+        both.learn(&other.reached);
     }
 }

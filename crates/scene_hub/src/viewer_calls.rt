@@ -26,7 +26,11 @@ fn look<S: Numbered>(
     match reader.enter_as::<Look>() {
         Ok(reading) => {
             let share = reading.get().share();
-            (reading.leave(), share.map_err(ViewRefused::from))
+            let reader = reading.leave();
+            match share {
+                Ok(next) => (reader, Ok(next)),
+                Err(_) => (reader, Err(ViewRefused::NoMemory)),
+            }
         }
         Err(reader) => (reader, Err(ViewRefused::NoEntry)),
     }
@@ -55,6 +59,7 @@ impl<S: Numbered> Viewer<S> {
         ensures seen { seen self.new ≡ seen self.old }
         ensures hub { IsSameViewerHub self.old self.new }
     {
+        self.told.list.compare(&receipt.list);
         if self.told.number < receipt.number {
             self.told = receipt;
         }
@@ -71,6 +76,8 @@ impl<S: Numbered> Viewer<S> {
         ensures hub { IsSameViewerHub self.old self.new }
     {
         let next = replace_with(&mut self.reader, (), look)?;
+        self.told.list.compare(&next.list);
+        // This never comes, since a scene is shown before its receipt is made.
         if next.number < self.told.number {
             return Err(ViewRefused::NoEntry);
         }
