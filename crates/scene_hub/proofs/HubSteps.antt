@@ -6,8 +6,10 @@ use Rattle.crossbeam_utils.specs.Register.{Admits, TurnsAt, Forks, Merges}
 use Rattle.atomic_table.proofs.Lists.{at_set, at_snoc}
 use Rattle.scene_hub.specs.declared.prefix.ListPrefix.{ListPrefix}
 use Rattle.scene_hub.specs.declared.showing.Showing.{Showing}
-use Rattle.scene_hub.specs.HubList.{ComesBefore}
+use Rattle.scene_hub.specs.HubList.{ComesBefore, IsReached, scenes}
 use Rattle.scene_hub.specs.HubRule.{HasSeen, IsSeen, AllSeen, IsShown, Sees}
+use Rattle.scene_hub.specs.SceneLog.{Begins, list_of}
+use Rattle.scene_hub.proofs.LogLists.{lists_grow}
 use Rattle.scene_hub.proofs.Prefixes.{begins_same, begins_trans}
 
 module _ {S : Type 0} where
@@ -59,3 +61,17 @@ module _ {S : Type 0} where
   pub seen_grows : (before after : Option (ListPrefix S)) (shown p : ListPrefix S) → IsSeen shown before → after ≡ Some shown → HasSeen before p → HasSeen after p
   seen_grows None after shown p seen is h = absurd (cc (h.0))
   seen_grows (Some q) after shown p seen is h = subst (λ v. HasSeen v p) (sym is) (refl, λ r same. let e : shown ≡ r = cc same in subst (ComesBefore p) e (comes_trans p q shown (h.1 q refl) (seen q refl)))
+
+  pub has_itself : (view : Option (ListPrefix S)) (p : ListPrefix S) → view ≡ Some p → HasSeen view p
+  has_itself view p is = subst (λ v. HasSeen v p) (sym is) (refl, λ q same. let e : p ≡ q = cc same in subst (ComesBefore p) e (comes_same p))
+
+  -- what a pass has seen comes before what is shown
+  pub seen_before : (view : Option (ListPrefix S)) (shown p : ListPrefix S) → IsSeen shown view → HasSeen view p → ComesBefore p shown
+  seen_before None shown p seen h = absurd (cc (h.0))
+  seen_before (Some q) shown p seen h = comes_trans p q shown (h.1 q refl) (seen q refl)
+
+  -- the scenes of a prefix begin the scenes of a later one
+  pub scenes_grow : (p q : ListPrefix S) → IsReached p → ComesBefore p q → Begins (scenes p) (scenes q)
+  scenes_grow p q reached b =
+      let e : p.origin.log ≡ q.origin.log = ap (λ s. s.log) b.0 in
+      subst (λ l. Begins (scenes p) (list_of l q.reached.log).1) e (lists_grow p.origin.log p.reached.log q.reached.log reached.1 b.1)

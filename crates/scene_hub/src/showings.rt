@@ -15,12 +15,11 @@ use std::thread;
 
 /// Puts the next scene in the writer's queue. The queue has had room for it since the hub was started,
 /// so this does not wait.
-fn queue<S: Numbered, R: Wait>(rt: &R, writer: &mut SceneWriter<S>, next: Showing<S>)
+fn queue<S: Numbered, R: Wait>(rt: &R, writer: &mut SceneWriter<S>, mut next: Showing<S>)
     requires { drop writer.old.behind writer.old.log.items ≡ [] }
     ensures desk { writer.new.desk ≡ writer.old.desk }
     ensures pending { drop writer.new.behind writer.new.log.items ≡ next ∷ [] }
 {
-    let mut next = next;
     for _ in rt.forever() {
         match writer.append(next) {
             Ok(()) => return,
@@ -51,7 +50,7 @@ pub(crate) fn turn<S: Numbered, R: Wait>(
 /// Shows the scene that is queued. It waits for the viewers that are entering.
 fn show_queued<S: Numbered, R: Wait>(
     rt: &R,
-    writer: SceneWriter<S>,
+    mut writer: SceneWriter<S>,
     next: &Snapshot<Showing<S>>,
 ) -> SceneWriter<S>
     requires queued { drop writer.behind writer.log.items ≡ next.now.value ∷ [] }
@@ -61,7 +60,6 @@ fn show_queued<S: Numbered, R: Wait>(
     ensures seen { view result.desk.place ≡ Some next.now.value.list }
     ensures none_pending { drop result.behind result.log.items ≡ [] }
 {
-    let mut writer = writer;
     for _ in rt.forever() {
         let (after, is_shown) = turn(rt, writer, next);
         writer = after;

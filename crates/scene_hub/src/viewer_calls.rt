@@ -36,6 +36,15 @@ fn look<S: Numbered>(
     }
 }
 
+/// Takes a share of the scene that is shown, by a reader that stays where it is.
+fn glance<S: Numbered>(reader: &mut SceneReader<S>) -> Result<Showing<S>, ViewRefused>
+    ensures later { (p : _) → HasSeen (view reader.old.place) p → HasSeen (view reader.new.place) p }
+    ensures shown { IfOk result (λ next. IsShown S.number_of next × IsSeen next.list (view reader.old.place)) }
+    ensures seen { IfOk result (λ next. view reader.new.place ≡ Some next.list) }
+{
+    replace_with(reader, (), look)
+}
+
 impl<S: Numbered> Viewer<S> {
     /// Returns the scene that the viewer shows, which is the last that it has seen.
     pub fn scene(&self) -> &S
@@ -75,7 +84,7 @@ impl<S: Numbered> Viewer<S> {
         ensures told { told self.new ≡ told self.old }
         ensures hub { IsSameViewerHub self.old self.new }
     {
-        let next = replace_with(&mut self.reader, (), look)?;
+        let next = glance(&mut self.reader)?;
         self.told.list.compare(&next.list);
         // This never comes, since a scene is shown before its receipt is made.
         if next.number < self.told.number {
