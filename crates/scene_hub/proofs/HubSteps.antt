@@ -1,15 +1,17 @@
 -- The steps of the hub keep its rule.
-use Rattle.std.proofs.Common.{◌≡◌, ◌≢◌, ℕ, ◌⊎◌, List, [], ◌∷◌, ◌++◌, set, refl, ap, sym, ◌∙◌, subst, ⊎_elim, Option, Some, None}
+use Rattle.std.proofs.Common.{◌≡◌, ◌≢◌, ℕ, ◌<◌, ◌⊎◌, List, [], ◌∷◌, ◌++◌, set, refl, ap, sym, ◌∙◌, subst, ⊎_elim, Option, Some, None}
+use Rattle.std.specs.Prelude.{option_map}
 use mathlib.Core.Option.{some}
 use lib.ListN.{get_elem?}
 use Rattle.crossbeam_utils.specs.Register.{Admits, TurnsAt, Forks, Merges}
 use Rattle.atomic_table.proofs.Lists.{at_set, at_snoc}
 use Rattle.scene_hub.specs.declared.prefix.ListPrefix.{ListPrefix}
 use Rattle.scene_hub.specs.declared.showing.Showing.{Showing}
-use Rattle.scene_hub.specs.HubList.{ComesBefore, IsReached, scenes}
-use Rattle.scene_hub.specs.HubRule.{HasSeen, IsSeen, AllSeen, IsShown, Sees}
-use Rattle.scene_hub.specs.SceneLog.{Begins, list_of}
+use Rattle.scene_hub.specs.HubList.{ComesBefore, IsReached, RisesTo, scenes}
+use Rattle.scene_hub.specs.HubRule.{HasSeen, IsLast, IsSeen, AllSeen, IsShown, Sees}
+use Rattle.scene_hub.specs.SceneLog.{Begins, NumbersRise, last_of, list_of}
 use Rattle.scene_hub.proofs.LogLists.{lists_grow}
+use Rattle.scene_hub.proofs.Numbers.{last_of-push, rises_push}
 use Rattle.scene_hub.proofs.Prefixes.{begins_same, begins_trans}
 
 module _ {S : Type 0} where
@@ -75,3 +77,16 @@ module _ {S : Type 0} where
   scenes_grow p q reached b =
       let e : p.origin.log ≡ q.origin.log = ap (λ s. s.log) b.0 in
       subst (λ l. Begins (scenes p) (list_of l q.reached.log).1) e (lists_grow p.origin.log p.reached.log q.reached.log reached.1 b.1)
+
+  last_pushed : (number : S → ℕ) (list : ListPrefix S) (before : List S) (s : S) (m : ℕ) → IsReached list → scenes list ≡ before ++ s ∷ []
+      → NumbersRise number before → option_map number (last_of before) ≡ Some m → m < number s → IsLast number list s (number s)
+  last_pushed number list before s m reached is rises last less =
+      let e : last_of (scenes list) ≡ Some s = ap last_of is ∙ last_of-push before s in
+      (reached, (subst (NumbersRise number) (sym is) (rises_push number before m s rises last less), ap (option_map number) e), e)
+
+  -- the list after a scene was appended, whose number exceeds the last one's
+  pub last_after : (number : S → ℕ) (list whole old : ListPrefix S) (t s : S) (m n : ℕ) → list ≡ whole → IsReached whole → scenes whole ≡ scenes old ++ t ∷ [] → t ≡ s → n ≡ number s
+      → RisesTo number old m → m < number s → IsLast number list s n
+  last_after number list whole old t s m n copied reached is same numbered rises less =
+      let pushed = last_pushed number whole (scenes old) s m reached (is ∙ ap (λ x. scenes old ++ x ∷ []) same) rises.0 rises.1 less in
+      subst (λ k. IsLast number list s k) (sym numbered) (subst (λ l. IsLast number l s (number s)) (sym copied) pushed)

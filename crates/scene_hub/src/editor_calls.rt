@@ -9,7 +9,6 @@ use crate::numbered::Numbered;
 use crate::publisher::Publisher;
 use crate::receipt::Receipt;
 use crate::showing::Showing;
-use core::mem::replace_with;
 use no_memory::NoMemory;
 use std::sync::{Arc, Wait};
 
@@ -32,9 +31,7 @@ impl<S: Numbered> Editor<S> {
             number,
             list,
         };
-        replace_with(&mut self.publisher, next, |publisher, next| {
-            (publisher.show(rt, next), ())
-        });
+        self.publisher.show(rt, next);
         self.last = Receipt {
             number,
             list: self.list.whole.again(),

@@ -9,6 +9,7 @@ use crate::numbered::Numbered;
 use crate::publisher::Publisher;
 use crate::rule::{Look, SceneWriter};
 use crate::showing::Showing;
+use core::mem::replace_with;
 use std::snapshot::Snapshot;
 use std::sync::Wait;
 use std::thread;
@@ -70,18 +71,31 @@ fn show_queued<S: Numbered, R: Wait>(
     unreachable!()
 }
 
+/// Shows the next scene, by the runtime beside it.
+fn show_next<S: Numbered, R: Wait>(
+    mut writer: SceneWriter<S>,
+    job: (&R, Showing<S>),
+) -> (SceneWriter<S>, ())
+    requires queued { drop writer.behind writer.log.items ≡ [] }
+    requires shown { IsShown S.number_of job.1 }
+    requires later { ComesBefore writer.desk.shown.value.list job.1.list }
+    ensures shown { result.0.desk.shown.value.list ≡ job.entry.1.list }
+    ensures seen { view result.0.desk.place ≡ Some job.entry.1.list }
+    ensures none_pending { drop result.0.behind result.0.log.items ≡ [] }
+{
+    let (rt, next) = job;
+    let about = Snapshot::of(&next);
+    queue(rt, &mut writer, next);
+    (show_queued(rt, writer, &about), ())
+}
+
 impl<S: Numbered> Publisher<S> {
     /// Shows the next scene. It waits for the viewers that are entering.
-    pub(crate) fn show<R: Wait>(self, rt: &R, next: Showing<S>) -> Publisher<S>
+    pub(crate) fn show<R: Wait>(&mut self, rt: &R, next: Showing<S>)
         requires shown { IsShown S.number_of next }
-        requires later { ComesBefore self.writer.desk.shown.value.list next.list }
-        ensures { result.writer.desk.shown.value.list ≡ next.list }
+        requires later { ComesBefore self.old.writer.desk.shown.value.list next.list }
+        ensures { self.new.writer.desk.shown.value.list ≡ next.list }
     {
-        let Publisher { mut writer } = self;
-        let about = Snapshot::of(&next);
-        queue(rt, &mut writer, next);
-        Publisher {
-            writer: show_queued(rt, writer, &about),
-        }
+        replace_with(&mut self.writer, (rt, next), show_next);
     }
 }
