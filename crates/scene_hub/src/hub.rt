@@ -109,7 +109,7 @@ impl<S: Numbered> Editor<S> {
         ensures list { self.new.list ≡ self.old.list }
     {
         let mut viewers = Vec::new(alloc);
-        for _ in 0..count {
+        for _made in 0..count {
             viewers.push(self.viewer(shown)?)?;
         }
         Ok(viewers)
