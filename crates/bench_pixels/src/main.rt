@@ -8,6 +8,7 @@
 //! error: gigabytes of output a second, and what part of a copy's speed that is.
 #![tactic(auto)]
 
+mod arc_loops;
 mod patch_bench;
 mod patch_loops;
 mod pictures;
@@ -28,6 +29,7 @@ use std::rt::{Clock, Env};
 
 /// How many rounds of rows and of patches there are where the command line says nothing.
 const FEW_ROWS: u32 = 4;
+
 const FEW_PATCHES: u32 = 1;
 
 /// The lengths of the rows, in bytes, and for how many of them there are as many bytes as in one

@@ -63,7 +63,12 @@ impl PatchBench {
             ready,
             afresh,
         };
-        bench.print(rt, "copy", copied.wrapping_add(patch_loops::sum(&to)), ready)?;
+        bench.print(
+            rt,
+            "copy",
+            copied.wrapping_add(patch_loops::sum(&to)),
+            ready,
+        )?;
         let sum = patch_loops::sum(from);
         bench.print(rt, "copy afresh", copied_afresh.wrapping_add(sum), afresh)?;
         Ok(bench)

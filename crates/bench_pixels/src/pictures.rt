@@ -3,8 +3,8 @@
 ghost use Rattle.plane_rect.specs.Rectangle.{InLimits};
 
 use patch_abyss::{Patch, PatchRefused};
-use plane_rect::Rect;
 use pixel_formats::Format;
+use plane_rect::Rect;
 use std::alloc::{AllocError, Global};
 
 /// The square of so many columns and rows from x = y = `corner` on, and else the rectangle without

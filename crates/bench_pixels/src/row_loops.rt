@@ -4,8 +4,11 @@ ghost use Rattle.std.specs.Prelude.{◌≡◌, ◌*◌, ◌/◌, ◌%◌, IsTrue
 ghost use Rattle.pixel_formats.specs.Format.{depth, has_alpha, pixel_bytes};
 ghost use Rattle.pixel_formats.specs.Row.{pixel_count};
 
-use sample_rows::{convert_row, row_add, row_average4, row_gain, row_invert, row_mask, row_max, row_min, row_over, row_threshold};
 use pixel_formats::Format;
+use sample_rows::{
+    convert_row, row_add, row_average4, row_gain, row_invert, row_mask, row_max, row_min, row_over,
+    row_threshold,
+};
 
 /// A kernel of all formats whose rows are of one length.
 #[derive(Clone, Copy)]

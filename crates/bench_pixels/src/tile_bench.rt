@@ -1,8 +1,9 @@
-//! Times of the calls of tiles, beside copies of as many bytes.
+//! Times of the calls of tiles, beside the same of a vector whose owners `Arc` counts, and beside
+//! copies of as many bytes.
 
 ghost use Rattle.tile_cow.specs.Tile.{IsTileLength};
 
-use crate::tile_loops;
+use crate::{arc_loops, tile_loops};
 use anyhow::Result;
 use std::alloc::Global;
 use std::io;
@@ -56,6 +57,7 @@ pub fn time_all<R: Clock + Print + Eprint + Alloc<A = Global>>(
             eprintln!(rt; "{length} bytes")?;
         }
         time_tiles(rt, bench, length)?;
+        time_arcs(rt, bench, length)?;
         time_copies(rt, bench, length)?;
     }
     Ok(())
@@ -78,6 +80,10 @@ fn time_tiles<R: Clock + Print + Eprint + Alloc<A = Global>>(
     bench.report(rt, "share and drop", start, found)?;
 
     let start = Instant::now(rt)?;
+    let found = tile_loops::of_and_drop(alloc, &mut row, bench.rounds)?;
+    bench.report(rt, "of and drop", start, found)?;
+
+    let start = Instant::now(rt)?;
     let found = tile_loops::read(&tile, &mut row, bench.rounds);
     bench.report(rt, "read", start, found)?;
 
@@ -89,6 +95,30 @@ fn time_tiles<R: Clock + Print + Eprint + Alloc<A = Global>>(
     let start = Instant::now(rt)?;
     let found = tile_loops::write_shared(alloc, &mut tile, &mut row, bench.rounds)?;
     bench.report(rt, "share and write", start, found)?;
+    Ok(())
+}
+
+/// Times the same calls of a vector of so many bytes whose owners `Arc` counts.
+fn time_arcs<R: Clock + Print + Eprint + Alloc<A = Global>>(
+    rt: &R,
+    bench: TileBench,
+    length: u32,
+) -> Result<()> {
+    let alloc = rt.alloc();
+    let mut row = vec![in alloc; 7; length as usize]?;
+    let mut shared = arc_loops::counted(alloc, &row)?;
+
+    let start = Instant::now(rt)?;
+    let found = arc_loops::share_and_drop(&shared, bench.rounds)?;
+    bench.report(rt, "Arc: share and drop", start, found)?;
+
+    let start = Instant::now(rt)?;
+    let found = arc_loops::of_and_drop(alloc, &mut row, bench.rounds)?;
+    bench.report(rt, "Arc: of and drop", start, found)?;
+
+    let start = Instant::now(rt)?;
+    let found = arc_loops::write(&mut shared, &mut row, bench.rounds);
+    bench.report(rt, "Arc: write in place", start, found)?;
     Ok(())
 }
 

@@ -1,6 +1,7 @@
 //! The loops that are timed. Each gives a number that depends on all of its rounds.
 
 ghost use Rattle.std.specs.Prelude.{◌≡◌, ◌≤◌, length};
+ghost use Rattle.tile_cow.specs.Tile.{IsTileLength};
 
 use no_memory::NoMemory;
 use std::alloc::{AllocError, Global};
@@ -12,6 +13,19 @@ pub fn share_and_drop(alloc: Global, tile: &Tile, rounds: u32) -> Result<u64, No
     for _ in 0..rounds {
         let other = tile.share(alloc)?;
         found = found.wrapping_add(other.bytes().len() as u64);
+    }
+    Ok(found)
+}
+
+/// Makes a tile of the bytes and drops it.
+pub fn of_and_drop(alloc: Global, row: &mut [u8], rounds: u32) -> Result<u64, NoMemory>
+    requires { IsTileLength (length row.old) }
+{
+    let mut found = 0u64;
+    for round in 0..rounds {
+        mark(row, round);
+        let tile = Tile::of(alloc, row)?;
+        found = found.wrapping_add(last(tile.bytes()));
     }
     Ok(found)
 }
@@ -87,13 +101,13 @@ pub fn copy_afresh(alloc: Global, row: &mut [u8], rounds: u32) -> Result<u64, Al
 }
 
 /// Makes the first byte tell the rounds apart.
-fn mark(row: &mut [u8], round: u32) {
+pub fn mark(row: &mut [u8], round: u32) {
     if let Some(first) = row.first_mut() {
         *first = (round % 256) as u8;
     }
 }
 
 /// The last byte.
-fn last(bytes: &[u8]) -> u64 {
+pub fn last(bytes: &[u8]) -> u64 {
     bytes.last().copied().map_or(0, u64::from)
 }

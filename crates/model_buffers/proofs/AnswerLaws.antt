@@ -1,21 +1,23 @@
--- What the edits answer, by their causes one after another.
-use Rattle.std.proofs.Common.{◌≡◌, ◌≢◌, ℕ, ◌<◌, ◌≤◌, Bool, true, false, not, ◌&&◌, cond, ℤ, List, length, Option, Some, None, Result, Ok, Err, refl, ap, arith, eqb, leb}
-use Rattle.std.specs.Prelude.{IsSome, MatchResult}
+-- Why an edit is refused, by its causes one after another.
+use Rattle.std.proofs.Common.{◌≡◌, ℕ, ◌<◌, ◌≤◌, Bool, true, false, not, ◌&&◌, List, length, Option, Some, None, Result, Ok, Err, refl, ap, arith, eqb, leb, cond}
+use Rattle.std.specs.Prelude.{IsSome, MatchOption}
 use Rattle.std.specs.Bool.{Decides}
 use Rattle.std.specs.List.{list_all}
 use Rattle.std.proofs.lemmas.Bool.Decides.{nat_tests, Decides-eqb}
 use Rattle.std.proofs.lemmas.List.Sums.{AllPass-from_list_all, list_all-from_AllPass}
 use Rattle.plane_rect.specs.declared.rect.RectRefused.{RectRefused}
-use Rattle.plane_rect.specs.Rectangle.{Rectangle, Inside, Includes, includes, is_empty, end_column, end_row, shifted}
+use Rattle.plane_rect.specs.Rectangle.{Rectangle, Inside, Includes, includes, is_empty, end_column, end_row}
 use Rattle.plane_rect.proofs.Differences.{reaches}
+use Rattle.pixel_formats.specs.Limits.{max_buffers}
 use Rattle.pixel_formats.specs.declared.format.Format.{Format}
 use Rattle.pixel_formats.specs.Format.{channels, max_sample, same_format}
 use Rattle.model_images.proofs.Tests.{Decides-same_format, both}
-use Rattle.model_images.specs.FromRaw.{byte_count, pixels_from_raw}
+use Rattle.model_graphs.specs.Shapes.{Shape}
+use Rattle.model_images.specs.FromRaw.{byte_count}
 use Rattle.model_buffers.specs.declared.refused.EditRefused.{EditRefused}
 use Rattle.model_buffers.specs.declared.refused.EditRefused.TheVariants.{UnknownBuffer, NameTaken, OutOfBounds, WrongSize, Formats, TooManyBuffers}
-use Rattle.model_buffers.specs.Table.{Table, View, find, root_image, image_of, most_buffers}
-use Rattle.model_buffers.specs.Edits.{Edited, if_known, if_free, if_placed, is_pixel, IsPixel, written, evenly, moved_samples, filled, put, copied}
+use Rattle.model_buffers.specs.BufferEdit.{Refusal, add_refused, copy_refused, fill_refused, if_known, if_moved, is_pixel, IsPixel, put_refused, unless}
+use Rattle.model_buffers.specs.Layout.{TableLayout, View, find}
 
 -- ---- tests
 
@@ -47,90 +49,62 @@ Decides-is_pixel format samples = (
 
 -- ---- one cause after another
 
-module _ (A : Table → Type 0) (R : EditRefused → Type 0) where
-  pub known : (o : Option View) (edit : View → Edited) → (o ≡ None → R UnknownBuffer)
-      → ((view : View) → o ≡ Some view → MatchResult (edit view) A R) → MatchResult (if_known o edit) A R
-  known None edit absent there = absent refl
-  known (Some view) edit absent there = there view refl
+module _ (A : Type 0) (R : EditRefused → Type 0) where
+  pub known : (o : Option View) (next : View → Refusal) → (o ≡ None → R UnknownBuffer)
+      → ((view : View) → o ≡ Some view → MatchOption (next view) A R) → MatchOption (if_known o next) A R
+  known None next absent there = absent refl
+  known (Some view) next absent there = there view refl
 
-  pub tested : (b : Bool) (P : Type 0) (edit : Edited) (refused : EditRefused) → Decides b P → (¬ P → R refused) → (P → MatchResult edit A R)
-      → MatchResult (cond b edit (Err refused)) A R
-  tested true P edit refused d fails holds = holds (d.0 refl)
-  tested false P edit refused d fails holds = fails (λ p. cc (d.1 p))
+  pub tested : (b : Bool) (P : Type 0) (refused : EditRefused) (next : Refusal) → Decides b P → (¬ P → R refused) → (P → MatchOption next A R)
+      → MatchOption (unless b refused next) A R
+  tested true P refused next d fails holds = holds (d.0 refl)
+  tested false P refused next d fails holds = fails (λ p. cc (d.1 p))
 
-  pub placed : (moved : Result Rectangle RectRefused) (edit : Rectangle → Edited) → ((e : RectRefused) → moved ≡ Err e → R OutOfBounds)
-      → ((r : Rectangle) → moved ≡ Ok r → MatchResult (edit r) A R) → MatchResult (if_placed moved edit) A R
-  placed (Ok r) edit fails holds = holds r refl
-  placed (Err e) edit fails holds = fails e refl
+  pub moved : (after : Result Rectangle RectRefused) (next : Rectangle → Refusal) → ((e : RectRefused) → after ≡ Err e → R OutOfBounds)
+      → ((r : Rectangle) → after ≡ Ok r → MatchOption (next r) A R) → MatchOption (if_moved after next) A R
+  moved (Ok r) next fails holds = holds r refl
+  moved (Err e) next fails holds = fails e refl
 
-  pub free : (table : Table) (name : List ℕ) (after : Table) → (IsSome (find table.buffers name) → R NameTaken)
-      → (find table.buffers name ≡ None → most_buffers ≤ length table.buffers → R TooManyBuffers)
-      → (find table.buffers name ≡ None → length table.buffers < most_buffers → A after) → MatchResult (if_free table name after) A R
-  free table name after taken full room = cases (find table.buffers name) refl
+  pub added : (layout : TableLayout) (name : List ℕ) → (IsSome (find layout.buffers name) → R NameTaken)
+      → (find layout.buffers name ≡ None → max_buffers ≤ length layout.buffers → R TooManyBuffers)
+      → (find layout.buffers name ≡ None → length layout.buffers < max_buffers → A) → MatchOption (add_refused layout name) A R
+  added layout name taken full room = cases (find layout.buffers name) refl
     where
-      counted : (b : Bool) → leb most_buffers (length table.buffers) ≡ b → find table.buffers name ≡ None
-          → MatchResult (cond b (Err TooManyBuffers) (Ok after)) A R
+      counted : (b : Bool) → leb max_buffers (length layout.buffers) ≡ b → find layout.buffers name ≡ None
+          → MatchOption (cond b (Some TooManyBuffers) None) A R
       counted true t none = full none (grind (arith, nat_tests))
       counted false t none = room none (grind (arith, nat_tests))
 
-      cases : (o : Option View) → find table.buffers name ≡ o → MatchResult (if_free table name after) A R
+      cases : (o : Option View) → find layout.buffers name ≡ o → MatchOption (add_refused layout name) A R
       cases (Some view) e = rw e (taken (rw e refl))
-      cases None e = rw e (counted (leb most_buffers (length table.buffers)) refl e)
+      cases None e = rw e (counted (leb max_buffers (length layout.buffers)) refl e)
 
   -- ---- edits of a rectangle
 
-  module _ (table : Table) (name : List ℕ) (rectangle : Rectangle) where
-    abbrev format_of_view : View → Format
-    format_of_view view = (root_image table view.root).format
+  pub filled : (shape : Shape) (r : Rectangle) (samples : List ℕ) → (¬ Includes shape.box r → R OutOfBounds)
+      → (Includes shape.box r → ¬ IsPixel shape.format samples → R Formats)
+      → (Includes shape.box r → IsPixel shape.format samples → A) → MatchOption (fill_refused shape r samples) A R
+  filled shape r samples outside no_pixel done =
+      tested (includes shape.box r) (Includes shape.box r) OutOfBounds _ (Decides-includes shape.box r) outside (λ inside.
+      tested (is_pixel shape.format samples) (IsPixel shape.format samples) Formats None (Decides-is_pixel shape.format samples) (no_pixel inside) (done inside))
 
-    pub fill : (samples : List ℕ) → (find table.buffers name ≡ None → R UnknownBuffer)
-        → ((view : View) → find table.buffers name ≡ Some view → ¬ Includes view.extent rectangle → R OutOfBounds)
-        → ((view : View) → find table.buffers name ≡ Some view → Includes view.extent rectangle → ¬ IsPixel (format_of_view view) samples → R Formats)
-        → ((view : View) → find table.buffers name ≡ Some view → Includes view.extent rectangle → IsPixel (format_of_view view) samples
-        → A (written table view.root rectangle (evenly samples)))
-        → MatchResult (filled table name rectangle samples) A R
-    fill samples absent outside no_pixel done =
-        known (find table.buffers name) _ absent (λ view e.
-        tested (includes view.extent rectangle) (Includes view.extent rectangle) _ OutOfBounds (Decides-includes view.extent rectangle) (outside view e) (λ inside.
-        tested (is_pixel (format_of_view view) samples) (IsPixel (format_of_view view) samples) _ Formats (Decides-is_pixel (format_of_view view) samples) (no_pixel view e inside) (done view e inside)))
+  pub put : (shape : Shape) (r : Rectangle) (bytes : List ℕ) → (¬ Includes shape.box r → R OutOfBounds)
+      → (Includes shape.box r → ¬ (length bytes ≡ byte_count r shape.format) → R (WrongSize (length bytes) (byte_count r shape.format)))
+      → (Includes shape.box r → length bytes ≡ byte_count r shape.format → A) → MatchOption (put_refused shape r bytes) A R
+  put shape r bytes outside other_size done =
+      let wanted = byte_count r shape.format in
+      tested (includes shape.box r) (Includes shape.box r) OutOfBounds _ (Decides-includes shape.box r) outside (λ inside.
+      tested (eqb (length bytes) wanted) (length bytes ≡ wanted) (WrongSize (length bytes) wanted) None (Decides-eqb (length bytes) wanted) (other_size inside) (done inside))
 
-    pub put_bytes : (bytes : List ℕ) → (find table.buffers name ≡ None → R UnknownBuffer)
-        → ((view : View) → find table.buffers name ≡ Some view → ¬ Includes view.extent rectangle → R OutOfBounds)
-        → ((view : View) → find table.buffers name ≡ Some view → Includes view.extent rectangle → length bytes ≢ byte_count rectangle (format_of_view view)
-        → R (WrongSize (length bytes) (byte_count rectangle (format_of_view view))))
-        → ((view : View) → find table.buffers name ≡ Some view → Includes view.extent rectangle → length bytes ≡ byte_count rectangle (format_of_view view)
-        → A (written table view.root rectangle (pixels_from_raw rectangle (format_of_view view) bytes)))
-        → MatchResult (put table name rectangle bytes) A R
-    put_bytes bytes absent outside other_size done =
-        known (find table.buffers name) _ absent (λ view e.
-        tested (includes view.extent rectangle) (Includes view.extent rectangle) _ OutOfBounds (Decides-includes view.extent rectangle) (outside view e) (λ inside.
-        tested (eqb (length bytes) (byte_count rectangle (format_of_view view))) (length bytes ≡ byte_count rectangle (format_of_view view)) _
-        (WrongSize (length bytes) (byte_count rectangle (format_of_view view))) (Decides-eqb (length bytes) (byte_count rectangle (format_of_view view))) (other_size view e inside) (done view e inside)))
-
-  module _ (table : Table) (from to : List ℕ) (rectangle : Rectangle) (dx dy : ℤ) where
-    -- the buffers of a copy are there, and the rectangle is in the first
-    abbrev Begun : View → View → Type 0
-    Begun source target =
-        (find table.buffers from ≡ Some source) × (find table.buffers to ≡ Some target) × Includes source.extent rectangle
-
-    abbrev AreEqual : View → View → Type 0
-    AreEqual source target = (root_image table source.root).format ≡ (root_image table target.root).format
-
-    pub copy : (find table.buffers from ≡ None → R UnknownBuffer)
-        → ((source : View) → find table.buffers from ≡ Some source → find table.buffers to ≡ None → R UnknownBuffer)
-        → ((source target : View) → find table.buffers from ≡ Some source → find table.buffers to ≡ Some target → ¬ Includes source.extent rectangle → R OutOfBounds)
-        → ((source target : View) → Begun source target → (e : RectRefused) → shifted dx dy rectangle ≡ Err e → R OutOfBounds)
-        → ((source target : View) → Begun source target → (moved : Rectangle) → shifted dx dy rectangle ≡ Ok moved → ¬ Includes target.extent moved → R OutOfBounds)
-        → ((source target : View) → Begun source target → (moved : Rectangle) → shifted dx dy rectangle ≡ Ok moved → Includes target.extent moved → ¬ AreEqual source target → R Formats)
-        → ((source target : View) → Begun source target → (moved : Rectangle) → shifted dx dy rectangle ≡ Ok moved → Includes target.extent moved → AreEqual source target
-        → A (written table target.root moved (moved_samples (image_of table from) rectangle moved)))
-        → MatchResult (copied table from to rectangle dx dy) A R
-    copy no_source no_target outside unplaced past unlike done =
-        known (find table.buffers from) _ no_source (λ source s.
-        known (find table.buffers to) _ (no_target source s) (λ target t.
-        tested (includes source.extent rectangle) (Includes source.extent rectangle) _ OutOfBounds (Decides-includes source.extent rectangle) (outside source target s t) (λ inside.
-        placed (shifted dx dy rectangle) _ (unplaced source target (s, t, inside)) (λ moved m.
-        tested (includes target.extent moved) (Includes target.extent moved) _ OutOfBounds (Decides-includes target.extent moved) (past source target (s, t, inside) moved m) (λ there.
-        tested (same_format (root_image table source.root).format (root_image table target.root).format) (AreEqual source target) _ Formats
-        (Decides-same_format (root_image table source.root).format (root_image table target.root).format)
-        (unlike source target (s, t, inside) moved m there) (done source target (s, t, inside) moved m there))))))
+  pub copied : (source target : Shape) (r : Rectangle) (after : Result Rectangle RectRefused) → (¬ Includes source.box r → R OutOfBounds)
+      → (Includes source.box r → (e : RectRefused) → after ≡ Err e → R OutOfBounds)
+      → (Includes source.box r → (there : Rectangle) → after ≡ Ok there → ¬ Includes target.box there → R OutOfBounds)
+      → (Includes source.box r → (there : Rectangle) → after ≡ Ok there → Includes target.box there → ¬ (source.format ≡ target.format) → R Formats)
+      → (Includes source.box r → (there : Rectangle) → after ≡ Ok there → Includes target.box there → source.format ≡ target.format → A)
+      → MatchOption (copy_refused source target r after) A R
+  copied source target r after outside unmoved past unlike done =
+      tested (includes source.box r) (Includes source.box r) OutOfBounds _ (Decides-includes source.box r) outside (λ inside.
+      moved after _ (unmoved inside) (λ there e.
+      tested (includes target.box there) (Includes target.box there) OutOfBounds _ (Decides-includes target.box there) (past inside there e) (λ room.
+      tested (same_format source.format target.format) (source.format ≡ target.format) Formats None
+      (Decides-same_format source.format target.format) (unlike inside there e room) (done inside there e room))))

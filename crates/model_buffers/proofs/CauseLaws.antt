@@ -1,96 +1,83 @@
 -- Each answer of an edit has its cause.
-use Rattle.std.proofs.Common.{◌≡◌, ℕ, ℤ, List, Some, Ok, Err, inl, inr, refl, sym, ◌∙◌, subst}
-use Rattle.std.specs.Prelude.{MatchResult}
-use Rattle.plane_rect.specs.declared.rect.RectRefused.{RectRefused}
-use Rattle.plane_rect.specs.Rectangle.{Rectangle, Includes, meet, shifted}
-use Rattle.pixel_formats.specs.declared.format.Format.{Format}
-use Rattle.model_images.specs.Paint.{blank}
-use Rattle.model_buffers.specs.Table.{Table, View, find, root_image, image_of}
-use Rattle.model_buffers.specs.Edits.{created, sub_buffer, duplicated, filled, put, copied, if_known, if_free, with_root, with_view}
-use Rattle.model_buffers.specs.Causes.{IsKnown, IsAddable, AddRefused, AddFromRefused, HasPositions, LacksPositions, IsFillable, FillRefused, IsPuttable, PutRefused, HasMoved, HasBoth, IsCopyable, CopyRefused}
-use Rattle.model_buffers.proofs.AnswerLaws.{known, free, fill, put_bytes, copy}
+use Rattle.std.proofs.Common.{◌≡◌, ℕ, ℤ, List, Some, Ok, inl, inr, refl, sym, subst}
+use Rattle.std.specs.Prelude.{MatchOption}
+use Rattle.plane_rect.specs.Rectangle.{Rectangle, Includes, shifted}
+use Rattle.model_graphs.specs.Shapes.{Shape}
+use Rattle.model_buffers.specs.declared.refused.EditRefused.{EditRefused}
+use Rattle.model_buffers.specs.declared.edit.BufferEdit.{BufferEdit}
+use Rattle.model_buffers.specs.declared.edit.BufferEdit.TheVariants.{Create, Sub, Duplicate, Fill, Put, Copy}
+use Rattle.model_buffers.specs.BufferEdit.{add_refused, copy_refused, edit_refused, fill_refused, if_known, put_refused}
+use Rattle.model_buffers.specs.Layout.{TableLayout, View, find, buffer_shape, view_shape}
+use Rattle.model_buffers.specs.Causes.{IsKnown, IsAddable, AddRefused, AddFromRefused, IsFillable, FillRefused, IsPuttable, PutRefused, HasMoved, HasBoth, IsCopyable, CopyRefused, IsCarriedOut, IsRefused}
+use Rattle.model_buffers.proofs.AnswerLaws.{known, added, filled, put, copied}
 
--- what is seen through the view of a buffer
-pub format-seen : (table : Table) (name : List ℕ) (view : View) → find table.buffers name ≡ Some view → (image_of table name).format ≡ (root_image table view.root).format
-format-seen table name view e = rw e refl
+module _ (layout : TableLayout) where
+  pub known-seen : (name : List ℕ) (view : View) → find layout.buffers name ≡ Some view → IsKnown layout name
+  known-seen name view e = rw e refl
 
-pub box-seen : (table : Table) (name : List ℕ) (view : View) → find table.buffers name ≡ Some view → (image_of table name).box ≡ view.extent
-box-seen table name view e = rw e refl
+  -- what is seen through the view of a buffer is the buffer
+  pub shape-seen : (name : List ℕ) (view : View) → find layout.buffers name ≡ Some view → view_shape layout view ≡ buffer_shape layout name
+  shape-seen name view e = rw e refl
 
-pub known-seen : (table : Table) (name : List ℕ) (view : View) → find table.buffers name ≡ Some view → IsKnown table name
-known-seen table name view e = rw e refl
+  create-causes : (name : List ℕ) → MatchOption (add_refused layout name) (IsAddable layout name) (AddRefused layout name)
+  create-causes name =
+      added (IsAddable layout name) (AddRefused layout name) layout name (λ taken. taken) (λ none full. (none, full)) (λ none room. (none, room))
 
-module _ (table : Table) (name : List ℕ) (r : Rectangle) (view : View) (e : find table.buffers name ≡ Some view) where
-  pub HasPositions-seen : Includes view.extent r → HasPositions table name r
-  HasPositions-seen inside = (known-seen table name view e, rw (box-seen table name view e) inside)
+  -- a new name, where another buffer must be there
+  from-causes : (name from : List ℕ)
+      → MatchOption (if_known (find layout.buffers from) (λ view. add_refused layout name)) (IsKnown layout from × IsAddable layout name) (AddFromRefused layout name from)
+  from-causes name from =
+      known (IsKnown layout from × IsAddable layout name) (AddFromRefused layout name from) (find layout.buffers from) _ (λ none. none) (λ view e.
+      let there = known-seen from view e in
+      added (IsKnown layout from × IsAddable layout name) (AddFromRefused layout name from) layout name
+      (λ taken. (there, taken)) (λ none full. (there, (none, full))) (λ none room. (there, (none, room))))
 
-  pub LacksPositions-seen : ¬ Includes view.extent r → LacksPositions table name r
-  LacksPositions-seen out = (known-seen table name view e, rw (box-seen table name view e) out)
+  fill-causes : (name : List ℕ) (r : Rectangle) (samples : List ℕ)
+      → MatchOption (edit_refused layout (Fill name r samples)) (IsFillable layout name r samples) (FillRefused layout name r samples)
+  fill-causes name r samples =
+      known (IsFillable layout name r samples) (FillRefused layout name r samples) (find layout.buffers name) _ (λ none. none) (λ view e.
+      let there = known-seen name view e in
+      subst (λ (shape : Shape). MatchOption (fill_refused shape r samples) (IsFillable layout name r samples) (FillRefused layout name r samples)) (sym (shape-seen name view e))
+      (filled (IsFillable layout name r samples) (FillRefused layout name r samples) (buffer_shape layout name) r samples
+      (λ out. (there, out)) (λ inside other. ((there, inside), other)) (λ inside pixel. ((there, inside), pixel))))
 
-pub create-causes : (table : Table) (name : List ℕ) (format : Format) (extent : Rectangle)
-    → MatchResult (created table name format extent) (λ _. IsAddable table name) (AddRefused table name)
-create-causes table name format extent =
-    free (λ _. IsAddable table name) (AddRefused table name) table name (with_root table name (blank extent format) extent)
-    (λ taken. taken) (λ none full. (none, full)) (λ none room. (none, room))
+  put-causes : (name : List ℕ) (r : Rectangle) (bytes : List ℕ)
+      → MatchOption (edit_refused layout (Put name r bytes)) (IsPuttable layout name r bytes) (PutRefused layout name r bytes)
+  put-causes name r bytes =
+      known (IsPuttable layout name r bytes) (PutRefused layout name r bytes) (find layout.buffers name) _ (λ none. none) (λ view e.
+      let there = known-seen name view e in
+      subst (λ (shape : Shape). MatchOption (put_refused shape r bytes) (IsPuttable layout name r bytes) (PutRefused layout name r bytes)) (sym (shape-seen name view e))
+      (put (IsPuttable layout name r bytes) (PutRefused layout name r bytes) (buffer_shape layout name) r bytes
+      (λ out. (there, out)) (λ inside other. ((there, inside), other, refl, refl)) (λ inside same. ((there, inside), same))))
 
--- a new name, where another buffer must be there
-from-causes : (table : Table) (name from : List ℕ) (after : View → Table)
-    → MatchResult (if_known (find table.buffers from) (λ view. if_free table name (after view))) (λ _. IsKnown table from × IsAddable table name) (AddFromRefused table name from)
-from-causes table name from after =
-    known (λ _. IsKnown table from × IsAddable table name) (AddFromRefused table name from) (find table.buffers from) _ (λ none. none) (λ view e.
-    let there = known-seen table from view e in
-    free (λ _. IsKnown table from × IsAddable table name) (AddFromRefused table name from) table name (after view)
-    (λ taken. (there, taken)) (λ none full. (there, (none, full))) (λ none room. (there, (none, room))))
+  module _ (from to : List ℕ) (r : Rectangle) (dx dy : ℤ) where
+    abbrev Done : Type 0
+    Done = IsCopyable layout from to r dx dy
 
-pub sub_buffer-causes : (table : Table) (name parent : List ℕ) (r : Rectangle)
-    → MatchResult (sub_buffer table name parent r) (λ _. IsKnown table parent × IsAddable table name) (AddFromRefused table name parent)
-sub_buffer-causes table name parent r = from-causes table name parent (λ view. with_view table name (record { root = view.root; extent = meet r view.extent }))
+    abbrev Refused : EditRefused → Type 0
+    Refused = CopyRefused layout from to r dx dy
 
-pub duplicate-causes : (table : Table) (name from : List ℕ)
-    → MatchResult (duplicated table name from) (λ _. IsKnown table from × IsAddable table name) (AddFromRefused table name from)
-duplicate-causes table name from = from-causes table name from (λ view. with_root table name (root_image table view.root) view.extent)
+    copy-causes : MatchOption (edit_refused layout (Copy from to r dx dy)) Done Refused
+    copy-causes =
+        known Done Refused (find layout.buffers from) _ (λ none. inl none) (λ source s.
+        known Done Refused (find layout.buffers to) _ (λ none. inr none) (λ target t.
+        let there = known-seen from source s in
+        let here = known-seen to target t in
+        let both : Includes (buffer_shape layout from).box r → (m : Rectangle) → shifted dx dy r ≡ Ok m → Includes (buffer_shape layout to).box m → HasBoth layout from to r dx dy =
+        λ inside m e room. ((there, inside), here, subst (HasMoved layout to) (sym e) room) in
+        subst (λ (shape : Shape). MatchOption (copy_refused shape (view_shape layout target) r (shifted dx dy r)) Done Refused) (sym (shape-seen from source s))
+        (subst (λ (shape : Shape). MatchOption (copy_refused (buffer_shape layout from) shape r (shifted dx dy r)) Done Refused) (sym (shape-seen to target t))
+        (copied Done Refused (buffer_shape layout from) (buffer_shape layout to) r (shifted dx dy r)
+        (λ out. (there, here, λ has. out has.0.1))
+        (λ inside refused e. (there, here, λ has. subst (HasMoved layout to) e has.2))
+        (λ inside m e out. (there, here, λ has. out (subst (HasMoved layout to) e has.2)))
+        (λ inside m e room unlike. (both inside m e room, unlike))
+        (λ inside m e room same. (both inside m e room, same))))))
 
-pub fill-causes : (table : Table) (name : List ℕ) (r : Rectangle) (samples : List ℕ)
-    → MatchResult (filled table name r samples) (λ _. IsFillable table name r samples) (FillRefused table name r samples)
-fill-causes table name r samples =
-    fill (λ _. IsFillable table name r samples) (FillRefused table name r samples) table name r samples
-    (λ none. none)
-    (λ view e. LacksPositions-seen table name r view e)
-    (λ view e inside other. (HasPositions-seen table name r view e inside, rw (format-seen table name view e) other))
-    (λ view e inside pixel. (HasPositions-seen table name r view e inside, rw (format-seen table name view e) pixel))
-
-pub put-causes : (table : Table) (name : List ℕ) (r : Rectangle) (bytes : List ℕ)
-    → MatchResult (put table name r bytes) (λ _. IsPuttable table name r bytes) (PutRefused table name r bytes)
-put-causes table name r bytes =
-    put_bytes (λ _. IsPuttable table name r bytes) (PutRefused table name r bytes) table name r bytes
-    (λ none. none)
-    (λ view e. LacksPositions-seen table name r view e)
-    (λ view e inside other. (HasPositions-seen table name r view e inside, rw (format-seen table name view e) other, refl, rw (format-seen table name view e) refl))
-    (λ view e inside same. (HasPositions-seen table name r view e inside, rw (format-seen table name view e) same))
-
-pub copy-causes : (table : Table) (from to : List ℕ) (r : Rectangle) (dx dy : ℤ)
-    → MatchResult (copied table from to r dx dy) (λ _. IsCopyable table from to r dx dy) (CopyRefused table from to r dx dy)
-copy-causes table from to r dx dy =
-    copy (λ _. IsCopyable table from to r dx dy) (CopyRefused table from to r dx dy) table from to r dx dy
-    (λ none. inl none)
-    (λ source s none. inr none)
-    (λ source target s t out. (known-seen table from source s, known-seen table to target t, λ both. (LacksPositions-seen table from r source s out).1 both.0.1))
-    (λ source target b refused m. (known-seen table from source b.0, known-seen table to target b.1, λ both. no_move refused m both))
-    (λ source target b moved m out. (
-      known-seen table from source b.0,
-      known-seen table to target b.1,
-      λ both. (LacksPositions-seen table to moved target b.1 out).1 (subst (HasMoved table to) m both.2),
-    ))
-    (λ source target b moved m there unlike. (both source target b moved m there, λ same. unlike (sym (format-seen table from source b.0) ∙ same ∙ format-seen table to target b.1)))
-    (λ source target b moved m there equal. (both source target b moved m there, format-seen table from source b.0 ∙ equal ∙ sym (format-seen table to target b.1)))
-  where
-    no_move : (refused : RectRefused) → shifted dx dy r ≡ Err refused → HasBoth table from to r dx dy → ⊥
-    no_move refused m both = subst (HasMoved table to) m both.2
-
-    both : (source target : View) → (find table.buffers from ≡ Some source) × (find table.buffers to ≡ Some target) × Includes source.extent r
-        → (moved : Rectangle) → shifted dx dy r ≡ Ok moved → Includes target.extent moved → HasBoth table from to r dx dy
-    both source target b moved m there = (
-      HasPositions-seen table from r source b.0 b.2,
-      known-seen table to target b.1,
-      subst (HasMoved table to) (sym m) (HasPositions-seen table to moved target b.1 there).1,
-    )
+  pub causes : (edit : BufferEdit) → MatchOption (edit_refused layout edit) (IsCarriedOut layout edit) (IsRefused layout edit)
+  causes (Create name format extent) = create-causes name
+  causes (Sub name parent r) = from-causes name parent
+  causes (Duplicate name from) = from-causes name from
+  causes (Fill name r samples) = fill-causes name r samples
+  causes (Put name r bytes) = put-causes name r bytes
+  causes (Copy from to r dx dy) = copy-causes from to r dx dy

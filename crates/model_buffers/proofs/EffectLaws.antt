@@ -1,159 +1,183 @@
 -- What the edits give.
-use Rattle.std.proofs.Common.{◌≡◌, ℕ, ◌<◌, ℤ, List, length, Some, None, Ok, refl, sym, ◌∙◌, subst}
-use Rattle.std.specs.Prelude.{IsSome, IfOk}
-use Rattle.plane_rect.specs.Rectangle.{Rectangle, Includes, IsRectangle, InLimits, meet, shifted}
-use Rattle.plane_rect.proofs.Rectangles.{Inside-meet}
-use Rattle.plane_rect.proofs.RectangleLaws.{IsRectangle-meet}
+use Rattle.std.proofs.Common.{◌≡◌, ℕ, ℤ, List, Option, Some, None, Result, Ok, Err, refl, sym, ◌∙◌, subst}
+use Rattle.std.specs.Prelude.{IfOk, IfSome, MatchOption}
+use Rattle.plane_rect.specs.declared.rect.RectRefused.{RectRefused}
+use Rattle.plane_rect.specs.Rectangle.{Rectangle, Includes, IsRectangle, meet, shifted}
 use Rattle.pixel_formats.specs.declared.format.Format.{Format}
-use Rattle.model_images.specs.Image.{Image}
-use Rattle.model_images.specs.Paint.{blank}
+use Rattle.model_images.specs.Image.{Image, IsImage}
+use Rattle.model_images.specs.Paint.{blank, cut}
+use Rattle.model_graphs.specs.Shapes.{Shape}
 use Rattle.model_images.specs.FromRaw.{pixels_from_raw}
 use Rattle.model_images.proofs.Laws.{IsImage-image_from_fn}
-use Rattle.model_buffers.specs.Table.{Table, View, find, root_image, cut, image_of, root_of, IsUnchanged, IsRooted, IsTable, most_buffers}
-use Rattle.model_buffers.specs.Edits.{created, sub_buffer, duplicated, filled, put, copied, with_root, with_view, evenly, moved_samples}
+use Rattle.model_buffers.specs.declared.edit.BufferEdit.{BufferEdit}
+use Rattle.model_buffers.specs.declared.edit.BufferEdit.TheVariants.{Create, Sub, Duplicate, Fill, Put, Copy}
+use Rattle.model_buffers.specs.BufferEdit.{IsProperEdit, Refusal, edit_refused, part_of}
+use Rattle.model_buffers.specs.Causes.{HasMoved, IsCarriedOut, IsKnown, IsRefused}
+use Rattle.model_buffers.specs.Edits.{Edited, by_move, by_view, edited_table, evenly, moved_samples, table_with, unless_refused, with_root, with_view, written}
 use Rattle.model_buffers.specs.Effects.{IsAdded, HasOwnRoot, IsWritten}
-use Rattle.model_buffers.proofs.TableLaws.{by_option, of_some, IsTable-written, IsWritten-written}
-use Rattle.model_buffers.proofs.AddingLaws.{IsAdded-with_view, root-with_view, IsTable-with_view, IsAdded-with_root, HasOwnRoot-with_root, IsTable-with_root}
-use Rattle.model_buffers.proofs.AnswerLaws.{known, free, fill, put_bytes, copy}
-use Rattle.model_buffers.proofs.CauseLaws.{format-seen, box-seen}
-use Rattle.model_buffers.proofs.CutLaws.{cut-cut, cut-image_from_fn}
+use Rattle.model_buffers.specs.Layout.{IsLayout, View, buffer_shape, find}
+use Rattle.model_buffers.specs.Table.{Table, image_of, layout_of, root_image, root_of, IsTable}
+use Rattle.model_buffers.proofs.AddingLaws.{IsAdded-with_view, root-with_view, IsAdded-with_root, HasOwnRoot-with_root, root_there, whole-with_root}
+use Rattle.model_buffers.proofs.CauseLaws.{causes}
+use Rattle.model_images.proofs.Agreeing.{cut-cut}
+use Rattle.model_images.proofs.Painting.{cut-image_from_fn}
+use Rattle.model_buffers.proofs.LayoutLaws.{by_value, edit-keeps, meet-part, of_some, rooted_view}
+use Rattle.model_buffers.proofs.ShapeLaws.{buffer_shape-is, layout-with}
+use Rattle.model_buffers.proofs.TableLaws.{IsWritten-written, whole-written}
 
-abbrev pub Any : {X : Type 0} → X → Type 0
-Any x = Unit {0}
+-- what holds of the table after an edit that is carried out holds where the edit isn't refused
+pub if_done : (P : Table → Type 0) (table : Table) (edit : BufferEdit) → (IsCarriedOut (layout_of table) edit → P (table_with table edit)) → IfOk (edited_table table edit) P
+if_done P table edit done = cases (edit_refused (layout_of table) edit) (causes (layout_of table) edit)
+  where
+    cases : (r : Refusal) → MatchOption r (IsCarriedOut (layout_of table) edit) (IsRefused (layout_of table) edit) → IfOk (unless_refused r (table_with table edit)) P
+    cases None carried = done carried
+    cases (Some refused) cause = tt
 
-meet-part : (r extent : Rectangle) → Includes extent (meet r extent)
-meet-part r extent u v h = ((Inside-meet u v r extent).0 h).1
+-- the view of a buffer that is known
+pub with_found : (P : Table → Type 0) (table : Table) (name : List ℕ) (after : View → Table) → IsKnown (layout_of table) name
+    → ((view : View) → find table.buffers name ≡ Some view → P (after view)) → P (by_view table (find table.buffers name) after)
+with_found P table name after there done =
+    by_value _ (find table.buffers name) there (λ view e. subst (λ (o : Option View). P (by_view table o after)) (sym e) (done view e))
+
+-- the rectangle after a move that is one
+with_moved : (P : Table → Type 0) (table : Table) (dx dy : ℤ) (r moved : Rectangle) (after : Rectangle → Table) → shifted dx dy r ≡ Ok moved
+    → P (after moved) → P (by_move table (shifted dx dy r) after)
+with_moved P table dx dy r moved after e done = subst (λ m. P (by_move table m after)) (sym e) done
 
 module _ (table : Table) (is : IsTable table) where
-  pub rooted_view : (name : List ℕ) (view : View) → find table.buffers name ≡ Some view → IsRooted table view
-  rooted_view name view e = of_some (find table.buffers name) (IsRooted table) view e (is.rooted name)
+  pub whole_root : (root : List ℕ) (image : Image) → find table.roots root ≡ Some image → IsImage (root_image table root)
+  whole_root root image e = rw e (of_some (find table.roots root) IsImage image e (is.whole root))
 
-  pub kept_root : (root : List ℕ) → IsSome (find table.roots root) → IsUnchanged (root_image table root)
-  kept_root root some = by_option _ (find table.roots root)
-      (λ (image : Image) e. rw e (of_some (find table.roots root) IsUnchanged image e (is.kept root)))
-      (λ none. absurd (cc))
+  -- ---- a table after an edit
+
+  abbrev Whole : Table → Type 0
+  Whole after = (root : List ℕ) → IfSome (find after.roots root) IsImage
+
+  rooted_image : (name : List ℕ) (view : View) → find table.buffers name ≡ Some view → IsImage (root_image table view.root)
+  rooted_image name view e =
+      by_value _ (find table.roots view.root) (root_there table view.root (rooted_view (layout_of table) is.layout name view e).root) (whole_root view.root)
+
+  move-whole : (moved : Result Rectangle RectRefused) (after : Rectangle → Table) → ((r : Rectangle) → Whole (after r)) → Whole (by_move table moved after)
+  move-whole (Ok r) after whole = whole r
+  move-whole (Err refused) after whole = is.whole
+
+  whole-table : (edit : BufferEdit) → IsCarriedOut (layout_of table) edit → Whole (table_with table edit)
+  whole-table (Create name format extent) done =
+      whole-with_root table is name done.0 (blank extent format) extent (IsImage-image_from_fn extent format (λ u v c. 0))
+  whole-table (Sub name parent r) done = with_found Whole table parent _ done.0 (λ view e. is.whole)
+  whole-table (Duplicate name from) done =
+      with_found Whole table from _ done.0 (λ view e.
+      whole-with_root table is name done.1.0 (root_image table view.root) view.extent (rooted_image from view e))
+  whole-table (Fill name r samples) done =
+      with_found Whole table name _ done.0.0 (λ view e. whole-written table view.root r (evenly samples) is)
+  whole-table (Put name r bytes) done =
+      with_found Whole table name _ done.0.0 (λ view e. whole-written table view.root r (pixels_from_raw r (root_image table view.root).format bytes) is)
+  whole-table (Copy from to r dx dy) done =
+      with_found Whole table to _ done.0.1 (λ view e.
+      move-whole (shifted dx dy r) _ (λ moved. whole-written table view.root moved (moved_samples (image_of table from) r moved) is))
+
+  pub edited-table : (edit : BufferEdit) → IsProperEdit edit → IfOk (edited_table table edit) IsTable
+  edited-table edit proper =
+      if_done IsTable table edit (λ done. record {
+        layout = subst IsLayout (sym (layout-with table edit)) (edit-keeps (layout_of table) is.layout edit proper done);
+        whole = whole-table edit done;
+      })
 
   -- ---- what is added
 
-  module _ (P : Table → Type 0) (name : List ℕ) where
-    pub if_created : (format : Format) (extent : Rectangle)
-        → (find table.buffers name ≡ None → length table.buffers < most_buffers → P (with_root table name (blank extent format) extent)) → IfOk (created table name format extent) P
-    if_created format extent done = free P Any table name (with_root table name (blank extent format) extent) (λ _. tt) (λ _ _. tt) done
-
-    pub if_sub_buffer : (parent : List ℕ) (r : Rectangle)
-        → ((view : View) → find table.buffers parent ≡ Some view → find table.buffers name ≡ None → length table.buffers < most_buffers
-        → P (with_view table name (record { root = view.root; extent = meet r view.extent }))) → IfOk (sub_buffer table name parent r) P
-    if_sub_buffer parent r done =
-        known P Any (find table.buffers parent) _ (λ _. tt) (λ view e.
-        free P Any table name (with_view table name (record { root = view.root; extent = meet r view.extent })) (λ _. tt) (λ _ _. tt) (done view e))
-
-    pub if_duplicated : (from : List ℕ)
-        → ((view : View) → find table.buffers from ≡ Some view → find table.buffers name ≡ None → length table.buffers < most_buffers
-        → P (with_root table name (root_image table view.root) view.extent)) → IfOk (duplicated table name from) P
-    if_duplicated from done =
-        known P Any (find table.buffers from) _ (λ _. tt) (λ view e.
-        free P Any table name (with_root table name (root_image table view.root) view.extent) (λ _. tt) (λ _ _. tt) (done view e))
-
-  pub created-table : (name : List ℕ) (format : Format) (extent : Rectangle) → IsRectangle extent → InLimits extent → IfOk (created table name format extent) IsTable
-  created-table name format extent rectangle limits =
-      if_created IsTable name format extent (λ none room.
-      IsTable-with_root table is name none (blank extent format) extent room
-      (record { whole = IsImage-image_from_fn extent format (λ u v c. 0); box = rectangle; limits = limits })
-      (λ u v h. h) rectangle)
-
-  pub created-image : (name : List ℕ) (format : Format) (extent : Rectangle) → IfOk (created table name format extent) (IsAdded table name (blank extent format))
+  pub created-image : (name : List ℕ) (format : Format) (extent : Rectangle) → IfOk (edited_table table (Create name format extent)) (IsAdded table name (blank extent format))
   created-image name format extent =
-      if_created (IsAdded table name (blank extent format)) name format extent (λ none room.
+      if_done (IsAdded table name (blank extent format)) table (Create name format extent) (λ done.
       subst (λ (image : Image). IsAdded table name image (with_root table name (blank extent format) extent)) (cut-image_from_fn extent format (λ u v c. 0))
-      (IsAdded-with_root table is name none (blank extent format) extent))
+      (IsAdded-with_root table is name done.0 (blank extent format) extent))
 
-  pub created-root : (name : List ℕ) (format : Format) (extent : Rectangle) → IfOk (created table name format extent) (λ after. HasOwnRoot after name)
+  pub created-root : (name : List ℕ) (format : Format) (extent : Rectangle) → IfOk (edited_table table (Create name format extent)) (λ after. HasOwnRoot after name)
   created-root name format extent =
-      if_created (λ after. HasOwnRoot after name) name format extent (λ none room. HasOwnRoot-with_root table is name none (blank extent format) extent)
+      if_done (λ after. HasOwnRoot after name) table (Create name format extent) (λ done. HasOwnRoot-with_root table is name done.0 (blank extent format) extent)
 
-  pub part-rooted : (view : View) (r : Rectangle) → IsRooted table view → IsRectangle r → IsRooted table (record { root = view.root; extent = meet r view.extent })
-  part-rooted view r rooted rectangle = record {
-    root = rooted.root;
-    inside = λ u v h. rooted.inside u v (meet-part r view.extent u v h);
-    extent = IsRectangle-meet r view.extent rectangle rooted.extent;
-  }
-
-  pub sub_buffer-table : (name parent : List ℕ) (r : Rectangle) → IsRectangle r → IfOk (sub_buffer table name parent r) IsTable
-  sub_buffer-table name parent r rectangle =
-      if_sub_buffer IsTable name parent r (λ view e none room.
-      IsTable-with_view table is name none (record { root = view.root; extent = meet r view.extent }) (part-rooted view r (rooted_view parent view e) rectangle) room)
+  -- what holds of a table with a sub-buffer, by its parent's view
+  pub if_sub_buffer : (P : Table → Type 0) (name parent : List ℕ) (r : Rectangle)
+      → ((view : View) → find table.buffers parent ≡ Some view → find table.buffers name ≡ None → P (with_view table name (part_of view r)))
+      → IfOk (edited_table table (Sub name parent r)) P
+  if_sub_buffer P name parent r each = if_done P table (Sub name parent r) (λ done. with_found P table parent _ done.0 (λ view e. each view e done.1.0))
 
   part-seen : (parent : List ℕ) (view : View) (r : Rectangle) → find table.buffers parent ≡ Some view
       → cut (root_image table view.root) (meet r view.extent) ≡ cut (image_of table parent) (meet r (image_of table parent).box)
   part-seen parent view r e = rw e (sym (cut-cut (root_image table view.root) view.extent (meet r view.extent) (meet-part r view.extent)))
 
   pub sub_buffer-image : (name parent : List ℕ) (r : Rectangle) → IsRectangle r
-      → IfOk (sub_buffer table name parent r) (IsAdded table name (cut (image_of table parent) (meet r (image_of table parent).box)))
+      → IfOk (edited_table table (Sub name parent r)) (IsAdded table name (cut (image_of table parent) (meet r (image_of table parent).box)))
   sub_buffer-image name parent r rectangle =
-      if_sub_buffer (IsAdded table name (cut (image_of table parent) (meet r (image_of table parent).box))) name parent r (λ view e none room.
-      let part : View = record { root = view.root; extent = meet r view.extent } in
-      subst (λ (image : Image). IsAdded table name image (with_view table name part)) (part-seen parent view r e)
-      (IsAdded-with_view table is name none part (part-rooted view r (rooted_view parent view e) rectangle)))
+      if_sub_buffer (IsAdded table name (cut (image_of table parent) (meet r (image_of table parent).box))) name parent r (λ view e none.
+      subst (λ (image : Image). IsAdded table name image (with_view table name (part_of view r))) (part-seen parent view r e)
+      (IsAdded-with_view table is name none (part_of view r)))
 
-  pub sub_buffer-root : (name parent : List ℕ) (r : Rectangle) → IsRectangle r → IfOk (sub_buffer table name parent r) (λ after. root_of after name ≡ root_of table parent)
+  pub sub_buffer-root : (name parent : List ℕ) (r : Rectangle) → IsRectangle r → IfOk (edited_table table (Sub name parent r)) (λ after. root_of after name ≡ root_of table parent)
   sub_buffer-root name parent r rectangle =
-      if_sub_buffer (λ after. root_of after name ≡ root_of table parent) name parent r (λ view e none room.
-      let part : View = record { root = view.root; extent = meet r view.extent } in
-      root-with_view table is name none part (part-rooted view r (rooted_view parent view e) rectangle) ∙ rw e refl)
+      if_sub_buffer (λ after. root_of after name ≡ root_of table parent) name parent r (λ view e none.
+      root-with_view table is name none (part_of view r) ∙ rw e refl)
 
-  pub duplicated-table : (name from : List ℕ) → IfOk (duplicated table name from) IsTable
-  duplicated-table name from =
-      if_duplicated IsTable name from (λ view e none room.
-      let rooted = rooted_view from view e in
-      IsTable-with_root table is name none (root_image table view.root) view.extent room (kept_root view.root rooted.root) rooted.inside rooted.extent)
+  -- what holds of a table with a duplicate, by the view of the other
+  pub if_duplicated : (P : Table → Type 0) (name from : List ℕ)
+      → ((view : View) → find table.buffers from ≡ Some view → find table.buffers name ≡ None → P (with_root table name (root_image table view.root) view.extent))
+      → IfOk (edited_table table (Duplicate name from)) P
+  if_duplicated P name from each = if_done P table (Duplicate name from) (λ done. with_found P table from _ done.0 (λ view e. each view e done.1.0))
 
-  pub duplicated-image : (name from : List ℕ) → IfOk (duplicated table name from) (IsAdded table name (image_of table from))
+  pub duplicated-image : (name from : List ℕ) → IfOk (edited_table table (Duplicate name from)) (IsAdded table name (image_of table from))
   duplicated-image name from =
-      if_duplicated (IsAdded table name (image_of table from)) name from (λ view e none room.
+      if_duplicated (IsAdded table name (image_of table from)) name from (λ view e none.
       subst (λ (image : Image). IsAdded table name image (with_root table name (root_image table view.root) view.extent))
       (let there : cut (root_image table view.root) view.extent ≡ image_of table from = rw e refl in there)
       (IsAdded-with_root table is name none (root_image table view.root) view.extent))
 
-  pub duplicated-root : (name from : List ℕ) → IfOk (duplicated table name from) (λ after. HasOwnRoot after name)
+  pub duplicated-root : (name from : List ℕ) → IfOk (edited_table table (Duplicate name from)) (λ after. HasOwnRoot after name)
   duplicated-root name from =
-      if_duplicated (λ after. HasOwnRoot after name) name from (λ view e none room.
+      if_duplicated (λ after. HasOwnRoot after name) name from (λ view e none.
       HasOwnRoot-with_root table is name none (root_image table view.root) view.extent)
 
   -- ---- what is written
 
-  pub written_name : (name : List ℕ) (view : View) → find table.buffers name ≡ Some view → root_of table name ≡ Some view.root
+  written_name : (name : List ℕ) (view : View) → find table.buffers name ≡ Some view → root_of table name ≡ Some view.root
   written_name name view e = rw e refl
 
-  pub filled-table : (name : List ℕ) (r : Rectangle) (samples : List ℕ) → IfOk (filled table name r samples) IsTable
-  filled-table name r samples =
-      fill IsTable Any table name r samples (λ _. tt) (λ _ _ _. tt) (λ _ _ _ _. tt) (λ view e inside pixel. IsTable-written table view.root r (evenly samples) is)
+  format-seen : (name : List ℕ) (view : View) → find table.buffers name ≡ Some view → (image_of table name).format ≡ (root_image table view.root).format
+  format-seen name view e = rw e refl
 
-  pub filled-images : (name : List ℕ) (r : Rectangle) (samples : List ℕ) → IfOk (filled table name r samples) (IsWritten table name r (evenly samples))
+  inside-image : (name : List ℕ) (r : Rectangle) → Includes (buffer_shape (layout_of table) name).box r → Includes (image_of table name).box r
+  inside-image name r inside = subst (λ (shape : Shape). Includes shape.box r) (buffer_shape-is table name) inside
+
+  pub filled-images : (name : List ℕ) (r : Rectangle) (samples : List ℕ) → IfOk (edited_table table (Fill name r samples)) (IsWritten table name r (evenly samples))
   filled-images name r samples =
-      fill (IsWritten table name r (evenly samples)) Any table name r samples (λ _. tt) (λ _ _ _. tt) (λ _ _ _ _. tt) (λ view e inside pixel.
-      IsWritten-written table view.root r (evenly samples) is name (written_name name view e) (rw (box-seen table name view e) inside))
+      if_done (IsWritten table name r (evenly samples)) table (Fill name r samples) (λ done.
+      with_found (IsWritten table name r (evenly samples)) table name _ done.0.0 (λ view e.
+      IsWritten-written table view.root r (evenly samples) is name (written_name name view e) (inside-image name r done.0.1)))
 
-  pub put-table : (name : List ℕ) (r : Rectangle) (bytes : List ℕ) → IfOk (put table name r bytes) IsTable
-  put-table name r bytes =
-      put_bytes IsTable Any table name r bytes (λ _. tt) (λ _ _ _. tt) (λ _ _ _ _. tt) (λ view e inside size.
-      IsTable-written table view.root r (pixels_from_raw r (root_image table view.root).format bytes) is)
-
-  pub put-images : (name : List ℕ) (r : Rectangle) (bytes : List ℕ) → IfOk (put table name r bytes) (IsWritten table name r (pixels_from_raw r (image_of table name).format bytes))
+  pub put-images : (name : List ℕ) (r : Rectangle) (bytes : List ℕ)
+      → IfOk (edited_table table (Put name r bytes)) (IsWritten table name r (pixels_from_raw r (image_of table name).format bytes))
   put-images name r bytes =
-      put_bytes (IsWritten table name r (pixels_from_raw r (image_of table name).format bytes)) Any table name r bytes (λ _. tt) (λ _ _ _. tt) (λ _ _ _ _. tt) (λ view e inside size.
-      let f = pixels_from_raw r (root_image table view.root).format bytes in
-      rw (format-seen table name view e) (IsWritten-written table view.root r f is name (written_name name view e) (rw (box-seen table name view e) inside)))
-
-  pub copied-table : (from to : List ℕ) (r : Rectangle) (dx dy : ℤ) → IfOk (copied table from to r dx dy) IsTable
-  copied-table from to r dx dy =
-      copy IsTable Any table from to r dx dy (λ _. tt) (λ _ _ _. tt) (λ _ _ _ _ _. tt) (λ _ _ _ _ _. tt) (λ _ _ _ _ _ _. tt) (λ _ _ _ _ _ _ _. tt)
-      (λ source target b moved m there equal. IsTable-written table target.root moved (moved_samples (image_of table from) r moved) is)
+      let f : ℕ → ℕ → ℕ → ℕ = pixels_from_raw r (image_of table name).format bytes in
+      if_done (IsWritten table name r f) table (Put name r bytes) (λ done.
+      with_found (IsWritten table name r f) table name _ done.0.0 (λ view e.
+      subst (λ (format : Format). IsWritten table name r f (written table view.root r (pixels_from_raw r format bytes))) (format-seen name view e)
+      (IsWritten-written table view.root r f is name (written_name name view e) (inside-image name r done.0.1))))
 
   pub copied-images : (from to : List ℕ) (r moved : Rectangle) (dx dy : ℤ) → shifted dx dy r ≡ Ok moved
-      → IfOk (copied table from to r dx dy) (IsWritten table to moved (moved_samples (image_of table from) r moved))
+      → IfOk (edited_table table (Copy from to r dx dy)) (IsWritten table to moved (moved_samples (image_of table from) r moved))
   copied-images from to r moved dx dy is_moved =
-      copy (IsWritten table to moved (moved_samples (image_of table from) r moved)) Any table from to r dx dy
-      (λ _. tt) (λ _ _ _. tt) (λ _ _ _ _ _. tt) (λ _ _ _ _ _. tt) (λ _ _ _ _ _ _. tt) (λ _ _ _ _ _ _ _. tt)
-      (λ source target b other m there equal.
-      let same : other ≡ moved = cc (m, is_moved) in
-      rw same (IsWritten-written table target.root moved (moved_samples (image_of table from) r moved) is to (written_name to target b.1) (rw (box-seen table to target b.1) (subst (Includes target.extent) same there))))
+      let f : ℕ → ℕ → ℕ → ℕ = moved_samples (image_of table from) r moved in
+      if_done (IsWritten table to moved f) table (Copy from to r dx dy) (λ done.
+      with_found (IsWritten table to moved f) table to _ done.0.1 (λ view e.
+      with_moved (IsWritten table to moved f) table dx dy r moved _ is_moved
+      (IsWritten-written table view.root moved f is to (written_name to view e)
+      (inside-image to moved (subst (HasMoved (layout_of table) to) is_moved done.0.2)))))
+
+-- a copy whose moved rectangle is none is refused
+pub copied-nowhere : (P : Table → Type 0) (table : Table) (from to : List ℕ) (r : Rectangle) (dx dy : ℤ) (refused : RectRefused) → shifted dx dy r ≡ Err refused
+    → IfOk (edited_table table (Copy from to r dx dy)) P
+copied-nowhere P table from to r dx dy refused e =
+    if_done P table (Copy from to r dx dy) (λ done. absurd (subst (HasMoved (layout_of table) to) e done.0.2))
+
+-- what follows of a table follows of what an edit gives
+pub if_then : {P Q : Table → Type 0} (edited : Edited) → ((after : Table) → P after → Q after) → IfOk edited P → IfOk edited Q
+if_then (Ok after) step p = step after p
+if_then (Err refused) step p = tt

@@ -5,7 +5,7 @@ use Rattle.std.specs.Str.{bytes_eq}
 use Rattle.std.proofs.lemmas.List.{get_or-map, length-map}
 use Rattle.std.proofs.lemmas.List.Quantifiers.{all_pairs_push}
 use Rattle.std.proofs.lemmas.Slice.Eq.{bytes_eq-Decides}
-use Rattle.model_buffers.specs.Table.{find, AreDistinct}
+use Rattle.model_buffers.specs.Layout.{find, AreDistinct}
 
 pub same_name : (name : List ℕ) → bytes_eq name name ≡ true
 same_name name = (bytes_eq-Decides name name).1 refl
@@ -69,10 +69,10 @@ module _ {X : Type 0} where
       all_pairs_push (λ (a b : List ℕ × X). a.0 ≢ b.0) entries (k, v) distinct (unlisted entries k none)
 
   -- values that are changed each under its name
-  pub find-mapped : (change : List ℕ → X → X) (entries : List (List ℕ × X)) (q : List ℕ)
+  pub find-mapped : {Y : Type 0} (change : List ℕ → X → Y) (entries : List (List ℕ × X)) (q : List ℕ)
       → find (map (λ (e : List ℕ × X). (e.0, change e.0 e.1)) entries) q ≡ option_map (change q) (find entries q)
   find-mapped change [] q = refl
-  find-mapped change (e ∷ entries) q = cases (bytes_eq q e.0) refl (find-mapped change entries q)
+  find-mapped {Y = Y} change (e ∷ entries) q = cases (bytes_eq q e.0) refl (find-mapped change entries q)
     where
       cases : (b : Bool) → bytes_eq q e.0 ≡ b
           → find (map (λ (e : List ℕ × X). (e.0, change e.0 e.1)) entries) q ≡ option_map (change q) (find entries q)
@@ -87,6 +87,14 @@ module _ {X : Type 0} where
       let first = get_or-map F entries i d d (omega arith) in
       let second = get_or-map F entries j d d below in
       λ same. distinct i j d before below (ap (λ (e : List ℕ × X). e.0) (sym first) ∙ same ∙ ap (λ (e : List ℕ × X). e.0) second)
+
+  -- names are as distinct as where the values are changed
+  pub AreDistinct-from_mapped : {Y : Type 0} (change : X → Y) (entries : List (List ℕ × X)) → AreDistinct (map (λ (e : List ℕ × X). (e.0, change e.1)) entries) → AreDistinct entries
+  AreDistinct-from_mapped {Y = Y} change entries distinct i j d before inside =
+      let F : List ℕ × X → List ℕ × Y = λ e. (e.0, change e.1) in
+      let first = get_or-map F entries i d (F d) (omega arith) in
+      let second = get_or-map F entries j d (F d) inside in
+      λ same. distinct i j (F d) before (omega (arith, length-map entries F)) (ap (λ (e : List ℕ × Y). e.0) first ∙ same ∙ sym (ap (λ (e : List ℕ × Y). e.0) second))
 
   -- where no name stands twice, each entry is found by its name
   pub find-listed : (entries : List (List ℕ × X)) → AreDistinct entries → (i : ℕ) (d : List ℕ × X) → i < length entries

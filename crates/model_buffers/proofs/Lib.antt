@@ -1,11 +1,15 @@
 pub mod FindLaws
-pub mod CutLaws
-pub mod TableLaws
-pub mod AddingLaws
 pub mod AnswerLaws
 pub mod CauseLaws
+mod ExactLaws
+pub mod LayoutLaws
+pub mod ShapeLaws
+pub mod FactLaws
+pub mod AddingLaws
+pub mod TableLaws
 pub mod EffectLaws
-pub mod MoveLaws
-pub mod SharingLaws
-pub mod ExactLaws
+mod MoveLaws
 pub mod SeenLaws
+mod SharingLaws
+mod CountLaws
+mod HeldLaws

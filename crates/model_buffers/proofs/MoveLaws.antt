@@ -1,5 +1,5 @@
 -- Where the positions of a rectangle are once it is moved.
-use Rattle.std.proofs.Common.{◌≡◌, ℕ, ℤ, List, pos, ◌+◌, ◌-◌, ◌<◌, ◌+ℤ◌, Bool, true, false, cond, Result, Ok, inl, inr, refl, sym, ap, ◌∙◌, subst, arith}
+use Rattle.std.proofs.Common.{◌≡◌, ℕ, ℤ, List, pos, ◌+◌, ◌-◌, ◌<◌, ◌+ℤ◌, Bool, true, false, cond, Result, Ok, Err, inl, inr, refl, sym, ap, ◌∙◌, subst, arith}
 use Rattle.std.specs.Prelude.{IfOk}
 use Rattle.std.proofs.lemmas.Int.{ints}
 use Rattle.std.proofs.lemmas.Bool.Decides.{nat_tests}
@@ -8,12 +8,10 @@ use Rattle.plane_rect.specs.Rectangle.{Rectangle, Inside, rectangle, new_rectang
 use Rattle.plane_rect.proofs.Rectangles.{coordinate_test, extent_test, rectangle-some, plane_coordinate-plane_index}
 use Rattle.pixel_formats.specs.Format.{channels}
 use Rattle.model_images.specs.Image.{at}
+use Rattle.model_buffers.specs.declared.edit.BufferEdit.TheVariants.{Copy}
+use Rattle.model_buffers.specs.Edits.{edited_table}
 use Rattle.model_buffers.specs.Table.{Table, image_of, IsTable}
-use Rattle.model_buffers.specs.Edits.{copied, moved_samples}
-use Rattle.model_buffers.proofs.AnswerLaws.{copy}
-use Rattle.model_buffers.proofs.CauseLaws.{box-seen}
-use Rattle.model_buffers.proofs.TableLaws.{IsWritten-written}
-use Rattle.model_buffers.proofs.EffectLaws.{Any, written_name}
+use Rattle.model_buffers.proofs.EffectLaws.{copied-images, copied-nowhere, if_then}
 
 -- a rectangle begins at these coordinates and has these sides
 pub record BeginsAt (x y : ℤ) (w h : ℕ) (r : Rectangle) : Type 0 where
@@ -74,13 +72,16 @@ module _ (dx dy : ℤ) (r moved : Rectangle) (u v mu mv : ℕ) (here : Inside u 
 
 pub copied-position : (table : Table) → IsTable table → (from to : List ℕ) (r : Rectangle) (dx dy : ℤ) (u v mu mv c : ℕ) → Inside u v r → c < channels (image_of table to).format
     → plane_coordinate mu ≡ (plane_coordinate u +ℤ dx) → plane_coordinate mv ≡ (plane_coordinate v +ℤ dy)
-    → IfOk (copied table from to r dx dy) (λ after. at (image_of after to) mu mv c ≡ at (image_of table from) u v c)
-copied-position table is from to r dx dy u v mu mv c here few column row =
-    copy (λ after. at (image_of after to) mu mv c ≡ at (image_of table from) u v c) Any table from to r dx dy
-    (λ _. tt) (λ _ _ _. tt) (λ _ _ _ _ _. tt) (λ _ _ _ _ _. tt) (λ _ _ _ _ _ _. tt) (λ _ _ _ _ _ _ _. tt)
-    (λ source target b moved m there equal.
-    let f = moved_samples (image_of table from) r moved in
-    let all = IsWritten-written table target.root moved f is to (written_name table is to target b.1) (rw (box-seen table to target b.1) there) in
-    all.named mu mv c (Inside-moved dx dy r moved u v mu mv here m column row) few
-    ∙ ap (λ (a : ℕ). at (image_of table from) a (r.first_row + (mv - moved.first_row)) c) (column-back dx dy r moved u v mu mv here m column row)
-    ∙ ap (λ (a : ℕ). at (image_of table from) u a c) (row-back dx dy r moved u v mu mv here m column row))
+    → IfOk (edited_table table (Copy from to r dx dy)) (λ after. at (image_of after to) mu mv c ≡ at (image_of table from) u v c)
+copied-position table is from to r dx dy u v mu mv c here few column row = cases (shifted dx dy r) refl
+  where
+    cases : (after : Result Rectangle RectRefused) → shifted dx dy r ≡ after
+        → IfOk (edited_table table (Copy from to r dx dy)) (λ after. at (image_of after to) mu mv c ≡ at (image_of table from) u v c)
+    cases (Err refused) e = copied-nowhere _ table from to r dx dy refused e
+    cases (Ok moved) m =
+        if_then (edited_table table (Copy from to r dx dy))
+        (λ after all.
+        all.named mu mv c (Inside-moved dx dy r moved u v mu mv here m column row) few
+        ∙ ap (λ (a : ℕ). at (image_of table from) a (r.first_row + (mv - moved.first_row)) c) (column-back dx dy r moved u v mu mv here m column row)
+        ∙ ap (λ (a : ℕ). at (image_of table from) u a c) (row-back dx dy r moved u v mu mv here m column row))
+        (copied-images table is from to r moved dx dy m)

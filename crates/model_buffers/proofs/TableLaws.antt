@@ -1,33 +1,26 @@
--- The laws of tables, and of their parts.
+-- The laws of samples that are written to a root.
 use Rattle.std.proofs.Common.{◌≡◌, ◌≢◌, ℕ, ◌<◌, Bool, true, false, cond, List, Option, Some, None, refl, sym, ap, ◌∙◌, subst}
 use Rattle.std.specs.Prelude.{IfSome, unwrap_or}
-use Rattle.std.specs.Option.{option_map, is_some}
+use Rattle.std.specs.Option.{is_some, option_map}
 use Rattle.std.specs.Str.{bytes_eq}
 use Rattle.plane_rect.specs.Rectangle.{Rectangle, Inside, Includes}
 use Rattle.pixel_formats.specs.declared.format.Format.{Format}
 use Rattle.pixel_formats.specs.Format.{channels}
 use Rattle.model_images.specs.Agreement.{AgreeOutside}
-use Rattle.model_images.specs.Image.{Image, at, is_inside}
-use Rattle.model_images.specs.Paint.{painted}
+use Rattle.model_images.specs.Image.{Image, IsImage, at, is_inside}
+use Rattle.model_images.specs.Paint.{cut, no_image, painted}
+use Rattle.model_graphs.specs.Shapes.{Shape}
 use Rattle.model_images.proofs.Laws.{AgreeOutside-refl, IsImage-image_from_fn}
-use Rattle.model_images.specs.Paint.{no_image}
-use Rattle.model_buffers.specs.Table.{Table, View, find, root_image, cut, seen, image_of, root_of, IsUnchanged, IsRooted, IsTable}
 use Rattle.model_buffers.specs.Edits.{written}
 use Rattle.model_buffers.specs.Effects.{IsWritten, ShowsOver}
-use Rattle.model_buffers.proofs.FindLaws.{same_name, apart_test, find-mapped, AreDistinct-mapped}
-use Rattle.model_buffers.proofs.CutLaws.{at-cut, at-painted, AgreeOutside-painted, AgreeOutside-cut}
-
--- what holds of a value that is there, and where there is none, holds of each option
-pub by_option : {X : Type 0} (P : Type 0) (o : Option X) → ((x : X) → o ≡ Some x → P) → (o ≡ None → P) → P
-by_option P (Some x) there absent = there x refl
-by_option P None there absent = absent refl
-
-pub if_some : {X : Type 0} (o : Option X) (P : X → Type 0) → ((x : X) → o ≡ Some x → P x) → IfSome o P
-if_some (Some x) P h = h x refl
-if_some None P h = tt
-
-pub of_some : {X : Type 0} (o : Option X) (P : X → Type 0) (x : X) → o ≡ Some x → IfSome o P → P x
-of_some {X = X} o P x e h = subst (λ (o : Option X). IfSome o P) e h
+use Rattle.model_buffers.specs.Layout.{View, find, IsRooted}
+use Rattle.model_buffers.specs.Table.{Table, image_of, layout_of, root_image, root_of, seen, IsTable}
+use Rattle.model_buffers.proofs.AddingLaws.{root_there}
+use Rattle.model_buffers.proofs.FindLaws.{same_name, apart_test, find-mapped}
+use Rattle.model_images.proofs.Agreeing.{at-cut}
+use Rattle.model_images.proofs.Painting.{at-painted, AgreeOutside-painted, AgreeOutside-cut}
+use Rattle.model_buffers.proofs.LayoutLaws.{by_value, rooted_view}
+use Rattle.model_buffers.proofs.ShapeLaws.{root_shape-is}
 
 -- ---- a write to a root
 
@@ -81,12 +74,14 @@ module _ (table : Table) (root : List ℕ) (r : Rectangle) (f : ℕ → ℕ → 
   pub written-shown : IsTable table → (other : List ℕ) → root_of table other ≡ Some root → ShowsOver r f (image_of (written table root r f) other)
   written-shown is other same = cases (find table.buffers other) refl same
     where
-      shown : (view : View) → IsRooted table view → view.root ≡ root → (image : Image) → find table.roots root ≡ Some image
+      shown : (view : View) → IsRooted (layout_of table) view → view.root ≡ root → (image : Image) → find table.roots root ≡ Some image
           → ShowsOver r f (cut (root_image (written table root r f) view.root) view.extent)
       shown view rooted on image there u v c in_r in_extent few =
           let now : root_image (written table root r f) view.root ≡ painted image r f = ap (root_image (written table root r f)) on ∙ root-written image there in
           let was : root_image table view.root ≡ image = ap (root_image table) on ∙ rw there refl in
-          let inside : Inside u v image.box = subst (λ (i : Image). Inside u v i.box) was (rooted.inside u v in_extent) in
+          let box : (root_image table view.root).box ≡ image.box = ap (λ (i : Image). i.box) was in
+          let root_box = ap (λ (s : Shape). s.box) (root_shape-is table view.root) in
+          let inside : Inside u v image.box = subst (λ (b : Rectangle). Inside u v b) (root_box ∙ box) (rooted.inside u v in_extent) in
           let several : c < channels image.format = subst (λ (i : Image). c < channels i.format) now few in
           at-cut (root_image (written table root r f) view.root) view.extent u v c in_extent
           ∙ ap (λ (i : Image). at i u v c) now
@@ -94,11 +89,11 @@ module _ (table : Table) (root : List ℕ) (r : Rectangle) (f : ℕ → ℕ → 
 
       cases : (o : Option View) → find table.buffers other ≡ o → option_map (λ (view : View). view.root) o ≡ Some root → ShowsOver r f (seen (written table root r f) o)
       cases (Some view) e on =
-          let rooted = of_some (find table.buffers other) (IsRooted table) view e (is.rooted other) in
+          let rooted = rooted_view (layout_of table) is.layout other view e in
           let here : view.root ≡ root = cc on in
-          by_option _ (find table.roots root)
+          by_value _ (find table.roots root)
+          (root_there table root (subst (λ (q : List ℕ). is_some (find (layout_of table).roots q) ≡ true) here rooted.root))
           (shown view rooted here)
-          (λ none. absurd (let some = rooted.root in cc (ap (find table.roots) here)))
       cases None e on = absurd (cc)
 
   pub IsWritten-written : IsTable table → (name : List ℕ) → root_of table name ≡ Some root → Includes (image_of table name).box r
@@ -112,40 +107,18 @@ module _ (table : Table) (root : List ℕ) (r : Rectangle) (f : ℕ → ℕ → 
     roots = λ other. refl;
   }
 
-  -- ---- a write keeps tables
+  -- ---- a write keeps images whole
 
-  IsUnchanged-change : (name : List ℕ) (image : Image) → IsUnchanged image → IsUnchanged (change name image)
-  IsUnchanged-change name image kept = cases (bytes_eq root name)
+  IsImage-change : (name : List ℕ) (image : Image) → IsImage image → IsImage (change name image)
+  IsImage-change name image whole = cases (bytes_eq root name)
     where
-      cases : (b : Bool) → IsUnchanged (cond b (painted image r f) image)
-      cases true = record {
-        whole = IsImage-image_from_fn image.box image.format (λ u v c. cond (is_inside u v r) (f u v c) (at image u v c));
-        box = kept.box;
-        limits = kept.limits;
-      }
-      cases false = kept
+      cases : (b : Bool) → IsImage (cond b (painted image r f) image)
+      cases true = IsImage-image_from_fn image.box image.format (λ u v c. cond (is_inside u v r) (f u v c) (at image u v c))
+      cases false = whole
 
-  present-written : (q : List ℕ) → is_some (find (written table root r f).roots q) ≡ is_some (find table.roots q)
-  present-written q = rw (find-written q) (cases (find table.roots q))
+  pub whole-written : IsTable table → (q : List ℕ) → IfSome (find (written table root r f).roots q) IsImage
+  whole-written is q = rw (find-written q) (cases (find table.roots q) (is.whole q))
     where
-      cases : (o : Option Image) → is_some (option_map (change q) o) ≡ is_some o
-      cases (Some image) = refl
-      cases None = refl
-
-  pub IsTable-written : IsTable table → IsTable (written table root r f)
-  IsTable-written is = record {
-    few = is.few;
-    buffer_names = is.buffer_names;
-    root_names = AreDistinct-mapped change table.roots is.root_names;
-    named = λ q some. is.named q (sym (present-written q) ∙ some);
-    rooted = λ name. if_some (find table.buffers name) (IsRooted (written table root r f)) (λ view e. let rooted = of_some (find table.buffers name) (IsRooted table) view e (is.rooted name) in record {
-      root = present-written view.root ∙ rooted.root;
-      inside = subst (λ (box : Rectangle). Includes box view.extent) (AgreeOutside-root view.root).box rooted.inside;
-      extent = rooted.extent;
-    });
-    kept = λ q. rw (find-written q) (kept-written q (find table.roots q) (is.kept q));
-  }
-    where
-      kept-written : (q : List ℕ) (o : Option Image) → IfSome o IsUnchanged → IfSome (option_map (change q) o) IsUnchanged
-      kept-written q (Some image) kept = IsUnchanged-change q image kept
-      kept-written q None kept = tt
+      cases : (o : Option Image) → IfSome o IsImage → IfSome (option_map (change q) o) IsImage
+      cases (Some image) whole = IsImage-change q image whole
+      cases None whole = tt

@@ -5,7 +5,8 @@ use Rattle.pixel_formats.specs.Format.{channels}
 use Rattle.pixel_formats.specs.Row.{Pixel}
 use Rattle.model_images.specs.Agreement.{AgreeOutside}
 use Rattle.model_images.specs.Image.{Image, at}
-use Rattle.model_buffers.specs.Table.{Table, find, image_of, root_of}
+use Rattle.model_buffers.specs.Layout.{find}
+use Rattle.model_buffers.specs.Table.{Table, image_of, root_of}
 
 -- A new buffer has an image, and the others are as they were.
 pub record IsAdded (table : Table) (name : List ℕ) (image : Image) (after : Table) : Type 0 where
@@ -25,7 +26,7 @@ abbrev pub ShowsOver : Rectangle → (ℕ → ℕ → Pixel) → Image → Type 
 ShowsOver rectangle f image =
     (u v c : ℕ) → Inside u v rectangle → Inside u v image.box → c < channels image.format → at image u v c ≡ f u v c
 
--- A buffer shows f's samples at each place of a rectangle, and so do the buffers of its root as far as their boxes go.
+-- A buffer shows f's samples at each position of a rectangle, and so do the buffers of its root as far as their boxes go.
 -- All other samples of all buffers are as they were.
 pub record IsWritten (table : Table) (name : List ℕ) (rectangle : Rectangle) (f : ℕ → ℕ → Pixel) (after : Table) : Type 0 where
   pub named : (u v c : ℕ) → Inside u v rectangle → c < channels (image_of table name).format → at (image_of after name) u v c ≡ f u v c

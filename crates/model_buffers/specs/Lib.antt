@@ -1,6 +1,9 @@
+pub mod Layout
 pub mod Table
+pub mod BufferEdit
 pub mod Edits
-pub mod Effects
 pub mod Causes
+pub mod Effects
+pub mod Held
+pub mod Counts
 pub mod Examples
-pub use Rattle.model_images.specs.Image

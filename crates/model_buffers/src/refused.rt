@@ -1,7 +1,7 @@
 //! Why an edit of a table is refused.
 
-/// Why an edit of a table of buffers is refused. Where several causes stand together the one that
-/// the edit names first is reported, and the table is as before.
+/// Why an edit of a table of buffers is refused. Where several causes hold the first one in the edit's own
+/// order is reported, and the table is as before.
 #[derive(Clone, Copy, Debug, PartialEq, Eq)]
 pub enum EditRefused {
     /// No buffer has a name that is read or written.

@@ -3,7 +3,7 @@ use Rattle.std.proofs.Common.{◌≡◌, ◌≢◌, ℕ, Bool, true, false, List
 use Rattle.std.specs.Str.{bytes_eq}
 use Rattle.std.proofs.lemmas.Slice.Eq.{bytes_eq-Decides}
 use Rattle.model_images.specs.Paint.{inverted_image}
-use Rattle.model_graphs.specs.Node.{Source, Compute}
+use Rattle.model_graphs.specs.declared.node.Body.TheVariants.{Source, Compute}
 use Rattle.model_graphs.specs.Operation.{Invert, result_of}
 use Rattle.model_graphs.specs.Evaluation.{Buffers, buffer_image, evaluated}
 

@@ -48,7 +48,8 @@ pub record KeepsLaws {Op : Type 0} (meanings : Meanings Op) : Type 0 where
   pub local : IsLocal meanings
   pub dual : IsDual meanings
 
--- a change of no position invalidates no position
+-- A change without a pixel invalidates none. It is no law of each type of operations: one that answers its whole box
+-- for such a change is right too.
 abbrev pub KeepsNothing : {Op : Type 0} → Meanings Op → Type 0
 KeepsNothing {Op} meanings =
     (operation : Op) (boxes : List Rectangle) (i : ℕ) (changed : Rectangle) →

@@ -1,15 +1,13 @@
 -- Graphs: lists of nodes, in which each input of a node stands earlier. A name is its bytes.
 use Rattle.std.specs.Prelude.{ℕ, List, map, length, unwrap_or, position}
+use Rattle.model_graphs.specs.declared.node.Body.{Body}
+use Rattle.model_graphs.specs.declared.node.Body.TheVariants.{Source, Compute}
+use Rattle.model_graphs.specs.declared.node.NodeSpec.{NodeSpec}
 use Rattle.std.specs.Str.{bytes_eq}
 
--- what a node stands for: the image of a buffer, or an operation on the images of other nodes, in their order
-pub data Body (Op : Type 0) : Type 0 where
-  Source : List ℕ → Body Op
-  Compute : Op → List (List ℕ) → Body Op
-
-pub record Node (Op : Type 0) : Type 0 where
-  pub name : List ℕ
-  pub body : Body Op
+-- a node with its body: the image of a buffer, or an operation on the images of other nodes, in their order
+abbrev pub Node : Type 0 → Type 0
+Node Op = NodeSpec Op
 
 -- the place of the first node of a name, and the number of nodes where there is none
 abbrev pub index_of : {Op : Type 0} → List (Node Op) → List ℕ → ℕ

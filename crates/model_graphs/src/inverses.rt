@@ -3,7 +3,8 @@
 ghost use Rattle.std.specs.Prelude.{◌≡◌, ◌≢◌, ℕ, List, [], ◌∷◌};
 ghost use Rattle.model_images.specs.Paint.{inverted_image};
 ghost use Rattle.model_graphs.specs.Evaluation.{Buffers, buffer_image, evaluated};
-ghost use Rattle.model_graphs.specs.Node.{Node, Source, Compute};
+ghost use Rattle.model_graphs.specs.declared.node.Body.TheVariants.{Source, Compute};
+ghost use Rattle.model_graphs.specs.declared.node.NodeSpec.{NodeSpec};
 ghost use Rattle.model_graphs.specs.Operation.{Invert, result_of};
 
 /// The node that inverts a source stands for the inverse of the source's buffer.

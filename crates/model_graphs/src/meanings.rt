@@ -5,7 +5,7 @@ ghost use Rattle.plane_rect.specs.Rectangle.{Inside, Rectangle};
 ghost use Rattle.model_images.specs.Agreement.{AgreeOutside};
 ghost use Rattle.model_images.specs.Image.{at, Image};
 ghost use Rattle.model_graphs.specs.Changes.{ChangedWithin};
-ghost use Rattle.model_graphs.specs.Laws.{IsBoxed, IsDual, IsEquality, IsLocal, KeepsLaws, KeepsNothing};
+ghost use Rattle.model_graphs.specs.Laws.{IsBoxed, IsDual, IsEquality, IsLocal, KeepsLaws};
 ghost use Rattle.model_graphs.specs.Meanings.{boxes_of, Meanings, result_box, result_of};
 
 /// The meanings of a type of operations: what each takes and gives, and what of its inputs and of its result belongs
@@ -25,9 +25,6 @@ pub trait OpMeaning {
 
     /// What is required is in the input's box, what is invalidated in the result's.
     ghost boxed: { IsBoxed meanings };
-
-    /// A change of no position invalidates no position.
-    ghost nothing: { KeepsNothing meanings };
 
     /// The test tells exactly whether two operations are one.
     ghost distinguished: { IsEquality same };

@@ -5,11 +5,11 @@ use Rattle.plane_rect.specs.Rectangle.{Rectangle, Includes, area}
 use Rattle.plane_rect.specs.Tile.{Tile, tile_square}
 use Rattle.pixel_formats.specs.Format.{channels, depth, pixel_bytes}
 use Rattle.model_images.specs.Image.{Image, at, image_from_fn, sampled}
-use Rattle.model_images.specs.Raw.{raw, sample_bytes}
+use Rattle.model_images.specs.Raw.{raw, sample_bytes, tile_bytes}
 use Rattle.model_images.proofs.Laws.{at-image_from_fn, length-sampled, sampled_equal}
 use Rattle.pixel_formats.specs.declared.abyss.Abyss.{Abyss}
 use Rattle.pixel_formats.specs.declared.abyss.Abyss.TheVariants.{None}
-use Rattle.model_images.specs.Abyss.{abyss_at, raw_with, tile_bytes}
+use Rattle.model_images.specs.Abyss.{abyss_at, raw_with}
 use Rattle.model_images.proofs.PolicyLaws.{abyss_at-inside, none-everywhere}
 
 pub raw_with-none : (image : Image) (r : Rectangle) → raw_with image None r ≡ raw image r

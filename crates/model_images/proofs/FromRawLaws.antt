@@ -49,7 +49,7 @@ image_from_raw-zeros box format n =
 
 -- ---- raw bytes
 
-by_depth : (P : ℕ → Type 0) → P 1 → P 2 → (format : Format) → P (depth format)
+pub by_depth : (P : ℕ → Type 0) → P 1 → P 2 → (format : Format) → P (depth format)
 by_depth P one two Y8 = one
 by_depth P one two YA8 = one
 by_depth P one two RGB8 = one

@@ -114,7 +114,7 @@ level-most image (suc z) c most below = halved_image-most (level image z) c most
 -- ---- where a halved image changes
 
 -- the half of each of the four positions of a position is that position
-half-of_four : (n m : ℕ) → origin / 2 ≤ n → (m ≡ doubled n) ⊎ (m ≡ doubled n + 1) → n ≡ half m
+pub half-of_four : (n m : ℕ) → origin / 2 ≤ n → (m ≡ doubled n) ⊎ (m ≡ doubled n + 1) → n ≡ half m
 half-of_four n m after (inl e) = omega arith
 half-of_four n m after (inr e) = omega arith
 

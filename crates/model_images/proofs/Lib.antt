@@ -9,3 +9,11 @@ pub mod Positions
 pub mod Laws
 pub mod FromRawLaws
 pub mod Tests
+pub mod RawLaws
+pub mod Agreeing
+pub mod Painting
+pub mod AgreeingLevels
+pub mod HeldTiles
+pub mod PutTiles
+pub mod CountLaws
+pub mod LackingTiles

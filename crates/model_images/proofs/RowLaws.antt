@@ -19,7 +19,7 @@ module _ (r : Rectangle) (n k i : ℕ) (below : i < sample_count (row_below r k)
   some : 0 < n
   some = let there = position_inside (row_below r k) n i below in omega (arith, there.1)
 
-  -- which place of the row
+  -- which position of the row
   position_below : i / n < r.width
   position_below = div_below i n r.width some (omega arith)
 

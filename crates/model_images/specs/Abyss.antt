@@ -2,12 +2,11 @@
 use Rattle.std.specs.Prelude.{ℕ, ◌+◌, ◌-◌, ◌*◌, ◌%◌, min, max, if◌then◌else◌, List}
 use Rattle.std.specs.List.{flat_map}
 use Rattle.plane_rect.specs.Rectangle.{Rectangle}
-use Rattle.plane_rect.specs.Tile.{Tile, tile_square}
 use Rattle.pixel_formats.specs.Format.{channels, depth, max_sample}
 use Rattle.pixel_formats.specs.Recolor.{is_alpha}
 use Rattle.pixel_formats.specs.declared.format.Format.{Format}
 use Rattle.model_images.specs.Image.{Image, at, is_inside, sampled}
-use Rattle.model_images.specs.Raw.{raw, sample_bytes}
+use Rattle.model_images.specs.Raw.{sample_bytes}
 use Rattle.pixel_formats.specs.declared.abyss.Abyss.{Abyss}
 use Rattle.pixel_formats.specs.declared.abyss.Abyss.TheVariants.{None, Clamp, Loop, Black, White}
 
@@ -43,7 +42,3 @@ unfoldable pub raw_with : Image → Abyss → Rectangle → List ℕ
 raw_with image policy rectangle =
     flat_map (sample_bytes (depth image.format))
     (sampled rectangle (channels image.format) (abyss_at image policy))
-
--- the bytes of the 64 by 64 pixels of a tile, which are 0 outside the image's box
-abbrev pub tile_bytes : Image → Tile → List ℕ
-tile_bytes image tile = raw image (tile_square tile)

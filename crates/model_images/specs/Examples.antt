@@ -1,6 +1,7 @@
 -- Small images, on which the definitions are worked out by hand.
 use Rattle.std.specs.Prelude.{ℕ, ℤ, pos, negsuc, List, [], ◌∷◌}
 use Rattle.plane_rect.specs.Rectangle.{Rectangle, empty, placed}
+use Rattle.plane_rect.specs.Tile.{Tile, tile_by}
 use Rattle.pixel_formats.specs.declared.format.Format.{Format}
 use Rattle.pixel_formats.specs.declared.format.Format.TheVariants.{Y8, YA8, YA16}
 use Rattle.model_images.specs.Image.{Image}
@@ -58,3 +59,7 @@ one_to_four =
 -- no position
 abbrev pub no_position : Image
 no_position = record { box = empty; format = Y8; samples = [] }
+
+-- the tile left of the origin's, and the one right of and below it
+abbrev pub two_tiles : List Tile
+two_tiles = tile_by (negsuc 0) (pos 0) ∷ tile_by (pos 1) (pos 1) ∷ []

@@ -10,7 +10,7 @@ use Rattle.pixel_formats.specs.declared.format.Format.{Format}
 abbrev pub is_inside : ℕ → ℕ → Rectangle → Bool
 is_inside u v r = (nat_le r.first_column u && nat_lt u (r.first_column + r.width)) && (nat_le r.first_row v && nat_lt v (r.first_row + r.height))
 
--- A box, a format, and a sample for each place of the box and each channel: row by row from the top, each row from
+-- A box, a format, and a sample for each position of the box and each channel: row by row from the top, each row from
 -- the left, the channels of a position in their order.
 pub record Image : Type 0 where
   pub box : Rectangle
@@ -32,7 +32,7 @@ row_of r n i = r.first_row + i / n / r.width
 abbrev pub sample_count : Rectangle → ℕ → ℕ
 sample_count r n = area r * n
 
--- what f gives for each place of a rectangle and each of n channels, in the order of samples
+-- what f gives for each position of a rectangle and each of n channels, in the order of samples
 abbrev pub sampled : Rectangle → ℕ → (ℕ → ℕ → Pixel) → List ℕ
 sampled r n f = map (λ i. f (column_of r n i) (row_of r n i) (i % n)) (range_with_len 0 (sample_count r n))
 

@@ -1,11 +1,13 @@
 pub mod Abyss
 pub mod Examples
 pub mod Level
+pub mod TileCounts
 pub mod Rows
 pub mod Image
 pub mod FromRaw
 pub mod Raw
 pub mod Paint
 pub mod Agreement
+pub mod Tiles
 pub use Rattle.plane_rect.specs.Rectangle
 pub use Rattle.pixel_formats.specs.Format

@@ -12,16 +12,20 @@ use Rattle.model_images.specs.FromRaw.{pixels_from_raw}
 abbrev pub blank : Rectangle → Format → Image
 blank box format = image_from_fn box format (λ u v c. 0)
 
--- the image of no position, which stands where one is lacking
+-- the image of no position, which is taken where there is none
 abbrev pub no_image : Image
 no_image = blank empty Y8
 
--- the image, with what f gives over a rectangle in place of its samples there
+-- the image over another box: zeros where it has nothing
+abbrev pub cut : Image → Rectangle → Image
+cut image box = image_from_fn box image.format (at image)
+
+-- the image with the samples that f gives over a rectangle, and else its own
 abbrev pub painted : Image → Rectangle → (ℕ → ℕ → Pixel) → Image
 painted image rectangle f =
     image_from_fn image.box image.format (λ u v c. if is_inside u v rectangle then f u v c else at image u v c)
 
--- the image, with the samples that the raw bytes of a rectangle spell in place of its own there
+-- the image with the samples that are decoded from raw bytes over a rectangle, and else its own
 abbrev pub put_raw : Image → Rectangle → List ℕ → Image
 put_raw image rectangle bytes = painted image rectangle (pixels_from_raw rectangle image.format bytes)
 

@@ -4,12 +4,15 @@
 ghost use Rattle.std.specs.Prelude.{◌≡◌, [], ◌∷◌, negsuc, pos};
 ghost use Rattle.model_images.specs.Raw.{raw};
 ghost use Rattle.model_images.specs.Abyss.{raw_with};
-ghost use Rattle.model_images.specs.Examples.{faint_of_16_bits, faint_ten, four_positions, left_edge, no_position, one_to_four, positions_from, ten_twenty, three_from, two_positions, upper_left};
+ghost use Rattle.model_images.specs.Examples.{faint_of_16_bits, faint_ten, four_positions, left_edge, no_position, one_to_four, positions_from, ten_twenty, three_from, two_positions, two_tiles, upper_left};
 ghost use Rattle.model_images.specs.Level.{level};
+ghost use Rattle.model_images.specs.TileCounts.{level_tiles, tile_count};
+ghost use Rattle.model_images.specs.Tiles.{hull_of_tiles};
+ghost use Rattle.plane_rect.specs.Rectangle.{placed};
 
 use pixel_formats::Abyss;
 
-/// A row of 10 and 20 from x = 0 on, read from x = -1 over four positions.
+/// Works out a row of 10 and 20 from x = 0 on, as it is read from x = -1 over four positions.
 pub fn around_a_row()
     ensures none { raw_with ten_twenty Abyss.None four_positions ≡ 0 ∷ 10 ∷ 20 ∷ 0 ∷ [] }
     ensures clamp { raw_with ten_twenty Abyss.Clamp four_positions ≡ 10 ∷ 10 ∷ 20 ∷ 20 ∷ [] }
@@ -18,7 +21,7 @@ pub fn around_a_row()
     ensures white { raw_with ten_twenty Abyss.White four_positions ≡ 255 ∷ 10 ∷ 20 ∷ 255 ∷ [] }
 {}
 
-/// The same row, read from the plane's left edge over two positions.
+/// Works out the same row, read from the plane's left edge over two positions.
 pub fn far_from_a_row()
     ensures none { raw_with ten_twenty Abyss.None left_edge ≡ 0 ∷ 0 ∷ [] }
     ensures clamp { raw_with ten_twenty Abyss.Clamp left_edge ≡ 10 ∷ 10 ∷ [] }
@@ -27,7 +30,7 @@ pub fn far_from_a_row()
     ensures white { raw_with ten_twenty Abyss.White left_edge ≡ 255 ∷ 255 ∷ [] }
 {}
 
-/// Two rows, 1 and 2 above 3 and 4, read around their upper left corner.
+/// Works out two rows, 1 and 2 above 3 and 4, read around their upper left corner.
 pub fn around_a_corner()
     ensures none { raw_with one_to_four Abyss.None upper_left ≡ 0 ∷ 0 ∷ 0 ∷ 1 ∷ [] }
     ensures clamp { raw_with one_to_four Abyss.Clamp upper_left ≡ 1 ∷ 1 ∷ 1 ∷ 1 ∷ [] }
@@ -36,7 +39,7 @@ pub fn around_a_corner()
     ensures white { raw_with one_to_four Abyss.White upper_left ≡ 255 ∷ 255 ∷ 255 ∷ 1 ∷ [] }
 {}
 
-/// An image of no position, read over two.
+/// Works out an image of no position, read over two.
 pub fn over_an_empty_image()
     ensures none { raw_with no_position Abyss.None two_positions ≡ 0 ∷ 0 ∷ [] }
     ensures clamp { raw_with no_position Abyss.Clamp two_positions ≡ 0 ∷ 0 ∷ [] }
@@ -45,7 +48,7 @@ pub fn over_an_empty_image()
     ensures white { raw_with no_position Abyss.White two_positions ≡ 255 ∷ 255 ∷ [] }
 {}
 
-/// One position with alpha, of 8 bits and of 16, read over itself and the next.
+/// Works out one position with alpha, of 8 bits and of 16, read over itself and the next.
 pub fn beside_one_position()
     ensures black { raw_with faint_ten Abyss.Black two_positions ≡ 10 ∷ 200 ∷ 0 ∷ 255 ∷ [] }
     ensures white { raw_with faint_ten Abyss.White two_positions ≡ 10 ∷ 200 ∷ 255 ∷ 255 ∷ [] }
@@ -55,18 +58,27 @@ pub fn beside_one_position()
         ≡ 2 ∷ 1 ∷ 4 ∷ 3 ∷ 2 ∷ 1 ∷ 4 ∷ 3 ∷ [] }
 {}
 
-/// A row of 10, 20 and 31 from x = 0 on: its first level has two positions, (10 + 20 + 2) / 4 and
+/// Works out a row of 10, 20 and 31 from x = 0 on: its first level has two positions, (10 + 20 + 2) / 4 and
 /// (31 + 2) / 4.
 pub fn level_of_odd_width()
     ensures bounds { (level (three_from (pos 0)) 1).box ≡ two_positions }
     ensures samples { raw (level (three_from (pos 0)) 1) two_positions ≡ 8 ∷ 8 ∷ [] }
 {}
 
-/// The same row from x = -3 on: its first level begins at x = -2, with (10 + 2) / 4 and
-/// (20 + 31 + 2) / 4, and its second has one position, (3 + 13 + 2) / 4.
+/// Works out the same row from x = -3 on: its first level begins at x = -2, with (10 + 2) / 4 and (20 + 31 +
+/// 2) / 4, and its second has one position, (3 + 13 + 2) / 4.
 pub fn levels_left_of_the_origin()
     ensures first_bounds { (level (three_from (negsuc 2)) 1).box ≡ positions_from (negsuc 1) 2 }
     ensures first { raw (level (three_from (negsuc 2)) 1) (positions_from (negsuc 1) 2) ≡ 3 ∷ 13 ∷ [] }
     ensures second_bounds { (level (three_from (negsuc 2)) 2).box ≡ positions_from (negsuc 0) 1 }
     ensures second { raw (level (three_from (negsuc 2)) 2) (positions_from (negsuc 0) 1) ≡ 4 ∷ [] }
+{}
+
+/// Works out two tiles, one left of the origin and one a tile away from it in both directions: their hull,
+/// and how many tiles it meets. Levels 1 and 2 of four tiles in a row have two tiles and one.
+pub fn tiles_and_their_hull()
+    ensures hull { hull_of_tiles two_tiles ≡ placed (negsuc 63) (pos 0) 192 128 }
+    ensures met { tile_count (hull_of_tiles two_tiles) ≡ 6 }
+    ensures across { tile_count (positions_from (negsuc 0) 2) ≡ 2 }
+    ensures levels { level_tiles (placed (pos 0) (pos 0) 256 64) 2 ≡ 3 }
 {}

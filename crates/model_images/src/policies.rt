@@ -10,7 +10,7 @@ ghost use Rattle.model_images.specs.Abyss.{abyss_at, black_sample, nearest, wrap
 
 use pixel_formats::Abyss;
 
-/// The nearest of some numbers in a row is one of them, and none of them is nearer. A number that
+/// States that the nearest of some numbers in a row is one of them, and none of them is nearer. A number that
 /// is one of them stays.
 pub fn nearest_in_a_row()
     ensures within { (start len n : ℕ) → 0 < len → Within start len (nearest start len n) }
@@ -19,9 +19,9 @@ pub fn nearest_in_a_row()
         Within start len m → abs_diff n (nearest start len n) ≤ abs_diff n m }
 {}
 
-/// A wrapped number is the one of some numbers in a row that is away by a whole multiple of how
-/// many they are: it leaves the same remainder, and no other of them does. A number that is one of
-/// them stays.
+/// States that a wrapped number is the one of some numbers in a row that is away by a whole multiple of how
+/// many they are: it leaves the same remainder, and no other of them does. A number that is one of them
+/// stays.
 pub fn wrapped_in_a_row()
     ensures within { (start len n : ℕ) → 0 < len → Within start len (wrapped start len n) }
     ensures stays { (start len n : ℕ) → Within start len n → wrapped start len n ≡ n }
@@ -32,18 +32,18 @@ pub fn wrapped_in_a_row()
         0 < len → wrapped start len (n + len) ≡ wrapped start len n }
 {}
 
-/// At a place of its box an image has its own samples, whatever the policy.
+/// States that at a position of its box an image has its own samples, whatever the policy.
 pub fn inside_is_the_image()
     ensures { (image : Image) (policy : Abyss) (u v c : ℕ) →
         Inside u v image.box → abyss_at image policy u v c ≡ at image u v c }
 {}
 
-/// Under `None` an image has its own samples everywhere, which are 0 outside its box.
+/// States that under `None` an image has its own samples everywhere, which are 0 outside its box.
 pub fn none_is_the_image()
     ensures { (image : Image) (u v c : ℕ) → abyss_at image Abyss.None u v c ≡ at image u v c }
 {}
 
-/// A clamped image has everywhere the sample of the nearest position, which is in the box if any
+/// States that a clamped image has everywhere the sample of the nearest position, which is in the box if any
 /// does.
 pub fn clamp_is_the_nearest_position()
     ensures sample { (image : Image) (u v c : ℕ) →
@@ -55,7 +55,7 @@ pub fn clamp_is_the_nearest_position()
         Inside (nearest box.first_column box.width u) (nearest box.first_row box.height v) box }
 {}
 
-/// A looped image has everywhere the sample of the wrapped position, which is in the box if any
+/// States that a looped image has everywhere the sample of the wrapped position, which is in the box if any
 /// does, and repeats itself after a width and after a height of the box.
 pub fn loop_is_the_wrapped_position()
     ensures sample { (image : Image) (u v c : ℕ) →
@@ -71,7 +71,7 @@ pub fn loop_is_the_wrapped_position()
         abyss_at image Abyss.Loop u (v + image.box.height) c ≡ abyss_at image Abyss.Loop u v c }
 {}
 
-/// Outside its box an image on black has no color and full alpha.
+/// States that outside its box an image on black has no color and full alpha.
 pub fn black_outside()
     ensures color { (image : Image) (u v c : ℕ) → ¬ Inside u v image.box →
         is_alpha image.format c ≡ false → abyss_at image Abyss.Black u v c ≡ 0 }
@@ -80,14 +80,14 @@ pub fn black_outside()
         abyss_at image Abyss.Black u v c ≡ max_sample image.format }
 {}
 
-/// Outside its box an image on white has the largest sample in each channel.
+/// States that outside its box an image on white has the largest sample in each channel.
 pub fn white_outside()
     ensures { (image : Image) (u v c : ℕ) → ¬ Inside u v image.box →
         abyss_at image Abyss.White u v c ≡ max_sample image.format }
 {}
 
-/// Over an image without a position there is no position to clamp to or to loop to, and so 0; black and
-/// white are as they are outside any image.
+/// States that over an image without a position there is no position to clamp to or to loop to, and so 0;
+/// black and white are as they are outside any image.
 pub fn over_no_position()
     ensures none { (image : Image) → ((u v : ℕ) → ¬ Inside u v image.box) →
         (u v c : ℕ) → abyss_at image Abyss.None u v c ≡ 0 }
@@ -101,7 +101,7 @@ pub fn over_no_position()
         (u v c : ℕ) → abyss_at image Abyss.White u v c ≡ max_sample image.format }
 {}
 
-/// No policy gives a sample above the format's largest, where the image has none.
+/// States that no policy gives a sample above the format's largest, where the image has none.
 pub fn policies_stay_in_range()
     ensures { (image : Image) (policy : Abyss) (c : ℕ) →
         ((u v : ℕ) → at image u v c ≤ max_sample image.format) →

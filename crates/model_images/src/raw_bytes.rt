@@ -5,13 +5,13 @@ ghost use Rattle.plane_rect.specs.Rectangle.{Includes, Rectangle, area};
 ghost use Rattle.plane_rect.specs.Tile.{Tile};
 ghost use Rattle.pixel_formats.specs.Format.{pixel_bytes};
 ghost use Rattle.model_images.specs.Image.{Image, image_from_fn};
-ghost use Rattle.model_images.specs.Raw.{raw};
-ghost use Rattle.model_images.specs.Abyss.{abyss_at, raw_with, tile_bytes};
+ghost use Rattle.model_images.specs.Raw.{raw, tile_bytes};
+ghost use Rattle.model_images.specs.Abyss.{abyss_at, raw_with};
 ghost use Rattle.model_images.specs.Rows.{first_rows, row_below};
 
 use pixel_formats::Abyss;
 
-/// Under `None` the bytes of a rectangle are the image's, and inside the box they are so whatever
+/// States that under `None` the bytes of a rectangle are the image's, and inside the box they are so whatever
 /// the policy. They are those of the image that is generated over the rectangle under the policy.
 pub fn bytes_of_the_image()
     ensures none { (image : Image) (r : Rectangle) → raw_with image Abyss.None r ≡ raw image r }
@@ -21,8 +21,8 @@ pub fn bytes_of_the_image()
         raw (image_from_fn r image.format (abyss_at image policy)) r ≡ raw_with image policy r }
 {}
 
-/// A rectangle has the bytes of a pixel for each of its places, and a tile for each of its 64 by
-/// 64.
+/// States that a rectangle has the bytes of a pixel for each of its positions, and a tile for each of its 64
+/// by 64.
 pub fn count_of_bytes()
     ensures rectangle { (image : Image) (policy : Abyss) (r : Rectangle) →
         length (raw_with image policy r) ≡ area r * pixel_bytes image.format }
@@ -30,7 +30,7 @@ pub fn count_of_bytes()
         length (tile_bytes image tile) ≡ 4096 * pixel_bytes image.format }
 {}
 
-/// The bytes of a rectangle are those of its rows, from the top.
+/// States that the bytes of a rectangle are those of its rows, from the top.
 pub fn bytes_by_rows()
     ensures none { (image : Image) (policy : Abyss) (r : Rectangle) →
         raw_with image policy (first_rows r 0) ≡ [] }

@@ -20,33 +20,33 @@ limits-if : (b : Bool) (q r : Rectangle) → in_limits q ≡ b → cond b (Some 
 limits-if true q r known e = let is : q ≡ r = cc in subst InLimits is (limits-from q known)
 limits-if false q r known e = absurd (cc e)
 
-kept-limits : (made : Result Rectangle RectRefused) (r : Rectangle) → if_in_limits made ≡ Some r → InLimits r
-kept-limits (Ok q) r e = limits-if (in_limits q) q r refl e
-kept-limits (Err refused) r e = absurd (cc e)
+limited-limits : (made : Result Rectangle RectRefused) (r : Rectangle) → if_in_limits made ≡ Some r → InLimits r
+limited-limits (Ok q) r e = limits-if (in_limits q) q r refl e
+limited-limits (Err refused) r e = absurd (cc e)
 
 area-limits : (radius : ℕ) (policy : Abyss) (box r : Rectangle) → area_box radius policy box ≡ Some r → InLimits r
-area-limits radius policies.None box r e = kept-limits (grown radius box) r e
-area-limits radius policies.Clamp box r e = kept-limits (Ok box) r e
+area-limits radius policies.None box r e = limited-limits (grown radius box) r e
+area-limits radius policies.Clamp box r e = limited-limits (Ok box) r e
 area-limits radius policies.Loop box r e = absurd (cc e)
-area-limits radius policies.Black box r e = kept-limits (Ok box) r e
-area-limits radius policies.White box r e = kept-limits (Ok box) r e
+area-limits radius policies.Black box r e = limited-limits (Ok box) r e
+area-limits radius policies.White box r e = limited-limits (Ok box) r e
 
 with-limits : (op : IntOp) (a b r : Rectangle) → box_with op a b ≡ Some r → InLimits r
-with-limits (Color f rect samples) a b r e = kept-limits (Ok rect) r e
-with-limits (Checker f rect size v1 v2) a b r e = kept-limits (Ok rect) r e
-with-limits (Convert f) a b r e = kept-limits (Ok a) r e
-with-limits Invert a b r e = kept-limits (Ok a) r e
-with-limits (Threshold level) a b r e = kept-limits (Ok a) r e
-with-limits (Gain num den) a b r e = kept-limits (Ok a) r e
-with-limits (Translate dx dy) a b r e = kept-limits (shifted dx dy a) r e
-with-limits (Crop rect) a b r e = kept-limits (Ok (meet a rect)) r e
-with-limits (Flip sideways) a b r e = kept-limits (Ok a) r e
+with-limits (Color f rect samples) a b r e = limited-limits (Ok rect) r e
+with-limits (Checker f rect size v1 v2) a b r e = limited-limits (Ok rect) r e
+with-limits (Convert f) a b r e = limited-limits (Ok a) r e
+with-limits Invert a b r e = limited-limits (Ok a) r e
+with-limits (Threshold level) a b r e = limited-limits (Ok a) r e
+with-limits (Gain num den) a b r e = limited-limits (Ok a) r e
+with-limits (Translate dx dy) a b r e = limited-limits (shifted dx dy a) r e
+with-limits (Crop rect) a b r e = limited-limits (Ok (meet a rect)) r e
+with-limits (Flip sideways) a b r e = limited-limits (Ok a) r e
 with-limits (BoxMean radius abyss) a b r e = area-limits radius abyss a r e
 with-limits (Dilate radius abyss) a b r e = area-limits radius abyss a r e
 with-limits (Erode radius abyss) a b r e = area-limits radius abyss a r e
-with-limits Add a b r e = kept-limits (Ok (hull a b)) r e
-with-limits Over a b r e = kept-limits (Ok (hull a b)) r e
-with-limits Mask a b r e = kept-limits (Ok (meet a b)) r e
+with-limits Add a b r e = limited-limits (Ok (hull a b)) r e
+with-limits Over a b r e = limited-limits (Ok (hull a b)) r e
+with-limits Mask a b r e = limited-limits (Ok (meet a b)) r e
 
 stated-box : (b : Bool) (stated : Option Rectangle) (r : Rectangle) → cond b stated None ≡ Some r → stated ≡ Some r
 stated-box true stated r e = e

@@ -1,4 +1,4 @@
--- That `==` is the test by which meanings tell operations apart.
+-- That `==` is the test by which meanings distinguish operations.
 use Rattle.std.proofs.Common.{◌≡◌, true, false, ◌&&◌, eqb, refl, sym, ◌∙◌}
 use Rattle.std.specs.Str.{bytes_eq}
 use Rattle.std.proofs.Math.Bool.{and_assoc}

@@ -7,7 +7,7 @@ use Rattle.model_operations.specs.Inputs.{input_box, input_count}
 use Rattle.model_operations.specs.declared.operation.IntOp.{IntOp}
 use Rattle.model_operations.specs.declared.operation.IntOp.TheVariants.{Color, Checker, Convert, Invert, Threshold, Gain, Translate, Crop, Flip, BoxMean, Dilate, Erode, Add, Over, Mask}
 
--- a rectangle, where an image may be kept of it
+-- a rectangle, where it is in the limits of an image
 abbrev pub box_in_limits : Rectangle → Option Rectangle
 box_in_limits r = if_in_limits (Ok r)
 
@@ -38,7 +38,7 @@ box_with Over a b = box_in_limits (hull a b)
 box_with Mask a b = box_in_limits (meet a b)
 
 -- The box of what an operation gives of inputs of these boxes: none where their number is wrong, or where it is no
--- rectangle of which an image may be kept.
+-- rectangle in the limits of an image.
 abbrev pub box_of : IntOp → List Rectangle → Option Rectangle
 box_of op boxes =
     if length boxes == input_count op then box_with op (input_box boxes 0) (input_box boxes 1) else None

@@ -14,7 +14,7 @@ use Rattle.model_operations.specs.declared.operation.IntOp.{IntOp}
 abbrev pub whole : IntOp → List Image → List ℕ
 whole op images = raw (result_of op images) (result_box op (boxes_of images))
 
--- one place of these samples, at the origin
+-- one pixel of these samples, at the origin
 abbrev pub color : Format → List ℕ → Image
 color format samples = row_image format (pos 0) 1 samples
 

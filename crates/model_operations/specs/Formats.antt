@@ -12,7 +12,7 @@ use Rattle.model_operations.specs.declared.operation.IntOp.TheVariants.{Color, C
 abbrev pub is_mask_of : Format → Format → Bool
 is_mask_of mask format = channels mask == 1 && depth mask == depth format
 
--- a sample may stand in a pixel of the format
+-- a pixel of the format may have the sample
 abbrev pub is_sample : Format → ℕ → Bool
 is_sample format sample = nat_le sample (max_sample format)
 

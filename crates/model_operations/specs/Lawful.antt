@@ -1,5 +1,5 @@
--- That the fifteen operations keep the laws of meanings. These lemmas stand here and not among the proofs, since the
--- trait's laws are proved where it is implemented.
+-- That the fifteen operations keep the laws of meanings. These lemmas are here and not among the proofs, since
+-- the trait's laws are proved where it is implemented.
 pub mod Inputs
 pub mod Sides
 pub mod Reading

@@ -1,5 +1,5 @@
--- Places and rectangles moved, mirrored and surrounded. Columns and rows count from the plane's corner, and what
--- would lie before it stays there.
+-- Positions and rectangles moved, mirrored and surrounded. Columns and rows count from the plane's corner, and what
+-- would be before it is moved to it.
 use Rattle.std.specs.Prelude.{ℕ, ◌+◌, ◌-◌, ◌*◌, ◌||◌, Bool, if◌then◌else◌, ℤ, pos, negsuc}
 use Rattle.plane_rect.specs.Rectangle.{Rectangle, end_row, empty, is_empty, rectangle, end_column, spanning}
 use Rattle.model_images.specs.Abyss.{nearest}
@@ -27,7 +27,7 @@ moved dx dy r = rectangle (moved_index dx r.first_column) (moved_index dy r.firs
 abbrev pub moved_back : ℤ → ℤ → Rectangle → Rectangle
 moved_back dx dy r = rectangle (source_index dx r.first_column) (source_index dy r.first_row) r.width r.height
 
--- the number that stands as far from the last of len numbers from start on as another from the first
+-- the number that is as far from the last of len numbers from start on as another from the first
 abbrev pub mirrored : ℕ → ℕ → ℕ → ℕ
 mirrored start len n = 2 * start + len - 1 - n
 

@@ -82,7 +82,7 @@ is_pointwise Add = true
 is_pointwise Over = true
 is_pointwise Mask = true
 
--- the position is the nearest of a box to some place of a rectangle
+-- the position is the nearest of a box to some position of a rectangle
 abbrev pub IsNearestTo : Rectangle → ℕ → ℕ → Rectangle → Type 0
 IsNearestTo box u v r =
     (u' : ℕ) × (v' : ℕ) × Inside u' v' r × (u ≡ nearest box.first_column box.width u') × (v ≡ nearest box.first_row box.height v')

@@ -20,7 +20,7 @@ use Rattle.model_operations.specs.Windows.{max_of_all, min_of_all, mean_of, wind
 use Rattle.model_operations.specs.declared.operation.IntOp.{IntOp}
 use Rattle.model_operations.specs.declared.operation.IntOp.TheVariants.{Color, Checker, Convert, Invert, Threshold, Gain, Translate, Crop, Flip, BoxMean, Dilate, Erode, Add, Over, Mask}
 
--- the number of a column's square, of so many places a side: the origin begins an even one
+-- the number of a column's square, of so many pixels a side: the origin begins an even one
 abbrev pub square_number : ℕ → ℕ → ℕ
 square_number size u = (u + origin * size - origin) / size
 
@@ -49,7 +49,7 @@ dilated_pixel radius policy image u v = λ channel. max_of_all (window radius im
 abbrev pub eroded_pixel : ℕ → Abyss → Image → ℕ → ℕ → Pixel
 eroded_pixel radius policy image u v = λ channel. min_of_all (window radius image policy u v channel)
 
--- the pixel that an operation gives of the first and the second input, at a place of the result's box
+-- the pixel that an operation gives of the first and the second input, at a position of the result's box
 abbrev pub value_with : IntOp → Image → Image → ℕ → ℕ → Pixel
 value_with (Color format rect samples) a b u v = slice_index samples
 value_with (Checker format rect size v1 v2) a b u v = checker_pixel format size v1 v2 u v

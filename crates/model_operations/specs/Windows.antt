@@ -5,7 +5,7 @@ use Rattle.model_images.specs.Image.{Image, sampled}
 use Rattle.model_images.specs.Abyss.{abyss_at, outside_at}
 use Rattle.pixel_formats.specs.declared.abyss.Abyss.{Abyss}
 
--- how many places a side a window has
+-- how many pixels a side a window has
 abbrev pub window_side : ℕ → ℕ
 window_side radius = 2 * radius + 1
 

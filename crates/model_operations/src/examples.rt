@@ -12,8 +12,8 @@ ghost use Rattle.model_operations.specs.Examples.{color, square_around, whole};
 use crate::operation::IntOp;
 use pixel_formats::{Abyss, Format};
 
-/// Samples of other depths and channels: 128 of 255 is 32,896 of 65,535, and back; (10 + 20 + 31 + 1) / 3
-/// is 20.
+/// Samples of other depths and channels: 128 of 255 is 32,896 of 65,535, and back; (10 + 20 + 31 +
+/// 1) / 3 is 20.
 pub fn conversions()
     ensures deeper { whole (IntOp.Convert Format.Y16)
         (row_image Format.Y8 (pos 0) 1 (128 ∷ []) ∷ [])
@@ -36,7 +36,7 @@ pub fn conversions()
 {}
 
 /// Each pixel by itself: 100 * 5 / 4, and 250 * 5 / 4 up to 255; half of 5, rounded up; 99 and 100
-/// at a threshold of 100; colors counted down from their alpha, and one that is above it.
+/// at a threshold of 100; colors subtracted from their alpha, and one that is above it.
 pub fn single_pixels()
     ensures gain { whole (IntOp.Gain 5 4) (row_image Format.Y8 (pos 0) 2 (100 ∷ 250 ∷ []) ∷ [])
         ≡ 125 ∷ 255 ∷ [] }
@@ -83,8 +83,8 @@ pub fn moves()
         ≡ Some (positions_from (pos 1) 2) }
 {}
 
-/// One place of 9: its mean with eight zeros is (9 + 4) / 9 at each of the nine positions around it, and
-/// with eight like it 9.
+/// One pixel of 9: its mean with eight zeros is (9 + 4) / 9 at each of the nine positions around
+/// it, and with eight equal to it 9.
 pub fn means()
     ensures none { whole (IntOp.BoxMean 1 Abyss.None) (row_image Format.Y8 (pos 0) 1 (9 ∷ []) ∷ [])
         ≡ 1 ∷ 1 ∷ 1 ∷ 1 ∷ 1 ∷ 1 ∷ 1 ∷ 1 ∷ 1 ∷ [] }
@@ -98,8 +98,8 @@ pub fn means()
     ensures none_repeats { box_of (IntOp.BoxMean 1 Abyss.Loop) (positions_from (pos 0) 1 ∷ []) ≡ None }
 {}
 
-/// The largest and the smallest around each position, also at the plane's left edge, where white stands
-/// before it.
+/// The largest and the smallest sample around each position, also at the plane's left edge, left of
+/// which the policy reads white.
 pub fn extremes()
     ensures dilate { whole (IntOp.Dilate 1 Abyss.Clamp)
         (row_image Format.Y8 (pos 0) 3 (5 ∷ 0 ∷ 0 ∷ []) ∷ [])
@@ -112,7 +112,8 @@ pub fn extremes()
         ≡ 255 ∷ [] }
 {}
 
-/// Squares of two and of three places a side, left of the origin too, and one pixel for all positions.
+/// Squares of two and of three pixels a side, left of the origin too, and one pixel for all
+/// positions.
 pub fn without_inputs()
     ensures checker { whole (IntOp.Checker Format.Y8 (positions_from (negsuc 1) 6) 2 0 9) []
         ≡ 9 ∷ 9 ∷ 0 ∷ 0 ∷ 9 ∷ 9 ∷ [] }
@@ -137,7 +138,7 @@ pub fn formats_of_pairs()
     ensures one_input { format_of IntOp.Mask (Format.RGB8 ∷ []) ≡ None }
 {}
 
-/// Arguments at the ends of their ranges, and after them.
+/// Arguments at the ends of their ranges, and just outside.
 pub fn arguments()
     ensures threshold { format_of (IntOp.Threshold 255) (Format.Y8 ∷ []) ≡ Some Format.Y8 }
     ensures threshold_above { format_of (IntOp.Threshold 256) (Format.Y8 ∷ []) ≡ None }

@@ -10,11 +10,13 @@ ghost use Rattle.model_operations.specs.declared.operation.IntOp.{IntOp};
 ghost use Rattle.model_operations.specs.Boxes.{box_of, result_box};
 ghost use Rattle.model_operations.specs.Formats.{format_of};
 ghost use Rattle.model_operations.specs.Inputs.{boxes_of, formats_of, input_image, input_count};
+ghost use Rattle.model_graphs.specs.Laws.{KeepsNothing};
+ghost use Rattle.model_operations.specs.Meanings.{int_meanings};
 ghost use Rattle.model_operations.specs.Results.{IsInRange, result_format, result_of};
 ghost use Rattle.model_operations.specs.Values.{value_at};
 
-/// A result is an image of the box and the format that the operation tells of its inputs, with the
-/// value at each place of the box.
+/// A result is an image of the box and the format that the operation gives for its inputs, with the
+/// operation's value at each position of the box.
 pub fn result_is_generated()
     ensures whole { (op : IntOp) (images : List Image) → IsImage (result_of op images) }
     ensures bounds { (op : IntOp) (images : List Image) (box : Rectangle) →
@@ -27,7 +29,7 @@ pub fn result_is_generated()
         at (result_of op images) u v c ≡ value_at op images u v c }
 {}
 
-/// An operation tells no box of which an image may not be kept.
+/// An operation gives no box that is too large for an image.
 pub fn box_in_limits()
     ensures { (op : IntOp) (boxes : List Rectangle) (box : Rectangle) →
         box_of op boxes ≡ Some box → InLimits box }
@@ -46,4 +48,9 @@ pub fn result_in_range()
         format_of op (formats_of images) ≡ Some format →
         ((i : ℕ) → i < input_count op → IsInRange (input_image images i)) →
         (u v c : ℕ) → at (result_of op images) u v c ≤ max_sample format }
+{}
+
+/// A change without a pixel invalidates none.
+pub fn nothing_invalidates_nothing()
+    ensures { KeepsNothing int_meanings }
 {}

@@ -1,7 +1,7 @@
 //! What the fifteen operations mean.
 
 ghost use Rattle.model_operations.specs.Meanings.{int_meanings, same_operation};
-ghost use Rattle.model_operations.specs.Lawful.MeaningLaws.{is_boxed, is_dual, is_local, keeps_nothing};
+ghost use Rattle.model_operations.specs.Lawful.MeaningLaws.{is_boxed, is_dual, is_local};
 ghost use Rattle.model_operations.specs.Lawful.SameLaws.{is_equality};
 
 use crate::operation::IntOp;
@@ -17,8 +17,6 @@ impl OpMeaning for IntOp {
     ghost dual = { is_dual };
 
     ghost boxed = { is_boxed };
-
-    ghost nothing = { keeps_nothing };
 
     ghost distinguished = { is_equality };
 }

@@ -3,8 +3,8 @@
 use pixel_formats::{Abyss, Format, PixelSamples};
 use plane_rect::Rect;
 
-/// An operation on whole images, with its arguments. Coordinates, sizes and radii are in places,
-/// and samples count from 0 to the format's largest. A color is at most its cap: the alpha of its
+/// An operation on whole images, with its arguments. Coordinates, sizes and radii are in pixels,
+/// and samples are from 0 to the format's largest. A color is at most its cap: the alpha of its
 /// pixel, or the largest sample where the format has none.
 #[derive(Drop, PartialEq, Eq)]
 pub enum IntOp {
@@ -14,8 +14,8 @@ pub enum IntOp {
         rect: Rect,
         samples: PixelSamples,
     },
-    /// Squares of `size` places a side over a rectangle, from the origin on: the colors are `v1`
-    /// in the square at the origin and `v2` in those beside it, alpha is full. GEGL's
+    /// Squares of `size` pixels a side over a rectangle, from the origin on: the colors are `v1` in
+    /// the square at the origin and `v2` in those beside it, alpha is full. GEGL's
     /// `gegl:checkerboard`.
     Checker {
         format: Format,
@@ -54,7 +54,7 @@ pub enum IntOp {
     Flip {
         sideways: bool,
     },
-    /// The mean of the square of `2 * radius + 1` places a side around each position. GEGL's
+    /// The mean of the square of `2 * radius + 1` pixels a side around each position. GEGL's
     /// `gegl:box-blur`.
     BoxMean {
         radius: u32,

@@ -1,4 +1,4 @@
-//! What regions are, position by position.
+//! Laws of regions, position by position.
 
 ghost use Rattle.std.specs.Prelude.{◌≡◌, ℕ, ℤ, ◌<◌, ◌↔◌, List, [], ◌∷◌, Some, false, true};
 ghost use Rattle.plane_rect.specs.Rectangle.{Includes, Inside, InsideGrown, Rectangle, is_empty};
@@ -8,8 +8,8 @@ ghost use Rattle.model_operations.specs.Inputs.{input_box, input_count};
 ghost use Rattle.model_operations.specs.Moves.{source_index, mirrored, mirrored_part, moved_into, position, surrounded};
 ghost use Rattle.model_operations.specs.Regions.{IsNearestTo, invalidated, is_pointwise, required};
 
-/// Where each pixel of the result is of the pixels at its own position, a region stands for itself, as
-/// far as it is in the result's box and in the input's.
+/// Where each pixel of the result is of the pixels at its own position, a region reads and reaches
+/// itself, as far as it is in the input's box and in the result's.
 pub fn pointwise_regions()
     ensures required { (op : IntOp) (boxes : List Rectangle) (i : ℕ) (region : Rectangle) (u v : ℕ) →
         is_pointwise op ≡ true →
@@ -22,7 +22,7 @@ pub fn pointwise_regions()
 {}
 
 /// A surrounded rectangle has the positions that are near to one of its own. Moved into a box, a
-/// rectangle has the nearest of the box to each of its places.
+/// rectangle has the nearest position of the box to each of its own.
 pub fn area_regions()
     ensures surrounded { (by u v : ℕ) (r : Rectangle) →
         Inside u v (surrounded by r) ↔ InsideGrown by u v r }
@@ -39,7 +39,7 @@ pub fn mirrored_regions()
         Inside u v (mirrored_part false box part) ↔ Inside u (mirrored box.first_row box.height v) part }
 {}
 
-/// Each place of a translated image shows a place of its input, the one that was moved there.
+/// Each position of a translated image shows the position of its input that was moved there.
 pub fn translated_positions()
     ensures { (dx dy : ℤ) (box moved : Rectangle) →
         box_of (IntOp.Translate dx dy) (box ∷ []) ≡ Some moved →

@@ -1,3 +1,4 @@
 mod CacheSizes
 mod FrameNumbers
 mod Loading
+mod BuiltWords

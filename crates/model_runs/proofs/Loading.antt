@@ -11,11 +11,11 @@ use Rattle.run_texts.specs.Events.{Event, Puts}
 use Rattle.script_read.specs.declared.command.Command.TheVariants as commands
 use Rattle.script_read.specs.declared.command.Line.{Line}
 use Rattle.model_runs.specs.Examples.{HasRaster, inverting_node, inverted_raster, lines_from, outcome_of, render, row_from, source_node, exposed}
-use Rattle.model_runs.specs.Run.{and_on, outcome_of_turns, effects}
+use Rattle.model_runs.specs.Run.{and_on, effects, outcome_of_effects, report}
 use Rattle.model_runs.specs.State.{Effect, first_state}
 use Rattle.model_runs.specs.Effects.{loads, effect}
 
--- the turn of the line that makes the buffer
+-- the effect of the line that makes the buffer
 abbrev made : Files → Effect
 made files = effect 100 (first_state []) files 1 (commands.Buffer (codes "a") Y8 (row_from 0 2))
 
@@ -33,7 +33,7 @@ after =
 -- the events where this is found of the file
 abbrev events_with : Files → Option (List ℕ) → List Event
 events_with files found =
-    (outcome_of_turns
+    (outcome_of_effects report (first_state []) files
     (made files
     ∷ and_on files (λ next later. effects 100 next later after)
     (loads 2 (made files).next (codes "a") (row_from 0 2) found))).events

@@ -1,6 +1,8 @@
 -- What the commands of a script ask of buffers and of nodes.
 use Rattle.std.specs.Prelude.{ℕ, List}
-use Rattle.model_graphs.specs.Node.{Node, Body, Source, Compute}
+use Rattle.model_graphs.specs.Node.{Node}
+use Rattle.model_graphs.specs.declared.node.Body.{Body}
+use Rattle.model_graphs.specs.declared.node.Body.TheVariants.{Source, Compute}
 use Rattle.model_operations.specs.declared.operation.IntOp.{IntOp}
 use Rattle.model_operations.specs.declared.operation.IntOp.TheVariants as operations
 use Rattle.script_read.specs.declared.command.OpWords.{OpWords}

@@ -9,8 +9,8 @@ use Rattle.script_read.specs.declared.command.Command.{Command}
 use Rattle.script_read.specs.declared.command.Command.TheVariants as commands
 use Rattle.script_read.specs.declared.command.Line.{Line}
 use Rattle.script_read.specs.declared.command.OpWords.TheVariants as words
-use Rattle.model_runs.specs.Run.{outcome_of_turns, turns_of}
-use Rattle.model_runs.specs.State.{Numbers, Effect}
+use Rattle.model_runs.specs.Run.{effects_of, outcome_from, report}
+use Rattle.model_runs.specs.State.{Numbers, Effect, first_state}
 
 -- commands as the lines of a script, from a number on
 abbrev pub lines_from : ℕ → List Command → List Line
@@ -19,7 +19,7 @@ lines_from number (command ∷ commands) = record { number = number; command = c
 
 -- what these commands come to over files, with a cache of 100 tiles
 abbrev pub outcome_of : Numbers → Files → List Command → Outcome
-outcome_of numbers files commands = outcome_of_turns (turns_of 100 numbers files (lines_from 1 commands))
+outcome_of numbers files commands = outcome_from report 100 (first_state numbers) files (lines_from 1 commands)
 
 -- the file `in.raw` has these bytes
 abbrev pub HasRaster : List ℕ → Files → Type 0
@@ -71,7 +71,7 @@ part_of_zeros =
 -- one tile is filled and grabbed, and then filled again
 abbrev pub filled_twice : Files → List Effect
 filled_twice files =
-    turns_of 100 [] files
+    effects_of 100 [] files
     (lines_from 1
     (commands.Buffer (codes "a") Y8 (row_from 0 4)
     ∷ fill (codes "a") (row_from 0 4) 7

@@ -1,8 +1,13 @@
 pub mod Commands
 pub mod State
-pub mod Effects
 pub mod Watching
-pub mod Laws
+pub mod Effects
+pub mod Words
 pub mod Run
 pub mod Swap
+pub mod MadeJob
+pub mod Built
+pub mod Ending
+pub mod Ran
+pub mod Laws
 pub mod Examples

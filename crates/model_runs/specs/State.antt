@@ -1,11 +1,14 @@
 -- What a script has made so far, and what a line of it does.
 use Rattle.std.specs.Prelude.{ℕ, List, [], ◌∷◌, Option, Some, None}
 use Rattle.plane_rect.specs.Rectangle.{Rectangle}
-use Rattle.model_operations.specs.declared.operation.IntOp.{IntOp}
 use Rattle.model_buffers.specs.Table.{Table}
-use Rattle.model_states.specs.Cache.{Cached}
-use Rattle.model_states.specs.History.{History, new_history}
-use Rattle.model_sessions.specs.Steps.{no_buffers}
+use Rattle.model_operations.specs.declared.operation.IntOp.{IntOp}
+use Rattle.model_states.specs.History.{number_of}
+use Rattle.model_states.specs.State.{Scene}
+use Rattle.model_states.specs.Workspace.{Workspace}
+use Rattle.model_states.specs.Rectangles.{Rectangles}
+use Rattle.model_sessions.specs.Sessions.{Session, last_scene, new_session}
+use Rattle.model_sessions.specs.Steps.{with_workspace}
 use Rattle.run_texts.specs.Events.{Event, Puts}
 use Rattle.run_texts.specs.Texts.{refusal_text}
 use Rattle.run_texts.specs.declared.cause.Cause.{Cause}
@@ -31,44 +34,48 @@ pub record Watched : Type 0 where
 abbrev pub Numbers : Type 0
 Numbers = List (List (List ℕ))
 
--- The buffers, nodes and states that were made; the cached tiles of nodes, most recent first; the watch that is open;
--- and the numbers of the frames of all watches that are not ended yet.
+-- The session that was made, with its counts; the watch that is open; and the numbers of the frames of all watches that
+-- are not ended yet. What the next lines do depends on it, on the files and on nothing else.
 pub record RunState : Type 0 where
-  pub history : History Table IntOp
-  pub cached : List Cached
+  pub session : Session Table IntOp
   pub watching : Option Watching
   pub numbers : Numbers
 
 -- before the first line
 abbrev pub first_state : Numbers → RunState
-first_state numbers = record { history = new_history no_buffers; cached = []; watching = None; numbers = numbers }
+first_state numbers = record { session = new_session; watching = None; numbers = numbers }
+
+-- the buffers, the pending edits and what is retained
+abbrev pub workspace_of : RunState → Workspace Table IntOp Rectangles
+workspace_of state = state.session.history.workspace
+
+-- the state with another workspace over the same committed states
+abbrev pub in_workspace : RunState → Workspace Table IntOp Rectangles → RunState
+in_workspace state workspace =
+    record state { session = record state.session { history = with_workspace state.session.history workspace } }
+
+-- the last committed state, as its nodes read it, and its number
+abbrev pub scene_in : RunState → Scene IntOp
+scene_in state = last_scene state.session
+
+abbrev pub number_in : RunState → ℕ
+number_in state = number_of state.session.history
 
 -- What one line does: the state after it, its events, and why it is refused, where it is. Besides how many tiles of
--- buffers it may make, how many tiles of nodes are evaluated and how many are found, and the watch that it ends.
+-- buffers it may make, and the watch that it ends.
 pub record Effect : Type 0 where
   pub line : ℕ
   pub next : RunState
   pub events : List Event
   pub refused : Option Cause
   pub tiles : ℕ
-  pub applied : ℕ
-  pub reused : ℕ
   pub watched : Option Watched
 
 -- a line that leaves a state, and does nothing else
 abbrev pub leaves : ℕ → RunState → Effect
-leaves line next = record {
-  line = line;
-  next = next;
-  events = [];
-  refused = None;
-  tiles = 0;
-  applied = 0;
-  reused = 0;
-  watched = None;
-}
+leaves line next = record { line = line; next = next; events = []; refused = None; tiles = 0; watched = None }
 
--- a line that is refused, and known so; nothing after it is carried out
+-- a line that is refused, and reported; nothing after it is carried out
 abbrev pub refuses : ℕ → RunState → Cause → Effect
 refuses line state cause =
     record (leaves line state) { events = Puts (refusal_text line cause) ∷ []; refused = Some cause }

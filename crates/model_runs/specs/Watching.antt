@@ -6,18 +6,18 @@ use Rattle.model_images.specs.Raw.{raw}
 use Rattle.model_operations.specs.declared.operation.IntOp.{IntOp}
 use Rattle.model_buffers.specs.Table.{Table}
 use Rattle.model_states.specs.Edits.{has_node}
-use Rattle.model_states.specs.History.{History, committed_states, number_of}
+use Rattle.model_states.specs.History.{History, committed_states, latest_of}
 use Rattle.model_states.specs.State as states
 use Rattle.model_states.specs.State.{State}
 use Rattle.model_sessions.specs.Histories.{scene_of}
 use Rattle.model_operations.specs.Meanings.{int_meanings}
 use Rattle.run_texts.specs.Events.{Event, Puts, Writes}
 use Rattle.run_texts.specs.Texts.{frame_text}
-use Rattle.model_runs.specs.State.{Numbers, RunState, Effect, Watched, Watching, leaves}
+use Rattle.model_runs.specs.State.{Numbers, RunState, Effect, Watched, Watching, leaves, number_in}
 
 -- the committed state of a number
 abbrev pub state_of : History Table IntOp → ℕ → State Table IntOp
-state_of history number = (slice_index_or (committed_states history) number history.latest).state
+state_of history number = (slice_index_or (committed_states history) number (latest_of history)).state
 
 -- the bytes of a frame: its rectangle of the node, and none where the state lacks the node
 abbrev pub frame_bytes : Watching → State Table IntOp → List ℕ
@@ -57,8 +57,8 @@ abbrev pub ends : ℕ → RunState → Option Watching → Effect
 ends line state None = leaves line state
 ends line state (Some watching) =
     record (leaves line (record state { watching = None; numbers = drop 1 state.numbers })) {
-      events = watch_events watching state.history (slice_index_or state.numbers 0 []);
-      watched = Some (record { watching = watching; ended = number_of state.history });
+      events = watch_events watching state.session.history (slice_index_or state.numbers 0 []);
+      watched = Some (record { watching = watching; ended = number_in state });
     }
 
 abbrev pub end_watch : ℕ → RunState → Effect

@@ -1,13 +1,16 @@
 //! Runs of small scripts, worked out by hand.
 
-ghost use Rattle.std.specs.Prelude.{◌≡◌, [], ◌∷◌, ◌++◌, codes, None, Some, option_map};
+ghost use Rattle.std.specs.Prelude.{◌≡◌, [], ◌∷◌, ◌++◌, codes, slice_index_or, take, None, Some};
+ghost use Rattle.script_words.specs.Words.{joined};
 ghost use Rattle.plane_rect.specs.Rectangle.{empty};
 ghost use Rattle.outside_io.specs.Files.{Files};
 ghost use Rattle.run_texts.specs.Events.{Puts, Refusal};
 ghost use Rattle.run_texts.specs.declared.cause.Cause.TheVariants as causes;
 ghost use Rattle.script_read.specs.declared.command.Command.TheVariants as commands;
 ghost use Rattle.model_runs.specs.Examples.{HasRaster, fill, filled_twice, grab, inverted_raster, outcome_of, part_of_zeros, render, row_from, exposed, watched_edits};
-ghost use Rattle.model_runs.specs.Swap.{tiles_in, turns_to_stop};
+ghost use Rattle.model_runs.specs.MadeJob.{draws, fills};
+ghost use Rattle.model_runs.specs.Words.{MakeJob, RunScript, default_options, request_of};
+ghost use Rattle.model_runs.specs.Swap.{effects_to_stop, tiles_in};
 
 /// A raster of 64 and 255 is inverted. A region without positions is an empty file.
 pub fn an_inverted_raster()
@@ -56,6 +59,35 @@ pub fn refused_lines()
 /// A tile is filled before a file is written, and once more after it. Where no text was put the run stopped at the
 /// file's line, and the tile after it doesn't count.
 pub fn tiles_of_fills()
-    ensures all { (files : Files) → tiles_in 100 (turns_to_stop None (filled_twice files)) ≡ 3 }
-    ensures to_the_file { (files : Files) → tiles_in 100 (turns_to_stop (Some []) (filled_twice files)) ≡ 2 }
+    ensures all { (files : Files) → tiles_in 100 (effects_to_stop None (filled_twice files)) ≡ 3 }
+    ensures to_the_file { (files : Files) → tiles_in 100 (effects_to_stop (Some []) (filled_twice files)) ≡ 2 }
+{}
+
+/// A script alone has the default options. Options stand before and after it, with their values in the next word or
+/// after `=`.
+pub fn words_of_runs()
+    ensures alone { request_of (codes "run" ∷ codes "s.txt" ∷ []) ≡ Some (RunScript (codes "s.txt") default_options) }
+    ensures options { request_of (codes "run" ∷ codes "--cache" ∷ codes "5" ∷ codes "s" ∷ codes "--swap-blocks=0000007" ∷ [])
+        ≡ Some (RunScript (codes "s") (record default_options { cache = 5; swap_blocks = 7 })) }
+    ensures largest { request_of (codes "run" ∷ codes "s" ∷ codes "--workers=16" ∷ codes "--resident=32768" ∷ [])
+        ≡ Some (RunScript (codes "s") (record default_options { workers = 16; resident = 32768 })) }
+{}
+
+/// Words that are in no grammar: an option twice, one past its range, a value of eight digits, an option of no name, no
+/// script, and two.
+pub fn words_of_nothing()
+    ensures twice { request_of (codes "run" ∷ codes "s" ∷ codes "--cache" ∷ codes "5" ∷ codes "--cache=5" ∷ []) ≡ None }
+    ensures too_many { request_of (codes "run" ∷ codes "s" ∷ codes "--workers=17" ∷ []) ≡ None }
+    ensures long { request_of (codes "run" ∷ codes "s" ∷ codes "--cache=00000005" ∷ []) ≡ None }
+    ensures unknown { request_of (codes "run" ∷ codes "s" ∷ codes "-x" ∷ codes "5" ∷ []) ≡ None }
+    ensures no_script { request_of (codes "run" ∷ codes "--cache=5" ∷ []) ≡ None }
+    ensures two_scripts { request_of (codes "run" ∷ codes "s" ∷ codes "t" ∷ []) ≡ None }
+{}
+
+/// A job is made of a number below 2^32. The first numbers that are drawn for job 0, and its second fill.
+pub fn made_jobs()
+    ensures largest { request_of (codes "make" ∷ codes "4294967295" ∷ []) ≡ Some (MakeJob 4294967295) }
+    ensures too_large { request_of (codes "make" ∷ codes "4294967296" ∷ []) ≡ None }
+    ensures draws { draws 11 0 ≡ 60 ∷ 71 ∷ 209 ∷ 170 ∷ 98 ∷ 159 ∷ 87 ∷ 163 ∷ 129 ∷ 148 ∷ 203 ∷ [] }
+    ensures fill { take 20 (joined (slice_index_or (fills 2 0) 1 [])) ≡ codes "fill a 163 129 21 12" }
 {}

@@ -1,9 +1,7 @@
 -- Edits of buffers continue tables.
-use Rattle.std.proofs.Common.{◌≡◌, ◌≢◌, ℕ, Bool, true, false, not, cond, List, [], ◌∷◌, filter, refl, sym, ap, ◌∙◌, subst, arith, Option, Some, None, Result, Ok, Err, IfOk, ℤ, unwrap_or}
+use Rattle.std.proofs.Common.{◌≡◌, ◌≢◌, ℕ, Bool, true, false, cond, List, [], ◌∷◌, refl, sym, ap, ◌∙◌, subst, arith, Option, Some, None, Result, Ok, Err, IfOk, ℤ, unwrap_or}
 use Rattle.std.specs.Prelude.{option_map}
-use Rattle.std.specs.Map.{lookup}
 use Rattle.std.specs.Str.{bytes_eq}
-use Rattle.std.proofs.lemmas.Map.Entries.{lookup-filter-keys}
 use Rattle.plane_rect.specs.declared.rect.RectRefused.{RectRefused}
 use Rattle.plane_rect.specs.Rectangle.{Rectangle, Includes, Inside, empty, hull, shifted}
 use Rattle.plane_rect.proofs.RectangleLaws.{Includes-hull_left, Includes-hull_right}
@@ -12,14 +10,18 @@ use Rattle.model_images.specs.Image.{Image}
 use Rattle.model_images.specs.Paint.{blank}
 use Rattle.model_images.specs.FromRaw.{pixels_from_raw}
 use Rattle.model_images.proofs.Laws.{AgreeOutside-refl}
-use Rattle.model_buffers.specs.Edits.{Edited, copied, evenly, moved_samples}
+use Rattle.model_buffers.specs.declared.edit.BufferEdit.{BufferEdit}
+use Rattle.model_buffers.specs.declared.edit.BufferEdit.TheVariants.{Create, Sub, Duplicate, Fill, Put, Copy}
+use Rattle.model_buffers.specs.BufferEdit.{IsProperEdit, on_root}
+use Rattle.model_buffers.specs.Edits.{edited_table, evenly, moved_samples}
 use Rattle.model_buffers.specs.Effects.{IsAdded, IsWritten}
-use Rattle.model_buffers.specs.Table.{IsTable, Table, View, find, image_of, root_of}
-use Rattle.model_buffers.proofs.AnswerLaws.{copy}
-use Rattle.model_buffers.proofs.EffectLaws.{Any, copied-images, copied-table, created-image, created-table, duplicated-image, duplicated-table, filled-images, filled-table, put-images, put-table, sub_buffer-image, sub_buffer-table}
-use Rattle.model_buffers.proofs.FindLaws.{apart_test, name_from_test, same_name}
-use Rattle.model_states.specs.History.{Rectangles, rectangle_of, with_written}
-use Rattle.model_sessions.specs.Steps.{BufferEdit, Create, Sub, Duplicate, Fill, Put, Copy, IsProperEdit, edited_table, on_root, only, rectangles_by}
+use Rattle.model_buffers.specs.Layout.{View, find}
+use Rattle.model_buffers.specs.Table.{IsTable, Table, image_of, layout_of, root_of}
+use Rattle.model_buffers.proofs.EffectLaws.{copied-images, copied-nowhere, created-image, duplicated-image, edited-table, filled-images, if_then, put-images, sub_buffer-image}
+use Rattle.model_buffers.proofs.FindLaws.{name_from_test, same_name}
+use Rattle.model_states.specs.Rectangles.{Rectangles, rectangle_of, with_written}
+use Rattle.model_states.proofs.Written.{written-other, written-own}
+use Rattle.model_sessions.specs.Steps.{only, rectangles_by}
 use Rattle.model_sessions.specs.Tables.{Continues}
 
 -- ---- agreement
@@ -57,7 +59,7 @@ added-continues table name image after added other root on =
 some-apart : (a b : List ℕ) → bytes_eq a b ≡ false → (let x : Option (List ℕ) = Some a in let y : Option (List ℕ) = Some b in x ≢ y)
 some-apart a b test same = let is : a ≡ b = cc in cc (test, same_name b, ap (λ name. bytes_eq name b) is)
 
-written-continues : (table : Table) (name : List ℕ) (r : Rectangle) (f : ℕ → ℕ → ℕ → ℕ) (after : Table) → IsWritten table name r f after → Continues table (only (on_root table name (Ok r))) after
+written-continues : (table : Table) (name : List ℕ) (r : Rectangle) (f : ℕ → ℕ → ℕ → ℕ) (after : Table) → IsWritten table name r f after → Continues table (only (on_root (layout_of table) name (Ok r))) after
 written-continues table name r f after written other root on =
     (written.roots other ∙ on, of (root_of table name) refl)
   where
@@ -74,21 +76,15 @@ written-continues table name r f after written other root on =
             agree-same (image_of table other) (image_of after other) empty
             (written.other_roots other (λ same. some-apart root own t (sym on ∙ same ∙ e)))
 
-if_then : {P Q : Table → Type 0} (edited : Edited) → ((after : Table) → P after → Q after) → IfOk edited P → IfOk edited Q
-if_then (Ok after) step p = step after p
-if_then (Err refused) step p = tt
-
 -- a copy whose moved rectangle is none is refused
 copied-continues : (table : Table) → IsTable table → (from to : List ℕ) (r : Rectangle) (dx dy : ℤ) (moved : Result Rectangle RectRefused) → shifted dx dy r ≡ moved →
-    IfOk (copied table from to r dx dy) (Continues table (only (on_root table to moved)))
+    IfOk (edited_table table (Copy from to r dx dy)) (Continues table (only (on_root (layout_of table) to moved)))
 copied-continues table is from to r dx dy (Ok moved) e =
-    if_then (copied table from to r dx dy)
+    if_then (edited_table table (Copy from to r dx dy))
     (λ after written. written-continues table to moved (moved_samples (image_of table from) r moved) after written)
     (copied-images table is from to r moved dx dy e)
 copied-continues table is from to r dx dy (Err refused) e =
-    copy (Continues table []) Any table from to r dx dy
-    (λ _. tt) (λ _ _ _. tt) (λ _ _ _ _ _. tt) (λ _ _ _ _ _. tt) (λ _ _ _ _ _ _. tt) (λ _ _ _ _ _ _ _. tt)
-    (λ source target begun moved m there equal. absurd (cc (m, e)))
+    copied-nowhere (Continues table []) table from to r dx dy refused e
 
 pub edit-continues : (table : Table) (edit : BufferEdit) → IsTable table → IsProperEdit edit → IfOk (edited_table table edit) (Continues table (rectangles_by table edit))
 edit-continues table (Create name format extent) is proper =
@@ -110,12 +106,7 @@ edit-continues table (Put name r bytes) is proper =
 edit-continues table (Copy from to r dx dy) is proper = copied-continues table is from to r dx dy (shifted dx dy r) refl
 
 pub edit-table : (table : Table) (edit : BufferEdit) → IsTable table → IsProperEdit edit → IfOk (edited_table table edit) IsTable
-edit-table table (Create name format extent) is proper = created-table table is name format extent proper.0 proper.1
-edit-table table (Sub name parent r) is proper = sub_buffer-table table is name parent r proper
-edit-table table (Duplicate name from) is proper = duplicated-table table is name from
-edit-table table (Fill name r samples) is proper = filled-table table is name r samples
-edit-table table (Put name r bytes) is proper = put-table table is name r bytes
-edit-table table (Copy from to r dx dy) is proper = copied-table table is from to r dx dy
+edit-table table edit is proper = edited-table table is edit proper
 
 -- ---- one edit after others
 
@@ -124,33 +115,23 @@ abbrev pub with_those : Rectangles → Option (List ℕ × Rectangle) → Rectan
 with_those rectangles None = rectangles
 with_those rectangles (Some entry) = with_written rectangles entry.0 entry.1
 
-kept_rectangle : (rectangles : Rectangles) (own other : List ℕ) → bytes_eq other own ≡ false →
-    lookup (bytes_eq other) (filter (λ (entry : List ℕ × Rectangle). not (bytes_eq own entry.0)) rectangles) ≡ lookup (bytes_eq other) rectangles
-kept_rectangle rectangles own other apart =
-    lookup-filter-keys (bytes_eq other) (λ name. not (bytes_eq own name)) true
-    (λ name same. ap not (apart_test own name (λ is. cc (apart, same, ap (bytes_eq other) is)))) rectangles
-
 -- the rectangle of a root that was written includes what there was, and the others are the same
 with_written-wider : (rectangles : Rectangles) (own other : List ℕ) (r : Rectangle) →
     Includes (rectangle_of (with_written rectangles own r) other) (rectangle_of rectangles other)
     × Includes (rectangle_of (with_written rectangles own r) other) (rectangle_of ((own, r) ∷ []) other)
 with_written-wider rectangles own other r = by (bytes_eq other own) refl
   where
-    rest : Rectangles
-    rest = filter (λ (entry : List ℕ × Rectangle). not (bytes_eq own entry.0)) rectangles
-
-    whole : Rectangle
-    whole = hull (rectangle_of rectangles own) r
-
     by : (b : Bool) → bytes_eq other own ≡ b →
-        Includes (unwrap_or (cond b (Some whole) (lookup (bytes_eq other) rest)) empty) (rectangle_of rectangles other)
-        × Includes (unwrap_or (cond b (Some whole) (lookup (bytes_eq other) rest)) empty) (unwrap_or (cond b (Some r) None) empty)
-    by true e = (
-      subst (λ name. Includes whole (rectangle_of rectangles name)) (sym (name_from_test other own e)) (Includes-hull_left (rectangle_of rectangles own) r),
-      Includes-hull_right (rectangle_of rectangles own) r,
-    )
+        Includes (rectangle_of (with_written rectangles own r) other) (rectangle_of rectangles other)
+        × Includes (rectangle_of (with_written rectangles own r) other) (unwrap_or (cond b (Some r) None) empty)
+    by true e =
+        let whole : rectangle_of (with_written rectangles own r) other ≡ hull (rectangle_of rectangles other) r =
+        subst (λ name. rectangle_of (with_written rectangles own r) name ≡ hull (rectangle_of rectangles name) r) (sym (name_from_test other own e)) (written-own rectangles own r) in (
+          subst (λ (wide : Rectangle). Includes wide (rectangle_of rectangles other)) (sym whole) (Includes-hull_left (rectangle_of rectangles other) r),
+          subst (λ (wide : Rectangle). Includes wide r) (sym whole) (Includes-hull_right (rectangle_of rectangles other) r),
+        )
     by false e = (
-      λ u v inside. subst (λ o. Inside u v (unwrap_or o empty)) (sym (kept_rectangle rectangles own other e)) inside,
+      λ u v inside. subst (Inside u v) (sym (written-other rectangles own other r e)) inside,
       λ u v inside. absurd (omega (arith, inside.column)),
     )
 

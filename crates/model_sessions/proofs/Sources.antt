@@ -1,105 +1,101 @@
 -- Tables of buffers as graphs read them.
-use Rattle.std.proofs.Common.{◌≡◌, ◌≢◌, ℕ, ◌<◌, List, [], ◌∷◌, map, length, refl, sym, ap, ◌∙◌, subst, arith, Option, Some, None, unwrap_or, AllPairs}
-use Rattle.std.specs.Prelude.{option_map}
-use Rattle.std.specs.List.{AllByRecursion, IsDistinct}
+use Rattle.std.proofs.Common.{◌≡◌, ℕ, List, [], ◌∷◌, map, refl, sym, ap, ◌∙◌, subst, Option, Some, None, unwrap_or}
+use Rattle.std.specs.Option.{option_map}
+use Rattle.std.specs.List.{IsDistinct}
 use Rattle.std.specs.Str.{bytes_eq}
-use Rattle.std.proofs.lemmas.List.{get_or-map, length-map}
-use Rattle.std.proofs.lemmas.Map.Made.{IsDistinct-from_AllPairs, lookup-map_values}
-use Rattle.std.proofs.lemmas.Slice.Eq.{bytes_eq-Decides}
-use Rattle.plane_rect.specs.Rectangle.{Rectangle, empty}
+use Rattle.std.proofs.lemmas.Map.Made.{lookup-map_values}
+use Rattle.plane_rect.specs.Rectangle.{Rectangle}
 use Rattle.model_images.specs.Agreement.{AgreeOutside}
-use Rattle.model_images.specs.Image.{Image, at}
+use Rattle.model_images.specs.Image.{Image}
 use Rattle.model_images.specs.Paint.{no_image}
-use Rattle.model_images.proofs.Laws.{IsImage-image_from_fn}
-use Rattle.model_buffers.specs.Table.{AreDistinct, IsTable, Table, View, find, image_of, root_image, root_of, seen}
+use Rattle.model_buffers.specs.Layout.{View, fact_in, find, root_shape}
+use Rattle.model_buffers.specs.Table.{IsTable, Table, image_of, layout_of, root_of, seen}
+use Rattle.model_buffers.proofs.FactLaws as laws
+use Rattle.model_buffers.proofs.ShapeLaws.{root_shape-is}
+use Rattle.model_graphs.specs.declared.buffer.BufferFact.{BufferFact}
 use Rattle.model_graphs.specs.Evaluation.{buffer_image}
-use Rattle.model_states.proofs.Shapes.{buffer_image-is}
-use Rattle.model_states.specs.Damage.{AreNeighbours}
-use Rattle.model_states.specs.History.{Rectangles, rectangle_of}
-use Rattle.model_states.specs.Sources.{AreSources, IsSourceBuffer, SourceBuffer, source_names, source_of, images_of}
-use Rattle.model_sessions.specs.Tables.{Continues, source_in, sources_of}
+use Rattle.model_graphs.specs.Facts.{AreImagesOf, fact_names, fact_of, shape_of_fact, shapes_of_facts}
+use Rattle.model_graphs.specs.Shapes.{Shape, Shapes, shapes_of_images}
+use Rattle.model_states.specs.Rectangles.{Rectangles, rectangle_of}
+use Rattle.model_sessions.specs.Histories.{AreTablesSeparated}
+use Rattle.model_sessions.specs.Tables.{Continues, table_facts, table_images, view_image}
 
--- ---- sources
+-- ---- facts
 
-pub source-found : (table : Table) (name : List ℕ) → source_of (sources_of table) name ≡ option_map (source_in table) (find table.buffers name)
-source-found table name = lookup-map_values (source_in table) (bytes_eq name) table.buffers
+pub fact-found : (table : Table) (name : List ℕ) → fact_of (table_facts table) name ≡ option_map (fact_in (layout_of table) name) (find table.buffers name)
+fact-found table name = laws.fact-found (layout_of table) name
 
-pub image-read : (table : Table) (name : List ℕ) → buffer_image (images_of (sources_of table)) name ≡ image_of table name
+pub names_distinct : (table : Table) → IsTable table → IsDistinct bytes_eq (fact_names (table_facts table))
+names_distinct table is = laws.facts-distinct (layout_of table) is.layout
+
+-- ---- images
+
+shapes-from : (table : Table) (entries : List (List ℕ × View)) →
+    shapes_of_images (map (λ (entry : List ℕ × View). (entry.0, view_image table entry.1)) entries)
+    ≡ shapes_of_facts (map (λ (entry : List ℕ × View). fact_in (layout_of table) entry.0 entry.1) entries)
+shapes-from table [] = refl
+shapes-from table (entry ∷ entries) =
+    let named : Shape → List ℕ × Shape = λ shape. (entry.0, record { box = entry.1.extent; format = shape.format }) in
+    ap (λ (shape : List ℕ × Shape). shape ∷ shapes_of_images (map (λ (entry : List ℕ × View). (entry.0, view_image table entry.1)) entries))
+    (ap named (sym (root_shape-is table entry.1.root)))
+    ∙ ap (λ (shapes : Shapes). named (root_shape (layout_of table) entry.1.root) ∷ shapes) (shapes-from table entries)
+
+pub images_known : (table : Table) → AreImagesOf (table_facts table) (table_images table)
+images_known table = shapes-from table table.buffers
+
+pub image-read : (table : Table) (name : List ℕ) → buffer_image (table_images table) name ≡ image_of table name
 image-read table name =
-    buffer_image-is (sources_of table) name
-    ∙ ap (λ o. unwrap_or (option_map (λ (buffer : SourceBuffer). buffer.image) o) no_image) (source-found table name)
+    ap (λ o. unwrap_or o no_image) (lookup-map_values (view_image table) (bytes_eq name) table.buffers)
     ∙ of (find table.buffers name)
   where
-    of : (o : Option View) → unwrap_or (option_map (λ (buffer : SourceBuffer). buffer.image) (option_map (source_in table) o)) no_image ≡ seen table o
+    of : (o : Option View) → unwrap_or (option_map (view_image table) o) no_image ≡ seen table o
     of None = refl
     of (Some view) = refl
 
-no_view : List ℕ × View
-no_view = ([], record { root = []; extent = empty })
+-- ---- neighbors
 
-names_apart : (entries : List (List ℕ × View)) → AreDistinct entries → AllPairs (λ (a b : List ℕ). a ≢ b) (map (λ (entry : List ℕ × View). entry.0) entries)
-names_apart entries distinct i j e before below =
-    let name : List ℕ × View → List ℕ = λ entry. entry.0 in
-    let count = length-map entries name in
-    let later : j < length entries = omega arith in
-    let sooner : i < length entries = omega arith in
-    rw (get_or-map name entries i no_view e sooner, get_or-map name entries j no_view e later)
-    (distinct i j no_view before later)
+-- The view of a name, of which this is known.
+record IsSeen (table : Table) (name : List ℕ) (fact : BufferFact) : Type 0 where
+  root : root_of table name ≡ Some fact.root
+  box : (image_of table name).box ≡ fact.bounds
+  format : (image_of table name).format ≡ fact.format
 
-names-same : (table : Table) (entries : List (List ℕ × View)) →
-    source_names (map (λ (entry : List ℕ × View). (entry.0, source_in table entry.1)) entries) ≡ map (λ (entry : List ℕ × View). entry.0) entries
-names-same table [] = refl
-names-same table (entry ∷ entries) = ap (λ names. entry.0 ∷ names) (names-same table entries)
-
-whole : (table : Table) (entries : List (List ℕ × View)) →
-    AllByRecursion (λ (entry : List ℕ × SourceBuffer). IsSourceBuffer entry.1) (map (λ (entry : List ℕ × View). (entry.0, source_in table entry.1)) entries)
-whole table [] = tt
-whole table (entry ∷ entries) =
-    let root = root_image table entry.1.root in
-    (record { box = refl; samples = IsImage-image_from_fn entry.1.extent root.format (at root) }, whole table entries)
-
-pub tables_are_sources : (table : Table) → IsTable table → AreSources (sources_of table)
-tables_are_sources table is =
-    record {
-      names = subst (IsDistinct bytes_eq) (sym (names-same table table.buffers))
-          (IsDistinct-from_AllPairs bytes_eq-Decides (map (λ (entry : List ℕ × View). entry.0) table.buffers) (names_apart table.buffers is.buffer_names));
-      buffers = whole table table.buffers;
-    }
-
--- ---- neighbours
-
--- The view of a name, whose source this is.
-record IsSeen (table : Table) (name : List ℕ) (source : SourceBuffer) : Type 0 where
-  root : root_of table name ≡ Some source.root
-  extent : (image_of table name).box ≡ source.extent
-  image : image_of table name ≡ source.image
-
-is_seen : (table : Table) (name : List ℕ) (source : SourceBuffer) → source_of (sources_of table) name ≡ Some source → IsSeen table name source
-is_seen table name source found = by (find table.buffers name) refl (sym (source-found table name) ∙ found)
+is_seen : (table : Table) (name : List ℕ) (fact : BufferFact) → fact_of (table_facts table) name ≡ Some fact → IsSeen table name fact
+is_seen table name fact found = by (find table.buffers name) refl (sym (fact-found table name) ∙ found)
   where
-    by : (o : Option View) → find table.buffers name ≡ o → option_map (source_in table) o ≡ Some source → IsSeen table name source
+    by : (o : Option View) → find table.buffers name ≡ o → option_map (fact_in (layout_of table) name) o ≡ Some fact → IsSeen table name fact
     by None e none = absurd (cc)
     by (Some view) e is =
-        let same : source_in table view ≡ source = cc in
+        let same : fact_in (layout_of table) name view ≡ fact = cc in
         subst (IsSeen table name) same
         (record {
           root = ap (option_map (λ (view : View). view.root)) e;
-          extent = ap (λ o. (seen table o).box) e;
-          image = ap (seen table) e;
+          box = ap (λ o. (seen table o).box) e;
+          format = ap (λ o. (seen table o).format) e ∙ sym (ap (λ (shape : Shape). shape.format) (root_shape-is table view.root));
         })
 
-pub neighbours : (table next : Table) (rectangles : Rectangles) → Continues table rectangles next → AreNeighbours (sources_of table) (sources_of next) rectangles
-neighbours table next rectangles continued name a b found again =
-    let was = is_seen table name a found in
-    let is = is_seen next name b again in
-    let on = continued name a.root was.root in
-    let roots : a.root ≡ b.root = cc (on.0, is.root) in
+shape-same : (a b : BufferFact) → a.bounds ≡ b.bounds → a.format ≡ b.format → shape_of_fact a ≡ shape_of_fact b
+shape-same a b bounds format =
+    ap (λ box. record { box = box; format = a.format }) bounds
+    ∙ ap (λ format. record { box = b.bounds; format = format }) format
+
+pub neighbors : (table next : Table) (rectangles : Rectangles) → Continues table rectangles next → AreTablesSeparated table next rectangles
+neighbors table next rectangles continued =
     record {
-      root = roots;
-      extent = sym was.extent ∙ on.1.box ∙ is.extent;
-      images = subst (λ root. AgreeOutside a.image b.image (rectangle_of rectangles root)) roots
-          (subst (λ (image : Image). AgreeOutside a.image image (rectangle_of rectangles a.root)) is.image
-          (subst (λ (image : Image). AgreeOutside image (image_of next name) (rectangle_of rectangles a.root)) was.image on.1));
+      steady = λ name a b found again.
+          let was = is_seen table name a found in
+          let is = is_seen next name b again in
+          let on = continued name a.root was.root in
+          record {
+            root = cc (on.0, is.root);
+            shape = shape-same a b (sym was.box ∙ on.1.box ∙ is.box) (sym was.format ∙ on.1.format ∙ is.format);
+          };
+      images = λ name a b found again.
+          let was = is_seen table name a found in
+          let is = is_seen next name b again in
+          let on = continued name a.root was.root in
+          let roots : a.root ≡ b.root = cc (on.0, is.root) in
+          rw (image-read table name, image-read next name, sym roots) on.1;
     }
 
 -- ---- what is the same from the other side
@@ -107,12 +103,14 @@ neighbours table next rectangles continued name a b found again =
 agree-back : (a b : Image) (r : Rectangle) → AgreeOutside a b r → AgreeOutside b a r
 agree-back a b r agreed = record { box = sym agreed.box; format = sym agreed.format; samples = λ u v c out. sym (agreed.samples u v c out) }
 
-pub neighbours-back : (table next : Table) (rectangles : Rectangles) → AreNeighbours (sources_of table) (sources_of next) rectangles → AreNeighbours (sources_of next) (sources_of table) rectangles
-neighbours-back table next rectangles are name b a again found =
-    let steady = are name a b found again in
+pub neighbors-back : (table next : Table) (rectangles : Rectangles) → AreTablesSeparated table next rectangles → AreTablesSeparated next table rectangles
+neighbors-back table next rectangles are =
     record {
-      root = sym steady.root;
-      extent = sym steady.extent;
-      images = subst (λ root. AgreeOutside b.image a.image (rectangle_of rectangles root)) (sym steady.root)
-          (agree-back a.image b.image (rectangle_of rectangles b.root) steady.images);
+      steady = λ name b a again found.
+          let steady = are.steady name a b found again in
+          record { root = sym steady.root; shape = sym steady.shape };
+      images = λ name b a again found.
+          let steady = are.steady name a b found again in
+          subst (λ root. AgreeOutside (buffer_image (table_images next) name) (buffer_image (table_images table) name) (rectangle_of rectangles root)) (sym steady.root)
+          (agree-back (buffer_image (table_images table) name) (buffer_image (table_images next) name) (rectangle_of rectangles b.root) (are.images name a b found again));
     }

@@ -1,15 +1,16 @@
 //! Histories, refusals and counts worked out by hand.
 
-ghost use Rattle.std.specs.Prelude.{◌≡◌, [], ◌∷◌, ◌++◌, codes, false, pos, true, Err};
+ghost use Rattle.std.specs.Prelude.{◌≡◌, [], ◌∷◌, ◌++◌, codes, pos, Err, None, Some};
 ghost use Rattle.plane_rect.specs.Rectangle.{placed};
 ghost use Rattle.model_operations.specs.declared.operation.IntOp.TheVariants.{BoxMean, Invert, Over};
 ghost use Rattle.pixel_formats.specs.declared.abyss.Abyss.TheVariants as policies;
-ghost use Rattle.model_graphs.specs.Node.{Compute};
-ghost use Rattle.model_states.specs.Edits.{Bounds, Formats, InUse, NothingToRedo, NothingToUndo, Remove, UnknownInput};
+ghost use Rattle.model_graphs.specs.declared.node.Body.TheVariants.{Compute};
+ghost use Rattle.model_graphs.specs.declared.node.NodeEdit.TheVariants.{Remove};
+ghost use Rattle.model_states.specs.declared.refused.StateRefused.TheVariants.{Bounds, Formats, InUse, NothingToRedo, NothingToUndo, UnknownInput};
 ghost use Rattle.model_states.specs.Examples.{counts, square};
 ghost use Rattle.model_states.specs.History.{redone, undone};
 ghost use Rattle.model_sessions.specs.Examples.{carried, color, commit_after, crop_rendered, crop_twice, history, node_counts, of_buffer, of_color, rendered, row, set, two_commits, voided_by, wide_need, with_edit};
-ghost use Rattle.model_sessions.specs.Sessions.{fit};
+ghost use Rattle.model_states.specs.Need.{wide};
 ghost use Rattle.model_sessions.specs.Steps.{Commit, EditNode, Redo, Undo};
 ghost use Rattle.model_states.specs.Cache.{uncounted};
 
@@ -55,8 +56,8 @@ pub fn work_after_a_crop()
     ensures both { counts crop_twice ≡ (12, 0) }
 {}
 
-/// A strip of 65 tiles fits a capacity of 65, and none of 64.
+/// A strip of 65 tiles fits a capacity of 65, and is too wide for one of 64.
 pub fn wide_strip()
-    ensures too_wide { fit 64 wide_need ≡ false }
-    ensures fits { fit 65 wide_need ≡ true }
+    ensures too_wide { wide 64 wide_need ≡ Some 65 }
+    ensures fits { wide 65 wide_need ≡ None }
 {}

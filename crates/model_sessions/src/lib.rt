@@ -1,4 +1,4 @@
-//! The fifteen operations and tables of buffers put into states of graphs: histories as they are made by steps.
+//! Tables of buffers under nodes of any operations: histories as they are made by steps, and sessions of steps and renders.
 #![tactic(auto)]
 
 pub mod examples;

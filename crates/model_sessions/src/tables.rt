@@ -1,22 +1,29 @@
 //! Tables of buffers are read by graphs as they are.
 
-ghost use Rattle.std.specs.Prelude.{◌≡◌, ℕ, List, IfOk, option_map, [], unwrap_or};
-ghost use Rattle.plane_rect.specs.Rectangle.{Rectangle};
-ghost use Rattle.model_buffers.specs.Table.{find, image_of, IsTable, Table};
+ghost use Rattle.std.specs.Prelude.{◌≡◌, ℕ, List, IfOk};
+ghost use Rattle.std.specs.List.{IsDistinct};
+ghost use Rattle.std.specs.Option.{option_map};
+ghost use Rattle.std.specs.Str.{bytes_eq};
+ghost use Rattle.model_buffers.specs.declared.edit.BufferEdit.{BufferEdit};
+ghost use Rattle.model_buffers.specs.BufferEdit.{IsProperEdit};
+ghost use Rattle.model_buffers.specs.Edits.{edited_table};
+ghost use Rattle.model_buffers.specs.Layout.{fact_in, find};
+ghost use Rattle.model_buffers.specs.Table.{IsTable, Table, image_of, layout_of};
 ghost use Rattle.model_graphs.specs.Evaluation.{buffer_image};
-ghost use Rattle.model_states.specs.Damage.{AreNeighbours};
-ghost use Rattle.model_states.specs.History.{Rectangles};
-ghost use Rattle.model_states.specs.Sources.{AreSources, images_of, source_of};
-ghost use Rattle.model_sessions.specs.Tables.{Continues, source_in, sources_of};
-ghost use Rattle.model_sessions.specs.Steps.{BufferEdit, edited_table, IsProperEdit, rectangles_by};
+ghost use Rattle.model_graphs.specs.Facts.{AreImagesOf, fact_names, fact_of};
+ghost use Rattle.model_states.specs.Rectangles.{Rectangles};
+ghost use Rattle.model_sessions.specs.Histories.{AreTablesSeparated};
+ghost use Rattle.model_sessions.specs.Tables.{Continues, table_facts, table_images};
+ghost use Rattle.model_sessions.specs.Steps.{rectangles_by};
 
-/// A table's buffers have distinct names and whole images over their extents, and a graph reads them as they are.
+/// A table's buffers have distinct names, and a graph knows and reads them as they are.
 pub fn tables_are_sources()
-    ensures whole { (table : Table) → IsTable table → AreSources (sources_of table) }
+    ensures distinct { (table : Table) → IsTable table → IsDistinct bytes_eq (fact_names (table_facts table)) }
     ensures found { (table : Table) (name : List ℕ) →
-        source_of (sources_of table) name ≡ option_map (source_in table) (find table.buffers name) }
+        fact_of (table_facts table) name ≡ option_map (fact_in (layout_of table) name) (find table.buffers name) }
+    ensures shapes { (table : Table) → AreImagesOf (table_facts table) (table_images table) }
     ensures images { (table : Table) (name : List ℕ) →
-        buffer_image (images_of (sources_of table)) name ≡ image_of table name }
+        buffer_image (table_images table) name ≡ image_of table name }
 {}
 
 /// An edit keeps each buffer on its root, and changes no image outside the rectangle that it writes to its root.
@@ -28,9 +35,10 @@ pub fn edits_continue_tables()
         IfOk (edited_table table edit) (Continues table (rectangles_by table edit)) }
 {}
 
-/// A table and one that continues it are neighbours.
-pub fn continued_tables_are_neighbours()
-    ensures { (table next : Table) (rectangles : Rectangles) →
-        Continues table rectangles next →
-        AreNeighbours (sources_of table) (sources_of next) rectangles }
+/// A table and one that continues it are neighbors, also the other way round.
+pub fn continued_tables_are_neighbors()
+    ensures on { (table next : Table) (rectangles : Rectangles) →
+        Continues table rectangles next → AreTablesSeparated table next rectangles }
+    ensures back { (table next : Table) (rectangles : Rectangles) →
+        AreTablesSeparated table next rectangles → AreTablesSeparated next table rectangles }
 {}

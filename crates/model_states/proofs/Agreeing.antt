@@ -14,7 +14,7 @@ use Rattle.model_images.specs.Agreement.{AgreeOutside}
 use Rattle.model_images.proofs.Laws.{at_outside, sampled_equal}
 use Rattle.model_images.proofs.Positions.{by_positions}
 use Rattle.model_states.specs.Regions.{meets}
-use Rattle.model_states.specs.Damage.{SamplesAgreeOutside}
+use Rattle.model_states.specs.Neighbors.{SamplesAgreeOutside}
 
 -- outside their box all images are 0
 pub agree-meet : (a b : Image) (r : Rectangle) → AgreeOutside a b r → AgreeOutside a b (meet r b.box)

@@ -8,33 +8,31 @@ use Rattle.plane_rect.proofs.RectangleLaws.{Includes-hull_left, Includes-hull_ri
 use Rattle.model_images.specs.Image.{Image, at}
 use Rattle.model_images.specs.Agreement.{AgreeOutside}
 use Rattle.model_images.specs.Paint.{no_image}
-use Rattle.model_graphs.specs.Evaluation.{buffer_image}
+use Rattle.model_graphs.specs.Evaluation.{Buffers, buffer_image}
 use Rattle.model_graphs.specs.Meanings.{Meanings, result_of, result_box, result_format, boxes_of, formats_of}
-use Rattle.model_states.specs.Sources.{Sources, SourceBuffer, source_of, images_of}
-use Rattle.model_states.specs.History.{Rectangles, rectangle_of}
+use Rattle.model_states.specs.Rectangles.{Rectangles, rectangle_of}
 use Rattle.model_states.specs.Regions.{hull_of}
-use Rattle.model_states.specs.Damage.{AreNeighbours, IsSteady, SamplesAgreeOutside, root_of}
+use Rattle.model_states.specs.Neighbors.{AgreeOutsideRoots, SamplesAgreeOutside}
+use Rattle.model_graphs.specs.declared.buffer.BufferFact.{BufferFact}
+use Rattle.model_graphs.specs.Facts.{Facts, fact_of, root_of}
 use Rattle.model_graphs.specs.Laws.{unit_rectangle, AgreeInside, KeepsLaws}
 use Rattle.model_graphs.proofs.ChangeLaws.{results_agree}
-use Rattle.model_states.proofs.Shapes.{buffer_image-is}
 
 -- ---- buffers
 
--- what two entries of a name stand for agrees outside the rectangle of the new one's root
-entries_agree : (rectangles : Rectangles) (old new : Option SourceBuffer) → IsSome old → IsSome new →
-    ((a b : SourceBuffer) → old ≡ Some a → new ≡ Some b → IsSteady a b rectangles) →
-    AgreeOutside (unwrap_or (option_map (λ (buffer : SourceBuffer). buffer.image) old) no_image) (unwrap_or (option_map (λ (buffer : SourceBuffer). buffer.image) new) no_image)
-    (rectangle_of rectangles (unwrap_or (option_map (λ (buffer : SourceBuffer). buffer.root) new) []))
-entries_agree rectangles None new there again steady = absurd (cc)
-entries_agree rectangles (Some a) None there again steady = absurd (cc)
-entries_agree rectangles (Some a) (Some b) there again steady = (steady a b refl refl).images
+-- the images of a buffer that both tables have agree outside the rectangle of its root
+roots_agree : (rectangles : Rectangles) (x y : Image) (old new : Option BufferFact) → IsSome old → IsSome new →
+    ((a b : BufferFact) → old ≡ Some a → new ≡ Some b → AgreeOutside x y (rectangle_of rectangles b.root)) →
+    AgreeOutside x y (rectangle_of rectangles (unwrap_or (option_map (λ (fact : BufferFact). fact.root) new) []))
+roots_agree rectangles x y None new there again agree = absurd (cc)
+roots_agree rectangles x y (Some a) None there again agree = absurd (cc)
+roots_agree rectangles x y (Some a) (Some b) there again agree = agree a b refl refl
 
-pub buffers_agree : (old new : Sources) (rectangles : Rectangles) (name : List ℕ) → AreNeighbours old new rectangles →
-    IsSome (source_of old name) → IsSome (source_of new name) →
-    AgreeOutside (buffer_image (images_of old) name) (buffer_image (images_of new) name) (rectangle_of rectangles (root_of new name))
-buffers_agree old new rectangles name neighbours there again =
-    let agreed = entries_agree rectangles (source_of old name) (source_of new name) there again (neighbours name) in
-    rw (buffer_image-is old name, buffer_image-is new name) agreed
+pub buffers_agree : (old new : Facts) (x y : Buffers) (rectangles : Rectangles) (name : List ℕ) → AgreeOutsideRoots old new x y rectangles →
+    IsSome (fact_of old name) → IsSome (fact_of new name) →
+    AgreeOutside (buffer_image x name) (buffer_image y name) (rectangle_of rectangles (root_of new name))
+buffers_agree old new x y rectangles name neighbors there again =
+    roots_agree rectangles (buffer_image x name) (buffer_image y name) (fact_of old name) (fact_of new name) there again (neighbors name)
 
 -- ---- inputs
 

@@ -7,16 +7,21 @@ use Rattle.std.proofs.lemmas.Bool.Decides.{nat_tests}
 use Rattle.std.proofs.lemmas.List.{length-append, length-map}
 use Rattle.std.proofs.lemmas.Slice.Eq.{bytes_eq-Decides}
 use Rattle.model_graphs.specs.Node.{Node, index_of}
-use Rattle.model_states.specs.Edits.{NodeEdit, Set, Remove, StateRefused, UnknownInput, TooManyNodes, edit_refused, edited, has_node, reads_earlier, steps_refused, then_edit, unless_refused, walked, with_edit, with_edits}
+use Rattle.pixel_formats.specs.Limits.{max_nodes}
+use Rattle.model_states.specs.Edits.{edit_refused, edited, has_node, reads_earlier, steps_refused, then_edit, unless_refused, walked, with_edit, with_edits}
+use Rattle.model_graphs.specs.declared.node.NodeEdit.{NodeEdit}
+use Rattle.model_graphs.specs.declared.node.NodeEdit.TheVariants.{Set, Remove}
+use Rattle.model_states.specs.declared.refused.StateRefused.{StateRefused}
+use Rattle.model_states.specs.declared.refused.StateRefused.TheVariants.{UnknownInput, TooManyNodes}
 use Rattle.model_graphs.specs.Meanings.{Meanings}
-use Rattle.model_states.specs.Sources.{Sources}
-use Rattle.model_states.specs.Valid.{AreValid, most_nodes, node_names, steps_of}
+use Rattle.model_graphs.specs.Shapes.{Shapes}
+use Rattle.model_states.specs.Valid.{AreValid, node_names, steps_of}
 use Rattle.model_states.proofs.PrefixLaws.{before_name, index_of-is}
 use Rattle.model_states.proofs.Walks.{valid_steps}
 
 -- few enough nodes, of distinct names
 pub record AreNodes {Op : Type 0} (nodes : List (Node Op)) : Type 0 where
-  pub few : length nodes ≤ most_nodes
+  pub few : length nodes ≤ max_nodes
   pub distinct : IsDistinct bytes_eq (node_names nodes)
 
 -- none of these names is another one
@@ -70,8 +75,8 @@ module _ {Op : Type 0} where
           let next : suc (before_name nodes node.name) ≡ 1 + before_name nodes node.name = omega arith in
           subst (HasSet (first ∷ nodes) node) next (set_after first nodes node (before_name nodes node.name) e rest)
 
-  set_keeps : (sources : Sources) (nodes : List (Node Op)) (node : Node Op) → AreNodes nodes → edit_refused sources nodes (Set node) ≡ None → AreNodes (with_edit nodes (Set node))
-  set_keeps sources nodes node are passed =
+  set_keeps : (shapes : Shapes) (nodes : List (Node Op)) (node : Node Op) → AreNodes nodes → edit_refused shapes nodes (Set node) ≡ None → AreNodes (with_edit nodes (Set node))
+  set_keeps shapes nodes node are passed =
       of (subst (HasSet nodes node) (sym (index_of-is nodes node.name)) (has_set nodes node))
     where
       index : ℕ
@@ -88,9 +93,9 @@ module _ {Op : Type 0} where
           let count = ap length new.1 in
           let is : index ≡ length nodes = new.0 in
           let none : nat_lt index (length nodes) ≡ false = grind (arith, nat_tests, is) in
-          let free : eqb (length nodes) most_nodes ≡ false =
-          room (reads_earlier sources nodes index node.body) (has_node nodes node.name) (eqb (length nodes) most_nodes) passed none in
-          let less : length nodes < most_nodes = grind (arith, nat_tests, free, are.few) in
+          let free : eqb (length nodes) max_nodes ≡ false =
+          room (reads_earlier shapes nodes index node.body) (has_node nodes node.name) (eqb (length nodes) max_nodes) passed none in
+          let less : length nodes < max_nodes = grind (arith, nat_tests, free, are.few) in
           record {
             few = omega (arith, less, count, length-append (node_names nodes) (node.name ∷ []), length-names nodes, length-names (set_at nodes node index));
             distinct = subst (IsDistinct bytes_eq) (sym new.1) (distinct_push (node_names nodes) node.name are.distinct new.2);
@@ -120,38 +125,38 @@ module _ {Op : Type 0} where
 
   -- ---- all edits
 
-  edit_keeps : (sources : Sources) (nodes : List (Node Op)) (edit : NodeEdit Op) → AreNodes nodes → edit_refused sources nodes edit ≡ None → AreNodes (with_edit nodes edit)
-  edit_keeps sources nodes (Set node) are passed = set_keeps sources nodes node are passed
-  edit_keeps sources nodes (Remove name) are passed =
+  edit_keeps : (shapes : Shapes) (nodes : List (Node Op)) (edit : NodeEdit Op) → AreNodes nodes → edit_refused shapes nodes edit ≡ None → AreNodes (with_edit nodes edit)
+  edit_keeps shapes nodes (Set node) are passed = set_keeps shapes nodes node are passed
+  edit_keeps shapes nodes (Remove name) are passed =
       record {
         few = let less = fewer_left nodes (index_of nodes name) in omega (arith, less, are.few);
         distinct = distinct_left nodes (index_of nodes name) are.distinct;
       }
 
-  then_keeps : (sources : Sources) (r : Result (List (Node Op)) StateRefused) (edit : NodeEdit Op) → IfOk r AreNodes → IfOk (then_edit sources r edit) AreNodes
-  then_keeps sources (Err refused) edit are = tt
-  then_keeps sources (Ok nodes) edit are = by (edit_refused sources nodes edit) refl
+  then_keeps : (shapes : Shapes) (r : Result (List (Node Op)) StateRefused) (edit : NodeEdit Op) → IfOk r AreNodes → IfOk (then_edit shapes r edit) AreNodes
+  then_keeps shapes (Err refused) edit are = tt
+  then_keeps shapes (Ok nodes) edit are = by (edit_refused shapes nodes edit) refl
     where
-      by : (o : Option StateRefused) → edit_refused sources nodes edit ≡ o → IfOk (unless_refused o (with_edit nodes edit)) AreNodes
-      by None e = edit_keeps sources nodes edit are e
+      by : (o : Option StateRefused) → edit_refused shapes nodes edit ≡ o → IfOk (unless_refused o (with_edit nodes edit)) AreNodes
+      by None e = edit_keeps shapes nodes edit are e
       by (Some refused) e = tt
 
-  edits_keep : (sources : Sources) (r : Result (List (Node Op)) StateRefused) (edits : List (NodeEdit Op)) → IfOk r AreNodes → IfOk (with_edits sources r edits) AreNodes
-  edits_keep sources r [] are = are
-  edits_keep sources r (edit ∷ edits) are = edits_keep sources (then_edit sources r edit) edits (then_keeps sources r edit are)
+  edits_keep : (shapes : Shapes) (r : Result (List (Node Op)) StateRefused) (edits : List (NodeEdit Op)) → IfOk r AreNodes → IfOk (with_edits shapes r edits) AreNodes
+  edits_keep shapes r [] are = are
+  edits_keep shapes r (edit ∷ edits) are = edits_keep shapes (then_edit shapes r edit) edits (then_keeps shapes r edit are)
 
-  pub edits_leave_valid : (meanings : Meanings Op) (sources : Sources) (nodes : List (Node Op)) (edits : List (NodeEdit Op)) →
-      length nodes ≤ most_nodes → IsDistinct bytes_eq (node_names nodes) →
-      IfOk (edited meanings sources nodes edits) (AreValid meanings sources)
-  edits_leave_valid meanings sources nodes edits few distinct =
-      of_result (with_edits sources (Ok nodes) edits) (edits_keep sources (Ok nodes) edits (record { few = few; distinct = distinct }))
+  pub edits_leave_valid : (meanings : Meanings Op) (shapes : Shapes) (nodes : List (Node Op)) (edits : List (NodeEdit Op)) →
+      length nodes ≤ max_nodes → IsDistinct bytes_eq (node_names nodes) →
+      IfOk (edited meanings shapes nodes edits) (AreValid meanings shapes)
+  edits_leave_valid meanings shapes nodes edits few distinct =
+      of_result (with_edits shapes (Ok nodes) edits) (edits_keep shapes (Ok nodes) edits (record { few = few; distinct = distinct }))
     where
-      of_option : (next : List (Node Op)) → AreNodes next → (refused : Option StateRefused) → steps_refused meanings sources [] (steps_of next) ≡ refused →
-          IfOk (unless_refused refused next) (AreValid meanings sources)
+      of_option : (next : List (Node Op)) → AreNodes next → (refused : Option StateRefused) → steps_refused meanings shapes [] (steps_of next) ≡ refused →
+          IfOk (unless_refused refused next) (AreValid meanings shapes)
       of_option next are None e =
-          record { few = are.few; distinct = are.distinct; steps = valid_steps meanings sources [] (steps_of next) e }
+          record { few = are.few; distinct = are.distinct; steps = valid_steps meanings shapes [] (steps_of next) e }
       of_option next are (Some refused) e = tt
 
-      of_result : (r : Result (List (Node Op)) StateRefused) → IfOk r AreNodes → IfOk (walked meanings sources r) (AreValid meanings sources)
-      of_result (Ok next) are = of_option next are (steps_refused meanings sources [] (steps_of next)) refl
+      of_result : (r : Result (List (Node Op)) StateRefused) → IfOk r AreNodes → IfOk (walked meanings shapes r) (AreValid meanings shapes)
+      of_result (Ok next) are = of_option next are (steps_refused meanings shapes [] (steps_of next)) refl
       of_result (Err refused) are = tt

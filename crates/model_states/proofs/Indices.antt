@@ -5,10 +5,12 @@ use Rattle.std.specs.List.{AllByRecursion, IsDistinct}
 use Rattle.std.specs.Str.{bytes_eq}
 use Rattle.std.proofs.lemmas.List.{length-append}
 use Rattle.std.proofs.lemmas.Slice.Eq.{bytes_eq-Decides}
-use Rattle.model_graphs.specs.Node.{Node, Body, Source, Compute, Step, index_of, step_of}
+use Rattle.model_graphs.specs.Node.{Node, Step, index_of, step_of}
+use Rattle.model_graphs.specs.declared.node.Body.{Body}
+use Rattle.model_graphs.specs.declared.node.Body.TheVariants.{Source, Compute}
 use Rattle.model_graphs.specs.Meanings.{Meanings}
-use Rattle.model_states.specs.Sources.{Sources, source_of}
-use Rattle.model_states.specs.Valid.{node_names, AreValid, AreValidSteps, IsValidStep, Shape, step_shape}
+use Rattle.model_states.specs.Valid.{node_names, AreValid, AreValidSteps, IsValidStep, step_shape}
+use Rattle.model_graphs.specs.Shapes.{Shape, Shapes, shape_in}
 use Rattle.model_states.specs.State.{node_of}
 use Rattle.model_states.proofs.PrefixLaws.{before_name, index_of-is}
 use Rattle.model_states.proofs.Unrolled.{indices_of}
@@ -55,40 +57,40 @@ index_of_name nodes i node distinct found = index_of-is nodes node.name ∙ befo
 -- ---- valid steps
 
 -- a step is valid after the shapes of those before it
-abbrev pub IsValidAt : {Op : Type 0} → Meanings Op → Sources → ℕ → Step Op → Type 0
-IsValidAt meanings sources index step = (shapes : List Shape) × (length shapes ≡ index) × IsValidStep meanings sources shapes step
+abbrev pub IsValidAt : {Op : Type 0} → Meanings Op → Shapes → ℕ → Step Op → Type 0
+IsValidAt meanings buffers index step = (shapes : List Shape) × (length shapes ≡ index) × IsValidStep meanings buffers shapes step
 
-valid_among : {Op : Type 0} (meanings : Meanings Op) (sources : Sources) (nodes : List (Node Op)) (known : List Shape) (rest : List (Node Op)) →
-    AreValidSteps meanings sources known (map (λ (node : Node Op). step_of nodes node.body) rest) →
-    (i : ℕ) (node : Node Op) → slice_get rest i ≡ Some node → IsValidAt meanings sources (length known + i) (step_of nodes node.body)
-valid_among meanings sources nodes known [] valid i node found = absurd (cc)
-valid_among {Op} meanings sources nodes known (first ∷ rest) valid zero node found =
+valid_among : {Op : Type 0} (meanings : Meanings Op) (buffers : Shapes) (nodes : List (Node Op)) (known : List Shape) (rest : List (Node Op)) →
+    AreValidSteps meanings buffers known (map (λ (node : Node Op). step_of nodes node.body) rest) →
+    (i : ℕ) (node : Node Op) → slice_get rest i ≡ Some node → IsValidAt meanings buffers (length known + i) (step_of nodes node.body)
+valid_among meanings buffers nodes known [] valid i node found = absurd (cc)
+valid_among {Op} meanings buffers nodes known (first ∷ rest) valid zero node found =
     let same : first ≡ node = cc in
-    (known, omega arith, subst (λ (n : Node Op). IsValidStep meanings sources known (step_of nodes n.body)) same valid.0)
-valid_among meanings sources nodes known (first ∷ rest) valid (suc i) node found =
-    let shape = step_shape meanings sources known (step_of nodes first.body) ∷ [] in
+    (known, omega arith, subst (λ (n : Node Op). IsValidStep meanings buffers known (step_of nodes n.body)) same valid.0)
+valid_among meanings buffers nodes known (first ∷ rest) valid (suc i) node found =
+    let shape = step_shape meanings buffers known (step_of nodes first.body) ∷ [] in
     let index : length (known ++ shape) + i ≡ length known + suc i = omega (arith, length-append known shape) in
-    subst (λ n. IsValidAt meanings sources n (step_of nodes node.body)) index
-    (valid_among meanings sources nodes (known ++ shape) rest valid.1 i node found)
+    subst (λ n. IsValidAt meanings buffers n (step_of nodes node.body)) index
+    (valid_among meanings buffers nodes (known ++ shape) rest valid.1 i node found)
 
-valid_at : {Op : Type 0} (meanings : Meanings Op) (sources : Sources) (nodes : List (Node Op)) (name : List ℕ) (node : Node Op) →
-    AreValid meanings sources nodes → node_of nodes name ≡ Some node → IsValidAt meanings sources (index_of nodes name) (step_of nodes node.body)
-valid_at meanings sources nodes name node valid found =
+valid_at : {Op : Type 0} (meanings : Meanings Op) (buffers : Shapes) (nodes : List (Node Op)) (name : List ℕ) (node : Node Op) →
+    AreValid meanings buffers nodes → node_of nodes name ≡ Some node → IsValidAt meanings buffers (index_of nodes name) (step_of nodes node.body)
+valid_at meanings buffers nodes name node valid found =
     let start : 0 + index_of nodes name ≡ index_of nodes name = omega arith in
-    subst (λ n. IsValidAt meanings sources n (step_of nodes node.body)) start
-    (valid_among meanings sources nodes [] nodes valid.steps (index_of nodes name) node found)
+    subst (λ n. IsValidAt meanings buffers n (step_of nodes node.body)) start
+    (valid_among meanings buffers nodes [] nodes valid.steps (index_of nodes name) node found)
 
 -- the buffer of a source is there
-pub source_there : {Op : Type 0} (meanings : Meanings Op) (sources : Sources) (nodes : List (Node Op)) (name : List ℕ) (node : Node Op) (buffer : List ℕ) →
-    AreValid meanings sources nodes → node_of nodes name ≡ Some node → node.body ≡ Source buffer → IsSome (source_of sources buffer)
-source_there {Op} meanings sources nodes name node buffer valid found is =
-    let at = subst (λ (body : Body Op). IsValidAt meanings sources (index_of nodes name) (step_of nodes body)) is (valid_at meanings sources nodes name node valid found) in
+pub source_there : {Op : Type 0} (meanings : Meanings Op) (buffers : Shapes) (nodes : List (Node Op)) (name : List ℕ) (node : Node Op) (buffer : List ℕ) →
+    AreValid meanings buffers nodes → node_of nodes name ≡ Some node → node.body ≡ Source buffer → IsSome (shape_in buffers buffer)
+source_there {Op} meanings buffers nodes name node buffer valid found is =
+    let at = subst (λ (body : Body Op). IsValidAt meanings buffers (index_of nodes name) (step_of nodes body)) is (valid_at meanings buffers nodes name node valid found) in
     at.2
 
 -- the inputs of another node stand before it
-pub inputs_before : {Op : Type 0} (meanings : Meanings Op) (sources : Sources) (nodes : List (Node Op)) (name : List ℕ) (node : Node Op) (operation : Op) (inputs : List (List ℕ)) →
-    AreValid meanings sources nodes → node_of nodes name ≡ Some node → node.body ≡ Compute operation inputs →
+pub inputs_before : {Op : Type 0} (meanings : Meanings Op) (buffers : Shapes) (nodes : List (Node Op)) (name : List ℕ) (node : Node Op) (operation : Op) (inputs : List (List ℕ)) →
+    AreValid meanings buffers nodes → node_of nodes name ≡ Some node → node.body ≡ Compute operation inputs →
     All (λ i. i < index_of nodes name) (indices_of nodes inputs)
-inputs_before {Op} meanings sources nodes name node operation inputs valid found is =
-    let at = subst (λ (body : Body Op). IsValidAt meanings sources (index_of nodes name) (step_of nodes body)) is (valid_at meanings sources nodes name node valid found) in
+inputs_before {Op} meanings buffers nodes name node operation inputs valid found is =
+    let at = subst (λ (body : Body Op). IsValidAt meanings buffers (index_of nodes name) (step_of nodes body)) is (valid_at meanings buffers nodes name node valid found) in
     subst (λ n. All (λ i. i < n) (indices_of nodes inputs)) at.1 at.2.inputs_earlier

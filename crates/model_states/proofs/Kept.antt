@@ -8,12 +8,12 @@ use Rattle.plane_rect.specs.SameRectangle.{same_rectangle-true}
 use Rattle.pixel_formats.specs.Format.{same_format}
 use Rattle.model_images.proofs.Tests.{both, Decides-same_format}
 use Rattle.pixel_formats.specs.declared.format.Format.{Format}
-use Rattle.model_graphs.specs.Node.{Node, Body, Source, Compute}
-use Rattle.model_states.specs.Damage.{Change, inputs_of, is_unedited, same_body, same_names, same_shape}
+use Rattle.model_graphs.specs.Node.{Node}
+use Rattle.model_graphs.specs.declared.node.Body.{Body}
+use Rattle.model_graphs.specs.declared.node.Body.TheVariants.{Source, Compute}
+use Rattle.model_states.specs.Damage.{Change, have_same_shapes, side_shape, inputs_of, is_unedited, same_body, same_names, same_shape}
 use Rattle.model_graphs.specs.Laws.{Distinguishes}
-use Rattle.model_graphs.specs.Meanings.{Meanings}
-use Rattle.model_states.specs.State.{shape_of}
-use Rattle.model_states.specs.Valid.{Shape}
+use Rattle.model_graphs.specs.Shapes.{Shape}
 
 pub same_shape-true : (a b : Shape) → same_shape a b ≡ true → a ≡ b
 same_shape-true a b e =
@@ -41,36 +41,36 @@ same_body-true same apart (Compute f names) (Compute g others) e =
     ap (λ op. Compute op names) (apart f g tests.0) ∙ ap (λ inputs. Compute g inputs) (same_names-true names others tests.1)
 
 -- the inputs of these names have one shape in both states
-abbrev pub SameShapes : {Op : Type 0} → Meanings Op → Change Op → List (List ℕ) → Type 0
-SameShapes meanings change names =
-    AllByRecursion (λ name. shape_of meanings change.old name ≡ shape_of meanings change.new name) names
+abbrev pub SameShapes : {Op : Type 0} → Change Op → List (List ℕ) → Type 0
+SameShapes change names =
+    AllByRecursion (λ name. side_shape change.old name ≡ side_shape change.new name) names
 
-same_shapes-from_test : {Op : Type 0} (meanings : Meanings Op) (change : Change Op) (names : List (List ℕ)) →
-    list_all (λ name. same_shape (shape_of meanings change.old name) (shape_of meanings change.new name)) names ≡ true →
-    SameShapes meanings change names
-same_shapes-from_test meanings change [] e = tt
-same_shapes-from_test meanings change (name ∷ names) e =
-    let a = shape_of meanings change.old name in
-    let b = shape_of meanings change.new name in
-    let tests = both (same_shape a b) (list_all (λ name. same_shape (shape_of meanings change.old name) (shape_of meanings change.new name)) names) e in
-    (same_shape-true a b tests.0, same_shapes-from_test meanings change names tests.1)
+same_shapes-from_test : {Op : Type 0} (change : Change Op) (names : List (List ℕ)) →
+    list_all (λ name. same_shape (side_shape change.old name) (side_shape change.new name)) names ≡ true →
+    SameShapes change names
+same_shapes-from_test change [] e = tt
+same_shapes-from_test change (name ∷ names) e =
+    let a = side_shape change.old name in
+    let b = side_shape change.new name in
+    let tests = both (same_shape a b) (list_all (λ name. same_shape (side_shape change.old name) (side_shape change.new name)) names) e in
+    (same_shape-true a b tests.0, same_shapes-from_test change names tests.1)
 
 -- A node of the old state, of which a node has the body, and its inputs their shapes.
-pub record KeptFrom {Op : Type 0} (meanings : Meanings Op) (change : Change Op) (node : Node Op) (found : Option (Node Op)) : Type 0 where
+pub record KeptFrom {Op : Type 0} (change : Change Op) (node : Node Op) (found : Option (Node Op)) : Type 0 where
   pub old : Node Op
   pub found_is : found ≡ Some old
   pub body : old.body ≡ node.body
-  pub shapes : SameShapes meanings change (inputs_of node.body)
+  pub shapes : SameShapes change (inputs_of node.body)
 
-pub kept-from_test : {Op : Type 0} (same : Op → Op → Bool) (meanings : Meanings Op) (change : Change Op) (node : Node Op) (found : Option (Node Op)) →
-    Distinguishes same → is_unedited same meanings change node found ≡ true → KeptFrom meanings change node found
-kept-from_test same meanings change node None apart e = absurd (cc)
-kept-from_test same meanings change node (Some old) apart e =
-    let shapes = list_all (λ input. same_shape (shape_of meanings change.old input) (shape_of meanings change.new input)) (inputs_of node.body) in
+pub kept-from_test : {Op : Type 0} (same : Op → Op → Bool) (change : Change Op) (node : Node Op) (found : Option (Node Op)) →
+    Distinguishes same → is_unedited same change node found ≡ true → KeptFrom change node found
+kept-from_test same change node None apart e = absurd (cc)
+kept-from_test same change node (Some old) apart e =
+    let shapes = have_same_shapes change (inputs_of node.body) in
     let tests = both (same_body same old.body node.body) shapes e in
     record {
       old = old;
       found_is = refl;
       body = same_body-true same apart old.body node.body tests.0;
-      shapes = same_shapes-from_test meanings change (inputs_of node.body) tests.1;
+      shapes = same_shapes-from_test change (inputs_of node.body) tests.1;
     }

@@ -16,10 +16,13 @@ use Rattle.plane_rect.proofs.TileLists.{tiles-in_order}
 use Rattle.model_graphs.specs.Node.{Node, Step, FromBuffer, Apply, step_of}
 use Rattle.model_states.specs.Cache.{Pair, pair_of, same_pair}
 use Rattle.model_graphs.specs.Meanings.{Meanings}
-use Rattle.model_states.specs.Need.{Asked, Needed, Strip, asked_by, asked_of, need, needed, needed_of, strip_of, strip_rectangles}
+use Rattle.model_states.specs.Need.{Asked, Needed, asked_by, asked_of, need, needed, needed_of, strip_of, strip_rectangles}
+use Rattle.model_states.specs.declared.strip.Strip.{Strip}
 use Rattle.model_states.specs.Regions.{hull_of, meets, tiles_of_any}
-use Rattle.model_states.specs.State.{Scene}
-use Rattle.model_states.specs.Valid.{Shape, no_shape, node_names, steps_of}
+use Rattle.model_graphs.specs.declared.node.NodeFact.{NodeFact}
+use Rattle.model_graphs.specs.Facts.{specs_of}
+use Rattle.model_states.specs.Valid.{node_names, steps_of}
+use Rattle.model_graphs.specs.Shapes.{Shape, no_shape}
 use Rattle.model_states.proofs.CacheLaws.{same_pair-true}
 
 -- ---- lists
@@ -53,7 +56,7 @@ one_index_each xs d i j apart below also same = elim (cases_lt i j) [
 
 before-apart : (s t : Tile) → IsBefore s t → s ≢ t
 before-apart s t (inl above) same = let row = ap (λ (t : Tile). t.row) same in omega (arith, above, row)
-before-apart s t (inr first_column) same = let column = ap (λ (t : Tile). t.column) same in omega (arith, first_column.1, column)
+before-apart s t (inr left) same = let column = ap (λ (t : Tile). t.column) same in omega (arith, left.1, column)
 
 no_tile : Tile
 no_tile = record { column = 0; row = 0 }
@@ -78,7 +81,7 @@ of_each P list n all there = subst P there.2 (all there.0 n there.1)
 
 -- ---- pairs
 
-Decides-same_pair : (a b : Pair) → Decides (same_pair a b) (a ≡ b)
+pub Decides-same_pair : (a b : Pair) → Decides (same_pair a b) (a ≡ b)
 Decides-same_pair a b = (same_pair-true a b, λ same. subst (λ (p : Pair). same_pair a p ≡ true) same (itself a))
   where
     itself : (p : Pair) → same_pair p p ≡ true
@@ -144,19 +147,19 @@ module _ {Op : Type 0} where
       (λ k d below. let low = is.below k d below in omega (arith, low, few))
       is.apart)
 
-  all_strips : (meanings : Meanings Op) (scene : Scene Op) (node : ℕ) (rectangles : List Rectangle) → IsDistinct bytes_eq (node_names scene.nodes) →
-      AllByRecursion (λ (strip : Strip). IsDistinct same_pair (map (pair_of scene.nodes) strip.needed)) (map (strip_of meanings scene node) rectangles)
-  all_strips meanings scene node [] distinct = tt
-  all_strips meanings scene node (rectangle ∷ rectangles) distinct =
-      let steps = take (suc node) (steps_of scene.nodes) in
-      let count : length (reverse steps) ≤ length scene.nodes =
-      omega (arith, length-reverse steps, length-take (suc node) (steps_of scene.nodes), length-map scene.nodes (λ (node : Node Op). step_of scene.nodes node.body)) in (
-        strip_distinct scene.nodes (strip_of meanings scene node rectangle).needed (length (reverse steps)) distinct count
+  all_strips : (meanings : Meanings Op) (facts : List (NodeFact Op)) (node : ℕ) (rectangles : List Rectangle) → IsDistinct bytes_eq (node_names (specs_of facts)) →
+      AllByRecursion (λ (strip : Strip). IsDistinct same_pair (map (pair_of (specs_of facts)) strip.need)) (map (strip_of meanings facts node) rectangles)
+  all_strips meanings facts node [] distinct = tt
+  all_strips meanings facts node (rectangle ∷ rectangles) distinct =
+      let steps = take (suc node) (steps_of (specs_of facts)) in
+      let count : length (reverse steps) ≤ length (specs_of facts) =
+      omega (arith, length-reverse steps, length-take (suc node) (steps_of (specs_of facts)), length-map (specs_of facts) (λ (node : Node Op). step_of (specs_of facts) node.body)) in (
+        strip_distinct (specs_of facts) (strip_of meanings facts node rectangle).need (length (reverse steps)) distinct count
             (is_need meanings _ _ (reverse steps)),
-        all_strips meanings scene node rectangles distinct,
+        all_strips meanings facts node rectangles distinct,
       )
 
-  pub need_distinct : (meanings : Meanings Op) (scene : Scene Op) (node : ℕ) (request : Rectangle) →
-      IsDistinct bytes_eq (node_names scene.nodes) →
-      AllByRecursion (λ (strip : Strip). IsDistinct same_pair (map (pair_of scene.nodes) strip.needed)) (need meanings scene node request)
-  need_distinct meanings scene node request distinct = all_strips meanings scene node (strip_rectangles request) distinct
+  pub need_distinct : (meanings : Meanings Op) (facts : List (NodeFact Op)) (node : ℕ) (request : Rectangle) →
+      IsDistinct bytes_eq (node_names (specs_of facts)) →
+      AllByRecursion (λ (strip : Strip). IsDistinct same_pair (map (pair_of (specs_of facts)) strip.need)) (need meanings facts node request)
+  need_distinct meanings facts node request distinct = all_strips meanings facts node (strip_rectangles request) distinct

@@ -1,7 +1,8 @@
 -- What is needed in a valid state are right pairs.
 use Rattle.std.proofs.Common.{◌≡◌, ℕ, zero, suc, ◌+◌, ◌<◌, ◌≤◌, Bool, true, false, ◌||◌, cond, eqb, List, [], ◌∷◌, ◌++◌, map, filter, reverse, take, length, get_or, inl, inr, IsTrue, IsSomeAnd, refl, sym, ap, ◌∙◌, subst, arith, Option, Some, None}
 use Rattle.std.specs.Prelude.{option_map, slice_get}
-use Rattle.std.specs.List.{AllByRecursion, enumerate_from, flat_map, list_any}
+use Rattle.std.specs.List.{AllByRecursion, IsDistinct, enumerate_from, flat_map, list_any}
+use Rattle.std.specs.Str.{bytes_eq}
 use Rattle.std.proofs.Math.Seq.{take-suc}
 use Rattle.std.proofs.lemmas.Bool.{cases_lt}
 use Rattle.std.proofs.lemmas.Bool.Decides.{nat_tests}
@@ -10,14 +11,21 @@ use Rattle.std.proofs.lemmas.Option.{get_or_from_slice_get, same_Some, slice_get
 use Rattle.plane_rect.specs.Rectangle.{Rectangle, Includes, empty, meet}
 use Rattle.plane_rect.specs.Tile.{Tile, tile_square, tiles}
 use Rattle.plane_rect.proofs.Rectangles.{Inside-meet}
-use Rattle.model_graphs.specs.Node.{Node, Body, Source, Compute, Step, FromBuffer, Apply, index_of, step_of}
-use Rattle.model_states.specs.Cache.{IsComputed, IsRight, needed_pairs, pair_of, with_bytes}
+use Rattle.model_graphs.specs.Node.{Node, Step, FromBuffer, Apply, index_of, step_of}
+use Rattle.model_graphs.specs.declared.node.Body.{Body}
+use Rattle.model_graphs.specs.declared.node.Body.TheVariants.{Source, Compute}
+use Rattle.model_states.specs.Cache.{AreRightPairs, IsComputed, IsPairOf, IsRight, needed_pairs, pair_of, with_bytes}
 use Rattle.model_graphs.specs.Laws.{IsBoxed}
 use Rattle.model_graphs.specs.Meanings.{Meanings}
-use Rattle.model_states.specs.Need.{Asked, Needed, Strip, asked_by, asked_by_part, asked_of, need, needed, needed_of, strip_of, strip_rectangles}
+use Rattle.model_states.specs.Need.{Asked, Needed, asked_by, asked_by_part, asked_of, need, needed, needed_of, strip_of, strip_rectangles}
+use Rattle.model_states.specs.declared.strip.Strip.{Strip}
 use Rattle.model_states.specs.Regions.{hull_of, meets, tiles_of_any}
-use Rattle.model_states.specs.State.{IsValidScene, Scene, node_shapes}
-use Rattle.model_states.specs.Valid.{Shape, input_boxes, no_shape, node_names, steps_of}
+use Rattle.model_states.specs.State.{IsValidScene, Scene, node_shapes, stated_nodes}
+use Rattle.model_graphs.specs.declared.node.NodeFact.{NodeFact}
+use Rattle.model_graphs.specs.Facts.{specs_of, stated_shapes}
+use Rattle.model_states.proofs.Stated.{stated-nodes, stated-shapes}
+use Rattle.model_states.specs.Valid.{input_boxes, node_names, steps_of}
+use Rattle.model_graphs.specs.Shapes.{Shape, no_shape, shapes_of_images}
 use Rattle.model_states.proofs.Indices.{index_of_name}
 use Rattle.model_states.proofs.RightPairs.{meets_no_part}
 
@@ -50,7 +58,7 @@ all_of P Q (x ∷ xs) step all = (step x all.0, all_of P Q xs step all.1)
 -- ---- tiles of what is asked of a box
 
 -- a tile that meets a rectangle in a box meets the box
-meets_whole : (t : Tile) (box part : Rectangle) → Includes box part → meets t part ≡ true → meets t box ≡ true
+pub meets_whole : (t : Tile) (box part : Rectangle) → Includes box part → meets t part ≡ true → meets t box ≡ true
 meets_whole t box part inside met = by (meets t box) refl
   where
     by : (b : Bool) → meets t box ≡ b → b ≡ true
@@ -91,6 +99,30 @@ asked_inside shapes node (a ∷ asked) all = by (eqb a.0 node) refl (asked_insid
         (subst (λ n. Includes (get_or shapes n no_shape).box a.1) here all.0, others)
     by false e others = others
 
+module _ {Op : Type 0} where
+  -- these steps, from the last to the first, are the first of all
+  abbrev pub AreFirst : List (Step Op) → List (Step Op) → Type 0
+  AreFirst all [] = Unit {0}
+  AreFirst all (step ∷ before) = (slice_get all (length before) ≡ Some step) × AreFirst all before
+
+  pub first_steps : (all : List (Step Op)) (n : ℕ) → AreFirst all (reverse (take n all))
+  first_steps all zero = tt
+  first_steps all (suc n) = elim (cases_lt n (length all)) [
+    | inl there ↦ more n there (first_steps all n)
+    | inr past ↦
+        let whole : take (suc n) all ≡ take n all = take_all (suc n) all (omega (arith, past)) ∙ sym (take_all n all past) in
+        subst (λ steps. AreFirst all (reverse steps)) (sym whole) (first_steps all n)
+  ]
+    where
+      more : (n : ℕ) → n < length all → AreFirst all (reverse (take n all)) → AreFirst all (reverse (take (suc n) all))
+      more n there rest =
+          let none : Step Op = FromBuffer [] in
+          let step = get_or all n none in
+          let count : length (reverse (take n all)) ≡ n = length-reverse (take n all) ∙ length-take-le n all (omega (arith, there)) in
+          let here : slice_get all (length (reverse (take n all))) ≡ Some step = ap (λ k. slice_get all k) count ∙ slice_get-get_or all n none there in
+          let is : reverse (take (suc n) all) ≡ step ∷ reverse (take n all) = ap reverse (take-suc all n none there) ∙ reverse-append (take n all) (step ∷ []) in
+          subst (AreFirst all) (sym is) (here, rest)
+
 module _ {Op : Type 0} (meanings : Meanings Op) (boxed : IsBoxed meanings) where
   -- what a part asks of the inputs from one on
   inputs_asked : (shapes : List Shape) (operation : Op) (all rest : List ℕ) (part : Rectangle) (n : ℕ) → ((i : ℕ) → i < length rest → get_or all (n + i) 0 ≡ get_or rest i 0) → n + length rest ≤ length all →
@@ -122,29 +154,6 @@ module _ {Op : Type 0} (meanings : Meanings Op) (boxed : IsBoxed meanings) where
     step : slice_get all n.0 ≡ Some (Apply operation inputs)
     met : meets n.1 (get_or shapes n.0 no_shape).box ≡ true
 
-  -- these steps, from the last to the first, are the first of all
-  abbrev AreFirst : List (Step Op) → List (Step Op) → Type 0
-  AreFirst all [] = Unit {0}
-  AreFirst all (step ∷ before) = (slice_get all (length before) ≡ Some step) × AreFirst all before
-
-  first_steps : (all : List (Step Op)) (n : ℕ) → AreFirst all (reverse (take n all))
-  first_steps all zero = tt
-  first_steps all (suc n) = elim (cases_lt n (length all)) [
-    | inl there ↦ more n there (first_steps all n)
-    | inr past ↦
-        let whole : take (suc n) all ≡ take n all = take_all (suc n) all (omega (arith, past)) ∙ sym (take_all n all past) in
-        subst (λ steps. AreFirst all (reverse steps)) (sym whole) (first_steps all n)
-  ]
-    where
-      more : (n : ℕ) → n < length all → AreFirst all (reverse (take n all)) → AreFirst all (reverse (take (suc n) all))
-      more n there rest =
-          let none : Step Op = FromBuffer [] in
-          let step = get_or all n none in
-          let count : length (reverse (take n all)) ≡ n = length-reverse (take n all) ∙ length-take-le n all (omega (arith, there)) in
-          let here : slice_get all (length (reverse (take n all))) ≡ Some step = ap (λ k. slice_get all k) count ∙ slice_get-get_or all n none there in
-          let is : reverse (take (suc n) all) ≡ step ∷ reverse (take n all) = ap reverse (take-suc all n none there) ∙ reverse-append (take n all) (step ∷ []) in
-          subst (AreFirst all) (sym is) (here, rest)
-
   wanted_of_node : (shapes : List Shape) (all : List (Step Op)) (node : ℕ) (step : Step Op) (ts : List Tile) → slice_get all node ≡ Some step →
       AllByRecursion (λ t. meets t (get_or shapes node no_shape).box ≡ true) ts → AllByRecursion (IsWanted shapes all) (needed_of node step ts)
   wanted_of_node shapes all node (FromBuffer buffer) ts here met = tt
@@ -171,56 +180,67 @@ module _ {Op : Type 0} (meanings : Meanings Op) (boxed : IsBoxed meanings) where
   computed_step nodes (Source buffer) operation inputs is = absurd (cc)
   computed_step nodes (Compute f names) operation inputs is = tt
 
-  wanted_right : (scene : Scene Op) (n : Needed) → IsValidScene meanings scene → IsWanted (node_shapes meanings scene) (steps_of scene.nodes) n →
-      IsRight meanings scene (with_bytes meanings scene (pair_of scene.nodes n))
-  wanted_right scene n valid wanted =
+  wanted_pair : (nodes : List (Node Op)) (shapes : List Shape) (n : Needed) → IsDistinct bytes_eq (node_names nodes) → IsWanted shapes (steps_of nodes) n →
+      IsPairOf nodes shapes (pair_of nodes n)
+  wanted_pair nodes shapes n distinct wanted =
       by (slice_get nodes n.0) refl (sym (slice_get-map (λ (node : Node Op). step_of nodes node.body) nodes n.0) ∙ wanted.step)
     where
-      nodes : List (Node Op)
-      nodes = scene.nodes
-
-      end_column : (node : Node Op) → slice_get nodes n.0 ≡ Some node → step_of nodes node.body ≡ Apply wanted.operation wanted.inputs →
-          IsRight meanings scene (with_bytes meanings scene (pair_of nodes n))
-      end_column node found step =
+      pair : (node : Node Op) → slice_get nodes n.0 ≡ Some node → step_of nodes node.body ≡ Apply wanted.operation wanted.inputs → IsPairOf nodes shapes (pair_of nodes n)
+      pair node found step =
           let name : Node Op → List ℕ = λ node. node.name in
           let named : get_or (node_names nodes) n.0 [] ≡ node.name =
           get_or_from_slice_get (node_names nodes) n.0 node.name [] (slice_get-map name nodes n.0 ∙ ap (option_map name) found) in
-          let index : index_of nodes node.name ≡ n.0 = index_of_name nodes n.0 node valid.distinct found in
-          subst (λ name. IsRight meanings scene (with_bytes meanings scene (record { node = name; tile = n.1 }))) (sym named)
+          let index : index_of nodes node.name ≡ n.0 = index_of_name nodes n.0 node distinct found in
+          subst (λ name. IsPairOf nodes shapes (record { node = name; tile = n.1 })) (sym named)
           (record {
             computed = subst (λ o. IsSomeAnd o (λ (node : Node Op). IsComputed node.body)) (sym (ap (λ k. slice_get nodes k) index ∙ found))
                 (computed_step nodes node.body wanted.operation wanted.inputs step);
-            meets_box = subst (λ k. IsTrue (meets n.1 (get_or (node_shapes meanings scene) k no_shape).box)) (sym index) wanted.met;
-            bytes = refl;
+            meets_box = subst (λ k. IsTrue (meets n.1 (get_or shapes k no_shape).box)) (sym index) wanted.met;
           })
 
       by : (o : Option (Node Op)) → slice_get nodes n.0 ≡ o → option_map (λ (node : Node Op). step_of nodes node.body) o ≡ Some (Apply wanted.operation wanted.inputs) →
-          IsRight meanings scene (with_bytes meanings scene (pair_of nodes n))
+          IsPairOf nodes shapes (pair_of nodes n)
       by None e is = absurd (cc)
-      by (Some node) e is = end_column node e (same_Some (step_of nodes node.body) (Apply wanted.operation wanted.inputs) is)
+      by (Some node) e is = pair node e (same_Some (step_of nodes node.body) (Apply wanted.operation wanted.inputs) is)
 
-  strip_wanted : (scene : Scene Op) (node : ℕ) (rectangle : Rectangle) →
-      AllByRecursion (IsWanted (node_shapes meanings scene) (steps_of scene.nodes)) (strip_of meanings scene node rectangle).needed
-  strip_wanted scene node rectangle =
-      let shapes = node_shapes meanings scene in
+  strip_wanted : (facts : List (NodeFact Op)) (node : ℕ) (rectangle : Rectangle) →
+      AllByRecursion (IsWanted (stated_shapes facts) (steps_of (specs_of facts))) (strip_of meanings facts node rectangle).need
+  strip_wanted facts node rectangle =
+      let shapes = stated_shapes facts in
+      let steps = steps_of (specs_of facts) in
       let box = (get_or shapes node no_shape).box in
-      needed_wanted shapes (steps_of scene.nodes) ((node, meet rectangle box) ∷ []) (reverse (take (suc node) (steps_of scene.nodes)))
-      (first_steps (steps_of scene.nodes) (suc node))
+      needed_wanted shapes steps ((node, meet rectangle box) ∷ []) (reverse (take (suc node) steps))
+      (first_steps steps (suc node))
       (λ u v there. ((Inside-meet u v rectangle box).0 there).1, tt)
 
-  strips_wanted : (scene : Scene Op) (node : ℕ) (rectangles : List Rectangle) →
-      AllByRecursion (IsWanted (node_shapes meanings scene) (steps_of scene.nodes)) (flat_map (λ (strip : Strip). strip.needed) (map (strip_of meanings scene node) rectangles))
-  strips_wanted scene node [] = tt
-  strips_wanted scene node (rectangle ∷ rectangles) =
-      all-append (IsWanted (node_shapes meanings scene) (steps_of scene.nodes)) (strip_of meanings scene node rectangle).needed
-      (flat_map (λ (strip : Strip). strip.needed) (map (strip_of meanings scene node) rectangles))
-      (strip_wanted scene node rectangle) (strips_wanted scene node rectangles)
+  strips_wanted : (facts : List (NodeFact Op)) (node : ℕ) (rectangles : List Rectangle) →
+      AllByRecursion (IsWanted (stated_shapes facts) (steps_of (specs_of facts))) (flat_map (λ (strip : Strip). strip.need) (map (strip_of meanings facts node) rectangles))
+  strips_wanted facts node [] = tt
+  strips_wanted facts node (rectangle ∷ rectangles) =
+      all-append (IsWanted (stated_shapes facts) (steps_of (specs_of facts))) (strip_of meanings facts node rectangle).need
+      (flat_map (λ (strip : Strip). strip.need) (map (strip_of meanings facts node) rectangles))
+      (strip_wanted facts node rectangle) (strips_wanted facts node rectangles)
 
+-- what is needed of nodes are pairs of theirs
+pub need_pairs : {Op : Type 0} (meanings : Meanings Op) (facts : List (NodeFact Op)) (node : ℕ) (request : Rectangle) → IsBoxed meanings → IsDistinct bytes_eq (node_names (specs_of facts)) →
+    AllByRecursion (IsPairOf (specs_of facts) (stated_shapes facts)) (needed_pairs (specs_of facts) (need meanings facts node request))
+need_pairs meanings facts node request boxed distinct =
+    let list = flat_map (λ (strip : Strip). strip.need) (need meanings facts node request) in
+    all-map (IsPairOf (specs_of facts) (stated_shapes facts)) (pair_of (specs_of facts)) list
+    (all_of (IsWanted meanings boxed (stated_shapes facts) (steps_of (specs_of facts))) (λ n. IsPairOf (specs_of facts) (stated_shapes facts) (pair_of (specs_of facts) n)) list
+    (λ n wanted. wanted_pair meanings boxed (specs_of facts) (stated_shapes facts) n distinct wanted)
+    (strips_wanted meanings boxed facts node (strip_rectangles request)))
+
+-- in a valid state they are right with their bytes
 pub need_right : {Op : Type 0} (meanings : Meanings Op) (scene : Scene Op) (node : ℕ) (request : Rectangle) → IsBoxed meanings → IsValidScene meanings scene →
-    AllByRecursion (λ pair. IsRight meanings scene (with_bytes meanings scene pair)) (needed_pairs scene.nodes (need meanings scene node request))
-need_right meanings scene node request boxed valid =
-    let list = flat_map (λ (strip : Strip). strip.needed) (need meanings scene node request) in
-    all-map (λ pair. IsRight meanings scene (with_bytes meanings scene pair)) (pair_of scene.nodes) list
-    (all_of (IsWanted meanings boxed (node_shapes meanings scene) (steps_of scene.nodes)) (λ n. IsRight meanings scene (with_bytes meanings scene (pair_of scene.nodes n))) list
-    (λ n wanted. wanted_right meanings boxed scene n valid wanted)
-    (strips_wanted meanings boxed scene node (strip_rectangles request)))
+    AreRightPairs meanings scene (needed_pairs scene.nodes (need meanings (stated_nodes meanings scene) node request))
+need_right {Op} meanings scene node request boxed valid =
+    let shapes = shapes_of_images scene.table in
+    let facts = stated_nodes meanings scene in
+    let nodes : specs_of facts ≡ scene.nodes = stated-nodes meanings shapes scene.nodes in
+    let boxes : stated_shapes facts ≡ node_shapes meanings scene = stated-shapes meanings shapes scene.nodes in
+    let pairs = need_pairs meanings facts node request boxed (subst (λ (nodes : List (Node Op)). IsDistinct bytes_eq (node_names nodes)) (sym nodes) valid.distinct) in
+    all_of (IsPairOf scene.nodes (node_shapes meanings scene)) (λ pair. IsRight meanings scene (with_bytes meanings scene pair)) (needed_pairs scene.nodes (need meanings facts node request))
+    (λ pair is. record { pair = is; bytes = refl })
+    (subst (λ (nodes : List (Node Op)). AllByRecursion (IsPairOf nodes (node_shapes meanings scene)) (needed_pairs nodes (need meanings facts node request))) nodes
+    (subst (λ shapes. AllByRecursion (IsPairOf (specs_of facts) shapes) (needed_pairs (specs_of facts) (need meanings facts node request))) boxes pairs))

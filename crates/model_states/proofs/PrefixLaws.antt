@@ -8,12 +8,13 @@ use Rattle.std.proofs.lemmas.List.{length-append, map-append, get_or_append_left
 use Rattle.std.proofs.lemmas.List.Folds.{prefix_len-append}
 use Rattle.std.proofs.lemmas.List.Sums.{prefix_len-le-length}
 use Rattle.model_images.specs.Image.{Image}
-use Rattle.model_graphs.specs.Node.{Node, Body, Source, Compute, Step, index_of, step_of}
+use Rattle.model_graphs.specs.Node.{Node, Step, index_of, step_of}
+use Rattle.model_graphs.specs.declared.node.Body.{Body}
+use Rattle.model_graphs.specs.declared.node.Body.TheVariants.{Source, Compute}
 use Rattle.model_images.specs.Paint.{no_image}
 use Rattle.model_graphs.specs.Evaluation.{Buffers, step_image, images_after}
 use Rattle.model_states.specs.Edits.{has_node}
 use Rattle.model_graphs.specs.Meanings.{Meanings, result_of}
-use Rattle.model_states.specs.Sources.{Sources, images_of}
 use Rattle.model_states.specs.State.{image_of}
 
 -- ---- the position of a name
@@ -106,11 +107,10 @@ images_equal {Op} result buffers nodes more known (node ∷ rest) few =
     ap (λ image. images_after result buffers (known ++ image ∷ []) (map (λ (node : Node Op). step_of (nodes ++ more) node.body) rest)) (step_equal result buffers known nodes more node.body (omega arith))
     ∙ images_equal result buffers nodes more (known ++ next) rest (omega (arith, length-append known next))
 
-pub nodes_after : {Op : Type 0} (meanings : Meanings Op) (sources : Sources) (nodes more : List (Node Op)) (name : List ℕ) → IsTrue (has_node nodes name) →
-    image_of meanings (record { table = sources; nodes = nodes ++ more }) name ≡ image_of meanings (record { table = sources; nodes = nodes }) name
-nodes_after {Op} meanings sources nodes more name there =
+pub nodes_after : {Op : Type 0} (meanings : Meanings Op) (buffers : Buffers) (nodes more : List (Node Op)) (name : List ℕ) → IsTrue (has_node nodes name) →
+    image_of meanings (record { table = buffers; nodes = nodes ++ more }) name ≡ image_of meanings (record { table = buffers; nodes = nodes }) name
+nodes_after {Op} meanings buffers nodes more name there =
     let result = result_of meanings in
-    let buffers = images_of sources in
     let longer : Node Op → Step Op = λ (node : Node Op). step_of (nodes ++ more) node.body in
     let first = map longer nodes in
     let has : index_of nodes name < length nodes = grind (arith, nat_tests) in

@@ -6,33 +6,46 @@ use Rattle.std.specs.Str.{bytes_eq}
 use Rattle.std.proofs.lemmas.Bool.Decides.{nat_tests}
 use Rattle.plane_rect.specs.Rectangle.{Rectangle, empty, hull, meet, is_empty}
 use Rattle.plane_rect.specs.SameRectangle.{same_rectangle-itself}
-use Rattle.model_graphs.specs.Node.{Node, Body, Source, Compute, index_of}
+use Rattle.model_graphs.specs.Node.{Node, index_of}
+use Rattle.model_graphs.specs.declared.node.Body.{Body}
+use Rattle.model_graphs.specs.declared.node.Body.TheVariants.{Source, Compute}
 use Rattle.model_graphs.proofs.Evaluating.{same_bytes}
 use Rattle.model_graphs.specs.Laws.{KeepsNothing}
-use Rattle.model_states.specs.Samples.{samples_change}
 use Rattle.model_graphs.specs.Meanings.{Meanings}
-use Rattle.model_states.specs.Sources.{Sources, SourceBuffer, source_of}
-use Rattle.model_states.specs.Valid.{Shape, node_names}
-use Rattle.model_states.specs.State.{node_of, shape_of}
+use Rattle.model_graphs.specs.declared.buffer.BufferFact.{BufferFact}
+use Rattle.model_graphs.specs.Facts.{Facts, fact_of, specs_of}
+use Rattle.model_graphs.specs.Evaluation.{Buffers, buffer_image}
+use Rattle.model_states.specs.Neighbors.{AreNeighbors}
+use Rattle.model_states.specs.Rectangles.{rectangle_of}
+use Rattle.model_states.specs.Valid.{node_names}
+use Rattle.model_graphs.specs.Shapes.{Shape}
+use Rattle.model_states.specs.State.{node_of}
 use Rattle.model_states.specs.Regions.{hull_of, HaveNoPosition}
 use Rattle.pixel_formats.specs.Format.{same_format}
-use Rattle.model_states.specs.Damage.{AreNeighbours, IsSteady, same_shape, same_names, same_body, inputs_of, is_unedited, damage_passed_on, damage_of_node, damages_after, damages, new_shape}
+use Rattle.model_states.specs.Damage.{AreSteady, IsSteady, Side, own_change, side_shape, same_shape, same_names, same_body, inputs_of, is_unedited, damage_passed_on, damage_of_node, damages_after, damages, new_shape}
 use Rattle.model_images.proofs.Laws.{AgreeOutside-refl}
 use Rattle.model_states.proofs.PrefixLaws.{before_name, index_of-is}
 
--- ---- neighbours
+-- ---- neighbors
 
 some_only : {A : Type 0} (o : Option A) (a b : A) → o ≡ Some a → o ≡ Some b → a ≡ b
 some_only o a b e f = cc
 
-pub own_neighbour : (sources : Sources) → AreNeighbours sources sources []
-own_neighbour sources = λ name a b found again.
-    subst (λ (b : SourceBuffer). IsSteady a b []) (some_only (source_of sources name) a b found again)
-    (record { root = refl; extent = refl; images = AgreeOutside-refl a.image _ })
+pub steady_itself : (facts : Facts) → AreSteady facts facts
+steady_itself facts = λ name a b found again.
+    subst (λ (b : BufferFact). IsSteady a b) (some_only (fact_of facts name) a b found again)
+    (record { root = refl; shape = refl })
+
+pub own_neighbor : (facts : Facts) (images : Buffers) → AreNeighbors facts facts images images []
+own_neighbor facts images =
+    record {
+      steady = steady_itself facts;
+      images = λ name a b found again. AgreeOutside-refl (buffer_image images name) (rectangle_of [] b.root);
+    }
 
 -- ---- tests of a thing against itself
 
-same_shape-itself : (s : Shape) → same_shape s s ≡ true
+pub same_shape-itself : (s : Shape) → same_shape s s ≡ true
 same_shape-itself s =
     let box = same_rectangle-itself s.box in
     let format : same_format s.format s.format ≡ true = grind (arith, nat_tests) in
@@ -42,7 +55,7 @@ same_names-itself : (names : List (List ℕ)) → same_names names names ≡ tru
 same_names-itself [] = refl
 same_names-itself (name ∷ names) = rw (same_bytes name, same_names-itself names) refl
 
-same_body-itself : {Op : Type 0} (same : Op → Op → Bool) → ((f : Op) → same f f ≡ true) → (body : Body Op) → same_body same body body ≡ true
+pub same_body-itself : {Op : Type 0} (same : Op → Op → Bool) → ((f : Op) → same f f ≡ true) → (body : Body Op) → same_body same body body ≡ true
 same_body-itself same itself (Source buffer) = same_bytes buffer
 same_body-itself same itself (Compute operation inputs) = rw (itself operation, same_names-itself inputs) refl
 
@@ -50,11 +63,11 @@ shapes_steady : (shape : List ℕ → Shape) (inputs : List (List ℕ)) → list
 shapes_steady shape [] = refl
 shapes_steady shape (input ∷ inputs) = rw (same_shape-itself (shape input), shapes_steady shape inputs) refl
 
-kept-itself : {Op : Type 0} (same : Op → Op → Bool) → ((f : Op) → same f f ≡ true) → (meanings : Meanings Op) (sources : Sources) (nodes : List (Node Op)) (node : Node Op) →
-    is_unedited same meanings (samples_change sources sources nodes []) node (Some node) ≡ true
-kept-itself same itself meanings sources nodes node =
+kept-itself : {Op : Type 0} (same : Op → Op → Bool) → ((f : Op) → same f f ≡ true) → (side : Side Op) (node : Node Op) →
+    is_unedited same (own_change side) node (Some node) ≡ true
+kept-itself same itself side node =
     let body = same_body-itself same itself node.body in
-    let shapes = shapes_steady (shape_of meanings (record { table = sources; nodes = nodes })) (inputs_of node.body) in
+    let shapes = shapes_steady (side_shape side) (inputs_of node.body) in
     rw body shapes
 
 -- ---- nodes of distinct names are found
@@ -101,34 +114,34 @@ hull_of_nothing : (g : ℕ × List ℕ → Rectangle) → ((n : ℕ) (name : Lis
 hull_of_nothing g none n [] = refl
 hull_of_nothing g none n (name ∷ names) = hull_nothing (g (n, name)) (hull_of (map g (enumerate_from (n + 1) names))) (none n name) (hull_of_nothing g none (n + 1) names)
 
-passed_nothing : {Op : Type 0} (meanings : Meanings Op) (sources : Sources) (nodes : List (Node Op)) (rs : List Rectangle) (box : Rectangle) (body : Body Op) → KeepsNothing meanings → HaveNoPosition rs →
-    is_empty (damage_passed_on meanings (samples_change sources sources nodes []) rs box body) ≡ true
-passed_nothing meanings sources nodes rs box (Source buffer) keeps none = meet_nothing box
-passed_nothing meanings sources nodes rs box (Compute operation inputs) keeps none =
-    hull_of_nothing _ (λ n name. keeps operation _ n (get_or rs (index_of nodes name) empty) (get_nothing rs (index_of nodes name) none)) 0 inputs
+passed_nothing : {Op : Type 0} (meanings : Meanings Op) (side : Side Op) (rs : List Rectangle) (box : Rectangle) (body : Body Op) → KeepsNothing meanings → HaveNoPosition rs →
+    is_empty (damage_passed_on meanings (own_change side) rs box body) ≡ true
+passed_nothing meanings side rs box (Source buffer) keeps none = meet_nothing box
+passed_nothing meanings side rs box (Compute operation inputs) keeps none =
+    hull_of_nothing _ (λ n name. keeps operation _ n (get_or rs (index_of (specs_of side.nodes) name) empty) (get_nothing rs (index_of (specs_of side.nodes) name) none)) 0 inputs
 
-node_nothing : {Op : Type 0} (same : Op → Op → Bool) → ((f : Op) → same f f ≡ true) → (meanings : Meanings Op) (sources : Sources) (nodes : List (Node Op)) (rs : List Rectangle) (node : Node Op) → KeepsNothing meanings → HaveNoPosition rs → IsFound nodes node →
-    is_empty (damage_of_node same meanings (samples_change sources sources nodes []) rs node) ≡ true
-node_nothing same itself meanings sources nodes rs node keeps none found =
-    let change = samples_change sources sources nodes [] in
-    let box = (new_shape meanings change (length rs)).box in
-    let was = (shape_of meanings change.old node.name).box in
+node_nothing : {Op : Type 0} (same : Op → Op → Bool) → ((f : Op) → same f f ≡ true) → (meanings : Meanings Op) (side : Side Op) (rs : List Rectangle) (node : Node Op) → KeepsNothing meanings → HaveNoPosition rs → IsFound (specs_of side.nodes) node →
+    is_empty (damage_of_node same meanings (own_change side) rs node) ≡ true
+node_nothing same itself meanings side rs node keeps none found =
+    let nodes = specs_of side.nodes in
+    let box = (new_shape (own_change side) (length rs)).box in
+    let was = (side_shape side node.name).box in
     let there : node_of nodes node.name ≡ Some node = ap (λ i. slice_get nodes i) (index_of-is nodes node.name) ∙ found in
-    let kept : is_unedited same meanings change node (node_of nodes node.name) ≡ true =
-    ap (is_unedited same meanings change node) there ∙ kept-itself same itself meanings sources nodes node in
-    ap (λ b. is_empty (cond b (damage_passed_on meanings change rs box node.body) (hull was box))) kept
-    ∙ passed_nothing meanings sources nodes rs box node.body keeps none
+    let kept : is_unedited same (own_change side) node (node_of nodes node.name) ≡ true =
+    ap (is_unedited same (own_change side) node) there ∙ kept-itself same itself side node in
+    ap (λ b. is_empty (cond b (damage_passed_on meanings (own_change side) rs box node.body) (hull was box))) kept
+    ∙ passed_nothing meanings side rs box node.body keeps none
 
-all_nothing : {Op : Type 0} (same : Op → Op → Bool) → ((f : Op) → same f f ≡ true) → (meanings : Meanings Op) (sources : Sources) (nodes : List (Node Op)) (rs : List Rectangle) (rest : List (Node Op)) → KeepsNothing meanings → HaveNoPosition rs → AllByRecursion (IsFound nodes) rest →
-    HaveNoPosition (damages_after same meanings (samples_change sources sources nodes []) rs rest)
-all_nothing same itself meanings sources nodes rs [] keeps none found = none
-all_nothing same itself meanings sources nodes rs (node ∷ rest) keeps none found =
-    let r = damage_of_node same meanings (samples_change sources sources nodes []) rs node in
-    all_nothing same itself meanings sources nodes (rs ++ r ∷ []) rest keeps
-    (more_nothing rs r none (node_nothing same itself meanings sources nodes rs node keeps none found.0))
+all_nothing : {Op : Type 0} (same : Op → Op → Bool) → ((f : Op) → same f f ≡ true) → (meanings : Meanings Op) (side : Side Op) (rs : List Rectangle) (rest : List (Node Op)) → KeepsNothing meanings → HaveNoPosition rs → AllByRecursion (IsFound (specs_of side.nodes)) rest →
+    HaveNoPosition (damages_after same meanings (own_change side) rs rest)
+all_nothing same itself meanings side rs [] keeps none found = none
+all_nothing same itself meanings side rs (node ∷ rest) keeps none found =
+    let r = damage_of_node same meanings (own_change side) rs node in
+    all_nothing same itself meanings side (rs ++ r ∷ []) rest keeps
+    (more_nothing rs r none (node_nothing same itself meanings side rs node keeps none found.0))
     found.1
 
-pub nothing_damaged : {Op : Type 0} (same : Op → Op → Bool) (meanings : Meanings Op) (sources : Sources) (nodes : List (Node Op)) → ((f : Op) → same f f ≡ true) → KeepsNothing meanings → IsDistinct bytes_eq (node_names nodes) →
-    HaveNoPosition (damages same meanings (samples_change sources sources nodes []))
-nothing_damaged same meanings sources nodes itself keeps distinct =
-    all_nothing same itself meanings sources nodes [] nodes keeps tt (all_found nodes distinct)
+pub nothing_damaged : {Op : Type 0} (same : Op → Op → Bool) (meanings : Meanings Op) (side : Side Op) → ((f : Op) → same f f ≡ true) → KeepsNothing meanings → IsDistinct bytes_eq (node_names (specs_of side.nodes)) →
+    HaveNoPosition (damages same meanings (own_change side))
+nothing_damaged same meanings side itself keeps distinct =
+    all_nothing same itself meanings side [] (specs_of side.nodes) keeps tt (all_found (specs_of side.nodes) distinct)

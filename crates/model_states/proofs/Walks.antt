@@ -7,10 +7,12 @@ use Rattle.std.proofs.lemmas.Bool.Decides.{nat_tests}
 use Rattle.plane_rect.specs.Rectangle.{Rectangle, InLimits}
 use Rattle.model_images.proofs.Tests.{both}
 use Rattle.model_graphs.specs.Node.{Step, FromBuffer, Apply}
-use Rattle.model_states.specs.Edits.{StateRefused, UnknownInput, Arity, Formats, Bounds, is_unedited_box, step_refused, steps_refused}
+use Rattle.model_states.specs.Edits.{is_box_in_limits, step_refused, steps_refused}
+use Rattle.model_states.specs.declared.refused.StateRefused.{StateRefused}
+use Rattle.model_states.specs.declared.refused.StateRefused.TheVariants.{UnknownInput, Arity, Formats, Bounds}
 use Rattle.model_graphs.specs.Meanings.{Meanings}
-use Rattle.model_states.specs.Sources.{Sources, source_of}
-use Rattle.model_states.specs.Valid.{Shape, IsValidStep, AreValidSteps, step_shape, input_boxes, input_formats}
+use Rattle.model_states.specs.Valid.{IsValidStep, AreValidSteps, step_shape, input_boxes, input_formats}
+use Rattle.model_graphs.specs.Shapes.{Shape, Shapes, shape_in}
 
 -- ---- the tests
 
@@ -37,11 +39,11 @@ some-test : {A : Type 0} (o : Option A) → IsSome o → is_none o ≡ false
 some-test None h = absurd (cc)
 some-test (Some a) h = refl
 
-limits-from_test : (o : Option Rectangle) → is_unedited_box o ≡ true → IsSomeAnd o InLimits
+limits-from_test : (o : Option Rectangle) → is_box_in_limits o ≡ true → IsSomeAnd o InLimits
 limits-from_test None h = absurd (cc)
 limits-from_test (Some r) h = grind (arith, nat_tests)
 
-limits-test : (o : Option Rectangle) → IsSomeAnd o InLimits → is_unedited_box o ≡ true
+limits-test : (o : Option Rectangle) → IsSomeAnd o InLimits → is_box_in_limits o ≡ true
 limits-test None h = absurd h
 limits-test (Some r) h = grind (arith, nat_tests)
 
@@ -58,19 +60,19 @@ none_refused true true true d h = absurd (cc)
 none_refused true false c d h = absurd (cc)
 none_refused false b c d h = absurd (cc)
 
-step_valid : {Op : Type 0} (meanings : Meanings Op) (sources : Sources) (known : List Shape) (step : Step Op) →
-    step_refused meanings sources known step ≡ None → IsValidStep meanings sources known step
-step_valid meanings sources known (FromBuffer buffer) h = by (source_of sources buffer) h
+step_valid : {Op : Type 0} (meanings : Meanings Op) (shapes : Shapes) (known : List Shape) (step : Step Op) →
+    step_refused meanings shapes known step ≡ None → IsValidStep meanings shapes known step
+step_valid meanings shapes known (FromBuffer buffer) h = by (shape_in shapes buffer) h
   where
     by : {A : Type 0} (o : Option A) → cond (is_none o) (Some UnknownInput) None ≡ None → IsSome o
     by None h = absurd (cc)
     by (Some a) h = refl
-step_valid meanings sources known (Apply operation inputs) h =
+step_valid meanings shapes known (Apply operation inputs) h =
     let a = list_all (λ i. nat_lt i (length known)) inputs in
     let b = length inputs == meanings.input_count operation in
     let format = meanings.format operation (input_formats known inputs) in
     let box = meanings.box operation (input_boxes known inputs) in
-    let facts = none_refused a b (is_none format) (is_unedited_box box) h in
+    let facts = none_refused a b (is_none format) (is_box_in_limits box) h in
     record {
       inputs_earlier = below-from_test (length known) inputs facts.0;
       arity = arity facts.1;
@@ -81,10 +83,10 @@ step_valid meanings sources known (Apply operation inputs) h =
     arity : (length inputs == meanings.input_count operation) ≡ true → length inputs ≡ meanings.input_count operation
     arity e = grind (arith, nat_tests)
 
-step_passes : {Op : Type 0} (meanings : Meanings Op) (sources : Sources) (known : List Shape) (step : Step Op) →
-    IsValidStep meanings sources known step → step_refused meanings sources known step ≡ None
-step_passes meanings sources known (FromBuffer buffer) valid = rw (some-test (source_of sources buffer) valid) refl
-step_passes meanings sources known (Apply operation inputs) valid =
+step_passes : {Op : Type 0} (meanings : Meanings Op) (shapes : Shapes) (known : List Shape) (step : Step Op) →
+    IsValidStep meanings shapes known step → step_refused meanings shapes known step ≡ None
+step_passes meanings shapes known (FromBuffer buffer) valid = rw (some-test (shape_in shapes buffer) valid) refl
+step_passes meanings shapes known (Apply operation inputs) valid =
     let a = below-test (length known) inputs valid.inputs_earlier in
     let number : (length inputs == meanings.input_count operation) ≡ true = grind (arith, nat_tests, valid.arity) in
     let c = some-test (meanings.format operation (input_formats known inputs)) valid.format in
@@ -97,22 +99,22 @@ none_of : {A : Type 0} (o p : Option A) → option_or o p ≡ None → (o ≡ No
 none_of None p h = (refl, h)
 none_of (Some a) p h = absurd (cc)
 
-pub valid_steps : {Op : Type 0} (meanings : Meanings Op) (sources : Sources) (known : List Shape) (steps : List (Step Op)) →
-    steps_refused meanings sources known steps ≡ None → AreValidSteps meanings sources known steps
-valid_steps meanings sources known [] h = tt
-valid_steps meanings sources known (step ∷ steps) h =
-    let next = known ++ step_shape meanings sources known step ∷ [] in
-    let none = none_of (step_refused meanings sources known step) (steps_refused meanings sources next steps) h in
-    (step_valid meanings sources known step none.0, valid_steps meanings sources next steps none.1)
+pub valid_steps : {Op : Type 0} (meanings : Meanings Op) (shapes : Shapes) (known : List Shape) (steps : List (Step Op)) →
+    steps_refused meanings shapes known steps ≡ None → AreValidSteps meanings shapes known steps
+valid_steps meanings shapes known [] h = tt
+valid_steps meanings shapes known (step ∷ steps) h =
+    let next = known ++ step_shape meanings shapes known step ∷ [] in
+    let none = none_of (step_refused meanings shapes known step) (steps_refused meanings shapes next steps) h in
+    (step_valid meanings shapes known step none.0, valid_steps meanings shapes next steps none.1)
 
-steps_pass : {Op : Type 0} (meanings : Meanings Op) (sources : Sources) (known : List Shape) (steps : List (Step Op)) →
-    AreValidSteps meanings sources known steps → steps_refused meanings sources known steps ≡ None
-steps_pass meanings sources known [] valid = refl
-steps_pass meanings sources known (step ∷ steps) valid =
-    let next = known ++ step_shape meanings sources known step ∷ [] in
-    ap (λ first. option_or first (steps_refused meanings sources next steps)) (step_passes meanings sources known step valid.0)
-    ∙ steps_pass meanings sources next steps valid.1
+steps_pass : {Op : Type 0} (meanings : Meanings Op) (shapes : Shapes) (known : List Shape) (steps : List (Step Op)) →
+    AreValidSteps meanings shapes known steps → steps_refused meanings shapes known steps ≡ None
+steps_pass meanings shapes known [] valid = refl
+steps_pass meanings shapes known (step ∷ steps) valid =
+    let next = known ++ step_shape meanings shapes known step ∷ [] in
+    ap (λ first. option_or first (steps_refused meanings shapes next steps)) (step_passes meanings shapes known step valid.0)
+    ∙ steps_pass meanings shapes next steps valid.1
 
-pub walk_refuses : {Op : Type 0} (meanings : Meanings Op) (sources : Sources) (known : List Shape) (steps : List (Step Op)) →
-    (steps_refused meanings sources known steps ≡ None) ↔ AreValidSteps meanings sources known steps
-walk_refuses meanings sources known steps = (valid_steps meanings sources known steps, steps_pass meanings sources known steps)
+pub walk_refuses : {Op : Type 0} (meanings : Meanings Op) (shapes : Shapes) (known : List Shape) (steps : List (Step Op)) →
+    (steps_refused meanings shapes known steps ≡ None) ↔ AreValidSteps meanings shapes known steps
+walk_refuses meanings shapes known steps = (valid_steps meanings shapes known steps, steps_pass meanings shapes known steps)

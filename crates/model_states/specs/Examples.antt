@@ -3,14 +3,16 @@ use Rattle.std.specs.Prelude.{ℕ, ◌+◌, ◌-◌, ◌==◌, if◌then◌else�
 use Rattle.plane_rect.specs.Rectangle.{Rectangle, empty, is_empty, meet, spanning, end_column, end_row, placed}
 use Rattle.pixel_formats.specs.declared.format.Format.{Format}
 use Rattle.pixel_formats.specs.declared.format.Format.TheVariants.{Y8}
-use Rattle.model_graphs.specs.Node.{Node, Source, Compute}
+use Rattle.model_graphs.specs.declared.node.Body.TheVariants.{Source, Compute}
+use Rattle.model_graphs.specs.declared.node.NodeFact.{NodeFact}
+use Rattle.model_graphs.specs.Facts.{Facts, shapes_of_facts}
+use Rattle.model_graphs.specs.Node.{Node}
 use Rattle.model_graphs.specs.Meanings.{Meanings}
-use Rattle.model_states.specs.Sources.{Sources}
-use Rattle.model_states.specs.State.{Scene}
+use Rattle.model_states.specs.Cache.{Pair, Counted, all_looked_up, itself, needed_pairs, uncounted, without_damaged}
 use Rattle.model_states.specs.Damage.{damage}
 use Rattle.model_states.specs.Need.{need}
-use Rattle.model_states.specs.Cache.{Pair, Cached, Counted, all_looked_up, needed_pairs, uncounted, without_damaged}
 use Rattle.model_states.specs.Samples.{samples_change}
+use Rattle.model_states.specs.Valid.{stated}
 
 -- a rectangle with so many more positions on each side
 abbrev pub widened : ℕ → Rectangle → Rectangle
@@ -40,10 +42,10 @@ neighbourhoods =
 abbrev pub square : ℕ → Rectangle
 square side = placed (pos 0) (pos 0) side side
 
--- a buffer of such a square, of which no sample is reported
-abbrev pub square_buffer : ℕ → Sources
+-- a buffer of such a square
+abbrev pub square_buffer : ℕ → Facts
 square_buffer side =
-    (codes "a", record { root = codes "a"; extent = square side; image = record { box = square side; format = Y8; samples = [] } }) ∷ []
+    record { name = codes "a"; root = codes "a"; bounds = square side; format = Y8 } ∷ []
 
 -- a node of the buffer, and one that looks one position further
 abbrev pub two_nodes : List (Node ℕ)
@@ -52,26 +54,26 @@ two_nodes =
     ∷ record { name = codes "b"; body = Compute 1 (codes "s" ∷ []) }
     ∷ []
 
-abbrev pub two_node_scene : ℕ → Scene ℕ
-two_node_scene side = record { table = square_buffer side; nodes = two_nodes }
+abbrev pub two_node_facts : ℕ → List (NodeFact ℕ)
+two_node_facts side = stated neighbourhoods (shapes_of_facts (square_buffer side)) two_nodes
 
--- the damage of the second node where one place of the buffer of 128 by 128 is written
+-- the damage of the second node where one pixel of the buffer of 128 by 128 is written
 abbrev pub damage_by : Rectangle → List ℕ → Rectangle
 damage_by written =
-    damage (λ a b. a == b) neighbourhoods (samples_change (square_buffer 128) (square_buffer 128) two_nodes ((codes "a", written) ∷ []))
+    damage (λ a b. a == b) neighbourhoods (samples_change neighbourhoods (square_buffer 128) two_nodes ((codes "a", written) ∷ []))
 
 -- what a render of the square's 128 by 128 pixels looks up
 abbrev pub square_pairs : List Pair
-square_pairs = needed_pairs two_nodes (need neighbourhoods (two_node_scene 128) 1 (square 128))
+square_pairs = needed_pairs two_nodes (need neighbourhoods (two_node_facts 128) 1 (square 128))
 
--- a list of cached pairs after such a render, with its counts, where no bytes are known
-abbrev pub rendered : List Cached → Counted
-rendered list = all_looked_up (λ pair. []) 16384 (uncounted list) square_pairs
+-- a list of pairs after such a render, with its counts
+abbrev pub rendered : List Pair → Counted Pair
+rendered list = all_looked_up itself itself (Some 16384) (uncounted list) square_pairs
 
 -- the counts of such a render after one that filled an empty list, and an edit that wrote a rectangle
-abbrev pub rendered_after_edit : Rectangle → Counted
-rendered_after_edit written = rendered (without_damaged (damage_by written) (rendered []).list)
+abbrev pub rendered_after_edit : Rectangle → Counted Pair
+rendered_after_edit written = rendered (without_damaged itself (damage_by written) (rendered []).list)
 
 -- how many were applied, and how many reused
-abbrev pub counts : Counted → ℕ × ℕ
+abbrev pub counts : Counted Pair → ℕ × ℕ
 counts counted = (counted.applied, counted.reused)

@@ -1,12 +1,15 @@
 -- The tiles of nodes that are needed for a rectangle of one of them, strip by strip.
-use Rattle.std.specs.Prelude.{ℕ, suc, ◌*◌, ◌==◌, List, [], ◌∷◌, ◌++◌, map, filter, reverse, take, length, slice_index_or, flat_map}
+use Rattle.std.specs.Prelude.{ℕ, suc, ◌*◌, ◌==◌, nat_lt, if◌then◌else◌, List, [], ◌∷◌, ◌++◌, map, filter, reverse, take, length, slice_index_or, flat_map, Option, Some, None}
 use Rattle.std.specs.List.{enumerate_from, range_with_len}
 use Rattle.plane_rect.specs.Rectangle.{Rectangle, meet, plane_side}
 use Rattle.plane_rect.specs.Tile.{Tile, tile_side, tile_of, tile_lines, tile_square}
+use Rattle.model_graphs.specs.declared.node.NodeFact.{NodeFact}
+use Rattle.model_graphs.specs.Facts.{specs_of, stated_shapes}
+use Rattle.model_graphs.specs.Shapes.{Shape, no_shape}
 use Rattle.model_graphs.specs.Node.{Step, FromBuffer, Apply}
 use Rattle.model_graphs.specs.Meanings.{Meanings}
-use Rattle.model_states.specs.Valid.{Shape, no_shape, input_boxes, steps_of}
-use Rattle.model_states.specs.State.{Scene, node_shapes}
+use Rattle.model_states.specs.declared.strip.Strip.{Strip}
+use Rattle.model_states.specs.Valid.{input_boxes, steps_of}
 use Rattle.model_states.specs.Regions.{tiles_of_any}
 
 -- a rectangle that is asked of a node, by the place of the node
@@ -49,11 +52,6 @@ needed meanings shapes asked (step ∷ before) =
     let tiles = tiles_of_any (asked_of asked node) in
     needed meanings shapes (asked ++ asked_by meanings shapes step box tiles) before ++ needed_of node step tiles
 
--- a part of a request, and what is needed for it
-pub record Strip : Type 0 where
-  pub rectangle : Rectangle
-  pub needed : List Needed
-
 -- all positions of a row of tiles
 abbrev pub tile_line : ℕ → Rectangle
 tile_line row = record { first_column = 0; first_row = tile_side * row; width = plane_side; height = tile_side }
@@ -64,19 +62,27 @@ strip_rectangles request =
     map (λ row. meet request (tile_line row)) (range_with_len (tile_of request.first_row) (tile_lines request))
 
 -- what is needed for a rectangle of the node at a position
-abbrev pub strip_of : {Op : Type 0} → Meanings Op → Scene Op → ℕ → Rectangle → Strip
-strip_of meanings scene node rectangle =
-    let shapes = node_shapes meanings scene in
+abbrev pub strip_of : {Op : Type 0} → Meanings Op → List (NodeFact Op) → ℕ → Rectangle → Strip
+strip_of meanings facts node rectangle =
+    let shapes = stated_shapes facts in
     record {
-      rectangle = rectangle;
-      needed =
+      rect = rectangle;
+      need =
           needed
           meanings
           shapes
           ((node, meet rectangle (slice_index_or shapes node no_shape).box) ∷ [])
-          (reverse (take (suc node) (steps_of scene.nodes)));
+          (reverse (take (suc node) (steps_of (specs_of facts))));
     }
 
 -- The need of a request for the image of the node at a position.
-abbrev pub need : {Op : Type 0} → Meanings Op → Scene Op → ℕ → Rectangle → List Strip
-need meanings scene node request = map (strip_of meanings scene node) (strip_rectangles request)
+abbrev pub need : {Op : Type 0} → Meanings Op → List (NodeFact Op) → ℕ → Rectangle → List Strip
+need meanings facts node request = map (strip_of meanings facts node) (strip_rectangles request)
+
+-- ---- strips that are too wide
+
+-- the number of tiles of the first strip that needs more than a capacity
+abbrev pub wide : ℕ → List Strip → Option ℕ
+wide capacity [] = None
+wide capacity (strip ∷ strips) =
+    if nat_lt capacity (length strip.need) then Some (length strip.need) else wide capacity strips

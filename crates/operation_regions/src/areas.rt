@@ -1,4 +1,4 @@
-//! The positions that windows are read from, and those whose windows reach a position.
+//! The positions that windows read, and those whose windows reach a position.
 
 ghost use Rattle.std.specs.Prelude.{◌≡◌, ◌+◌, ◌<◌, ◌≤◌};
 ghost use Rattle.plane_rect.specs.Rectangle.{meet, plane_side};
@@ -9,8 +9,7 @@ ghost use Rattle.model_operations.specs.Regions.{area_read};
 use pixel_formats::Abyss;
 use plane_rect::Rect;
 
-/// What is in `within` of the positions from which the windows of a part are read, of an input over
-/// `within`.
+/// Returns what the windows of a part read of an input over `within`.
 pub(crate) fn area_read(radius: u32, abyss: Abyss, part: &Rect, within: &Rect) -> Rect
     ensures { result ≡ meet (area_read radius abyss within.now part.now) within.now }
 {
@@ -20,7 +19,8 @@ pub(crate) fn area_read(radius: u32, abyss: Abyss, part: &Rect, within: &Rect) -
     }
 }
 
-/// What is in `within` of a part with so many more positions on each side. An empty part stays.
+/// Returns what is in `within` of a part with so many more pixels on each side. An empty part is
+/// unchanged.
 pub(crate) fn surrounded(by: u32, part: &Rect, within: &Rect) -> Rect
     ensures { result ≡ meet (surrounded by part.now) within.now }
 {
@@ -39,7 +39,8 @@ pub(crate) fn surrounded(by: u32, part: &Rect, within: &Rect) -> Rect
     )
 }
 
-/// The positions of `within` that are the nearest to a part with so many more positions on each side.
+/// Returns the positions of `within` that are the nearest to a part with so many more pixels on
+/// each side.
 fn nearest_positions(by: u32, part: &Rect, within: &Rect) -> Rect
     ensures { result ≡ meet (moved_into within.now (surrounded by part.now)) within.now }
 {
@@ -66,7 +67,7 @@ fn nearest_positions(by: u32, part: &Rect, within: &Rect) -> Rect
     )
 }
 
-/// Of the `len` numbers from `start` on, the one that is nearest to a number.
+/// Returns, of the `len` numbers from `start` on, the one that is nearest to a number.
 fn nearest(start: u32, len: u32, n: u32) -> u32
     requires some { 0 < len }
     requires fits { start + len ≤ plane_side }

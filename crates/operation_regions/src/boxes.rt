@@ -10,8 +10,8 @@ use model_operations::IntOp;
 use pixel_formats::Abyss;
 use plane_rect::{Rect, RectRefused};
 
-/// The box of what an operation gives of inputs of these boxes, and None exactly where their number
-/// is wrong or where no image may be kept of it.
+/// Returns the box of an operation's result on inputs of these boxes, and None exactly where their
+/// number is wrong or the box is too large for an image.
 pub fn box_of(op: &IntOp, boxes: &[Rect]) -> Option<Rect>
     ensures { result ≡ box_of op.now boxes.now }
 {
@@ -21,21 +21,21 @@ pub fn box_of(op: &IntOp, boxes: &[Rect]) -> Option<Rect>
     box_with(op, &input_box(boxes, 0), &input_box(boxes, 1))
 }
 
-/// The same, without a position where there is none.
+/// Returns the box of an operation's result, which is empty where there is none.
 pub(crate) fn result_box(op: &IntOp, boxes: &[Rect]) -> Rect
     ensures { result ≡ result_box op.now boxes.now }
 {
     box_of(op, boxes).unwrap_or(Rect::EMPTY)
 }
 
-/// The box of an input, without a position where it lacks.
+/// Returns the box of an input, which is empty where there is no such input.
 pub(crate) fn input_box(boxes: &[Rect], input: usize) -> Rect
     ensures { result ≡ input_box boxes.now input }
 {
     boxes.get(input).copied().unwrap_or(Rect::EMPTY)
 }
 
-/// The box of an operation on inputs of these boxes.
+/// Returns the box of an operation's result on inputs of two boxes.
 fn box_with(op: &IntOp, a: &Rect, b: &Rect) -> Option<Rect>
     ensures { result ≡ box_with op.now a.now b.now }
 {
@@ -56,7 +56,7 @@ fn box_with(op: &IntOp, a: &Rect, b: &Rect) -> Option<Rect>
     }
 }
 
-/// The box of an area operation.
+/// Returns the box of an area operation's result.
 fn area_box(radius: u32, abyss: Abyss, input: &Rect) -> Option<Rect>
     ensures { result ≡ area_box radius abyss input.now }
 {
@@ -67,14 +67,14 @@ fn area_box(radius: u32, abyss: Abyss, input: &Rect) -> Option<Rect>
     }
 }
 
-/// A rectangle, where an image may be kept of it.
+/// Returns a rectangle, where it is in the limits of an image.
 fn in_limits(rect: Rect) -> Option<Rect>
     ensures { result ≡ box_in_limits rect }
 {
     if_in_limits(Ok(rect))
 }
 
-/// A rectangle that there is, where an image may be kept of it.
+/// Returns the rectangle, where there is one in the limits of an image.
 fn if_in_limits(rect: Result<Rect, RectRefused>) -> Option<Rect>
     ensures value { result ≡ if_in_limits rect }
     ensures limits { IfSome result InLimits }

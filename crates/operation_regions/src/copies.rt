@@ -8,11 +8,11 @@ use pixel_formats::{Format, PixelSamples};
 use plane_rect::Rect;
 use std::alloc::Global;
 
-/// An equal operation.
+/// Returns an equal operation.
 ///
 /// # Errors
 ///
-/// No memory was left.
+/// `NoMemory` if memory runs out.
 pub fn copy(alloc: Global, op: &IntOp) -> Result<IntOp, NoMemory>
     ensures { IfOk result (λ copied. copied ≡ op.now) }
 {
@@ -51,7 +51,7 @@ pub fn copy(alloc: Global, op: &IntOp) -> Result<IntOp, NoMemory>
     })
 }
 
-/// An equal pixel over an equal rectangle.
+/// Returns the operation of an equal pixel over an equal rectangle.
 fn copy_color(
     alloc: Global,
     format: Format,

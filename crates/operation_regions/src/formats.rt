@@ -11,7 +11,7 @@ use model_operations::IntOp;
 use pixel_formats::limits::{MAX_CHECKER_SIZE, MAX_SAMPLE, is_area, is_in, is_move};
 use pixel_formats::{Format, PixelSamples};
 
-/// How many images an operation takes.
+/// Returns how many images an operation takes.
 pub fn input_count(op: &IntOp) -> usize
     ensures { result ≡ input_count op.now }
 {
@@ -31,8 +31,8 @@ pub fn input_count(op: &IntOp) -> usize
     }
 }
 
-/// The format that an operation gives of those of its inputs, and None exactly where their number or
-/// an argument is wrong, or where it does not take them.
+/// Returns the format of an operation's result on inputs of these formats, and None exactly where
+/// their number or an argument is wrong, or where the operation does not take them.
 pub fn format_of(op: &IntOp, formats: &[Format]) -> Option<Format>
     ensures { result ≡ format_of op.now formats.now }
 {
@@ -42,14 +42,15 @@ pub fn format_of(op: &IntOp, formats: &[Format]) -> Option<Format>
     format_with(op, input_format(formats, 0), input_format(formats, 1))
 }
 
-/// The format of an input, and Y8 where it lacks.
+/// Returns the format of an input, and Y8 where there is no such input.
 fn input_format(formats: &[Format], input: usize) -> Format
     ensures { result ≡ input_format formats.now input }
 {
     formats.get(input).copied().unwrap_or(Format::Y8)
 }
 
-/// The format of arguments in their ranges and of inputs in these formats.
+/// Returns the format of an operation's result, of arguments in their ranges and inputs of these
+/// formats.
 fn format_with(op: &IntOp, a: Format, b: Format) -> Option<Format>
     ensures { result ≡ format_with op.now a b }
 {
@@ -78,14 +79,14 @@ fn format_with(op: &IntOp, a: Format, b: Format) -> Option<Format>
     }
 }
 
-/// The format, where something holds.
+/// Returns the format, where something holds.
 fn format_if(holds: bool, format: Format) -> Option<Format>
     ensures { result ≡ format_if holds format }
 {
     if holds { Some(format) } else { None }
 }
 
-/// Whether there is a sample for each channel, and none is above the largest.
+/// Returns whether there is a sample for each channel, and none is above the largest.
 fn are_samples(format: Format, samples: &PixelSamples) -> bool
     ensures { result ≡ are_samples format samples.now }
 {
@@ -93,28 +94,28 @@ fn are_samples(format: Format, samples: &PixelSamples) -> bool
     samples.len() == format.channels() as usize && all_are_samples(format, samples)
 }
 
-/// Whether none of these is above the largest sample.
+/// Returns whether none of these is above the largest sample.
 fn all_are_samples(format: Format, samples: &[u32]) -> bool
     ensures { result ≡ list_all (is_sample format) samples.now }
 {
     samples.iter().all(|sample| is_sample(format, *sample))
 }
 
-/// Whether a pixel of the format may have the sample.
+/// Returns whether a pixel of the format may have the sample.
 fn is_sample(format: Format, sample: u32) -> bool
     ensures { result ≡ is_sample format sample }
 {
     sample <= format.max()
 }
 
-/// Whether a format is Y of the depth of another.
+/// Returns whether a format is Y of the depth of another.
 fn is_mask_of(mask: Format, format: Format) -> bool
     ensures { result ≡ is_mask_of mask format }
 {
     mask.channels() == 1 && mask.depth() == format.depth()
 }
 
-/// Whether each argument is in its range. Those of samples depend on the format.
+/// Returns whether each argument is in its range. Those of samples depend on the format.
 fn in_range(op: &IntOp) -> bool
     ensures { result ≡ in_range op.now }
 {

@@ -1,5 +1,5 @@
-//! What an operation answers of the formats and the boxes of its inputs, computed: formats, boxes,
-//! and the regions that it reads and that a change reaches.
+//! What operations need to know of their inputs and results, computed: formats, boxes, and the
+//! regions that an operation reads and that a change reaches.
 #![tactic(auto)]
 
 mod areas;

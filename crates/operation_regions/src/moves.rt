@@ -1,4 +1,4 @@
-//! Rectangles moved and mirrored, as far as they are in a rectangle of the plane.
+//! Rectangles moved and mirrored, clipped to a rectangle of the plane.
 
 ghost use Rattle.std.specs.Prelude.{◌≡◌, ◌+◌, ◌-◌, min};
 ghost use Rattle.plane_rect.specs.Rectangle.{meet, rectangle};
@@ -6,29 +6,26 @@ ghost use Rattle.model_operations.specs.Moves.{moved_index, source_index, mirror
 
 use plane_rect::Rect;
 
-/// What is in `within` of a part that is moved right by `dx` and down by `dy`.
+/// Returns what is in `within` of a part that is moved right by `dx` and down by `dy` pixels.
 pub(crate) fn moved(part: &Rect, dx: i64, dy: i64, within: &Rect) -> Rect
     ensures { result ≡ meet (moved dx dy part.now) within.now }
 {
-    let (first_column, first_row) = (
-        moved_index(dx, part.first_column()),
-        moved_index(dy, part.first_row()),
-    );
+    let first_column = moved_index(dx, part.first_column());
+    let first_row = moved_index(dy, part.first_row());
     placed_within(first_column, first_row, part, within)
 }
 
-/// What is in `within` of the part that is another one when moved right by `dx` and down by `dy`.
+/// Returns what is in `within` of the part that becomes this one when moved right by `dx` and down
+/// by `dy` pixels.
 pub(crate) fn moved_back(part: &Rect, dx: i64, dy: i64, within: &Rect) -> Rect
     ensures { result ≡ meet (moved_back dx dy part.now) within.now }
 {
-    let (first_column, first_row) = (
-        source_index(dx, part.first_column()),
-        source_index(dy, part.first_row()),
-    );
+    let first_column = source_index(dx, part.first_column());
+    let first_row = source_index(dy, part.first_row());
     placed_within(first_column, first_row, part, within)
 }
 
-/// What is in `within` of a part that is mirrored in a rectangle: left and right where
+/// Returns what is in `within` of a part that is mirrored in a rectangle: left and right where
 /// `sideways`, else top and bottom.
 pub(crate) fn mirrored_part(sideways: bool, whole: &Rect, part: &Rect, within: &Rect) -> Rect
     ensures { result ≡ meet (mirrored_part sideways whole.now part.now) within.now }
@@ -47,7 +44,8 @@ pub(crate) fn mirrored_part(sideways: bool, whole: &Rect, part: &Rect, within: &
     }
 }
 
-/// What is in `within` of a rectangle of the size of another, which may reach out of the plane.
+/// Returns what is in `within` of a rectangle of the size of another, which may reach out of the
+/// plane.
 fn placed_within(first_column: u64, first_row: u64, size: &Rect, within: &Rect) -> Rect
     ensures { result ≡ meet (rectangle first_column first_row size.now.width size.now.height) within.now }
 {
@@ -64,14 +62,14 @@ fn placed_within(first_column: u64, first_row: u64, size: &Rect, within: &Rect) 
     )
 }
 
-/// The column, or the one at an end where it stands after that; or the row so.
+/// Returns an index, or the exclusive end where the index is after it.
 fn up_to(end: u32, index: u64) -> u32
     ensures { result ≡ min index end }
 {
     index.min(u64::from(end)) as u32
 }
 
-/// The column so much further right, or the row so much further down: where the distance is
+/// Returns the column so much further right, or the row so much further down: where the distance is
 /// negative, less far, and not before the plane's corner.
 fn moved_index(distance: i64, index: u32) -> u64
     ensures { result ≡ moved_index distance index }
@@ -85,8 +83,8 @@ fn moved_index(distance: i64, index: u32) -> u64
     }
 }
 
-/// The column or the row that is another one when moved by a distance, and not before the plane's
-/// corner.
+/// Returns the column or the row that becomes this one when moved by a distance, and not before the
+/// plane's corner.
 fn source_index(distance: i64, index: u32) -> u64
     ensures { result ≡ source_index distance index }
 {
@@ -99,8 +97,8 @@ fn source_index(distance: i64, index: u32) -> u64
     }
 }
 
-/// Where some of the columns from a first up to an end begin when they are mirrored in these, by
-/// the end of what is mirrored; or rows so.
+/// Returns the first column of some columns that are mirrored in those from a first up to an end,
+/// by the exclusive end of what is mirrored; or the first row of rows.
 fn mirrored_start(first: u32, end: u32, part_end: u32) -> u64
     ensures { result ≡ first + end - part_end }
 {

@@ -11,8 +11,8 @@ use crate::moves::{mirrored_part, moved, moved_back};
 use model_operations::IntOp;
 use plane_rect::Rect;
 
-/// The positions of an input, counted from 0, that an operation needs for a region of its result. They
-/// are in the input's box.
+/// Returns the positions of an input, counted from 0, that an operation needs for a region of its
+/// result. They are in the input's box.
 pub fn required(op: &IntOp, boxes: &[Rect], input: usize, out: Rect) -> Rect
     ensures { result ≡ required op.now boxes.now input out }
 {
@@ -20,8 +20,8 @@ pub fn required(op: &IntOp, boxes: &[Rect], input: usize, out: Rect) -> Rect
     read_within(op, &input_box(boxes, input), &part)
 }
 
-/// The positions of an operation's result that may change where a region of an input, counted from 0,
-/// changes. They are in the result's box.
+/// Returns the positions of an operation's result that may change where a region of an input,
+/// counted from 0, changes. They are in the result's box.
 pub fn invalidated(op: &IntOp, boxes: &[Rect], input: usize, changed: Rect) -> Rect
     ensures { result ≡ invalidated op.now boxes.now input changed }
 {
@@ -29,7 +29,7 @@ pub fn invalidated(op: &IntOp, boxes: &[Rect], input: usize, changed: Rect) -> R
     reached_within(op, &input, &changed.meet(&input), &result_box(op, boxes))
 }
 
-/// The positions of an input's box that an operation reads for a part of its result.
+/// Returns the positions of an input's box that an operation reads for a part of its result.
 fn read_within(op: &IntOp, input: &Rect, part: &Rect) -> Rect
     ensures { result ≡ meet (read_for op.now input.now part.now) input.now }
 {
@@ -52,7 +52,7 @@ fn read_within(op: &IntOp, input: &Rect, part: &Rect) -> Rect
     }
 }
 
-/// What is in a box of the positions whose samples depend on a part of an input.
+/// Returns what is in a box of the positions whose samples depend on a part of an input.
 fn reached_within(op: &IntOp, input: &Rect, part: &Rect, within: &Rect) -> Rect
     ensures { result ≡ meet (reached_from op.now input.now part.now) within.now }
 {

@@ -32,7 +32,7 @@ TakesAtMost limit (Err answers.Failed) = ⊤
 TakesAtMost limit (Err answers.NoMemory) = ⊤
 
 -- The files that a write leaves: these bytes under the name after Ok, a prefix of them after an I/O error, and after
--- running out of memory a front or what was there before.
+-- running out of memory a prefix or what was there before.
 abbrev pub WriteLeaves : Option Files → List ℕ → List ℕ → Result (Unit {0}) ShelfAnswer → Option Files → Type 0
 WriteLeaves old name bytes (Ok done) new = new ≡ option_map (λ files. filed files name bytes) old
 WriteLeaves old name bytes (Err answers.Failed) new =

@@ -20,7 +20,7 @@ impl Model for FailingCalls {
 }
 
 impl FailingCalls {
-    /// Calls of which those of these numbers fail, counted from 1.
+    /// Returns calls of which those of these numbers fail, counted from 1.
     pub fn new(failing: Vec<u64>) -> FailingCalls
         ensures { result ≡ no_calls failing.items }
     {
@@ -31,7 +31,7 @@ impl FailingCalls {
         }
     }
 
-    /// Whether the next call fails.
+    /// Returns whether the next call fails.
     fn next_fails(&self) -> bool
         ensures { result ≡ next_fails self.now }
     {
@@ -41,7 +41,7 @@ impl FailingCalls {
             .any(|number| self.made < *number && *number - self.made == 1)
     }
 
-    /// Counts one more call. True where it fails.
+    /// Counts one more call. Returns whether it fails.
     pub fn fails(&mut self) -> bool
         ensures answer { result ≡ next_fails self.old }
         ensures after { self.new ≡ after_call self.old }
@@ -56,7 +56,7 @@ impl FailingCalls {
     }
 }
 
-/// What a call keeps of the bytes that it is handed.
+/// Returns what a call keeps of the bytes that it is handed.
 pub(crate) fn kept(fails: bool, bytes: &[u8]) -> &[u8]
     ensures { result.now ≡ kept fails bytes.now }
 {

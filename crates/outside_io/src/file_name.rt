@@ -4,7 +4,7 @@ ghost use Rattle.std.specs.Prelude.{◌≡◌};
 ghost use Rattle.std.specs.List.{list_all};
 ghost use Rattle.outside_io.specs.FileName.{is_file_name, is_name_byte, may_begin};
 
-/// Whether a shelf may be asked for a file of this name: 1 to 64 letters, digits, `_`, `-` and `.`,
+/// Returns whether a shelf may be asked for a file of this name: 1 to 64 letters, digits, `_`, `-` and `.`,
 /// the first neither `-` nor `.`.
 pub fn is_file_name(name: &[u8]) -> bool
     ensures { result ≡ is_file_name name.now }
@@ -15,21 +15,21 @@ pub fn is_file_name(name: &[u8]) -> bool
     may_begin(*first) && others.len() <= 63 && has_name_bytes(name)
 }
 
-/// Whether a name may begin with this byte.
+/// Returns whether a name may begin with this byte.
 fn may_begin(byte: u8) -> bool
     ensures { result ≡ may_begin byte }
 {
     byte != b'.' && byte != b'-'
 }
 
-/// Whether all these bytes may stand in a name.
+/// Returns whether all these bytes may be in a name.
 fn has_name_bytes(bytes: &[u8]) -> bool
     ensures { result ≡ list_all is_name_byte bytes.now }
 {
     bytes.iter().all(|byte| is_name_byte(*byte))
 }
 
-/// Whether a byte may stand in a name.
+/// Returns whether a byte may be in a name.
 fn is_name_byte(byte: u8) -> bool
     ensures { result ≡ is_name_byte byte }
 {

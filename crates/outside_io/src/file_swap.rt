@@ -16,7 +16,7 @@ use std::{fs, io};
 const FILE_NAME: &str = ".tilegraph-swap";
 
 /// The blocks of a file `.tilegraph-swap` of the current folder, which is made afresh at the first
-/// block call. It doesn't tell what they hold.
+/// block call. It doesn't expose what they hold.
 #[derive(Drop)]
 pub struct FileSwap<R: Files + Drop> {
     rt: R,
@@ -37,7 +37,7 @@ impl<R: Files + Drop> Model for FileSwap<R> {
 }
 
 impl<R: Files + Drop> FileSwap<R> {
-    /// A disk of this many blocks. Its file isn't made yet.
+    /// Returns a disk of this many blocks. Its file isn't made yet.
     pub fn new(rt: R, blocks: u32) -> FileSwap<R>
         requires { blocks ≤ 2 ^ 20 }
         ensures { result ≡ record { block_count = blocks; faults = 0 } }
@@ -115,7 +115,7 @@ where
     }
 }
 
-/// Where block `n` begins in the file.
+/// Returns where block `n` begins in the file.
 fn offset(n: u32) -> u64 {
     u64::from(n) * BLOCK_BYTES as u64
 }

@@ -13,7 +13,7 @@ use std::io::{ErrorKind, Read};
 use std::marker::Model;
 use std::{fs, io};
 
-/// The files of the current folder. It doesn't tell what they hold.
+/// The files of the current folder. It doesn't expose what they hold.
 #[derive(Drop)]
 pub struct FolderShelf<R: Files + AllocGlobal + Drop> {
     rt: R,
@@ -28,7 +28,7 @@ impl<R: Files + AllocGlobal + Drop> Model for FolderShelf<R> {
 }
 
 impl<R: Files + AllocGlobal + Drop> FolderShelf<R> {
-    /// The current folder of this runtime, of which no read and no write has failed yet.
+    /// Returns the current folder of this runtime, of which no read and no write has failed yet.
     pub fn new(rt: R) -> FolderShelf<R>
         ensures { result ≡ record { reads = 0; writes = 0 } }
     {
@@ -81,7 +81,7 @@ impl<R: Files + AllocGlobal + Drop> Shelf for FolderShelf<R> {
     }
 }
 
-/// The bytes of a file of the current folder.
+/// Reads a file of the current folder.
 fn read_file<R: Files + AllocGlobal>(rt: &R, name: &str, limit: u64) -> Result<Vec<u8>, ShelfAnswer>
     ensures within { TakesAtMost limit result }
 {
@@ -99,7 +99,7 @@ fn read_file<R: Files + AllocGlobal>(rt: &R, name: &str, limit: u64) -> Result<V
     }
 }
 
-/// What a shelf answers where an open file gave this error.
+/// Returns what a shelf answers where an open file gave this error.
 fn refusal(error: io::Error) -> ShelfAnswer
     ensures { (result ≡ ShelfAnswer.Failed) ⊎ (result ≡ ShelfAnswer.NoMemory) }
 {
@@ -109,7 +109,7 @@ fn refusal(error: io::Error) -> ShelfAnswer
     }
 }
 
-/// The bytes of a file from its beginning, at most `most` of them.
+/// Reads a file from its beginning, at most `most` bytes of it.
 fn read_prefix<F: Read + OpenFile + Drop>(
     alloc: Global,
     mut file: F,
@@ -124,8 +124,8 @@ fn read_prefix<F: Read + OpenFile + Drop>(
     Ok(bytes)
 }
 
-/// Reads a file into the prefix of `bytes`, to the file's end or until `most` bytes are read, and says
-/// how many were. `bytes` grows where the file is longer than it.
+/// Reads a file into the first of `bytes`, to the file's end or until `most` bytes are read, and
+/// returns how many were. `bytes` grows where the file is longer than it.
 fn fill<F: Read>(file: &mut F, bytes: &mut Vec<u8>, most: usize) -> io::Result<usize>
     requires { vec_len bytes.old ≤ most }
     ensures filled { IfOk result (λ filled. filled ≤ vec_len bytes.new) }

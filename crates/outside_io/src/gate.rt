@@ -1,11 +1,11 @@
 //! Gates: what is reported of a watch while it runs.
 
-/// Is known of each frame that a viewer rendered, and of each scene that was published.
+/// Learns of each frame that a viewer rendered, and of each scene that was published.
 pub trait Gate {
-    /// Viewer `viewer` has rendered its frame `frame`; both count from 0.
+    /// Reports that viewer `viewer` has rendered its frame `frame`; both count from 0.
     fn looked(&self, viewer: u32, frame: u32);
 
-    /// The scene of commit `number` was published.
+    /// Reports that the scene of commit `number` was published.
     fn published(&self, number: u64);
 }
 

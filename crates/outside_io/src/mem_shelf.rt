@@ -35,7 +35,7 @@ impl Model for MemShelf {
 }
 
 impl MemShelf {
-    /// A shelf with these files, of which the later counts where a name stands twice. The reads and
+    /// Returns a shelf with these files, of which the later counts where a name is there twice. The reads and
     /// writes of these numbers, each counted from 1, fail.
     pub fn new(
         alloc: Global,
@@ -54,7 +54,7 @@ impl MemShelf {
         }
     }
 
-    /// The bytes of a file.
+    /// Returns the bytes of a file.
     pub fn get(&self, name: &str) -> Option<&[u8]>
         ensures { option_copied result ≡ file self.now.files name.now }
     {

@@ -24,7 +24,7 @@ impl Model for MemSink {
 }
 
 impl MemSink {
-    /// An empty sink whose calls of these numbers, counted from 1, fail.
+    /// Returns an empty sink whose calls of these numbers, counted from 1, fail.
     pub fn new(alloc: Global, fail_puts: Vec<u64>) -> MemSink
         ensures { result ≡ record { written = []; puts = no_calls fail_puts.items } }
     {
@@ -34,7 +34,7 @@ impl MemSink {
         }
     }
 
-    /// All bytes that went out.
+    /// Returns all bytes that went out.
     pub fn bytes(&self) -> &[u8]
         ensures { result.now ≡ self.now.written }
     {

@@ -30,7 +30,7 @@ impl Model for MemSwap {
 }
 
 impl MemSwap {
-    /// A disk of this many blocks, all zero. The reads and writes of these numbers, each counted
+    /// Returns a disk of this many blocks, all zero. The reads and writes of these numbers, each counted
     /// from 1, fail.
     pub fn new(
         alloc: Global,

@@ -54,7 +54,7 @@ pub trait Shelf {
     /// How many writes failed.
     ghost write_faults: { Self → ℕ };
 
-    /// The bytes of a file that has at most `limit` of them.
+    /// Reads a file that has at most `limit` bytes.
     fn read(&mut self, name: &str, limit: u64) -> Result<Vec<u8>, ShelfAnswer>
         requires { IsTrue (is_file_name name.now) }
         ensures gives { IfSome (files self.old) (λ all. Answers (file all name.now) limit result) }

@@ -9,7 +9,7 @@ use std::io;
 use std::io::{ErrorKind, Write};
 use std::marker::Model;
 
-/// Standard output. It doesn't tell what went out.
+/// Standard output. It doesn't expose what went out.
 #[derive(Drop)]
 pub struct StdSink<R: Print + Drop> {
     rt: R,
@@ -25,7 +25,7 @@ impl<R: Print + Drop> Model for StdSink<R> {
 }
 
 impl<R: Print + Drop> StdSink<R> {
-    /// The standard output of this runtime, of which no piece has failed yet.
+    /// Returns the standard output of this runtime, of which no piece has failed yet.
     pub fn new(rt: R) -> StdSink<R>
         ensures { result ≡ 0 }
     {

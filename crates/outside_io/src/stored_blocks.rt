@@ -27,7 +27,7 @@ impl Model for StoredBlocks {
 }
 
 impl StoredBlocks {
-    /// This many blocks of zeros.
+    /// Returns this many blocks of zeros.
     #[tactic(auto, unfolding(crate::specs::StoredBlocks::zero_block))]
     pub fn new(alloc: Global, size: u32) -> Result<StoredBlocks, AllocError>
         requires { size ≤ 2 ^ 20 }
@@ -38,7 +38,7 @@ impl StoredBlocks {
         Ok(StoredBlocks { blocks })
     }
 
-    /// How many blocks there are.
+    /// Returns how many blocks there are.
     pub fn size(&self) -> u32
         ensures value { result ≡ length self.now }
         ensures bound { result ≤ 2 ^ 20 }

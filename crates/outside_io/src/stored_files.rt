@@ -29,7 +29,7 @@ impl Model for StoredFiles {
 }
 
 impl StoredFiles {
-    /// These files. Where a name stands twice, the later one counts.
+    /// Returns these files. Where a name is there twice, the later one counts.
     pub fn new(alloc: Global, mut files: Vec<(String, Vec<u8>)>) -> StoredFiles
         ensures { result ≡ files_of (reverse files.items) }
     {
@@ -41,7 +41,7 @@ impl StoredFiles {
         }
     }
 
-    /// The bytes of the file of a name.
+    /// Returns the bytes of the file of a name.
     pub fn get(&self, name: &str) -> Option<&[u8]>
         ensures { option_copied result ≡ file self.now name.now }
     {
@@ -64,7 +64,7 @@ impl StoredFiles {
         Ok(())
     }
 
-    /// The bytes of a file that has at most `limit` of them.
+    /// Reads a file that has at most `limit` bytes.
     pub fn read(&self, name: &str, limit: u64) -> Result<Vec<u8>, ShelfAnswer>
         ensures gives { Answers (file self.now name.now) limit result }
         ensures within { TakesAtMost limit result }
@@ -80,7 +80,7 @@ impl StoredFiles {
     }
 }
 
-/// Where the first file of a name stands.
+/// Returns the index of the first file of a name.
 fn number_of(files: &[(String, Vec<u8>)], name: &str) -> Option<usize>
     ensures { result ≡ position (has_name name.now) files.now }
 {

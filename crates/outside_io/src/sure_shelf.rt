@@ -30,7 +30,7 @@ impl Model for SureShelf {
 }
 
 impl SureShelf {
-    /// A shelf with these files, of which the later counts where a name stands twice.
+    /// Returns a shelf with these files, of which the later counts where a name is there twice.
     pub fn new(alloc: Global, files: Vec<(String, Vec<u8>)>) -> SureShelf
         ensures { result ≡ files_of (reverse files.items) }
     {
@@ -39,7 +39,7 @@ impl SureShelf {
         }
     }
 
-    /// The bytes of a file.
+    /// Returns the bytes of a file.
     pub fn get(&self, name: &str) -> Option<&[u8]>
         ensures { option_copied result ≡ file self.now name.now }
     {

@@ -21,7 +21,7 @@ impl Model for SureSink {
 }
 
 impl SureSink {
-    /// An empty sink.
+    /// Returns an empty sink.
     pub fn new(alloc: Global) -> SureSink
         ensures { result ≡ [] }
     {
@@ -30,7 +30,7 @@ impl SureSink {
         }
     }
 
-    /// All bytes that went out.
+    /// Returns all bytes that went out.
     pub fn bytes(&self) -> &[u8]
         ensures { result.now ≡ self.now }
     {

@@ -24,7 +24,7 @@ impl Model for SureSwap {
 }
 
 impl SureSwap {
-    /// A disk of this many blocks, all zero.
+    /// Returns a disk of this many blocks, all zero.
     pub fn new(alloc: Global, size: u32) -> Result<SureSwap, NoMemory>
         requires { size ≤ 2 ^ 20 }
         ensures { IfOk result (λ swap. swap ≡ zero_blocks size) }

@@ -33,7 +33,7 @@ pub trait SwapDisk {
     /// disk learns what it holds when the loan ends.
     ghost loans: { Self → List GName };
 
-    /// How many blocks there are.
+    /// Returns how many blocks there are.
     fn size(&self) -> u32
         ensures value { result ≡ block_count self.now }
         ensures bound { result ≤ 2 ^ 20 };

@@ -14,7 +14,7 @@ some_bytes format width count rows is wide some =
     let all : 1 * count ≤ rows * count = mul-le-mul_right count some in
     omega (arith, row, all, is, few_bytes format)
 
--- some rows lie among the bytes of all
+-- the bytes of some rows are among those of all
 pub rows_fit : (rect : Rectangle) (n count rows len : ℕ) → count ≡ rect.width * n → rows ≤ rect.height → len ≡ rect.width * rect.height * n → rows * count ≤ len
 rows_fit rect n count rows len is few long = omega (arith, mul-le-mul_right count few, ap (λ (m : ℕ). rect.height * m) is, long)
 

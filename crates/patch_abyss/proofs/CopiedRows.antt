@@ -71,7 +71,7 @@ HasRows-no_bytes rows n many f old none = record {
 pub row_after : (rows : Rows) (n j m : ℕ) → n ≤ rows.stride → j < m → row_byte rows j n ≤ row_byte rows m 0
 row_after rows n j m apart below = omega (arith, mul-le-mul_right rows.stride below)
 
--- one row more is written where it stands
+-- one row more is written after those above it
 pub HasRows-next : (rows : Rows) (n j : ℕ) (f : ℕ → ℕ → ℕ) (old now piece : List ℕ) (a e : ℕ) → n ≤ rows.stride → a ≡ row_byte rows j 0 → e ≡ row_byte rows j n →
     row_byte rows j n ≤ length now → length piece ≡ n → ((k : ℕ) → k < n → get_or piece k 0 ≡ f j k) → HasRows rows n j f old now →
     HasRows rows n (j + 1) f old (put_mid a (e - a) now piece)
@@ -133,7 +133,7 @@ AreRows-next rows n j source now piece new long same is before = record {
 
 -- ---- the rows of a part of a rectangle
 
--- where a byte of a place of the part stands
+-- where a byte of a pixel of the part is
 pub byte_of_part : (r part : Rectangle) (n : ℕ) (s : Rows) (u v k : ℕ) → Inside part.first_column part.first_row r → s.start ≡ offset r part.first_column part.first_row * n → s.stride ≡ r.width * n →
     part.first_column ≤ u → part.first_row ≤ v → offset r u v * n + k ≡ row_byte s (v - part.first_row) ((u - part.first_column) * n + k)
 byte_of_part r part n s u v k corner begins apart column row =
@@ -213,7 +213,7 @@ some_columns r row is above below =
       | inr none ↦ absurd (omega (arith, ap (λ (r : Rectangle). r.height) (is.empty_width (omega arith))))
     ]
 
--- ---- where the rows of a part stand
+-- ---- where the rows of a part are
 
 module _ (r part : Rectangle) (n : ℕ) (inside : Includes r part) (wide : 0 < part.width) (high : 0 < part.height) where
   corner : Inside part.first_column part.first_row r

@@ -9,8 +9,8 @@ use Rattle.patch_abyss.specs.declared.rows.Rows.{Rows}
 use Rattle.patch_abyss.proofs.CopiedRows.{before_position, after_position}
 use Rattle.patch_abyss.proofs.RowPixels.{SamePixel}
 
--- The numbers that the code counts with are those of a rectangle and a box: how many columns of the first stand left of the shared ones, which of the second's these are,
--- how many bytes a pixel has, and the two widths.
+-- The numbers that the code counts with are those of a rectangle and a box: how many columns of the first are left of
+-- the shared ones, which of the second's these are, how many bytes a pixel has, and the two widths.
 pub record AreColumns (rect box : Rectangle) (n before first last p w v : ℕ) : Type 0 where
   pub at_before : before ≡ min (max box.first_column rect.first_column) (end_column rect) - rect.first_column
   pub at_first : first ≡ min (max rect.first_column box.first_column) (end_column box) - box.first_column

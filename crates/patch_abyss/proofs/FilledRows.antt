@@ -37,7 +37,7 @@ RowsFilled-pixels box format f v rows bytes one long generated = λ k c inside k
     let here : v - v ≡ 0 = omega arith in
     let level : (v - v) * box.width + (box.first_column + k - box.first_column) ≡ k = omega (arith, ap (λ (i : ℕ). i * box.width) here) in
     ap (λ (i : ℕ). pixel_at format bytes i c) (sym level)
-    ∙ image_from_fn.generated (box.first_column + k) v c (record { column = (omega arith, omega arith); row = (omega arith, omega (arith, one)) }) known
+    ∙ generated.generated (box.first_column + k) v c (record { column = (omega arith, omega arith); row = (omega arith, omega (arith, one)) }) known
 
 module _ (box : Rectangle) (format : Format) (f : ℕ → ℕ → Pixel) (j : ℕ) (now new : List ℕ) (before : RowsFilled box format f j now) where
   abbrev n : ℕ
@@ -68,15 +68,15 @@ module _ (box : Rectangle) (format : Format) (f : ℕ → ℕ → Pixel) (j : �
   }
 
   module _ (count : ℕ) (is_count : count ≡ box.width * n) where
-    -- rows that are written where they stand, and that have the samples of others
+    -- rows that are written one after the other, and that have the samples of others
     pub RowsFilled-written : (start len more source : ℕ) (piece : List ℕ) → start ≡ j * count → len ≡ more * count → start + more * count ≤ length now → length piece ≡ more * count →
         new ≡ put_mid start len now piece → RowsFilled (moved_to source box) format f more piece → ((i u c : ℕ) → i < more → f u (source + i) c ≡ f u (box.first_row + (j + i)) c) →
         RowsFilled box format f (j + more) new
-    RowsFilled-written start len more source piece at_start at_len room long is image_from_fn same =
-        let unchanged : start ≡ j * (box.width * n) = at_start ∙ ap (λ (m : ℕ). j * m) is_count in
+    RowsFilled-written start len more source piece at_start at_len room long is filled same =
+        let begins : start ≡ j * (box.width * n) = at_start ∙ ap (λ (m : ℕ). j * m) is_count in
         let fits : length piece ≡ len = long ∙ sym at_len in
         next_rows more
-        (λ i lt. ap (λ (xs : List ℕ). get_or xs i 0) is ∙ written-before now piece start len (omega arith) fits i (omega (arith, unchanged)))
+        (λ i lt. ap (λ (xs : List ℕ). get_or xs i 0) is ∙ written-before now piece start len (omega arith) fits i (omega (arith, begins)))
         (λ i k c below inside known.
         let at_i : source + i - source ≡ i = omega arith in
         let aside : box.first_column + k - box.first_column ≡ k = omega arith in
@@ -84,14 +84,14 @@ module _ (box : Rectangle) (format : Format) (f : ℕ → ℕ → Pixel) (j : �
         pixel_moved format new piece ((j + i) * box.width + k) (i * box.width + k) c known
         (λ b within.
         ap (λ (xs : List ℕ). get_or xs (((j + i) * box.width + k) * n + b) 0) is
-        ∙ written-there now piece start len (omega arith) fits (((j + i) * box.width + k) * n + b) ((i * box.width + k) * n + b) (omega (arith, unchanged))
+        ∙ written-there now piece start len (omega arith) fits (((j + i) * box.width + k) * n + b) ((i * box.width + k) * n + b) (omega (arith, begins))
         (omega (arith, before_position (i * box.width + k) (more * box.width) n b positions within, at_len, ap (λ (m : ℕ). more * m) is_count)))
         ∙ ap (λ (a : ℕ). pixel_at format piece (a * box.width + k) c) (sym at_i)
         ∙ ap (λ (a : ℕ). pixel_at format piece ((source + i - source) * box.width + a) c) (sym aside)
-        ∙ image_from_fn.generated (box.first_column + k) (source + i) c (record { column = (omega arith, omega arith); row = (omega arith, omega arith) }) known
+        ∙ filled.generated (box.first_column + k) (source + i) c (record { column = (omega arith, omega arith); row = (omega arith, omega arith) }) known
         ∙ same i (box.first_column + k) c below)
 
-    -- a row that is written where it stands
+    -- a row that is written after those above it
     pub RowsFilled-row : (start len : ℕ) (piece : List ℕ) → start ≡ j * count → len ≡ count → start + count ≤ length now → length piece ≡ count →
         new ≡ put_mid start len now piece → HasPixels format piece (λ k. f (box.first_column + k) (box.first_row + j)) → RowsFilled box format f (j + 1) new
     RowsFilled-row start len piece at_start at_len room long is pixels =
@@ -116,7 +116,7 @@ module _ (box : Rectangle) (format : Format) (f : ℕ → ℕ → Pixel) (j : �
         ((i u c : ℕ) → i < more → f u (box.first_row + (j - period + i % period)) c ≡ f u (box.first_row + (j + i)) c) → RowsFilled box format f (j + more) new
     RowsFilled-repeated start len period more piece some above at_start at_len room long is again repetition =
         let back : j - period + period ≡ j = omega (arith, above) in
-        let unchanged : start + period * count ≡ j * count = omega (arith, at_start, ap (λ (i : ℕ). i * count) back) in
+        let begins : start + period * count ≡ j * count = omega (arith, at_start, ap (λ (i : ℕ). i * count) back) in
         let whole : j * count ≡ j * (box.width * n) = ap (λ (m : ℕ). j * m) is_count in
         next_rows more
         (λ i lt.
@@ -125,7 +125,7 @@ module _ (box : Rectangle) (format : Format) (f : ℕ → ℕ → Pixel) (j : �
           | inl prefix ↦ written-before now piece start len room long i prefix
           | inr trailing ↦
               let q = i - start in
-              let below : q < period * count = omega (arith, unchanged, whole) in
+              let below : q < period * count = omega (arith, begins, whole) in
               let inside : q < len = omega (arith, at_len, below) in
               written-there now piece start len room long i q (omega arith) inside
               ∙ again q inside
@@ -149,7 +149,7 @@ module _ (box : Rectangle) (format : Format) (f : ℕ → ℕ → Pixel) (j : �
         ∙ cycled_position count period 0 (period + i) r in_row some
         ∙ ap (λ (a : ℕ). a * count + r) whole_turn in
         ap (λ (xs : List ℕ). get_or xs (((j + i) * box.width + k) * n + b) 0) is
-        ∙ written-there now piece start len room long (((j + i) * box.width + k) * n + b) q (omega (arith, unchanged, is_count, ap (λ (m : ℕ). (j + i) * m) is_count)) in_piece
+        ∙ written-there now piece start len room long (((j + i) * box.width + k) * n + b) q (omega (arith, begins, is_count, ap (λ (m : ℕ). (j + i) * m) is_count)) in_piece
         ∙ again q in_piece
         ∙ ap (λ (p : ℕ). get_or now (start + p) 0) turned
         ∙ ap (λ (p : ℕ). get_or now p 0) (omega (arith, at_start, ap (λ (m : ℕ). e * m) is_count)))

@@ -13,7 +13,7 @@ use Rattle.patch_abyss.specs.Copied.{HasPart, byte_at}
 use Rattle.pixel_formats.proofs.Zeros.{get_or-zeros}
 use Rattle.model_images.proofs.FromRawLaws.{sample_equal, sample_zero, at-image_from_raw}
 
--- where the bytes of a sample stand
+-- where the bytes of a sample are
 pub byte_index : (o m d c k : ℕ) → d * (o * m + c) + k ≡ o * (m * d) + (d * c + k)
 byte_index o m d c k = omega arith
 

@@ -103,7 +103,7 @@ in_order-wrapped box v source many high at room = λ i below.
     omega (arith, at, here.0, there.0, wrapped-more start len v i high ∙ mod-eq_of_lt (omega (arith, at, here.0))) in
     λ image u c is. read_wrapped box (v + i) high image u c is ∙ ap (λ (b : ℕ). abyss_at image Loop u b c) moved
 
--- ---- rows that are equal
+-- ---- rows that repeat those above them
 
 pub repetition-nowhere : (box : Rectangle) (policy : Abyss) (a b : ℕ) → ((u v : ℕ) → Inside u v box → ⊥) → EqualRows box policy a b
 repetition-nowhere box policy a b nowhere = both_nothing box policy a b (nothing_read box policy a nowhere) (nothing_read box policy b nowhere)

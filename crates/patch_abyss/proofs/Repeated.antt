@@ -5,7 +5,8 @@ use Rattle.std.proofs.lemmas.Bool.{cases_lt}
 use Rattle.std.proofs.lemmas.List.{get_or_append_left, get_or-take}
 use Rattle.std.proofs.lemmas.Nat.{mod_below}
 
--- Up to a number of bytes that is a multiple of the period, or is all of them, the first ones stand periodically.
+-- Up to a number of bytes that is a multiple of the period, or is all of them, the first ones are repeated
+-- periodically.
 pub record Repeats (period done : ℕ) (old now : List ℕ) : Type 0 where
   pub some : 0 < done
   pub multiple : (done % period ≡ 0) ⊎ (length old ≤ done)
@@ -18,7 +19,7 @@ Repeats-once period old some = record {
   same = λ i below there. ap (λ (k : ℕ). get_or old k 0) (sym (mod-eq_of_lt below));
 }
 
-module _ (period done more : ℕ) (old now new : List ℕ) (before : Repeats period done old now) (first_column : done < length old)
+module _ (period done more : ℕ) (old now new : List ℕ) (before : Repeats period done old now) (remains : done < length old)
     (many : (more ≡ done) ⊎ (more ≡ length old - done)) (few : more ≤ done) (written : (i : ℕ) → i < more → get_or new (done + i) 0 ≡ get_or now i 0)
     (kept : (i : ℕ) → i < done → get_or new i 0 ≡ get_or now i 0) where
   whole : done % period ≡ 0
@@ -47,7 +48,7 @@ module _ (period done more : ℕ) (old now new : List ℕ) (before : Repeats per
         ];
   }
 
--- bytes that are written once, or their front is, and then periodically
+-- bytes that are written once, or a prefix of them is, and then periodically
 pub cycled : (to from first new : List ℕ) (prefix : ℕ) → 0 < length from → prefix ≡ min (length to) (length from) → first ≡ take prefix from →
     ((i : ℕ) → i < length (first ++ drop prefix to) → get_or new i 0 ≡ get_or (first ++ drop prefix to) (i % length from) 0) →
     (i : ℕ) → i < length to → get_or new i 0 ≡ get_or from (i % length from) 0

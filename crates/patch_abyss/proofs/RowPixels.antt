@@ -27,7 +27,7 @@ pixel_moved format xs ys a b c known same =
     sample_equal d xs ys (a * m + c) (b * m + c)
     (λ k within. rw (byte_index a m d c k, byte_index b m d c k) (same (d * c + k) (byte_within m d c k known within)))
 
--- where a byte of a pixel stands that is written periodically
+-- where a byte of a pixel is that is written periodically
 pub cycled_position : (n w s k b : ℕ) → b < n → 0 < w → (s * n + (k * n + b)) % (w * n) ≡ ((s + k) % w) * n + b
 cycled_position n w s k b within some =
     let q = (s + k) / w in
@@ -36,7 +36,7 @@ cycled_position n w s k b within some =
     ap (λ (i : ℕ). i % (w * n)) all
     ∙ mod-mul-add q (w * n) (r * n + b) (omega (arith, mul-add-lt r n b w (mod_below (s + k) w some) within))
 
--- where rows that follow one another stand among the bytes of a box whose pixels have n each
+-- where rows that follow one another are among the bytes of a box whose pixels have n each
 module _ (box : Rectangle) (n s e p f l z : ℕ) (first_row : box.first_row ≤ s) (some : s < e) (end : e ≤ end_row box)
     (pixel : p ≡ n) (at_f : f ≡ offset box box.first_column s) (at_l : l ≡ offset box box.first_column (e - 1)) (at_z : z ≡ l + box.width) where
   rows_begin : f * p ≡ (s - box.first_row) * (box.width * n)

@@ -6,7 +6,8 @@ use Rattle.patch_abyss.specs.Copied.{HasRows, HasSides, row_byte}
 use Rattle.patch_abyss.specs.declared.fill.RowParts.{RowParts}
 use Rattle.patch_abyss.specs.declared.rows.Rows.{Rows}
 
--- where the sides of rows stand that follow one another: the left ones at their beginnings, the right ones up to their ends
+-- where the sides of rows are that follow one another: the left ones at their beginnings, the right ones up to their
+-- ends
 module _ (parts : RowParts) (left right : Rows) (is_left : left ≡ record { start = 0; stride = parts.count }) (is_right : right ≡ record { start = parts.end; stride = parts.count })
     (order : parts.start ≤ parts.end) (inside : parts.end ≤ parts.count) where
   left_index : (j k : ℕ) → row_byte left j k ≡ j * parts.count + k

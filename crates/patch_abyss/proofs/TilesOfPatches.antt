@@ -11,10 +11,9 @@ use Rattle.std.specs.List.{flat_map}
 use Rattle.std.proofs.lemmas.Bool.Decides.{nat_tests}
 use Rattle.model_images.specs.Image.{Image, at, image_from_fn, is_inside}
 use Rattle.model_images.specs.Paint.{painted, put_raw}
-use Rattle.model_images.specs.Raw.{raw, sample_bytes}
+use Rattle.model_images.specs.Raw.{raw, sample_bytes, tile_bytes}
 use Rattle.model_images.proofs.Samples.{Inside_from}
 use Rattle.model_images.proofs.Laws.{at_outside, at-image_from_fn, generated_equal, sampled_equal}
-use Rattle.model_images.specs.Abyss.{tile_bytes}
 use Rattle.model_images.specs.FromRaw.{image_from_raw, pixels_from_raw}
 use Rattle.model_images.proofs.FromRawLaws.{raw-is, at-image_from_raw, zeros_are_bytes}
 use Rattle.patch_abyss.proofs.Parts.{pixels_zero}
@@ -32,7 +31,7 @@ whole_tile r t positions wide high =
     let row = ap (λ (t : Tile). t.row) h.1 in
     (omega (arith, column, h.0.column), omega (arith, row, h.0.row))
 
--- a tile has no place of a rectangle of the plane where what it has of the plane has none
+-- a tile has no position of a rectangle of the plane where what it has of the plane has none
 pub no_common_position : (r box : Rectangle) (t : Tile) → HasTilePixels r t → IsRectangle box → ((u v : ℕ) → Inside u v r → Inside u v box → ⊥) →
     (u v : ℕ) → Inside u v (tile_square t) → Inside u v box → ⊥
 no_common_position r box t positions is apart u v there inside =
@@ -63,7 +62,7 @@ put_nowhere box format old r bytes out =
       | false ↦ λ e. sym (at-image_from_raw box format old u v c there known)
     ] refl)
 
--- what a rectangle's bytes spell is put where it has positions
+-- what the raw bytes of a rectangle have is put where the rectangle has positions
 pub put_from_raw : (image : Image) (r : Rectangle) (bytes : List ℕ) → painted image r (at (image_from_raw r image.format bytes)) ≡ put_raw image r bytes
 put_from_raw image r bytes =
     let f : ℕ → ℕ → ℕ → ℕ = λ u v c. cond (is_inside u v r) (at (image_from_raw r image.format bytes) u v c) (at image u v c) in

@@ -16,7 +16,7 @@ module _ (count period first prefix both many : ℕ) (inside : first < period) (
 
   module _ (at_prefix : HasRows first_column prefix many (bytes_of (record { start = first; stride = period }) from) to half)
       (at_back : HasRows end_column (both - prefix) many (bytes_of (record { start = 0; stride = period }) from) half whole) where
-    -- the prefix of a row stands beside the backs of all rows
+    -- the prefix of a row beside the rest of all rows
     beside : (j k m : ℕ) → k < prefix → (0 + j * count + k < row_byte end_column m 0) ⊎ (row_byte end_column m (both - prefix) ≤ 0 + j * count + k)
     beside j k m below =
         elim (cases_lt m j) [

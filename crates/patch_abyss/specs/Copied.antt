@@ -17,7 +17,7 @@ pub record HasPart (to from part : Rectangle) (n : ℕ) (source old new : List �
 abbrev pub row_byte : Rows → ℕ → ℕ → ℕ
 row_byte rows j k = rows.start + j * rows.stride + k
 
--- so many rows of n bytes lie among bytes
+-- so many rows of n bytes are among bytes
 abbrev pub HaveRoom : Rows → ℕ → ℕ → List ℕ → Type 0
 HaveRoom rows n many bytes = (j : ℕ) → j < many → row_byte rows j n ≤ length bytes
 
@@ -35,7 +35,8 @@ pub record AreRows (rows : Rows) (n many : ℕ) (source bytes : List ℕ) : Type
   pub whole : length bytes ≡ many * n
   pub cut : (j k : ℕ) → j < many → k < n → slice_index bytes (j * n + k) ≡ bytes_of rows source j k
 
--- So many rows have the n bytes that f gives for a row periodically ahead of their middle part, those that g gives after it, and there the old ones.
+-- So many rows have the n bytes that f gives for a row periodically before their middle part, those that g gives after
+-- it, and there the old ones.
 pub record HasSides (parts : RowParts) (many n : ℕ) (f g : ℕ → ℕ → ℕ) (old new : List ℕ) : Type 0 where
   pub leading : (j k : ℕ) → j < many → k < parts.start → slice_index new (j * parts.count + k) ≡ f j (k % n)
   pub between : (j k : ℕ) → j < many → parts.start ≤ k → k < parts.end → slice_index new (j * parts.count + k) ≡ slice_index old (j * parts.count + k)

@@ -17,7 +17,7 @@ outside_sample Loop format c = 0
 outside_sample Black format c = black_sample format c
 outside_sample White format c = max_sample format
 
--- The bytes of a rectangle spell, in so many rows from its top, what f gives for their positions.
+-- The pixels of a rectangle's bytes are, in so many rows from its top, what f gives for their positions.
 pub record RowsFilled (box : Rectangle) (format : Format) (f : ℕ → ℕ → Pixel) (rows : ℕ) (bytes : List ℕ) : Type 0 where
   pub generated : (u v c : ℕ) → Inside u v (record box { height = rows }) → c < channels format →
       pixels_from_raw box format bytes u v c ≡ f u v c

@@ -7,7 +7,7 @@ use Rattle.model_images.specs.Abyss.{abyss_at}
 use Rattle.patch_abyss.specs.Fetched.{outside_sample}
 use Rattle.patch_abyss.specs.declared.outside.Repetition.{Repetition}
 
--- each image of a box has in a row the samples that stand for what is outside it
+-- each image of a box has in a row the samples that the policy gives for what is outside it
 abbrev pub ReadsNothing : Rectangle → Abyss → ℕ → Type 0
 ReadsNothing box policy v =
     (image : Image) (u c : ℕ) → image.box ≡ box → abyss_at image policy u v c ≡ outside_sample policy image.format c
@@ -33,7 +33,7 @@ pub record AreRepeated (box : Rectangle) (policy : Abyss) (rect : Rectangle) (v 
 abbrev pub OnOneSide : Rectangle → ℕ → ℕ → Type 0
 OnOneSide box a b = (box.height ≡ 0) ⊎ ((a < box.first_row) × (b < box.first_row)) ⊎ ((end_row box ≤ a) × (end_row box ≤ b))
 
--- a rectangle as it stands from another row on
+-- a rectangle of the same columns from another row on
 abbrev pub moved_to : ℕ → Rectangle → Rectangle
 moved_to first_row r = record r { first_row = first_row }
 

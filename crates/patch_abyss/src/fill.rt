@@ -16,8 +16,8 @@ pub(crate) struct RowParts {
     pub end: usize,
 }
 
-/// Writes rows of `count` bytes, each with those of a row of `period` bytes periodically, the first
-/// time from an index on.
+/// Writes rows of `count` bytes, each with those of a row of `period` bytes repeated periodically
+/// from an index on.
 pub(crate) fn wrap_rows(
     to: &mut [u8],
     count: usize,
@@ -43,8 +43,8 @@ pub(crate) fn wrap_rows(
     }
 }
 
-/// Writes what is left and right of the middle parts of rows: pixels of so many bytes, one over and
-/// over ahead of the middle part, and one after it.
+/// Writes what is left and right of the middle parts of rows, in pixels of so many bytes: on the
+/// left one pixel periodically, on the right another.
 pub(crate) fn fill_sides(
     to: &mut [u8],
     parts: RowParts,
@@ -76,7 +76,7 @@ pub(crate) fn fill_sides(
     );
 }
 
-/// Writes rows of `count` bytes, each with those of a row of `period` bytes periodically.
+/// Writes rows of `count` bytes, each with those of a row of `period` bytes repeated periodically.
 fn cycle_rows(
     to: &mut [u8],
     targets: Rows,
@@ -104,7 +104,7 @@ fn cycle_rows(
     }
 }
 
-/// Writes the first bytes of each row, as many as the period, periodically after them.
+/// Repeats the first bytes of each row periodically after them, as many as the period.
 fn repeat_in_rows(to: &mut [u8], rows: Rows, count: usize, period: usize, many: usize)
     requires some { 0 < period }
     requires apart { count ≤ rows.stride }
@@ -133,7 +133,7 @@ pub(crate) fn cycle(to: &mut [u8], from: &[u8])
     repeat(to, from.len());
 }
 
-/// Writes the first bytes, as many as the period, periodically after them.
+/// Repeats the first bytes periodically after them, as many as the period.
 pub(crate) fn repeat(bytes: &mut [u8], period: usize)
     requires { 0 < period }
     ensures len { length bytes.new ≡ length bytes.old }
@@ -148,7 +148,7 @@ pub(crate) fn repeat(bytes: &mut [u8], period: usize)
     }
 }
 
-/// Copies the first bytes, so many, to a position after them.
+/// Copies the first bytes, so many, to an index after them.
 fn copy_prefix(bytes: &mut [u8], to: usize, count: usize)
     requires before { count ≤ to }
     requires room { to + count ≤ length bytes.old }

@@ -18,12 +18,13 @@ use plane_rect::{PLANE_ORIGIN, Rect};
 use sample_rows::row_average4;
 use std::alloc::Global;
 
-/// The patch over half the image's rectangle: each sample is the mean of four of the image's,
-/// rounded to the nearest, where samples outside its rectangle are 0.
+/// Returns the patch over half the image's rectangle: each sample is the mean of four of the
+/// image's, rounded to the nearest, where samples outside its rectangle are 0. Takes time in
+/// proportion to the image's pixels.
 ///
 /// # Errors
 ///
-/// No memory was left.
+/// `NoMemory` if memory runs out.
 pub fn halve(alloc: Global, image: &Patch) -> Result<Patch, NoMemory>
     ensures { IfOk result (λ patch. patch ≡ halved_image image.now) }
 {
@@ -83,8 +84,8 @@ fn halve_row(image: &Patch, columns: &Rect, row: u32, up: &mut [u8], down: &mut 
     row_average4(format, up, down, to);
 }
 
-/// The rectangle with a column more on each side where the first is odd or the last is even, so that
-/// the columns that are averaged to one are in it together.
+/// Returns the rectangle with a column more on each side where the first is odd or the last is
+/// even, so that it contains both columns that are averaged to one.
 fn even_columns(rect: &Rect) -> Rect
     ensures first_column { result.first_column ≡ doubled (halved rect.now).first_column }
     ensures width { result.width ≡ 2 * (halved rect.now).width }

@@ -13,17 +13,17 @@ use pixel_formats::{Abyss, Format};
 use plane_rect::Rect;
 use std::ops::Range;
 
-/// Rows that read a box as rows above them do.
+/// Rows that read the same of a box as rows above them.
 #[derive(Clone, Copy)]
 pub(crate) struct Repetition {
     /// How many rows above the first of them they repeat, periodically.
     pub period: u32,
-    /// The row after them.
+    /// The exclusive end of the rows.
     pub end: u32,
 }
 
-/// The rows of a box that a row of the plane and the rows below it read, as many as follow one
-/// another, and None where the row reads nothing of the box.
+/// Returns the rows of a box that a row of the plane and the rows below it read, as many as follow
+/// one another, and None where the row reads nothing of the box.
 pub(crate) fn source_rows(bounds: &Rect, abyss: Abyss, row: u32) -> Option<Range<u32>>
     ensures first_row { IfSome result (λ rows. bounds.now.first_row ≤ rows.start) }
     ensures some { IfSome result (λ rows. rows.start < rows.end) }
@@ -48,8 +48,8 @@ pub(crate) fn source_rows(bounds: &Rect, abyss: Abyss, row: u32) -> Option<Range
     }
 }
 
-/// The rows of a rectangle from one on that read a box as those above them do, and None where that
-/// row has none above it that it reads equal.
+/// Returns the rows of a rectangle from one on that read the same of a box as those above them, and
+/// None where no row above it reads the same as that one.
 pub(crate) fn repeated_rows(
     bounds: &Rect,
     abyss: Abyss,
@@ -65,7 +65,8 @@ pub(crate) fn repeated_rows(
     }
 }
 
-/// The rows of a rectangle from one on that read a box under `Loop` as those above them do.
+/// Returns the rows of a rectangle from one on that read the same of a box under `Loop` as those
+/// above them.
 fn wrapped_rows(bounds: &Rect, rect: &Rect, row: u32) -> Option<Repetition>
     requires { Within rect.now.first_row rect.now.height row }
     ensures { IfSome result (AreRepeated bounds.now Loop rect.now row) }
@@ -80,8 +81,8 @@ fn wrapped_rows(bounds: &Rect, rect: &Rect, row: u32) -> Option<Repetition>
     })
 }
 
-/// The rows of a rectangle from one on that read a box under another policy as the row above them
-/// does.
+/// Returns the rows of a rectangle from one on that read the same of a box under another policy as
+/// the row above them.
 fn rows_aside(bounds: &Rect, abyss: Abyss, rect: &Rect, row: u32) -> Option<Repetition>
     requires still { abyss ≢ Loop }
     requires row { Within rect.now.first_row rect.now.height row }
@@ -97,7 +98,8 @@ fn rows_aside(bounds: &Rect, abyss: Abyss, rect: &Rect, row: u32) -> Option<Repe
     Some(Repetition { period: 1, end })
 }
 
-/// The row after those of a rectangle that lie with one on the same side of a box.
+/// Returns the exclusive end of the rows of a rectangle that are on the same side of a box as one
+/// of them.
 fn end_aside(bounds: &Rect, rect: &Rect, row: u32) -> u32
     requires { Within rect.now.first_row rect.now.height row }
     ensures within { result ≤ end_row rect.now }
@@ -109,8 +111,8 @@ fn end_aside(bounds: &Rect, rect: &Rect, row: u32) -> u32
     bounds.first_row().min(rect.end_row())
 }
 
-/// Of the `len` numbers from `start` on, the one that is a whole multiple of `len` away from a
-/// number.
+/// Returns, of the `len` numbers from `start` on, the one that is a whole multiple of `len` away
+/// from a number.
 pub(crate) fn wrapped(start: u32, len: u32, number: u32) -> u32
     requires some { 0 < len }
     requires plane { start + len ≤ plane_side }
@@ -122,7 +124,7 @@ pub(crate) fn wrapped(start: u32, len: u32, number: u32) -> u32
     start + (moved % period) as u32
 }
 
-/// The bytes of a pixel that reads nothing of an image.
+/// Returns the bytes of a pixel that reads nothing of an image.
 pub(crate) fn outside_pixel(abyss: Abyss, format: Format) -> &'static [u8]
     ensures len { length result.now ≡ pixel_bytes format }
     ensures samples { (c : ℕ) → c < channels format →
@@ -136,7 +138,7 @@ pub(crate) fn outside_pixel(abyss: Abyss, format: Format) -> &'static [u8]
     }
 }
 
-/// The bytes of a pixel of no color and full alpha.
+/// Returns the bytes of a pixel of no color and full alpha.
 fn black_pixel(format: Format) -> &'static [u8]
     ensures len { length result.now ≡ pixel_bytes format }
     ensures samples { (c : ℕ) → c < channels format →

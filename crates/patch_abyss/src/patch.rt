@@ -5,10 +5,9 @@ ghost use Rattle.plane_rect.specs.Rectangle.{InLimits, Includes, IsRectangle, In
 ghost use Rattle.plane_rect.specs.Tile.{tile_square};
 ghost use Rattle.pixel_formats.specs.Format.{channels, depth, pixel_bytes};
 ghost use Rattle.pixel_formats.specs.Row.{pixel_at, sample_at};
-ghost use Rattle.model_images.specs.Image.{IsImage, at, image_from_fn};
-ghost use Rattle.model_images.specs.Paint.{blank, painted, put_raw};
-ghost use Rattle.model_images.specs.Raw.{raw};
-ghost use Rattle.model_images.specs.Abyss.{tile_bytes};
+ghost use Rattle.model_images.specs.Image.{IsImage, at};
+ghost use Rattle.model_images.specs.Paint.{blank, cut, painted, put_raw};
+ghost use Rattle.model_images.specs.Raw.{raw, tile_bytes};
 ghost use Rattle.model_images.specs.FromRaw.{byte_count, image_from_raw};
 ghost use Rattle.patch_abyss.specs.Rows.{HasWholeRows};
 ghost use Rattle.patch_abyss.specs.declared.patch.PatchRefused.TheVariants.{NoMemory, WrongSize};
@@ -23,10 +22,13 @@ use std::ops::Range;
 use thiserror::Error;
 use tile_cow::Tile;
 
-/// How many places a tile has.
+/// How many pixels a tile has.
 const TILE_PIXELS: u32 = 64 * 64;
 
-/// An image that is kept in memory. Its rectangle is in limits.
+/// An image in memory. Its rectangle is in limits.
+///
+/// A clause sees it as an image: its box, its format and its pixels, which are zero outside the
+/// box.
 #[derive(Drop)]
 pub struct Patch {
     rect: Rect,
@@ -52,7 +54,7 @@ pub enum PatchRefused {
     /// There are `found` bytes, and the rectangle has `wanted`.
     #[error("{found} bytes for a rectangle of {wanted}")]
     WrongSize { found: u64, wanted: u64 },
-    /// No memory was left.
+    /// Memory ran out.
     #[error("no memory was left")]
     NoMemory,
 }
@@ -66,11 +68,11 @@ impl From<AllocError> for PatchRefused {
 }
 
 impl Patch {
-    /// The patch of zeros.
+    /// Returns the patch of zeros. Takes time in proportion to the pixels.
     ///
     /// # Errors
     ///
-    /// No memory was left.
+    /// `NoMemory` if memory runs out.
     pub fn zero(alloc: Global, rect: Rect, format: Format) -> Result<Patch, NoMemory>
         requires { InLimits rect }
         ensures { IfOk result (λ patch. patch ≡ blank rect format) }
@@ -79,11 +81,12 @@ impl Patch {
         Ok(Patch::from_bytes(rect, format, bytes))
     }
 
-    /// The patch of these raw bytes: the positions row by row, each row from the left.
+    /// Returns the patch of these raw bytes, without a copy: the pixels row by row, each row from
+    /// the left.
     ///
     /// # Errors
     ///
-    /// `WrongSize` exactly where they are too many or too few, and `NoMemory`.
+    /// `WrongSize` exactly where they are too many or too few, and `NoMemory` if memory runs out.
     pub fn from_raw(
         alloc: Global,
         rect: Rect,
@@ -112,7 +115,7 @@ impl Patch {
         })
     }
 
-    /// The rectangle.
+    /// Returns the rectangle.
     pub fn rect(&self) -> Rect
         ensures value { result ≡ self.now.box }
         ensures rectangle { IsRectangle result }
@@ -122,14 +125,15 @@ impl Patch {
         self.rect
     }
 
-    /// The format.
+    /// Returns the format.
     pub fn format(&self) -> Format
         ensures { result ≡ self.now.format }
     {
         self.format
     }
 
-    /// The sample of the position of x and y in a channel, and 0 at a position outside the rectangle.
+    /// Returns the sample of the position of x and y in a channel, and 0 at a position outside the
+    /// rectangle.
     pub fn at(&self, x: i32, y: i32, c: u32) -> u32
         requires { c < channels self.now.format }
         ensures inside { InsideSigned x y self.now.box → result ≡ at self.now (index_of x) (index_of y) c }
@@ -143,14 +147,15 @@ impl Patch {
         sample_at(self.format, &self.bytes, index)
     }
 
-    /// The patch over another rectangle, zero where this one has no position.
+    /// Returns the patch over another rectangle, zero where this one has no position. Takes time in
+    /// proportion to the other rectangle's pixels.
     ///
     /// # Errors
     ///
-    /// No memory was left.
+    /// `NoMemory` if memory runs out.
     pub fn part(&self, alloc: Global, rect: Rect) -> Result<Patch, NoMemory>
         requires { InLimits rect }
-        ensures { IfOk result (λ patch. patch ≡ image_from_fn rect self.now.format (at self.now)) }
+        ensures { IfOk result (λ patch. patch ≡ cut self.now rect) }
     {
         let format = self.format;
         let pixel = format.pixel_bytes() as usize;
@@ -165,23 +170,23 @@ impl Patch {
         Ok(Patch::from_bytes(rect, format, bytes))
     }
 
-    /// The patch over whole rows of the rectangle, whose bytes follow one another.
+    /// Returns the patch over whole rows of the rectangle, whose bytes follow one another.
     fn band(&self, alloc: Global, rows: Rect) -> Result<Patch, NoMemory>
         requires limits { InLimits rows }
         requires rectangle { IsRectangle rows }
         requires rows { HasWholeRows self.now.box rows rows.first_row (end_row rows) }
-        ensures { IfOk result (λ patch. patch ≡ image_from_fn rows self.now.format (at self.now)) }
+        ensures { IfOk result (λ patch. patch ≡ cut self.now rows) }
     {
         let bytes = Vec::from_slice(alloc, self.rows(rows.first_row()..rows.end_row()))?;
         Ok(Patch::from_bytes(rows, self.format, bytes))
     }
 
-    /// The patch over a part of the rectangle, whose memory is written once.
+    /// Returns the patch over a part of the rectangle, whose memory is written once.
     fn cut(&self, alloc: Global, part: Rect) -> Result<Patch, NoMemory>
         requires limits { InLimits part }
         requires part { Includes self.now.box part }
         requires some { false ≡ is_empty part }
-        ensures { IfOk result (λ patch. patch ≡ image_from_fn part self.now.format (at self.now)) }
+        ensures { IfOk result (λ patch. patch ≡ cut self.now part) }
     {
         let format = self.format;
         let pixel = format.pixel_bytes() as usize;
@@ -191,7 +196,8 @@ impl Patch {
         Ok(Patch::from_bytes(part, format, bytes))
     }
 
-    /// Takes the samples of the other patch at the positions that are in both rectangles.
+    /// Writes the samples of the other patch at the positions that are in both rectangles. Takes
+    /// time in proportion to these positions.
     pub fn blit(&mut self, from: &Patch)
         requires { from.now.format ≡ self.old.format }
         ensures { self.new ≡ painted self.old from.now.box (at from.now) }
@@ -199,7 +205,7 @@ impl Patch {
         self.lay(&from.rect, &from.bytes);
     }
 
-    /// Takes the samples that the raw bytes of a rectangle spell, at the positions that are in both.
+    /// Writes the samples of the raw bytes of a rectangle at the positions that are in both.
     fn lay(&mut self, rect: &Rect, bytes: &[u8])
         requires { length bytes.now ≡ byte_count rect.now self.old.format }
         ensures { self.new ≡ painted self.old rect.now (at (image_from_raw rect.now self.old.format bytes.now)) }
@@ -208,11 +214,11 @@ impl Patch {
         copy_meet(&mut self.bytes, &self.rect, bytes, rect, pixel);
     }
 
-    /// The 64 by 64 pixels of a tile, zero where the patch has no position.
+    /// Returns the 64 by 64 pixels of a tile, zero where the patch has no position.
     ///
     /// # Errors
     ///
-    /// No memory was left.
+    /// `NoMemory` if memory runs out.
     pub fn tile(&self, alloc: Global, at: TileAt) -> Result<Tile, NoMemory>
         ensures { IfOk result (λ tile. tile ≡ tile_bytes self.now at) }
     {
@@ -224,7 +230,7 @@ impl Patch {
         Tile::from_vec(alloc, part.into_raw())
     }
 
-    /// Takes the samples of a tile at the positions that are in the rectangle.
+    /// Writes the samples of a tile at the positions that are in the rectangle.
     pub fn put_tile(&mut self, at: TileAt, tile: &Tile)
         requires { length tile.now ≡ 4096 * pixel_bytes self.old.format }
         ensures { self.new ≡ put_raw self.old (tile_square at) tile.now }
@@ -236,7 +242,7 @@ impl Patch {
         self.lay(&square, tile.bytes());
     }
 
-    /// The patch of as many raw bytes as the rectangle has.
+    /// Returns the patch of as many raw bytes as the rectangle has.
     pub(crate) fn from_bytes(rect: Rect, format: Format, bytes: Vec<u8>) -> Patch
         requires limits { InLimits rect }
         requires rectangle { IsRectangle rect }
@@ -250,7 +256,7 @@ impl Patch {
         }
     }
 
-    /// The raw bytes of rows of the rectangle that follow one another.
+    /// Returns the raw bytes of rows of the rectangle that follow one another.
     pub(crate) fn rows(&self, rows: Range<u32>) -> &[u8]
         requires some { rows.start < rows.end }
         requires first_row { self.now.box.first_row ≤ rows.start }
@@ -266,7 +272,7 @@ impl Patch {
         &self.bytes[first.start * pixel..last.end * pixel]
     }
 
-    /// The raw bytes, without a copy.
+    /// Returns the raw bytes, without a copy.
     fn into_raw(self) -> Vec<u8>
         ensures value { result.items ≡ raw self self.box }
         ensures count { length result.items ≡ byte_count self.box self.format }
@@ -274,7 +280,7 @@ impl Patch {
         self.bytes
     }
 
-    /// The raw bytes of the rectangle: its places row by row, each row from the left.
+    /// Returns the raw bytes of the rectangle: its pixels row by row, each row from the left.
     pub fn raw_bytes(&self) -> &[u8]
         ensures value { result.now ≡ raw self.now self.now.box }
         ensures count { length result.now ≡ byte_count self.now.box self.now.format }
@@ -283,7 +289,7 @@ impl Patch {
     }
 }
 
-/// Whether a rectangle has just these columns, and these rows, of which there is one.
+/// Returns whether a rectangle has just these columns, and these rows, of which there is one.
 pub(crate) fn has_rows(rect: &Rect, columns: &Rect, rows: Range<u32>) -> bool
     ensures { IsTrue result → HasWholeRows rect.now columns.now rows.start rows.end }
 {
@@ -294,7 +300,7 @@ pub(crate) fn has_rows(rect: &Rect, columns: &Rect, rows: Range<u32>) -> bool
         && rows.end <= rect.end_row()
 }
 
-/// How many raw bytes a rectangle has.
+/// Returns how many raw bytes a rectangle has.
 pub(crate) fn byte_count(rect: &Rect, format: Format) -> usize
     requires { InLimits rect.now }
     ensures value { result ≡ byte_count rect.now format }
@@ -303,7 +309,7 @@ pub(crate) fn byte_count(rect: &Rect, format: Format) -> usize
     rect.area() as usize * format.pixel_bytes() as usize
 }
 
-/// A sample of raw bytes, by its index.
+/// Returns a sample of raw bytes, by its index.
 fn sample_at(format: Format, bytes: &[u8], index: usize) -> u32
     requires { depth format * (index + 1) ≤ length bytes.now }
     ensures { result ≡ sample_at (depth format) bytes.now index }

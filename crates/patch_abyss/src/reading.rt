@@ -21,12 +21,12 @@ use plane_rect::Rect;
 use std::alloc::Global;
 use std::ops::Range;
 
-/// The patch over a rectangle of the samples that the image has there, and outside its own
-/// rectangle those that the policy gives.
+/// Returns the patch over a rectangle of the samples that the image has there, and outside its own
+/// rectangle those that the policy gives. Takes time in proportion to the rectangle's pixels.
 ///
 /// # Errors
 ///
-/// No memory was left.
+/// `NoMemory` if memory runs out.
 pub fn fetch(alloc: Global, image: &Patch, abyss: Abyss, rect: Rect) -> Result<Patch, NoMemory>
     requires { InLimits rect }
     ensures { IfOk result (λ patch. patch ≡ image_from_fn rect image.now.format (abyss_at image.now abyss)) }
@@ -55,8 +55,8 @@ fn fetch_rows(image: &Patch, abyss: Abyss, rect: &Rect, bytes: &mut [u8])
     }
 }
 
-/// Writes rows of a rectangle that read the image as rows above them do, from one on, where those
-/// above it are written. Gives the row after them.
+/// Writes rows of a rectangle that read the same of the image as rows above them, from one on,
+/// where the rows above it are written. Returns the exclusive end of what is written.
 fn repeat_rows(
     image: &Patch,
     abyss: Abyss,
@@ -82,7 +82,8 @@ fn repeat_rows(
 }
 
 /// Writes rows of a rectangle that read rows of the image which follow one another, or a row that
-/// reads nothing of it, where those above it are written. Gives the row after them.
+/// reads nothing of it, where the rows above are written. Returns the exclusive end of what is
+/// written.
 fn fetch_band(image: &Patch, abyss: Abyss, rect: &Rect, row: u32, bytes: &mut [u8]) -> u32
     requires row { Within rect.now.first_row rect.now.height row }
     requires count { length bytes.old ≡ byte_count rect.now image.now.format }
@@ -160,8 +161,8 @@ fn loop_rows(image: &Patch, rect: &Rect, sources: Range<u32>, to: &mut [u8])
     wrap_rows(to, count, image.rows(sources), period, first, many);
 }
 
-/// How many columns right of a box's first one the column stands that a rectangle's first one reads
-/// under `Loop`.
+/// Returns how many columns right of a box's first one is the column that a rectangle's first one
+/// reads under `Loop`.
 fn wrapped_start(bounds: &Rect, rect: &Rect) -> u32
     requires { 0 < bounds.now.width }
     ensures { result ≡ wrapped bounds.now.first_column bounds.now.width rect.now.first_column - bounds.now.first_column }
@@ -203,8 +204,8 @@ fn edge_rows(image: &Patch, abyss: Abyss, rect: &Rect, sources: Range<u32>, to: 
     }
 }
 
-/// How many columns of a rectangle stand left of those that it shares with a box, and which of the
-/// box's columns these are. Where it shares none, all stand left of the box or right of it.
+/// Returns how many columns of a rectangle are left of those that it shares with a box, and which
+/// of the box's columns these are. Where it shares none, all are left of the box or right of it.
 fn shared_columns(rect: &Rect, bounds: &Rect) -> (usize, Range<usize>)
     ensures before { result.0 ≡ min (max bounds.now.first_column rect.now.first_column) (end_column rect.now) - rect.now.first_column }
     ensures start { result.1.start ≡ min (max rect.now.first_column bounds.now.first_column) (end_column bounds.now) - bounds.now.first_column }

@@ -13,24 +13,24 @@ use std::simd::prelude::*;
 /// From how many bytes on a row is long: copied faster by a call than block by block.
 pub(crate) const LONG_ROW: usize = 256;
 
-/// Where rows of bytes begin that lie equally far apart.
+/// Rows of bytes that begin equally far apart.
 #[derive(Clone, Copy)]
 pub(crate) struct Rows {
     /// Where the first one begins.
     pub start: usize,
-    /// How far it is from the beginning of a row to that of the next one.
+    /// How far it is from the beginning of a row to that of the next one, in bytes.
     pub stride: usize,
 }
 
 impl Rows {
-    /// The rows that begin there and so far apart.
+    /// Returns the rows that begin there and so far apart.
     pub fn new(start: usize, stride: usize) -> Rows
         ensures { result ≡ record { start = start; stride = stride } }
     {
         Rows { start, stride }
     }
 
-    /// The rows of a part of a rectangle, of pixels of so many bytes.
+    /// Returns the rows of a part of a rectangle, of pixels of so many bytes.
     pub fn of_part(rect: &Rect, part: &Rect, pixel: usize) -> Rows
         requires part { Includes rect.now part.now }
         requires some { false ≡ is_empty part.now }
@@ -44,7 +44,7 @@ impl Rows {
         }
     }
 
-    /// Where a row of so many bytes stands.
+    /// Returns the indices of a row of so many bytes.
     #[inline(always)]
     pub fn row(self, row: usize, count: usize) -> Range<usize>
         requires { row_byte self row count < 2 ^ 64 }
@@ -76,8 +76,8 @@ pub(crate) fn copy_meet(to: &mut [u8], to_rect: &Rect, from: &[u8], from_rect: &
     copy_rows(to, targets, from, sources, count, part.h as usize);
 }
 
-/// A vector of so many rows of `count` bytes, one after the other. It stands out of line, so that
-/// nothing else keeps registers.
+/// Returns a vector of so many rows of `count` bytes, one after the other. It is not inlined, so
+/// that nothing else keeps registers.
 #[inline(never)]
 pub(crate) fn cut_rows(
     alloc: Global,
@@ -122,7 +122,7 @@ pub(crate) fn copy_rows(
     }
 }
 
-/// Copies rows in blocks of `N` bytes. It stands out of line, so that nothing else keeps registers.
+/// Copies rows in blocks of `N` bytes. It is not inlined, so that nothing else keeps registers.
 #[inline(never)]
 fn copy_short_rows<const N: usize>(
     to: &mut [u8],
@@ -168,7 +168,7 @@ fn copy_long_rows(
     }
 }
 
-/// Copies a row in blocks of `N` bytes, the last of which may lie over the one before it.
+/// Copies a row in blocks of `N` bytes, the last of which may overlap the one before it.
 #[inline(always)]
 fn copy_blocks<const N: usize>(to: &mut [u8], from: &[u8])
     requires same { length to.old ≡ length from.now }

@@ -4,20 +4,20 @@ ghost use Rattle.std.specs.Prelude.{◌≡◌};
 ghost use Rattle.std.specs.Str.{bytes_eq};
 ghost use Rattle.pixel_formats.specs.Policies.{policy_named, policy_word};
 
-/// What the samples of a position outside an image's box are read as. The names are those of GEGL's
-/// `GeglAbyssPolicy`; the samples are as known here.
+/// What is read at a position outside an image's box. The names are those of GEGL's
+/// `GeglAbyssPolicy`; the samples are this project's.
 #[derive(Clone, Copy, Debug, PartialEq, Eq)]
 pub enum Abyss {
     /// Every sample is 0.
     None,
-    /// Those of the nearest place of the box, and 0 where the box has no position.
+    /// The samples at the nearest position of the box, and 0 where the box is empty.
     Clamp,
-    /// Those of the place of the box that is a whole number of its widths and heights away, and 0
-    /// where the box has no position.
+    /// The image repeated periodically: the samples at the position of the box that is a whole
+    /// number of its widths and heights away, and 0 where the box is empty.
     Loop,
-    /// Each color is 0, and alpha is the format's largest sample.
+    /// Each color is 0, and alpha is the format's maximum sample.
     Black,
-    /// Every sample is the format's largest.
+    /// Every sample is the format's maximum.
     White,
 }
 

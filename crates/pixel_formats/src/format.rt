@@ -3,7 +3,8 @@
 ghost use Rattle.std.specs.Prelude.{◌≡◌, IfSome, IfNone, ◌≢◌};
 ghost use Rattle.pixel_formats.specs.Format.{channels, depth, has_alpha, max_sample, pixel_bytes, word as word_of};
 
-/// How the samples of a pixel are laid out. Samples of two bytes have the less significant byte first.
+/// How the samples of a pixel are laid out: its channels and the bytes of a sample. Samples of two
+/// bytes have the less significant byte first. With alpha, colors are premultiplied.
 #[derive(Clone, Copy, Debug, PartialEq, Eq, Hash)]
 pub enum Format {
     Y8,
@@ -17,7 +18,7 @@ pub enum Format {
 }
 
 impl Format {
-    /// How many channels a pixel has, alpha among them.
+    /// Returns how many channels a pixel has, alpha among them: 1 to 4.
     pub fn channels(self) -> u32
         ensures { result ≡ channels self }
     {
@@ -29,7 +30,7 @@ impl Format {
         }
     }
 
-    /// The bytes of a sample.
+    /// Returns the bytes of a sample: 1 or 2.
     pub fn depth(self) -> u32
         ensures { result ≡ depth self }
     {
@@ -39,7 +40,7 @@ impl Format {
         }
     }
 
-    /// The largest sample.
+    /// Returns the maximum sample: 255 or 65,535.
     pub fn max(self) -> u32
         ensures { result ≡ max_sample self }
     {
@@ -49,14 +50,14 @@ impl Format {
         }
     }
 
-    /// The bytes of a pixel.
+    /// Returns the bytes of a pixel: 1 to 8.
     pub fn pixel_bytes(self) -> u32
         ensures { result ≡ pixel_bytes self }
     {
         self.channels() * self.depth()
     }
 
-    /// Whether the last channel is alpha.
+    /// Returns whether the last channel is alpha.
     pub fn has_alpha(self) -> bool
         ensures { result ≡ has_alpha self }
     {
@@ -66,7 +67,7 @@ impl Format {
         }
     }
 
-    /// The name in a script.
+    /// Returns the name in a script.
     pub fn word(self) -> &'static str
         ensures { result.now ≡ word_of self }
     {
@@ -82,7 +83,7 @@ impl Format {
         }
     }
 
-    /// The format of a name, and None where it names none.
+    /// Returns the format of a name, and None exactly where it names none.
     pub fn parse(word: &[u8]) -> Option<Format>
         ensures some { IfSome result (λ format. word.now ≡ word_of format) }
         ensures none { IfNone result ((format : _) → word.now ≢ word_of format) }

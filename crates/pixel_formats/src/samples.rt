@@ -7,7 +7,8 @@ ghost use Rattle.std.proofs.Common.{rules};
 
 use std::marker::Model;
 
-/// The samples of a pixel, one for each channel in the order of its format.
+/// The samples of a pixel, one for each channel in the order of its format. A clause sees them as
+/// their list.
 #[derive(Drop)]
 pub struct PixelSamples {
     values: Vec<u32>,
@@ -22,21 +23,21 @@ impl Model for PixelSamples {
 }
 
 impl PixelSamples {
-    /// These samples, in their order.
+    /// Makes the samples of a vector, in its order. Takes no memory.
     pub fn new(values: Vec<u32>) -> PixelSamples
         ensures { result ≡ values.items }
     {
         PixelSamples { values }
     }
 
-    /// The samples as a slice.
+    /// Returns the samples as a slice.
     pub fn as_slice(&self) -> &[u32]
         ensures { result.now ≡ self.now }
     {
         &self.values
     }
 
-    /// The samples given back.
+    /// Returns the vector of the samples. Takes no memory.
     pub fn into_vec(self) -> Vec<u32>
         ensures { result.items ≡ self }
     {

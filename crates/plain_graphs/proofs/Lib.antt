@@ -2,4 +2,4 @@ pub mod Steps
 pub mod EditLaws
 pub mod Rows
 pub mod NeedLaws
-pub mod PairLaws
+pub mod Named

@@ -1,14 +1,18 @@
 -- What is asked and needed of nodes, from the last to the first.
-use Rattle.std.proofs.Common.{◌≡◌, ℕ, suc, ◌<◌, ◌≤◌, List, [], ◌∷◌, ◌++◌, length, get_or, take, map, reverse, refl, sym, ap, ◌∙◌, arith}
+use Rattle.std.proofs.Common.{◌≡◌, ℕ, suc, ◌+◌, ◌<◌, ◌≤◌, List, [], ◌∷◌, ◌++◌, length, get_or, drop, drop-cons, take, map, reverse, refl, sym, ap, ◌∙◌, subst, append_assoc, arith}
 use Rattle.std.proofs.Math.Seq.{take-suc}
 use Rattle.std.proofs.lemmas.List.{get_or-map, length-map, length-reverse, length-take-le, reverse-append}
 use Rattle.plane_rect.specs.Rectangle.{Rectangle}
 use Rattle.plane_rect.specs.Tile.{Tile}
 use Rattle.model_operations.specs.declared.operation.IntOp.{IntOp}
-use Rattle.model_graphs.specs.Node.{Node, Compute, Step, FromBuffer, Apply, index_of, step_of}
+use Rattle.model_graphs.specs.declared.node.Body.TheVariants.{Compute}
+use Rattle.model_graphs.specs.Shapes.{Shape, no_shape}
+use Rattle.model_graphs.specs.declared.node.NodeFact.{NodeFact}
+use Rattle.model_graphs.specs.Facts.{specs_of}
+use Rattle.model_graphs.specs.Node.{Node, Step, FromBuffer, Apply, index_of, step_of}
 use Rattle.model_states.specs.Need.{Asked, Needed, asked_by, asked_of, needed, needed_of}
 use Rattle.model_states.specs.Regions.{tiles_of_any}
-use Rattle.model_states.specs.Valid.{Shape, input_boxes, no_shape, steps_of}
+use Rattle.model_states.specs.Valid.{input_boxes, node_names, steps_of}
 use Rattle.plain_graphs.specs.Needs.{AreBelow, asked_of_tiles, step_at}
 use Rattle.model_operations.specs.Meanings.{int_meanings}
 
@@ -84,3 +88,44 @@ needed-below n step tiles before list joined earlier =
 pub below-le : (m n : ℕ) (xs : List Needed) → m ≤ n → AreBelow m xs → AreBelow n xs
 below-le m n [] less below = tt
 below-le m n (x ∷ xs) less below = (omega (arith, below.0), below-le m n xs less below.1)
+
+-- the step of a stated node
+pub step_at-facts : (facts : List (NodeFact IntOp)) (n : ℕ) (fact : NodeFact IntOp) → n < length facts → fact ≡ get_or facts n fact
+    → step_at (specs_of facts) n ≡ step_of (specs_of facts) fact.spec.body
+step_at-facts facts n fact inside is =
+    let spec : NodeFact IntOp → Node IntOp = λ fact. fact.spec in
+    let among : n < length (specs_of facts) = omega (arith, inside, length-map facts spec) in
+    step_at-is (specs_of facts) n fact.spec among
+    (ap spec is ∙ sym (get_or-map spec facts n fact fact.spec inside))
+
+-- the name of a stated node
+pub named_at : (facts : List (NodeFact IntOp)) (n : ℕ) (fact : NodeFact IntOp) → n < length facts → fact ≡ get_or facts n fact
+    → get_or (node_names (specs_of facts)) n [] ≡ fact.spec.name
+named_at facts n fact inside is =
+    let spec : NodeFact IntOp → Node IntOp = λ fact. fact.spec in
+    let name : Node IntOp → List ℕ = λ node. node.name in
+    let among : n < length (specs_of facts) = omega (arith, inside, length-map facts spec) in
+    get_or-map name (specs_of facts) n fact.spec [] among
+    ∙ ap name (get_or-map spec facts n fact fact.spec inside)
+    ∙ ap (λ (f : NodeFact IntOp). f.spec.name) (sym is)
+
+-- ---- what is left of a list, one element further
+
+rest_of : {X : Type 0} (xs : List X) (i : ℕ) (x : X) → i < length xs → x ≡ get_or xs i x → drop i xs ≡ x ∷ drop (i + 1) xs
+rest_of xs i x inside is =
+    let next : suc i ≡ i + 1 = omega arith in
+    drop-cons xs i x inside ∙ ap (λ y. y ∷ drop (suc i) xs) (sym is) ∙ ap (λ n. x ∷ drop n xs) next
+
+pub mapped-rest : {X Y : Type 0} {all : List Y} (f : X → Y) (done next : List Y) (xs : List X) (i : ℕ) (x : X) (y : Y)
+    → i < length xs → x ≡ get_or xs i x → y ≡ f x → next ≡ done ++ y ∷ []
+    → done ++ map f (drop i xs) ≡ all → next ++ map f (drop (i + 1) xs) ≡ all
+mapped-rest f done next xs i x y inside is made pushed before =
+    let rest = map f (drop (i + 1) xs) in
+    ap (λ ys. ys ++ rest) pushed
+    ∙ append_assoc done (y ∷ []) rest
+    ∙ ap (λ first. done ++ first ∷ rest) made
+    ∙ ap (λ ys. done ++ map f ys) (sym (rest_of xs i x inside is))
+    ∙ before
+
+pub below-rest : (end : ℕ) (xs : List Needed) (i : ℕ) (x : Needed) → i < length xs → x ≡ get_or xs i x → AreBelow end (drop i xs) → (x.0 < end) × AreBelow end (drop (i + 1) xs)
+below-rest end xs i x inside is below = subst (AreBelow end) (rest_of xs i x inside is) below

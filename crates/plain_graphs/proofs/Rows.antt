@@ -6,8 +6,8 @@ use Rattle.plane_rect.specs.Rectangle.{Rectangle}
 range_with_len-cons : (first end : ℕ) → first < end
     → range_with_len first (end - first) ≡ first ∷ range_with_len (first + 1) (end - (first + 1))
 range_with_len-cons first end some =
-    let first_column : end - first ≡ suc (end - (first + 1)) = omega arith in
-    rw first_column refl
+    let left : end - first ≡ suc (end - (first + 1)) = omega arith in
+    rw left refl
 
 -- what is done of some rows, and what is left, with one row more
 pub rows_more : {all : List Rectangle} (f : ℕ → Rectangle) (done next : List Rectangle) (row end : ℕ) (x : Rectangle)

@@ -7,7 +7,8 @@ use Rattle.model_operations.specs.Regions.{required}
 use Rattle.model_operations.specs.declared.operation.IntOp.{IntOp}
 use Rattle.model_graphs.specs.Node.{Node, Step, FromBuffer}
 use Rattle.model_states.specs.Valid.{steps_of}
-use Rattle.model_states.specs.Need.{Asked, Needed, Strip}
+use Rattle.model_states.specs.declared.strip.Strip.{Strip}
+use Rattle.model_states.specs.Need.{Asked, Needed}
 
 -- each position is below a number
 abbrev pub AreBelow : ℕ → List Needed → Type 0
@@ -15,7 +16,7 @@ AreBelow end needed = AllByRecursion (λ (n : Needed). n.0 < end) needed
 
 -- so in each strip
 abbrev pub AreStripsBelow : ℕ → List Strip → Type 0
-AreStripsBelow end strips = AllByRecursion (λ (strip : Strip). AreBelow end strip.needed) strips
+AreStripsBelow end strips = AllByRecursion (λ (strip : Strip). AreBelow end strip.need) strips
 
 -- the step of the node at a position, and that of no buffer after the last
 abbrev pub step_at : List (Node IntOp) → ℕ → Step IntOp

@@ -1,46 +1,19 @@
-//! Buffers, nodes and graphs.
+//! Graphs: buffers, and nodes over them.
 
-use crate::body::Body;
+ghost use Rattle.std.specs.Prelude.{◌≡◌, IfOk};
+ghost use Rattle.model_graphs.specs.Facts.{shapes_of_facts};
+ghost use Rattle.model_operations.specs.Meanings.{int_meanings};
+ghost use Rattle.model_states.specs.Commits.{side_of};
+ghost use Rattle.model_states.specs.Valid.{stated};
+
+use crate::shapes::node_shapes;
+use model_graphs::{BufferFact, NodeFact, NodeSpec};
+use model_operations::IntOp;
+use no_memory::NoMemory;
 use pixel_formats::Format;
-use plane_rect::{Name, Rect};
+use plane_rect::Rect;
+use std::alloc::Global;
 use std::marker::Model;
-
-/// What a graph is reported of a buffer: its name, the buffer at the root of its views, what it sees of
-/// that, and its format.
-#[derive(Drop)]
-pub struct Buffer {
-    pub name: Name,
-    pub root: Name,
-    pub extent: Rect,
-    pub format: Format,
-}
-
-impl Model for Buffer {
-    ghost use Rattle.std.specs.Prelude.{ℕ, List};
-    ghost use Rattle.model_states.specs.Sources.{SourceBuffer};
-    ghost use Rattle.plain_graphs.specs.Buffers.{zeros};
-
-    ghost Value = { List ℕ × SourceBuffer };
-
-    ghost view = { λ buffer. (buffer.name, zeros buffer.root buffer.extent buffer.format) };
-}
-
-/// A node of a graph.
-#[derive(Drop)]
-pub struct Node {
-    pub name: Name,
-    pub body: Body,
-}
-
-impl Model for Node {
-    ghost use Rattle.model_graphs.specs.Node.{Node};
-    ghost use Rattle.model_operations.specs.declared.operation.IntOp.{IntOp};
-    ghost use Rattle.plain_graphs.specs.Bodies.{body_of};
-
-    ghost Value = { Node IntOp };
-
-    ghost view = { λ node. record { name = node.name; body = body_of node.body } };
-}
 
 /// The box and the format of a node's image.
 #[derive(Clone, Copy)]
@@ -50,7 +23,7 @@ pub struct Shape {
 }
 
 impl Model for Shape {
-    ghost use Rattle.model_states.specs.Valid.{Shape};
+    ghost use Rattle.model_graphs.specs.Shapes.{Shape};
 
     ghost Value = { Shape };
 
@@ -59,18 +32,66 @@ impl Model for Shape {
     ghost inverse = { λ shape. record { bounds = shape.box; format = shape.format } };
 }
 
-/// Buffers, and nodes over them.
+/// Buffers, and nodes over them with their stated boxes and formats.
 #[derive(Drop)]
 pub struct Graph {
-    pub buffers: Vec<Buffer>,
-    pub nodes: Vec<Node>,
+    pub buffers: Vec<BufferFact>,
+    pub nodes: Vec<NodeFact<IntOp>>,
 }
 
 impl Model for Graph {
-    ghost use Rattle.model_states.specs.State.{Scene};
+    ghost use Rattle.model_states.specs.Damage.{Side};
     ghost use Rattle.model_operations.specs.declared.operation.IntOp.{IntOp};
 
-    ghost Value = { Scene IntOp };
+    ghost Value = { Side IntOp };
 
-    ghost view = { λ graph. record { table = graph.buffers.items; nodes = graph.nodes.items } };
+    ghost view = { λ graph. record { buffers = graph.buffers.items; nodes = graph.nodes.items } };
+}
+
+impl Graph {
+    /// Makes the graph of these nodes over these buffers, with the boxes and formats that they have.
+    ///
+    /// # Errors
+    ///
+    /// No memory was left.
+    pub fn new(
+        alloc: Global,
+        buffers: Vec<BufferFact>,
+        nodes: Vec<NodeSpec<IntOp>>,
+    ) -> Result<Graph, NoMemory>
+        ensures { IfOk result (λ graph. graph ≡ side_of int_meanings buffers.items nodes.items) }
+    {
+        let nodes = stated(alloc, &buffers, nodes)?;
+        Ok(Graph { buffers, nodes })
+    }
+}
+
+/// Returns the nodes with the boxes and formats that they have over these buffers.
+fn stated(
+    alloc: Global,
+    buffers: &[BufferFact],
+    nodes: Vec<NodeSpec<IntOp>>,
+) -> Result<Vec<NodeFact<IntOp>>, NoMemory>
+    ensures { IfOk result (λ facts. facts.items
+        ≡ stated int_meanings (shapes_of_facts buffers.now) nodes.items) }
+{
+    let shapes = node_shapes(alloc, buffers, &nodes)?;
+    Ok(
+        nodes
+            .into_iter()
+            .zip(shapes)
+            .map(|(spec, shape)| with_shape(spec, &shape))
+            .collect(alloc)?,
+    )
+}
+
+/// Returns a node with its box and format.
+fn with_shape(spec: NodeSpec<IntOp>, shape: &Shape) -> NodeFact<IntOp>
+    ensures { result ≡ record { spec = spec; bounds = shape.now.box; format = shape.now.format } }
+{
+    NodeFact {
+        spec,
+        bounds: shape.bounds,
+        format: shape.format,
+    }
 }

@@ -1,17 +1,18 @@
 //! Buffers and nodes by their names.
 
 ghost use Rattle.std.specs.Prelude.{◌≡◌, ◌≤◌, IfOk, length, map, option_map};
+ghost use Rattle.model_graphs.specs.Facts.{fact_of, specs_of};
 ghost use Rattle.model_graphs.specs.Node.{index_of};
 ghost use Rattle.model_states.specs.Edits.{has_node};
-ghost use Rattle.model_states.specs.Sources.{source_of};
 
-use crate::graph::{Buffer, Node};
+use model_graphs::{BufferFact, NodeFact, NodeSpec};
+use model_operations::IntOp;
 use no_memory::NoMemory;
 use plane_rect::Name;
 use std::alloc::Global;
 
-/// The place of the first node of a name, and the number of nodes where there is none.
-pub(crate) fn index_of(nodes: &[Node], name: Name) -> usize
+/// Returns the position of the first node of a name, and the number of nodes where there is none.
+pub(crate) fn index_of(nodes: &[NodeSpec<IntOp>], name: Name) -> usize
     ensures value { result ≡ index_of nodes.now name }
     ensures bound { result ≤ length nodes.now }
 {
@@ -21,17 +22,17 @@ pub(crate) fn index_of(nodes: &[Node], name: Name) -> usize
         .unwrap_or(nodes.len())
 }
 
-/// Whether a node of the name is there.
-pub(crate) fn has_node(nodes: &[Node], name: Name) -> bool
+/// Tests whether a node of the name is there.
+pub(crate) fn has_node(nodes: &[NodeSpec<IntOp>], name: Name) -> bool
     ensures { result ≡ has_node nodes.now name }
 {
     index_of(nodes, name) < nodes.len()
 }
 
-/// The positions of the nodes of these names.
+/// Returns the positions of the nodes of these names.
 pub(crate) fn indices_of(
     alloc: Global,
-    nodes: &[Node],
+    nodes: &[NodeSpec<IntOp>],
     names: &[Name],
 ) -> Result<Vec<usize>, NoMemory>
     ensures { IfOk result (λ indices. indices.items ≡ map (index_of nodes.now) names.now) }
@@ -44,9 +45,36 @@ pub(crate) fn indices_of(
     )
 }
 
-/// The buffer of a name, where there is one.
-pub(crate) fn source_of(buffers: &[Buffer], name: Name) -> Option<&Buffer>
-    ensures { option_map (λ buffer. buffer.now.1) result ≡ source_of buffers.now name }
+/// Returns the position of the first stated node of a name, and their number where there is none.
+pub(crate) fn fact_index(facts: &[NodeFact<IntOp>], name: Name) -> usize
+    ensures value { result ≡ index_of (specs_of facts.now) name }
+    ensures bound { result ≤ length facts.now }
+{
+    facts
+        .iter()
+        .position(|fact| fact.spec.name == name)
+        .unwrap_or(facts.len())
+}
+
+/// Returns the positions of the stated nodes of these names.
+pub(crate) fn fact_indices(
+    alloc: Global,
+    facts: &[NodeFact<IntOp>],
+    names: &[Name],
+) -> Result<Vec<usize>, NoMemory>
+    ensures { IfOk result (λ indices. indices.items ≡ map (index_of (specs_of facts.now)) names.now) }
+{
+    Ok(
+        names
+            .iter()
+            .map(|name| fact_index(facts, *name))
+            .collect(alloc)?,
+    )
+}
+
+/// Returns the buffer of a name, where there is one.
+pub(crate) fn buffer_of(buffers: &[BufferFact], name: Name) -> Option<&BufferFact>
+    ensures { option_map (λ buffer. buffer.now) result ≡ fact_of buffers.now name }
 {
     buffers.iter().find(|buffer| name == buffer.name)
 }

@@ -1,69 +1,53 @@
 //! The tiles that are needed for a rectangle of a node, strip by strip.
 
-ghost use Rattle.std.specs.Prelude.{◌≡◌, ◌++◌, ◌+◌, ◌<◌, ◌≤◌, IfOk, List, OnOk, length, reverse, slice_index_or, take};
+ghost use Rattle.std.specs.Prelude.{◌≡◌, ◌++◌, ◌+◌, ◌^◌, ◌<◌, ◌≤◌, IfOk, List, OnOk, length, reverse, slice_index_or, take};
 ghost use Rattle.plane_rect.specs.Tile.{last_tile};
-ghost use Rattle.model_graphs.specs.Node.{Node as GraphNode, step_of};
+ghost use Rattle.model_graphs.specs.Facts.{specs_of, stated_shapes};
+ghost use Rattle.model_graphs.specs.Node.{Node, step_of};
+ghost use Rattle.model_graphs.specs.Shapes.{no_shape};
 ghost use Rattle.model_operations.specs.declared.operation.IntOp.{IntOp};
-ghost use Rattle.model_states.specs.Need.{asked_by, asked_of, need, needed, needed_of, strip_of, strip_rectangles, tile_line};
-ghost use Rattle.model_states.specs.State.{node_shapes};
-ghost use Rattle.model_states.specs.Regions.{tiles_of_any};
-ghost use Rattle.model_states.specs.Valid.{no_shape, steps_of};
-ghost use Rattle.plain_graphs.specs.Bodies.{body_of};
 ghost use Rattle.model_operations.specs.Meanings.{int_meanings};
+ghost use Rattle.model_states.specs.Need.{asked_by, asked_of, need, needed, needed_of, strip_of, strip_rectangles, tile_line};
+ghost use Rattle.model_states.specs.Regions.{tiles_of_any};
+ghost use Rattle.model_states.specs.Valid.{steps_of};
 ghost use Rattle.plain_graphs.specs.Needs.{AreBelow, AreStripsBelow, asked_of_tiles, asked_within, step_at};
 
-use crate::body::Body;
-use crate::graph::{Graph, Node, Shape};
-use crate::names::indices_of;
-use crate::shapes::{input_boxes, shape_at, shapes_of};
+use crate::names::fact_indices;
+use crate::shapes::{stated_at, stated_boxes};
 use crate::tiles::{tile_part, tiles_of_any};
+use model_graphs::{Body, NodeFact};
 use model_operations::IntOp;
+use model_states::{NeedList, Strip};
 use no_memory::NoMemory;
 use operation_regions::required;
 use plane_rect::{PLANE_SIDE, Rect, TILE_SIDE, TileAt};
 use std::alloc::Global;
-use std::marker::Model;
 
-/// A part of a request, and the tiles that are needed for it, each with the position of its node.
-#[derive(Drop)]
-pub struct Strip {
-    pub rectangle: Rect,
-    pub needed: Vec<(usize, TileAt)>,
-}
-
-impl Model for Strip {
-    ghost use Rattle.model_states.specs.Need.{Strip};
-
-    ghost Value = { Strip };
-
-    ghost view = { λ strip. record { rectangle = strip.rectangle; needed = strip.needed.items } };
-}
-
-/// What is needed for a rectangle of the node at a position: a strip for each row of tiles that it
-/// meets, from the top.
+/// Returns what is needed for a rectangle of the node at a position: a strip for each row of tiles
+/// that it meets, from the top.
 ///
 /// # Errors
 ///
 /// No memory was left.
 pub fn need(
     alloc: Global,
-    graph: &Graph,
-    node: usize,
+    facts: &[NodeFact<IntOp>],
+    node: u32,
     request: Rect,
 ) -> Result<Vec<Strip>, NoMemory>
-    requires { node < length graph.now.nodes }
-    ensures need { IfOk result (λ strips. strips.items ≡ need int_meanings graph.now node request) }
-    ensures indices { IfOk result (λ strips. AreStripsBelow (length graph.now.nodes) strips.items) }
+    requires node { node < length facts.now }
+    requires few { length facts.now < 2 ^ 32 }
+    ensures need { IfOk result (λ strips. strips.items ≡ need int_meanings facts.now node request) }
+    ensures indices { IfOk result (λ strips. AreStripsBelow (length facts.now) strips.items) }
 {
-    let shapes = shapes_of(alloc, graph)?;
     let mut strips = Vec::new(alloc);
     for rectangle in &strip_rectangles(alloc, &request)? {
-        strips.push(strip_of(alloc, graph, &shapes, node, *rectangle)?)?;
+        strips.push(strip_of(alloc, facts, node, *rectangle)?)?;
     }
     Ok(strips)
 }
 
-/// A request cut at the rows of tiles that it meets, from the top.
+/// Returns a request cut at the rows of tiles that it meets, from the top.
 fn strip_rectangles(alloc: Global, request: &Rect) -> Result<Vec<Rect>, NoMemory>
     ensures { IfOk result (λ rectangles. rectangles.items ≡ strip_rectangles request.now) }
 {
@@ -78,7 +62,7 @@ fn strip_rectangles(alloc: Global, request: &Rect) -> Result<Vec<Rect>, NoMemory
     Ok(rectangles)
 }
 
-/// All positions of a row of tiles.
+/// Returns all positions of a row of tiles.
 fn tile_line(row: u32) -> Rect
     requires { row < last_tile }
     ensures { result ≡ tile_line row }
@@ -87,37 +71,37 @@ fn tile_line(row: u32) -> Rect
     Rect::spanning(0, first_row, PLANE_SIDE, first_row + TILE_SIDE)
 }
 
-/// What is needed for a rectangle of the node at a position, where the shapes of the nodes are known.
+/// Returns what is needed for a rectangle of the node at a position.
 fn strip_of(
     alloc: Global,
-    graph: &Graph,
-    shapes: &[Shape],
-    node: usize,
-    rectangle: Rect,
+    facts: &[NodeFact<IntOp>],
+    node: u32,
+    rect: Rect,
 ) -> Result<Strip, NoMemory>
-    requires node { node < length graph.now.nodes }
-    requires shapes { shapes.now ≡ node_shapes int_meanings graph.now }
-    ensures strip { IfOk result (λ strip. strip ≡ strip_of int_meanings graph.now node rectangle) }
-    ensures indices { IfOk result (λ strip. AreBelow (length graph.now.nodes) strip.needed) }
+    requires node { node < length facts.now }
+    requires few { length facts.now < 2 ^ 32 }
+    ensures strip { IfOk result (λ strip. strip ≡ strip_of int_meanings facts.now node rect) }
+    ensures indices { IfOk result (λ strip. AreBelow (length facts.now) strip.need) }
 {
-    let part = rectangle.meet(&shape_at(shapes, node).bounds);
-    let asked = vec![in alloc; (node, part)]?;
-    let needed = needed(alloc, &graph.nodes, shapes, asked, node + 1)?;
-    Ok(Strip { rectangle, needed })
+    let index = node as usize;
+    let part = rect.meet(&stated_at(facts, index).bounds);
+    let asked = vec![in alloc; (index, part)]?;
+    let need = NeedList::new(needed(alloc, facts, asked, index + 1)?);
+    Ok(Strip { rect, need })
 }
 
-/// What is needed of the first `count` nodes where this is asked of them: in the order of the nodes,
-/// those of a node row by row.
+/// Returns what is needed of the first `count` nodes where this is asked of them: in the order of the
+/// nodes, those of a node row by row.
 fn needed(
     alloc: Global,
-    nodes: &[Node],
-    shapes: &[Shape],
+    facts: &[NodeFact<IntOp>],
     asked: Vec<(usize, Rect)>,
     count: usize,
-) -> Result<Vec<(usize, TileAt)>, NoMemory>
-    requires { count ≤ length nodes.now }
-    ensures needed { IfOk result (λ list. list.items
-        ≡ needed int_meanings shapes.now asked.items (reverse (take count (steps_of nodes.now)))) }
+) -> Result<Vec<(u32, TileAt)>, NoMemory>
+    requires count { count ≤ length facts.now }
+    requires few { length facts.now < 2 ^ 32 }
+    ensures needed { IfOk result (λ list. list.items ≡ needed int_meanings (stated_shapes facts.now)
+        asked.items (reverse (take count (steps_of (specs_of facts.now))))) }
     ensures indices { IfOk result (λ list. AreBelow count list.items) }
 {
     if count == 0 {
@@ -125,35 +109,36 @@ fn needed(
     }
     let node = count - 1;
     let mut asked = asked;
-    let tiles = ask_node(alloc, nodes, shapes, &mut asked, node)?;
-    let mut list = needed(alloc, nodes, shapes, asked, node)?;
-    let last = &nodes[node];
-    add_needed(&mut list, node, &last.body, &tiles)?;
+    let tiles = ask_node(alloc, facts, &mut asked, node)?;
+    let mut list = needed(alloc, facts, asked, node)?;
+    let last = &facts[node];
+    add_needed(&mut list, node as u32, &last.spec.body, &tiles)?;
     Ok(list)
 }
 
-/// The tiles that are needed of the node at a position, where this is asked; adds what they ask.
+/// Returns the tiles that are needed of the node at a position, where this is asked; adds what they
+/// ask.
 fn ask_node(
     alloc: Global,
-    nodes: &[Node],
-    shapes: &[Shape],
+    facts: &[NodeFact<IntOp>],
     asked: &mut Vec<(usize, Rect)>,
     node: usize,
 ) -> Result<Vec<TileAt>, NoMemory>
-    requires { node < length nodes.now }
+    requires { node < length facts.now }
     ensures tiles { IfOk result (λ tiles. tiles.items ≡ tiles_of_any (asked_of asked.old.items node)) }
-    ensures asked { OnOk result (asked.new.items ≡ asked.old.items ++ asked_by int_meanings shapes.now
-        (step_at nodes.now node) (slice_index_or shapes.now node no_shape).box
+    ensures asked { OnOk result (asked.new.items ≡ asked.old.items
+        ++ asked_by int_meanings (stated_shapes facts.now) (step_at (specs_of facts.now) node)
+        (slice_index_or (stated_shapes facts.now) node no_shape).box
         (tiles_of_any (asked_of asked.old.items node))) }
 {
     let tiles = tiles_of_any(alloc, &asked_of(alloc, asked, node)?)?;
-    let last = &nodes[node];
-    let bounds = shape_at(shapes, node).bounds;
-    ask(alloc, asked, nodes, shapes, &last.body, &bounds, &tiles)?;
+    let last = &facts[node];
+    let bounds = stated_at(facts, node).bounds;
+    ask(alloc, asked, facts, &last.spec.body, &bounds, &tiles)?;
     Ok(tiles)
 }
 
-/// The rectangles that are asked of a node.
+/// Returns the rectangles that are asked of a node.
 fn asked_of(alloc: Global, asked: &[(usize, Rect)], node: usize) -> Result<Vec<Rect>, NoMemory>
     ensures { IfOk result (λ rects. rects.items ≡ asked_of asked.now node) }
 {
@@ -170,20 +155,19 @@ fn asked_of(alloc: Global, asked: &[(usize, Rect)], node: usize) -> Result<Vec<R
 fn ask(
     alloc: Global,
     asked: &mut Vec<(usize, Rect)>,
-    nodes: &[Node],
-    shapes: &[Shape],
-    body: &Body,
+    facts: &[NodeFact<IntOp>],
+    body: &Body<IntOp>,
     bounds: &Rect,
     tiles: &[TileAt],
 ) -> Result<(), NoMemory>
-    ensures { OnOk result (asked.new.items ≡ asked.old.items
-        ++ asked_by int_meanings shapes.now (step_of nodes.now (body_of body.now)) bounds.now tiles.now) }
+    ensures { OnOk result (asked.new.items ≡ asked.old.items ++ asked_by int_meanings
+        (stated_shapes facts.now) (step_of (specs_of facts.now) body.now) bounds.now tiles.now) }
 {
     let Body::Compute { op, inputs } = body else {
         return Ok(());
     };
-    let indices = indices_of(alloc, nodes, inputs)?;
-    let boxes = input_boxes(alloc, shapes, &indices)?;
+    let indices = fact_indices(alloc, facts, inputs.as_slice())?;
+    let boxes = stated_boxes(alloc, facts, &indices)?;
     ask_tiles(asked, op, &boxes, &indices, bounds, tiles)
 }
 
@@ -224,13 +208,13 @@ fn ask_part(
 
 /// Adds the tiles of a node that is no source.
 fn add_needed(
-    list: &mut Vec<(usize, TileAt)>,
-    node: usize,
-    body: &Body,
+    list: &mut Vec<(u32, TileAt)>,
+    node: u32,
+    body: &Body<IntOp>,
     tiles: &[TileAt],
 ) -> Result<(), NoMemory>
-    ensures { (nodes : List (GraphNode IntOp)) → OnOk result (list.new.items ≡ list.old.items
-        ++ needed_of node (step_of nodes (body_of body.now)) tiles.now) }
+    ensures { (nodes : List (Node IntOp)) → OnOk result (list.new.items ≡ list.old.items
+        ++ needed_of node (step_of nodes body.now) tiles.now) }
 {
     if let Body::Source { .. } = body {
         return Ok(());

@@ -1,15 +1,15 @@
 //! The boxes and the formats of nodes.
 
-ghost use Rattle.std.specs.Prelude.{◌≡◌, [], IfOk, slice_index_or};
-ghost use Rattle.model_graphs.specs.Node.{Apply, FromBuffer, step_of};
-ghost use Rattle.model_states.specs.State.{node_shapes};
-ghost use Rattle.model_states.specs.Valid.{input_boxes, input_formats, no_shape, shapes_of, step_shape};
-ghost use Rattle.plain_graphs.specs.Bodies.{body_of};
+ghost use Rattle.std.specs.Prelude.{◌≡◌, [], IfOk, slice_index_or, unwrap_or};
+ghost use Rattle.model_graphs.specs.Facts.{shapes_of_facts, stated_shapes};
+ghost use Rattle.model_graphs.specs.Node.{step_of};
+ghost use Rattle.model_graphs.specs.Shapes.{no_shape, shape_in};
 ghost use Rattle.model_operations.specs.Meanings.{int_meanings};
+ghost use Rattle.model_states.specs.Valid.{input_boxes, input_formats, operation_shape, shapes_of, step_shape};
 
-use crate::body::Body;
-use crate::graph::{Buffer, Graph, Node, Shape};
-use crate::names::{indices_of, source_of};
+use crate::graph::Shape;
+use crate::names::{buffer_of, indices_of};
+use model_graphs::{Body, BufferFact, NodeFact, NodeSpec};
 use model_operations::IntOp;
 use no_memory::NoMemory;
 use operation_regions::{box_of, format_of};
@@ -17,30 +17,24 @@ use pixel_formats::Format;
 use plane_rect::{Name, Rect};
 use std::alloc::Global;
 
-/// The shape of the image of no position.
+/// The shape of the image without a pixel.
 const NO_SHAPE: Shape = Shape {
     bounds: Rect::EMPTY,
     format: Format::Y8,
 };
 
-/// The boxes and the formats of a graph's nodes, in their order.
+/// Returns the boxes and the formats of nodes over buffers, in their order.
 ///
 /// # Errors
 ///
 /// No memory was left.
-pub fn shapes_of(alloc: Global, graph: &Graph) -> Result<Vec<Shape>, NoMemory>
-    ensures { IfOk result (λ shapes. shapes.items ≡ node_shapes int_meanings graph.now) }
-{
-    node_shapes(alloc, &graph.buffers, &graph.nodes)
-}
-
-/// The same of nodes over buffers.
-pub(crate) fn node_shapes(
+pub fn node_shapes(
     alloc: Global,
-    buffers: &[Buffer],
-    nodes: &[Node],
+    buffers: &[BufferFact],
+    nodes: &[NodeSpec<IntOp>],
 ) -> Result<Vec<Shape>, NoMemory>
-    ensures { IfOk result (λ shapes. shapes.items ≡ shapes_of int_meanings buffers.now nodes.now) }
+    ensures { IfOk result (λ shapes. shapes.items
+        ≡ shapes_of int_meanings (shapes_of_facts buffers.now) nodes.now) }
 {
     let mut known = Vec::new(alloc);
     for node in nodes {
@@ -50,48 +44,48 @@ pub(crate) fn node_shapes(
     Ok(known)
 }
 
-/// The shape of a node of this body, where those of the nodes before it are known.
+/// Returns the shape of a node of this body, where those of the nodes before it are known.
 pub(crate) fn shape_of_body(
     alloc: Global,
-    buffers: &[Buffer],
-    nodes: &[Node],
+    buffers: &[BufferFact],
+    nodes: &[NodeSpec<IntOp>],
     known: &[Shape],
-    body: &Body,
+    body: &Body<IntOp>,
 ) -> Result<Shape, NoMemory>
     ensures { IfOk result (λ shape. shape
-        ≡ step_shape int_meanings buffers.now known.now (step_of nodes.now (body_of body.now))) }
+        ≡ step_shape int_meanings (shapes_of_facts buffers.now) known.now (step_of nodes.now body.now)) }
 {
     match body {
         Body::Source { buffer } => Ok(shape_of_buffer(buffers, *buffer)),
         Body::Compute { op, inputs } => {
-            let indices = indices_of(alloc, nodes, inputs)?;
+            let indices = indices_of(alloc, nodes, inputs.as_slice())?;
             shape_of_result(alloc, op, known, &indices)
         }
     }
 }
 
-/// The shape of the image of a buffer, and of the image of no position where it is not there.
-fn shape_of_buffer(buffers: &[Buffer], name: Name) -> Shape
-    ensures { result ≡ step_shape int_meanings buffers.now [] (FromBuffer name) }
+/// Returns the shape of a buffer, and that of the image without a pixel where it is not there.
+#[tactic(auto, using(crate::proofs::Named::shape_named))]
+fn shape_of_buffer(buffers: &[BufferFact], name: Name) -> Shape
+    ensures { result ≡ unwrap_or (shape_in (shapes_of_facts buffers.now) name) no_shape }
 {
-    match source_of(buffers, name) {
+    match buffer_of(buffers, name) {
         Some(buffer) => Shape {
-            bounds: buffer.extent,
+            bounds: buffer.bounds,
             format: buffer.format,
         },
         None => NO_SHAPE,
     }
 }
 
-/// The shape of what an operation gives of the inputs at these positions.
+/// Returns the shape of what an operation gives of the inputs at these positions.
 fn shape_of_result(
     alloc: Global,
     op: &IntOp,
     known: &[Shape],
     indices: &[usize],
 ) -> Result<Shape, NoMemory>
-    ensures { IfOk result (λ shape. shape
-        ≡ step_shape int_meanings [] known.now (Apply op.now indices.now)) }
+    ensures { IfOk result (λ shape. shape ≡ operation_shape int_meanings known.now op.now indices.now) }
 {
     let boxes = input_boxes(alloc, known, indices)?;
     let formats = input_formats(alloc, known, indices)?;
@@ -101,14 +95,27 @@ fn shape_of_result(
     })
 }
 
-/// The shape at a position, and that of the image of no position after the last.
-pub(crate) fn shape_at(known: &[Shape], index: usize) -> Shape
+/// Returns the shape at a position, and that of the image without a pixel past the last.
+fn shape_at(known: &[Shape], index: usize) -> Shape
     ensures { result ≡ slice_index_or known.now index no_shape }
 {
     known.get(index).copied().unwrap_or(NO_SHAPE)
 }
 
-/// The boxes at these positions.
+/// Returns the stated shape at a position, and that of the image without a pixel past the last.
+pub(crate) fn stated_at(facts: &[NodeFact<IntOp>], index: usize) -> Shape
+    ensures { result ≡ slice_index_or (stated_shapes facts.now) index no_shape }
+{
+    match facts.get(index) {
+        Some(fact) => Shape {
+            bounds: fact.bounds,
+            format: fact.format,
+        },
+        None => NO_SHAPE,
+    }
+}
+
+/// Returns the boxes at these positions.
 pub(crate) fn input_boxes(
     alloc: Global,
     known: &[Shape],
@@ -124,7 +131,7 @@ pub(crate) fn input_boxes(
     )
 }
 
-/// The formats at these positions.
+/// Returns the formats at these positions.
 pub(crate) fn input_formats(
     alloc: Global,
     known: &[Shape],
@@ -136,6 +143,22 @@ pub(crate) fn input_formats(
         indices
             .iter()
             .map(|index| shape_at(known, *index).format)
+            .collect(alloc)?,
+    )
+}
+
+/// Returns the stated boxes at these positions.
+pub(crate) fn stated_boxes(
+    alloc: Global,
+    facts: &[NodeFact<IntOp>],
+    indices: &[usize],
+) -> Result<Vec<Rect>, NoMemory>
+    ensures { IfOk result (λ boxes. boxes.items ≡ input_boxes (stated_shapes facts.now) indices.now) }
+{
+    Ok(
+        indices
+            .iter()
+            .map(|index| stated_at(facts, *index).bounds)
             .collect(alloc)?,
     )
 }

@@ -12,7 +12,7 @@ use Rattle.model_operations.proofs.RangeLaws.{value-range}
 use Rattle.model_operations.specs.Lawful.Reaching.{input_count-most}
 use Rattle.model_operations.specs.Arguments.{in_range}
 use Rattle.model_operations.specs.Formats.{format_of, format_with}
-use Rattle.model_operations.specs.Inputs.{formats_of, image_of, input_count, input_format}
+use Rattle.model_operations.specs.Inputs.{formats_of, input_image, input_count, input_format}
 use Rattle.model_operations.specs.Results.{IsInRange}
 use Rattle.model_operations.specs.Values.{value_at}
 use Rattle.model_operations.specs.declared.operation.IntOp.{IntOp}
@@ -36,15 +36,15 @@ no_image-range u v c =
 
 -- no sample that an operation gives is above the largest of the format that it tells
 pub value-most : (op : IntOp) (images : List Image) (format : Format) → format_of op (formats_of images) ≡ Some format
-    → IsInRange (image_of images 0) → IsInRange (image_of images 1) → (u v c : ℕ) → value_at op images u v c ≤ max_sample format
+    → IsInRange (input_image images 0) → IsInRange (input_image images 1) → (u v c : ℕ) → value_at op images u v c ≤ max_sample format
 value-most op images format stated first second u v c =
     let with = stated-by (eqb (length (formats_of images)) (input_count op)) (in_range op)
     (format_with op (input_format (formats_of images) 0) (input_format (formats_of images) 1)) format stated in
-    let own : format_with op (image_of images 0).format (image_of images 1).format ≡ Some format =
-    ap (λ (f : Format). format_with op f (image_of images 1).format) (sym (input_format-image images 0))
+    let own : format_with op (input_image images 0).format (input_image images 1).format ≡ Some format =
+    ap (λ (f : Format). format_with op f (input_image images 1).format) (sym (input_format-image images 0))
     ∙ ap (λ (f : Format). format_with op (input_format (formats_of images) 0) f) (sym (input_format-image images 1))
     ∙ with.1 in
-    value-range (image_of images 0) (image_of images 1) u v c op format own (λ _. first) (λ _. second)
+    value-range (input_image images 0) (input_image images 1) u v c op format own (λ _. first) (λ _. second)
 
 -- lists by their lengths
 pub none_of : (xs : List Image) → length xs < 1 → xs ≡ []

@@ -125,7 +125,7 @@ around u v a part some inside = (λ h. (within h, outside h), λ h. placed h.0 h
       ]
     ]
 
--- what meets no place of b loses none
+-- what meets no position of b loses none
 left_over : (u v : ℕ) (a b : Rectangle) → InsideOne u v (minus a b) ↔ (Inside u v a × ¬ Inside u v b)
 left_over u v a b = cases (is_empty (meet a b)) refl
   where

@@ -14,13 +14,13 @@ parts_of-push : (ys : List Rectangle) (r : Rectangle) (n : ℕ) → 4 - length y
     ≡ record { count = length ys + 1; parts = set (ys ++ replicate (4 - length ys) empty) (length ys) r }
 parts_of-push ys r n e =
     let long : length (ys ++ r ∷ []) ≡ length ys + 1 = length-append ys (r ∷ []) in
-    let first_column : 4 - (length ys + 1) ≡ n = omega arith in
+    let fewer : 4 - (length ys + 1) ≡ n = omega arith in
     let P : ℕ → ℕ → Type 0 = λ k m. ◌≡◌ {A = Parts}
     (record { count = k; parts = (ys ++ r ∷ []) ++ replicate (4 - k) empty })
     (record { count = length ys + 1; parts = set (ys ++ replicate m empty) (length ys) r }) in
     subst (λ (k : ℕ). P k (4 - length ys)) (sym long)
     (subst (λ (m : ℕ). P (length ys + 1) m) (sym e)
-    (rw (first_column, set-append_seam ys empty (replicate n empty) r, append_assoc) refl))
+    (rw (fewer, set-append_seam ys empty (replicate n empty) r, append_assoc) refl))
 
 -- so many are no more than were looked at
 pub length-gathered : (xs : List Rectangle) (i : ℕ) → length (filter has_positions (take i xs)) ≤ i

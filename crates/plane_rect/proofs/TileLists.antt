@@ -15,7 +15,7 @@ tile-named column row t p q =
     let joined : (of : ℕ → ℕ → Tile) → of t.column t.row ≡ of column row = λ of. cc in
     joined (λ column row. record { column = column; row = row })
 
--- ---- which tiles stand in the lists
+-- ---- which tiles are in the lists
 
 in_tile_row : (row column n : ℕ) (t : Tile) → Contains (tile_row row column n) t
     → (t.row ≡ row) × (column ≤ t.column) × (t.column < column + n)

@@ -15,7 +15,7 @@ underscore = 95
 abbrev pub is_name_byte : ℕ → Bool
 is_name_byte byte = is_ascii_lowercase byte || is_ascii_digit byte || byte == underscore
 
--- a word of 1 to 16 bytes whose first is `a` to `z`, and whose others may stand in a name
+-- a word of 1 to 16 bytes whose first is `a` to `z`, and whose others are bytes that may follow it in a name
 abbrev pub is_name : List ℕ → Bool
 is_name [] = false
 is_name (first ∷ rest) =

@@ -1,5 +1,5 @@
--- Places and rectangles, in natural numbers: a column and a row count from the plane's upper left corner, which
--- stands at x = y = -2^24. So the column of x is x + 2^24, and no definition above this file has a sign.
+-- Positions and rectangles, in natural numbers: columns and rows are counted from the plane's upper left corner, which
+-- is at x = y = -2^24. So the column of x is x + 2^24, and no definition above this file has a sign.
 use Rattle.std.specs.Prelude.{List, [], ◌∷◌, filter, nat_le, nat_lt, ◌≡◌, ℕ, ◌+◌, ◌-◌, ◌*◌, ◌/◌, ◌^◌, ◌<◌, ◌≤◌, ◌⊎◌, ◌&&◌, ◌||◌, ◌==◌, not, Bool, min, max, if◌then◌else◌, ℤ, pos, negsuc, ◌+ℤ◌, ◌-ℤ◌, ◌*ℤ◌, ◌≤ℤ◌, ◌<ℤ◌, int_le, unsigned_abs, Result, Ok, Err, Option, Some, None}
 use Rattle.plane_rect.specs.declared.rect.RectRefused.{RectRefused}
 use Rattle.plane_rect.specs.declared.rect.RectRefused.TheVariants.{Place, Size}
@@ -14,7 +14,7 @@ origin = 2 ^ 24
 abbrev pub plane_side : ℕ
 plane_side = 2 ^ 25
 
--- the column of an x, or the row of a y, that does not lie before the plane's corner
+-- the column of an x, or the row of a y, that is not before the plane's corner
 abbrev pub plane_index : ℤ → ℕ
 plane_index (pos n) = n + origin
 plane_index (negsuc n) = origin - (n + 1)
@@ -23,7 +23,7 @@ plane_index (negsuc n) = origin - (n + 1)
 abbrev pub plane_coordinate : ℕ → ℤ
 plane_coordinate n = pos n -ℤ pos origin
 
--- an x or a y does not lie before the plane's corner
+-- an x or a y is not before the plane's corner
 abbrev pub StartsInPlane : ℤ → Type 0
 StartsInPlane z = plane_coordinate 0 ≤ℤ z
 
@@ -40,7 +40,7 @@ pub record Rectangle : Type 0 where
 abbrev pub Within : ℕ → ℕ → ℕ → Type 0
 Within start len n = (start ≤ n) × (n < start + len)
 
--- The place of column u and row v is in the rectangle: a rectangle is the set of these positions.
+-- The position of column u and row v is in the rectangle: a rectangle is the set of these positions.
 pub record Inside (u v : ℕ) (r : Rectangle) : Type 0 where
   pub column : Within r.first_column r.width u
   pub row : Within r.first_row r.height v
@@ -54,7 +54,7 @@ abbrev pub InsideSigned : ℤ → ℤ → Rectangle → Type 0
 InsideSigned x y r =
     WithinSigned (plane_coordinate r.first_column) (pos r.width) x × WithinSigned (plane_coordinate r.first_row) (pos r.height) y
 
--- the rectangle of no position, which stands at the origin
+-- the rectangle of no position, which is put at the origin
 abbrev pub empty : Rectangle
 empty = record { first_column = origin; first_row = origin; width = 0; height = 0 }
 
@@ -82,15 +82,15 @@ end_row r = r.first_row + r.height
 abbrev pub spanning : ℕ → ℕ → ℕ → ℕ → Rectangle
 spanning first_column first_row end_column end_row = rectangle first_column first_row (end_column - first_column) (end_row - first_row)
 
--- how many places a rectangle has
+-- how many positions a rectangle has
 abbrev pub area : Rectangle → ℕ
 area r = r.width * r.height
 
--- the index of a position among those of the rectangle, which stand row by row
+-- the index of a position among those of the rectangle, which are numbered row by row
 abbrev pub offset : Rectangle → ℕ → ℕ → ℕ
 offset r u v = (v - r.first_row) * r.width + (u - r.first_column)
 
--- a rectangle of which an image may be kept
+-- a rectangle that is in the limits of an image
 abbrev pub in_limits : Rectangle → Bool
 in_limits r = nat_le r.width (2 ^ 15) && nat_le r.height (2 ^ 15) && nat_le (area r) (2 ^ 25)
 
@@ -179,7 +179,7 @@ is_empty r = r.width == 0 || r.height == 0
 abbrev pub has_positions : Rectangle → Bool
 has_positions r = not (is_empty r)
 
--- each place of b is in a
+-- each position of b is in a
 abbrev pub Includes : Rectangle → Rectangle → Type 0
 Includes a b = (u v : ℕ) → Inside u v b → Inside u v a
 
@@ -246,7 +246,7 @@ grown by r =
 abbrev pub AreNear : ℕ → ℕ → ℕ → Type 0
 AreNear by m n = (m ≤ n + by) × (n ≤ m + by)
 
--- some place of the rectangle is at most so many columns and rows away
+-- some position of the rectangle is at most so many columns and rows away
 abbrev pub InsideGrown : ℕ → ℕ → ℕ → Rectangle → Type 0
 InsideGrown by u v r = (u' : ℕ) × (v' : ℕ) × Inside u' v' r × AreNear by u u' × AreNear by v v'
 
@@ -258,7 +258,7 @@ half n = n / 2 + origin / 2
 abbrev pub halved : Rectangle → Rectangle
 halved r = spanning (half r.first_column) (half r.first_row) (half (end_column r + 1)) (half (end_row r + 1))
 
--- the position is that of half the x and half the y of a place of the rectangle
+-- the position is that of half the x and half the y of a position of the rectangle
 abbrev pub InsideHalved : ℕ → ℕ → Rectangle → Type 0
 InsideHalved u v r = (u' : ℕ) × (v' : ℕ) × Inside u' v' r × (u ≡ half u') × (v ≡ half v')
 

@@ -47,11 +47,11 @@ pub record NameTile (tx ty : ℤ) : Type 0 where
   pub row_in_plane : tile_coordinate 0 ≤ℤ ty
   pub tile : IsTile (tile_by tx ty)
 
--- the column of the tile in which a column lies, or the row of that in which a row lies
+-- the column of the tile that contains a column, or the row of that which contains a row
 abbrev pub tile_of : ℕ → ℕ
 tile_of n = n / tile_side
 
--- the tile in which the position lies
+-- the tile that contains the position
 abbrev pub tile_at : ℕ → ℕ → Tile
 tile_at u v = record { column = tile_of u; row = tile_of v }
 
@@ -80,7 +80,7 @@ same_tile a b = a.row == b.row && a.column == b.column
 abbrev pub tile_cmp : Tile → Tile → Ordering
 tile_cmp = then_cmp (on (λ t. t.row) nat_cmp) (on (λ t. t.column) nat_cmp)
 
--- some place of the rectangle is in the tile
+-- some position of the rectangle is in the tile
 abbrev pub Meets : Tile → Rectangle → Type 0
 Meets t r = (u : ℕ) × (v : ℕ) × Inside u v r × (t ≡ tile_at u v)
 
@@ -99,7 +99,7 @@ tile_rows column columns row zero = []
 tile_rows column columns row (suc n) =
     tile_row row column columns ++ tile_rows column columns (suc row) n
 
--- the column after those of the tiles in which the columns before an end lie, or the row so
+-- the exclusive end of the columns of the tiles that contain the columns before an end, or of the rows so
 abbrev pub tile_end : ℕ → ℕ
 tile_end n = div_ceil n tile_side
 

@@ -3,6 +3,7 @@
 
 mod moves;
 mod name;
+mod name_list;
 mod plane;
 mod rect;
 mod sets;
@@ -11,6 +12,7 @@ mod tests;
 mod tile;
 
 pub use name::Name;
+pub use name_list::NameList;
 pub use plane::{PLANE_ORIGIN, PLANE_SIDE, plane_index};
 pub use rect::{Rect, RectRefused};
 pub use sets::Parts;

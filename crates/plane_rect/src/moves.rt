@@ -7,7 +7,8 @@ use crate::plane::{PLANE_ORIGIN, PLANE_SIDE};
 use crate::rect::{Rect, RectRefused};
 
 impl Rect {
-    /// The rectangle moved by dx and dy. An empty one stays.
+    /// Returns the rectangle moved right by `dx` and down by `dy` pixels. An empty one is
+    /// unchanged.
     ///
     /// # Errors
     ///
@@ -35,7 +36,7 @@ impl Rect {
         )
     }
 
-    /// The rectangle with `by` more positions on each side. An empty one stays.
+    /// Returns the rectangle with `by` more pixels on each side. An empty one is unchanged.
     ///
     /// # Errors
     ///
@@ -65,8 +66,8 @@ impl Rect {
         Ok(Rect::spanning(first_column - by, first_row - by, end_column, end_row))
     }
 
-    /// The rectangle of half the coordinates: from half the first, rounded down, to half of what is
-    /// after the last, rounded up.
+    /// Returns the rectangle of half the coordinates: from half the first column and row, rounded
+    /// down, to half the exclusive ends, rounded up.
     pub fn halved(&self) -> Rect
         ensures value { result ≡ halved self.now }
         ensures positions { (u v : ℕ) → Inside u v result ↔ InsideHalved u v self.now }
@@ -79,8 +80,8 @@ impl Rect {
         )
     }
 
-    /// The rectangle of all four fields times 2^level, and None exactly where that is no rectangle
-    /// in limits.
+    /// Returns the rectangle of all four fields times 2^level, and None exactly where that is no
+    /// rectangle in limits.
     pub fn scaled(&self, level: u32) -> Option<Rect>
         requires { level ≤ 8 }
         ensures value { result ≡ scaled level self.now }
@@ -94,7 +95,11 @@ impl Rect {
         }
     }
 
-    /// The rectangle of all four fields times 2^level.
+    /// Returns the rectangle of all four fields times 2^level.
+    ///
+    /// # Errors
+    ///
+    /// As [`Rect::new`] for these fields.
     fn enlarged(&self, level: u32) -> Result<Rect, RectRefused>
         requires { level ≤ 8 }
         ensures value { result ≡ enlarged level self.now }
@@ -112,7 +117,7 @@ impl Rect {
     }
 }
 
-/// A coordinate or a side, times 2^level.
+/// Returns a coordinate or a side, in pixels, times 2^level.
 fn times(n: i64, level: u32) -> i64
     requires level { level ≤ 8 }
     requires size { unsigned_abs n ≤ plane_side }
@@ -121,7 +126,7 @@ fn times(n: i64, level: u32) -> i64
     n * (1 << level)
 }
 
-/// The column of half an x, rounded down, or the row of half a y.
+/// Returns the column of half an x, rounded down, or the row of half a y.
 fn half(index: u32) -> u32
     requires { index ≤ plane_side + 1 }
     ensures { result ≡ half index }

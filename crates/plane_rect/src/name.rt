@@ -18,6 +18,8 @@ use std::marker::Model;
 const LONGEST: usize = 16;
 
 /// A name: 1 to 16 ASCII bytes, the first `a` to `z`, the others `a` to `z`, `0` to `9` or `_`.
+///
+/// A clause sees it as the list of its bytes.
 #[derive(Clone, Copy, Debug)]
 pub struct Name {
     /// The name, and zeros after it.
@@ -39,7 +41,7 @@ impl Model for Name {
 }
 
 impl Name {
-    /// The name that a word is, and None exactly where it is none.
+    /// Returns the name that a word is, and None exactly where it is none.
     pub fn parse(word: &[u8]) -> Option<Name>
         ensures { SomeIff result (IsTrue (is_name word.now)) word.now }
     {
@@ -54,7 +56,7 @@ impl Name {
         })
     }
 
-    /// The bytes of the name.
+    /// Returns the bytes of the name, 1 to 16.
     pub fn as_bytes(&self) -> &[u8]
         ensures value { result.now ≡ self.now }
         ensures name { IsTrue (is_name result.now) }
@@ -64,6 +66,7 @@ impl Name {
     }
 }
 
+/// Returns whether a word is a name.
 fn is_name(word: &[u8]) -> bool
     ensures { result ≡ is_name word.now }
 {
@@ -75,12 +78,14 @@ fn is_name(word: &[u8]) -> bool
     }
 }
 
+/// Returns whether each of these bytes may follow the first of a name.
 fn may_follow(rest: &[u8]) -> bool
     ensures { result ≡ list_all is_name_byte rest.now }
 {
     rest.iter().all(|byte| is_name_byte(*byte))
 }
 
+/// Returns whether a byte may follow the first of a name.
 fn is_name_byte(byte: u8) -> bool
     ensures { result ≡ is_name_byte byte }
 {

@@ -1,18 +1,19 @@
 //! The plane's columns and rows.
 //!
-//! A column and a row count from the plane's upper left corner, which stands at x = y = -2^24, so
-//! no number of them is negative.
+//! Columns and rows are counted from the plane's upper left corner, which is at x = y = -2^24, so
+//! none of them is negative.
 
 ghost use Rattle.std.specs.Prelude.{◌≡◌, ◌≤◌};
 ghost use Rattle.plane_rect.specs.Rectangle.{StartsInPlane, plane_coordinate as coordinate_of, plane_index as index_of, plane_side};
 
-/// The column, and the row, of the origin: how far the plane reaches from it, to each side.
+/// The column, and the row, of the origin: how far the plane reaches from it, to each side, in
+/// pixels.
 pub const PLANE_ORIGIN: u32 = 1 << 24;
 
 /// How many columns, and how many rows, the plane has.
 pub const PLANE_SIDE: u32 = 1 << 25;
 
-/// The column of an x, or the row of a y, which is not below -2^24.
+/// Returns the column of an x, or the row of a y, which is not below -2^24.
 pub fn plane_index(coordinate: i32) -> u32
     requires { StartsInPlane coordinate }
     ensures { result ≡ index_of coordinate }
@@ -20,7 +21,7 @@ pub fn plane_index(coordinate: i32) -> u32
     (i64::from(coordinate) + i64::from(PLANE_ORIGIN)) as u32
 }
 
-/// The x of a column, or the y of a row.
+/// Returns the x of a column, or the y of a row.
 pub(crate) fn plane_coordinate(index: u32) -> i32
     requires { index ≤ plane_side }
     ensures { result ≡ coordinate_of index }

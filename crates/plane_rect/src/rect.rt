@@ -15,10 +15,11 @@ use std::marker::Model;
 use std::ops::Range;
 use thiserror::Error;
 
-/// A set of positions: those of `x <= px < x + w` and `y <= py < y + h`.
+/// A set of pixel positions: those of `x <= px < x + w` and `y <= py < y + h`.
 ///
 /// It is in the plane, from -2^24 up to 2^24 in x and y, and a rectangle without a position is
-/// [`Rect::EMPTY`].
+/// [`Rect::EMPTY`]. A clause sees it by its first column and row, counted from the plane's corner,
+/// and its width and height.
 #[derive(Clone, Copy, Debug)]
 pub struct Rect {
     pub x: i32,
@@ -44,7 +45,7 @@ impl Model for Rect {
     } };
 }
 
-/// Why numbers are no rectangle.
+/// Why four numbers are no rectangle.
 #[derive(Clone, Copy, Debug, PartialEq, Eq, Error)]
 pub enum RectRefused {
     /// It begins before -2^24 or after 2^24.
@@ -64,7 +65,7 @@ impl Rect {
         h: 0,
     };
 
-    /// The rectangle of `w` columns from `x` on and `h` rows from `y` on.
+    /// Returns the rectangle of `w` columns from `x` on and `h` rows from `y` on, in pixels.
     ///
     /// # Errors
     ///
@@ -86,7 +87,7 @@ impl Rect {
         Ok(Rect::from_fields(x, y, w, h))
     }
 
-    /// The rectangle of fields that a rectangle may have, which is empty if a side is 0.
+    /// Returns the rectangle of fields that a rectangle may have, which is empty if a side is 0.
     fn from_fields(x: i64, y: i64, w: i64, h: i64) -> Rect
         requires begins { BeginsInside x y }
         requires ends { EndsInside x y w h }
@@ -103,7 +104,8 @@ impl Rect {
         }
     }
 
-    /// From a first column and row up to those after the last.
+    /// Returns the rectangle from a first column and row up to exclusive ends, which is empty where
+    /// an end is not after its first.
     pub fn spanning(first_column: u32, first_row: u32, end_column: u32, end_row: u32) -> Rect
         requires columns { end_column ≤ plane_side }
         requires rows { end_row ≤ plane_side }
@@ -120,7 +122,7 @@ impl Rect {
         }
     }
 
-    /// The first column, counted from the plane's corner.
+    /// Returns the first column, counted from the plane's corner.
     pub fn first_column(&self) -> u32
         ensures value { result ≡ self.now.first_column }
         ensures rectangle { IsRectangle self.now }
@@ -128,7 +130,7 @@ impl Rect {
         plane_index(self.x)
     }
 
-    /// The first row, counted from the plane's corner.
+    /// Returns the first row, counted from the plane's corner.
     pub fn first_row(&self) -> u32
         ensures value { result ≡ self.now.first_row }
         ensures rectangle { IsRectangle self.now }
@@ -136,7 +138,7 @@ impl Rect {
         plane_index(self.y)
     }
 
-    /// The column after the last.
+    /// Returns the exclusive end of the columns: the one after the last.
     pub fn end_column(&self) -> u32
         ensures value { result ≡ end_column self.now }
         ensures rectangle { IsRectangle self.now }
@@ -144,7 +146,7 @@ impl Rect {
         self.first_column() + self.w
     }
 
-    /// The row below the last.
+    /// Returns the exclusive end of the rows: the one below the last.
     pub fn end_row(&self) -> u32
         ensures value { result ≡ end_row self.now }
         ensures rectangle { IsRectangle self.now }
@@ -152,7 +154,7 @@ impl Rect {
         self.first_row() + self.h
     }
 
-    /// How many positions are in it.
+    /// Returns the number of positions.
     pub fn area(&self) -> u64
         ensures value { result ≡ area self.now }
         ensures rectangle { IsRectangle self.now }
@@ -160,7 +162,7 @@ impl Rect {
         u64::from(self.w) * u64::from(self.h)
     }
 
-    /// Whether no position is in it.
+    /// Returns whether it has no position.
     pub fn is_empty(&self) -> bool
         ensures value { result ≡ is_empty self.now }
         ensures empty { IsTrue result ↔ (self.now ≡ empty) }
@@ -169,7 +171,8 @@ impl Rect {
         self.w == 0
     }
 
-    /// Whether an image of it may be kept: at most 2^15 columns and rows, and 2^25 positions.
+    /// Returns whether an image may have this rectangle: at most 2^15 columns and rows, and 2^25
+    /// positions.
     pub fn in_limits(&self) -> bool
         ensures value { result ≡ in_limits self.now }
         ensures limits { IsTrue result ↔ InLimits self.now }
@@ -177,7 +180,7 @@ impl Rect {
         self.w <= 1 << 15 && self.h <= 1 << 15 && self.area() <= 1 << 25
     }
 
-    /// Its x and y, with room for sums and products.
+    /// Returns its x and y, as integers with room for sums and products.
     pub(crate) fn corner(&self) -> (i64, i64)
         ensures x { result.0 ≡ coordinate_of self.now.first_column }
         ensures y { result.1 ≡ coordinate_of self.now.first_row }
@@ -186,14 +189,14 @@ impl Rect {
         (i64::from(self.x), i64::from(self.y))
     }
 
-    /// Whether the position of x and y is in it.
+    /// Returns whether it contains the position of x and y.
     pub fn has(&self, x: i32, y: i32) -> bool
         ensures { IsTrue result ↔ InsideSigned x y self.now }
     {
         is_within(self.x, self.w, x) && is_within(self.y, self.h, y)
     }
 
-    /// Whether the position of a column and a row is in it.
+    /// Returns whether it contains the position of a column and a row.
     pub fn has_position(&self, column: u32, row: u32) -> bool
         ensures { IsTrue result ↔ Inside column row self.now }
     {
@@ -203,7 +206,7 @@ impl Rect {
             && row < self.end_row()
     }
 
-    /// The index of a position among those of the rectangle, which stand row by row.
+    /// Returns the index of a position among those of the rectangle, which are numbered row by row.
     pub fn offset(&self, column: u32, row: u32) -> usize
         requires { Inside column row self.now }
         ensures value { result ≡ offset self.now column row }
@@ -214,7 +217,8 @@ impl Rect {
             + (column - self.first_column()) as usize
     }
 
-    /// Where a row of a part of it stands among its places, which stand row by row.
+    /// Returns the indices that a row of a part of the rectangle has among the rectangle's
+    /// positions, which are numbered row by row.
     pub fn part_row(&self, part: &Rect, row: u32) -> Range<usize>
         requires part { Includes self.now part.now }
         requires row { Within part.now.first_row part.now.height row }
@@ -260,7 +264,7 @@ impl Hash for Rect {
     }
 }
 
-/// Whether a rectangle may begin at x and y.
+/// Returns whether a rectangle may begin at x and y.
 fn begins_inside(x: i64, y: i64) -> bool
     ensures value { result ≡ begins_inside x y }
     ensures inside { OnTrue result (BeginsInside x y) }
@@ -268,7 +272,7 @@ fn begins_inside(x: i64, y: i64) -> bool
     is_coordinate(x) && is_coordinate(y)
 }
 
-/// Whether a rectangle that begins at x and y may have w columns and h rows.
+/// Returns whether a rectangle that begins at x and y may have w columns and h rows.
 fn ends_inside(x: i64, y: i64, w: i64, h: i64) -> bool
     requires { BeginsInside x y }
     ensures value { result ≡ ends_inside x y w h }
@@ -277,7 +281,7 @@ fn ends_inside(x: i64, y: i64, w: i64, h: i64) -> bool
     is_extent(x, w) && is_extent(y, h)
 }
 
-/// Whether a rectangle may begin at an x or a y.
+/// Returns whether a rectangle may begin at an x or a y.
 fn is_coordinate(z: i64) -> bool
     ensures value { result ≡ is_coordinate z }
     ensures inside { OnTrue result (IsCoordinate z) }
@@ -286,7 +290,7 @@ fn is_coordinate(z: i64) -> bool
     -reach <= z && z <= reach
 }
 
-/// Whether a rectangle may have so many columns from an x on, or rows from a y on.
+/// Returns whether a rectangle may have so many columns from an x on, or rows from a y on.
 fn is_extent(z: i64, len: i64) -> bool
     requires { IsCoordinate z }
     ensures value { result ≡ is_extent z len }
@@ -295,7 +299,7 @@ fn is_extent(z: i64, len: i64) -> bool
     0 <= len && len <= i64::from(PLANE_ORIGIN) - z
 }
 
-/// Whether a number is one of the `len` numbers from `start` on.
+/// Returns whether a number is one of the `len` numbers from `start` on.
 fn is_within(start: i32, len: u32, z: i32) -> bool
     ensures { IsTrue result ↔ WithinSigned start (pos len) z }
 {

@@ -15,7 +15,7 @@ pub struct Parts {
 }
 
 impl Rect {
-    /// Whether each place of the other is in it.
+    /// Returns whether it contains each position of the other.
     pub fn contains(&self, other: &Rect) -> bool
         ensures value { result ≡ includes self.now other.now }
         ensures positions { IsTrue result ↔ Includes self.now other.now }
@@ -27,7 +27,7 @@ impl Rect {
                 && other.end_row() <= self.end_row()
     }
 
-    /// The positions that are in both.
+    /// Returns the positions that are in both.
     pub fn meet(&self, other: &Rect) -> Rect
         ensures value { result ≡ meet self.now other.now }
         ensures positions { (u v : ℕ) → Inside u v result ↔ (Inside u v self.now × Inside u v other.now) }
@@ -42,7 +42,7 @@ impl Rect {
         )
     }
 
-    /// The smallest rectangle that contains both.
+    /// Returns the smallest rectangle that contains both.
     pub fn hull(&self, other: &Rect) -> Rect
         ensures value { result ≡ hull self.now other.now }
         ensures contains_this { Includes result self.now }
@@ -64,9 +64,9 @@ impl Rect {
         )
     }
 
-    /// The positions that are not in the other, in at most four parts: the rows above the other,
-    /// what is left of it, what is right of it, and the rows below it. The rows above and below
-    /// have the full width.
+    /// Returns the positions that are not in the other, as at most four rectangles: the rows above
+    /// the other, what is left of it, what is right of it, and the rows below it. The rows above
+    /// and below have the full width.
     pub fn minus(&self, other: &Rect) -> Parts
         ensures value { result ≡ parts_of (minus self.now other.now) }
         ensures positions { (u v : ℕ) →
@@ -83,7 +83,7 @@ impl Rect {
         Parts::gather(self.surroundings(&part))
     }
 
-    /// What surrounds a part of it: above, left, right and below.
+    /// Returns what surrounds a part of it: above, left, right and below.
     fn surroundings(&self, part: &Rect) -> [Rect; 4]
         requires { Includes self.now part.now }
         ensures { result ≡ surroundings self.now part.now }
@@ -110,7 +110,7 @@ impl Rect {
 }
 
 impl Parts {
-    /// Those of four rectangles that are not empty.
+    /// Returns those of four rectangles that are not empty, in their order.
     fn gather(rectangles: [Rect; 4]) -> Parts
         ensures { result ≡ parts_of (filter has_positions rectangles) }
     {

@@ -17,15 +17,16 @@ use std::cmp::Ordering;
 use std::hash::{Hash, Hasher};
 use std::marker::Model;
 
-/// How many columns, and how many rows, a tile has.
+/// How many columns, and how many rows, a tile has, in pixels.
 pub const TILE_SIDE: u32 = 64;
 
-/// How far the tiles reach from the origin, to each side.
+/// How far the tiles reach from the origin, to each side, in tiles.
 const TILE_ORIGIN: i32 = 1 << 18;
 
 /// The name of the tile of the positions from `64 * tx` to `64 * tx + 63` in x, and so in y.
 ///
-/// Neither number is below -2^18 or above 2^18, where a tile begins after the plane.
+/// Neither number is below -2^18 or above 2^18, where a tile begins after the plane. A clause sees
+/// it by its column and row among the tiles, counted from the plane's corner.
 #[derive(Clone, Copy, Debug)]
 pub struct TileAt {
     pub tx: i32,
@@ -45,7 +46,7 @@ impl Model for TileAt {
 }
 
 impl TileAt {
-    /// The tile in which the position of x and y lies, neither below -2^24 or above 2^24.
+    /// Returns the tile that contains the position of x and y, neither below -2^24 or above 2^24.
     pub fn of(x: i32, y: i32) -> TileAt
         requires x { IsCoordinate x }
         requires y { IsCoordinate y }
@@ -54,7 +55,7 @@ impl TileAt {
         TileAt::of_position(plane_index(x), plane_index(y))
     }
 
-    /// The tile in which the position of a column and a row lies.
+    /// Returns the tile that contains the position of a column and a row.
     pub fn of_position(column: u32, row: u32) -> TileAt
         requires column { column ≤ plane_side }
         requires row { row ≤ plane_side }
@@ -63,7 +64,7 @@ impl TileAt {
         TileAt::from_indices(column / TILE_SIDE, row / TILE_SIDE)
     }
 
-    /// The tile of a column and a row of tiles, counted from the plane's corner.
+    /// Returns the tile of a column and a row of tiles, counted from the plane's corner.
     pub fn from_indices(column: u32, row: u32) -> TileAt
         requires column { column ≤ last_tile }
         requires row { row ≤ last_tile }
@@ -76,7 +77,7 @@ impl TileAt {
         }
     }
 
-    /// Its column among the tiles, counted from the plane's corner.
+    /// Returns its column among the tiles, counted from the plane's corner.
     pub fn column(&self) -> u32
         ensures value { result ≡ self.now.column }
         ensures tile { IsTile self.now }
@@ -84,7 +85,7 @@ impl TileAt {
         (self.tx + TILE_ORIGIN) as u32
     }
 
-    /// Its row among the tiles, counted from the plane's corner.
+    /// Returns its row among the tiles, counted from the plane's corner.
     pub fn row(&self) -> u32
         ensures value { result ≡ self.now.row }
         ensures tile { IsTile self.now }
@@ -92,8 +93,8 @@ impl TileAt {
         (self.ty + TILE_ORIGIN) as u32
     }
 
-    /// The positions of the plane that are in it: none where it begins after the plane, and else all
-    /// 64 by 64.
+    /// Returns the positions of the plane that are in it: none where it begins after the plane, and
+    /// else all 64 by 64.
     pub fn rect(&self) -> Rect
         ensures value { result ≡ tile_rectangle self.now }
         ensures positions { (u v : ℕ) → Inside u v result ↔ (Inside u v plane × (self.now ≡ tile_at u v)) }
@@ -135,7 +136,7 @@ impl Ord for TileAt {
 
     ghost matches_eq = { Prim.search (comparing, rules) };
 
-    /// Row by row from the top, each row from the left.
+    /// Compares row by row from the top, each row from the left.
     fn cmp(&self, other: &TileAt) -> Ordering {
         self.row()
             .cmp(&other.row())
@@ -168,7 +169,7 @@ impl Hash for TileAt {
 /// The tiles that meet a rectangle, row by row from the top, each row from the left: see
 /// [`Rect::tiles`].
 ///
-/// It is seen as the list of the tiles that are still to come.
+/// A clause sees it as the list of the tiles that are still to come.
 #[derive(Clone, Debug, Drop)]
 pub struct Tiles {
     first_tile_column: u32,
@@ -211,7 +212,8 @@ impl Iterator for Tiles {
 }
 
 impl Rect {
-    /// The tiles that meet it, row by row from the top, each row from the left.
+    /// Returns the tiles that meet it, row by row from the top, each row from the left. Each step
+    /// of the iterator takes constant time.
     pub fn tiles(&self) -> Tiles
         ensures value { result ≡ tiles self.now }
         ensures meeting { (t : Tile) → Contains result t ↔ Meets t self.now }

@@ -1,4 +1,4 @@
--- What a field is spelled as is read as the field.
+-- A printed field is read as the field.
 use Rattle.std.proofs.Common.{◌≡◌, ℕ, ℤ, pos, neg_ℤ, ◌≤ℤ◌, ◌+◌, ◌^◌, ◌<◌, ◌≤◌, nat_le, unsigned_abs, IsTrue, is_some, All, List, [], ◌∷◌, ◌&&◌, Bool, true, false, Option, Some, Result, Ok, decimal, codes, length, map, refl, sym, ap, ◌∙◌, subst, inl, inr, ◌⊎◌, ◌-◌, arith}
 use Rattle.std.specs.Fmt.{signed_decimal}
 use Rattle.std.specs.Option.{ok_or}
@@ -16,9 +16,9 @@ use Rattle.pixel_formats.specs.declared.format.Format.{Format}
 use Rattle.script_words.specs.Numbers.{natural_in, integer_in}
 use Rattle.script_words.proofs.NumberLaws.{natural_in-decimal, integer_in-signed_decimal}
 use Rattle.script_fields.proofs.FormatLaws.{format_named-word}
-use Rattle.script_fields.specs.Fields.{◌>>=◌, coordinate_at, rect_numbers_at, count_in, each, file_at, format_at, format_named, integer_at, kept, level_rect_of, may_watch, move_at, name_of, names_of, natural_at, near_policy_at, passed, policy_at, prefix_at, rect_of, sample_of, samples_of, sideways_at, watched_rect_of, word_at}
+use Rattle.script_fields.specs.Fields.{◌>>=◌, coordinate_at, rect_numbers_at, count_in, each, file_at, format_at, format_named, integer_at, rect_in_limits, level_rect_of, move_at, name_of, names_of, natural_at, near_policy_at, passed, policy_at, prefix_at, rect_of, sample_of, samples_of, sideways_at, watched_rect_of, word_at}
 use Rattle.pixel_formats.specs.Limits.{IsMove, IsSample, max_move, max_prefix_bytes, max_sample, suits_areas}
-use Rattle.script_fields.specs.Limits.{IsLevelRect}
+use Rattle.script_fields.specs.Limits.{IsLevelRect, may_watch}
 use Rattle.pixel_formats.specs.Policies.{policy_named, policy_word}
 use Rattle.script_fields.specs.Spelling.{AreNames}
 use Rattle.script_fields.specs.declared.cause.ScriptCause.{ScriptCause}
@@ -27,34 +27,34 @@ use Rattle.script_fields.specs.declared.fields.RectNumbers.{RectNumbers}
 
 -- ---- the number of words
 
-pub count_in-of : (minimum most : ℕ) (words : List (List ℕ)) → minimum ≤ length words → length words ≤ most → count_in minimum most words ≡ Ok tt
-count_in-of minimum most words enough few = rw (le-leb minimum (length words) enough, le-leb (length words) most few) refl
+pub count_in-of : (minimum maximum : ℕ) (words : List (List ℕ)) → minimum ≤ length words → length words ≤ maximum → count_in minimum maximum words ≡ Ok tt
+count_in-of minimum maximum words enough few = rw (le-leb minimum (length words) enough, le-leb (length words) maximum few) refl
 
 -- ---- numbers
 
 pub natural_at-decimal : (low high : ℕ) (words : List (List ℕ)) (index value : ℕ) → word_at words index ≡ decimal value →
     low ≤ value → value ≤ high → value < 10 ^ 10 → natural_at low high words index ≡ Ok value
 unfolding natural_at
-natural_at-decimal low high words index value is minimum most small =
+natural_at-decimal low high words index value is minimum maximum small =
     ap (λ (word : List ℕ). ok_or (natural_in low high word) causes.Number) is
-    ∙ ap (λ (found : Option ℕ). ok_or found causes.Number) (natural_in-decimal low high value minimum most small)
+    ∙ ap (λ (found : Option ℕ). ok_or found causes.Number) (natural_in-decimal low high value minimum maximum small)
 
 integer_at-signed : (low high : ℤ) (words : List (List ℕ)) (index : ℕ) (value : ℤ) → word_at words index ≡ signed_decimal value →
     low ≤ℤ value → value ≤ℤ high → unsigned_abs value < 10 ^ 10 → integer_at low high words index ≡ Ok value
 unfolding integer_at
-integer_at-signed low high words index value is minimum most small =
+integer_at-signed low high words index value is minimum maximum small =
     ap (λ (word : List ℕ). ok_or (integer_in low high word) causes.Number) is
-    ∙ ap (λ (found : Option ℤ). ok_or found causes.Number) (integer_in-signed_decimal low high value minimum most small)
+    ∙ ap (λ (found : Option ℤ). ok_or found causes.Number) (integer_in-signed_decimal low high value minimum maximum small)
 
 pub sample_of-decimal : (value : ℕ) → IsSample value → sample_of (decimal value) ≡ Ok value
 unfolding sample_of
-sample_of-decimal value most =
-    ap (λ (found : Option ℕ). ok_or found causes.Number) (natural_in-decimal 0 max_sample value (omega arith) most (omega arith))
+sample_of-decimal value maximum =
+    ap (λ (found : Option ℕ). ok_or found causes.Number) (natural_in-decimal 0 max_sample value (omega arith) maximum (omega arith))
 
 pub small-move : (value : ℤ) → IsMove value → unsigned_abs value < 10 ^ 10
 small-move value is =
     let minimum : neg_ℤ (pos max_move) ≤ℤ value = is.0 in
-    let most : value ≤ℤ pos max_move = is.1 in
+    let maximum : value ≤ℤ pos max_move = is.1 in
     omega (arith, ints)
 
 pub move_at-signed : (words : List (List ℕ)) (index : ℕ) (value : ℤ) → word_at words index ≡ signed_decimal value → IsMove value → move_at words index ≡ Ok value
@@ -62,16 +62,16 @@ move_at-signed words index value is limits =
     integer_at-signed (neg_ℤ (pos max_move)) (pos max_move) words index value is limits.0 limits.1 (small-move value limits)
 
 pub small-coordinate : (n : ℕ) → n ≤ 2 ^ 25 → unsigned_abs (plane_coordinate n) < 10 ^ 10
-small-coordinate n most = omega (arith, ints)
+small-coordinate n maximum = omega (arith, ints)
 
 coordinate_at-column : (words : List (List ℕ)) (index n : ℕ) → word_at words index ≡ signed_decimal (plane_coordinate n) → n ≤ 2 ^ 25 →
     coordinate_at words index ≡ Ok (plane_coordinate n)
-coordinate_at-column words index n is most =
-    integer_at-signed (neg_ℤ (pos (2 ^ 31))) (pos (2 ^ 31 - 1)) words index (plane_coordinate n) is (omega (arith, ints)) (omega (arith, ints)) (small-coordinate n most)
+coordinate_at-column words index n is maximum =
+    integer_at-signed (neg_ℤ (pos (2 ^ 31))) (pos (2 ^ 31 - 1)) words index (plane_coordinate n) is (omega (arith, ints)) (omega (arith, ints)) (small-coordinate n maximum)
 
 coordinate_at-side : (words : List (List ℕ)) (index n : ℕ) → word_at words index ≡ signed_decimal (pos n) → n ≤ 2 ^ 25 →
     coordinate_at words index ≡ Ok (pos n)
-coordinate_at-side words index n is most =
+coordinate_at-side words index n is maximum =
     integer_at-signed (neg_ℤ (pos (2 ^ 31))) (pos (2 ^ 31 - 1)) words index (pos n) is (omega (arith, ints)) (omega (arith, ints)) (omega (arith, ints))
 
 -- ---- rectangles
@@ -99,14 +99,14 @@ plane_index-plane_coordinate : (n : ℕ) → plane_index (plane_coordinate n) �
 plane_index-plane_coordinate n = grind (arith, ints)
 
 is_coordinate-column : (n : ℕ) → n ≤ 2 ^ 25 → is_coordinate (plane_coordinate n) ≡ true
-is_coordinate-column n most = by_test (coordinate_test (plane_coordinate n))
+is_coordinate-column n maximum = by_test (coordinate_test (plane_coordinate n))
   where
     by_test : (IsTrue (is_coordinate (plane_coordinate n)) × IsCoordinate (plane_coordinate n)) ⊎ ((is_coordinate (plane_coordinate n) ≡ false) × IsNoCoordinate (plane_coordinate n)) → is_coordinate (plane_coordinate n) ≡ true
     by_test (inl passes) = passes.0
     by_test (inr other) = absurd (elim other.1 [ inl low ↦ omega (arith, ints) | inr high ↦ omega (arith, ints) ])
 
 is_extent-side : (n len : ℕ) → n + len ≤ 2 ^ 25 → is_extent (plane_coordinate n) (pos len) ≡ true
-is_extent-side n len most = by_test (extent_test (plane_coordinate n) (pos len))
+is_extent-side n len maximum = by_test (extent_test (plane_coordinate n) (pos len))
   where
     by_test : (IsTrue (is_extent (plane_coordinate n) (pos len)) × IsExtent (plane_coordinate n) (pos len)) ⊎ ((is_extent (plane_coordinate n) (pos len) ≡ false) × IsNoExtent (plane_coordinate n) (pos len)) → is_extent (plane_coordinate n) (pos len) ≡ true
     by_test (inl passes) = passes.0
@@ -132,9 +132,9 @@ new_rectangle-numbers rect is =
     ) (ap Ok (rectangle-fields rect is))
 
 pub rect_of-numbers : (rect : Rectangle) → IsRectangle rect → IsTrue (in_limits rect) → rect_of (rect_numbers_of rect) ≡ Ok rect
-unfolding kept
+unfolding rect_in_limits
 rect_of-numbers rect is limits =
-    ap kept (new_rectangle-numbers rect is) ∙ ap (λ (test : Bool). passed test causes.Rect rect) limits
+    ap rect_in_limits (new_rectangle-numbers rect is) ∙ ap (λ (test : Bool). passed test causes.Rect rect) limits
 
 pub level_rect_of-numbers : (level : ℕ) (rect : Rectangle) → IsRectangle rect → IsLevelRect level rect → level_rect_of level (rect_numbers_of rect) ≡ Ok rect
 unfolding level_rect_of

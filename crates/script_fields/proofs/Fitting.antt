@@ -16,7 +16,7 @@ use Rattle.pixel_formats.specs.Format.{word}
 use Rattle.pixel_formats.specs.declared.format.Format.{Format}
 use Rattle.pixel_formats.specs.declared.format.Format.TheVariants.{Y8, YA8, RGB8, RGBA8, Y16, YA16, RGB16, RGBA16}
 use Rattle.script_words.specs.Words.{is_word}
-use Rattle.script_words.proofs.Passing.{and_back, and_both, and_prefix}
+use Rattle.script_words.proofs.Passing.{and_second, and_both, and_first}
 use Rattle.script_words.proofs.NumberLaws.{is_word-decimal, is_word-signed_decimal, length-decimal, length-signed_decimal}
 use Rattle.script_words.proofs.WordLaws.{is_word-file_name, is_word-name}
 use Rattle.script_fields.proofs.FieldsBack.{small-coordinate}
@@ -32,47 +32,47 @@ size words = sum_by (λ (word : List ℕ). length word + 1) words
 
 -- words of a text that take at most so many bytes
 abbrev pub Fits : List (List ℕ) → ℕ → Type 0
-Fits words most = (list_all is_word words ≡ true) × (size words ≤ most)
+Fits words limit = (list_all is_word words ≡ true) × (size words ≤ limit)
 
 pub size-cons : (word : List ℕ) (words : List (List ℕ)) → size (word ∷ words) ≡ (length word + 1) + size words
 size-cons word words = sum_by-cons (λ (w : List ℕ). length w + 1) word words
 
-pub fits_weaker : (words : List (List ℕ)) (most more : ℕ) → most ≤ more → Fits words most → Fits words more
-fits_weaker words most more less fits =
-    let short : size words ≤ most = fits.1 in
+pub fits_weaker : (words : List (List ℕ)) (limit more : ℕ) → limit ≤ more → Fits words limit → Fits words more
+fits_weaker words limit more less fits =
+    let short : size words ≤ limit = fits.1 in
     (fits.0, omega arith)
 
-fits_cons : (word : List ℕ) (words : List (List ℕ)) (most others : ℕ) → is_word word ≡ true → length word + 1 ≤ most → Fits words others → Fits (word ∷ words) (most + others)
-fits_cons word words most others is short fits =
+fits_cons : (word : List ℕ) (words : List (List ℕ)) (limit others : ℕ) → is_word word ≡ true → length word + 1 ≤ limit → Fits words others → Fits (word ∷ words) (limit + others)
+fits_cons word words limit others is short fits =
     let rest : size words ≤ others = fits.1 in
     (and_both (is_word word) (list_all is_word words) is fits.0, omega (arith, size-cons word words))
 
 fits_none : Fits [] 0
 fits_none = (refl, omega arith)
 
-fits_one : (word : List ℕ) (most : ℕ) → is_word word ≡ true → length word + 1 ≤ most → Fits (word ∷ []) most
-fits_one word most is short = fits_weaker (word ∷ []) (most + 0) most (omega arith) (fits_cons word [] most 0 is short fits_none)
+fits_one : (word : List ℕ) (limit : ℕ) → is_word word ≡ true → length word + 1 ≤ limit → Fits (word ∷ []) limit
+fits_one word limit is short = fits_weaker (word ∷ []) (limit + 0) limit (omega arith) (fits_cons word [] limit 0 is short fits_none)
 
 pub fits_append : (prefix back : List (List ℕ)) (m n : ℕ) → Fits prefix m → Fits back n → Fits (prefix ++ back) (m + n)
 fits_append [] back m n first second = fits_weaker back n (m + n) (omega arith) second
 fits_append (word ∷ prefix) back m n first second =
     let whole : (length word + 1) + size prefix ≤ m = rw size-cons at first.1 in
-    let rest : Fits (prefix ++ back) (size prefix + n) = fits_append prefix back (size prefix) n (and_back (is_word word) (list_all is_word prefix) first.0, omega arith) second in
+    let rest : Fits (prefix ++ back) (size prefix + n) = fits_append prefix back (size prefix) n (and_second (is_word word) (list_all is_word prefix) first.0, omega arith) second in
     fits_weaker (word ∷ prefix ++ back) ((length word + 1) + (size prefix + n)) (m + n) (omega arith)
-    (fits_cons word (prefix ++ back) (length word + 1) (size prefix + n) (and_prefix (is_word word) (list_all is_word prefix) first.0) (omega arith) rest)
+    (fits_cons word (prefix ++ back) (length word + 1) (size prefix + n) (and_first (is_word word) (list_all is_word prefix) first.0) (omega arith) rest)
 
 -- ---- fields
 
 short-name : (name : List ℕ) → names.is_name name ≡ true → length name ≤ 16
 short-name [] is = absurd (cc)
 short-name (first ∷ rest) is =
-    let short : length rest < 16 = leb-true (suc (length rest)) 16 (and_back (is_ascii_lowercase first) (nat_lt (length rest) 16) (and_prefix (is_ascii_lowercase first && nat_lt (length rest) 16) (list_all names.is_name_byte rest) is)) in
+    let short : length rest < 16 = leb-true (suc (length rest)) 16 (and_second (is_ascii_lowercase first) (nat_lt (length rest) 16) (and_first (is_ascii_lowercase first && nat_lt (length rest) 16) (list_all names.is_name_byte rest) is)) in
     omega arith
 
 short-file : (name : List ℕ) → files.is_file_name name ≡ true → length name ≤ 64
 short-file [] is = absurd (cc)
 short-file (byte ∷ bytes) is =
-    let short : length bytes ≤ 63 = leb-true (length bytes) 63 (and_back (files.may_begin byte) (nat_le (length bytes) 63) (and_prefix (files.may_begin byte && nat_le (length bytes) 63) (list_all files.is_name_byte (byte ∷ bytes)) is)) in
+    let short : length bytes ≤ 63 = leb-true (length bytes) 63 (and_second (files.may_begin byte) (nat_le (length bytes) 63) (and_first (files.may_begin byte && nat_le (length bytes) 63) (list_all files.is_name_byte (byte ∷ bytes)) is)) in
     omega arith
 
 format_fits : (format : Format) → Fits (word format ∷ []) 65
@@ -113,21 +113,21 @@ AreBounded [] = Unit {0}
 AreBounded (field ∷ others) = IsBounded field × AreBounded others
 
 field_fits : (field : Field) → IsValid field → IsBounded field → Fits (field_words field) 65
-field_fits (fields.Name name) kept bounded =
-    let short : length name ≤ 16 = short-name name kept in
-    fits_one name 65 (is_word-name name kept) (omega arith)
-field_fits (fields.File name) kept bounded =
-    let short : length name ≤ 64 = short-file name kept in
-    fits_one name 65 (is_word-file_name name kept) (omega arith)
-field_fits (fields.Format format) kept bounded = format_fits format
-field_fits (fields.Policy policy) kept bounded = policy_fits policy
-field_fits (fields.Natural value) kept bounded = fits_weaker (decimal value ∷ []) 11 65 (omega arith) (natural_fits value bounded)
-field_fits (fields.Integer value) kept bounded = fits_weaker (signed_decimal value ∷ []) 12 65 (omega arith) (integer_fits value bounded)
-field_fits (fields.Sideways true) kept bounded = (refl, omega arith)
-field_fits (fields.Sideways false) kept bounded = (refl, omega arith)
-field_fits (fields.Rect rect) kept bounded =
-    let columns : rect.first_column + rect.width ≤ 2 ^ 25 = kept.columns in
-    let rows : rect.first_row + rect.height ≤ 2 ^ 25 = kept.rows in
+field_fits (fields.Name name) valid bounded =
+    let short : length name ≤ 16 = short-name name valid in
+    fits_one name 65 (is_word-name name valid) (omega arith)
+field_fits (fields.File name) valid bounded =
+    let short : length name ≤ 64 = short-file name valid in
+    fits_one name 65 (is_word-file_name name valid) (omega arith)
+field_fits (fields.Format format) valid bounded = format_fits format
+field_fits (fields.Policy policy) valid bounded = policy_fits policy
+field_fits (fields.Natural value) valid bounded = fits_weaker (decimal value ∷ []) 11 65 (omega arith) (natural_fits value bounded)
+field_fits (fields.Integer value) valid bounded = fits_weaker (signed_decimal value ∷ []) 12 65 (omega arith) (integer_fits value bounded)
+field_fits (fields.Sideways true) valid bounded = (refl, omega arith)
+field_fits (fields.Sideways false) valid bounded = (refl, omega arith)
+field_fits (fields.Rect rect) valid bounded =
+    let columns : rect.first_column + rect.width ≤ 2 ^ 25 = valid.columns in
+    let rows : rect.first_row + rect.height ≤ 2 ^ 25 = valid.rows in
     fits_weaker (field_words (fields.Rect rect)) (12 + (12 + (12 + 12))) 65 (omega arith)
     (fits_append (signed_decimal (plane_coordinate rect.first_column) ∷ []) (signed_decimal (plane_coordinate rect.first_row) ∷ signed_decimal (pos rect.width) ∷ signed_decimal (pos rect.height) ∷ []) 12 (12 + (12 + 12))
     (integer_fits (plane_coordinate rect.first_column) (small-coordinate rect.first_column (omega arith)))
@@ -138,17 +138,17 @@ field_fits (fields.Rect rect) kept bounded =
     (integer_fits (pos rect.height) (omega (arith, ints))))))
 
 pub fields_fit : (all : List Field) → AreValid all → AreBounded all → Fits (words_of_fields all) (65 * length all)
-fields_fit [] kept bounded = (refl, omega arith)
-fields_fit (field ∷ others) kept bounded =
+fields_fit [] valid bounded = (refl, omega arith)
+fields_fit (field ∷ others) valid bounded =
     fits_weaker (words_of_fields (field ∷ others)) (65 + 65 * length others) (65 * length (field ∷ others)) (omega arith)
-    (fits_append (field_words field) (words_of_fields others) 65 (65 * length others) (field_fits field kept.0 bounded.0) (fields_fit others kept.1 bounded.1))
+    (fits_append (field_words field) (words_of_fields others) 65 (65 * length others) (field_fits field valid.0 bounded.0) (fields_fit others valid.1 bounded.1))
 
 -- ---- lists
 
 pub samples_fit : (samples : List ℕ) → All IsSample samples → Fits (map decimal samples) (11 * length samples)
 samples_fit [] are = (refl, omega arith)
 samples_fit (sample ∷ samples) are =
-    let most : sample ≤ 65535 = All-head IsSample sample samples are in
+    let limit : sample ≤ 65535 = All-head IsSample sample samples are in
     fits_weaker (map decimal (sample ∷ samples)) (11 + 11 * length samples) (11 * length (sample ∷ samples)) (omega arith)
     (fits_append (decimal sample ∷ []) (map decimal samples) 11 (11 * length samples) (natural_fits sample (omega arith)) (samples_fit samples (All-tail IsSample sample samples are)))
 

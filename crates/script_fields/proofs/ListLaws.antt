@@ -1,7 +1,7 @@
 -- Reading one word after another.
-use Rattle.std.proofs.Common.{◌≡◌, ℕ, ◌-◌, List, [], ◌∷◌, ◌++◌, Result, Ok, Err, Bor, length, take, drop, refl, sym, ap, ◌∙◌, append_assoc, arith}
+use Rattle.std.proofs.Common.{◌≡◌, ℕ, ◌-◌, List, ◌++◌, Result, Ok, Err, Bor, length, take, drop, sym, ap, ◌∙◌, arith}
 use Rattle.std.proofs.lemmas.List.{drop-map, take_all, length-drop}
-use Rattle.script_fields.specs.Fields.{each, texts, ◌>>=◌}
+use Rattle.script_fields.specs.Fields.{texts}
 use Rattle.script_fields.specs.declared.cause.ScriptCause.{ScriptCause}
 
 -- values before those that are read after them

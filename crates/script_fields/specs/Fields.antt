@@ -1,16 +1,15 @@
--- What the words of a line stand for, or why they are refused. Each word has an index in its line, from 0 on.
-use Rattle.std.specs.Prelude.{ℕ, ℤ, pos, neg_ℤ, nat_le, is_some, ◌+◌, ◌-◌, ◌*◌, ◌^◌, ◌==◌, Bool, true, false, ◌&&◌, if◌then◌else◌, List, [], ◌∷◌, length, map, drop, find, codes, Option, Result, Ok, Err, slice_index_or}
+-- The fields that the words of a line are, or why the line is refused. Each word has an index in its line, from 0 on.
+use Rattle.std.specs.Prelude.{ℕ, ℤ, pos, neg_ℤ, nat_le, is_some, ◌+◌, ◌-◌, ◌^◌, ◌==◌, Bool, true, false, ◌&&◌, if◌then◌else◌, List, [], ◌∷◌, length, map, drop, find, codes, Option, Result, Ok, Err, slice_index_or}
 use Rattle.std.specs.Borrow.{Bor}
 use Rattle.std.specs.Option.{ok_or}
 use Rattle.std.specs.Str.{bytes_eq}
-use Rattle.plane_rect.specs.Rectangle.{Rectangle, new_rectangle, in_limits, scaled, area}
+use Rattle.plane_rect.specs.Rectangle.{Rectangle, new_rectangle, in_limits, scaled}
 use Rattle.plane_rect.specs.Name.{is_name}
 use Rattle.plane_rect.specs.declared.rect.RectRefused.{RectRefused}
 use Rattle.pixel_formats.specs.Format.{word}
 use Rattle.pixel_formats.specs.declared.format.Format.{Format}
 use Rattle.pixel_formats.specs.declared.format.Format.TheVariants.{Y8, YA8, RGB8, RGBA8, Y16, YA16, RGB16, RGBA16}
 use Rattle.pixel_formats.specs.declared.abyss.Abyss.{Abyss}
-use Rattle.pixel_formats.specs.declared.abyss.Abyss.TheVariants as policies
 use Rattle.outside_io.specs.FileName.{is_file_name}
 use Rattle.script_words.specs.Numbers.{natural_in, integer_in}
 use Rattle.pixel_formats.specs.Policies.{policy_named}
@@ -44,7 +43,7 @@ count number words = passed (length words == number) causes.Words tt
 
 -- there are from so many to so many
 abbrev pub count_in : ℕ → ℕ → List (List ℕ) → Result (Unit {0}) ScriptCause
-count_in minimum most words = passed (nat_le minimum (length words) && nat_le (length words) most) causes.Words tt
+count_in minimum maximum words = passed (nat_le minimum (length words) && nat_le (length words) maximum) causes.Words tt
 
 -- ---- numbers
 
@@ -119,12 +118,12 @@ sideways_at words index =
 -- ---- rectangles
 
 -- a rectangle in limits
-unfoldable pub kept : Result Rectangle RectRefused → Result Rectangle ScriptCause
-kept (Ok rect) = passed (in_limits rect) causes.Rect rect
-kept (Err refused) = Err causes.Rect
+unfoldable pub rect_in_limits : Result Rectangle RectRefused → Result Rectangle ScriptCause
+rect_in_limits (Ok rect) = passed (in_limits rect) causes.Rect rect
+rect_in_limits (Err refused) = Err causes.Rect
 
 abbrev pub rect_of : RectNumbers → Result Rectangle ScriptCause
-rect_of numbers = kept (new_rectangle numbers.x numbers.y numbers.w numbers.h)
+rect_of numbers = rect_in_limits (new_rectangle numbers.x numbers.y numbers.w numbers.h)
 
 -- a rectangle of a level whose positions are in limits at level 0 too
 unfoldable pub level_rect_of : ℕ → RectNumbers → Result Rectangle ScriptCause
@@ -136,7 +135,7 @@ watched_rect_of viewers frames numbers =
 
 -- ---- lists
 
--- what each of some words stands for
+-- what is read of each of some words
 abbrev pub each : {A : Type 0} → (List ℕ → Result A ScriptCause) → List (List ℕ) → Result (List A) ScriptCause
 each read [] = Ok []
 each read (word ∷ words) = do
@@ -152,7 +151,7 @@ names_of words = each name_of words
 abbrev pub names_from : ℕ → List (List ℕ) → Result (List (List ℕ)) ScriptCause
 names_from index words = names_of (drop index words)
 
--- the samples that words spell
+-- the samples that words write
 unfoldable pub samples_of : List (List ℕ) → Result (List ℕ) ScriptCause
 samples_of words = each sample_of words
 

@@ -1,4 +1,4 @@
--- How fields are spelled, and what their types keep.
+-- How fields are printed, and the invariants of their types.
 use Rattle.std.specs.Prelude.{ℕ, pos, IsTrue, true, false, List, [], ◌∷◌, ◌++◌, codes, decimal}
 use Rattle.std.specs.Fmt.{signed_decimal}
 use Rattle.plane_rect.specs.Rectangle.{IsRectangle, plane_coordinate}

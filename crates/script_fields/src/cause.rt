@@ -22,7 +22,7 @@ pub enum ScriptCause {
     UnknownCommand,
     /// The command or the operation has another number of words.
     Words,
-    /// A number is spelled otherwise, or out of its range.
+    /// A number is written otherwise, or is out of its range.
     Number,
     /// A name, a name of a file, a format, a policy or a direction is none.
     Name,
@@ -36,7 +36,7 @@ impl ScriptCause {
     ghost use Rattle.std.specs.Prelude.{◌≡◌};
     ghost use Rattle.script_fields.specs.Causes.{cause_word};
 
-    /// Its name, as it is printed.
+    /// Returns the name of the cause, as it is printed.
     pub fn word(self) -> &'static str
         ensures { result.now ≡ cause_word self }
     {
@@ -70,10 +70,11 @@ impl std::error::Error for ScriptCause {}
 /// Why a text isn't read as a script.
 #[derive(Clone, Copy, Debug, PartialEq, Eq, Error)]
 pub enum ScriptAnswer {
-    /// The line of this number, counted from 1, is the first that has a cause, and this is the lowest of its causes.
+    /// The line of this number, counted from 1, is the first that has a cause, and this is the
+    /// lowest of its causes.
     #[error("line {line}: {cause}")]
     Refused { line: u32, cause: ScriptCause },
-    /// No memory was left.
+    /// Memory ran out.
     #[error("no memory was left")]
     NoMemory,
 }
@@ -88,7 +89,7 @@ pub enum LineAnswer {
 impl LineAnswer {
     ghost use Rattle.script_fields.specs.Answers.{at_line};
 
-    /// The same, reported of a line.
+    /// Returns this answer with the number of its line, counted from 1.
     pub fn at(self, line: u32) -> ScriptAnswer
         ensures { result ≡ at_line line self }
     {

@@ -1,4 +1,4 @@
-//! The fields of commands as they are printed. Where no memory is left, some of the words may stand after the text.
+//! The fields of commands, printed. If memory runs out, some of the words may have been appended.
 
 ghost use Rattle.std.specs.Prelude.{◌≡◌, ◌∷◌, ◌++◌, decimal, map, IsTrue, OnOk};
 ghost use Rattle.std.specs.Fmt.{signed_decimal};
@@ -12,7 +12,7 @@ use plane_rect::{Name, Rect};
 use script_words::{FileName, push_integer, push_natural, push_word};
 
 /// A field of a command: one word, or a rectangle's four.
-#[derive(Clone, Copy, Debug)]
+#[derive(Clone, Copy, Debug, PartialEq)]
 pub enum Field {
     Name(Name),
     File(FileName),
@@ -29,10 +29,10 @@ impl Field {
     ghost use Rattle.script_words.specs.Words.{spaced};
     ghost use Rattle.script_fields.specs.Spelling.{IsValid, field_words};
 
-    /// Puts its words after a text, each after a space.
+    /// Appends its words to a text, each after a space.
     fn put(&self, text: &mut Vec<u8>) -> Result<(), NoMemory>
         ensures text { OnOk result (text.new.items ≡ text.old.items ++ spaced (field_words self.now)) }
-        ensures kept { OnOk result (IsValid self.now) }
+        ensures valid { OnOk result (IsValid self.now) }
     {
         match self {
             Field::Name(name) => push_word(text, name.as_bytes()),
@@ -48,10 +48,10 @@ impl Field {
     }
 }
 
-/// Puts the four numbers of a rectangle after a text, each after a space.
+/// Appends the four numbers of a rectangle to a text, each after a space.
 fn put_rect(text: &mut Vec<u8>, rect: &Rect) -> Result<(), NoMemory>
     ensures text { OnOk result (text.new.items ≡ text.old.items ++ spaced (field_words (Field.Rect rect.now))) }
-    ensures kept { OnOk result (IsRectangle rect.now) }
+    ensures valid { OnOk result (IsRectangle rect.now) }
 {
     push_integer(text, i64::from(rect.x))?;
     push_integer(text, i64::from(rect.y))?;
@@ -60,10 +60,14 @@ fn put_rect(text: &mut Vec<u8>, rect: &Rect) -> Result<(), NoMemory>
     Ok(())
 }
 
-/// Puts the words of fields after a text, each after a space.
+/// Appends the words of fields to a text, each after a space.
+///
+/// # Errors
+///
+/// `NoMemory` if memory runs out. The text then has some of the words at its end.
 pub fn put_fields(text: &mut Vec<u8>, fields: &[Field]) -> Result<(), NoMemory>
     ensures text { OnOk result (text.new.items ≡ text.old.items ++ spaced (words_of_fields fields.now)) }
-    ensures kept { OnOk result (AreValid fields.now) }
+    ensures valid { OnOk result (AreValid fields.now) }
 {
     for field in fields {
         field.put(text)?;
@@ -71,10 +75,14 @@ pub fn put_fields(text: &mut Vec<u8>, fields: &[Field]) -> Result<(), NoMemory>
     Ok(())
 }
 
-/// Puts names after a text, each after a space.
+/// Appends names to a text, each after a space.
+///
+/// # Errors
+///
+/// As [`put_fields`].
 pub fn put_names(text: &mut Vec<u8>, names: &[Name]) -> Result<(), NoMemory>
     ensures text { OnOk result (text.new.items ≡ text.old.items ++ spaced names.now) }
-    ensures kept { OnOk result (AreNames names.now) }
+    ensures valid { OnOk result (AreNames names.now) }
 {
     for name in names {
         push_word(text, name.as_bytes())?;
@@ -82,7 +90,11 @@ pub fn put_names(text: &mut Vec<u8>, names: &[Name]) -> Result<(), NoMemory>
     Ok(())
 }
 
-/// Puts samples after a text, each after a space.
+/// Appends samples to a text, each after a space.
+///
+/// # Errors
+///
+/// As [`put_fields`].
 pub fn put_samples(text: &mut Vec<u8>, samples: &[u32]) -> Result<(), NoMemory>
     ensures { OnOk result (text.new.items ≡ text.old.items ++ spaced (map decimal samples.now)) }
 {

@@ -1,13 +1,13 @@
-//! What the words of a line stand for.
+//! The fields that the words of a line are.
 //!
-//! Each word is named by its index in the line, from 0 on. One that stands for nothing of what is asked is answered by
-//! the cause that is reported of its line.
+//! Each word is named by its index in the line, from 0 on. For a word that isn't what is asked for,
+//! the error is the cause that is reported of its line.
 
 ghost use Rattle.std.specs.Prelude.{◌≡◌, ◌<◌, ◌≤◌, ◌≤ℤ◌, ◌+◌, ◌-◌, ◌^◌, length, pos, neg_ℤ, IfOk, OnOk, IsTrue};
 ghost use Rattle.outside_io.specs.FileName.{is_file_name};
 ghost use Rattle.plane_rect.specs.Name.{is_name};
 ghost use Rattle.plane_rect.specs.Rectangle.{in_limits};
-ghost use Rattle.script_fields.specs.Fields.{coordinate_at, count, count_in, file_at, format_at, format_named, rect_numbers_at, integer_at, kept, move_at, name_at, name_of, natural_at, near_policy_at, policy_at, prefix_at, sample_at, sample_of, sideways_at, texts, word_at};
+ghost use Rattle.script_fields.specs.Fields.{coordinate_at, count, count_in, file_at, format_at, format_named, rect_numbers_at, integer_at, rect_in_limits, move_at, name_at, name_of, natural_at, near_policy_at, policy_at, prefix_at, sample_at, sample_of, sideways_at, texts, word_at};
 ghost use Rattle.pixel_formats.specs.Limits.{max_move, max_sample, suits_areas, max_prefix_bytes};
 
 use crate::cause::ScriptCause;
@@ -17,8 +17,9 @@ use pixel_formats::{Abyss, Format};
 use plane_rect::{Name, Rect, RectRefused};
 use script_words::{FileName, integer_in, natural_in};
 
-/// Four numbers that may be a rectangle's: its left column, its top row, its width and its height, in places.
-#[derive(Clone, Copy, Debug)]
+/// Four numbers that may be a rectangle's: its left column, its top row, its width and its height,
+/// in pixels.
+#[derive(Clone, Copy, Debug, PartialEq, Eq)]
 pub struct RectNumbers {
     pub x: i64,
     pub y: i64,
@@ -26,7 +27,11 @@ pub struct RectNumbers {
     pub h: i64,
 }
 
-/// Tests that there are so many words, or answers `Words`.
+/// Checks that there are so many words.
+///
+/// # Errors
+///
+/// `Words` exactly where there are not.
 pub fn count(number: usize, words: &[&[u8]]) -> Result<(), ScriptCause>
     ensures value { result ≡ count number (texts words.now) }
     ensures number { OnOk result (length words.now ≡ number) }
@@ -38,20 +43,24 @@ pub fn count(number: usize, words: &[&[u8]]) -> Result<(), ScriptCause>
     }
 }
 
-/// Tests that there are from `minimum` to `most` words, or answers `Words`.
-pub fn count_in(minimum: usize, most: usize, words: &[&[u8]]) -> Result<(), ScriptCause>
-    ensures value { result ≡ count_in minimum most (texts words.now) }
+/// Checks that there are from `minimum` to `maximum` words.
+///
+/// # Errors
+///
+/// `Words` exactly where there are not.
+pub fn count_in(minimum: usize, maximum: usize, words: &[&[u8]]) -> Result<(), ScriptCause>
+    ensures value { result ≡ count_in minimum maximum (texts words.now) }
     ensures minimum { OnOk result (minimum ≤ length words.now) }
-    ensures most { OnOk result (length words.now ≤ most) }
+    ensures maximum { OnOk result (length words.now ≤ maximum) }
 {
-    if minimum <= words.len() && words.len() <= most {
+    if minimum <= words.len() && words.len() <= maximum {
         Ok(())
     } else {
         Err(ScriptCause::Words)
     }
 }
 
-/// A word, by its index.
+/// Returns the word at an index.
 pub fn word_at<'t>(words: &[&'t [u8]], index: usize) -> &'t [u8]
     requires { index < length words.now }
     ensures { result.now ≡ word_at (texts words.now) index }
@@ -59,7 +68,11 @@ pub fn word_at<'t>(words: &[&'t [u8]], index: usize) -> &'t [u8]
     words[index]
 }
 
-/// A number from `low` to `high`, or `Number`.
+/// Returns the number from `low` to `high` at an index.
+///
+/// # Errors
+///
+/// `Number` exactly where the word is none.
 #[tactic(auto, unfolding(crate::specs::Fields::natural_at))]
 pub fn natural_at(low: u32, high: u32, words: &[&[u8]], index: usize) -> Result<u32, ScriptCause>
     requires { index < length words.now }
@@ -69,7 +82,11 @@ pub fn natural_at(low: u32, high: u32, words: &[&[u8]], index: usize) -> Result<
     natural_in(low, high, word_at(words, index)).ok_or(ScriptCause::Number)
 }
 
-/// An integer from `low` to `high`, or `Number`.
+/// Returns the integer from `low` to `high` at an index.
+///
+/// # Errors
+///
+/// `Number` exactly where the word is none.
 #[tactic(auto, unfolding(crate::specs::Fields::integer_at))]
 fn integer_at(low: i64, high: i64, words: &[&[u8]], index: usize) -> Result<i64, ScriptCause>
     requires { index < length words.now }
@@ -79,7 +96,11 @@ fn integer_at(low: i64, high: i64, words: &[&[u8]], index: usize) -> Result<i64,
     integer_in(low, high, word_at(words, index)).ok_or(ScriptCause::Number)
 }
 
-/// The sample of any format that a word spells, or `Number`.
+/// Returns the sample of any format that a word writes.
+///
+/// # Errors
+///
+/// `Number` exactly where it writes none.
 #[tactic(auto, unfolding(crate::specs::Fields::sample_of))]
 pub(crate) fn sample_of(word: &[u8]) -> Result<u32, ScriptCause>
     ensures value { result ≡ sample_of word.now }
@@ -88,7 +109,11 @@ pub(crate) fn sample_of(word: &[u8]) -> Result<u32, ScriptCause>
     natural_in(0, MAX_SAMPLE, word).ok_or(ScriptCause::Number)
 }
 
-/// A sample of any format, or `Number`.
+/// Returns the sample of any format at an index.
+///
+/// # Errors
+///
+/// `Number` exactly where the word is none.
 pub fn sample_at(words: &[&[u8]], index: usize) -> Result<u32, ScriptCause>
     requires { index < length words.now }
     ensures value { result ≡ sample_at (texts words.now) index }
@@ -97,7 +122,11 @@ pub fn sample_at(words: &[&[u8]], index: usize) -> Result<u32, ScriptCause>
     sample_of(word_at(words, index))
 }
 
-/// How far something is moved along an axis, in places, or `Number`.
+/// Returns the distance at an index by which something is moved along an axis, in pixels.
+///
+/// # Errors
+///
+/// `Number` exactly where the word is none.
 pub fn move_at(words: &[&[u8]], index: usize) -> Result<i64, ScriptCause>
     requires { index < length words.now }
     ensures value { result ≡ move_at (texts words.now) index }
@@ -107,7 +136,11 @@ pub fn move_at(words: &[&[u8]], index: usize) -> Result<i64, ScriptCause>
     integer_at(-MAX_MOVE, MAX_MOVE, words, index)
 }
 
-/// A column, a row, a width or a height as it may be written.
+/// Returns the column, row, width or height at an index, of those that may be written, in pixels.
+///
+/// # Errors
+///
+/// `Number` exactly where the word is none.
 fn coordinate_at(words: &[&[u8]], index: usize) -> Result<i64, ScriptCause>
     requires { index < length words.now }
     ensures { result ≡ coordinate_at (texts words.now) index }
@@ -115,7 +148,11 @@ fn coordinate_at(words: &[&[u8]], index: usize) -> Result<i64, ScriptCause>
     integer_at(-(1 << 31), (1 << 31) - 1, words, index)
 }
 
-/// The four numbers of a rectangle, from a word on, or `Number`.
+/// Returns the four numbers of a rectangle, from an index on.
+///
+/// # Errors
+///
+/// `Number` exactly where one of the words is none.
 #[tactic(auto, unfolding(crate::specs::Fields::rect_numbers_at))]
 pub fn rect_numbers_at(words: &[&[u8]], index: usize) -> Result<RectNumbers, ScriptCause>
     requires { index + 3 < length words.now }
@@ -129,7 +166,11 @@ pub fn rect_numbers_at(words: &[&[u8]], index: usize) -> Result<RectNumbers, Scr
     })
 }
 
-/// The name that a word is, or `Name`.
+/// Returns the name that a word is.
+///
+/// # Errors
+///
+/// `Name` exactly where it is none.
 #[tactic(auto, unfolding(crate::specs::Fields::name_of))]
 pub(crate) fn name_of(word: &[u8]) -> Result<Name, ScriptCause>
     ensures value { result ≡ name_of word.now }
@@ -138,7 +179,11 @@ pub(crate) fn name_of(word: &[u8]) -> Result<Name, ScriptCause>
     Name::parse(word).ok_or(ScriptCause::Name)
 }
 
-/// A name, or `Name`.
+/// Returns the name at an index.
+///
+/// # Errors
+///
+/// `Name` exactly where the word is none.
 pub fn name_at(words: &[&[u8]], index: usize) -> Result<Name, ScriptCause>
     requires { index < length words.now }
     ensures { result ≡ name_at (texts words.now) index }
@@ -146,7 +191,11 @@ pub fn name_at(words: &[&[u8]], index: usize) -> Result<Name, ScriptCause>
     name_of(word_at(words, index))
 }
 
-/// A name of a file, or `Name`.
+/// Returns the name of a file at an index.
+///
+/// # Errors
+///
+/// `Name` exactly where the word is none.
 #[tactic(auto, unfolding(crate::specs::Fields::file_at))]
 pub fn file_at(words: &[&[u8]], index: usize) -> Result<FileName, ScriptCause>
     requires { index < length words.now }
@@ -155,7 +204,11 @@ pub fn file_at(words: &[&[u8]], index: usize) -> Result<FileName, ScriptCause>
     FileName::parse(word_at(words, index)).ok_or(ScriptCause::Name)
 }
 
-/// What the names of a watch's files begin with, or `Name`.
+/// Returns the prefix at an index of the names of a watch's files.
+///
+/// # Errors
+///
+/// `Name` exactly where the word is none.
 #[tactic(auto, unfolding(crate::specs::Fields::prefix_at))]
 pub fn prefix_at(words: &[&[u8]], index: usize) -> Result<FileName, ScriptCause>
     requires { index < length words.now }
@@ -169,7 +222,11 @@ pub fn prefix_at(words: &[&[u8]], index: usize) -> Result<FileName, ScriptCause>
     FileName::parse(word).ok_or(ScriptCause::Name)
 }
 
-/// A format, or `Name`.
+/// Returns the format at an index.
+///
+/// # Errors
+///
+/// `Name` exactly where the word is none.
 #[tactic(auto, unfolding(crate::specs::Fields::format_at))]
 pub fn format_at(words: &[&[u8]], index: usize) -> Result<Format, ScriptCause>
     requires { index < length words.now }
@@ -178,14 +235,18 @@ pub fn format_at(words: &[&[u8]], index: usize) -> Result<Format, ScriptCause>
     format_named(word_at(words, index)).ok_or(ScriptCause::Name)
 }
 
-/// The format that a word names.
+/// Returns the format that a word names.
 fn format_named(word: &[u8]) -> Option<Format>
     ensures { result ≡ format_named word.now }
 {
     Format::parse(word)
 }
 
-/// A policy for positions outside, or `Name`.
+/// Returns the policy at an index for positions outside.
+///
+/// # Errors
+///
+/// `Name` exactly where the word is none.
 #[tactic(auto, unfolding(crate::specs::Fields::policy_at))]
 pub fn policy_at(words: &[&[u8]], index: usize) -> Result<Abyss, ScriptCause>
     requires { index < length words.now }
@@ -194,7 +255,11 @@ pub fn policy_at(words: &[&[u8]], index: usize) -> Result<Abyss, ScriptCause>
     Abyss::parse(word_at(words, index)).ok_or(ScriptCause::Name)
 }
 
-/// A policy that an operation may have, or `Name`.
+/// Returns the policy at an index, of those that an area operation may have.
+///
+/// # Errors
+///
+/// `Name` exactly where the word is none of these.
 #[tactic(auto, unfolding(crate::specs::Fields::near_policy_at))]
 pub fn near_policy_at(words: &[&[u8]], index: usize) -> Result<Abyss, ScriptCause>
     requires { index < length words.now }
@@ -207,7 +272,12 @@ pub fn near_policy_at(words: &[&[u8]], index: usize) -> Result<Abyss, ScriptCaus
     }
 }
 
-/// Whether a flip is of left and right, `h`, and not of top and bottom, `v`, or `Name`.
+/// Returns whether the flip at an index is sideways: true for `h`, which swaps left and right, and
+/// false for `v`, which swaps top and bottom.
+///
+/// # Errors
+///
+/// `Name` exactly where the word is neither.
 #[tactic(auto, unfolding(crate::specs::Fields::sideways_at))]
 pub fn sideways_at(words: &[&[u8]], index: usize) -> Result<bool, ScriptCause>
     requires { index < length words.now }
@@ -229,15 +299,23 @@ impl RectNumbers {
     ghost use Rattle.script_fields.specs.Fields.{level_rect_of, rect_of, watched_rect_of};
     ghost use Rattle.script_fields.specs.Limits.{may_watch};
 
-    /// Their rectangle, in limits, or `Rect`.
+    /// Returns their rectangle.
+    ///
+    /// # Errors
+    ///
+    /// `Rect` exactly where they are none in limits.
     pub fn rect(self) -> Result<Rect, ScriptCause>
         ensures value { result ≡ rect_of self }
         ensures limits { IfOk result (λ rect. IsTrue (in_limits rect)) }
     {
-        kept(Rect::new(self.x, self.y, self.w, self.h))
+        rect_in_limits(Rect::new(self.x, self.y, self.w, self.h))
     }
 
-    /// Their rectangle of a level, whose positions are in limits at level 0 too, or `Rect`.
+    /// Returns their rectangle of a level.
+    ///
+    /// # Errors
+    ///
+    /// `Rect` exactly where they are none, or none whose positions are in limits at level 0.
     #[tactic(auto, unfolding(crate::specs::Fields::level_rect_of))]
     pub fn level_rect(self, level: u32) -> Result<Rect, ScriptCause>
         requires { level ≤ 8 }
@@ -253,7 +331,11 @@ impl RectNumbers {
         }
     }
 
-    /// Their rectangle, which so many viewers may render so many times and once more, or `Rect`.
+    /// Returns their rectangle, of which so many viewers may render so many frames and one more.
+    ///
+    /// # Errors
+    ///
+    /// `Rect` exactly where they are none in limits, or one with too many pixels for that.
     #[tactic(auto, unfolding(crate::specs::Fields::watched_rect_of))]
     pub fn watched_rect(self, viewers: u32, frames: u32) -> Result<Rect, ScriptCause>
         requires viewers { viewers ≤ 16 }
@@ -271,10 +353,14 @@ impl RectNumbers {
     }
 }
 
-/// The rectangle, where it is one in limits.
-#[tactic(auto, unfolding(crate::specs::Fields::kept))]
-fn kept(rect: Result<Rect, RectRefused>) -> Result<Rect, ScriptCause>
-    ensures value { result ≡ kept rect }
+/// Returns the rectangle, where it is one in limits.
+///
+/// # Errors
+///
+/// `Rect` exactly where it isn't.
+#[tactic(auto, unfolding(crate::specs::Fields::rect_in_limits))]
+fn rect_in_limits(rect: Result<Rect, RectRefused>) -> Result<Rect, ScriptCause>
+    ensures value { result ≡ rect_in_limits rect }
     ensures limits { IfOk result (λ rect. IsTrue (in_limits rect)) }
 {
     match rect {

@@ -14,7 +14,9 @@ use std::alloc::Global;
 use std::marker::Model;
 
 /// Names, in their order.
-#[derive(Drop)]
+///
+/// A clause sees it as the list of the names.
+#[derive(Debug, Drop)]
 pub struct Names {
     values: Vec<Name>,
 }
@@ -28,21 +30,21 @@ impl Model for Names {
 }
 
 impl Names {
-    /// These names, in their order.
+    /// Returns these names, in their order.
     pub fn new(values: Vec<Name>) -> Names
         ensures { result ≡ values.items }
     {
         Names { values }
     }
 
-    /// The names as a slice.
+    /// Returns the names as a slice.
     pub fn as_slice(&self) -> &[Name]
         ensures { result.now ≡ self.now }
     {
         &self.values
     }
 
-    /// The names given back.
+    /// Returns the names, without a copy.
     pub fn into_vec(self) -> Vec<Name>
         ensures { result.items ≡ self }
     {
@@ -50,7 +52,11 @@ impl Names {
     }
 }
 
-/// The names that words are.
+/// Returns the names that words are.
+///
+/// # Errors
+///
+/// `Name` where a word is none, and `NoMemory` if memory runs out.
 #[tactic(auto, unfolding(crate::specs::Fields::names_of))]
 fn names_of(alloc: Global, words: &[&[u8]]) -> Result<Names, LineAnswer>
     ensures value { Answers result (names_of (texts words.now)) }
@@ -63,7 +69,11 @@ fn names_of(alloc: Global, words: &[&[u8]]) -> Result<Names, LineAnswer>
     Ok(Names::new(names))
 }
 
-/// The names from a word on, or `Name`.
+/// Returns the names from an index on.
+///
+/// # Errors
+///
+/// `Name` where a word is none, and `NoMemory` if memory runs out.
 pub fn names_from(alloc: Global, index: usize, words: &[&[u8]]) -> Result<Names, LineAnswer>
     requires { index ≤ length words.now }
     ensures value { Answers result (names_from index (texts words.now)) }
@@ -72,7 +82,11 @@ pub fn names_from(alloc: Global, index: usize, words: &[&[u8]]) -> Result<Names,
     names_of(alloc, &words[index..])
 }
 
-/// The samples that words spell.
+/// Returns the samples that words write.
+///
+/// # Errors
+///
+/// `Number` where a word writes none, and `NoMemory` if memory runs out.
 #[tactic(auto, unfolding(crate::specs::Fields::samples_of))]
 fn samples_of(alloc: Global, words: &[&[u8]]) -> Result<PixelSamples, LineAnswer>
     ensures value { Answers result (samples_of (texts words.now)) }
@@ -86,7 +100,11 @@ fn samples_of(alloc: Global, words: &[&[u8]]) -> Result<PixelSamples, LineAnswer
     Ok(PixelSamples::new(samples))
 }
 
-/// The samples from a word on, or `Number`.
+/// Returns the samples from an index on.
+///
+/// # Errors
+///
+/// `Number` where a word is none, and `NoMemory` if memory runs out.
 pub fn samples_from(
     alloc: Global,
     index: usize,

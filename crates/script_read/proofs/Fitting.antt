@@ -9,7 +9,7 @@ use Rattle.script_fields.specs.Spelling.{AreValid, words_of_fields}
 use Rattle.script_read.specs.Keywords.{keyword_word}
 use Rattle.script_read.specs.Limits.{InRange, IsInLimits, input_count}
 use Rattle.script_read.specs.OperationWords.{operation_word}
-use Rattle.script_read.specs.Spelling.{HasValidFields, arguments, fields_of, keyword, list_words, operation_spelled, samples_in, spelled, word_of}
+use Rattle.script_read.specs.Spelling.{HasValidFields, arguments, fields_of, keyword, list_words, operation_words, samples_in, command_words, word_of}
 use Rattle.script_read.specs.declared.command.Command.{Command}
 use Rattle.script_read.specs.declared.command.Command.TheVariants.{Buffer, Sub, Dup, Load, Fill, Copy, Node, Drop, Commit, Undo, Redo, Render, Grab, Watch, EndWatch}
 use Rattle.script_read.specs.declared.command.OpWords.{OpWords}
@@ -70,11 +70,11 @@ few_inputs Over = omega arith
 few_inputs Mask = omega arith
 few_inputs op = omega arith
 
-operation_fits : (op : OpWords) → InRange op → AreValid (arguments op) → Fits (operation_spelled op) 379
-operation_fits op range kept =
+operation_fits : (op : OpWords) → InRange op → AreValid (arguments op) → Fits (operation_words op) 379
+operation_fits op range valid =
     let bounded = arguments_bounded op range in
     let few : length (arguments op) ≤ 5 = bounded.1 in
-    let argued : Fits (words_of_fields (arguments op)) 325 = fits_weaker (words_of_fields (arguments op)) (65 * length (arguments op)) 325 (omega arith) (fields_fit (arguments op) kept bounded.0) in
+    let argued : Fits (words_of_fields (arguments op)) 325 = fits_weaker (words_of_fields (arguments op)) (65 * length (arguments op)) 325 (omega arith) (fields_fit (arguments op) valid bounded.0) in
     fits_append (operation_word (word_of op) ∷ []) (words_of_fields (arguments op) ++ map decimal (samples_in op)) 10 369 (operation_word_fits (word_of op))
     (fits_append (words_of_fields (arguments op)) (map decimal (samples_in op)) 325 44 argued (samples_in_fit op range))
 
@@ -115,9 +115,9 @@ fields_bounded (Grab name level policy rect file) limits = ((tt, (omega (arith, 
 fields_bounded (Watch name rect viewers frames prefix) limits = ((tt, (tt, (omega (arith, limits.1.1), (omega (arith, limits.2.1), (tt, tt))))), omega arith)
 fields_bounded EndWatch limits = (tt, omega arith)
 
-fields_kept : (command : Command) → HasValidFields command → AreValid (fields_of command)
-fields_kept (Node name op inputs) types = (types.0, tt)
-fields_kept command types = types
+fields_valid : (command : Command) → HasValidFields command → AreValid (fields_of command)
+fields_valid (Node name op inputs) types = (types.0, tt)
+fields_valid command types = types
 
 list_words_fit : (command : Command) → IsInLimits command → HasValidFields command → Fits (list_words command) 413
 list_words_fit (Fill name rect samples) limits types =
@@ -126,26 +126,26 @@ list_words_fit (Fill name rect samples) limits types =
 list_words_fit (Node name op inputs) limits types =
     let count : length inputs ≡ input_count op = limits.1 in
     let few : input_count op ≤ 2 = few_inputs op in
-    fits_append (operation_spelled op) inputs 379 34 (operation_fits op limits.0 types.1) (fits_weaker inputs (17 * length inputs) 34 (omega arith) (names_fit inputs types.2))
+    fits_append (operation_words op) inputs 379 34 (operation_fits op limits.0 types.1) (fits_weaker inputs (17 * length inputs) 34 (omega arith) (names_fit inputs types.2))
 list_words_fit command limits types = (refl, omega arith)
 
-spelled_fits : (command : Command) → IsInLimits command → HasValidFields command → Fits (spelled command) 748
-spelled_fits command limits types =
+command_words_fit : (command : Command) → IsInLimits command → HasValidFields command → Fits (command_words command) 748
+command_words_fit command limits types =
     let bounded = fields_bounded command limits in
     let few : length (fields_of command) ≤ 5 = bounded.1 in
-    let whole : Fits (words_of_fields (fields_of command)) 325 = fits_weaker (words_of_fields (fields_of command)) (65 * length (fields_of command)) 325 (omega arith) (fields_fit (fields_of command) (fields_kept command types) bounded.0) in
+    let whole : Fits (words_of_fields (fields_of command)) 325 = fits_weaker (words_of_fields (fields_of command)) (65 * length (fields_of command)) 325 (omega arith) (fields_fit (fields_of command) (fields_valid command types) bounded.0) in
     fits_append (keyword_word (keyword command) ∷ []) (words_of_fields (fields_of command) ++ list_words command) 10 738 (keyword_fits (keyword command))
     (fits_append (words_of_fields (fields_of command)) (list_words command) 325 413 whole (list_words_fit command limits types))
 
 -- the words of a command are words of a text
-pub are_words-spelled : (command : Command) → IsInLimits command → HasValidFields command → list_all is_word (spelled command) ≡ true
-are_words-spelled command limits types = (spelled_fits command limits types).0
+pub are_words-of_command : (command : Command) → IsInLimits command → HasValidFields command → list_all is_word (command_words command) ≡ true
+are_words-of_command command limits types = (command_words_fit command limits types).0
 
 -- its line isn't too long
-pub short-spelled : (command : Command) → IsInLimits command → HasValidFields command → length (joined (spelled command)) ≤ 1024
-short-spelled command limits types =
+pub short-command : (command : Command) → IsInLimits command → HasValidFields command → length (joined (command_words command)) ≤ 1024
+short-command command limits types =
     let first = keyword_word (keyword command) in
     let others = words_of_fields (fields_of command) ++ list_words command in
-    let short : (length first + 1) + size others ≤ 748 = rw size-cons at (spelled_fits command limits types).1 in
+    let short : (length first + 1) + size others ≤ 748 = rw size-cons at (command_words_fit command limits types).1 in
     let whole : length (joined (first ∷ others)) ≡ length first + size others = length-joined first others in
     omega arith

@@ -1,4 +1,4 @@
--- What a node is spelled as is read as the node.
+-- A printed node is read as the node.
 use Rattle.std.proofs.Common.{◌≡◌, ℕ, ◌≤◌, Some, drop, List, [], ◌∷◌, ◌++◌, true, false, Ok, IsTrue, decimal, length, map, refl, ap, ◌∙◌, arith}
 use Rattle.std.proofs.Math.Seq.{drop-length}
 use Rattle.std.proofs.lemmas.Bool.{le-leb}
@@ -12,7 +12,7 @@ use Rattle.script_read.specs.Limits.{InRange, input_count}
 use Rattle.script_read.specs.Nodes.{ends_from, node, node_by}
 use Rattle.script_read.specs.OperationWords.{operation_of, operation_word}
 use Rattle.script_fields.specs.Spelling.{AreValid, AreNames}
-use Rattle.script_read.specs.Spelling.{arguments, operation_spelled, word_of}
+use Rattle.script_read.specs.Spelling.{arguments, operation_words, word_of}
 use Rattle.script_read.specs.declared.command.Command.TheVariants.{Node}
 use Rattle.script_read.specs.declared.command.OpWords.{OpWords}
 use Rattle.script_read.specs.declared.command.OpWords.TheVariants.{Source, Color, Checker, Convert, Invert, Threshold, Gain, Translate, Crop, Flip, BoxMean, Dilate, Erode, Add, Over, Mask}
@@ -49,7 +49,7 @@ ends_from-ends index words name inputs is rest named are =
 
 -- the words of a node
 abbrev pub node_words : List ℕ → OpWords → List (List ℕ) → List (List ℕ)
-node_words name op inputs = keyword_word keywords.Node ∷ name ∷ operation_spelled op ++ inputs
+node_words name op inputs = keyword_word keywords.Node ∷ name ∷ operation_words op ++ inputs
 
 -- ---- inputs by their number
 

@@ -6,7 +6,7 @@ use Rattle.script_fields.proofs.PrintLaws.{spaced_put}
 use Rattle.script_read.specs.IsScript.{MayFollow, MayContinue}
 use Rattle.script_read.specs.Script.{open_after}
 use Rattle.pixel_formats.specs.Limits.{max_lines}
-use Rattle.script_read.specs.Spelling.{HasValidFields, lines_printed, printed, spelled}
+use Rattle.script_read.specs.Spelling.{HasValidFields, lines_printed, printed, command_words}
 use Rattle.script_fields.specs.declared.cause.ScriptCause.{ScriptCause}
 use Rattle.script_read.specs.declared.command.Line.{Line}
 
@@ -41,11 +41,11 @@ text_of-feeds (suc count) lines = ap (λ (rest : List ℕ). 10 ∷ rest) (text_o
 -- a line before those after it
 pub prints_on : (prefix : List ℕ) (next : ℕ) (line : Line) (lines : List Line) →
     prefix ++ text_of (lines_printed next (line ∷ lines))
-    ≡ (((prefix ++ replicate (line.number - next) 10) ++ joined (spelled line.command)) ++ 10 ∷ []) ++ text_of (lines_printed (line.number + 1) lines)
+    ≡ (((prefix ++ replicate (line.number - next) 10) ++ joined (command_words line.command)) ++ 10 ∷ []) ++ text_of (lines_printed (line.number + 1) lines)
 unfolding lines_printed
 prints_on prefix next line lines =
     let feeds = replicate (line.number - next) 10 in
-    let words = joined (spelled line.command) in
+    let words = joined (command_words line.command) in
     let remaining = text_of (lines_printed (line.number + 1) lines) in
     ap (λ (text : List ℕ). prefix ++ text) (text_of-feeds (line.number - next) (words ∷ lines_printed (line.number + 1) lines))
     ∙ sym (append_assoc prefix feeds (words ++ 10 ∷ remaining))

@@ -7,8 +7,8 @@ use Rattle.script_words.specs.Words.{joined}
 use Rattle.script_words.proofs.LineLaws.{is_line-text, lines_of-text_of}
 use Rattle.script_words.proofs.Passing.{and_both}
 use Rattle.script_words.proofs.WordLaws.{is_text-joined, words_of-joined}
-use Rattle.script_read.proofs.CommandsBack.{command_of-spelled}
-use Rattle.script_read.proofs.Fitting.{are_words-spelled, short-spelled}
+use Rattle.script_read.proofs.CommandsBack.{command_of-words}
+use Rattle.script_read.proofs.Fitting.{are_words-of_command, short-command}
 use Rattle.script_read.proofs.PrintLaws.{AreTyped}
 use Rattle.script_read.proofs.ScriptLaws.{command_in-of_words}
 use Rattle.script_read.specs.IsScript.{IsScript, MayFollow, MayContinue}
@@ -16,7 +16,7 @@ use Rattle.script_read.specs.Keywords.{keyword_word}
 use Rattle.script_read.specs.Limits.{IsInLimits}
 use Rattle.script_read.specs.Script.{Refusal, before, begins_comment, command_in, ended, from_step, open_after, script_from, script_of, spoken, step_of}
 use Rattle.pixel_formats.specs.Limits.{max_line_bytes, max_lines}
-use Rattle.script_read.specs.Spelling.{HasValidFields, keyword, lines_printed, printed, spelled}
+use Rattle.script_read.specs.Spelling.{HasValidFields, keyword, lines_printed, printed, command_words}
 use Rattle.script_fields.specs.declared.cause.ScriptCause.{ScriptCause}
 use Rattle.script_read.specs.declared.command.Command.{Command}
 use Rattle.script_read.specs.declared.command.Line.{Line}
@@ -66,35 +66,35 @@ no_comment Grab = refl
 no_comment Watch = refl
 no_comment EndWatch = refl
 
-spoken-spelled : (command : Command) → IsInLimits command → HasValidFields command → spoken (spelled command) ≡ Ok (Some command)
+spoken-words : (command : Command) → IsInLimits command → HasValidFields command → spoken (command_words command) ≡ Ok (Some command)
 unfolding spoken
-spoken-spelled command limits types = rw (no_comment (keyword command), command_of-spelled command limits types) refl
+spoken-words command limits types = rw (no_comment (keyword command), command_of-words command limits types) refl
 
-command_in-spelled : (number : ℕ) (command : Command) → number ≤ max_lines → IsInLimits command → HasValidFields command →
-    command_in number (joined (spelled command)) ≡ Ok (Some command)
-command_in-spelled number command early limits types =
-    let words = are_words-spelled command limits types in
-    command_in-of_words number (joined (spelled command)) (is_text-joined (spelled command) words)
-    (le-leb (length (joined (spelled command))) max_line_bytes (short-spelled command limits types)) (le-leb number max_lines early)
-    ∙ ap spoken (words_of-joined (spelled command) words)
-    ∙ spoken-spelled command limits types
+command_in-words : (number : ℕ) (command : Command) → number ≤ max_lines → IsInLimits command → HasValidFields command →
+    command_in number (joined (command_words command)) ≡ Ok (Some command)
+command_in-words number command early limits types =
+    let words = are_words-of_command command limits types in
+    command_in-of_words number (joined (command_words command)) (is_text-joined (command_words command) words)
+    (le-leb (length (joined (command_words command))) max_line_bytes (short-command command limits types)) (le-leb number max_lines early)
+    ∙ ap spoken (words_of-joined (command_words command) words)
+    ∙ spoken-words command limits types
 
-step_of-spelled : (number : ℕ) (watching after : Option ℕ) (command : Command) → number ≤ max_lines → IsInLimits command → HasValidFields command →
-    open_after number watching command ≡ Ok after → step_of number watching (joined (spelled command)) ≡ Ok (record { command = Some command; watching = after })
+step_of-words : (number : ℕ) (watching after : Option ℕ) (command : Command) → number ≤ max_lines → IsInLimits command → HasValidFields command →
+    open_after number watching command ≡ Ok after → step_of number watching (joined (command_words command)) ≡ Ok (record { command = Some command; watching = after })
 unfolding step_of
-step_of-spelled number watching after command early limits types unchanged = rw (command_in-spelled number command early limits types, unchanged) refl
+step_of-words number watching after command early limits types is_opened = rw (command_in-words number command early limits types, is_opened) refl
 
 -- ---- all lines
 
 line_read : (line : Line) (lines : List Line) (watching : Option ℕ) (remaining : List (List ℕ)) → line.number ≤ max_lines → IsInLimits line.command → HasValidFields line.command →
     ((after : Option ℕ) → MayFollow (line.number + 1) after lines → script_from (line.number + 1) after remaining ≡ Ok lines) →
-    (standing : Result (Option ℕ) ScriptCause) → open_after line.number watching line.command ≡ standing → MayContinue standing (λ (after : Option ℕ). MayFollow (line.number + 1) after lines) →
-    script_from line.number watching (joined (spelled line.command) ∷ remaining) ≡ Ok (line ∷ lines)
-line_read line lines watching remaining early limits types read (Ok after) unchanged follows =
+    (opened : Result (Option ℕ) ScriptCause) → open_after line.number watching line.command ≡ opened → MayContinue opened (λ (after : Option ℕ). MayFollow (line.number + 1) after lines) →
+    script_from line.number watching (joined (command_words line.command) ∷ remaining) ≡ Ok (line ∷ lines)
+line_read line lines watching remaining early limits types read (Ok after) is_opened follows =
     ap (λ (step : Result ReadLine ScriptCause). from_step line.number step (λ (w : Option ℕ). script_from (line.number + 1) w remaining))
-    (step_of-spelled line.number watching after line.command early limits types unchanged)
+    (step_of-words line.number watching after line.command early limits types is_opened)
     ∙ ap (λ (rest : Result (List Line) Refusal). before line.number (Some line.command) rest) (read after follows)
-line_read line lines watching remaining early limits types read (Err cause) unchanged follows = absurd follows
+line_read line lines watching remaining early limits types read (Err cause) is_opened follows = absurd follows
 
 lines_read : (number : ℕ) (watching : Option ℕ) (lines : List Line) → MayFollow number watching lines → AreTyped lines →
     script_from number watching (lines_printed number lines) ≡ Ok lines
@@ -105,8 +105,8 @@ lines_read number watching (line ∷ lines) follows typed =
     let early : number ≤ line.number = follows.0 in
     let last : line.number ≤ max_lines = follows.1 in
     let there : number + (line.number - number) ≡ line.number = omega arith in
-    skips (line.number - number) number watching (joined (spelled line.command) ∷ remaining) (omega arith)
-    ∙ ap (λ (n : ℕ). script_from n watching (joined (spelled line.command) ∷ remaining)) there
+    skips (line.number - number) number watching (joined (command_words line.command) ∷ remaining) (omega arith)
+    ∙ ap (λ (n : ℕ). script_from n watching (joined (command_words line.command) ∷ remaining)) there
     ∙ line_read line lines watching remaining last follows.2 typed.0 (λ (after : Option ℕ) (on : MayFollow (line.number + 1) after lines). lines_read (line.number + 1) after lines on typed.1)
     (open_after line.number watching line.command) refl follows.3
 
@@ -116,8 +116,8 @@ all_lines-remaining : (count : ℕ) (rest : List (List ℕ)) → list_all is_lin
 all_lines-remaining zero rest are = are
 all_lines-remaining (suc count) rest are = all_lines-remaining count rest are
 
-is_alone : (number : ℕ) (watching : Option ℕ) (lines : List Line) (standing : Result (Option ℕ) ScriptCause) →
-    ((after : Option ℕ) → MayFollow number after lines → list_all is_line (lines_printed number lines) ≡ true) → MayContinue standing (λ (after : Option ℕ). MayFollow number after lines) →
+is_alone : (number : ℕ) (watching : Option ℕ) (lines : List Line) (opened : Result (Option ℕ) ScriptCause) →
+    ((after : Option ℕ) → MayFollow number after lines → list_all is_line (lines_printed number lines) ≡ true) → MayContinue opened (λ (after : Option ℕ). MayFollow number after lines) →
     list_all is_line (lines_printed number lines) ≡ true
 is_alone number watching lines (Ok after) are follows = are after follows
 is_alone number watching lines (Err cause) are follows = absurd follows
@@ -126,11 +126,11 @@ all_lines-printed : (number : ℕ) (watching : Option ℕ) (lines : List Line) �
 unfolding lines_printed
 all_lines-printed number watching [] follows typed = refl
 all_lines-printed number watching (line ∷ lines) follows typed =
-    let words = joined (spelled line.command) in
+    let words = joined (command_words line.command) in
     let remaining = lines_printed (line.number + 1) lines in
     all_lines-remaining (line.number - number) (words ∷ remaining)
     (and_both (is_line words) (list_all is_line remaining)
-    (is_line-text words (is_text-joined (spelled line.command) (are_words-spelled line.command follows.2 typed.0)))
+    (is_line-text words (is_text-joined (command_words line.command) (are_words-of_command line.command follows.2 typed.0)))
     (is_alone (line.number + 1) watching lines (open_after line.number watching line.command)
     (λ (after : Option ℕ) (on : MayFollow (line.number + 1) after lines). all_lines-printed (line.number + 1) after lines on typed.1) follows.3))
 

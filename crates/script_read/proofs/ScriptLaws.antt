@@ -28,12 +28,12 @@ ahead-nil (Ok lines) = refl
 ahead-nil (Err refusal) = refl
 
 -- the line of a command, where there is one
-abbrev pub reported : ℕ → Option Command → List Line
-reported number None = []
-reported number (Some command) = record { number = number; command = command } ∷ []
+abbrev pub as_lines : ℕ → Option Command → List Line
+as_lines number None = []
+as_lines number (Some command) = record { number = number; command = command } ∷ []
 
 ahead-before : (lines : List Line) (number : ℕ) (command : Option Command) (read : Result (List Line) Refusal) →
-    ahead lines (before number command read) ≡ ahead (lines ++ reported number command) read
+    ahead lines (before number command read) ≡ ahead (lines ++ as_lines number command) read
 ahead-before lines number None read = ap (λ (all : List Line). ahead all read) (sym (append-nil lines))
 ahead-before lines number (Some command) (Ok rest) = ap Ok (sym (append_assoc lines (record { number = number; command = command } ∷ []) rest))
 ahead-before lines number (Some command) (Err refusal) = refl
@@ -43,7 +43,7 @@ unfolding script_of
 reads_nothing text = sym (ahead-nil (script_from 1 None (lines_of text)))
 
 pub reads_on : (lines : List Line) (number : ℕ) (watching : Option ℕ) (line : List ℕ) (rest : List (List ℕ)) (step : ReadLine) → step_of number watching line ≡ Ok step →
-    ahead lines (script_from number watching (line ∷ rest)) ≡ ahead (lines ++ reported number step.command) (script_from (number + 1) step.watching rest)
+    ahead lines (script_from number watching (line ∷ rest)) ≡ ahead (lines ++ as_lines number step.command) (script_from (number + 1) step.watching rest)
 reads_on lines number watching line rest step is =
     ap (λ (read : Result ReadLine ScriptCause). ahead lines (from_step number read (λ (after : Option ℕ). script_from (number + 1) after rest))) is
     ∙ ahead-before lines number step.command (script_from (number + 1) step.watching rest)
@@ -60,7 +60,7 @@ abbrev pub LeadsTo : List Line → ℕ → Option ℕ → Type 0
 LeadsTo lines number watching = (rest : List Line) → MayFollow number watching rest → IsScript (lines ++ rest)
 
 pub leads_on : (lines : List Line) (number : ℕ) (watching after : Option ℕ) (command : Option Command) → LeadsTo lines number watching → number ≤ max_lines →
-    IfSome command IsInLimits → open_past number watching command ≡ Ok after → LeadsTo (lines ++ reported number command) (number + 1) after
+    IfSome command IsInLimits → open_past number watching command ≡ Ok after → LeadsTo (lines ++ as_lines number command) (number + 1) after
 leads_on lines number watching after None leads early keeps is rest follows =
     let same : watching ≡ after = cc in
     let before : MayFollow number watching rest =
@@ -68,9 +68,9 @@ leads_on lines number watching after None leads early keeps is rest follows =
     subst (λ (all : List Line). IsScript (all ++ rest)) (sym (append-nil lines)) (leads rest before)
 leads_on lines number watching after (Some command) leads early keeps is rest follows =
     let line : Line = record { number = number; command = command } in
-    let unchanged : MayContinue (open_after number watching command) (λ (w : Option ℕ). MayFollow (number + 1) w rest) =
+    let continues : MayContinue (open_after number watching command) (λ (w : Option ℕ). MayFollow (number + 1) w rest) =
     subst (λ (r : Result (Option ℕ) ScriptCause). MayContinue r (λ (w : Option ℕ). MayFollow (number + 1) w rest)) (sym is) follows in
-    subst (λ (all : List Line). IsScript all) (sym (append_assoc lines (line ∷ []) rest)) (leads (line ∷ rest) (omega arith, early, keeps, unchanged))
+    subst (λ (all : List Line). IsScript all) (sym (append_assoc lines (line ∷ []) rest)) (leads (line ∷ rest) (omega arith, early, keeps, continues))
 
 pub leads_here : (lines : List Line) (number : ℕ) → LeadsTo lines number None → IsScript lines
 leads_here lines number leads = subst (λ (all : List Line). IsScript all) (append-nil lines) (leads [] refl)
@@ -79,4 +79,4 @@ leads_here lines number leads = subst (λ (all : List Line). IsScript all) (appe
 pub reads_end : (lines : List Line) (number : ℕ) (watching : Option ℕ) (rest : List ℕ) → rest ≡ [] →
     ahead lines (script_from number watching (lines_of rest)) ≡ ahead lines (ended watching)
 unfolding lines_of
-reads_end lines number watching rest is = ap (λ (first_column : List ℕ). ahead lines (script_from number watching (lines_of first_column))) is
+reads_end lines number watching rest is = ap (λ (text : List ℕ). ahead lines (script_from number watching (lines_of text))) is

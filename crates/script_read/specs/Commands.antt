@@ -1,5 +1,5 @@
--- The commands that the words of a line spell, but those of nodes. Of the causes of a line the lowest is reported: its
--- words are counted, then its numbers are read, then its names and choices, and then its rectangle.
+-- The commands of lines, but those of nodes. Of the causes of a line the lowest is reported: its words are counted,
+-- then its numbers are read, then its names and choices, and then its rectangle.
 use Rattle.std.specs.Prelude.{ℕ, List, Result, Ok}
 use Rattle.script_fields.specs.Fields.{◌>>=◌, count, count_in, natural_at, move_at, rect_numbers_at, name_at, file_at, prefix_at, format_at, policy_at, rect_of, level_rect_of, watched_rect_of, samples_from}
 use Rattle.script_fields.specs.declared.cause.ScriptCause.{ScriptCause}

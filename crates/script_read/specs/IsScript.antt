@@ -6,12 +6,12 @@ use Rattle.pixel_formats.specs.Limits.{max_lines}
 use Rattle.script_fields.specs.declared.cause.ScriptCause.{ScriptCause}
 use Rattle.script_read.specs.declared.command.Line.{Line}
 
--- a command may stand where a watch is open so, and what stands after it may
+-- a command may be the next where that watch is open, and so may what is after it
 abbrev pub MayContinue : Result (Option ℕ) ScriptCause → (Option ℕ → Type 0) → Type 0
 MayContinue (Ok watching) After = After watching
 MayContinue (Err cause) After = ⊥
 
--- Lines that may stand from a number on where that watch is open: their numbers rise, their commands keep their
+-- Lines that may follow from a number on where that watch is open: their numbers rise, their commands are in their
 -- limits, and each watch ends before the next begins.
 abbrev pub MayFollow : ℕ → Option ℕ → List Line → Type 0
 MayFollow number watching [] = watching ≡ None

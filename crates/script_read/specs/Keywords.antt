@@ -4,7 +4,7 @@ use Rattle.std.specs.Str.{bytes_eq}
 use Rattle.script_read.specs.declared.keyword.Keyword.{Keyword}
 use Rattle.script_read.specs.declared.keyword.Keyword.TheVariants.{Buffer, Sub, Dup, Load, Fill, Copy, Node, Drop, Commit, Undo, Redo, Render, Grab, Watch, EndWatch}
 
--- the spelling
+-- the word of a command
 abbrev pub keyword_word : Keyword → List ℕ
 keyword_word Buffer = codes "buffer"
 keyword_word Sub = codes "sub"
@@ -26,6 +26,6 @@ keyword_word EndWatch = codes "endwatch"
 abbrev pub keywords : List Keyword
 keywords = Buffer ∷ Sub ∷ Dup ∷ Load ∷ Fill ∷ Copy ∷ Node ∷ Drop ∷ Commit ∷ Undo ∷ Redo ∷ Render ∷ Grab ∷ Watch ∷ EndWatch ∷ []
 
--- the one that a word spells
+-- the command of a word
 unfoldable pub keyword_of : List ℕ → Option Keyword
-keyword_of word = find (λ spelled. bytes_eq (keyword_word spelled) word) keywords
+keyword_of word = find (λ keyword. bytes_eq (keyword_word keyword) word) keywords

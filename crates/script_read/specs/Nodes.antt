@@ -1,4 +1,4 @@
--- The nodes that the words of a line spell: `node N OP ARGUMENTS INPUTS`.
+-- The nodes of lines: `node N OP ARGUMENTS INPUTS`.
 use Rattle.std.specs.Prelude.{ℕ, nat_lt, List, length, Result, Ok}
 use Rattle.std.specs.Option.{ok_or}
 use Rattle.script_fields.specs.Fields.{◌>>=◌, word_at, passed, count, count_in, natural_at, sample_at, move_at, rect_numbers_at, name_at, format_at, near_policy_at, sideways_at, rect_of, names_from, samples_from}
@@ -6,6 +6,7 @@ use Rattle.pixel_formats.specs.Limits.{max_checker_size, max_radius, max_sample}
 use Rattle.script_read.specs.OperationWords.{operation_of}
 use Rattle.script_read.specs.declared.operation_word.OperationWord.{OperationWord}
 use Rattle.script_read.specs.declared.operation_word.OperationWord.TheVariants as words_of
+use Rattle.script_read.specs.declared.nodes.Area.{Area}
 use Rattle.script_read.specs.declared.nodes.Ends.{Ends}
 use Rattle.script_fields.specs.declared.cause.ScriptCause.{ScriptCause}
 use Rattle.script_fields.specs.declared.cause.ScriptCause.TheVariants as causes
@@ -108,32 +109,26 @@ flip words = do
   sideways ← sideways_at words 3
   Ok (node_of ends (Flip sideways))
 
--- `node N box R ABYSS IN`
-abbrev pub box_mean : List (List ℕ) → Result Command ScriptCause
-box_mean words = do
+-- `node N OP R ABYSS IN` of an area operation
+abbrev pub area_of : List (List ℕ) → Result Area ScriptCause
+area_of words = do
   _ ← count 6 words
   radius ← natural_at 1 max_radius words 3
   ends ← ends_from 5 words
   policy ← near_policy_at words 4
-  Ok (node_of ends (BoxMean radius policy))
+  Ok (record { ends = ends; radius = radius; abyss = policy })
+
+-- `node N box R ABYSS IN`
+abbrev pub box_mean : List (List ℕ) → Result Command ScriptCause
+box_mean words = area_of words >>= λ area. Ok (node_of area.ends (BoxMean area.radius area.abyss))
 
 -- `node N dilate R ABYSS IN`
 abbrev pub dilate : List (List ℕ) → Result Command ScriptCause
-dilate words = do
-  _ ← count 6 words
-  radius ← natural_at 1 max_radius words 3
-  ends ← ends_from 5 words
-  policy ← near_policy_at words 4
-  Ok (node_of ends (Dilate radius policy))
+dilate words = area_of words >>= λ area. Ok (node_of area.ends (Dilate area.radius area.abyss))
 
 -- `node N erode R ABYSS IN`
 abbrev pub erode : List (List ℕ) → Result Command ScriptCause
-erode words = do
-  _ ← count 6 words
-  radius ← natural_at 1 max_radius words 3
-  ends ← ends_from 5 words
-  policy ← near_policy_at words 4
-  Ok (node_of ends (Erode radius policy))
+erode words = area_of words >>= λ area. Ok (node_of area.ends (Erode area.radius area.abyss))
 
 -- `node N invert IN`, and `add`, `over` and `mask` of two inputs: an operation without arguments, and the number of
 -- its words
@@ -143,7 +138,7 @@ bare op number words = do
   ends ← ends_from 3 words
   Ok (node_of ends op)
 
--- the node that words spell, by its operation
+-- the node of an operation
 unfoldable pub node_by : OperationWord → List (List ℕ) → Result Command ScriptCause
 node_by words_of.Source words = source words
 node_by words_of.Color words = color words

@@ -4,7 +4,7 @@ use Rattle.std.specs.Str.{bytes_eq}
 use Rattle.script_read.specs.declared.operation_word.OperationWord.{OperationWord}
 use Rattle.script_read.specs.declared.operation_word.OperationWord.TheVariants.{Source, Color, Checker, Convert, Invert, Threshold, Gain, Translate, Crop, Flip, BoxMean, Dilate, Erode, Add, Over, Mask}
 
--- the spelling
+-- the word of an operation
 abbrev pub operation_word : OperationWord → List ℕ
 operation_word Source = codes "source"
 operation_word Color = codes "color"
@@ -24,9 +24,9 @@ operation_word Over = codes "over"
 operation_word Mask = codes "mask"
 
 -- all of them
-abbrev pub operation_words : List OperationWord
-operation_words = Source ∷ Color ∷ Checker ∷ Convert ∷ Invert ∷ Threshold ∷ Gain ∷ Translate ∷ Crop ∷ Flip ∷ BoxMean ∷ Dilate ∷ Erode ∷ Add ∷ Over ∷ Mask ∷ []
+abbrev pub operations : List OperationWord
+operations = Source ∷ Color ∷ Checker ∷ Convert ∷ Invert ∷ Threshold ∷ Gain ∷ Translate ∷ Crop ∷ Flip ∷ BoxMean ∷ Dilate ∷ Erode ∷ Add ∷ Over ∷ Mask ∷ []
 
--- the one that a word spells
+-- the operation of a word
 unfoldable pub operation_of : List ℕ → Option OperationWord
-operation_of word = find (λ spelled. bytes_eq (operation_word spelled) word) operation_words
+operation_of word = find (λ operation. bytes_eq (operation_word operation) word) operations

@@ -1,6 +1,6 @@
 -- The script that a text is: the commands of its lines, or the first line that has a cause with the lowest of its
 -- causes.
-use Rattle.std.specs.Prelude.{ℕ, ◌+◌, ◌^◌, ◌==◌, nat_le, Bool, true, false, if◌then◌else◌, List, [], ◌∷◌, length, Option, Some, None, Result, Ok, Err}
+use Rattle.std.specs.Prelude.{ℕ, ◌+◌, ◌==◌, nat_le, Bool, true, false, if◌then◌else◌, List, [], ◌∷◌, length, Option, Some, None, Result, Ok, Err}
 use Rattle.std.specs.Option.{ok_or}
 use Rattle.pixel_formats.specs.Limits.{max_line_bytes, max_lines}
 use Rattle.script_words.specs.Lines.{is_text, lines_of}
@@ -20,7 +20,7 @@ use Rattle.script_read.specs.declared.reader.ReadLine.{ReadLine}
 
 -- ---- one line
 
--- the command that words spell, by the first of them
+-- the command of words, by the first of them
 unfoldable pub command_by : Keyword → List (List ℕ) → Result Command ScriptCause
 command_by Buffer words = buffer words
 command_by Sub words = sub words
@@ -38,7 +38,7 @@ command_by Grab words = grab words
 command_by Watch words = watch words
 command_by EndWatch words = alone commands.EndWatch words
 
--- the command that words spell
+-- the command of words
 unfoldable pub command_of : List (List ℕ) → Result Command ScriptCause
 command_of words = ok_or (keyword_of (word_at words 0)) causes.UnknownCommand >>= λ keyword. command_by keyword words
 

@@ -1,4 +1,4 @@
--- How commands are spelled: their words, with single spaces between them, each command on the line of its number.
+-- How commands are printed: their words, with single spaces between them, each command on the line of its number.
 use Rattle.std.specs.Prelude.{ℕ, ◌+◌, ◌-◌, IsTrue, List, [], ◌∷◌, ◌++◌, map, replicate, decimal}
 use Rattle.plane_rect.specs.Name.{is_name}
 use Rattle.script_words.specs.Lines.{text_of}
@@ -65,8 +65,8 @@ samples_in (Color format rect samples) = samples
 samples_in op = []
 
 -- the words of an operation and its arguments
-abbrev pub operation_spelled : OpWords → List (List ℕ)
-operation_spelled op = operation_word (word_of op) ∷ words_of_fields (arguments op) ++ map decimal (samples_in op)
+abbrev pub operation_words : OpWords → List (List ℕ)
+operation_words op = operation_word (word_of op) ∷ words_of_fields (arguments op) ++ map decimal (samples_in op)
 
 -- ---- commands
 
@@ -114,12 +114,12 @@ fields_of command = output_fields command
 -- the words after these: samples, or an operation and its inputs
 abbrev pub list_words : Command → List (List ℕ)
 list_words (Fill name rect samples) = map decimal samples
-list_words (Node name op inputs) = operation_spelled op ++ inputs
+list_words (Node name op inputs) = operation_words op ++ inputs
 list_words command = []
 
 -- the words of a command
-abbrev pub spelled : Command → List (List ℕ)
-spelled command = keyword_word (keyword command) ∷ words_of_fields (fields_of command) ++ list_words command
+abbrev pub command_words : Command → List (List ℕ)
+command_words command = keyword_word (keyword command) ∷ words_of_fields (fields_of command) ++ list_words command
 
 -- ---- scripts
 
@@ -127,7 +127,7 @@ spelled command = keyword_word (keyword command) ∷ words_of_fields (fields_of 
 unfoldable pub lines_printed : ℕ → List Line → List (List ℕ)
 lines_printed number [] = []
 lines_printed number (line ∷ lines) =
-    replicate (line.number - number) [] ++ joined (spelled line.command) ∷ lines_printed (line.number + 1) lines
+    replicate (line.number - number) [] ++ joined (command_words line.command) ∷ lines_printed (line.number + 1) lines
 
 -- the text of a script
 unfoldable pub printed : List Line → List ℕ

@@ -13,8 +13,8 @@ pub struct Line {
     pub command: Command,
 }
 
-/// What a line of a script asks for. Coordinates and sizes are in places, samples count from 0 to the format's
-/// largest, and a level halves the image so many times.
+/// What a line of a script asks for. Coordinates and sizes are in pixels, samples are from 0 to the
+/// format's largest, and a level halves the image so many times.
 #[derive(Drop)]
 pub enum Command {
     /// A new buffer over a rectangle, all zeros.
@@ -46,7 +46,8 @@ pub enum Command {
         rect: Rect,
         samples: PixelSamples,
     },
-    /// A buffer's rectangle is copied to another place of it or of another buffer, `dx` to the right and `dy` down.
+    /// A buffer's rectangle is copied to other positions of it or of another buffer, `dx` pixels to
+    /// the right and `dy` down.
     Copy {
         from: Name,
         to: Name,
@@ -64,7 +65,7 @@ pub enum Command {
     Drop {
         name: Name,
     },
-    /// The buffers and nodes as they stand become the graph's state.
+    /// The buffers and nodes as they are become the graph's state.
     Commit,
     /// The state before the last commit comes back.
     Undo,
@@ -102,7 +103,7 @@ impl Command {
     ghost use Rattle.std.specs.Prelude.{◌≡◌};
     ghost use Rattle.script_read.specs.Spelling.{keyword};
 
-    /// Its first word.
+    /// Returns its first word.
     pub(crate) fn keyword(&self) -> Keyword
         ensures { result ≡ keyword self.now }
     {
@@ -126,7 +127,8 @@ impl Command {
     }
 }
 
-/// What a node does, with its arguments: an operation as [`operations::IntOp`] has it, or a buffer's samples.
+/// What a node does, with its arguments: an operation as the language writes it, or a
+/// buffer's samples.
 #[derive(Drop)]
 pub enum OpWords {
     /// The samples of a buffer.
@@ -187,7 +189,7 @@ impl OpWords {
     ghost use Rattle.std.specs.Prelude.{◌≡◌};
     ghost use Rattle.script_read.specs.Spelling.{word_of};
 
-    /// The third word of its node.
+    /// Returns the third word of its node.
     pub(crate) fn word(&self) -> OperationWord
         ensures { result ≡ word_of self.now }
     {

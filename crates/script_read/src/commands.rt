@@ -1,7 +1,7 @@
-//! The commands that the words of a line spell, but those of nodes.
+//! Reads the commands of lines, but those of nodes.
 //!
-//! Each counts its words, reads its numbers, then its names and choices, and then its rectangle, so
-//! that the lowest cause is reported.
+//! Each checks the number of words, reads its numbers, then its names and choices, and then its
+//! rectangle, so that the lowest cause is reported: `Words`, `Number`, `Name` or `Rect`.
 
 ghost use Rattle.std.specs.Prelude.{◌≡◌, IfOk};
 ghost use Rattle.script_fields.specs.Answers.{Answers};
@@ -18,7 +18,7 @@ use script_fields::{
 };
 use std::alloc::Global;
 
-/// `buffer B FORMAT X Y W H`
+/// Reads `buffer B FORMAT X Y W H`.
 pub(crate) fn buffer(words: &[&[u8]]) -> Result<Command, LineAnswer>
     ensures value { Answers result (buffer (texts words.now)) }
     ensures limits { IfOk result IsInLimits }
@@ -31,7 +31,7 @@ pub(crate) fn buffer(words: &[&[u8]]) -> Result<Command, LineAnswer>
     Ok(Command::Buffer { name, format, rect })
 }
 
-/// `sub B PARENT X Y W H`
+/// Reads `sub B PARENT X Y W H`.
 pub(crate) fn sub(words: &[&[u8]]) -> Result<Command, LineAnswer>
     ensures value { Answers result (sub (texts words.now)) }
     ensures limits { IfOk result IsInLimits }
@@ -44,7 +44,7 @@ pub(crate) fn sub(words: &[&[u8]]) -> Result<Command, LineAnswer>
     Ok(Command::Sub { name, parent, rect })
 }
 
-/// `dup B FROM`
+/// Reads `dup B FROM`.
 pub(crate) fn dup(words: &[&[u8]]) -> Result<Command, LineAnswer>
     ensures value { Answers result (dup (texts words.now)) }
     ensures limits { IfOk result IsInLimits }
@@ -55,7 +55,7 @@ pub(crate) fn dup(words: &[&[u8]]) -> Result<Command, LineAnswer>
     Ok(Command::Dup { name, from })
 }
 
-/// `load B X Y W H FILE`
+/// Reads `load B X Y W H FILE`.
 pub(crate) fn load(words: &[&[u8]]) -> Result<Command, LineAnswer>
     ensures value { Answers result (load (texts words.now)) }
     ensures limits { IfOk result IsInLimits }
@@ -68,7 +68,7 @@ pub(crate) fn load(words: &[&[u8]]) -> Result<Command, LineAnswer>
     Ok(Command::Load { name, rect, file })
 }
 
-/// `fill B X Y W H S..`, 1 to 4 samples
+/// Reads `fill B X Y W H S..`, of 1 to 4 samples.
 pub(crate) fn fill(alloc: Global, words: &[&[u8]]) -> Result<Command, LineAnswer>
     ensures value { Answers result (fill (texts words.now)) }
     ensures limits { IfOk result IsInLimits }
@@ -85,7 +85,7 @@ pub(crate) fn fill(alloc: Global, words: &[&[u8]]) -> Result<Command, LineAnswer
     })
 }
 
-/// `copy FROM TO X Y W H DX DY`
+/// Reads `copy FROM TO X Y W H DX DY`.
 pub(crate) fn copy(words: &[&[u8]]) -> Result<Command, LineAnswer>
     ensures value { Answers result (copy (texts words.now)) }
     ensures limits { IfOk result IsInLimits }
@@ -106,7 +106,7 @@ pub(crate) fn copy(words: &[&[u8]]) -> Result<Command, LineAnswer>
     })
 }
 
-/// `drop N`
+/// Reads `drop N`.
 pub(crate) fn drop_node(words: &[&[u8]]) -> Result<Command, LineAnswer>
     ensures value { Answers result (drop_node (texts words.now)) }
     ensures limits { IfOk result IsInLimits }
@@ -116,7 +116,7 @@ pub(crate) fn drop_node(words: &[&[u8]]) -> Result<Command, LineAnswer>
     Ok(Command::Drop { name })
 }
 
-/// `commit`, `undo`, `redo`, `endwatch`: the command alone
+/// Reads `commit`, `undo`, `redo` or `endwatch`, which are one word.
 pub(crate) fn alone(command: Command, words: &[&[u8]]) -> Result<Command, LineAnswer>
     requires { IsInLimits command }
     ensures value { Answers result (alone command (texts words.now)) }
@@ -126,7 +126,7 @@ pub(crate) fn alone(command: Command, words: &[&[u8]]) -> Result<Command, LineAn
     Ok(command)
 }
 
-/// `render N LEVEL X Y W H FILE`
+/// Reads `render N LEVEL X Y W H FILE`.
 pub(crate) fn render(words: &[&[u8]]) -> Result<Command, LineAnswer>
     ensures value { Answers result (render (texts words.now)) }
     ensures limits { IfOk result IsInLimits }
@@ -145,7 +145,7 @@ pub(crate) fn render(words: &[&[u8]]) -> Result<Command, LineAnswer>
     })
 }
 
-/// `grab B LEVEL ABYSS X Y W H FILE`
+/// Reads `grab B LEVEL ABYSS X Y W H FILE`.
 pub(crate) fn grab(words: &[&[u8]]) -> Result<Command, LineAnswer>
     ensures value { Answers result (grab (texts words.now)) }
     ensures limits { IfOk result IsInLimits }
@@ -166,7 +166,7 @@ pub(crate) fn grab(words: &[&[u8]]) -> Result<Command, LineAnswer>
     })
 }
 
-/// `watch N X Y W H VIEWERS FRAMES PREFIX`
+/// Reads `watch N X Y W H VIEWERS FRAMES PREFIX`.
 pub(crate) fn watch(words: &[&[u8]]) -> Result<Command, LineAnswer>
     ensures value { Answers result (watch (texts words.now)) }
     ensures limits { IfOk result IsInLimits }

@@ -24,7 +24,7 @@ pub(crate) enum Keyword {
     EndWatch,
 }
 
-/// All of them.
+/// All first words of commands.
 const KEYWORDS: [Keyword; 15] = [
     Keyword::Buffer,
     Keyword::Sub,
@@ -44,21 +44,22 @@ const KEYWORDS: [Keyword; 15] = [
 ];
 
 impl Keyword {
-    /// The one that a word spells, and None exactly where it spells none.
+    /// Returns the command of a word, and None exactly where it is that of none.
     #[tactic(auto, unfolding(crate::specs::Keywords::keyword_of))]
     pub fn parse(word: &[u8]) -> Option<Keyword>
         ensures { result ≡ keyword_of word.now }
     {
-        KEYWORDS.iter().copied().find(|spelled| spelled.is(word))
+        KEYWORDS.iter().copied().find(|keyword| keyword.is(word))
     }
 
+    /// Returns whether it is this word.
     fn is(self, word: &[u8]) -> bool
         ensures { result ≡ bytes_eq (keyword_word self) word.now }
     {
         self.word().as_bytes() == word
     }
 
-    /// Its spelling.
+    /// Returns the word.
     pub fn word(self) -> &'static str
         ensures { result.now ≡ keyword_word self }
     {

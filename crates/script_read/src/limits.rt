@@ -14,8 +14,9 @@ use pixel_formats::limits::{
 };
 use script_fields::{is_level_rect, may_watch};
 
-/// Whether lines are a script's: their numbers rise from 1 or more up to at most 10,000, the fields of their commands
-/// keep their limits, and each watch is ended before another begins.
+/// Returns whether lines are a script's: their numbers rise from 1 or more up to at most 10,000,
+/// the fields of their commands are in their limits, and each watch is ended before another begins.
+/// Takes time in proportion to the lines.
 pub fn is_script(lines: &[Line]) -> bool
     ensures { IsTrue result ↔ IsScript lines.now }
 {
@@ -34,8 +35,8 @@ pub fn is_script(lines: &[Line]) -> bool
     watching.is_none()
 }
 
-/// Whether the numbers of a command are in their ranges, its rectangle is one that it may have, and a
-/// node has its inputs.
+/// Returns whether the numbers of a command are in their ranges, its rectangle is one that it may
+/// have, and a node has its inputs.
 fn is_in_limits(command: &Command) -> bool
     ensures { IsTrue result ↔ IsInLimits command.now }
 {
@@ -73,7 +74,7 @@ fn is_in_limits(command: &Command) -> bool
     }
 }
 
-/// Whether the arguments of an operation are in their ranges.
+/// Returns whether the arguments of an operation are in their ranges.
 fn is_in_range(op: &OpWords) -> bool
     ensures { IsTrue result ↔ InRange op.now }
 {
@@ -108,7 +109,7 @@ fn is_in_range(op: &OpWords) -> bool
     }
 }
 
-/// How many inputs an operation has.
+/// Returns how many inputs an operation has.
 fn input_count(op: &OpWords) -> usize
     ensures { result ≡ input_count op.now }
 {

@@ -1,7 +1,7 @@
-//! The nodes that the words of a line spell: `node N OP ARGUMENTS INPUTS`.
+//! Reads the nodes of lines: `node N OP ARGUMENTS INPUTS`.
 //!
-//! Each operation counts the words, reads its numbers, then all names and choices, and then its
-//! rectangle, so that the lowest cause is reported.
+//! Each operation checks the number of words, reads its numbers, then all names and choices, and
+//! then its rectangle, so that the lowest cause is reported: `Words`, `Number`, `Name` or `Rect`.
 
 ghost use Rattle.std.specs.Prelude.{◌≡◌, ◌+◌, ◌≤◌, ◌<◌, IfOk, length};
 ghost use Rattle.script_fields.specs.Answers.{Answers};
@@ -11,6 +11,7 @@ ghost use Rattle.script_read.specs.Nodes.{bare, box_mean, checker, color, conver
 
 use crate::command::{Command, OpWords};
 use crate::operation_word::OperationWord;
+use pixel_formats::Abyss;
 use pixel_formats::limits::{MAX_CHECKER_SIZE, MAX_RADIUS, MAX_SAMPLE};
 use plane_rect::Name;
 use script_fields::{
@@ -19,7 +20,7 @@ use script_fields::{
 };
 use std::alloc::Global;
 
-/// What a node has before and after its operation.
+/// The name of a node and its inputs, the words before and after its operation.
 #[derive(Drop)]
 pub(crate) struct Ends {
     pub name: Name,
@@ -33,7 +34,7 @@ impl Ends {
     ghost use Rattle.script_read.specs.Limits.{InRange, IsInLimits, input_count};
     ghost use Rattle.script_read.specs.Nodes.{ends_from, node_of};
 
-    /// The name of the node, and its inputs from a word on.
+    /// Reads the name of the node, and its inputs from an index on.
     #[tactic(auto, unfolding(crate::specs::Nodes::ends_from))]
     fn parse(alloc: Global, index: usize, words: &[&[u8]]) -> Result<Ends, LineAnswer>
         requires name { 1 < length words.now }
@@ -46,7 +47,7 @@ impl Ends {
         Ok(Ends { name, inputs })
     }
 
-    /// The node of an operation.
+    /// Returns the node of an operation.
     fn node(self, op: OpWords) -> Command
         requires range { InRange op }
         requires inputs { length self.inputs ≡ input_count op }
@@ -61,7 +62,40 @@ impl Ends {
     }
 }
 
-/// `node N OP ARGUMENTS INPUTS`
+/// The node of an area operation: its ends, and the radius and the policy of its squares.
+#[derive(Drop)]
+pub(crate) struct Area {
+    pub ends: Ends,
+    pub radius: u32,
+    pub abyss: Abyss,
+}
+
+impl Area {
+    ghost use Rattle.std.specs.Prelude.{◌≡◌, IfOk, length};
+    ghost use Rattle.pixel_formats.specs.Limits.{IsArea};
+    ghost use Rattle.script_fields.specs.Answers.{Answers};
+    ghost use Rattle.script_fields.specs.Fields.{texts};
+    ghost use Rattle.script_read.specs.Nodes.{area_of};
+
+    /// Reads `node N OP R ABYSS IN`.
+    fn parse(alloc: Global, words: &[&[u8]]) -> Result<Area, LineAnswer>
+        ensures value { Answers result (area_of (texts words.now)) }
+        ensures range { IfOk result (λ area. IsArea area.radius area.abyss) }
+        ensures length { IfOk result (λ area. length area.ends.inputs ≡ 1) }
+    {
+        count(6, words)?;
+        let radius = natural_at(1, MAX_RADIUS, words, 3)?;
+        let ends = Ends::parse(alloc, 5, words)?;
+        let abyss = near_policy_at(words, 4)?;
+        Ok(Area {
+            ends,
+            radius,
+            abyss,
+        })
+    }
+}
+
+/// Reads `node N OP ARGUMENTS INPUTS`.
 #[tactic(auto, unfolding(crate::specs::Nodes::node))]
 pub(crate) fn node(alloc: Global, words: &[&[u8]]) -> Result<Command, LineAnswer>
     ensures value { Answers result (node (texts words.now)) }
@@ -74,7 +108,7 @@ pub(crate) fn node(alloc: Global, words: &[&[u8]]) -> Result<Command, LineAnswer
     node_by(alloc, operation, words)
 }
 
-/// The node that words spell, by its operation.
+/// Reads the node of an operation.
 #[tactic(auto, unfolding(crate::specs::Nodes::node_by))]
 fn node_by(alloc: Global, operation: OperationWord, words: &[&[u8]]) -> Result<Command, LineAnswer>
     ensures value { Answers result (node_by operation (texts words.now)) }
@@ -100,8 +134,8 @@ fn node_by(alloc: Global, operation: OperationWord, words: &[&[u8]]) -> Result<C
     }
 }
 
-/// `node N invert IN`, and `add`, `over` and `mask` of two inputs: an operation without arguments,
-/// and the number of its words.
+/// Reads a node of an operation without arguments, of so many words: `node N invert IN`, or `add`,
+/// `over` or `mask` of two inputs.
 fn bare(alloc: Global, op: OpWords, number: usize, words: &[&[u8]]) -> Result<Command, LineAnswer>
     requires range { InRange op }
     requires number { number ≡ 3 + input_count op }
@@ -113,7 +147,7 @@ fn bare(alloc: Global, op: OpWords, number: usize, words: &[&[u8]]) -> Result<Co
     Ok(ends.node(op))
 }
 
-/// `node N source BUFFER`
+/// Reads `node N source BUFFER`.
 fn source(alloc: Global, words: &[&[u8]]) -> Result<Command, LineAnswer>
     ensures value { Answers result (source (texts words.now)) }
     ensures limits { IfOk result IsInLimits }
@@ -124,7 +158,7 @@ fn source(alloc: Global, words: &[&[u8]]) -> Result<Command, LineAnswer>
     Ok(ends.node(OpWords::Source { buffer }))
 }
 
-/// `node N color FORMAT X Y W H S..`, 1 to 4 samples
+/// Reads `node N color FORMAT X Y W H S..`, of 1 to 4 samples.
 fn color(alloc: Global, words: &[&[u8]]) -> Result<Command, LineAnswer>
     ensures value { Answers result (color (texts words.now)) }
     ensures limits { IfOk result IsInLimits }
@@ -142,7 +176,7 @@ fn color(alloc: Global, words: &[&[u8]]) -> Result<Command, LineAnswer>
     }))
 }
 
-/// `node N checker FORMAT X Y W H SIZE V1 V2`
+/// Reads `node N checker FORMAT X Y W H SIZE V1 V2`.
 fn checker(alloc: Global, words: &[&[u8]]) -> Result<Command, LineAnswer>
     ensures value { Answers result (checker (texts words.now)) }
     ensures limits { IfOk result IsInLimits }
@@ -164,7 +198,7 @@ fn checker(alloc: Global, words: &[&[u8]]) -> Result<Command, LineAnswer>
     }))
 }
 
-/// `node N convert FORMAT IN`
+/// Reads `node N convert FORMAT IN`.
 fn convert(alloc: Global, words: &[&[u8]]) -> Result<Command, LineAnswer>
     ensures value { Answers result (convert (texts words.now)) }
     ensures limits { IfOk result IsInLimits }
@@ -175,7 +209,7 @@ fn convert(alloc: Global, words: &[&[u8]]) -> Result<Command, LineAnswer>
     Ok(ends.node(OpWords::Convert { format }))
 }
 
-/// `node N threshold T IN`
+/// Reads `node N threshold T IN`.
 fn threshold(alloc: Global, words: &[&[u8]]) -> Result<Command, LineAnswer>
     ensures value { Answers result (threshold (texts words.now)) }
     ensures limits { IfOk result IsInLimits }
@@ -186,7 +220,7 @@ fn threshold(alloc: Global, words: &[&[u8]]) -> Result<Command, LineAnswer>
     Ok(ends.node(OpWords::Threshold { at }))
 }
 
-/// `node N gain NUM DEN IN`
+/// Reads `node N gain NUM DEN IN`.
 fn gain(alloc: Global, words: &[&[u8]]) -> Result<Command, LineAnswer>
     ensures value { Answers result (gain (texts words.now)) }
     ensures limits { IfOk result IsInLimits }
@@ -198,7 +232,7 @@ fn gain(alloc: Global, words: &[&[u8]]) -> Result<Command, LineAnswer>
     Ok(ends.node(OpWords::Gain { num, den }))
 }
 
-/// `node N translate DX DY IN`
+/// Reads `node N translate DX DY IN`.
 fn translate(alloc: Global, words: &[&[u8]]) -> Result<Command, LineAnswer>
     ensures value { Answers result (translate (texts words.now)) }
     ensures limits { IfOk result IsInLimits }
@@ -210,7 +244,7 @@ fn translate(alloc: Global, words: &[&[u8]]) -> Result<Command, LineAnswer>
     Ok(ends.node(OpWords::Translate { dx, dy }))
 }
 
-/// `node N crop X Y W H IN`
+/// Reads `node N crop X Y W H IN`.
 fn crop(alloc: Global, words: &[&[u8]]) -> Result<Command, LineAnswer>
     ensures value { Answers result (crop (texts words.now)) }
     ensures limits { IfOk result IsInLimits }
@@ -222,7 +256,7 @@ fn crop(alloc: Global, words: &[&[u8]]) -> Result<Command, LineAnswer>
     Ok(ends.node(OpWords::Crop { rect }))
 }
 
-/// `node N flip h IN` and `node N flip v IN`
+/// Reads `node N flip h IN` and `node N flip v IN`.
 fn flip(alloc: Global, words: &[&[u8]]) -> Result<Command, LineAnswer>
     ensures value { Answers result (flip (texts words.now)) }
     ensures limits { IfOk result IsInLimits }
@@ -233,38 +267,41 @@ fn flip(alloc: Global, words: &[&[u8]]) -> Result<Command, LineAnswer>
     Ok(ends.node(OpWords::Flip { sideways }))
 }
 
-/// `node N box R ABYSS IN`
+/// Reads `node N box R ABYSS IN`.
 fn box_mean(alloc: Global, words: &[&[u8]]) -> Result<Command, LineAnswer>
     ensures value { Answers result (box_mean (texts words.now)) }
     ensures limits { IfOk result IsInLimits }
 {
-    count(6, words)?;
-    let radius = natural_at(1, MAX_RADIUS, words, 3)?;
-    let ends = Ends::parse(alloc, 5, words)?;
-    let abyss = near_policy_at(words, 4)?;
+    let Area {
+        ends,
+        radius,
+        abyss,
+    } = Area::parse(alloc, words)?;
     Ok(ends.node(OpWords::BoxMean { radius, abyss }))
 }
 
-/// `node N dilate R ABYSS IN`
+/// Reads `node N dilate R ABYSS IN`.
 fn dilate(alloc: Global, words: &[&[u8]]) -> Result<Command, LineAnswer>
     ensures value { Answers result (dilate (texts words.now)) }
     ensures limits { IfOk result IsInLimits }
 {
-    count(6, words)?;
-    let radius = natural_at(1, MAX_RADIUS, words, 3)?;
-    let ends = Ends::parse(alloc, 5, words)?;
-    let abyss = near_policy_at(words, 4)?;
+    let Area {
+        ends,
+        radius,
+        abyss,
+    } = Area::parse(alloc, words)?;
     Ok(ends.node(OpWords::Dilate { radius, abyss }))
 }
 
-/// `node N erode R ABYSS IN`
+/// Reads `node N erode R ABYSS IN`.
 fn erode(alloc: Global, words: &[&[u8]]) -> Result<Command, LineAnswer>
     ensures value { Answers result (erode (texts words.now)) }
     ensures limits { IfOk result IsInLimits }
 {
-    count(6, words)?;
-    let radius = natural_at(1, MAX_RADIUS, words, 3)?;
-    let ends = Ends::parse(alloc, 5, words)?;
-    let abyss = near_policy_at(words, 4)?;
+    let Area {
+        ends,
+        radius,
+        abyss,
+    } = Area::parse(alloc, words)?;
     Ok(ends.node(OpWords::Erode { radius, abyss }))
 }

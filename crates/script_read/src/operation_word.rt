@@ -25,7 +25,7 @@ pub(crate) enum OperationWord {
     Mask,
 }
 
-/// All of them.
+/// All words of operations.
 const OPERATION_WORDS: [OperationWord; 16] = [
     OperationWord::Source,
     OperationWord::Color,
@@ -46,7 +46,7 @@ const OPERATION_WORDS: [OperationWord; 16] = [
 ];
 
 impl OperationWord {
-    /// The one that a word spells, and None exactly where it spells none.
+    /// Returns the operation of a word, and None exactly where it is that of none.
     #[tactic(auto, unfolding(crate::specs::OperationWords::operation_of))]
     pub fn parse(word: &[u8]) -> Option<OperationWord>
         ensures { result ≡ operation_of word.now }
@@ -54,16 +54,17 @@ impl OperationWord {
         OPERATION_WORDS
             .iter()
             .copied()
-            .find(|spelled| spelled.is(word))
+            .find(|operation| operation.is(word))
     }
 
+    /// Returns whether it is this word.
     fn is(self, word: &[u8]) -> bool
         ensures { result ≡ bytes_eq (operation_word self) word.now }
     {
         self.word().as_bytes() == word
     }
 
-    /// Its spelling.
+    /// Returns the word.
     pub fn word(self) -> &'static str
         ensures { result.now ≡ operation_word self }
     {

@@ -1,11 +1,11 @@
-//! Scripts are printed, command by command.
+//! Prints scripts, command by command.
 
 ghost use Rattle.std.specs.Prelude.{◌≡◌, ◌++◌, IfOk, OnOk, Ok, map, decimal, replicate};
 ghost use Rattle.script_words.specs.Words.{joined, spaced};
 ghost use Rattle.script_fields.specs.Spelling.{AreValid, words_of_fields};
 ghost use Rattle.script_read.specs.IsScript.{IsScript};
 ghost use Rattle.script_read.specs.Script.{script_of};
-ghost use Rattle.script_read.specs.Spelling.{HasValidFields, arguments, fields_of, list_words, operation_spelled, output_fields, printed, samples_in, spelled};
+ghost use Rattle.script_read.specs.Spelling.{HasValidFields, arguments, fields_of, list_words, operation_words, output_fields, printed, samples_in, command_words};
 
 use crate::command::{Command, Line, OpWords};
 use no_memory::NoMemory;
@@ -14,11 +14,13 @@ use script_fields::{put_fields, put_names, put_samples};
 use script_words::push_word;
 use std::alloc::Global;
 
-/// The text of a script: each command on the line of its number, with empty lines between.
+/// Returns the text of a script: each command on the line of its number, with empty lines between.
+/// Takes time in proportion to the text, which has a byte at least for each number up to that of
+/// the last line.
 ///
 /// # Errors
 ///
-/// No memory was left.
+/// `NoMemory` if memory runs out.
 pub fn print_script(alloc: Global, lines: &[Line]) -> Result<Vec<u8>, NoMemory>
     requires { IsScript lines.now }
     ensures text { IfOk result (λ text. text.items ≡ printed lines.now) }
@@ -35,7 +37,7 @@ pub fn print_script(alloc: Global, lines: &[Line]) -> Result<Vec<u8>, NoMemory>
     Ok(text)
 }
 
-/// Puts so many line feeds after a text.
+/// Appends so many line feeds to a text.
 fn put_feeds(text: &mut Vec<u8>, count: u32) -> Result<(), NoMemory>
     ensures { OnOk result (text.new.items ≡ text.old.items ++ replicate count 10) }
 {
@@ -45,21 +47,21 @@ fn put_feeds(text: &mut Vec<u8>, count: u32) -> Result<(), NoMemory>
     Ok(())
 }
 
-/// Puts the words of a command after a text, with single spaces between them.
+/// Appends the words of a command to a text, with single spaces between them.
 #[tactic(auto, using(crate::proofs::PrintLaws::command_put))]
 fn put_command(text: &mut Vec<u8>, command: &Command) -> Result<(), NoMemory>
-    ensures text { OnOk result (text.new.items ≡ text.old.items ++ joined (spelled command.now)) }
-    ensures kept { OnOk result (HasValidFields command.now) }
+    ensures text { OnOk result (text.new.items ≡ text.old.items ++ joined (command_words command.now)) }
+    ensures valid { OnOk result (HasValidFields command.now) }
 {
     text.extend_from_slice(command.keyword().word().as_bytes())?;
     put_fields_of(text, command)?;
     put_lists_of(text, command)
 }
 
-/// Puts the fields of a command after a text, up to those that are lists, each word after a space.
+/// Appends the fields of a command to a text, up to those that are lists, each word after a space.
 fn put_fields_of(text: &mut Vec<u8>, command: &Command) -> Result<(), NoMemory>
     ensures text { OnOk result (text.new.items ≡ text.old.items ++ spaced (words_of_fields (fields_of command.now))) }
-    ensures kept { OnOk result (AreValid (fields_of command.now)) }
+    ensures valid { OnOk result (AreValid (fields_of command.now)) }
 {
     match command {
         Command::Buffer { name, format, rect } => {
@@ -88,10 +90,11 @@ fn put_fields_of(text: &mut Vec<u8>, command: &Command) -> Result<(), NoMemory>
     }
 }
 
-/// The same of a command that writes files. Others put nothing.
+/// Appends the fields of a command that writes files to a text, each word after a space. Others
+/// append nothing.
 fn put_output_fields(text: &mut Vec<u8>, command: &Command) -> Result<(), NoMemory>
     ensures text { OnOk result (text.new.items ≡ text.old.items ++ spaced (words_of_fields (output_fields command.now))) }
-    ensures kept { OnOk result (AreValid (output_fields command.now)) }
+    ensures valid { OnOk result (AreValid (output_fields command.now)) }
 {
     match command {
         Command::Render {
@@ -127,10 +130,11 @@ fn put_output_fields(text: &mut Vec<u8>, command: &Command) -> Result<(), NoMemo
     }
 }
 
-/// Puts the words after the fields of a command, each after a space: samples, or an operation and its inputs.
+/// Appends the words after the fields of a command to a text, each after a space: samples, or an
+/// operation and its inputs.
 fn put_lists_of(text: &mut Vec<u8>, command: &Command) -> Result<(), NoMemory>
     ensures text { OnOk result (text.new.items ≡ text.old.items ++ spaced (list_words command.now)) }
-    ensures kept { OnOk result (AreValid (fields_of command.now) → HasValidFields command.now) }
+    ensures valid { OnOk result (AreValid (fields_of command.now) → HasValidFields command.now) }
 {
     match command {
         Command::Fill { samples, .. } => put_samples(text, samples.as_slice()),
@@ -142,21 +146,21 @@ fn put_lists_of(text: &mut Vec<u8>, command: &Command) -> Result<(), NoMemory>
     }
 }
 
-/// Puts the words of an operation and its arguments after a text, each after a space.
+/// Appends the words of an operation and its arguments to a text, each after a space.
 #[tactic(auto, using(script_fields::proofs::PrintLaws::spaced_put))]
 fn put_operation(text: &mut Vec<u8>, op: &OpWords) -> Result<(), NoMemory>
-    ensures text { OnOk result (text.new.items ≡ text.old.items ++ spaced (operation_spelled op.now)) }
-    ensures kept { OnOk result (AreValid (arguments op.now)) }
+    ensures text { OnOk result (text.new.items ≡ text.old.items ++ spaced (operation_words op.now)) }
+    ensures valid { OnOk result (AreValid (arguments op.now)) }
 {
     push_word(text, op.word().word().as_bytes())?;
     put_arguments(text, op)?;
     put_samples_in(text, op)
 }
 
-/// Puts the arguments of an operation after a text, but samples, each word after a space.
+/// Appends the arguments of an operation to a text, but samples, each word after a space.
 fn put_arguments(text: &mut Vec<u8>, op: &OpWords) -> Result<(), NoMemory>
     ensures text { OnOk result (text.new.items ≡ text.old.items ++ spaced (words_of_fields (arguments op.now))) }
-    ensures kept { OnOk result (AreValid (arguments op.now)) }
+    ensures valid { OnOk result (AreValid (arguments op.now)) }
 {
     match op {
         OpWords::Source { buffer } => put_fields(text, &[Name(*buffer)]),
@@ -186,7 +190,7 @@ fn put_arguments(text: &mut Vec<u8>, op: &OpWords) -> Result<(), NoMemory>
     }
 }
 
-/// Puts the samples of an operation after a text, each after a space.
+/// Appends the samples of an operation to a text, each after a space.
 fn put_samples_in(text: &mut Vec<u8>, op: &OpWords) -> Result<(), NoMemory>
     ensures { OnOk result (text.new.items ≡ text.old.items ++ spaced (map decimal (samples_in op.now))) }
 {

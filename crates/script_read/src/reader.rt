@@ -1,4 +1,4 @@
-//! Scripts are read, line by line.
+//! Reads scripts, line by line.
 
 ghost use Rattle.std.specs.Prelude.{◌≡◌, ◌+◌, ◌≤◌, ◌<◌, IfOk, IfSome, IsTrue, length};
 ghost use Rattle.script_words.specs.Lines.{is_text};
@@ -27,12 +27,13 @@ pub(crate) struct ReadLine {
     pub watching: Option<u32>,
 }
 
-/// The commands of a script, each with the number of its line.
+/// Returns the commands of a script, each with the number of its line. Takes time in proportion to
+/// the text.
 ///
 /// # Errors
 ///
-/// `Refused` exactly where the text is no script: with the first line that has a cause, and the lowest
-/// of its causes. `NoMemory`.
+/// `Refused` exactly where the text is no script: with the first line that has a cause, and the
+/// lowest of its causes. `NoMemory` if memory runs out.
 pub fn read_script(alloc: Global, text: &[u8]) -> Result<Vec<Line>, ScriptAnswer>
     ensures reads { Reads result (script_of text.now) }
     ensures script { IfOk result (λ lines. IsScript lines.items) }
@@ -66,7 +67,7 @@ pub fn read_script(alloc: Global, text: &[u8]) -> Result<Vec<Line>, ScriptAnswer
     }
 }
 
-/// What is read of a line, which is split into `words`, after lines of which that watch is open.
+/// Reads a line, which is split into `words`, where the watch of an earlier line may be open.
 #[tactic(auto, unfolding(crate::specs::Script::step_of))]
 fn step_of<'t>(
     alloc: Global,
@@ -88,7 +89,11 @@ fn step_of<'t>(
     Ok(ReadLine { command, watching })
 }
 
-/// The number of the line whose watch is open after a command.
+/// Returns the number of the line whose watch is open after a command.
+///
+/// # Errors
+///
+/// `Order` exactly where a watch begins inside another, or is ended where none is open.
 pub(crate) fn open_after(
     number: u32,
     watching: Option<u32>,
@@ -104,7 +109,7 @@ pub(crate) fn open_after(
     }
 }
 
-/// The command of a line, which is split into `words`, where it has one.
+/// Reads the command of a line, which is split into `words`, where it has one.
 #[tactic(auto, unfolding(crate::specs::Script::command_in))]
 fn command_in<'t>(
     alloc: Global,
@@ -129,7 +134,7 @@ fn command_in<'t>(
     spoken(alloc, words)
 }
 
-/// The command of words, where they are neither none nor those of a comment.
+/// Reads the command of words, where they are neither none nor those of a comment.
 #[tactic(auto, unfolding(crate::specs::Script::spoken))]
 fn spoken(alloc: Global, words: &[&[u8]]) -> Result<Option<Command>, LineAnswer>
     ensures value { Answers result (spoken (texts words.now)) }
@@ -142,7 +147,7 @@ fn spoken(alloc: Global, words: &[&[u8]]) -> Result<Option<Command>, LineAnswer>
     Ok(Some(command))
 }
 
-/// Whether there are no words, or those of a comment.
+/// Returns whether there are no words, or those of a comment.
 fn is_silent(words: &[&[u8]]) -> bool
     ensures value { result ≡ is_silent (texts words.now) }
     ensures none { length words.now ≡ 0 → IsTrue result }
@@ -153,14 +158,14 @@ fn is_silent(words: &[&[u8]]) -> bool
     }
 }
 
-/// Whether a word begins with `#`.
+/// Returns whether a word begins with `#`.
 fn begins_comment(word: &[u8]) -> bool
     ensures { result ≡ begins_comment word.now }
 {
     word.first() == Some(&b'#')
 }
 
-/// The command that words spell.
+/// Reads the command of words.
 #[tactic(auto, unfolding(crate::specs::Script::command_of))]
 fn command_of(alloc: Global, words: &[&[u8]]) -> Result<Command, LineAnswer>
     requires { 0 < length words.now }
@@ -171,7 +176,7 @@ fn command_of(alloc: Global, words: &[&[u8]]) -> Result<Command, LineAnswer>
     command_by(alloc, keyword, words)
 }
 
-/// The command that words spell, by the first of them.
+/// Reads the command of words, by the first of them.
 #[tactic(auto, unfolding(crate::specs::Script::command_by))]
 fn command_by(alloc: Global, keyword: Keyword, words: &[&[u8]]) -> Result<Command, LineAnswer>
     ensures value { Answers result (command_by keyword (texts words.now)) }

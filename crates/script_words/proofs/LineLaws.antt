@@ -8,7 +8,7 @@ use Rattle.std.proofs.lemmas.List.{take_rest, drop-drop}
 use Rattle.std.proofs.lemmas.List.Splits.{slice_split_at, slice_split_first, slice_split_none, length-slice_split}
 use Rattle.std.proofs.lemmas.List.Sums.{AllPass-from_list_all, fails_before_first}
 use Rattle.script_words.specs.Lines.{lines_of, text_of, is_line, is_text, is_text_byte}
-use Rattle.script_words.proofs.Passing.{not_passed, and_prefix, and_back, and_both, list_all-other}
+use Rattle.script_words.proofs.Passing.{not_passed, and_first, and_second, and_both, list_all-other}
 
 -- a line feed
 abbrev pub is_feed : ℕ → Bool
@@ -49,24 +49,24 @@ pub lines_of_empty : lines_of [] ≡ []
 unfolding lines_of
 lines_of_empty = refl
 
--- a line before a line feed is read as it stands
+-- a line before a line feed is read as it is
 pub lines_of-append : (line rest : List ℕ) → is_line line ≡ true → lines_of (line ++ 10 ∷ rest) ≡ line ∷ lines_of rest
 unfolding lines_of
 lines_of-append line rest h =
     let feeds : All (λ (byte : ℕ). is_feed byte ≡ false) line =
-    λ k d below. not_passed _ (AllPass-from_list_all (λ (byte : ℕ). not (eqb byte 10)) line (and_prefix _ _ h) k d below) in
+    λ k d below. not_passed _ (AllPass-from_list_all (λ (byte : ℕ). not (eqb byte 10)) line (and_first _ _ h) k d below) in
     let parts : slice_split is_feed (line ++ 10 ∷ rest) ≡ line ∷ slice_split is_feed rest = slice_split_at is_feed line 10 rest feeds refl in
-    let last : eqb (get_or line (length line - 1) 0) 13 ≡ false = not_passed _ (and_back _ _ h) in
-    let kept : strip_carriage_return line ≡ line = rw last refl in
+    let last : eqb (get_or line (length line - 1) 0) 13 ≡ false = not_passed _ (and_second _ _ h) in
+    let same : strip_carriage_return line ≡ line = rw last refl in
     ap lines_of_parts parts
     ∙ first_of_parts line (slice_split is_feed rest) (omega (arith, length-slice_split is_feed rest))
-    ∙ ap (λ (first : List ℕ). first ∷ lines_of_parts (slice_split is_feed rest)) kept
+    ∙ ap (λ (first : List ℕ). first ∷ lines_of_parts (slice_split is_feed rest)) same
 
 pub lines_of-text_of : (lines : List (List ℕ)) → list_all is_line lines ≡ true → lines_of (text_of lines) ≡ lines
 lines_of-text_of [] h = lines_of_empty
 lines_of-text_of (line ∷ lines) h =
-    lines_of-append line (text_of lines) (and_prefix _ _ h)
-    ∙ ap (λ (after : List (List ℕ)). line ∷ after) (lines_of-text_of lines (and_back _ _ h))
+    lines_of-append line (text_of lines) (and_first _ _ h)
+    ∙ ap (λ (after : List (List ℕ)). line ∷ after) (lines_of-text_of lines (and_second _ _ h))
 
 no_feed : (byte : ℕ) → is_text_byte byte ≡ true → not (eqb byte 10) ≡ true
 no_feed byte h = grind (arith, nat_tests)
@@ -82,6 +82,6 @@ last_no_return (byte ∷ bytes) h =
 pub is_line-text : (line : List ℕ) → is_text line ≡ true → is_line line ≡ true
 is_line-text line h = and_both _ _ (list_all-other is_text_byte _ no_feed line h) (last_no_return line h)
 
--- what stands after the byte at a position
+-- what is after the byte at a position
 pub after : (text : List ℕ) (index : ℕ) → take (length (drop index text) - 1) (drop 1 (drop index text)) ≡ drop (index + 1) text
 after text index = take_rest (drop index text) 1 ∙ drop-drop 1 index text

@@ -1,4 +1,4 @@
--- Laws of numbers: a spelling is read as the number that is spelled.
+-- Laws of numbers: a printed number is read as the number.
 use Rattle.std.proofs.Common.{◌≡◌, ◌<◌, ◌≤◌, ◌^◌, ◌+◌, ◌-◌, ◌*◌, ℕ, suc, ℤ, pos, negsuc, neg_ℤ, Bool, true, false, List, [], ◌∷◌, Option, Some, length, eqb, leb, ltb, refl, ap, ◌∙◌, arith, rules}
 use Rattle.std.specs.Prelude.{◌≤ℤ◌, int_lt, int_le, unsigned_abs, fold}
 use Rattle.std.specs.Char.{is_ascii_digit}
@@ -12,7 +12,7 @@ use Rattle.std.proofs.lemmas.Int.{ints}
 use Rattle.std.proofs.lemmas.Str.Parse.{IsNumeralModel, numerals_by_fold}
 use Rattle.script_words.specs.Numbers.{digits_value, natural_of, natural_in, integer_of, between, integer_in, integer_between, ◌>>=◌}
 use Rattle.script_words.specs.Words.{is_word, is_word_byte}
-use Rattle.script_words.proofs.Passing.{and_prefix, list_all-other}
+use Rattle.script_words.proofs.Passing.{and_first, list_all-other}
 use Rattle.script_words.proofs.WordLaws.{is_word_from}
 
 digits : IsNumeralModel (λ (ds : List ℕ). list_all is_ascii_digit ds ≡ true) digits_value
@@ -39,18 +39,18 @@ natural_in-decimal low high n above below h =
 no_minus : (byte : ℕ) → is_ascii_digit byte ≡ true → eqb byte 45 ≡ false
 no_minus byte h = grind (arith, nat_tests)
 
--- digits are read equal where `-` may stand
+-- digits are read as they are where a `-` may precede them
 integer_of-digits : (signed : Bool) (word : List ℕ) → list_all is_ascii_digit word ≡ true → integer_of signed word ≡ option_map pos (natural_of word)
 integer_of-digits signed [] h = refl
 integer_of-digits false (byte ∷ bytes) h = refl
 integer_of-digits true (byte ∷ bytes) h =
-    let other : eqb byte 45 ≡ false = no_minus byte (and_prefix _ _ h) in rw other refl
+    let other : eqb byte 45 ≡ false = no_minus byte (and_first _ _ h) in rw other refl
 
 in_between : (low high z : ℤ) → low ≤ℤ z → z ≤ℤ high → integer_between low high z ≡ Some z
 in_between low high z above below =
-    let prefix : int_le low z ≡ true = grind (arith, ints) in
-    let back : int_le z high ≡ true = grind (arith, ints) in
-    rw (prefix, back) refl
+    let from_low : int_le low z ≡ true = grind (arith, ints) in
+    let to_high : int_le z high ≡ true = grind (arith, ints) in
+    rw (from_low, to_high) refl
 
 below_zero : (low : ℤ) (n : ℕ) → low ≤ℤ negsuc n → int_lt low (pos 0) ≡ true
 below_zero (pos m) n h = absurd (omega (arith, ints))

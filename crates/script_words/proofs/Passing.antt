@@ -6,13 +6,13 @@ pub not_passed : (test : Bool) → not test ≡ true → test ≡ false
 not_passed true h = absurd (cc)
 not_passed false h = refl
 
-pub and_prefix : (a b : Bool) → (a && b) ≡ true → a ≡ true
-and_prefix true b h = refl
-and_prefix false b h = h
+pub and_first : (a b : Bool) → (a && b) ≡ true → a ≡ true
+and_first true b h = refl
+and_first false b h = h
 
-pub and_back : (a b : Bool) → (a && b) ≡ true → b ≡ true
-and_back true b h = h
-and_back false b h = absurd (cc)
+pub and_second : (a b : Bool) → (a && b) ≡ true → b ≡ true
+and_second true b h = h
+and_second false b h = absurd (cc)
 
 pub and_both : (a b : Bool) → a ≡ true → b ≡ true → (a && b) ≡ true
 and_both true b ha hb = hb
@@ -22,4 +22,4 @@ and_both false b ha hb = ha
 pub list_all-other : {X : Type 0} (p q : X → Bool) → ((x : X) → p x ≡ true → q x ≡ true) → (xs : List X) → list_all p xs ≡ true → list_all q xs ≡ true
 list_all-other p q other [] h = refl
 list_all-other p q other (x ∷ xs) h =
-    and_both _ _ (other x (and_prefix _ _ h)) (list_all-other p q other xs (and_back _ _ h))
+    and_both _ _ (other x (and_first _ _ h)) (list_all-other p q other xs (and_second _ _ h))

@@ -1,4 +1,4 @@
--- How the bytes of a file name are kept.
+-- How the bytes of a file name are stored.
 use Rattle.std.specs.Prelude.{◌≡◌, ℕ, ◌-◌, IsTrue, List, ◌++◌, length, take, replicate}
 use Rattle.outside_io.specs.FileName.{is_file_name}
 

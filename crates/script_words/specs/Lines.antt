@@ -5,7 +5,7 @@ use Rattle.std.specs.Str.Lines.{lines}
 use Rattle.outside_io.specs.FileName.{is_between}
 
 -- The lines with their ends taken off. A line ends at a line feed or at the end of the text, and a carriage return
--- just before a line feed belongs to the line's end. Behind a line feed at the end of the text there is no line.
+-- just before a line feed belongs to the line's end. After a line feed at the end of the text there is no line.
 unfoldable pub lines_of : List ℕ → List (List ℕ)
 lines_of text = lines text
 
@@ -14,7 +14,7 @@ abbrev pub text_of : List (List ℕ) → List ℕ
 text_of [] = []
 text_of (line ∷ lines) = line ++ 10 ∷ text_of lines
 
--- a line that is read as it stands where a line feed follows it: it has none itself, and its end is no carriage return
+-- a line that is read as it is where a line feed follows it: it has none itself, and its end is no carriage return
 abbrev pub is_line : List ℕ → Bool
 is_line line = list_all (λ byte. not (byte == 10)) line && not (slice_index line (length line - 1) == 13)
 

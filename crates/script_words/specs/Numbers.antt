@@ -1,4 +1,4 @@
--- Numbers as words spell them. The spelling without needless zeros is std's `decimal` of a natural number and
+-- Numbers as words write them. A number is printed without needless zeros, as std's `decimal` of a natural number and
 -- `signed_decimal` of an integer.
 use Rattle.std.specs.Prelude.{ℕ, ℤ, pos, neg_ℤ, int_lt, int_le, ◌+◌, ◌-◌, ◌*◌, Bool, ◌&&◌, ◌==◌, nat_lt, nat_le, if◌then◌else◌, List, [], ◌∷◌, length, fold, Option, Some, None, option_and_then}
 use Rattle.std.specs.Char.{is_ascii_digit}
@@ -9,16 +9,16 @@ infixl 10 ◌>>=◌
 abbrev pub ◌>>=◌ : {A B : Type 0} → Option A → (A → Option B) → Option B
 found >>= f = option_and_then f found
 
--- what digits stand for
+-- the number of some digits, without a bound on their count
 abbrev pub digits_value : List ℕ → ℕ
 digits_value digits = fold (λ value digit. 10 * value + (digit - 48)) 0 digits
 
--- the number that 1 to 10 digits spell, zeros at their front among them
+-- the number of 1 to 10 digits, zeros at their beginning among them
 abbrev pub natural_of : List ℕ → Option ℕ
 natural_of word =
     if nat_lt 0 (length word) && nat_le (length word) 10 && list_all is_ascii_digit word then Some (digits_value word) else None
 
--- the number that a word spells: 1 to 10 digits, after `-` only where that may stand
+-- the number that a word writes: 1 to 10 digits, after `-` only where `signed` allows it
 abbrev pub integer_of : Bool → List ℕ → Option ℤ
 integer_of signed [] = None
 integer_of signed (byte ∷ bytes) =
@@ -32,10 +32,11 @@ between low high value = if nat_le low value && nat_le value high then Some valu
 abbrev pub integer_between : ℤ → ℤ → ℤ → Option ℤ
 integer_between low high value = if int_le low value && int_le value high then Some value else None
 
--- a number from `low` to `high`, as a word spells it
+-- a number from `low` to `high`, as a word writes it
 unfoldable pub natural_in : ℕ → ℕ → List ℕ → Option ℕ
 natural_in low high word = natural_of word >>= between low high
 
--- The same of integers. `-` may stand where a number of the range is below 0.
+-- An integer from `low` to `high`, as a word writes it. A `-` may precede the digits where an integer of the range is
+-- below 0.
 unfoldable pub integer_in : ℤ → ℤ → List ℕ → Option ℤ
 integer_in low high word = integer_of (int_lt low (pos 0)) word >>= integer_between low high

@@ -12,7 +12,10 @@ use std::str;
 /// The largest number of bytes in a file name.
 const LONGEST: usize = 64;
 
-/// The name of a file: 1 to 64 letters, digits, `_`, `-` and `.`, of which the first is neither `-` nor `.`.
+/// The name of a file: 1 to 64 letters, digits, `_`, `-` and `.`, of which the first is neither `-`
+/// nor `.`.
+///
+/// A clause sees it as the list of its bytes.
 #[derive(Clone, Copy, Debug)]
 pub struct FileName {
     /// The name, and zeros after it.
@@ -34,7 +37,7 @@ impl Model for FileName {
 }
 
 impl FileName {
-    /// The file name that a word is, and None exactly where it is none.
+    /// Returns the file name that a word is, and None exactly where it is none.
     pub fn parse(word: &[u8]) -> Option<FileName>
         ensures { SomeIff result (IsTrue (is_file_name word.now)) word.now }
     {
@@ -49,7 +52,7 @@ impl FileName {
         })
     }
 
-    /// Its bytes, 1 to 64.
+    /// Returns its bytes, 1 to 64.
     pub fn as_bytes(&self) -> &[u8]
         ensures value { result.now ≡ self.now }
         ensures name { IsTrue (is_file_name result.now) }
@@ -57,7 +60,7 @@ impl FileName {
         &self.padded[..usize::from(self.len)]
     }
 
-    /// Its text.
+    /// Returns its text.
     pub fn as_str(&self) -> &str
         ensures value { result.now ≡ self.now }
         ensures name { IsTrue (is_file_name result.now) }

@@ -1,4 +1,4 @@
-//! What is printed is read again.
+//! What is printed is read again, as laws.
 
 ghost use Rattle.std.specs.Prelude.{◌≡◌, ℕ, ℤ, ◌<◌, ◌≤◌, ◌≤ℤ◌, ◌+◌, ◌*◌, ◌^◌, ◌++◌, ◌∷◌, [], List, Some, IsTrue, length, decimal, sum_by, unsigned_abs};
 ghost use Rattle.std.specs.Fmt.{signed_decimal};
@@ -9,7 +9,7 @@ ghost use Rattle.script_words.specs.Lines.{is_line, is_text, lines_of, text_of};
 ghost use Rattle.script_words.specs.Numbers.{integer_in, natural_in};
 ghost use Rattle.script_words.specs.Words.{is_word, joined, words_of};
 
-/// A text is read as the lines that it was made of, where each may stand before a line feed.
+/// A text is read as the lines that it was made of, where each can be read before a line feed.
 pub fn lines_read_again()
     ensures first { (line rest : List ℕ) → IsTrue (is_line line)
         → lines_of (line ++ 10 ∷ rest) ≡ line ∷ lines_of rest }
@@ -17,18 +17,18 @@ pub fn lines_read_again()
         → lines_of (text_of lines) ≡ lines }
 {}
 
-/// What has only bytes of a text is a line that may stand before a line feed.
+/// A line of text bytes alone can be read before a line feed.
 pub fn text_is_line()
     ensures { (line : List ℕ) → IsTrue (is_text line) → IsTrue (is_line line) }
 {}
 
-/// Words that single spaces part are read as they were.
+/// Words that are separated by single spaces are read as they were.
 pub fn words_read_again()
     ensures { (words : List (List ℕ)) → IsTrue (list_all is_word words)
         → words_of (joined words) ≡ words }
 {}
 
-/// Words that single spaces part have only bytes of a text.
+/// Words that are separated by single spaces have only text bytes.
 pub fn joined_words_are_text()
     ensures { (words : List (List ℕ)) → IsTrue (list_all is_word words)
         → IsTrue (is_text (joined words)) }
@@ -39,7 +39,8 @@ pub fn words_of_text()
     ensures { (line : List ℕ) → IsTrue (is_text line) → IsTrue (list_all is_word (words_of line)) }
 {}
 
-/// Words that single spaces part are as long as they are together, and a space more for each but one.
+/// Words that are separated by single spaces are as long as they are together, and a space more for
+/// each but one.
 pub fn length_of_joined()
     ensures { (word : List ℕ) (words : List (List ℕ))
         → length (joined (word ∷ words)) ≡ length word + sum_by (λ other. length other + 1) words }
@@ -51,7 +52,7 @@ pub fn natural_read_again()
         → natural_in low high (decimal value) ≡ Some value }
 {}
 
-/// The spelling of an integer of a range is read as the integer.
+/// The printed form of an integer of a range is read as the integer.
 pub fn integer_read_again()
     ensures { (low high value : ℤ) → low ≤ℤ value → value ≤ℤ high
         → unsigned_abs value < 10 ^ 10
@@ -64,7 +65,7 @@ pub fn natural_is_word()
     ensures short { (value : ℕ) → value < 10 ^ 10 → length (decimal value) ≤ 10 }
 {}
 
-/// The spelling of an integer is a word, of at most 11 bytes.
+/// The printed form of an integer is a word, of at most 11 bytes.
 pub fn integer_is_word()
     ensures word { (value : ℤ) → unsigned_abs value < 10 ^ 10 → IsTrue (is_word (signed_decimal value)) }
     ensures short { (value : ℤ) → unsigned_abs value < 10 ^ 10 → length (signed_decimal value) ≤ 11 }

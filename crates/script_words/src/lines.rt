@@ -4,8 +4,9 @@ ghost use Rattle.std.specs.Prelude.{◌≡◌, ◌==◌, ◌<◌, ◌∷◌, [],
 ghost use Rattle.std.specs.Str.Lines.{strip_carriage_return};
 ghost use Rattle.script_words.specs.Lines.{is_text, is_text_byte, lines_of};
 
-/// The first line of a text and the text after it, and None where the text is empty. The line
-/// stands without its end: a line feed, and a carriage return just before it.
+/// Returns the first line of a text and the text after it, and None where the text is empty. The
+/// line comes without its end: a line feed, and a carriage return just before it. Takes time in
+/// proportion to the line.
 pub fn next_line(text: &[u8]) -> Option<(&[u8], &[u8])>
     ensures none { IfNone result (text.now ≡ []) }
     ensures lines { IfSome result (λ step. lines_of text.now ≡ step.0.now ∷ lines_of step.1.now) }
@@ -23,14 +24,14 @@ pub fn next_line(text: &[u8]) -> Option<(&[u8], &[u8])>
     }
 }
 
-/// Where the first line feed stands.
+/// Returns the index of the first line feed.
 fn first_feed(text: &[u8]) -> Option<usize>
     ensures { result ≡ position (λ byte. byte == 10) text.now }
 {
     text.iter().position(|byte| *byte == b'\n')
 }
 
-/// The bytes without a carriage return at their end.
+/// Returns the bytes without a carriage return at their end.
 fn without_carriage_return(line: &[u8]) -> &[u8]
     ensures { result.now ≡ strip_carriage_return line.now }
 {
@@ -40,13 +41,15 @@ fn without_carriage_return(line: &[u8]) -> &[u8]
     }
 }
 
-/// Whether each byte of a line is a tab, or one from the space to the tilde.
+/// Returns whether each byte of a line is a tab, or one from the space to the tilde. Takes time in
+/// proportion to the line.
 pub fn is_text(line: &[u8]) -> bool
     ensures { result ≡ is_text line.now }
 {
     line.iter().all(|byte| is_text_byte(*byte))
 }
 
+/// Returns whether a byte is a tab, or one from the space to the tilde.
 fn is_text_byte(byte: u8) -> bool
     ensures { result ≡ is_text_byte byte }
 {

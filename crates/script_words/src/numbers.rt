@@ -1,13 +1,13 @@
-//! Numbers as words spell them.
+//! Numbers, read from words.
 
 ghost use Rattle.std.specs.Prelude.{◌≡◌, ◌<◌, ◌≤◌, ◌≤ℤ◌, ◌^◌, IfSome};
 ghost use Rattle.script_words.specs.Numbers.{integer_in, integer_of, natural_in, natural_of};
 
-/// The most digits of a number.
-const MOST_DIGITS: usize = 10;
+/// The largest number of digits of a number.
+const MAX_DIGITS: usize = 10;
 
-/// The number from `low` to `high` that a word spells in 1 to 10 digits, and None exactly where
-/// it spells none. The digits may begin with zeros.
+/// Returns the number from `low` to `high` that a word writes in 1 to 10 digits, zeros at their
+/// beginning among them, and None exactly where it writes none.
 #[tactic(auto, unfolding(crate::specs::Numbers::natural_in))]
 pub fn natural_in(low: u32, high: u32, word: &[u8]) -> Option<u32>
     ensures value { result ≡ natural_in low high word.now }
@@ -21,7 +21,8 @@ pub fn natural_in(low: u32, high: u32, word: &[u8]) -> Option<u32>
     }
 }
 
-/// The same of integers. `-` may stand before the digits where a number of the range is below 0;
+/// Returns the integer from `low` to `high` that a word writes in 1 to 10 digits, and None exactly
+/// where it writes none. A `-` may precede the digits where an integer of the range is below 0;
 /// `-0` is 0.
 #[tactic(auto, unfolding(crate::specs::Numbers::integer_in))]
 pub fn integer_in(low: i64, high: i64, word: &[u8]) -> Option<i64>
@@ -32,7 +33,7 @@ pub fn integer_in(low: i64, high: i64, word: &[u8]) -> Option<i64>
     (low <= value && value <= high).then_some(value)
 }
 
-/// The number that a word spells, where `-` may stand if `signed` says so.
+/// Returns the integer that a word writes, where `-` may precede the digits if `signed` says so.
 fn integer_of(signed: bool, word: &[u8]) -> Option<i64>
     ensures { result ≡ integer_of signed word.now }
 {
@@ -48,12 +49,12 @@ fn integer_of(signed: bool, word: &[u8]) -> Option<i64>
     }
 }
 
-/// The number of 1 to 10 digits.
+/// Returns the number of 1 to 10 digits.
 fn natural_of(digits: &[u8]) -> Option<u64>
     ensures value { result ≡ natural_of digits.now }
     ensures bound { IfSome result (λ value. value < 10 ^ 10) }
 {
-    if digits.is_empty() || digits.len() > MOST_DIGITS {
+    if digits.is_empty() || digits.len() > MAX_DIGITS {
         return None;
     }
     let mut value = 0;

@@ -6,11 +6,12 @@ ghost use Rattle.std.specs.Fmt.{signed_decimal};
 use itoa::Buffer;
 use no_memory::NoMemory;
 
-/// Puts a space and a word after a text.
+/// Appends a space and a word to a text. Takes time in proportion to the word, amortized over the
+/// appends to the text.
 ///
 /// # Errors
 ///
-/// `NoMemory` where no memory was left. The text stands as it was.
+/// `NoMemory` if memory runs out. The text is then unchanged.
 pub fn push_word(text: &mut Vec<u8>, word: &[u8]) -> Result<(), NoMemory>
     ensures ok { OnOk result (text.new.items ≡ text.old.items ++ 32 ∷ word.now) }
     ensures err { OnErr result (text.new.items ≡ text.old.items) }
@@ -21,7 +22,7 @@ pub fn push_word(text: &mut Vec<u8>, word: &[u8]) -> Result<(), NoMemory>
     Ok(())
 }
 
-/// Puts a space and the digits of a number after a text, without zeros at their front.
+/// Appends a space and the digits of a number to a text, without zeros at their beginning.
 ///
 /// # Errors
 ///
@@ -33,7 +34,7 @@ pub fn push_natural(text: &mut Vec<u8>, value: u32) -> Result<(), NoMemory>
     push_word(text, Buffer::new().format(value).as_bytes())
 }
 
-/// The same of an integer, with `-` before the digits of one below 0.
+/// Appends a space and the digits of an integer to a text, after a `-` if it is below 0.
 ///
 /// # Errors
 ///

@@ -5,12 +5,13 @@ ghost use Rattle.script_words.specs.Words.{is_blank, words_of};
 
 use no_memory::NoMemory;
 
-/// Leaves the words of a line in `words`, in their order. Spaces and tabs part them, and none is
-/// empty. What `words` held goes, and it keeps its memory for the next line.
+/// Replaces `words` by the words of a line, in their order. Spaces and tabs separate them, and none
+/// is empty. The vector keeps its memory, so that one serves for many lines. Takes time in
+/// proportion to the line.
 ///
 /// # Errors
 ///
-/// `NoMemory` where no memory was left. Some words from the line's front may then be there.
+/// `NoMemory` if memory runs out. Then `words` has some of the first words of the line.
 pub fn split_words<'t>(line: &'t [u8], words: &mut Vec<&'t [u8]>) -> Result<(), NoMemory>
     ensures { OnOk result (map (λ word. word.now) words.new.items ≡ words_of line.now) }
 {
@@ -23,6 +24,7 @@ pub fn split_words<'t>(line: &'t [u8], words: &mut Vec<&'t [u8]>) -> Result<(), 
     Ok(())
 }
 
+/// Returns whether a byte is a space or a tab.
 fn is_blank(byte: u8) -> bool
     ensures { result ≡ is_blank byte }
 {

@@ -1,11 +1,11 @@
 -- Products, sums and quotients of vectors that are computed in wider lanes, of numbers below w, and cast back.
-use Rattle.std.proofs.Common.{◌≡◌, ℕ, ◌+◌, ◌*◌, ◌/◌, ◌%◌, ◌^◌, ◌<◌, ◌≤◌, List, get_or, map, replicate, refl, ap, ◌∙◌, arith, w8, w16, Fits}
+use Rattle.std.proofs.Common.{◌≡◌, ℕ, ◌+◌, ◌*◌, ◌/◌, ◌%◌, ◌^◌, ◌<◌, ◌≤◌, List, length, get_or, map, replicate, refl, ap, ◌∙◌, arith, w8, w16, w32, Fits}
 use Rattle.std.proofs.Math.Nat.{mod-eq_of_lt, mul-le-mul}
 use Rattle.std.proofs.lemmas.Simd.{Each1-all, Each1-from_get_or, Each2-splat, get_or-replicate}
 use lib.Lanes.{zip2, Each1, Each2}
 use Rattle.pixel_formats.specs.Sample.{mean_of_four, mean_of_three, scaled_by}
 use Rattle.simd_samples.specs.Lanes.{AreLanes}
-use Rattle.simd_samples.proofs.Pointwise.{Makes, Makes-from_four, Makes-from_two}
+use Rattle.simd_samples.proofs.Pointwise.{Makes, Makes-from_four, Makes-from_lanes, Makes-from_two}
 
 -- the operations in one lane; a cast leaves a number as it is
 abbrev pub same : ℕ → ℕ
@@ -36,6 +36,9 @@ fit_bytes v p = Each1-from_get_or (Fits w8) v 0 (λ i lt. record { fits = p.belo
 
 pub fit_words : (v : List ℕ) → AreLanes 65536 v → Each1 (Fits w16) v
 fit_words v p = Each1-from_get_or (Fits w16) v 0 (λ i lt. record { fits = p.below i })
+
+pub fit_longs : (v : List ℕ) → AreLanes 262144 v → Each1 (Fits w32) v
+fit_longs v p = Each1-from_get_or (Fits w32) v 0 (λ i lt. record { fits = omega (arith, p.below i) })
 
 -- ---- scaled samples
 
@@ -117,6 +120,16 @@ pub Makes-cast : (bound : ℕ) (v : List ℕ) (value : ℕ → ℕ) → 0 < boun
 Makes-cast bound v value some p =
     Makes-from_two (λ xs ys. map same xs) (λ a b. a) (λ a b xs ys. refl) refl bound value some v v p.0.long p.0.long
     (λ j lt. (p.1 j lt, omega (arith, p.1 j lt, p.0.below j)))
+
+pub AreLanes-cast : (bound : ℕ) (v : List ℕ) → 0 < bound → length v ≡ 16 → ((j : ℕ) → j < 16 → get_or v j 0 < bound) → AreLanes bound (map same v)
+AreLanes-cast bound v some long small =
+    let value : ℕ → ℕ = λ j. get_or v j 0 in
+    (Makes-cast bound v value some (Makes-from_lanes bound v value some long (λ j lt. refl) small)).0
+
+-- what is computed of two vectors of numbers of 32 bits, lane by lane
+pub AreLanes-wrapped : (f : ℕ → ℕ → ℕ) → ((a b : ℕ) → f a b < 4294967296) → (xs ys : List ℕ) → length xs ≡ 16 → length ys ≡ 16 → AreLanes 4294967296 (zip2 f xs ys)
+AreLanes-wrapped f small xs ys p q =
+    (Makes-from_two (zip2 f) f (λ a b xs ys. refl) refl 4294967296 (λ j. f (get_or xs j 0) (get_or ys j 0)) (omega arith) xs ys p q (λ j lt. (refl, small _ _))).0
 
 -- ---- means of samples below m, which are computed in lanes below w
 

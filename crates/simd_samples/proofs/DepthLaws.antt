@@ -9,7 +9,7 @@ use Rattle.simd_samples.proofs.Arithmetic.{plus, shifted, splat_at}
 use Rattle.simd_samples.proofs.Moves.{number_of_two}
 use Rattle.simd_samples.proofs.Pointwise.{Makes, Makes-from_four, Makes-from_lanes}
 use Rattle.simd_samples.proofs.Saturation.{less}
-use Rattle.simd_samples.proofs.Shuffles.{in_first, joined_below, under}
+use Rattle.simd_samples.proofs.Shuffling.{in_first, joined_below, under}
 
 -- ---- bytes, each twice, are 257 times themselves
 

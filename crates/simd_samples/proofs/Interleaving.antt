@@ -1,53 +1,44 @@
--- Vectors whose lanes are taken apart and put together by turns.
-use Rattle.std.proofs.Common.{◌≡◌, ℕ, ◌+◌, ◌*◌, ◌/◌, ◌%◌, ◌<◌, List, [], ◌∷◌, ◌++◌, length, get_or, refl, ap, ◌∙◌, arith}
-use lib.Lanes.{pick_l}
-use Rattle.simd_samples.specs.Lanes.{AreLanes, Hold, HoldTwo, HoldThree}
-use Rattle.simd_samples.proofs.Shuffles.{AreThrough, Hold-shuffled, Hold-shuffled_twice}
+-- Vectors whose lanes are put together by turns, or taken from one vector twice.
+use Rattle.std.proofs.Common.{◌≡◌, ℕ, ◌+◌, ◌-◌, ◌*◌, ◌/◌, ◌%◌, ◌<◌, Bool, true, false, ltb, cond, refl, sym, ap, ◌∙◌, arith, ltb-true, ltb-false}
+use Rattle.simd_samples.specs.Lanes.{Hold, HoldTwo, HoldThree}
 
--- the positions that `deinterleave` and `interleave` pick from
-abbrev pub evens : List ℕ
-evens = 0 ∷ 2 ∷ 4 ∷ 6 ∷ 8 ∷ 10 ∷ 12 ∷ 14 ∷ 16 ∷ 18 ∷ 20 ∷ 22 ∷ 24 ∷ 26 ∷ 28 ∷ 30 ∷ []
+-- the samples in two vectors one after the other that hold s by turns
+abbrev pub by_turns_of_two : (ℕ → ℕ) → ℕ → ℕ
+by_turns_of_two s k = s (2 * (k % 16) + k / 16)
 
-abbrev pub odds : List ℕ
-odds = 1 ∷ 3 ∷ 5 ∷ 7 ∷ 9 ∷ 11 ∷ 13 ∷ 15 ∷ 17 ∷ 19 ∷ 21 ∷ 23 ∷ 25 ∷ 27 ∷ 29 ∷ 31 ∷ []
+pub HoldTwo-by_turns : (s xs ys : ℕ → ℕ) → Hold xs (λ j. s (2 * j)) → Hold ys (λ j. s (2 * j + 1)) → HoldTwo xs ys (by_turns_of_two s)
+HoldTwo-by_turns s xs ys a b = (λ j lt. a j lt ∙ ap s (omega arith), λ j lt. b j lt ∙ ap s (omega arith))
 
-abbrev pub lows : List ℕ
-lows = 0 ∷ 16 ∷ 1 ∷ 17 ∷ 2 ∷ 18 ∷ 3 ∷ 19 ∷ 4 ∷ 20 ∷ 5 ∷ 21 ∷ 6 ∷ 22 ∷ 7 ∷ 23 ∷ []
+-- the samples in three vectors
+abbrev pub by_turns_of_three : (ℕ → ℕ) → ℕ → ℕ
+by_turns_of_three s k = s (3 * (k % 16) + k / 16)
 
-abbrev pub highs : List ℕ
-highs = 8 ∷ 24 ∷ 9 ∷ 25 ∷ 10 ∷ 26 ∷ 11 ∷ 27 ∷ 12 ∷ 28 ∷ 13 ∷ 29 ∷ 14 ∷ 30 ∷ 15 ∷ 31 ∷ []
+pub HoldThree-by_turns : (s xs ys zs : ℕ → ℕ) → Hold xs (λ j. s (3 * j)) → Hold ys (λ j. s (3 * j + 1)) → Hold zs (λ j. s (3 * j + 2)) → HoldThree xs ys zs (by_turns_of_three s)
+HoldThree-by_turns s xs ys zs a b c = (λ j lt. a j lt ∙ ap s (omega arith), λ j lt. b j lt ∙ ap s (omega arith), λ j lt. c j lt ∙ ap s (omega arith))
 
--- two vectors by turns
-module _ (bound : ℕ) (some : 0 < bound) (xs ys : List ℕ) (p : AreLanes bound xs) (q : AreLanes bound ys)
-    (s : ℕ → ℕ) (a : Hold (λ j. get_or xs j 0) (λ j. s (2 * j))) (b : Hold (λ j. get_or ys j 0) (λ j. s (2 * j + 1))) where
-  -- the sample in each place of the two vectors one after the other
-  placed : ℕ → ℕ
-  placed k = s (2 * (k % 16) + k / 16)
+-- the lanes of a vector twice
+abbrev pub repeated : (ℕ → ℕ) → ℕ → ℕ
+repeated xs k = xs (k % 16)
 
-  both : HoldTwo (λ j. get_or xs j 0) (λ j. get_or ys j 0) placed
-  unfolding placed
-  both = (λ j lt. a j lt ∙ ap s (omega arith), λ j lt. b j lt ∙ ap s (omega arith))
+pub HoldTwo-repeated : (xs : ℕ → ℕ) → HoldTwo xs xs (repeated xs)
+HoldTwo-repeated xs = (λ j lt. ap xs (omega arith), λ j lt. ap xs (omega arith))
 
-  pub Hold-low : Hold (λ j. get_or (pick_l 0 (xs ++ ys) lows) j 0) s
-  unfolding placed
-  Hold-low j lt = Hold-shuffled bound some xs ys p q lows (λ j. 16 * (j % 2) + j / 2) refl tt (λ j lt. omega arith) placed both j lt ∙ ap s (omega arith)
+-- the lanes of two vectors one after the other
+abbrev pub joined : (ℕ → ℕ) → (ℕ → ℕ) → ℕ → ℕ
+joined xs ys k = cond (ltb k 16) (xs k) (ys (k - 16))
 
-  pub Hold-high : Hold (λ j. get_or (pick_l 0 (xs ++ ys) highs) j 0) (λ j. s (16 + j))
-  unfolding placed
-  Hold-high j lt = Hold-shuffled bound some xs ys p q highs (λ j. 16 * (j % 2) + 8 + j / 2) refl tt (λ j lt. omega arith) placed both j lt ∙ ap s (omega arith)
+pub HoldTwo-joined : (xs ys : ℕ → ℕ) → HoldTwo xs ys (joined xs ys)
+HoldTwo-joined xs ys = (λ j lt. first j lt (ltb j 16) refl, λ j lt. second j (ltb (16 + j) 16) refl)
+  where
+    first : (j : ℕ) → j < 16 → (t : Bool) → ltb j 16 ≡ t → xs j ≡ cond t (xs j) (ys (j - 16))
+    first j lt true e = refl
+    first j lt false e = absurd (omega (arith, ltb-false _ _ e))
 
--- three vectors by turns: the sixteen samples from number `from` on
-module _ (bound : ℕ) (some : 0 < bound) (xs ys zs : List ℕ) (p : AreLanes bound xs) (q : AreLanes bound ys) (r : AreLanes bound zs)
-    (by_two by_last : List ℕ) (long : length by_two ≡ 16) (long_last : length by_last ≡ 16) (s : ℕ → ℕ)
-    (a : Hold (λ j. get_or xs j 0) (λ j. s (3 * j))) (b : Hold (λ j. get_or ys j 0) (λ j. s (3 * j + 1))) (c : Hold (λ j. get_or zs j 0) (λ j. s (3 * j + 2))) where
-  placed_of_three : ℕ → ℕ
-  placed_of_three k = s (3 * (k % 16) + k / 16)
+    second : (j : ℕ) (t : Bool) → ltb (16 + j) 16 ≡ t → ys j ≡ cond t (xs (16 + j)) (ys (16 + j - 16))
+    second j true e = absurd (omega (arith, ltb-true _ _ e))
+    second j false e = ap ys (omega arith)
 
-  all : HoldThree (λ j. get_or xs j 0) (λ j. get_or ys j 0) (λ j. get_or zs j 0) placed_of_three
-  unfolding placed_of_three
-  all = (λ j lt. a j lt ∙ ap s (omega arith), λ j lt. b j lt ∙ ap s (omega arith), λ j lt. c j lt ∙ ap s (omega arith))
-
-  pub Hold-joined : (from : ℕ) → from < 33 → AreThrough by_two by_last (λ j. 16 * ((from + j) % 3) + (from + j) / 3) → Hold (λ j. get_or (pick_l 0 (pick_l 0 (xs ++ ys) by_two ++ zs) by_last) j 0) (λ j. s (from + j))
-  unfolding placed_of_three
-  Hold-joined from few at j lt =
-      Hold-shuffled_twice bound some xs ys zs p q r by_two by_last long long_last placed_of_three all (λ j. 16 * ((from + j) % 3) + (from + j) / 3) at j lt ∙ ap s (omega arith)
+-- lane j of the second vector where a test says so, and else of the first
+pub joined-chosen : (xs ys : ℕ → ℕ) (j : ℕ) → j < 16 → (t : Bool) → joined xs ys (cond t (16 + j) j) ≡ cond t (ys j) (xs j)
+joined-chosen xs ys j lt true = sym ((HoldTwo-joined xs ys).1 j lt)
+joined-chosen xs ys j lt false = sym ((HoldTwo-joined xs ys).0 j lt)

@@ -2,7 +2,7 @@ mod Pointwise
 mod Saturation
 mod Moves
 pub mod SliceLaws
-mod Shuffles
+mod Shuffling
 mod Arithmetic
 mod Reached
 mod Interleaving

@@ -1,5 +1,5 @@
 -- Vectors that are multiplied by one number, in lanes below w.
-use Rattle.std.proofs.Common.{◌≡◌, ℕ, ◌+◌, ◌*◌, ◌/◌, ◌%◌, ◌^◌, ◌<◌, ◌≤◌, List, get_or, map, replicate, min, refl, ap, ◌∙◌, inl, inr, arith}
+use Rattle.std.proofs.Common.{◌≡◌, ℕ, ◌+◌, ◌*◌, ◌/◌, ◌%◌, ◌^◌, ◌<◌, ◌≤◌, List, length, get_or, map, replicate, min, refl, sym, ap, ◌∙◌, subst, inl, inr, arith}
 use Rattle.std.proofs.Math.Nat.{mod-eq_of_lt, div-le_self, div-lt_iff_lt-mul, mul-le-mul}
 use Rattle.std.proofs.lemmas.Bool.{cases_lt}
 use Rattle.std.proofs.lemmas.List.{get_or_past}
@@ -20,17 +20,29 @@ one_multiplied w a b c room = ap (λ n. (n + c) % w) (mod-eq_of_lt (omega (arith
 three_splats : (f : ℕ → ℕ → ℕ → ℕ) (j b c d : ℕ) → j < 16 → f (get_or (replicate 16 b) j 0) (get_or (replicate 16 c) j 0) (get_or (replicate 16 d) j 0) ≡ f b c d
 three_splats f j b c d lt = λ p. f (splat_at b j lt p) (splat_at c j lt p) (splat_at d j lt p)
 
-pub Makes-scaled : (w bound shift : ℕ) (xs : List ℕ) (factor offset : ℕ) → 0 < bound → 0 < 2 ^ shift → bound * 2 ^ shift ≤ w → AreLanes bound xs
+pub Makes-scaled : (w bound shift : ℕ) (xs : List ℕ) (factor offset : ℕ) → 0 < bound → 0 < 2 ^ shift → bound * 2 ^ shift ≤ w → length xs ≡ 16
     → ((j : ℕ) → j < 16 → get_or xs j 0 * factor + offset < bound * 2 ^ shift)
     → Makes bound (zip2 shifted (multiplied w xs (replicate 16 factor) (replicate 16 offset)) (replicate 16 shift)) (λ j. (get_or xs j 0 * factor + offset) / 2 ^ shift)
-Makes-scaled w bound shift xs factor offset some some_part wide p small =
+Makes-scaled w bound shift xs factor offset some some_part wide long small =
     Makes-from_four (λ xs ys zs ws. zip2 shifted (multiplied w xs ys zs) ws) (λ a b c d. shifted (plus w (times w a b) c) d) (λ a b c d xs ys zs ws. refl) refl bound _ some
-    xs (replicate 16 factor) (replicate 16 offset) (replicate 16 shift) p.long refl refl refl
+    xs (replicate 16 factor) (replicate 16 offset) (replicate 16 shift) long refl refl refl
     (λ j lt. (
       three_splats (λ b c d. shifted (plus w (times w (get_or xs j 0) b) c) d) j factor offset shift lt
           ∙ ap (λ n. n / 2 ^ shift) (one_multiplied w (get_or xs j 0) factor offset (omega (arith, small j lt))),
       (div-lt_iff_lt-mul some_part).1 (small j lt),
     ))
+
+-- numbers of 32 bits, scaled in lanes of 64 bits, by parts of 2^46
+abbrev pub scaled_longs : List ℕ → ℕ → ℕ → List ℕ
+scaled_longs xs factor offset = zip2 shifted (multiplied 18446744073709551616 xs (replicate 16 factor) (replicate 16 offset)) (replicate 16 46)
+
+pub Makes-scaled_longs : (xs numbers : List ℕ) (factor offset : ℕ) → xs ≡ numbers → length xs ≡ 16
+    → ((j : ℕ) → j < 16 → get_or numbers j 0 * factor + offset < 18446744073709551616)
+    → Makes 262144 (scaled_longs xs factor offset) (λ j. (get_or numbers j 0 * factor + offset) / 70368744177664)
+Makes-scaled_longs xs numbers factor offset same long small =
+    let P : List ℕ → Type 0 = λ l. Makes 262144 (scaled_longs xs factor offset) (λ j. (get_or l j 0 * factor + offset) / 70368744177664) in
+    let Q : List ℕ → Type 0 = λ l. (j : ℕ) → j < 16 → get_or l j 0 * factor + offset < 18446744073709551616 in
+    subst P same (Makes-scaled 18446744073709551616 262144 46 xs factor offset (omega arith) (omega arith) (omega arith) long (subst Q (sym same) small))
 
 -- ---- a division in lanes of 64 bits, of samples that are at most m
 

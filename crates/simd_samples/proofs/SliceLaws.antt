@@ -3,6 +3,7 @@ use Rattle.std.proofs.Common.{◌≡◌, ℕ, zero, suc, ◌+◌, ◌-◌, ◌*�
 use Rattle.std.proofs.lemmas.Bool.{cases_lt}
 use Rattle.std.proofs.lemmas.List.{get_or-drop, get_or-append-add, get_or_append_left, get_or_past, get_or-take, length-take}
 use Rattle.std.proofs.Math.ListN.{length-append, length-drop}
+use Rattle.std.proofs.Math.Nat.{mul-le-mul_left}
 use Rattle.std.proofs.lemmas.Slice.{between_to_end}
 use borrow.Rule.Slice.PartMut.{put_mid, post_of}
 use Rattle.pixel_formats.specs.Sample.{sample_at}
@@ -30,6 +31,16 @@ sample_at-below (suc (suc zero)) a b n j far same =
     omega (arith, low, high)
 sample_at-below (suc (suc (suc d))) a b n j far same = refl
 
+-- samples of rows that agree from there on
+pub sample_at-past : (d : ℕ) (a b : List ℕ) (n j : ℕ) → n ≤ d * j → ((p : ℕ) → n ≤ p → get_or a p 0 ≡ get_or b p 0) → sample_at d a j ≡ sample_at d b j
+sample_at-past zero a b n j far same = refl
+sample_at-past (suc zero) a b n j far same = same j (omega arith)
+sample_at-past (suc (suc zero)) a b n j far same =
+    let low = same (2 * j) (omega arith) in
+    let high = same (2 * j + 1) (omega arith) in
+    omega (arith, low, high)
+sample_at-past (suc (suc (suc d))) a b n j far same = refl
+
 -- ---- slices
 
 -- the bytes of `&row[a..]`
@@ -55,3 +66,29 @@ part_written row part a k p whole long =
 pub part_kept : (row part : List ℕ) (a k p : ℕ) → a ≤ length row → p < a → get_or (put_mid a k row part) p 0 ≡ get_or row p 0
 part_kept row part a k p room lt =
     get_or_append_left (take a row) (part ++ post_of a k row) 0 p (omega (arith, length-take a row)) ∙ get_or-take a row p 0 lt
+
+-- the samples of a row whose bytes from number `to` on, where a sample begins, were made `part`
+module _ (d from to : ℕ) (row part : List ℕ) (at : to ≡ d * from) (room : to ≤ length row) (long : length part ≡ length row - to) where
+  abbrev pub with_part : List ℕ
+  with_part = put_mid to (length row - to) row part
+
+  pub sample_at-written : (j : ℕ) → sample_at d with_part (from + j) ≡ sample_at d part j
+  sample_at-written j = sym (sample_at-shift d part with_part from to j (from + j) at refl (λ p. part_written row part to (length row - to) p (omega arith) long))
+
+  pub sample_at-kept : (i : ℕ) → i < from → sample_at d with_part i ≡ sample_at d row i
+  sample_at-kept i lt =
+      sample_at-below d with_part row to i (omega (arith, mul-le-mul_left d (suc-le i from lt)))
+      (λ p near. part_kept row part to (length row - to) p room near)
+    where
+      suc-le : (i n : ℕ) → i < n → i + 1 ≤ n
+      suc-le i n lt = omega arith
+
+  byte_kept : (n : ℕ) → ((k : ℕ) → n ≤ k → get_or part k 0 ≡ get_or (take (length row - to) (drop to row)) k 0) → (p : ℕ) → to + n ≤ p → get_or with_part p 0 ≡ get_or row p 0
+  byte_kept n same p far =
+      let there : to + (p - to) ≡ p = omega arith in
+      same_index with_part p (to + (p - to)) (sym there) ∙ sym (part_written row part to (length row - to) (p - to) (omega arith) long)
+      ∙ same (p - to) (omega arith) ∙ part_from row to (p - to) ∙ same_index row (to + (p - to)) p there
+
+  pub sample_at-after : (n : ℕ) → ((k : ℕ) → d * n ≤ k → get_or part k 0 ≡ get_or (take (length row - to) (drop to row)) k 0) → (i : ℕ) → from + n ≤ i → sample_at d with_part i ≡ sample_at d row i
+  sample_at-after n same i far =
+      sample_at-past d with_part row (to + d * n) i (omega (arith, at, mul-le-mul_left d far)) (λ p past. byte_kept (d * n) same p past)

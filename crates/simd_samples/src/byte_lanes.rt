@@ -1,16 +1,19 @@
 //! Sixteen samples of one byte.
 
-ghost use Rattle.std.specs.Prelude.{◌*◌, slice_index, refl};
+ghost use Rattle.std.specs.Prelude.{◌≡◌, ◌*◌, slice_index, refl};
 ghost use Rattle.std.proofs.Common.{rules};
 ghost use Rattle.simd_samples.specs.Lanes.{AreLanes};
+ghost use Rattle.simd_samples.specs.Shuffle.{shuffled_of_three, shuffled_of_two};
 
 use crate::lanes::Lanes;
 use crate::positions::{
-    EVEN_FOURS, EVEN_PAIRS, FIRST_JOINED_BY_LAST, FIRST_JOINED_BY_TWO, FIRST_OF_LAST,
-    FIRST_OF_THREE, FOURTH_OF_FOUR, KEEPING_FOURTH, KEEPING_SECOND, ODD_FOURS, ODD_PAIRS,
-    SECOND_JOINED_BY_LAST, SECOND_JOINED_BY_TWO, SECOND_OF_LAST, SECOND_OF_THREE, SECOND_OF_TWO,
-    THIRD_JOINED_BY_LAST, THIRD_JOINED_BY_TWO, THIRD_OF_LAST, THIRD_OF_THREE,
+    EVEN_FOURS, EVEN_PAIRS, EVENS, FIRST_JOINED_BY_LAST, FIRST_JOINED_BY_TWO, FIRST_OF_LAST,
+    FIRST_OF_THREE, FOURTH_OF_FOUR, HIGHS, KEEPING_FOURTH, KEEPING_SECOND, LOWS, ODD_FOURS,
+    ODD_PAIRS, ODDS, SECOND_JOINED_BY_LAST, SECOND_JOINED_BY_TWO, SECOND_OF_LAST, SECOND_OF_THREE,
+    SECOND_OF_TWO, THIRD_JOINED_BY_LAST, THIRD_JOINED_BY_TWO, THIRD_OF_LAST, THIRD_OF_THREE,
 };
+use crate::shuffles::{ShuffleOfThree, ShuffleOfTwo};
+use crate::wide_lanes::WideLanes;
 use std::simd::prelude::*;
 
 /// Sixteen samples of one byte.
@@ -46,6 +49,20 @@ impl Lanes for ByteLanes {
     }
 
     #[inline(always)]
+    fn widen(self) -> WideLanes {
+        WideLanes {
+            lanes: self.lanes.cast::<u32>(),
+        }
+    }
+
+    #[inline(always)]
+    fn narrow(wide: WideLanes) -> Self {
+        ByteLanes {
+            lanes: wide.lanes.cast::<u8>(),
+        }
+    }
+
+    #[inline(always)]
     fn max_sample() -> Self {
         ByteLanes {
             lanes: u8x16::splat(u8::MAX),
@@ -77,34 +94,6 @@ impl Lanes for ByteLanes {
     fn max(self, other: Self) -> Self {
         ByteLanes {
             lanes: self.lanes.simd_max(other.lanes),
-        }
-    }
-
-    #[inline(always)]
-    fn spread_second(self) -> Self {
-        ByteLanes {
-            lanes: self.lanes.swizzle(SECOND_OF_TWO),
-        }
-    }
-
-    #[inline(always)]
-    fn spread_fourth(self) -> Self {
-        ByteLanes {
-            lanes: self.lanes.swizzle(FOURTH_OF_FOUR),
-        }
-    }
-
-    #[inline(always)]
-    fn with_second(self, old: Self) -> Self {
-        ByteLanes {
-            lanes: self.lanes.shuffle(old.lanes, KEEPING_SECOND),
-        }
-    }
-
-    #[inline(always)]
-    fn with_fourth(self, old: Self) -> Self {
-        ByteLanes {
-            lanes: self.lanes.shuffle(old.lanes, KEEPING_FOURTH),
         }
     }
 
@@ -179,83 +168,17 @@ impl Lanes for ByteLanes {
     }
 
     #[inline(always)]
-    fn deinterleave(self, other: Self) -> (Self, Self) {
-        let (even, odd) = self.lanes.deinterleave(other.lanes);
-        (ByteLanes { lanes: even }, ByteLanes { lanes: odd })
+    fn shuffle_two(self, second: Self, shuffle: ShuffleOfTwo) -> Self {
+        ByteLanes {
+            lanes: bytes_of_two(self.lanes, second.lanes, shuffle),
+        }
     }
 
     #[inline(always)]
-    fn deinterleave_pairs(self, other: Self) -> (Self, Self) {
-        let even = ByteLanes {
-            lanes: self.lanes.shuffle(other.lanes, EVEN_PAIRS),
-        };
-        let odd = ByteLanes {
-            lanes: self.lanes.shuffle(other.lanes, ODD_PAIRS),
-        };
-        (even, odd)
-    }
-
-    #[inline(always)]
-    fn deinterleave_fours(self, other: Self) -> (Self, Self) {
-        let even = ByteLanes {
-            lanes: self.lanes.shuffle(other.lanes, EVEN_FOURS),
-        };
-        let odd = ByteLanes {
-            lanes: self.lanes.shuffle(other.lanes, ODD_FOURS),
-        };
-        (even, odd)
-    }
-
-    #[inline(always)]
-    fn interleave(self, other: Self) -> (Self, Self) {
-        let (low, high) = self.lanes.interleave(other.lanes);
-        (ByteLanes { lanes: low }, ByteLanes { lanes: high })
-    }
-
-    #[inline(always)]
-    fn split_thirds(self, second: Self, third: Self) -> (Self, Self, Self) {
-        let a = ByteLanes {
-            lanes: self
-                .lanes
-                .shuffle(second.lanes, FIRST_OF_THREE)
-                .shuffle(third.lanes, FIRST_OF_LAST),
-        };
-        let b = ByteLanes {
-            lanes: self
-                .lanes
-                .shuffle(second.lanes, SECOND_OF_THREE)
-                .shuffle(third.lanes, SECOND_OF_LAST),
-        };
-        let c = ByteLanes {
-            lanes: self
-                .lanes
-                .shuffle(second.lanes, THIRD_OF_THREE)
-                .shuffle(third.lanes, THIRD_OF_LAST),
-        };
-        (a, b, c)
-    }
-
-    #[inline(always)]
-    fn join_thirds(self, second: Self, third: Self) -> (Self, Self, Self) {
-        let a = ByteLanes {
-            lanes: self
-                .lanes
-                .shuffle(second.lanes, FIRST_JOINED_BY_TWO)
-                .shuffle(third.lanes, FIRST_JOINED_BY_LAST),
-        };
-        let b = ByteLanes {
-            lanes: self
-                .lanes
-                .shuffle(second.lanes, SECOND_JOINED_BY_TWO)
-                .shuffle(third.lanes, SECOND_JOINED_BY_LAST),
-        };
-        let c = ByteLanes {
-            lanes: self
-                .lanes
-                .shuffle(second.lanes, THIRD_JOINED_BY_TWO)
-                .shuffle(third.lanes, THIRD_JOINED_BY_LAST),
-        };
-        (a, b, c)
+    fn shuffle_three(self, second: Self, third: Self, shuffle: ShuffleOfThree) -> Self {
+        ByteLanes {
+            lanes: bytes_of_three(self.lanes, second.lanes, third.lanes, shuffle),
+        }
     }
 
     ghost sixteen = { refl };
@@ -271,4 +194,52 @@ impl Lanes for ByteLanes {
     ghost some_levels = { Prim.search rules };
 
     ghost few_levels = { Prim.search rules };
+}
+
+/// Shuffles the lanes of two vectors.
+#[inline(always)]
+fn bytes_of_two(first: u8x16, second: u8x16, shuffle: ShuffleOfTwo) -> u8x16
+    ensures { result ≡ shuffled_of_two first second shuffle }
+{
+    match shuffle {
+        ShuffleOfTwo::SpreadSecond => first.shuffle(second, SECOND_OF_TWO),
+        ShuffleOfTwo::SpreadFourth => first.shuffle(second, FOURTH_OF_FOUR),
+        ShuffleOfTwo::WithSecond => first.shuffle(second, KEEPING_SECOND),
+        ShuffleOfTwo::WithFourth => first.shuffle(second, KEEPING_FOURTH),
+        ShuffleOfTwo::Evens => first.shuffle(second, EVENS),
+        ShuffleOfTwo::Odds => first.shuffle(second, ODDS),
+        ShuffleOfTwo::EvenPairs => first.shuffle(second, EVEN_PAIRS),
+        ShuffleOfTwo::OddPairs => first.shuffle(second, ODD_PAIRS),
+        ShuffleOfTwo::EvenFours => first.shuffle(second, EVEN_FOURS),
+        ShuffleOfTwo::OddFours => first.shuffle(second, ODD_FOURS),
+        ShuffleOfTwo::JoinedLow => first.shuffle(second, LOWS),
+        ShuffleOfTwo::JoinedHigh => first.shuffle(second, HIGHS),
+    }
+}
+
+/// Shuffles the lanes of three vectors: those of the first two, and then these with the third.
+#[inline(always)]
+fn bytes_of_three(first: u8x16, second: u8x16, third: u8x16, shuffle: ShuffleOfThree) -> u8x16
+    ensures { result ≡ shuffled_of_three first second third shuffle }
+{
+    match shuffle {
+        ShuffleOfThree::Firsts => first
+            .shuffle(second, FIRST_OF_THREE)
+            .shuffle(third, FIRST_OF_LAST),
+        ShuffleOfThree::Seconds => first
+            .shuffle(second, SECOND_OF_THREE)
+            .shuffle(third, SECOND_OF_LAST),
+        ShuffleOfThree::Thirds => first
+            .shuffle(second, THIRD_OF_THREE)
+            .shuffle(third, THIRD_OF_LAST),
+        ShuffleOfThree::JoinedFirst => first
+            .shuffle(second, FIRST_JOINED_BY_TWO)
+            .shuffle(third, FIRST_JOINED_BY_LAST),
+        ShuffleOfThree::JoinedSecond => first
+            .shuffle(second, SECOND_JOINED_BY_TWO)
+            .shuffle(third, SECOND_JOINED_BY_LAST),
+        ShuffleOfThree::JoinedThird => first
+            .shuffle(second, THIRD_JOINED_BY_TWO)
+            .shuffle(third, THIRD_JOINED_BY_LAST),
+    }
 }

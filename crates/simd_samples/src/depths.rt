@@ -12,7 +12,7 @@ use std::simd::prelude::*;
 
 /// Samples that can be had at the depth of `D`.
 pub trait Rescale<D: Lanes>: Lanes {
-    /// The samples at the other depth, rounded to the nearest.
+    /// Returns the samples at the other depth, rounded to the nearest.
     fn rescale(self) -> D
         ensures { Hold (D.lane result) (λ j. rescaled Self.depth D.depth (Self.lane self j)) };
 }

@@ -2,7 +2,11 @@
 
 ghost use Rattle.std.specs.Prelude.{◌≡◌, ℕ, ◌+◌, ◌-◌, ◌*◌, ◌/◌, ◌%◌, ◌^◌, ◌<◌, ◌≤◌, ◌==◌, length, slice_index, min, max, nat_le, if◌then◌else◌};
 ghost use Rattle.simd_samples.specs.Lanes.{Hold, HoldThree, HoldTwo};
+ghost use Rattle.simd_samples.specs.Shuffle.{position_of_three, position_of_two};
 ghost use Rattle.pixel_formats.specs.Sample.{added, max_sample_of, mean_of_four, mean_of_three, sample_at, thresholded, unit_of, scaled_by};
+
+use crate::shuffles::{ShuffleOfThree, ShuffleOfTwo};
+use crate::wide_lanes::WideLanes;
 
 /// A vector of sixteen samples of one depth, which is one byte or two. Lane 0 is the leftmost.
 pub trait Lanes: Copy {
@@ -22,124 +26,204 @@ pub trait Lanes: Copy {
     /// How many values a sample has.
     const LEVELS: u64;
 
-    /// The first sixteen samples of a row of bytes.
+    /// Reads the first sixteen samples of a row of bytes.
     fn load(src: &[u8]) -> Self
         requires { BYTES ≤ length src.now }
         ensures { Hold (lane result) (sample_at depth src.now) };
 
-    /// Writes the first sixteen samples of a row of bytes, and leaves those after them.
+    /// Writes the first sixteen samples of a row of bytes. Those after them are unchanged.
     fn store(self, dst: &mut [u8])
         requires { BYTES ≤ length dst.old }
         ensures here { Hold (sample_at depth dst.new) (lane self) }
         ensures after { (k : ℕ) → BYTES ≤ k → slice_index dst.new k ≡ slice_index dst.old k };
 
-    /// The largest sample in each lane.
+    /// Widens each sample to 32 bits.
+    fn widen(self) -> WideLanes
+        ensures { Hold (slice_index result) (lane self) };
+
+    /// Narrows numbers that are samples.
+    fn narrow(wide: WideLanes) -> Self
+        requires { (j : ℕ) → j < 16 → slice_index wide j ≤ max_sample_of depth }
+        ensures { Hold (lane result) (slice_index wide) };
+
+    /// Returns the largest sample in each lane.
     fn max_sample() -> Self
         ensures { Hold (lane result) (λ j. max_sample_of depth) };
 
-    /// The difference, and 0 where the other is greater.
+    /// Subtracts in each lane, with 0 where the other sample is greater.
     fn saturating_sub(self, other: Self) -> Self
         ensures { Hold (lane result) (λ j. lane self j - lane other j) };
 
-    /// The sum, and the largest sample where the sum is greater.
+    /// Adds in each lane, with the largest sample where the sum is greater.
     fn saturating_add(self, other: Self) -> Self
         ensures { Hold (lane result) (λ j. added (max_sample_of depth) (lane self j) (lane other j)) };
 
-    /// The smaller sample in each lane.
+    /// Returns the min in each lane.
     fn min(self, other: Self) -> Self
         ensures { Hold (lane result) (λ j. min (lane self j) (lane other j)) };
 
-    /// The greater sample in each lane.
+    /// Returns the max in each lane.
     fn max(self, other: Self) -> Self
         ensures { Hold (lane result) (λ j. max (lane self j) (lane other j)) };
 
-    /// In each pair of lanes the second, twice.
+    /// Picks sixteen lanes of two vectors, one after the other.
+    fn shuffle_two(self, second: Self, shuffle: ShuffleOfTwo) -> Self
+        ensures { (s : ℕ → ℕ) → HoldTwo (lane self) (lane second) s → Hold (lane result) (λ j. s (position_of_two shuffle j)) };
+
+    /// Picks sixteen lanes of three vectors, one after the other.
+    fn shuffle_three(self, second: Self, third: Self, shuffle: ShuffleOfThree) -> Self
+        ensures { (s : ℕ → ℕ) → HoldThree (lane self) (lane second) (lane third) s → Hold (lane result) (λ j. s (position_of_three shuffle j)) };
+
+    /// Returns the second of each pair of lanes, twice.
+    #[inline(always)]
     fn spread_second(self) -> Self
-        ensures { Hold (lane result) (λ j. lane self (j / 2 * 2 + 1)) };
+        ensures { Hold (lane result) (λ j. lane self (j / 2 * 2 + 1)) }
+    {
+        self.shuffle_two(self, ShuffleOfTwo::SpreadSecond)
+    }
 
-    /// In each four lanes the fourth, four times.
+    /// Returns the fourth of each four lanes, four times.
+    #[inline(always)]
     fn spread_fourth(self) -> Self
-        ensures { Hold (lane result) (λ j. lane self (j / 4 * 4 + 3)) };
+        ensures { Hold (lane result) (λ j. lane self (j / 4 * 4 + 3)) }
+    {
+        self.shuffle_two(self, ShuffleOfTwo::SpreadFourth)
+    }
 
-    /// The same lanes, but the second of each pair from `old`.
+    /// Returns the same lanes, but the second of each pair from `old`.
+    #[inline(always)]
     fn with_second(self, old: Self) -> Self
-        ensures { Hold (lane result) (λ j. if j % 2 == 1 then lane old j else lane self j) };
+        ensures { Hold (lane result) (λ j. if j % 2 == 1 then lane old j else lane self j) }
+    {
+        self.shuffle_two(old, ShuffleOfTwo::WithSecond)
+    }
 
-    /// The same lanes, but the fourth of each four from `old`.
+    /// Returns the same lanes, but the fourth of each four from `old`.
+    #[inline(always)]
     fn with_fourth(self, old: Self) -> Self
-        ensures { Hold (lane result) (λ j. if j % 4 == 3 then lane old j else lane self j) };
+        ensures { Hold (lane result) (λ j. if j % 4 == 3 then lane old j else lane self j) }
+    {
+        self.shuffle_two(old, ShuffleOfTwo::WithFourth)
+    }
 
-    /// A sample in each lane, and the largest sample where that is less.
+    /// Returns a sample in each lane, or the largest sample where that is less.
     fn splat(sample: u32) -> Self
         ensures { Hold (lane result) (λ j. min (max_sample_of depth) sample) };
 
-    /// `self`, which is the cap, where a color reaches its threshold, and else 0.
+    /// Returns `self`, which is the cap, where a color reaches its threshold, and else 0.
     fn threshold(self, colors: Self, thresholds: Self) -> Self
         ensures { Hold (lane result) (λ j. thresholded (lane thresholds j) (lane self j) (lane colors j)) };
 
-    /// The part of each sample that its weight leaves, rounded to the nearest: all of it at the
-    /// largest sample, and nothing at 0.
+    /// Scales each sample by its weight, rounded to the nearest: the largest sample leaves all of
+    /// it, and 0 nothing.
     fn scale_by(self, weights: Self) -> Self
         ensures { Hold (lane result) (λ j. scaled_by (max_sample_of depth) (lane self j) (lane weights j)) };
 
-    /// Each sample times a factor, with an offset; both are counted in parts of 65,536 times the
-    /// number of levels.
+    /// Multiplies each sample by a factor and adds an offset; both are counted in parts of 65,536
+    /// times the number of levels.
     fn scale(self, factor: u64, offset: u64) -> Self
         requires factor { factor < LEVELS * unit_of depth }
         requires small { (j : ℕ) → j < 16 → lane self j * factor + offset < LEVELS * unit_of depth }
         ensures { Hold (lane result) (λ j. (lane self j * factor + offset) / unit_of depth) };
 
-    /// Each sample times a number, with an offset, divided by another number, and at most the
-    /// largest sample.
+    /// Multiplies each sample by a number, adds an offset and divides by another number. The result
+    /// is at most the largest sample.
     fn divide(self, number: u64, offset: u64, divisor: u64) -> Self
         requires number { number < 2 ^ 32 }
         requires offset { offset < 2 ^ 32 }
         requires divisor { 0 < divisor }
         ensures { Hold (lane result) (λ j. min (max_sample_of depth) ((lane self j * number + offset) / divisor)) };
 
-    /// The largest sample where a color is above its limit, and else the sample of `self`.
+    /// Returns the largest sample where a color is above its limit, and else the sample of `self`.
     fn max_above(self, colors: Self, limits: Self) -> Self
         ensures { Hold (lane result) (λ j. if nat_le (lane colors j) (lane limits j) then lane self j else max_sample_of depth) };
 
-    /// The mean of three samples in each lane, rounded to the nearest.
+    /// Returns the mean of three samples in each lane, rounded to the nearest.
     fn mean_of_three(self, second: Self, third: Self) -> Self
         ensures { Hold (lane result) (λ j. mean_of_three (lane self j) (lane second j) (lane third j)) };
 
-    /// The mean of four samples in each lane, rounded to the nearest and a half upwards.
+    /// Returns the mean of four samples in each lane, rounded to the nearest and a half upwards.
     fn mean_of_four(self, second: Self, third: Self, fourth: Self) -> Self
         ensures { Hold (lane result) (λ j. mean_of_four (lane self j) (lane second j) (lane third j) (lane fourth j)) };
 
-    /// Of two vectors, one after the other, the lanes with even and those with odd numbers.
+    /// Separates the lanes with even from those with odd numbers, of two vectors one after the
+    /// other.
+    #[inline(always)]
     fn deinterleave(self, other: Self) -> (Self, Self)
         ensures even { (s : ℕ → ℕ) → HoldTwo (lane self) (lane other) s → Hold (lane result.0) (λ j. s (2 * j)) }
-        ensures odd { (s : ℕ → ℕ) → HoldTwo (lane self) (lane other) s → Hold (lane result.1) (λ j. s (2 * j + 1)) };
+        ensures odd { (s : ℕ → ℕ) → HoldTwo (lane self) (lane other) s → Hold (lane result.1) (λ j. s (2 * j + 1)) }
+    {
+        (
+            self.shuffle_two(other, ShuffleOfTwo::Evens),
+            self.shuffle_two(other, ShuffleOfTwo::Odds),
+        )
+    }
 
-    /// Of two vectors, one after the other, the pairs of lanes with even and those with odd numbers.
+    /// Separates the pairs of lanes with even from those with odd numbers, of two vectors one after
+    /// the other.
+    #[inline(always)]
     fn deinterleave_pairs(self, other: Self) -> (Self, Self)
         ensures even { (s : ℕ → ℕ) → HoldTwo (lane self) (lane other) s → Hold (lane result.0) (λ j. s (j / 2 * 4 + j % 2)) }
-        ensures odd { (s : ℕ → ℕ) → HoldTwo (lane self) (lane other) s → Hold (lane result.1) (λ j. s (j / 2 * 4 + 2 + j % 2)) };
+        ensures odd { (s : ℕ → ℕ) → HoldTwo (lane self) (lane other) s → Hold (lane result.1) (λ j. s (j / 2 * 4 + 2 + j % 2)) }
+    {
+        (
+            self.shuffle_two(other, ShuffleOfTwo::EvenPairs),
+            self.shuffle_two(other, ShuffleOfTwo::OddPairs),
+        )
+    }
 
-    /// Of two vectors, one after the other, the fours of lanes with even and those with odd numbers.
+    /// Separates the fours of lanes with even from those with odd numbers, of two vectors one after
+    /// the other.
+    #[inline(always)]
     fn deinterleave_fours(self, other: Self) -> (Self, Self)
         ensures even { (s : ℕ → ℕ) → HoldTwo (lane self) (lane other) s → Hold (lane result.0) (λ j. s (j / 4 * 8 + j % 4)) }
-        ensures odd { (s : ℕ → ℕ) → HoldTwo (lane self) (lane other) s → Hold (lane result.1) (λ j. s (j / 4 * 8 + 4 + j % 4)) };
+        ensures odd { (s : ℕ → ℕ) → HoldTwo (lane self) (lane other) s → Hold (lane result.1) (λ j. s (j / 4 * 8 + 4 + j % 4)) }
+    {
+        (
+            self.shuffle_two(other, ShuffleOfTwo::EvenFours),
+            self.shuffle_two(other, ShuffleOfTwo::OddFours),
+        )
+    }
 
-    /// The lanes of two vectors by turns, as two vectors.
+    /// Returns the lanes of two vectors by turns, as two vectors.
+    #[inline(always)]
     fn interleave(self, other: Self) -> (Self, Self)
         ensures { (s : ℕ → ℕ) → Hold (lane self) (λ j. s (2 * j)) → Hold (lane other) (λ j. s (2 * j + 1))
-            → HoldTwo (lane result.0) (lane result.1) s };
+            → HoldTwo (lane result.0) (lane result.1) s }
+    {
+        (
+            self.shuffle_two(other, ShuffleOfTwo::JoinedLow),
+            self.shuffle_two(other, ShuffleOfTwo::JoinedHigh),
+        )
+    }
 
-    /// Of three vectors, one after the other, every third lane: from the first, the second and the
-    /// third lane on.
+    /// Separates every third lane, from the first, the second and the third on, of three vectors one
+    /// after the other.
+    #[inline(always)]
     fn split_thirds(self, second: Self, third: Self) -> (Self, Self, Self)
         ensures first { (s : ℕ → ℕ) → HoldThree (lane self) (lane second) (lane third) s → Hold (lane result.0) (λ j. s (3 * j)) }
         ensures second { (s : ℕ → ℕ) → HoldThree (lane self) (lane second) (lane third) s → Hold (lane result.1) (λ j. s (3 * j + 1)) }
-        ensures third { (s : ℕ → ℕ) → HoldThree (lane self) (lane second) (lane third) s → Hold (lane result.2) (λ j. s (3 * j + 2)) };
+        ensures third { (s : ℕ → ℕ) → HoldThree (lane self) (lane second) (lane third) s → Hold (lane result.2) (λ j. s (3 * j + 2)) }
+    {
+        (
+            self.shuffle_three(second, third, ShuffleOfThree::Firsts),
+            self.shuffle_three(second, third, ShuffleOfThree::Seconds),
+            self.shuffle_three(second, third, ShuffleOfThree::Thirds),
+        )
+    }
 
-    /// The lanes of three vectors by turns, as three vectors.
+    /// Returns the lanes of three vectors by turns, as three vectors.
+    #[inline(always)]
     fn join_thirds(self, second: Self, third: Self) -> (Self, Self, Self)
         ensures { (s : ℕ → ℕ) → Hold (lane self) (λ j. s (3 * j)) → Hold (lane second) (λ j. s (3 * j + 1)) → Hold (lane third) (λ j. s (3 * j + 2))
-            → HoldThree (lane result.0) (lane result.1) (lane result.2) s };
+            → HoldThree (lane result.0) (lane result.1) (lane result.2) s }
+    {
+        (
+            self.shuffle_three(second, third, ShuffleOfThree::JoinedFirst),
+            self.shuffle_three(second, third, ShuffleOfThree::JoinedSecond),
+            self.shuffle_three(second, third, ShuffleOfThree::JoinedThird),
+        )
+    }
 
     ghost sixteen: { BYTES ≡ 16 * depth };
 

@@ -5,11 +5,17 @@ mod byte_lanes;
 mod depths;
 mod lanes;
 mod positions;
+mod shuffles;
 mod vectors;
+mod wide_lanes;
 mod word_lanes;
 
 pub use byte_lanes::ByteLanes;
 pub use depths::Rescale;
 pub use lanes::Lanes;
-pub use vectors::{load_four, load_three, load_two, store_four, store_three, store_two};
+pub use shuffles::{ShuffleOfThree, ShuffleOfTwo};
+pub use vectors::{
+    load_at, load_four, load_three, load_two, store_at, store_four, store_three, store_two,
+};
+pub use wide_lanes::WideLanes;
 pub use word_lanes::WordLanes;

@@ -20,6 +20,20 @@ pub(crate) const KEEPING_FOURTH: [usize; 16] = [
     0, 1, 2, 19, 4, 5, 6, 23, 8, 9, 10, 27, 12, 13, 14, 31,
 ];
 
+/// The lanes with even numbers, of both vectors.
+pub(crate) const EVENS: [usize; 16] = [0, 2, 4, 6, 8, 10, 12, 14, 16, 18, 20, 22, 24, 26, 28, 30];
+
+/// The lanes with odd numbers, of both vectors.
+pub(crate) const ODDS: [usize; 16] = [1, 3, 5, 7, 9, 11, 13, 15, 17, 19, 21, 23, 25, 27, 29, 31];
+
+/// The lanes of two vectors by turns: the first sixteen.
+pub(crate) const LOWS: [usize; 16] = [0, 16, 1, 17, 2, 18, 3, 19, 4, 20, 5, 21, 6, 22, 7, 23];
+
+/// The lanes of two vectors by turns: the second sixteen.
+pub(crate) const HIGHS: [usize; 16] = [
+    8, 24, 9, 25, 10, 26, 11, 27, 12, 28, 13, 29, 14, 30, 15, 31,
+];
+
 /// The pairs of lanes with even numbers, of both vectors.
 pub(crate) const EVEN_PAIRS: [usize; 16] = [
     0, 1, 4, 5, 8, 9, 12, 13, 16, 17, 20, 21, 24, 25, 28, 29,

@@ -1,54 +1,66 @@
-//! Several vectors of sixteen samples in a row, one after the other.
+//! Vectors of sixteen samples, and several one after the other, in rows of bytes.
 
-ghost use Rattle.std.specs.Prelude.{◌≡◌, ℕ, ◌+◌, ◌*◌, ◌<◌, ◌≤◌, length, slice_index};
+ghost use Rattle.std.specs.Prelude.{◌≡◌, ℕ, ◌+◌, ◌*◌, ◌^◌, ◌<◌, ◌≤◌, length, slice_index};
 ghost use Rattle.simd_samples.specs.Lanes.{Hold, HoldTwo, HoldThree, HoldFour};
 ghost use Rattle.pixel_formats.specs.Sample.{sample_at};
 
 use crate::lanes::Lanes;
 
-/// The sixteen samples after `n` times sixteen.
+/// Returns the byte at which a sample begins.
 #[inline(always)]
-fn load_at<L: Lanes>(src: &[u8], n: usize) -> L
-    requires { (n + 1) * L.BYTES ≤ length src.now }
-    ensures { Hold (L.lane result) (λ j. sample_at L.depth src.now (16 * n + j)) }
+fn first_byte<L: Lanes>(sample: usize) -> usize
+    requires { L.depth * sample < 2 ^ 64 }
+    ensures { result ≡ L.depth * sample }
 {
-    L::load(&src[L::BYTES * n..])
+    L::BYTES / 16 * sample
 }
 
-/// Writes the sixteen samples after `n` times sixteen, and leaves all others.
+/// Reads sixteen samples, from sample `from` of a row of bytes on.
 #[inline(always)]
-fn store_at<L: Lanes>(lanes: L, dst: &mut [u8], n: usize)
-    requires { (n + 1) * L.BYTES ≤ length dst.old }
-    ensures kept { (i : ℕ) → i < 16 * n → sample_at L.depth dst.new i ≡ sample_at L.depth dst.old i }
-    ensures made { Hold (λ j. sample_at L.depth dst.new (16 * n + j)) (L.lane lanes) }
-    ensures after { (k : ℕ) → (n + 1) * L.BYTES ≤ k → slice_index dst.new k ≡ slice_index dst.old k }
+pub fn load_at<L: Lanes>(src: &[u8], from: usize) -> L
+    requires { L.depth * (from + 16) ≤ length src.now }
+    ensures { Hold (L.lane result) (λ j. sample_at L.depth src.now (from + j)) }
 {
-    lanes.store(&mut dst[L::BYTES * n..]);
+    L::load(&src[first_byte::<L>(from)..])
 }
 
-/// The first thirty-two samples of a row of bytes.
+/// Writes sixteen samples, from sample `from` of a row of bytes on. All others are unchanged, and so
+/// are all other bytes.
+#[inline(always)]
+pub fn store_at<L: Lanes>(lanes: L, dst: &mut [u8], from: usize)
+    requires { L.depth * (from + 16) ≤ length dst.old }
+    ensures here { Hold (λ j. sample_at L.depth dst.new (from + j)) (L.lane lanes) }
+    ensures before { (i : ℕ) → i < from → sample_at L.depth dst.new i ≡ sample_at L.depth dst.old i }
+    ensures after { (i : ℕ) → from + 16 ≤ i → sample_at L.depth dst.new i ≡ sample_at L.depth dst.old i }
+    ensures bytes_before { (k : ℕ) → k < L.depth * from → slice_index dst.new k ≡ slice_index dst.old k }
+    ensures bytes_after { (k : ℕ) → L.depth * (from + 16) ≤ k → slice_index dst.new k ≡ slice_index dst.old k }
+{
+    lanes.store(&mut dst[first_byte::<L>(from)..]);
+}
+
+/// Reads the first thirty-two samples of a row of bytes.
 #[inline(always)]
 pub fn load_two<L: Lanes>(src: &[u8]) -> (L, L)
     requires { 2 * L.BYTES ≤ length src.now }
     ensures { HoldTwo (L.lane result.0) (L.lane result.1) (sample_at L.depth src.now) }
 {
-    (load_at(src, 0), load_at(src, 1))
+    (load_at(src, 0), load_at(src, 16))
 }
 
-/// Forty-eight samples of a row of bytes, after `from` times sixteen.
+/// Reads forty-eight samples of a row of bytes, after `from` times sixteen.
 #[inline(always)]
 pub fn load_three<L: Lanes>(src: &[u8], from: usize) -> (L, L, L)
     requires { (from + 3) * L.BYTES ≤ length src.now }
     ensures { HoldThree (L.lane result.0) (L.lane result.1) (L.lane result.2) (λ j. sample_at L.depth src.now (16 * from + j)) }
 {
     (
-        load_at(src, from),
-        load_at(src, from + 1),
-        load_at(src, from + 2),
+        load_at(src, 16 * from),
+        load_at(src, 16 * from + 16),
+        load_at(src, 16 * from + 32),
     )
 }
 
-/// The first sixty-four samples of a row of bytes.
+/// Reads the first sixty-four samples of a row of bytes.
 #[inline(always)]
 pub fn load_four<L: Lanes>(src: &[u8]) -> (L, L, L, L)
     requires { 4 * L.BYTES ≤ length src.now }
@@ -56,13 +68,13 @@ pub fn load_four<L: Lanes>(src: &[u8]) -> (L, L, L, L)
 {
     (
         load_at(src, 0),
-        load_at(src, 1),
-        load_at(src, 2),
-        load_at(src, 3),
+        load_at(src, 16),
+        load_at(src, 32),
+        load_at(src, 48),
     )
 }
 
-/// Writes the first thirty-two samples of a row of bytes, and leaves those after them.
+/// Writes the first thirty-two samples of a row of bytes. Those after them are unchanged.
 #[inline(always)]
 pub fn store_two<L: Lanes>(first: L, second: L, dst: &mut [u8])
     requires { 2 * L.BYTES ≤ length dst.old }
@@ -70,10 +82,10 @@ pub fn store_two<L: Lanes>(first: L, second: L, dst: &mut [u8])
     ensures after { (k : ℕ) → 2 * L.BYTES ≤ k → slice_index dst.new k ≡ slice_index dst.old k }
 {
     store_at(first, dst, 0);
-    store_at(second, dst, 1);
+    store_at(second, dst, 16);
 }
 
-/// Writes the first forty-eight samples of a row of bytes, and leaves those after them.
+/// Writes the first forty-eight samples of a row of bytes. Those after them are unchanged.
 #[inline(always)]
 pub fn store_three<L: Lanes>(first: L, second: L, third: L, dst: &mut [u8])
     requires { 3 * L.BYTES ≤ length dst.old }
@@ -81,10 +93,10 @@ pub fn store_three<L: Lanes>(first: L, second: L, third: L, dst: &mut [u8])
     ensures after { (k : ℕ) → 3 * L.BYTES ≤ k → slice_index dst.new k ≡ slice_index dst.old k }
 {
     store_two(first, second, dst);
-    store_at(third, dst, 2);
+    store_at(third, dst, 32);
 }
 
-/// Writes the first sixty-four samples of a row of bytes, and leaves those after them.
+/// Writes the first sixty-four samples of a row of bytes. Those after them are unchanged.
 #[inline(always)]
 pub fn store_four<L: Lanes>(first: L, second: L, third: L, fourth: L, dst: &mut [u8])
     requires { 4 * L.BYTES ≤ length dst.old }
@@ -92,5 +104,5 @@ pub fn store_four<L: Lanes>(first: L, second: L, third: L, fourth: L, dst: &mut 
     ensures after { (k : ℕ) → 4 * L.BYTES ≤ k → slice_index dst.new k ≡ slice_index dst.old k }
 {
     store_three(first, second, third, dst);
-    store_at(fourth, dst, 3);
+    store_at(fourth, dst, 48);
 }

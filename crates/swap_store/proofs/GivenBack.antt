@@ -3,7 +3,7 @@ use Rattle.std.proofs.Common.{◌≡◌, ℕ, suc, zero, ◌+◌, ◌-◌, ◌<�
 use Rattle.std.proofs.Math.ListN.{set}
 use Rattle.std.proofs.lemmas.List.{set_split, get_or-take, get_or-drop, get_or_default, length-drop, length-append, take-take, take-append-le, drop_at, length-take-le, drop_all}
 use Rattle.std.proofs.lemmas.Bool.{cases_lt, cases_eq}
-use Rattle.swap_store.specs.declared.runs.Run.{Run}
+use Rattle.chain_owners.specs.declared.run.Run.{Run}
 use Rattle.swap_store.specs.Run.{InBlocks, HasBlock, IsRunList, EndsBefore, BeginsWith}
 use Rattle.swap_store.proofs.RunLists.{after, IsRunList-prefix, IsRunList-back, HasBlock-left, HasBlock-right, HasBlock-cases, HasBlock-parts, HasBlock-from_parts, joined, split_at, run_at}
 

@@ -1,9 +1,10 @@
 pub mod RunLists
 pub mod GivenBack
 pub mod Fits
-pub mod Names
 pub mod PlacementLaws
 pub mod Exposed
 pub mod Contents
 pub mod Windows
 pub mod FoundRoom
+pub mod Putting
+pub mod Causes

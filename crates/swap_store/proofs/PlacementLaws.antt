@@ -7,12 +7,12 @@ use Rattle.std.specs.Map.{lookup}
 use Rattle.std.specs.Option.{is_some}
 use Rattle.std.proofs.lemmas.Bool.{cases_eq, cases_lt, false≢true, true≢false}
 use Rattle.tile_cow.specs.Tile.{IsTileLength}
-use Rattle.swap_store.specs.declared.runs.Run.{Run}
+use Rattle.chain_owners.specs.declared.run.Run.{Run}
 use Rattle.swap_store.specs.declared.block_map.Extent.{Extent}
-use Rattle.swap_store.specs.Values.{Named}
+use Rattle.chain_owners.specs.Values.{Named}
 use Rattle.swap_store.specs.Run.{blocks_for, InBlocks, HasBlock, IsRunList}
 use Rattle.swap_store.specs.Placement.{Placement, IsPlacement, IsUnnamed, InExtent}
-use Rattle.swap_store.proofs.Names.{get_here, get_elsewhere, get_gone, get_left, entries-inserted, entries-removed}
+use Rattle.chain_owners.proofs.Names.{get_here, get_elsewhere, get_gone, get_left, entries-inserted, entries-removed}
 use Rattle.swap_store.proofs.RunLists.{Without, HasBlock-at}
 use Rattle.swap_store.proofs.GivenBack.{With}
 
@@ -24,6 +24,15 @@ absent o e none some = absurd (let no_such : None ≡ Some e = sym none ∙ some
 
 pub blocks_for-some : (len : ℕ) → 1 ≤ len → 1 ≤ blocks_for len
 blocks_for-some len some = omega arith
+
+cases_in_blocks : (b first count : ℕ) → InBlocks b first count ⊎ (¬ InBlocks b first count)
+cases_in_blocks b first count = elim (cases_lt b first) [
+  | inl lt ↦ inr (λ is_inside. absurd (omega (arith, is_inside.low)))
+  | inr ge ↦ elim (cases_lt b (first + count)) [
+    | inl lt ↦ inl (record { low = ge; high = lt })
+    | inr ge' ↦ inr (λ is_inside. absurd (omega (arith, is_inside.high)))
+  ]
+]
 
 -- ---- no names
 
@@ -37,11 +46,9 @@ fresh used free bounded runs all = record {
   bounded = bounded;
 }
 
--- ---- a name that comes
+-- ---- a name that has blocks which were free
 
-module _ (p : Placement) (laws : IsPlacement p) (name len : ℕ) (free : List Run) (first : ℕ)
-    (none : map.get p.extents name ≡ None) (size : IsTileLength len) (runs : IsRunList 0 (2 ^ 20) free)
-    (without : Without p.free free first (blocks_for len))
+module _ (p : Placement) (laws : IsPlacement p) (name len first : ℕ) (size : IsTileLength len)
     (were_free : (b : ℕ) → InBlocks b first (blocks_for len) → HasBlock p.free b) where
   abbrev extent : Extent
   extent = record { first = first; len = len }
@@ -56,21 +63,6 @@ module _ (p : Placement) (laws : IsPlacement p) (name len : ℕ) (free : List Ru
     | inr ne ↦ inr (ne, sym (get_elsewhere p.extents name extent q ne) ∙ some)
   ]
 
-  still_unnamed : (b : ℕ) → IsUnnamed p.extents b → ¬ InBlocks b first (blocks_for len) → IsUnnamed extents b
-  still_unnamed b unnamed out q e some = elim (which q e some) [
-    | inl is ↦ let P : Extent → Type 0 = λ e. ¬ InExtent b e in subst P (sym is.1) out
-    | inr old ↦ unnamed q e old.1
-  ]
-
-  was_unnamed : (b : ℕ) → IsUnnamed extents b → IsUnnamed p.extents b × ¬ InBlocks b first (blocks_for len)
-  was_unnamed b unnamed = (
-    λ q e some. elim (cases_eq q name) [
-      | inl is ↦ absent (map.get p.extents q) e (ap (map.get p.extents) is ∙ none) some
-      | inr ne ↦ unnamed q e (get_elsewhere p.extents name extent q ne ∙ some)
-    ],
-    unnamed name extent (get_here p.extents name extent),
-  )
-
   was_free : (b : ℕ) → InBlocks b first (blocks_for len) → (b < p.used) × IsUnnamed p.extents b
   was_free b is_inside = (laws.exact b).0 (were_free b is_inside)
 
@@ -80,33 +72,110 @@ module _ (p : Placement) (laws : IsPlacement p) (name len : ℕ) (free : List Ru
       let last : first + blocks_for len - 1 < p.used = (was_free (first + blocks_for len - 1) (record { low = omega (arith, some); high = omega (arith, some) })).0 in
       omega (arith, some, last)
 
-  pub named : IsPlacement (record { extents = extents; free = free; used = p.used })
-  named = record {
-    runs = runs;
-    exact = λ b. (
-      λ h. let (was, out) = (without b).0 h in
-          let (lt, unnamed) = (laws.exact b).0 was in
-          (lt, still_unnamed b unnamed out),
-      λ h. let (unnamed, out) = was_unnamed b h.1 in (without b).1 ((laws.exact b).1 (h.0, unnamed), out),
-    );
-    fits = λ q e some. elim (which q e some) [
-      | inl is ↦ let P : Extent → Type 0 = λ e. IsTileLength e.len × (e.first + blocks_for e.len ≤ p.used) in subst P (sym is.1) (size, in_used)
-      | inr old ↦ laws.fits q e old.1
-    ];
-    apart = λ q r e f ne some some' b in_e in_f. elim (which q e some) [
-      | inl is ↦ let P : Extent → Type 0 = λ e. InExtent b e in
-          elim (which r f some') [
-            | inl is' ↦ absurd (ne (is.0 ∙ sym is'.0))
-            | inr old ↦ (was_free b (subst P is.1 in_e)).1 r f old.1 in_f
-          ]
-      | inr old ↦ let P : Extent → Type 0 = λ e. InExtent b e in
-          elim (which r f some') [
-            | inl is' ↦ (was_free b (subst P is'.1 in_f)).1 q e old.1 in_e
-            | inr old' ↦ laws.apart q r e f ne old.1 old'.1 b in_e in_f
-          ]
-    ];
-    bounded = laws.bounded;
-  }
+  fits_after : (q : ℕ) (e : Extent) → map.get extents q ≡ Some e → IsTileLength e.len × (e.first + blocks_for e.len ≤ p.used)
+  fits_after q e some = elim (which q e some) [
+    | inl is ↦ let P : Extent → Type 0 = λ e. IsTileLength e.len × (e.first + blocks_for e.len ≤ p.used) in subst P (sym is.1) (size, in_used)
+    | inr old ↦ laws.fits q e old.1
+  ]
+
+  apart_after : (q r : ℕ) (e f : Extent) → q ≢ r → map.get extents q ≡ Some e → map.get extents r ≡ Some f
+      → (b : ℕ) → InExtent b e → ¬ InExtent b f
+  apart_after q r e f ne some some' b in_e in_f = elim (which q e some) [
+    | inl is ↦ let P : Extent → Type 0 = λ e. InExtent b e in
+        elim (which r f some') [
+          | inl is' ↦ absurd (ne (is.0 ∙ sym is'.0))
+          | inr old ↦ (was_free b (subst P is.1 in_e)).1 r f old.1 in_f
+        ]
+    | inr old ↦ let P : Extent → Type 0 = λ e. InExtent b e in
+        elim (which r f some') [
+          | inl is' ↦ (was_free b (subst P is'.1 in_f)).1 q e old.1 in_e
+          | inr old' ↦ laws.apart q r e f ne old.1 old'.1 b in_e in_f
+        ]
+  ]
+
+  -- ---- a name that comes
+
+  module _ (none : map.get p.extents name ≡ None) (free : List Run) (runs : IsRunList 0 (2 ^ 20) free)
+      (without : Without p.free free first (blocks_for len)) where
+    still_unnamed : (b : ℕ) → IsUnnamed p.extents b → ¬ InBlocks b first (blocks_for len) → IsUnnamed extents b
+    still_unnamed b unnamed out q e some = elim (which q e some) [
+      | inl is ↦ let P : Extent → Type 0 = λ e. ¬ InExtent b e in subst P (sym is.1) out
+      | inr old ↦ unnamed q e old.1
+    ]
+
+    was_unnamed : (b : ℕ) → IsUnnamed extents b → IsUnnamed p.extents b × ¬ InBlocks b first (blocks_for len)
+    was_unnamed b unnamed = (
+      λ q e some. elim (cases_eq q name) [
+        | inl is ↦ absent (map.get p.extents q) e (ap (map.get p.extents) is ∙ none) some
+        | inr ne ↦ unnamed q e (get_elsewhere p.extents name extent q ne ∙ some)
+      ],
+      unnamed name extent (get_here p.extents name extent),
+    )
+
+    pub named : IsPlacement (record { extents = extents; free = free; used = p.used })
+    named = record {
+      runs = runs;
+      exact = λ b. (
+        λ h. let (was, out) = (without b).0 h in
+            let (lt, unnamed) = (laws.exact b).0 was in
+            (lt, still_unnamed b unnamed out),
+        λ h. let (unnamed, out) = was_unnamed b h.1 in (without b).1 ((laws.exact b).1 (h.0, unnamed), out),
+      );
+      fits = fits_after;
+      apart = apart_after;
+      bounded = laws.bounded;
+    }
+
+  -- ---- a name that moves
+
+  module _ (old : Extent) (some_old : map.get p.extents name ≡ Some old) (middle free : List Run) (runs : IsRunList 0 (2 ^ 20) free)
+      (without : Without p.free middle first (blocks_for len)) (with : With middle free old.first (blocks_for old.len)) where
+    unnamed_elsewhere : (b : ℕ) → ¬ InBlocks b first (blocks_for len)
+        → ((q : ℕ) (e : Extent) → q ≢ name → map.get p.extents q ≡ Some e → ¬ InExtent b e) → IsUnnamed extents b
+    unnamed_elsewhere b out others q e some = elim (which q e some) [
+      | inl is ↦ let P : Extent → Type 0 = λ e. ¬ InExtent b e in subst P (sym is.1) out
+      | inr was ↦ others q e was.0 was.1
+    ]
+
+    -- what is unnamed now was the name's, or nobody's
+    was_unnamed_or_old : (b : ℕ) → IsUnnamed extents b → InExtent b old ⊎ (IsUnnamed p.extents b × ¬ InBlocks b first (blocks_for len))
+    was_unnamed_or_old b unnamed = elim (cases_in_blocks b old.first (blocks_for old.len)) [
+      | inl is_inside ↦ inl is_inside
+      | inr out ↦ inr (
+        λ q e some. elim (cases_eq q name) [
+          | inl is ↦ let P : Extent → Type 0 = λ e. ¬ InExtent b e in
+              subst P (same_extent old e (sym some_old ∙ ap (map.get p.extents) (sym is) ∙ some)) out
+          | inr ne ↦ unnamed q e (get_elsewhere p.extents name extent q ne ∙ some)
+        ],
+        unnamed name extent (get_here p.extents name extent),
+      )
+    ]
+
+    pub moved : IsPlacement (record { extents = extents; free = free; used = p.used })
+    moved = record {
+      runs = runs;
+      exact = λ b. (
+        λ h. elim ((with b).0 h) [
+          | inl mid ↦ let (was, out) = (without b).0 mid in
+              let (lt, unnamed) = (laws.exact b).0 was in
+              (lt, unnamed_elsewhere b out (λ q e ne some. unnamed q e some))
+          | inr is_inside ↦ (
+            omega (arith, (laws.fits name old some_old).1, is_inside.high),
+            unnamed_elsewhere b
+                (λ new. (was_free b new).1 name old some_old is_inside)
+                (λ q e ne some. laws.apart name q old e (λ is. ne (sym is)) some_old some b is_inside),
+          )
+        ],
+        λ h. (with b).1
+            (elim (was_unnamed_or_old b h.1) [
+              | inl is_inside ↦ inr is_inside
+              | inr was ↦ inl ((without b).1 ((laws.exact b).1 (h.0, was.0), was.1))
+            ]),
+      );
+      fits = fits_after;
+      apart = apart_after;
+      bounded = laws.bounded;
+    }
 
 -- ---- a name that goes
 
@@ -144,7 +213,7 @@ module _ (p : Placement) (laws : IsPlacement p) (name : ℕ) (extent : Extent) (
           )
         ],
         λ h. (with b).1
-            (elim (cases_in_blocks b) [
+            (elim (cases_in_blocks b extent.first (blocks_for extent.len)) [
               | inl is_inside ↦ inr is_inside
               | inr out ↦ inl ((laws.exact b).1 (
                 h.0,
@@ -160,15 +229,6 @@ module _ (p : Placement) (laws : IsPlacement p) (name : ℕ) (extent : Extent) (
       apart = λ q r e f ne some some'. laws.apart q r e f ne (was_kept q e some).1 (was_kept r f some').1;
       bounded = laws.bounded;
     }
-      where
-        cases_in_blocks : (b : ℕ) → InBlocks b extent.first (blocks_for extent.len) ⊎ (¬ InBlocks b extent.first (blocks_for extent.len))
-        cases_in_blocks b = elim (cases_lt b extent.first) [
-          | inl lt ↦ inr (λ is_inside. absurd (omega (arith, is_inside.low)))
-          | inr ge ↦ elim (cases_lt b (extent.first + blocks_for extent.len)) [
-            | inl lt ↦ inl (record { low = ge; high = lt })
-            | inr ge' ↦ inr (λ is_inside. absurd (omega (arith, is_inside.high)))
-          ]
-        ]
 
 -- ---- the same for the entries of a hash map
 
@@ -188,9 +248,10 @@ added es fs free free' used name len i run laws is none size lt read long runs w
     let same : from_entries {R = nat_cmp} fs ≡ map.insert (from_entries es) name (record { first = run.first; len = len }) =
     entries-inserted es fs name (record { first = run.first; len = len }) is in
     rw same
-    (named (placed es free used) laws name len free' run.first none size runs (rw first at (without run))
+    (named (placed es free used) laws name len run.first size
     (λ b is_inside. HasBlock-at free i run b lt
-    (record { low = omega (arith, first, is_inside.low); high = omega (arith, first, long run, is_inside.high) })))
+    (record { low = omega (arith, first, is_inside.low); high = omega (arith, first, long run, is_inside.high) }))
+    none free' runs (rw first at (without run)))
 
 pub none_there : (o : Option Extent) → is_some o ≡ false → o ≡ None
 none_there None is = refl
@@ -213,6 +274,38 @@ removed es fs free free' used name e laws is some runs with =
 pub room_after_removed : (b : Bool) (n m : ℕ) → m + cond b 1 0 ≡ n → b ≡ true → m + 1 ≤ n
 room_after_removed true n m is found = omega arith
 room_after_removed false n m is found = absurd (false≢true found)
+
+module _ (es : List (ℕ × Extent)) (free middle : List Run) (used name len i : ℕ) (run : Run) (old : Extent)
+    (laws : IsPlacement (placed es free used))
+    (some_old : map.get (from_entries {R = nat_cmp} es) name ≡ Some old) (size : IsTileLength len)
+    (lt : i < length free) (read : run ≡ get_or free i run) (long : (d : Run) → blocks_for len ≤ (get_or free i d).count)
+    (without : (d : Run) → Without free middle (get_or free i d).first (blocks_for len)) where
+  first_read : (get_or free i run).first ≡ run.first
+  first_read = ap (λ (r : Run). r.first) (sym read)
+
+  were_free_there : (b : ℕ) → InBlocks b run.first (blocks_for len) → HasBlock free b
+  were_free_there b is_inside = HasBlock-at free i run b lt (record { low = omega (arith, first_read, is_inside.low); high = omega (arith, first_read, long run, is_inside.high) })
+
+  without_there : Without free middle run.first (blocks_for len)
+  without_there = rw first_read at (without run)
+
+  pub old_some : 1 ≤ blocks_for old.len
+  old_some = blocks_for-some old.len (laws.fits name old some_old).0.0
+
+  pub old_bound : old.first + blocks_for old.len ≤ 2 ^ 20
+  old_bound = omega (arith, (laws.fits name old some_old).1, laws.bounded)
+
+  pub old_apart : (b : ℕ) → InBlocks b old.first (blocks_for old.len) → ¬ HasBlock middle b
+  old_apart b is_inside h = ((laws.exact b).0 ((without_there b).0 h).0).1 name old some_old is_inside
+
+  pub replaced : (fs : List (ℕ × Extent)) (free' : List Run)
+      → ((q : ℕ) → lookup (eqb q) fs ≡ cond (eqb name q) (Some (record { first = run.first; len = len })) (lookup (eqb q) es))
+      → IsRunList 0 (2 ^ 20) free' → With middle free' old.first (blocks_for old.len)
+      → IsPlacement (placed fs free' used)
+  replaced fs free' is runs with =
+      let same : from_entries {R = nat_cmp} fs ≡ map.insert (from_entries es) name (record { first = run.first; len = len }) =
+      entries-inserted es fs name (record { first = run.first; len = len }) is in
+      rw same (moved (placed es free used) laws name len run.first size were_free_there old some_old middle free' runs without_there with)
 
 -- ---- a placement of no names
 

@@ -5,7 +5,7 @@ use Rattle.std.proofs.Math.ListN.{set}
 use Rattle.std.proofs.lemmas.Bool.{cases_lt, lt-ltb}
 use Rattle.std.specs.List.Sorted.{IsPartitionedBy}
 use borrow.Author.Tests.{ltb-true}
-use Rattle.swap_store.specs.declared.runs.Run.{Run}
+use Rattle.chain_owners.specs.declared.run.Run.{Run}
 use Rattle.swap_store.specs.Run.{InBlocks, HasBlock, IsRunList}
 
 -- the first block that a run after these may have
@@ -220,3 +220,10 @@ pub HasBlock-at : (xs : List Run) (i : ℕ) (d : Run) (b : ℕ) → i < length x
 HasBlock-at [] i d b lt is_inside = absurd (omega arith)
 HasBlock-at (x ∷ xs) zero d b lt is_inside = inl is_inside
 HasBlock-at (x ∷ xs) (suc i) d b lt is_inside = inr (HasBlock-at xs i d b (omega arith) is_inside)
+
+-- runs whose blocks are all below a number are a list before it
+pub IsRunList-below : (low end used : ℕ) (runs : List Run) → IsRunList low end runs → ((b : ℕ) → HasBlock runs b → b < used) → IsRunList low used runs
+IsRunList-below low end used [] list below = tt
+IsRunList-below low end used (run ∷ runs) list below =
+    let last : run.first + run.count - 1 < used = below (run.first + run.count - 1) (inl (record { low = omega (arith, list.1); high = omega (arith, list.1) })) in
+    (list.0, list.1, omega (arith, last, list.1), IsRunList-below (run.first + run.count + 1) end used runs list.3 (λ b h. below b (inr h)))

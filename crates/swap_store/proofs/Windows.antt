@@ -9,7 +9,7 @@ use Rattle.std.specs.FinMap.{find, entries, get-entries, len-entries}
 use Rattle.std.proofs.lemmas.Bool.{cases_Bool, cases_eq, cases_lt, eq-eqb, false≢true, true≢false}
 use Rattle.std.proofs.lemmas.List.{length-map}
 use Rattle.std.proofs.lemmas.Map.Steps.{le-length_from_below}
-use Rattle.swap_store.specs.declared.runs.Run.{Run}
+use Rattle.chain_owners.specs.declared.run.Run.{Run}
 use Rattle.swap_store.specs.declared.block_map.Extent.{Extent}
 use Rattle.swap_store.specs.Run.{HasBlock, IsRunList, longest}
 use Rattle.swap_store.specs.Placement.{Placement, IsPlacement}

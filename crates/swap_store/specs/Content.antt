@@ -5,7 +5,7 @@ use Rattle.std.specs.Option.{option_map}
 use Rattle.outside_io.specs.Swap.{Blocks}
 use Rattle.swap_store.specs.declared.block_map.Extent.{Extent}
 use Rattle.swap_store.specs.Run.{blocks_for}
-use Rattle.swap_store.specs.Values.{Named, map_values}
+use Rattle.chain_owners.specs.Values.{Named, map_values}
 
 -- the bytes of so many blocks from `first` on, one block after another
 abbrev pub prefix_of : Blocks → ℕ → ℕ → List ℕ

@@ -1,12 +1,12 @@
 -- Where names lie on a disk.
-use Rattle.std.specs.Prelude.{◌≡◌, ◌≢◌, ℕ, ◌+◌, ◌<◌, ◌≤◌, ◌^◌, ◌↔◌, List, Some, refl}
+use Rattle.std.specs.Prelude.{◌≡◌, ◌≢◌, ℕ, ◌+◌, ◌<◌, ◌≤◌, ◌^◌, ◌↔◌, List, Some, refl, slice_index_or}
 use Rattle.std.specs.Coded.{Coded, code_by, coded×, coded_list, coded_ℕ}
 use Rattle.std.specs.FinMap as map
 use Rattle.tile_cow.specs.Tile.{IsTileLength}
-use Rattle.swap_store.specs.declared.runs.Run.{Run}
+use Rattle.chain_owners.specs.declared.run.Run.{Run}
 use Rattle.swap_store.specs.declared.block_map.Extent.{Extent}
 use Rattle.swap_store.specs.Run.{blocks_for, InBlocks, HasBlock, IsRunList, first_fit}
-use Rattle.swap_store.specs.Values.{Named}
+use Rattle.chain_owners.specs.Values.{Named}
 
 -- each name's extent, the free runs, and how many blocks of the disk are used
 pub record Placement : Type 0 where
@@ -50,8 +50,12 @@ pub record IsPlacement (p : Placement) : Type 0 where
       → (block : ℕ) → InExtent block extent → ¬ InExtent block extent'
   pub bounded : p.used ≤ 2 ^ 20
 
--- the new placement has one name more, in the first blocks of the lowest free run that is long enough
-pub record AddsAtFirstFit (old new : Placement) (name len : ℕ) : Type 0 where
+-- the first of the blocks of the free run of this index, as many as so many bytes take
+abbrev pub extent_at : List Run → ℕ → Run → ℕ → Extent
+extent_at free index default len = record { first = (slice_index_or free index default).first; len = len }
+
+-- the name has the first blocks of the lowest free run that is long enough, and all others are where they were
+pub record PutsAtFirstFit (old new : Placement) (name len : ℕ) : Type 0 where
   pub first : ℕ
   pub lowest : first_fit old.free (blocks_for len) ≡ Some first
   pub extents : new.extents ≡ map.insert old.extents name (record { first = first; len = len })

@@ -1,11 +1,8 @@
 -- Runs of blocks that lie beside one another.
-use Rattle.std.specs.Prelude.{◌≡◌, ℕ, ◌+◌, ◌-◌, ◌/◌, ◌<◌, ◌≤◌, List, [], ◌∷◌, Option, Some, length, slice_index_or, ⊤, ◌⊎◌, max, find, nat_le}
+use Rattle.std.specs.Prelude.{◌≡◌, ℕ, ◌+◌, ◌-◌, ◌<◌, ◌≤◌, List, [], ◌∷◌, Option, Some, length, slice_index_or, ◌⊎◌, find, nat_le}
 use Rattle.std.specs.Option.{option_map}
-use Rattle.swap_store.specs.declared.runs.Run.{Run}
-
--- how many blocks so many bytes take
-abbrev pub blocks_for : ℕ → ℕ
-blocks_for len = (len + 4095) / 4096
+use Rattle.chain_owners.specs.declared.run.Run.{Run}
+pub use Rattle.chain_owners.specs.Run.{blocks_for, longest, IsRunList}
 
 -- a block is one of so many blocks from `first` on
 pub record InBlocks (block first count : ℕ) : Type 0 where
@@ -16,18 +13,6 @@ pub record InBlocks (block first count : ℕ) : Type 0 where
 abbrev pub HasBlock : List Run → ℕ → Type 0
 HasBlock [] block = ⊥
 HasBlock (run ∷ runs) block = InBlocks block run.first run.count ⊎ HasBlock runs block
-
--- The runs stand in order, from block `low` on and before block `end`. None is empty, and between
--- any two of them stands a block that is in none: neighbours are one run.
-abbrev pub IsRunList : ℕ → ℕ → List Run → Type 0
-IsRunList low end [] = ⊤
-IsRunList low end (run ∷ runs) =
-    (low ≤ run.first) × (1 ≤ run.count) × (run.first + run.count ≤ end) × IsRunList (run.first + run.count + 1) end runs
-
--- how many blocks the longest run has; 0 where there is none
-abbrev pub longest : List Run → ℕ
-longest [] = 0
-longest (run ∷ runs) = max run.count (longest runs)
 
 -- the first block of the lowest run that has at least so many
 abbrev pub first_fit : List Run → ℕ → Option ℕ

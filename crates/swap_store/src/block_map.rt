@@ -1,4 +1,4 @@
-//! Where names lie on a disk.
+//! Where names are on a disk.
 
 ghost use Rattle.std.specs.Prelude.{◌≡◌, ℕ, ◌+◌, ◌<◌, ◌≤◌, ◌^◌, ◌↔◌, [], Some, None, Err, IsSome, IsNone, IfOk, OnOk, OnErr, MatchResult, length, slice_index_or};
 ghost use Rattle.std.specs.FinMap as map;
@@ -8,7 +8,7 @@ ghost use Rattle.swap_store.specs.Placement.{IsPlacement, Placement};
 
 use crate::refusal::SwapRefused;
 use crate::runs;
-use crate::runs::Run;
+use chain_owners::Run;
 use no_memory::NoMemory;
 use std::alloc::{AllocError, Global};
 use std::collections::HashMap;
@@ -17,14 +17,14 @@ use std::marker::Model;
 /// The bytes of a block.
 pub(crate) const BLOCK_BYTES: usize = 4096;
 
-/// How many blocks so many bytes take.
+/// Returns how many blocks so many bytes take.
 pub(crate) fn blocks_for(len: u32) -> u32
     ensures { result ≡ blocks_for len }
 {
     len.div_ceil(BLOCK_BYTES as u32)
 }
 
-/// Where the bytes of a name lie.
+/// Where the bytes of a name are.
 #[derive(Clone, Copy, Debug, PartialEq, Eq)]
 pub(crate) struct Extent {
     /// The number of the first block.
@@ -60,7 +60,7 @@ impl Model for BlockMap {
 }
 
 impl BlockMap {
-    /// No names, and all of the first `used` blocks of a disk free.
+    /// Returns a map without names, in which the first `used` blocks of a disk are free.
     pub fn new(alloc: Global, used: u32) -> Result<BlockMap, NoMemory>
         requires { used ≤ 2 ^ 20 }
         ensures used { IfOk result (λ made. made.used ≡ used) }
@@ -80,7 +80,7 @@ impl BlockMap {
         })
     }
 
-    /// The free runs.
+    /// Returns the free runs.
     pub fn free_runs(&self) -> &[Run]
         ensures value { result.now ≡ self.now.free }
         ensures laws { IsPlacement self.now }
@@ -88,14 +88,14 @@ impl BlockMap {
         &self.free
     }
 
-    /// How many blocks are used.
+    /// Returns how many blocks are used.
     pub fn used_blocks(&self) -> u32
         ensures { result ≡ self.now.used }
     {
         self.used
     }
 
-    /// The extent of a name, where it has one.
+    /// Returns the extent of a name, where it has one.
     pub fn extent(&self, name: u64) -> Option<Extent>
         ensures value { result ≡ map.get self.now.extents name }
         ensures laws { IsPlacement self.now }
@@ -103,7 +103,7 @@ impl BlockMap {
         self.extents.get(&name).copied()
     }
 
-    /// The index of the lowest free run that so many bytes fit in.
+    /// Returns the index of the lowest free run that so many bytes fit in.
     pub fn fitting_run(&self, len: u32) -> Result<usize, SwapRefused>
         requires { IsTileLength len }
         ensures found { MatchResult result (IsFirstFit self.now.free (blocks_for len))
@@ -133,6 +133,27 @@ impl BlockMap {
         self.free.reserve(self.extents.len() + 1)?;
         self.extents.insert(name, Extent { first, len })?;
         runs::take_first(&mut self.free, index, count);
+        Ok(())
+    }
+
+    /// Moves a name to the first blocks of the free run of this index, as many as `len` bytes take, and
+    /// makes its old blocks free.
+    pub fn replace(&mut self, name: u64, index: usize, len: u32) -> Result<(), NoMemory>
+        requires present { IsSome (map.get self.old.extents name) }
+        requires size { IsTileLength len }
+        requires known { index < length self.old.free }
+        requires long { (d : Run) → blocks_for len ≤ (slice_index_or self.old.free index d).count }
+        ensures extents { OnOk result ((d : Run) → self.new.extents
+            ≡ map.insert self.old.extents name (record { first = (slice_index_or self.old.free index d).first; len = len })) }
+        ensures used { self.new.used ≡ self.old.used }
+        ensures unchanged { OnErr result (self.new ≡ self.old) }
+    {
+        let count = blocks_for(len);
+        let first = self.free[index].first;
+        self.free.reserve(self.extents.len() + 1)?;
+        let old = self.extents.insert(name, Extent { first, len })?.unwrap();
+        runs::take_first(&mut self.free, index, count);
+        runs::give_back(&mut self.free, old.first, blocks_for(old.len));
         Ok(())
     }
 

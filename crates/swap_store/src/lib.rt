@@ -2,13 +2,13 @@
 #![tactic(auto)]
 
 mod block_map;
-mod chain_meaning;
 mod extents;
+mod laws;
 mod refusal;
 mod runs;
 mod store;
 
-pub use chain_meaning::ChainMeaning;
+pub use chain_owners::{ChainMeaning, Run};
+pub use laws::{causes_add_up, few_names_leave_room, free_runs_are_used};
 pub use refusal::SwapRefused;
-pub use runs::Run;
-pub use store::{Store, SwapStore};
+pub use store::{Store, StoreMemory, SwapStore};

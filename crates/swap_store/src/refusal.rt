@@ -9,7 +9,7 @@ use outside_io::SwapAnswer;
 use std::alloc::{AllocError, AllocFailed};
 use thiserror::Error;
 
-/// Why a call on a store, or on what stands on one, did not do what it was asked to.
+/// Why a call on a store, or on what is built on one, did not do what it was asked to.
 #[derive(Clone, Copy, Debug, PartialEq, Eq, Error)]
 pub enum SwapRefused {
     /// The swap disk failed.

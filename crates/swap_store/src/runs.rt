@@ -3,16 +3,9 @@
 ghost use Rattle.std.specs.Prelude.{◌≡◌, ℕ, ◌+◌, ◌<◌, ◌≤◌, ◌^◌, ◌↔◌, ◌⊎◌, length, slice_index_or, vec_len, vec_capacity, IsTrue, position, nat_le};
 ghost use Rattle.swap_store.specs.Run.{BeginsWith, EndsBefore, HasBlock, IsRunList, InBlocks, longest};
 
-/// Blocks that lie beside one another.
-#[derive(Clone, Copy, Debug, PartialEq, Eq)]
-pub struct Run {
-    /// The number of the first block.
-    pub first: u32,
-    /// How many blocks there are.
-    pub count: u32,
-}
+use chain_owners::Run;
 
-/// How many blocks the longest of these runs has; 0 where there is none.
+/// Returns how many blocks the longest of these runs has; 0 where there is none.
 pub(crate) fn longest_run(runs: &[Run]) -> u32
     ensures { result ≡ longest runs.now }
 {
@@ -23,14 +16,14 @@ pub(crate) fn longest_run(runs: &[Run]) -> u32
     most
 }
 
-/// The index of the lowest of these runs that has at least `needed` blocks.
+/// Returns the index of the lowest of these runs that has at least `needed` blocks.
 pub(crate) fn fitting_run(runs: &[Run], needed: u32) -> Option<usize>
     ensures { result ≡ position (λ run. nat_le needed run.count) runs.now }
 {
     runs.iter().position(|run| run.count >= needed)
 }
 
-/// Takes the first `count` blocks of the run of this index away. The memory of the runs stays.
+/// Takes the first `count` blocks of the run of this index away. Their memory is kept.
 pub(crate) fn take_first(runs: &mut Vec<Run>, index: usize, count: u32)
     requires known { index < vec_len runs.old }
     requires taken { 1 ≤ count }
@@ -53,7 +46,7 @@ pub(crate) fn take_first(runs: &mut Vec<Run>, index: usize, count: u32)
     }
 }
 
-/// How many of these runs begin before a block.
+/// Returns how many of these runs begin before a block.
 fn runs_before(runs: &[Run], block: u32) -> usize
     requires { IsRunList 0 (2 ^ 20) runs.now }
     ensures within { result ≤ length runs.now }
@@ -63,7 +56,7 @@ fn runs_before(runs: &[Run], block: u32) -> usize
     runs.partition_point(|run| run.first < block)
 }
 
-/// Whether the run before this index ends just before a block.
+/// Returns whether the run before this index ends just before a block.
 fn ends_before(runs: &[Run], index: usize, block: u32) -> bool
     requires list { IsRunList 0 (2 ^ 20) runs.now }
     requires within { index ≤ length runs.now }
@@ -75,7 +68,7 @@ fn ends_before(runs: &[Run], index: usize, block: u32) -> bool
     }
 }
 
-/// Whether the run of this index begins with a block.
+/// Returns whether the run of this index begins with a block.
 fn begins_with(runs: &[Run], index: usize, block: u32) -> bool
     ensures { IsTrue result ↔ BeginsWith runs.now index block }
 {

@@ -1,22 +1,57 @@
 //! Tiles under names on a swap disk.
 
-ghost use Rattle.std.specs.Prelude.{◌≡◌, ◌+◌, ◌*◌, ◌<◌, ◌≤◌, Some, Err, IfErr, IfOk, IfSome, OnErr, OnOk, IsNone, IsSome, length, min};
+ghost use Rattle.std.specs.Prelude.{◌≡◌, ◌+◌, ◌*◌, ◌<◌, ◌≤◌, Some, Err, IfErr, IfOk, IfSome, OnErr, OnOk, IsNone, IsSome, length, min, ◌^◌};
 ghost use Rattle.std.specs.Option.{option_map};
 ghost use Rattle.std.specs.FinMap as map;
-ghost use Rattle.swap_store.specs.Run.{blocks_for, longest};
-ghost use Rattle.swap_store.specs.Placement.{AddsAtFirstFit, IsPlacement};
-ghost use Rattle.swap_store.specs.Content.{content_of, lengths_of};
+ghost use Rattle.swap_store.specs.Run.{IsFirstFit, blocks_for, longest};
+ghost use Rattle.swap_store.specs.Placement.{IsPlacement, PutsAtFirstFit, extent_at};
+ghost use Rattle.swap_store.specs.Content.{bytes_in, content_of, lengths_of};
 ghost use Rattle.swap_store.specs.Store.{HasDiskCause, HasPutCause};
 
 use crate::block_map::BlockMap;
 use crate::extents;
 use crate::refusal::SwapRefused;
-use crate::runs::Run;
+use chain_owners::Run;
 use no_memory::NoMemory;
 use outside_io::{Lent, SwapDisk};
 use std::alloc::Global;
 use std::marker::Model;
 use tile_cow::Tile;
+
+/// The memory of a store without names, before it has its disk. A clause sees where its names and its
+/// free runs are.
+#[derive(Drop)]
+pub struct StoreMemory {
+    map: BlockMap,
+    spare: Vec<u8>,
+    alloc: Global,
+}
+
+impl Model for StoreMemory {
+    ghost use Rattle.std.specs.Prelude.{◌≡◌, vec_len};
+    ghost use Rattle.swap_store.specs.Placement.{Placement, placement_code};
+
+    ghost Value = { Placement };
+
+    ghost coded = { placement_code };
+
+    ghost view = { λ a. a.map };
+
+    ghost invariant = { λ a. vec_len a.spare ≡ 65536 };
+}
+
+impl StoreMemory {
+    /// Returns the memory of a store over so many blocks, all of them free.
+    pub fn new(alloc: Global, blocks: u32) -> Result<StoreMemory, NoMemory>
+        requires { blocks ≤ 2 ^ 20 }
+        ensures used { IfOk result (λ memory. memory.used ≡ blocks) }
+        ensures empty { IfOk result (λ memory. memory.extents ≡ map.empty) }
+    {
+        let spare = vec![in alloc; 0; 65_536]?;
+        let map = BlockMap::new(alloc, blocks)?;
+        Ok(StoreMemory { map, spare, alloc })
+    }
+}
 
 /// Keeps tiles under names in runs of blocks of a disk that it owns.
 #[derive(Drop)]
@@ -45,40 +80,52 @@ impl<D: SwapDisk> Model for Store<D> {
 }
 
 impl<'s, D: SwapDisk> Store<Lent<'s, D>> {
-    /// A store without names, over the first `blocks` blocks of a disk, or all where it has fewer.
+    /// Returns a store without names, over the first `blocks` blocks of a disk, or all where it has
+    /// fewer. Who has to know the disk where that runs out of memory takes a `StoreMemory` first, and
+    /// then makes the store by `over`.
     pub fn new(alloc: Global, disk: &'s mut D, blocks: u32) -> Result<Store<Lent<'s, D>>, NoMemory>
         ensures used { IfOk result (λ store. store.placement.used ≡ min blocks (D.block_count disk.old)) }
         ensures empty { IfOk result (λ store. store.placement.extents ≡ map.empty) }
         ensures disk { IfOk result (λ store. store.disk.disk ≡ disk.entry) }
     {
-        let spare = vec![in alloc; 0; 65_536]?;
-        let used = blocks.min(disk.size());
-        let map = BlockMap::new(alloc, used)?;
-        Ok(Store {
-            map,
-            disk: Lent { disk },
-            spare,
-            alloc,
-        })
+        let memory = StoreMemory::new(alloc, blocks.min(disk.size()))?;
+        Ok(Store::over(memory, Lent { disk }))
     }
 }
 
 impl<D: SwapDisk> Store<D> {
-    /// Whether a name is there.
+    /// Returns a store over a disk, for which the memory was taken before. It can't fail, so who lends
+    /// the disk here knows it where the memory was refused.
+    pub fn over(memory: StoreMemory, disk: D) -> Store<D>
+        requires { memory.used ≤ D.block_count disk }
+        ensures placement { result.placement ≡ memory }
+        ensures disk { result.disk ≡ disk }
+    {
+        let StoreMemory { map, spare, alloc } = memory;
+        Store {
+            map,
+            disk,
+            spare,
+            alloc,
+        }
+    }
+
+    /// Returns whether a name is there.
     pub fn has(&self, name: u64) -> bool
         ensures { result ≡ map.contains_key self.now.placement.extents name }
     {
         self.map.extent(name).is_some()
     }
 
-    /// How many bytes a name has, where it is there.
+    /// Returns how many bytes a name has, where it is there.
     pub fn len_of(&self, name: u64) -> Option<u32>
         ensures { result ≡ map.get (lengths_of self.now.placement.extents) name }
     {
         self.map.extent(name).map(|extent| extent.len)
     }
 
-    /// The free runs, in order. They have exactly the blocks of no name, and neighbours are one run.
+    /// Returns the free runs, in order. They have exactly the blocks of no name, and neighbors are one
+    /// run.
     pub fn free_runs(&self) -> &[Run]
         ensures value { result.now ≡ self.now.placement.free }
         ensures laws { IsPlacement self.now.placement }
@@ -86,7 +133,7 @@ impl<D: SwapDisk> Store<D> {
         self.map.free_runs()
     }
 
-    /// How many blocks of the disk are used, from block 0 on.
+    /// Returns how many blocks of the disk are used, from block 0 on.
     pub fn used_blocks(&self) -> u32
         ensures used { result ≡ self.now.placement.used }
         ensures known { result ≤ D.block_count self.now.disk }
@@ -94,13 +141,28 @@ impl<D: SwapDisk> Store<D> {
         self.map.used_blocks()
     }
 
-    /// Where there are k names and at least 32·(k + 1) blocks are used, 16 blocks that lie beside
-    /// one another are free, which is room for every tile.
-    pub fn few_names_leave_room(&self)
-        requires { 32 * (map.len self.now.placement.extents + 1) ≤ self.now.placement.used }
-        ensures { 16 ≤ longest self.now.placement.free }
+    /// Writes the bytes of a tile to the lowest free run that is long enough for them, and returns its
+    /// index. No name has its blocks yet, so the bytes of all names are unchanged.
+    fn write_beside(&mut self, tile: &Tile) -> Result<usize, SwapRefused>
+        ensures found { IfOk result (IsFirstFit self.old.placement.free (blocks_for (length tile.now))) }
+        ensures written { IfOk result (λ index. (d : Run) → IfSome (D.blocks self.new.disk)
+            (λ blocks. bytes_in blocks (extent_at self.old.placement.free index d (length tile.now)) ≡ tile.now)) }
+        ensures same { self.new.placement ≡ self.old.placement }
+        ensures content { content_of self.old.placement.extents (D.blocks self.new.disk)
+            ≡ content_of self.old.placement.extents (D.blocks self.old.disk) }
+        ensures full { longest self.old.placement.free < blocks_for (length tile.now)
+            → result ≡ Err (SwapRefused.SwapFull (blocks_for (length tile.now)) (longest self.old.placement.free)) }
+        ensures cause { IfErr result (HasPutCause self.old.placement.free (length tile.now)
+            (D.faults self.old.disk) (D.faults self.new.disk)) }
+        ensures later { D.faults self.old.disk ≤ D.faults self.new.disk }
+        ensures block_count { D.block_count self.new.disk ≡ D.block_count self.old.disk }
+        ensures loans { D.loans self.new.disk ≡ D.loans self.old.disk }
     {
-        let _runs = self.map.free_runs();
+        let bytes = tile.bytes();
+        let index = self.map.fitting_run(bytes.len() as u32)?;
+        let first = self.map.free_runs()[index].first;
+        extents::write_extent(&mut self.disk, first, bytes, &mut self.spare)?;
+        Ok(index)
     }
 
     /// Keeps the bytes of a tile under a name, in the lowest free run that is long enough for them.
@@ -108,14 +170,14 @@ impl<D: SwapDisk> Store<D> {
     pub fn put(&mut self, name: u64, tile: &Tile) -> Result<(), SwapRefused>
         requires { IsNone (map.get self.old.placement.extents name) }
         ensures placed { OnOk result
-            (AddsAtFirstFit self.old.placement self.new.placement name (length tile.now)) }
+            (PutsAtFirstFit self.old.placement self.new.placement name (length tile.now)) }
         ensures lengths { OnOk result (lengths_of self.new.placement.extents
             ≡ map.insert (lengths_of self.old.placement.extents) name (length tile.now)) }
         ensures kept { OnOk result (content_of self.new.placement.extents (D.blocks self.new.disk)
             ≡ option_map (λ content. map.insert content name tile.now)
             (content_of self.old.placement.extents (D.blocks self.old.disk))) }
 
-        // An error leaves where names lie, and the bytes of each.
+        // An error leaves where names are, and the bytes of each.
         ensures err { OnErr result (self.new.placement ≡ self.old.placement) }
         ensures unchanged { OnErr result (content_of self.new.placement.extents (D.blocks self.new.disk)
             ≡ content_of self.old.placement.extents (D.blocks self.old.disk)) }
@@ -129,16 +191,44 @@ impl<D: SwapDisk> Store<D> {
         ensures block_count { D.block_count self.new.disk ≡ D.block_count self.old.disk }
         ensures loans { D.loans self.new.disk ≡ D.loans self.old.disk }
     {
-        let bytes = tile.bytes();
-        let len = bytes.len() as u32;
-        let index = self.map.fitting_run(len)?;
-        let first = self.map.free_runs()[index].first;
-        extents::write_extent(&mut self.disk, first, bytes, &mut self.spare)?;
-        self.map.add(name, index, len)?;
+        let index = self.write_beside(tile)?;
+        self.map.add(name, index, tile.bytes().len() as u32)?;
         Ok(())
     }
 
-    /// The tile of a name.
+    /// Replaces the bytes of a name that is there. The new ones are written to the lowest free run that
+    /// is long enough, beside the old ones, whose blocks become free then. After an error the name
+    /// has its old bytes, but blocks of no name may have other bytes.
+    pub fn replace(&mut self, name: u64, tile: &Tile) -> Result<(), SwapRefused>
+        requires { IsSome (map.get self.old.placement.extents name) }
+        ensures placed { OnOk result
+            (PutsAtFirstFit self.old.placement self.new.placement name (length tile.now)) }
+        ensures lengths { OnOk result (lengths_of self.new.placement.extents
+            ≡ map.insert (lengths_of self.old.placement.extents) name (length tile.now)) }
+        ensures kept { OnOk result (content_of self.new.placement.extents (D.blocks self.new.disk)
+            ≡ option_map (λ content. map.insert content name tile.now)
+            (content_of self.old.placement.extents (D.blocks self.old.disk))) }
+
+        // An error leaves where names are, and the bytes of each.
+        ensures err { OnErr result (self.new.placement ≡ self.old.placement) }
+        ensures unchanged { OnErr result (content_of self.new.placement.extents (D.blocks self.new.disk)
+            ≡ content_of self.old.placement.extents (D.blocks self.old.disk)) }
+
+        // It is full exactly where the longest free run is too short.
+        ensures full { longest self.old.placement.free < blocks_for (length tile.now)
+            → result ≡ Err (SwapRefused.SwapFull (blocks_for (length tile.now)) (longest self.old.placement.free)) }
+        ensures cause { IfErr result (HasPutCause self.old.placement.free (length tile.now)
+            (D.faults self.old.disk) (D.faults self.new.disk)) }
+        ensures later { D.faults self.old.disk ≤ D.faults self.new.disk }
+        ensures block_count { D.block_count self.new.disk ≡ D.block_count self.old.disk }
+        ensures loans { D.loans self.new.disk ≡ D.loans self.old.disk }
+    {
+        let index = self.write_beside(tile)?;
+        self.map.replace(name, index, tile.bytes().len() as u32)?;
+        Ok(())
+    }
+
+    /// Reads the tile of a name, which has this many bytes.
     pub fn get(&mut self, name: u64, len: u32) -> Result<Tile, SwapRefused>
         requires { map.get (lengths_of self.old.placement.extents) name ≡ Some len }
         ensures length { IfOk result (λ tile. length tile ≡ len) }
@@ -170,7 +260,7 @@ impl<D: SwapDisk> Store<D> {
         self.map.remove(name);
     }
 
-    /// The disk, as the last call left it.
+    /// Gives the disk back, as the last call left it.
     pub fn end(self) -> D
         ensures { result ≡ self.disk }
     {

@@ -7,7 +7,7 @@ use outside_io::{
 use std::alloc::{AllocError, Global};
 use std::test::Fail;
 
-/// The number of the call that fails, counted from 1.
+/// Returns the number of the call that fails, counted from 1.
 fn chosen(alloc: Global, call: u64) -> Result<Vec<u64>, AllocError> {
     Ok(vec![in alloc; call]?)
 }
@@ -17,7 +17,7 @@ const ONE: &[u8] = &[1];
 
 const TWO: &[u8] = &[2, 2];
 
-/// A shelf of these two files, of which the reads and writes of these numbers fail.
+/// Returns a shelf of these two files, of which the reads and writes of these numbers fail.
 fn shelf(alloc: Global, fail_read: u64, fail_write: u64) -> Result<MemShelf, AllocError> {
     let mut files = Vec::new(alloc);
     files.push(("one".to_string(alloc)?, ONE.to_vec(alloc)?))?;
@@ -27,7 +27,7 @@ fn shelf(alloc: Global, fail_read: u64, fail_write: u64) -> Result<MemShelf, All
     Ok(MemShelf::new(alloc, files, reads, writes))
 }
 
-/// Four reads, and what each answers where it doesn't fail.
+/// Four reads, and what each returns where it doesn't fail.
 const READS: [(&str, u64, Result<&[u8], ShelfAnswer>); 4] = [
     ("one", 1, Ok(ONE)),
     ("none", 9, Err(ShelfAnswer::Absent)),
@@ -35,7 +35,7 @@ const READS: [(&str, u64, Result<&[u8], ShelfAnswer>); 4] = [
     ("two", 9, Ok(TWO)),
 ];
 
-/// Whether a read answered as it should.
+/// Returns whether a read returned what it should.
 fn is_answer(answer: &Result<Vec<u8>, ShelfAnswer>, wanted: &Result<&[u8], ShelfAnswer>) -> bool {
     match (answer, wanted) {
         (Ok(bytes), Ok(wanted)) => bytes.as_slice() == *wanted,
@@ -48,17 +48,17 @@ fn is_answer(answer: &Result<Vec<u8>, ShelfAnswer>, wanted: &Result<&[u8], Shelf
 fn each_read_of_a_shelf_fails_in_turn(rt: HostRuntime) -> Result<(), Fail> {
     for failing in 0..=5 {
         let mut shelf = shelf(rt.alloc(), failing, 0)?;
-        for (place, (name, limit, wanted)) in READS.iter().enumerate() {
+        for (index, (name, limit, wanted)) in READS.iter().enumerate() {
             assert!(rt; is_file_name(name.as_bytes()));
             let answer = shelf.read(name, *limit);
-            let wanted = if place as u64 + 1 == failing {
+            let wanted = if index as u64 + 1 == failing {
                 Err(ShelfAnswer::Failed)
             } else {
                 *wanted
             };
             assert!(rt;
                 is_answer(&answer, &wanted),
-                "read {place} where {failing} fails"
+                "read {index} where {failing} fails"
             );
         }
         assert_eq!(rt; shelf.get("one"), Some(ONE));
@@ -89,15 +89,15 @@ const WRITTEN: [(u64, &[u8], &[u8], &[u8]); 6] = [
 fn each_write_of_a_shelf_fails_in_turn(rt: HostRuntime) -> Result<(), Fail> {
     for (failing, new, two, last) in &WRITTEN {
         let mut shelf = shelf(rt.alloc(), 0, *failing)?;
-        for (place, (name, bytes)) in WRITES.iter().enumerate() {
+        for (index, (name, bytes)) in WRITES.iter().enumerate() {
             assert!(rt; is_file_name(name.as_bytes()));
             let answer = shelf.write(name, bytes);
-            let wanted = if place as u64 + 1 == *failing {
+            let wanted = if index as u64 + 1 == *failing {
                 Err(ShelfAnswer::Failed)
             } else {
                 Ok(())
             };
-            assert_eq!(rt; answer, wanted, "write {place} where {failing} fails");
+            assert_eq!(rt; answer, wanted, "write {index} where {failing} fails");
         }
         assert_eq!(rt; shelf.get("one"), Some(ONE));
         assert_eq!(rt; shelf.get("new"), Some(*new), "where {failing} fails");
@@ -124,14 +124,14 @@ const PUT: [(u64, &[u8]); 6] = [
 fn each_put_of_a_sink_fails_in_turn(rt: HostRuntime) -> Result<(), Fail> {
     for (failing, written) in &PUT {
         let mut sink = MemSink::new(rt.alloc(), chosen(rt.alloc(), *failing)?);
-        for (place, piece) in PIECES.iter().enumerate() {
+        for (index, piece) in PIECES.iter().enumerate() {
             let answer = sink.put(piece);
-            let wanted = if place as u64 + 1 == *failing {
+            let wanted = if index as u64 + 1 == *failing {
                 Err(SinkAnswer::Failed)
             } else {
                 Ok(())
             };
-            assert_eq!(rt; answer, wanted, "put {place} where {failing} fails");
+            assert_eq!(rt; answer, wanted, "put {index} where {failing} fails");
         }
         assert_eq!(rt; sink.bytes(), *written, "where {failing} fails");
     }
@@ -151,15 +151,15 @@ fn each_write_of_a_swap_disk_fails_in_turn(rt: HostRuntime) -> Result<(), Fail> 
     let mut block = [0u8; 4096];
     for (failing, first, second) in &BLOCKS {
         let mut disk = MemSwap::new(alloc, 2, chosen(alloc, 0)?, chosen(alloc, *failing)?)?;
-        for (place, (number, fill)) in BLOCK_WRITES.iter().enumerate() {
+        for (index, (number, fill)) in BLOCK_WRITES.iter().enumerate() {
             assert!(rt; *number < disk.size());
             let answer = disk.write_block(*number, &[*fill; 4096]);
-            let wanted = if place as u64 + 1 == *failing {
+            let wanted = if index as u64 + 1 == *failing {
                 Err(SwapAnswer::Failed)
             } else {
                 Ok(())
             };
-            assert_eq!(rt; answer, wanted, "write {place} where {failing} fails");
+            assert_eq!(rt; answer, wanted, "write {index} where {failing} fails");
         }
         assert_eq!(rt; disk.size(), 2);
         disk.read_block(0, &mut block)?;

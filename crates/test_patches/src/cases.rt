@@ -1,8 +1,8 @@
-//! Small images, and what reading and halving them gives.
+//! Small images, and their patches when read and halved.
 //!
-//! The bytes were computed by a program of its own, sample by sample: the sample of a position outside
-//! an image is found by the remainder of x and y under `Loop`, by the nearest x and y under `Clamp`,
-//! and a halved sample is (a + b + c + d + 2) / 4.
+//! The bytes were computed by a program of its own, sample by sample: the sample of a position
+//! outside an image is found by the remainder of x and y under `Loop`, by the nearest x and y under
+//! `Clamp`, and a halved sample is (a + b + c + d + 2) / 4.
 
 use pixel_formats::Format;
 

@@ -8,13 +8,13 @@ use crate::cases::Samples;
 use crate::halved_cases::HALVED;
 use crate::read_cases::READ;
 use patch_abyss::{Abyss, Patch, PatchRefused, fetch, halve};
-use plane_rect::{Rect, TileAt};
 use pixel_formats::Format;
+use plane_rect::{Rect, TileAt};
 use std::alloc::Global;
 use std::test::Fail;
 use tile_cow::Tile;
 
-/// A rectangle of fields that are one's, or else the one without a position.
+/// Returns the rectangle of four fields, or the one without a position where they are none.
 fn rect(fields: [i64; 4]) -> Rect
     ensures { InLimits result }
 {
@@ -35,13 +35,13 @@ const POLICIES: [Abyss; 5] = [
 ];
 
 impl Samples {
-    /// The patch of these.
+    /// Returns the patch of these samples.
     fn patch(self, alloc: Global) -> Result<Patch, PatchRefused> {
         Patch::from_raw(alloc, rect(self.bounds), self.format, self.bytes)
     }
 }
 
-/// The patch of rows 1 2 and 3 4 from x = y = -1 on.
+/// Returns the patch of rows 1 2 and 3 4 from x = y = -1 on.
 fn one_to_four(alloc: Global) -> Result<Patch, PatchRefused>
     ensures { IfOk result (λ patch. patch.format ≡ Y8) }
 {
@@ -152,7 +152,7 @@ const LENGTHS: [u16; 19] = [
     1, 3, 4, 5, 15, 16, 17, 31, 63, 64, 65, 127, 128, 129, 200, 255, 256, 257, 300,
 ];
 
-/// The bytes 0, 1, 2 and so on to 250, periodically.
+/// Returns the bytes 0, 1, 2 and so on to 250, periodically.
 fn counted(alloc: Global, count: u16) -> Result<Vec<u8>, Fail> {
     let mut bytes = vec![in alloc; 0; usize::from(count)]?;
     for (position, byte) in bytes.iter_mut().enumerate() {
@@ -179,7 +179,7 @@ fn parts_of_each_length(rt: HostRuntime) -> Result<(), Fail> {
     Ok(())
 }
 
-/// What a row of 40 samples from the origin on gives under a policy, sample by sample.
+/// Returns the sample that a row of 40 samples from the origin on gives under a policy.
 fn plain_sample(abyss: Abyss, row: &[u8], x: i64) -> u8 {
     let position = match abyss {
         Abyss::Clamp => x.clamp(0, 39),

@@ -1,5 +1,5 @@
-//! Graphs and small images that were worked out by hand, as tests of the plain program. All expected
-//! values were worked out from the definitions, none from the program.
+//! Graphs and small images that were worked out by hand, as tests of the plain program. All
+//! expected values were worked out from the definitions, none by the program.
 #![tactic(auto)]
 
 #[cfg(test)]

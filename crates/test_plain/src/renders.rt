@@ -3,23 +3,22 @@
 use crate::small_graphs::{
     buffer, name, node, nothing_cached, rect, render, source, step, strip_counts,
 };
-use pixel_formats::{Abyss, Format};
 use model_operations::IntOp;
-use plane_rect::{Name, Rect};
+use pixel_formats::{Abyss, Format};
 use plain_graphs::Graph;
+use plane_rect::{Name, Rect};
 use std::alloc::Global;
 use std::test::Fail;
 
-/// A mean over a square around each place of a buffer of 128 by 128 pixels.
+/// Returns a mean over a square around each pixel of a buffer of 128 by 128 pixels.
 fn mean_of_a_square(alloc: Global) -> Result<Graph, Fail> {
     let mean = IntOp::BoxMean {
         radius: 1,
         abyss: Abyss::None,
     };
-    Ok(Graph {
-        buffers: vec![in alloc; buffer("a", Format::Y8, [0, 0, 128, 128])?]?,
-        nodes: vec![in alloc; source("s", "a")?, node(alloc, "b", mean, &["s"])?]?,
-    })
+    let buffers = vec![in alloc; buffer("a", Format::Y8, [0, 0, 128, 128])?]?;
+    let nodes = vec![in alloc; source("s", "a")?, node(alloc, "b", mean, &["s"])?]?;
+    Ok(Graph::new(alloc, buffers, nodes)?)
 }
 
 #[test]
@@ -58,7 +57,7 @@ fn work_after_an_undo(rt: HostRuntime) -> Result<(), Fail> {
     Ok(())
 }
 
-/// A photograph, cropped, made brighter and softer, under a caption.
+/// Returns a photograph, cropped, made brighter and softer, under a caption.
 fn captioned_photograph(alloc: Global) -> Result<Graph, Fail> {
     let crop = IntOp::Crop {
         rect: rect([16, 16, 992, 736])?,
@@ -68,22 +67,21 @@ fn captioned_photograph(alloc: Global) -> Result<Graph, Fail> {
         abyss: Abyss::Clamp,
     };
     let format = Format::RGBA8;
-    Ok(Graph {
-        buffers: vec![in alloc;
-            buffer("photo", Format::RGB8, [0, 0, 1024, 768])?,
-            buffer("caption", Format::YA8, [40, 680, 400, 60])?,
-        ]?,
-        nodes: vec![in alloc;
-            source("p", "photo")?,
-            node(alloc, "c", crop, &["p"])?,
-            node(alloc, "g", IntOp::Gain { num: 5, den: 4 }, &["c"])?,
-            node(alloc, "b", mean, &["g"])?,
-            node(alloc, "a", IntOp::Convert { format }, &["b"])?,
-            source("t", "caption")?,
-            node(alloc, "u", IntOp::Convert { format }, &["t"])?,
-            node(alloc, "o", IntOp::Over, &["u", "a"])?,
-        ]?,
-    })
+    let buffers = vec![in alloc;
+        buffer("photo", Format::RGB8, [0, 0, 1024, 768])?,
+        buffer("caption", Format::YA8, [40, 680, 400, 60])?,
+    ]?;
+    let nodes = vec![in alloc;
+        source("p", "photo")?,
+        node(alloc, "c", crop, &["p"])?,
+        node(alloc, "g", IntOp::Gain { num: 5, den: 4 }, &["c"])?,
+        node(alloc, "b", mean, &["g"])?,
+        node(alloc, "a", IntOp::Convert { format }, &["b"])?,
+        source("t", "caption")?,
+        node(alloc, "u", IntOp::Convert { format }, &["t"])?,
+        node(alloc, "o", IntOp::Over, &["u", "a"])?,
+    ]?;
+    Ok(Graph::new(alloc, buffers, nodes)?)
 }
 
 #[test]
@@ -111,16 +109,15 @@ fn a_strip_of_many_tiles(rt: HostRuntime) -> Result<(), Fail> {
         v1: 0,
         v2: 255,
     };
-    let graph = Graph {
-        buffers: Vec::new(alloc),
-        nodes: vec![in alloc; node(alloc, "c", checker, &[])?]?,
-    };
+    let buffers = Vec::new(alloc);
+    let nodes = vec![in alloc; node(alloc, "c", checker, &[])?]?;
+    let graph = Graph::new(alloc, buffers, nodes)?;
     let strips = strip_counts(alloc, &graph, "c", [0, 0, 4160, 64])?;
     assert_eq!(rt; strips.as_slice(), [65].as_slice());
     Ok(())
 }
 
-/// A mean of the first columns of a row.
+/// Returns a mean of the first columns of a row.
 fn mean_of_columns(alloc: Global, count: i64) -> Result<Graph, Fail> {
     let crop = IntOp::Crop {
         rect: rect([0, 0, count, 1])?,
@@ -129,14 +126,13 @@ fn mean_of_columns(alloc: Global, count: i64) -> Result<Graph, Fail> {
         radius: 1,
         abyss: Abyss::Clamp,
     };
-    Ok(Graph {
-        buffers: vec![in alloc; buffer("a", Format::Y8, [0, 0, 200, 1])?]?,
-        nodes: vec![in alloc;
-            source("s", "a")?,
-            node(alloc, "c", crop, &["s"])?,
-            node(alloc, "b", mean, &["c"])?,
-        ]?,
-    })
+    let buffers = vec![in alloc; buffer("a", Format::Y8, [0, 0, 200, 1])?]?;
+    let nodes = vec![in alloc;
+        source("s", "a")?,
+        node(alloc, "c", crop, &["s"])?,
+        node(alloc, "b", mean, &["c"])?,
+    ]?;
+    Ok(Graph::new(alloc, buffers, nodes)?)
 }
 
 #[test]
@@ -156,14 +152,13 @@ fn a_box_that_changes(rt: HostRuntime) -> Result<(), Fail> {
 fn a_box_that_grows(rt: HostRuntime) -> Result<(), Fail> {
     let alloc = rt.alloc();
     let mean = |abyss| IntOp::BoxMean { radius: 1, abyss };
-    let graph = Graph {
-        buffers: vec![in alloc; buffer("a", Format::Y8, [0, 0, 1, 1])?]?,
-        nodes: vec![in alloc;
-            source("s", "a")?,
-            node(alloc, "b", mean(Abyss::None), &["s"])?,
-            node(alloc, "c", mean(Abyss::Clamp), &["s"])?,
-        ]?,
-    };
+    let buffers = vec![in alloc; buffer("a", Format::Y8, [0, 0, 1, 1])?]?;
+    let nodes = vec![in alloc;
+        source("s", "a")?,
+        node(alloc, "b", mean(Abyss::None), &["s"])?,
+        node(alloc, "c", mean(Abyss::Clamp), &["s"])?,
+    ]?;
+    let graph = Graph::new(alloc, buffers, nodes)?;
     let mut lookups = nothing_cached(alloc);
     render(alloc, &graph, "b", [-1, -1, 3, 3], &mut lookups)?;
     render(alloc, &graph, "c", [0, 0, 1, 1], &mut lookups)?;
@@ -171,7 +166,7 @@ fn a_box_that_grows(rt: HostRuntime) -> Result<(), Fail> {
     Ok(())
 }
 
-/// A source and a checkerboard added, softened, thinned and inverted.
+/// Returns a source and a checkerboard added, softened, thinned and inverted.
 fn made_job(alloc: Global) -> Result<Graph, Fail> {
     let checker = IntOp::Checker {
         format: Format::RGB8,
@@ -188,17 +183,16 @@ fn made_job(alloc: Global) -> Result<Graph, Fail> {
         radius: 1,
         abyss: Abyss::None,
     };
-    Ok(Graph {
-        buffers: vec![in alloc; buffer("a", Format::RGB8, [0, 0, 512, 384])?]?,
-        nodes: vec![in alloc;
-            source("s", "a")?,
-            node(alloc, "k", checker, &[])?,
-            node(alloc, "d", IntOp::Add, &["s", "k"])?,
-            node(alloc, "b", mean, &["d"])?,
-            node(alloc, "e", erode, &["b"])?,
-            node(alloc, "i", IntOp::Invert, &["e"])?,
-        ]?,
-    })
+    let buffers = vec![in alloc; buffer("a", Format::RGB8, [0, 0, 512, 384])?]?;
+    let nodes = vec![in alloc;
+        source("s", "a")?,
+        node(alloc, "k", checker, &[])?,
+        node(alloc, "d", IntOp::Add, &["s", "k"])?,
+        node(alloc, "b", mean, &["d"])?,
+        node(alloc, "e", erode, &["b"])?,
+        node(alloc, "i", IntOp::Invert, &["e"])?,
+    ]?;
+    Ok(Graph::new(alloc, buffers, nodes)?)
 }
 
 /// Numbers from 0 to 255, each from the one before it.
@@ -217,8 +211,8 @@ impl Randoms {
     }
 }
 
-/// The rectangles of the job's fills: seven draws each, of which the first four are its place and
-/// its sides.
+/// Returns the rectangles of the job's fills: seven random numbers each, of which the first four
+/// are its position and its sides.
 fn filled(alloc: Global) -> Result<Vec<Rect>, Fail> {
     let mut randoms = Randoms { state: 0 };
     let mut rects = Vec::new(alloc);

@@ -2,19 +2,19 @@
 
 ghost use Rattle.plane_rect.specs.Rectangle.{InLimits};
 
-use pixel_formats::{Abyss, Format, PixelSamples as Pixel};
 use model_operations::IntOp;
-use plane_rect::{Name, Rect};
+use pixel_formats::{Abyss, Format, PixelSamples as Pixel};
 use plain_images::{
-    Buffer, Picture, PixelSamples, Step, evaluate, from_raw, level, raw_with, result_of,
+    Buffer, Picture, Samples, Step, evaluate, from_raw, level, raw_with, result_of,
 };
+use plane_rect::{Name, Rect};
 use std::alloc::Global;
 use std::test::Fail;
 
 /// A rectangle by x, y, width and height.
 type Fields = [i64; 4];
 
-/// A rectangle of fields that are one's, or else the one without a position.
+/// Returns the rectangle of four fields, or the one without a position where they are none.
 fn rect(fields: Fields) -> Rect
     ensures { InLimits result }
 {
@@ -25,7 +25,7 @@ fn rect(fields: Fields) -> Rect
     }
 }
 
-/// The image of these raw bytes.
+/// Returns the image of these raw bytes.
 fn picture(alloc: Global, fields: Fields, format: Format, bytes: &[u8]) -> Result<Picture, Fail> {
     let rect = rect(fields);
     if bytes.len() != rect.area() as usize * format.pixel_bytes() as usize {
@@ -34,7 +34,7 @@ fn picture(alloc: Global, fields: Fields, format: Format, bytes: &[u8]) -> Resul
     Ok(from_raw(alloc, rect, format, bytes)?)
 }
 
-/// Whether an image has this rectangle, this format and these raw bytes.
+/// Returns whether an image has this rectangle, this format and these raw bytes.
 fn is(
     alloc: Global,
     picture: &Picture,
@@ -46,7 +46,7 @@ fn is(
     Ok(picture.rect() == rect(fields) && picture.format() == format && raw.as_slice() == bytes)
 }
 
-/// Whether a rectangle of an image has these raw bytes under a policy.
+/// Returns whether a rectangle of an image has these raw bytes under a policy.
 fn reads(
     alloc: Global,
     picture: &Picture,
@@ -65,7 +65,7 @@ struct Case {
     after: (Fields, Format, &'static [u8]),
 }
 
-/// Whether the operation gives that image.
+/// Returns whether the operation gives that image.
 fn passes(alloc: Global, case: &Case) -> Result<bool, Fail> {
     let (fields, format, bytes) = case.before;
     let inputs = vec![in alloc; picture(alloc, fields, format, bytes)?]?;
@@ -74,7 +74,8 @@ fn passes(alloc: Global, case: &Case) -> Result<bool, Fail> {
     is(alloc, &made, fields, format, bytes)
 }
 
-/// Whether an operation gives an image of two, all three gray, one position each at the origin.
+/// Returns whether an operation gives an image of two, all three gray, one pixel each at the
+/// origin.
 fn joins(alloc: Global, op: &IntOp, a: u8, b: u8, joined: u8) -> Result<bool, Fail> {
     let position = [0, 0, 1, 1];
     let first = picture(alloc, position, Format::Y8, &[a])?;
@@ -143,11 +144,11 @@ fn levels(rt: HostRuntime) -> Result<(), Fail> {
     );
     assert!(rt; is(alloc, &level(alloc, &odd, 1)?, [0, 0, 2, 1], gray, &[8, 8])?);
     assert!(rt; is(alloc, &level(alloc, &odd, 2)?, [0, 0, 1, 1], gray, &[4])?);
-    let first_column = picture(alloc, [-3, 0, 3, 1], gray, &[10, 20, 31])?;
+    let left = picture(alloc, [-3, 0, 3, 1], gray, &[10, 20, 31])?;
     assert!(rt;
         is(
             alloc,
-            &level(alloc, &first_column, 1)?,
+            &level(alloc, &left, 1)?,
             [-2, 0, 2, 1],
             gray,
             &[3, 13]
@@ -320,9 +321,9 @@ fn two_images(rt: HostRuntime) -> Result<(), Fail> {
     let alloc = rt.alloc();
     assert!(rt; joins(alloc, &IntOp::Add, 200, 100, 255)?);
     assert!(rt; joins(alloc, &IntOp::Mask, 200, 128, 100)?);
-    let first_column = picture(alloc, [0, 0, 1, 1], Format::Y8, &[200])?;
-    let end_column = picture(alloc, [1, 1, 1, 1], Format::Y8, &[100])?;
-    let apart = vec![in alloc; first_column, end_column]?;
+    let left = picture(alloc, [0, 0, 1, 1], Format::Y8, &[200])?;
+    let right = picture(alloc, [1, 1, 1, 1], Format::Y8, &[100])?;
+    let apart = vec![in alloc; left, right]?;
     let sum = result_of(alloc, &IntOp::Add, &apart)?.ok_or("not taken")?;
     assert!(rt; is(alloc, &sum, [0, 0, 2, 2], Format::Y8, &[200, 0, 0, 100])?);
     let masked = result_of(alloc, &IntOp::Mask, &apart)?.ok_or("not taken")?;
@@ -358,7 +359,15 @@ fn without_images(rt: HostRuntime) -> Result<(), Fail> {
         v2: 7,
     };
     let generated = result_of(alloc, &opaque, &[])?.ok_or("not taken")?;
-    assert!(rt; is(alloc, &generated, [0, 0, 2, 1], Format::YA8, &[3, 255, 7, 255])?);
+    assert!(rt;
+        is(
+            alloc,
+            &generated,
+            [0, 0, 2, 1],
+            Format::YA8,
+            &[3, 255, 7, 255]
+        )?
+    );
     Ok(())
 }
 
@@ -384,7 +393,7 @@ fn inputs_that_are_not_taken(rt: HostRuntime) -> Result<(), Fail> {
     Ok(())
 }
 
-/// The images of steps over one gray buffer.
+/// Returns the images of steps over one gray buffer.
 fn evaluated(
     alloc: Global,
     fields: Fields,
@@ -433,14 +442,14 @@ fn one_color_over_another(rt: HostRuntime) -> Result<(), Fail> {
     let alloc = rt.alloc();
     let position = [0, 0, 1, 1];
     let (format, rect) = (Format::RGBA8, rect(position));
-    let first_row = Pixel::new([100, 0, 0, 128].to_vec(alloc)?);
-    let end_row = Pixel::new([0, 200, 0, 255].to_vec(alloc)?);
+    let upper = Pixel::new([100, 0, 0, 128].to_vec(alloc)?);
+    let lower = Pixel::new([0, 200, 0, 255].to_vec(alloc)?);
     let steps = vec![in alloc;
         Step::Apply(
             IntOp::Color {
                 format,
                 rect,
-                samples: first_row
+                samples: upper
             },
             Vec::new(alloc)
         ),
@@ -448,7 +457,7 @@ fn one_color_over_another(rt: HostRuntime) -> Result<(), Fail> {
             IntOp::Color {
                 format,
                 rect,
-                samples: end_row
+                samples: lower
             },
             Vec::new(alloc)
         ),

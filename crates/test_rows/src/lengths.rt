@@ -2,13 +2,13 @@
 
 ghost use Rattle.std.specs.Prelude.{◌<◌, ◌≤◌};
 
-use sample_rows::{convert_row, row_add, row_average4, row_invert, row_mask, row_over};
 use pixel_formats::Format;
+use sample_rows::{convert_row, row_add, row_average4, row_invert, row_mask, row_over};
 
-/// How many bytes the rows have that are read and written, of which a kernel uses a front.
+/// How many bytes the rows have that are read and written, of which a kernel uses a prefix.
 const ROOM: usize = 200;
 
-/// What stands in a row before it is written.
+/// The bytes of a row before it is written.
 const OLD: u8 = 7;
 
 /// None, one, and one less and one more than what kernels take at once: four pixels, eight,
@@ -38,7 +38,7 @@ enum Shape {
     PixelsWithAlpha,
     /// Adding Y8.
     Pairs,
-    /// Laying YA8 over YA8.
+    /// Compositing YA8 over YA8.
     PairsWithAlpha,
     /// Y8 to Y16.
     Widening,
@@ -55,7 +55,7 @@ enum Shape {
 }
 
 impl Shape {
-    /// The bytes of so many pixels that are written.
+    /// Returns how many bytes of so many pixels are written.
     fn written(self, n: usize) -> usize
         requires { n ≤ 33 }
     {
@@ -114,64 +114,64 @@ impl Shape {
         }
     }
 
-    /// What the byte at a position is, by the kernel's formula.
-    fn expected(self, place: usize) -> usize
-        requires { place < 200 }
+    /// Returns the byte at an index, by the kernel's formula.
+    fn expected(self, index: usize) -> usize
+        requires { index < 200 }
     {
-        let s = first(place);
+        let s = first(index);
         match self {
             Shape::Samples => 255 - s,
-            Shape::PixelsWithAlpha if place % 4 == 3 => s,
-            Shape::PixelsWithAlpha => first(place / 4 * 4 + 3).saturating_sub(s),
-            Shape::Pairs => (s + second(place)).min(255),
+            Shape::PixelsWithAlpha if index % 4 == 3 => s,
+            Shape::PixelsWithAlpha => first(index / 4 * 4 + 3).saturating_sub(s),
+            Shape::Pairs => (s + second(index)).min(255),
             Shape::PairsWithAlpha => {
-                let left = 255 - first(place / 2 * 2 + 1);
-                (s + (second(place) * left + 127) / 255).min(255)
+                let left = 255 - first(index / 2 * 2 + 1);
+                (s + (second(index) * left + 127) / 255).min(255)
             }
             // 257 times a byte is the byte twice.
-            Shape::Widening => first(place / 2),
+            Shape::Widening => first(index / 2),
             Shape::Narrowing => {
-                let wide = first(place * 2) + 256 * first(place * 2 + 1);
+                let wide = first(index * 2) + 256 * first(index * 2 + 1);
                 (wide * 255 + 32_767) / 65_535
             }
             Shape::Halving => {
-                let up = first(place * 2) + first(place * 2 + 1);
-                let down = second(place * 2) + second(place * 2 + 1);
+                let up = first(index * 2) + first(index * 2 + 1);
+                let down = second(index * 2) + second(index * 2 + 1);
                 (up + down + 2) / 4
             }
             Shape::HalvingColors => {
-                let left = place / 3 * 6 + place % 3;
+                let left = index / 3 * 6 + index % 3;
                 let up = first(left) + first(left + 3);
                 let down = second(left) + second(left + 3);
                 (up + down + 2) / 4
             }
-            Shape::Masked => (s * second(place / 3) + 127) / 255,
+            Shape::Masked => (s * second(index / 3) + 127) / 255,
             Shape::Layouts => {
-                let colors = first(place * 4) + first(place * 4 + 1) + first(place * 4 + 2);
+                let colors = first(index * 4) + first(index * 4 + 1) + first(index * 4 + 2);
                 (colors + 1) / 3
             }
         }
     }
 }
 
-/// The byte at a place of the first row that is read.
-fn first(place: usize) -> usize
-    requires { place < 1000 }
+/// Returns the byte at an index of the first row that is read.
+fn first(index: usize) -> usize
+    requires { index < 1000 }
     ensures { result < 256 }
 {
-    place * 37 % 256
+    index * 37 % 256
 }
 
-/// The byte at a place of the second.
-fn second(place: usize) -> usize
-    requires { place < 1000 }
+/// Returns the byte at an index of the second.
+fn second(index: usize) -> usize
+    requires { index < 1000 }
     ensures { result < 256 }
 {
-    place * 91 % 256
+    index * 91 % 256
 }
 
-/// A row that begins with 0 and in which each byte is `step` above the one before it, round the
-/// largest byte.
+/// Returns a row that begins with 0 and in which each byte is `step` above the one before it,
+/// modulo 256.
 fn row(step: u8) -> [u8; ROOM] {
     let mut row = [0u8; ROOM];
     let mut value = 0u8;
@@ -191,16 +191,16 @@ fn lengths(rt: HostRuntime) {
             let mut dst = [OLD; ROOM];
             shape.write(count, &first, &second, &mut dst);
             let written = shape.written(count);
-            for place in 0..ROOM {
-                let want = if place < written {
-                    shape.expected(place)
+            for index in 0..ROOM {
+                let expected = if index < written {
+                    shape.expected(index)
                 } else {
                     usize::from(OLD)
                 };
                 assert_eq!(rt;
-                    usize::from(dst[place]),
-                    want,
-                    "{shape:?}, {count}: {place}"
+                    usize::from(dst[index]),
+                    expected,
+                    "{shape:?}, {count}: {index}"
                 );
             }
         }

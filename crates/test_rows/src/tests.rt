@@ -1,7 +1,10 @@
 //! Small rows through each kernel, with results that were worked out by hand.
 
-use sample_rows::{convert_row, row_add, row_average4, row_gain, row_invert, row_mask, row_max, row_min, row_over, row_threshold};
 use pixel_formats::Format;
+use sample_rows::{
+    convert_row, row_add, row_average4, row_gain, row_invert, row_mask, row_max, row_min, row_over,
+    row_threshold,
+};
 
 #[test]
 fn names(rt: HostRuntime) {

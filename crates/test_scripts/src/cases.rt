@@ -1,4 +1,4 @@
-//! Scripts, of which `/` parts the lines.
+//! Scripts, whose lines are separated by `/`.
 
 /// Scripts that are refused, after the line and the cause that are reported.
 pub const REFUSED: &str = "\

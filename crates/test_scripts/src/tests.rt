@@ -1,20 +1,20 @@
 //! The tests.
 
 use crate::cases::{FIRST_RUN, PRINTED, REFUSED};
-use plane_rect::{Name, Rect};
 use pixel_formats::Format;
+use plane_rect::{Name, Rect};
 use script_read::{Command, Line, OpWords, ScriptAnswer, is_script, print_script, read_script};
 use std::alloc::{AllocError, Global};
 use std::test::Fail;
 
-/// The script of a case, with line feeds for `/`.
+/// Returns the script of a case, with line feeds for `/`.
 fn script_of(alloc: Global, case: &str) -> Result<Vec<u8>, AllocError> {
     case.bytes()
         .map(|byte| if byte == b'/' { b'\n' } else { byte })
         .collect(alloc)
 }
 
-/// The line and the cause that are reported of a text; of a script it is `0 Script`.
+/// Returns the line and the cause that are reported of a text, or `0 Script` where it is a script.
 fn reported(alloc: Global, text: &[u8]) -> (u32, &'static str) {
     match read_script(alloc, text) {
         Ok(_) => (0, "Script"),
@@ -23,7 +23,7 @@ fn reported(alloc: Global, text: &[u8]) -> (u32, &'static str) {
     }
 }
 
-/// The text that a script is printed as.
+/// Returns the text that a script is printed as.
 fn printed(alloc: Global, script: &[u8]) -> Result<Vec<u8>, Fail> {
     let lines = read_script(alloc, script)?;
     Ok(print_script(alloc, &lines)?)

@@ -5,14 +5,19 @@ ghost use Rattle.outside_io.specs.Faults.{Rose};
 
 use outside_io::{Lent, SwapDisk};
 use std::alloc::Global;
-use swap_store::{SwapRefused, SwapStore};
+use swap_store::{Store, StoreMemory, SwapRefused};
 use tile_cow::Tile;
 
-/// Keeps a tile on a disk by a store of its own. An I/O error is reported only where the disk's count rose.
+/// Keeps a tile on a disk by a store of its own. It is refused as a fault only where the disk's count
+/// rose. The count and the size of the disk are known whatever is answered, also where the store's own
+/// memory was refused.
 pub fn keep<D: SwapDisk>(alloc: Global, disk: &mut D, tile: &Tile) -> Result<(), SwapRefused>
     ensures cause { IsErrOf result SwapRefused.SwapFault → Rose (D.faults disk.old) (D.faults disk.new) }
+    ensures later { D.faults disk.old ≤ D.faults disk.new }
+    ensures block_count { D.block_count disk.new ≡ D.block_count disk.old }
 {
-    let mut store = SwapStore::new(alloc, disk, 16)?;
+    let memory = StoreMemory::new(alloc, disk.size().min(16))?;
+    let mut store = Store::over(memory, Lent { disk });
     let answer = store.put(1, tile);
     let Lent { disk: _back } = store.end();
     answer

@@ -35,6 +35,17 @@ pub fn put<D: SwapDisk>(
     store.put(name, tile)
 }
 
+/// Replaces the tile of a name that is there.
+pub fn replace<D: SwapDisk>(
+    rt: &impl Abort,
+    store: &mut Store<D>,
+    name: u64,
+    tile: &Tile,
+) -> Result<(), SwapRefused> {
+    assert!(rt; store.has(name), "{name} isn't there");
+    store.replace(name, tile)
+}
+
 /// The tile of a name that is there.
 pub fn get<D: SwapDisk>(
     rt: &impl Abort,

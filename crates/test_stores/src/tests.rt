@@ -1,6 +1,6 @@
 //! Expected values are worked out by hand, or by a naive store.
 
-use crate::scripts::{forget, get, play, put, tile_of};
+use crate::scripts::{forget, get, play, put, replace, tile_of};
 use outside_io::{FileSwap, Lent, MemSwap, SureSwap};
 use std::alloc::Global;
 use std::process::Abort;
@@ -90,6 +90,40 @@ fn put_between(
 /// The refusal of a store that is too full.
 fn full(needed: u32, longest: u32) -> Result<(), SwapRefused> {
     Err(SwapRefused::SwapFull { needed, longest })
+}
+
+/// Puts a tile of 3 blocks into a store over so many, and replaces it by another of 3 blocks, where the
+/// write of this number fails. Checks the answer, the bytes of the name and what is free then.
+fn replace_once(
+    rt: &impl Abort,
+    alloc: Global,
+    blocks: u32,
+    failing: u64,
+    wanted: Result<(), SwapRefused>,
+    left: &[Run],
+) -> Result<(), Fail> {
+    let mut disk = MemSwap::new(alloc, 8, Vec::new(alloc), vec![in alloc; failing]?)?;
+    let mut store = SwapStore::new(alloc, &mut disk, blocks)?;
+    let old = tile_of(rt, alloc, 9_000, 1)?;
+    let new = tile_of(rt, alloc, 12_000, 2)?;
+    put(rt, &mut store, 1, &old)?;
+    let answer = replace(rt, &mut store, 1, &new);
+    assert_eq!(rt; answer, wanted, "where write {failing} fails");
+    let bytes = if answer.is_ok() { &new } else { &old };
+    assert_eq!(rt; get(rt, &mut store, 1)?.bytes(), bytes.bytes());
+    assert_eq!(rt; store.free_runs(), left);
+    Ok(())
+}
+
+#[test]
+fn new_bytes_are_written_beside_the_old_ones(rt: HostRuntime) -> Result<(), Fail> {
+    let alloc = rt.alloc();
+    let failed = Err(SwapRefused::SwapFault);
+    for failing in 4..7 {
+        replace_once(&rt, alloc, 8, failing, failed, &[run(3, 5)])?;
+    }
+    replace_once(&rt, alloc, 8, 7, Ok(()), &[run(0, 3), run(6, 2)])?;
+    replace_once(&rt, alloc, 5, 7, full(3, 2), &[run(3, 2)])
 }
 
 #[test]

@@ -1,6 +1,9 @@
 //! Tiles of bytes that several owners share, each with bytes of its own to write.
 #![tactic(auto)]
 
+mod block;
+mod owner;
+mod room;
 #[cfg(test)]
 mod tests;
 mod tile;

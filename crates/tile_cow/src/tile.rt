@@ -1,18 +1,22 @@
 //! A tile and its owners.
 
-ghost use Rattle.std.specs.Prelude.{◌≡◌, ◌+◌, ◌≤◌, IfOk, OnErr, OnOk, length, replicate};
+ghost use Rattle.std.specs.Prelude.{◌≡◌, ◌+◌, ◌≤◌, ◌^◌, ◌<◌, IfOk, IfSome, IsTrue, OnErr, OnOk, length, replicate, ℕ, List, true, false};
 ghost use Rattle.tile_cow.specs.Tile.{IsTileLength, overwritten};
+ghost use Rattle.tile_cow.specs.Block.{IsWritten};
 
+use crate::block::Block;
+use crate::owner::Owner;
+use core::mem;
 use no_memory::NoMemory;
-use std::alloc::{AllocError, Global};
+use std::alloc::Global;
 use std::marker::Model;
-use std::sync::Arc;
 
 /// From 1 to 65,536 bytes. Tiles may share the memory of equal bytes until one of them is written,
-/// and no owner sees another's writes. Dropping a tile takes no memory.
-#[derive(Drop)]
+/// and no owner sees another's writes. Dropping a tile takes no memory, and the last owner frees the
+/// block. A clause sees a tile as the list of its bytes.
 pub struct Tile {
-    block: Arc<Vec<u8>>,
+    owner: Owner,
+    alloc: Global,
 }
 
 impl Model for Tile {
@@ -21,9 +25,9 @@ impl Model for Tile {
 
     ghost Value = { List ℕ };
 
-    ghost view = { λ tile. tile.block.value.items };
+    ghost view = { λ tile. tile.owner.bytes };
 
-    ghost invariant = { λ tile. IsTileLength (length tile.block.value.items) };
+    ghost invariant = { λ tile. IsTileLength (length tile.owner.bytes) };
 }
 
 /// Where a write put its bytes.
@@ -36,54 +40,83 @@ pub enum Wrote {
     Copied,
 }
 
+/// A block with fewer owners than this takes one owner more.
+const MAX_OWNERS: u64 = 1 << 40;
+
 impl Tile {
-    /// A tile of `len` bytes, all zero.
+    /// Returns a tile of `len` bytes, all zero.
     pub fn zero(alloc: Global, len: u32) -> Result<Tile, NoMemory>
         requires { IsTileLength len }
         ensures { IfOk result (λ tile. tile ≡ replicate len 0) }
     {
-        Tile::from_vec(alloc, vec![in alloc; 0; len as usize]?)
+        let block = Block::new(alloc, len as usize)?.zeroed();
+        Ok(Tile::from_block(alloc, block))
     }
 
-    /// A tile of a copy of these bytes.
+    /// Returns a tile of a copy of these bytes.
     pub fn of(alloc: Global, bytes: &[u8]) -> Result<Tile, NoMemory>
         requires { IsTileLength (length bytes.now) }
         ensures { IfOk result (λ tile. tile ≡ bytes.now) }
     {
-        Tile::from_vec(alloc, Vec::from_slice(alloc, bytes)?)
+        let block = Block::new(alloc, bytes.len())?.overwrite(0, bytes);
+        Ok(Tile::from_block(alloc, block))
     }
 
-    /// A tile of these bytes, which are not copied.
+    /// Returns a tile of a copy of these bytes, and frees the vector.
     pub fn from_vec(alloc: Global, bytes: Vec<u8>) -> Result<Tile, NoMemory>
         requires { IsTileLength (length bytes.items) }
         ensures { IfOk result (λ tile. tile ≡ bytes.items) }
     {
-        let block = Arc::new(alloc, bytes)?;
-        Ok(Tile { block })
+        Tile::of(alloc, &bytes)
     }
 
-    /// Another owner of the same bytes. They are copied only where the block can't take one owner
-    /// more.
+    /// Returns the only owner of a block.
+    fn from_block(alloc: Global, block: Block) -> Tile
+        requires { (block.owners ≡ 1) × IsWritten block.bytes block.filled × IsTileLength (length block.bytes) }
+        ensures { result ≡ block.bytes }
+    {
+        let owner = Owner::first(block);
+        Tile { owner, alloc }
+    }
+
+    /// Returns another owner of the same bytes. It tries once to become an owner of the block, and
+    /// copies the bytes where the block has too many owners, or where another owner came or left
+    /// between the two steps of the try.
     pub fn share(&self, alloc: Global) -> Result<Tile, NoMemory>
         ensures { IfOk result (λ tile. tile ≡ self.now) }
     {
-        match Arc::try_clone(&self.block) {
-            Ok(block) => Ok(Tile { block }),
-            Err(_) => Tile::of(alloc, &self.block),
+        match self.another_owner() {
+            Some(owner) => Ok(Tile {
+                owner,
+                alloc: self.alloc,
+            }),
+            None => Tile::of(alloc, self.bytes()),
         }
     }
 
-    /// The bytes.
+    /// Tries once to make one owner more of the block.
+    fn another_owner(&self) -> Option<Owner>
+        ensures { IfSome result (λ owner. owner.bytes ≡ self.now) }
+    {
+        let seen = self.owner.load();
+        if seen < MAX_OWNERS {
+            self.owner.join(seen)
+        } else {
+            None
+        }
+    }
+
+    /// Returns the bytes.
     pub fn bytes(&self) -> &[u8]
         ensures value { result.now ≡ self.now }
         ensures size { IsTileLength (length self.now) }
     {
-        self.block.as_slice()
+        self.owner.bytes()
     }
 
     /// Writes these bytes into the range that begins at byte `at`: in place where this is the only
-    /// owner of its block, else in a copy. Other owners' bytes stay. At an error the tile is as it
-    /// was.
+    /// owner of its block, else in a copy. Other owners' bytes are unchanged, and at an error this
+    /// one's are too.
     pub fn write(&mut self, alloc: Global, at: u32, bytes: &[u8]) -> Result<Wrote, NoMemory>
         requires { at + length bytes.now ≤ length self.old }
         ensures written { OnOk result (self.new ≡ overwritten self.old at bytes.now) }
@@ -91,33 +124,33 @@ impl Tile {
         ensures same_length { length self.new ≡ length self.old }
     {
         let at = at as usize;
-        match Arc::get_mut(&mut self.block) {
-            Some(own) => {
-                own[at..at + bytes.len()].copy_from_slice(bytes);
-                Ok(Wrote::InPlace)
-            }
-            None => {
-                let copy = overwritten_copy(alloc, &self.block, at, bytes)?;
-                self.block = Arc::new(alloc, copy)?;
-                Ok(Wrote::Copied)
-            }
+        if mem::replace_with(&mut self.owner, (at, bytes), write_alone) {
+            return Ok(Wrote::InPlace);
         }
+        let copy = Block::new(alloc, self.bytes().len())?.overwrite(0, self.bytes());
+        *self = Tile::from_block(alloc, copy.overwrite(at, bytes));
+        Ok(Wrote::Copied)
     }
 }
 
-/// A copy of the old bytes with these in the range that begins at byte `at`.
-fn overwritten_copy(
-    alloc: Global,
-    old: &[u8],
-    at: usize,
-    bytes: &[u8],
-) -> Result<Vec<u8>, AllocError>
-    requires { at + length bytes.now ≤ length old.now }
-    ensures { IfOk result (λ copy. copy.items ≡ overwritten old.now at bytes.now) }
+/// Writes the bytes of a patch, which begins at a byte of the block, where the block has no other
+/// owner. Returns whether it had none.
+fn write_alone(owner: Owner, patch: (usize, &[u8])) -> (Owner, bool)
+    requires { patch.0 + length patch.1.now ≤ length owner.bytes }
+    ensures written { result.1 ≡ true → result.0.bytes ≡ overwritten owner.bytes patch.entry.0 patch.entry.1.now }
+    ensures unchanged { result.1 ≡ false → result.0.bytes ≡ owner.bytes }
 {
-    let mut copy = Vec::with_capacity(alloc, old.len())?;
-    copy.extend_from_slice(&old[..at])?;
-    copy.extend_from_slice(bytes)?;
-    copy.extend_from_slice(&old[at + bytes.len()..])?;
-    Ok(copy)
+    match owner.claim() {
+        Ok(block) => (Owner::first(block.overwrite(patch.0, patch.1)), true),
+        Err(owner) => (owner, false),
+    }
+}
+
+impl Drop for Tile {
+    fn drop(self) {
+        let Tile { owner, alloc } = self;
+        if let Some(block) = owner.leave() {
+            block.free(alloc);
+        }
+    }
 }

@@ -32,7 +32,7 @@ invalidated-inside op boxes i region u v there =
 
 -- ---- the box of a result that has a position
 
--- a place of the box of a result is in one that the operation gives
+-- a position of the box of a result is in one that the operation gives
 abbrev HasBox : IntOp → Rectangle → Rectangle → ℕ → ℕ → Type 0
 HasBox op a b u v = (r : Rectangle) × (box_with op a b ≡ Some r) × Inside u v r
 
@@ -73,7 +73,7 @@ module _ (op : IntOp) (before after : List Image) (equal : HaveEqualShapes befor
       value-read (input_image before 0) (input_image before 1) (input_image after 0) (input_image after 1) part
       (same_box 0) (same_box 1) (same_format 0) u v c there op boxed.0 own (agree 0) (agree 1)
 
-  -- the sample of the result at a place of which the value is known to be the same
+  -- the sample of the result at a position of which the value is known to be the same
   result-same : (u v c : ℕ) → (Inside u v (result_box op (boxes_of before)) → value_at op before u v c ≡ value_at op after u v c)
       → at (result_of op before) u v c ≡ at (result_of op after) u v c
   result-same u v c same =
@@ -98,7 +98,7 @@ module _ (op : IntOp) (before after : List Image) (equal : HaveEqualShapes befor
 
 -- ---- dual
 
--- a place of a result, and a place of an input that it reads and that is in a part
+-- a position of a result, and a position of an input that it reads and that is in a part
 pub input-reaches : (op : IntOp) (boxes : List Rectangle) (i : ℕ) (part : Rectangle) (u v s t : ℕ) → Inside u v (result_box op boxes) → i < input_count op
     → Inside s t (read_for op (input_box boxes i) (position u v)) → Inside s t part → Inside u v (reached_from op (input_box boxes i) part)
 input-reaches op boxes zero part u v s t inside known read there =

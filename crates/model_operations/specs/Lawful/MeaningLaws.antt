@@ -90,7 +90,7 @@ is_dual operation boxes i changed u v inside out s t read reached =
 a_position : (r : Rectangle) → is_empty r ≡ false → Inside r.first_column r.first_row r
 a_position r some = grind (arith, nat_tests)
 
--- a rectangle in which no position lies is empty
+-- a rectangle that contains no position is empty
 empty_by_positions : (r : Rectangle) → ((u v : ℕ) → ¬ Inside u v r) → is_empty r ≡ true
 empty_by_positions r none = by (is_empty r) refl
   where

@@ -1,4 +1,5 @@
--- What changes reach: where a place of the result needs a place of an input, a change of the one reaches the other.
+-- What changes reach: where a position of the result needs a position of an input, a change of the one reaches the
+-- other.
 use Rattle.std.proofs.Common.{[], ◌∷◌, ◌≡◌, ℕ, ◌<◌, ◌≤◌, ℤ, pos, negsuc, ◌+ℤ◌, ◌-ℤ◌, ◌≤ℤ◌, Bool, true, false, cond, Some, None, Result, Ok, Err, refl, sym, subst, ap, arith}
 use Rattle.std.proofs.lemmas.Int.{ints}
 use Rattle.std.proofs.lemmas.Bool.Decides.{nat_tests}
@@ -16,33 +17,33 @@ use Rattle.model_operations.specs.declared.operation.IntOp.{IntOp}
 use Rattle.model_operations.specs.declared.operation.IntOp.TheVariants.{Color, Checker, Convert, Invert, Threshold, Gain, Translate, Crop, Flip, BoxMean, Dilate, Erode, Add, Over, Mask}
 use Rattle.model_operations.specs.Lawful.Sides.{AreNear, mirrored_part-came, mirrored_part-position, mirrored_row, moved-is_inside, moved_into-near, surrounded-is_inside, surrounded-near}
 
--- what is kept in limits is the rectangle itself
-kept_if : (b : Bool) (q r : Rectangle) → cond b (Some q) None ≡ Some r → q ≡ r
-kept_if true q r e = cc
-kept_if false q r e = absurd (cc e)
+-- a rectangle in limits is the one that was tested
+limited_if : (b : Bool) (q r : Rectangle) → cond b (Some q) None ≡ Some r → q ≡ r
+limited_if true q r e = cc
+limited_if false q r e = absurd (cc e)
 
-pub kept : (q r : Rectangle) → if_in_limits (Ok q) ≡ Some r → q ≡ r
-kept q r e = kept_if (in_limits q) q r e
+pub limited : (q r : Rectangle) → if_in_limits (Ok q) ≡ Some r → q ≡ r
+limited q r e = limited_if (in_limits q) q r e
 
 -- a rectangle that is made
 made_of : Rectangle → Result Rectangle RectRefused
 made_of r = Ok r
 
-kept_made : (made : Result Rectangle RectRefused) (r : Rectangle) → if_in_limits made ≡ Some r → made ≡ made_of r
+limited_made : (made : Result Rectangle RectRefused) (r : Rectangle) → if_in_limits made ≡ Some r → made ≡ made_of r
 unfolding made_of
-kept_made (Ok q) r e = ap made_of (kept q r e)
-kept_made (Err refused) r e = absurd (cc e)
+limited_made (Ok q) r e = ap made_of (limited q r e)
+limited_made (Err refused) r e = absurd (cc e)
 
 no_position : (u v : ℕ) (r : Rectangle) → is_empty r ≡ true → Inside u v r → ⊥
 no_position u v r none there = grind (arith, nat_tests)
 
--- the one place of a rectangle of one
+-- the one position of a rectangle of one
 position-only : (u v u' v' : ℕ) → Inside u' v' (position u v) → (u' ≡ u) × (v' ≡ v)
 position-only u v u' v' h = (omega (arith, h.column), omega (arith, h.row))
 
 -- ---- moved images
 
--- a place of a moved box did not come from before the plane's corner
+-- a position of a moved box did not come from before the plane's corner
 came : (d : ℤ) (start u : ℕ) → plane_coordinate start ≤ℤ (plane_coordinate u -ℤ d) → moved_index d (source_index d u) ≡ u
 came (pos n) start u h = omega (arith, ints, h)
 came (negsuc n) start u h = omega (arith, ints, h)
@@ -56,12 +57,12 @@ module _ (dx dy : ℤ) (box r : Rectangle) (boxed : if_in_limits (shifted dx dy 
   stays : is_empty box ≡ true → Inside u v box
   stays none =
       let whole : if_in_limits (Ok box) ≡ Some r = rw none at boxed in
-      subst (λ (q : Rectangle). Inside u v q) (sym (kept box r whole)) inside
+      subst (λ (q : Rectangle). Inside u v q) (sym (limited box r whole)) inside
 
   source : is_empty box ≡ false → InsideSigned (plane_coordinate u -ℤ dx) (plane_coordinate v -ℤ dy) box
   unfolding made_of
   source some =
-      let made = kept_made (shifted dx dy box) r boxed in
+      let made = limited_made (shifted dx dy box) r boxed in
       let x = plane_coordinate u -ℤ dx in
       let y = plane_coordinate v -ℤ dy in
       let column : plane_coordinate u ≡ x +ℤ dx = omega (arith, ints) in
@@ -106,7 +107,7 @@ module _ (a b r part : Rectangle) (u v u' v' : ℕ) (inside : Inside u v r) (cha
       area-near : (policy : Abyss) → area_box radius policy box ≡ Some r → Inside u' v' (area_read radius policy box (position u v)) → AreNear radius u v u' v'
       area-near policies.None boxed read = surrounded-near radius u v u' v' read
       area-near policies.Clamp boxed read =
-          let is = kept box r boxed in
+          let is = limited box r boxed in
           moved_into-near box radius u v u' v' (subst (λ (q : Rectangle). Inside u v q) (sym is) inside) read
       area-near policies.Loop boxed read = absurd (cc boxed)
       area-near policies.Black boxed read = surrounded-near radius u v u' v' read
@@ -120,7 +121,7 @@ module _ (a b r part : Rectangle) (u v u' v' : ℕ) (inside : Inside u v r) (cha
   pub flip-reaches : (sideways : Bool) (box : Rectangle) → if_in_limits (Ok box) ≡ Some r
       → Inside u' v' (mirrored_part sideways box (position u v)) → Inside u v (mirrored_part sideways box part)
   flip-reaches sideways box boxed read =
-      let is = kept box r boxed in
+      let is = limited box r boxed in
       let there : Inside u v box = subst (λ (q : Rectangle). Inside u v q) (sym is) inside in
       let one = mirrored_part-position sideways box u v u' v' there read in
       mirrored_part-came sideways box part u v there
@@ -188,7 +189,7 @@ input_count-most Add = omega arith
 input_count-most Over = omega arith
 input_count-most Mask = omega arith
 
--- a place of a translated box shows one of the input's
+-- a position of a translated box shows one of the input's
 pub translated-shows : (dx dy : ℤ) (box r : Rectangle) → box_of (Translate dx dy) (box ∷ []) ≡ Some r → (u v : ℕ) → Inside u v r
     → Inside (source_index dx u) (source_index dy v) box
 translated-shows dx dy box r stated u v inside = translated-from dx dy box r stated u v inside

@@ -74,7 +74,7 @@ module _ (a b a' b' : Image) (part : Rectangle) (box : a.box ≡ a'.box) (other_
       ∙ ap (λ (x : Rectangle). at a' (mirrored_column sideways x u) (mirrored_row sideways x v) c) box
       ∙ sym (flipped-at sideways a')
 
-  -- one place of the window, counted from the plane's corner
+  -- one position of the window, counted from the plane's corner
   module _ (radius s t : ℕ) (near : Inside s t (surrounded radius part)) where
     clamped-read : AgreeIn a a' (moved_into a.box (surrounded radius part)) → outside_at a policies.Clamp s t c ≡ outside_at a' policies.Clamp s t c
     clamped-read agree =
@@ -130,7 +130,7 @@ module _ (a b a' b' : Image) (part : Rectangle) (box : a.box ≡ a'.box) (other_
       ap (λ (x : ℕ). cond (leb radius s && leb radius t) x (outside_at a policy (s - radius) (t - radius) c)) same.0
       ∙ ap (λ (x : ℕ). cond (leb radius s && leb radius t) (abyss_at a' policy (s - radius) (t - radius) c) x) same.1)
 
-  -- what an operation gives of images that agree in what it reads for a part, at a place of the part
+  -- what an operation gives of images that agree in what it reads for a part, at a position of the part
   pub value-read : (op : IntOp) (r : Rectangle) → box_with op a.box b.box ≡ Some r
       → (0 < input_count op → AgreeIn a a' (read_for op a.box part)) → (1 < input_count op → AgreeIn b b' (read_for op b.box part))
       → value_with op a b u v c ≡ value_with op a' b' u v c

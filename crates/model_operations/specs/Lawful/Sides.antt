@@ -1,4 +1,4 @@
--- Places moved, mirrored and surrounded.
+-- Positions moved, mirrored and surrounded.
 use Rattle.std.proofs.Common.{◌↔◌, ◌≡◌, ℕ, ℤ, pos, negsuc, ◌+◌, ◌-◌, ◌<◌, ◌≤◌, Bool, true, false, subst, arith}
 use Rattle.std.proofs.lemmas.Bool.Decides.{nat_tests}
 use Rattle.plane_rect.proofs.Rectangles.{rectangle-some}
@@ -46,7 +46,7 @@ mirrored-within start len first n m part = (omega (arith, part), omega (arith, p
 mirrored-twice : (start len m : ℕ) → Within start len m → mirrored start len (mirrored start len m) ≡ m
 mirrored-twice start len m inside = omega (arith, inside)
 
--- the column from which a place of a mirrored box came, and the row
+-- the column from which a position of a mirrored box came, and the row
 abbrev pub mirrored_column : Bool → Rectangle → ℕ → ℕ
 mirrored_column true box u = mirrored box.first_column box.width u
 mirrored_column false box u = u

@@ -2,4 +2,4 @@ use Rattle.model_states.proofs.CacheLaws as laws
 use Rattle.model_states.proofs.list_stays_in_capacity.Goals as goal
 
 pub returns : goal.returns
-returns c = laws.stays_in_capacity
+returns g c = laws.stays_in_capacity

@@ -2,4 +2,4 @@ use Rattle.model_states.proofs.CacheLaws as laws
 use Rattle.model_states.proofs.pairs_stay_distinct.Goals as goal
 
 pub returns : goal.returns
-returns c = laws.stays_distinct
+returns g c = laws.stays_distinct

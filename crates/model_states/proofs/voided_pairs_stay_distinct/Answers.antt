@@ -1,9 +1,8 @@
 use Rattle.std.proofs.Common.{not}
-use Rattle.model_states.specs.Cache.{Cached}
 use Rattle.model_states.specs.Regions.{meets}
 use Rattle.model_states.proofs.CacheLaws as laws
 use Rattle.model_states.proofs.voided_pairs_stay_distinct.Goals as goal
 
 pub returns : goal.returns
-returns c = λ damage list distinct.
-    laws.distinct-filter (λ (cached : Cached). not (meets cached.pair.tile (damage cached.pair.node))) list distinct
+returns g c = λ key damage list distinct.
+    laws.distinct-filter key (λ x. not (meets (key x).tile (damage (key x).node))) list distinct

@@ -1,5 +1,5 @@
 use Rattle.std.proofs.Common.{◌≡◌, drop}
-use Rattle.model_states.specs.History.{rectangle_of}
+use Rattle.model_states.specs.Rectangles.{rectangle_of}
 use Rattle.plain_graphs.proofs.changes.rectangle_of.Given as goal
 
 abbrev pub invariant-loop-name : goal.invariant-loop-name

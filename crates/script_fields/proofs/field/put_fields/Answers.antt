@@ -14,14 +14,14 @@ loop-field-preserved c =
     let field : Field = c.field-item.result in
     let below : i < length fields = c.loop-field-test.true in
     let rest = words_of_fields (drop (i + 1) fields) in
-    let first_column : drop i fields ≡ field ∷ drop (i + 1) fields = drop_more fields i field below ∙ ap (λ (f : Field). f ∷ drop (i + 1) fields) (sym c.field-item.is) in
+    let remaining : drop i fields ≡ field ∷ drop (i + 1) fields = drop_more fields i field below ∙ ap (λ (f : Field). f ∷ drop (i + 1) fields) (sym c.field-item.is) in
     let put : c.put.new.text.items ≡ text ++ spaced (field_words field) = c.in_ok-put.ensures.text in
     record {
       text =
           rw put
           (append_assoc text (spaced (field_words field)) (spaced rest)
           ∙ ap (λ (all : List ℕ). text ++ all) (sym (spaced-append (field_words field) rest))
-          ∙ ap (λ (others : List Field). text ++ spaced (words_of_fields others)) (sym first_column)
+          ∙ ap (λ (others : List Field). text ++ spaced (words_of_fields others)) (sym remaining)
           ∙ c.loop-field.invariant.text);
-      kept = λ kept. c.loop-field.invariant.kept (rw first_column (c.in_ok-put.ensures.kept, kept));
+      valid = λ valid. c.loop-field.invariant.valid (rw remaining (c.in_ok-put.ensures.valid, valid));
     }

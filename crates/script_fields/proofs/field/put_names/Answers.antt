@@ -10,9 +10,9 @@ loop-name-preserved c =
     let i = c.loop-name.name-index in
     let name : List ℕ = c.name-item.result in
     let below : i < length names = c.loop-name-test.true in
-    let first_column : drop i names ≡ name ∷ drop (i + 1) names = drop_more names i name below ∙ ap (λ (n : List ℕ). n ∷ drop (i + 1) names) (sym c.name-item.is) in
+    let remaining : drop i names ≡ name ∷ drop (i + 1) names = drop_more names i name below ∙ ap (λ (n : List ℕ). n ∷ drop (i + 1) names) (sym c.name-item.is) in
     let put : c.push_word.new.text.items ≡ text ++ 32 ∷ name = c.in_ok-push_word.ensures.ok ∙ ap (λ (word : List ℕ). text ++ 32 ∷ word) c.as_bytes.ensures.value in
     record {
-      text = rw put (append_assoc text (32 ∷ name) (spaced (drop (i + 1) names)) ∙ ap (λ (rest : List (List ℕ)). text ++ spaced rest) (sym first_column) ∙ c.loop-name.invariant.text);
-      kept = λ kept. c.loop-name.invariant.kept (rw first_column (rw c.as_bytes.ensures.value at c.as_bytes.ensures.name, kept));
+      text = rw put (append_assoc text (32 ∷ name) (spaced (drop (i + 1) names)) ∙ ap (λ (rest : List (List ℕ)). text ++ spaced rest) (sym remaining) ∙ c.loop-name.invariant.text);
+      valid = λ valid. c.loop-name.invariant.valid (rw remaining (rw c.as_bytes.ensures.value at c.as_bytes.ensures.name, valid));
     }

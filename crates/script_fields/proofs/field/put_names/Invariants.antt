@@ -6,5 +6,5 @@ use Rattle.script_fields.proofs.field.put_names.Given as goal
 abbrev pub invariant-loop-name : goal.invariant-loop-name
 invariant-loop-name l = record {
   text : l.text.items ++ spaced (drop l.name-index l.names) ≡ l.initial.text.items ++ spaced l.names;
-  kept : AreNames (drop l.name-index l.names) → AreNames l.names;
+  valid : AreNames (drop l.name-index l.names) → AreNames l.names;
 }

@@ -23,15 +23,15 @@ loop-line-preserved c =
     let next = c.loop-line.next in
     let line : Line = c.line-item.result in
     let below : i < length lines = c.loop-line-test.true in
-    let first_column : drop i lines ≡ line ∷ drop (i + 1) lines = drop_more lines i line below ∙ ap (λ (l : Line). l ∷ drop (i + 1) lines) (sym c.line-item.is) in
-    let rises : Rises next (line ∷ drop (i + 1) lines) = rw first_column at c.loop-line.invariant.rises in
+    let remaining : drop i lines ≡ line ∷ drop (i + 1) lines = drop_more lines i line below ∙ ap (λ (l : Line). l ∷ drop (i + 1) lines) (sym c.line-item.is) in
+    let rises : Rises next (line ∷ drop (i + 1) lines) = rw remaining at c.loop-line.invariant.rises in
     record {
       text =
           rw (c.in_ok-push.ensures.items, c.in_ok-put_command.ensures.text, c.in_ok-put_feeds.ensures)
           (sym (prints_on text next line (drop (i + 1) lines))
-          ∙ ap (λ (rest : List Line). text ++ text_of (lines_printed next rest)) (sym first_column)
+          ∙ ap (λ (rest : List Line). text ++ text_of (lines_printed next rest)) (sym remaining)
           ∙ c.loop-line.invariant.text);
-      typed = λ typed. c.loop-line.invariant.typed (rw first_column (c.in_ok-put_command.ensures.kept, typed));
+      typed = λ typed. c.loop-line.invariant.typed (rw remaining (c.in_ok-put_command.ensures.valid, typed));
       rises = rises.2;
     }
 

@@ -1,6 +1,6 @@
 use Rattle.std.proofs.Common.{◌≡◌, ◌^◌, ℕ, arith, List, IsTrue, true, false, ◌↔◌, subst, sym, refl, insert, rules}
 use Rattle.std.proofs.lemmas.Bool.{false≢true}
-use Rattle.swap_store.specs.declared.runs.Run.{Run}
+use Rattle.chain_owners.specs.declared.run.Run.{Run}
 use Rattle.swap_store.specs.Run.{EndsBefore, BeginsWith}
 use Rattle.swap_store.proofs.GivenBack.{Gap, gap_of_slice, inserted, given_to_left, given_to_right, given_to_both, sum_with_left, sum_with_right}
 use Rattle.swap_store.proofs.runs.give_back.Goals as goal

@@ -1,7 +1,7 @@
 use Rattle.std.proofs.Common.{◌≡◌, ◌<◌, ◌^◌, length, get_or, arith, sym, ap, subst, ◌∙◌}
 use Rattle.std.proofs.Math.ListN.{set}
 use Rattle.std.proofs.lemmas.List.{get_or_default}
-use Rattle.swap_store.specs.declared.runs.Run.{Run}
+use Rattle.chain_owners.specs.declared.run.Run.{Run}
 use Rattle.swap_store.specs.Run.{IsRunList}
 use Rattle.swap_store.proofs.RunLists.{Without, rest_of, IsRunList-remove, Without-remove, IsRunList-set_rest, Without-set_rest, run_at}
 use Rattle.swap_store.proofs.runs.take_first.Goals as goal

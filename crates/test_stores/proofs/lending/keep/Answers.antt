@@ -3,4 +3,4 @@ use Rattle.std.specs.FinMap.{gets}
 use Rattle.test_stores.proofs.lending.keep.Goals as goal
 
 pub put-answer-requires : goal.put-answer-requires
-put-answer-requires g c = rw c.in_ok-store.ensures.empty search (rules, gets)
+put-answer-requires g c = rw (c.over-store.ensures.placement, c.in_ok-memory.ensures.empty) search (rules, gets)

@@ -3,7 +3,7 @@ use Rattle.plane_rect.specs.Rectangle.{new_rectangle}
 use Rattle.plane_rect.proofs.Rectangles.{new_rectangle-positions, refuses_place, refuses_size}
 use Rattle.plane_rect.proofs.rect.Rect.new.Goals as goal
 
--- what stands after the last test
+-- what is returned after the last test
 value : (c : goal.After-from_fields) → Ok c.from_fields.result ≡ new_rectangle c.args.x c.args.y c.args.w c.args.h
 value c = search rules
 

@@ -1,6 +1,6 @@
 use Rattle.std.proofs.Common.{◌≡◌, ◌<◌, length, get_or, arith, sym, ◌∙◌}
 use Rattle.std.proofs.lemmas.List.{get_or_default}
-use Rattle.swap_store.proofs.Names.{entries-inserted}
+use Rattle.chain_owners.proofs.Names.{entries-inserted}
 use Rattle.swap_store.proofs.PlacementLaws.{added, none_there, room_after_added}
 use Rattle.swap_store.proofs.block_map.BlockMap.add.Goals as goal
 

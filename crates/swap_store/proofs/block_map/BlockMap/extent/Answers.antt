@@ -1,5 +1,5 @@
 use Rattle.std.proofs.Common.{◌∙◌, sym}
-use Rattle.swap_store.proofs.Names.{get-lookup}
+use Rattle.chain_owners.proofs.Names.{get-lookup}
 use Rattle.swap_store.proofs.block_map.BlockMap.extent.Goals as goal
 
 pub returns-clause-value : goal.returns-clause-value

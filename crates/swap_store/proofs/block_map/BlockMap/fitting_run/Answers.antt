@@ -1,7 +1,7 @@
 use Rattle.std.proofs.Common.{◌≡◌, ◌<◌, ℕ, Option, Some, None, MatchOption, MatchResult, OnErr, List, refl}
 use Rattle.std.specs.Option.{ok_or}
 use Rattle.std.specs.List.{position}
-use Rattle.swap_store.specs.declared.runs.Run.{Run}
+use Rattle.chain_owners.specs.declared.run.Run.{Run}
 use Rattle.swap_store.specs.declared.refusal.SwapRefused.{SwapRefused}
 use Rattle.swap_store.specs.declared.refusal.SwapRefused.TheVariants.{SwapFull}
 use Rattle.swap_store.specs.Run.{IsFirstFit, blocks_for, longest}

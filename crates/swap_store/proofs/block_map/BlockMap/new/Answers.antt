@@ -1,5 +1,5 @@
 use Rattle.std.proofs.Common.{◌≡◌, ◌≤◌, ◌+◌, ◌++◌, [], ◌∷◌, List, Vec, Global, vec_len, hash_map_len, vec_capacity, arith, ap, ◌∙◌}
-use Rattle.swap_store.specs.declared.runs.Run.{Run}
+use Rattle.chain_owners.specs.declared.run.Run.{Run}
 use Rattle.swap_store.proofs.PlacementLaws.{fresh, all_free, none_free, all_free_runs}
 use Rattle.swap_store.proofs.block_map.BlockMap.new.Goals.{then-used-gt0+in_ok-push, else-used-gt0}
 use Rattle.swap_store.proofs.block_map.BlockMap.new.Goals as goal

@@ -1,6 +1,6 @@
 use Rattle.std.proofs.Common.{arith, sym, ap, ◌∙◌}
 use Rattle.std.specs.Option.{is_some}
-use Rattle.swap_store.proofs.Names.{entries-removed, get-lookup}
+use Rattle.chain_owners.proofs.Names.{entries-removed, get-lookup}
 use Rattle.swap_store.proofs.PlacementLaws.{removed, not_free, extent_some, extent_bound, placed, room_after_removed}
 use Rattle.swap_store.proofs.block_map.BlockMap.remove.Goals as goal
 

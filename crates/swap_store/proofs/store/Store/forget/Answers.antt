@@ -1,4 +1,5 @@
-use Rattle.swap_store.proofs.Contents.{content-forget, map_values-remove}
+use Rattle.chain_owners.proofs.MapValues.{map_values-remove}
+use Rattle.swap_store.proofs.Contents.{content-forget}
 use Rattle.swap_store.specs.declared.block_map.Extent.{Extent}
 use Rattle.swap_store.proofs.store.Store.forget.Goals as goal
 

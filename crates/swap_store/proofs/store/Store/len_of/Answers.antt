@@ -1,7 +1,7 @@
 use Rattle.std.proofs.Common.{◌≡◌, rules}
 use Rattle.std.specs.Option.{option_map}
 use Rattle.swap_store.specs.declared.block_map.Extent.{Extent}
-use Rattle.swap_store.proofs.Contents.{get-map_values}
+use Rattle.chain_owners.proofs.MapValues.{get-map_values}
 use Rattle.swap_store.proofs.store.Store.len_of.Goals as goal
 
 pub returns : goal.returns

@@ -1,0 +1,4 @@
+pub mod Names
+pub mod MapValues
+pub mod Ownership
+pub mod HeldLaws

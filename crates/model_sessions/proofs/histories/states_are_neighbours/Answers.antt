@@ -1,5 +1,0 @@
-use Rattle.model_sessions.proofs.Steps as laws
-use Rattle.model_sessions.proofs.histories.states_are_neighbours.Goals as goal
-
-pub returns : goal.returns
-returns g c = λ meanings steps proper. (laws.made_keeps meanings steps proper).in_turn

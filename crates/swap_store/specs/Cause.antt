@@ -1,0 +1,13 @@
+-- Why a call on a chain is refused by its swap.
+use Rattle.std.specs.Prelude.{ℕ, ⊤}
+use Rattle.outside_io.specs.Faults.{Rose}
+use Rattle.chain_owners.specs.Counts.{Counts, IsFullOver}
+use Rattle.swap_store.specs.declared.refusal.SwapRefused.{SwapRefused}
+use Rattle.swap_store.specs.declared.refusal.SwapRefused.TheVariants as refusals
+
+-- Why a call that leaves so many names at most is refused: the swap's count of faults rose in it, or
+-- that many names can fill the store. It may run out of memory at any time.
+abbrev pub HasSwapCause : Counts → Counts → ℕ → SwapRefused → Type 0
+HasSwapCause old new names refusals.SwapFault = Rose old.faults new.faults
+HasSwapCause old new names (refusals.SwapFull needed longest) = IsFullOver old.used old.capacity names needed longest
+HasSwapCause old new names refusals.NoMemory = ⊤
