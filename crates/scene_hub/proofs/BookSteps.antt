@@ -93,9 +93,9 @@ module _ {S : Type 0} where
       let first = kept_set cs 0 n log kept in
       let after = kept_set (slice_set cs 0 (n, true)) pen.key pen.value log first in
       let used : IsUsed (slice_set (slice_set cs 0 (n, true)) pen.key (pen.value, true)) e =
-          let size = length-set (slice_set cs 0 (n, true)) pen.key (pen.value, true) in
-          let size' = length-set cs 0 (n, true) in
-          (omega (arith, key, free.0), ap (λ (c : Cell). c.1) (get_or-set_at (slice_set cs 0 (n, true)) pen.key e.key (pen.value, true) (0, false) key (omega (arith, free.0)))) in (
+      let size = length-set (slice_set cs 0 (n, true)) pen.key (pen.value, true) in
+      let size' = length-set cs 0 (n, true) in
+      (omega (arith, key, free.0), ap (λ (c : Cell). c.1) (get_or-set_at (slice_set cs 0 (n, true)) pen.key e.key (pen.value, true) (0, false) key (omega (arith, free.0)))) in (
         kept.base.0,
         kept.base.1,
         (

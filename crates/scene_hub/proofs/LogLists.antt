@@ -86,4 +86,4 @@ module _ {S : Type 0} where
       let q = lists_grow origin other all c e in
       let whole = (list_of origin all).1 in
       ⊎_elim (λ (le : length (list_of origin one).1 ≤ length (list_of origin other).1). inl (begins_shorter (list_of origin one).1 (list_of origin other).1 whole p q le))
-          (λ (le : length (list_of origin other).1 ≤ length (list_of origin one).1). inr (begins_shorter (list_of origin other).1 (list_of origin one).1 whole q p le)) (either_le (length (list_of origin one).1) (length (list_of origin other).1))
+      (λ (le : length (list_of origin other).1 ≤ length (list_of origin one).1). inr (begins_shorter (list_of origin other).1 (list_of origin one).1 whole q p le)) (either_le (length (list_of origin one).1) (length (list_of origin other).1))

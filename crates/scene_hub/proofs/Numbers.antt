@@ -65,7 +65,7 @@ module _ {S : Type 0} where
       let size : length xs ≡ length before + 1 = ap length is ∙ length-append before (s ∷ []) in
       let last : slice_index_or xs (length before) d ≡ s = ap (λ l. slice_index_or l (length before) d) is ∙ get_or-append_seam before s [] d in
       ⊎_elim (λ (less : k < length before). le_of_lt _ _ (subst (λ t. number (slice_index_or xs k d) < number t) last (rises k (length before) d less (omega arith))))
-          (λ (le : length before ≤ k). let same : k ≡ length before = omega arith in le_of_same _ _ (ap (λ j. number (slice_index_or xs j d)) same ∙ ap number last)) (cases_lt k (length before))
+      (λ (le : length before ≤ k). let same : k ≡ length before = omega arith in le_of_same _ _ (ap (λ j. number (slice_index_or xs j d)) same ∙ ap number last)) (cases_lt k (length before))
 
   -- a scene with a greater number may come next
   pub rises_push : (number : S → ℕ) (xs : List S) (m : ℕ) (s : S) → NumbersRise number xs → option_map number (last_of xs) ≡ Some m → m < number s → NumbersRise number (xs ++ s ∷ [])

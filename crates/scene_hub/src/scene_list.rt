@@ -88,12 +88,6 @@ impl<S> SceneList<S> {
         let scene = Snapshot::of(scene);
         let next = new_pen(&self.base, &mut self.whole.reached, &scene);
         let pen = replace(&mut self.pen, next);
-        append_entry(
-            &self.base,
-            &mut self.whole.reached,
-            pen,
-            &self.pen,
-            scene,
-        );
+        append_entry(&self.base, &mut self.whole.reached, pen, &self.pen, scene);
     }
 }

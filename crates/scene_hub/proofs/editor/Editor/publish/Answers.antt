@@ -10,7 +10,7 @@ show-requires-clause-shown g c =
     let rises = subst (λ l. RisesTo number l self.last.number) self.last_is self.last.rises in
     let is = c.in_ok-scene.ensures.ok in
     let last = last_after number c.again-list.result c.append.new.self.whole self.list.whole c.deref.result.now c.args.scene self.last.number c.number-number.result
-        c.again-list.ensures c.append.new.self.reached c.append.ensures.appended (c.deref.ensures ∙ is) c.number-number.ensures rises (c.requires.rises self.last.number rises.1) in
+    c.again-list.ensures c.append.new.self.reached c.append.ensures.appended (c.deref.ensures ∙ is) c.number-number.ensures rises (c.requires.rises self.last.number rises.1) in
     rw is last
 
 pub invariant_of-drop : goal.invariant_of-drop
@@ -19,5 +19,5 @@ invariant_of-drop g c =
     let number = g.S.Numbered.number_of in
     let rises = subst (λ l. RisesTo number l self.last.number) self.last_is self.last.rises in
     let last = last_after number c.again.result c.append.new.self.whole self.list.whole c.deref.result.now c.args.scene self.last.number c.number-number.result
-        c.again.ensures c.append.new.self.reached c.append.ensures.appended (c.deref.ensures ∙ c.in_ok-scene.ensures.ok) c.number-number.ensures rises (c.requires.rises self.last.number rises.1) in
+    c.again.ensures c.append.new.self.reached c.append.ensures.appended (c.deref.ensures ∙ c.in_ok-scene.ensures.ok) c.number-number.ensures rises (c.requires.rises self.last.number rises.1) in
     record { reached = last.0; rises = last.1 }
