@@ -1,5 +1,5 @@
 -- What contracts see of an editor, a viewer and a receipt.
-use Rattle.std.specs.Prelude.{◌≡◌, ℕ, ◌<◌, List, option_map}
+use Rattle.std.specs.Prelude.{ℕ, ◌<◌, List, option_map}
 use Rattle.std.specs.Option.{ForSome}
 use Rattle.left_right.specs.declared.Absorb as absorbing
 use Rattle.scene_hub.specs.declared.numbered.Numbered.{Ghosts}

@@ -1,5 +1,5 @@
 -- The hub's rule: the scene that is shown is the last of the list, whose numbers rise, and each list that somebody has seen is a prefix of it.
-use Rattle.std.specs.Prelude.{◌≡◌, ℕ, List, Option, Some, None, IsSome}
+use Rattle.std.specs.Prelude.{◌≡◌, ℕ, List, Option, Some, IsSome}
 use Rattle.std.specs.Option.{ForSome}
 use Rattle.std.specs.Arc.{arc_value}
 use mathlib.Core.Option.{some}

@@ -18,9 +18,7 @@ pub fn publish_next<R: Wait>(rt: &R, editor: &mut Editor<Page>) -> bool
     if number == u64::MAX {
         return false;
     }
-    let page = Page {
-        number: number + 1,
-    };
+    let page = Page { number: number + 1 };
     editor.publish(rt, page).is_ok()
 }
 

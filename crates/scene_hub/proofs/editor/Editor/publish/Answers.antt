@@ -1,4 +1,4 @@
-use Rattle.std.proofs.Common.{◌≡◌, sym, subst, ◌∙◌}
+use Rattle.std.proofs.Common.{subst, ◌∙◌}
 use Rattle.scene_hub.specs.HubList.{RisesTo}
 use Rattle.scene_hub.proofs.HubSteps.{last_after}
 use Rattle.scene_hub.proofs.editor.Editor.publish.Goals as goal

@@ -1,6 +1,4 @@
-use Rattle.std.proofs.Common.{◌≡◌, ◌∷◌, [], ◌++◌, refl, sym, ap, ◌∙◌}
-use Rattle.scene_hub.specs.declared.entry.Entry.{Entry}
-use Rattle.scene_hub.specs.HubBook.{IsAppended}
+use Rattle.std.proofs.Common.{◌∷◌, [], ◌++◌, refl, sym, ap, ◌∙◌}
 use Rattle.scene_hub.specs.SceneLog.{list_of}
 use Rattle.scene_hub.proofs.LogLists.{list_after, appended_begins, appended_since}
 use Rattle.scene_hub.proofs.Prefixes.{begins_trans}

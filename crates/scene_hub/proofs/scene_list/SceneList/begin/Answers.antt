@@ -1,6 +1,5 @@
 use Rattle.std.proofs.Common.{◌≡◌, sym, ap, ◌∙◌}
 use Rattle.scene_hub.proofs.BookSteps.{begins_list}
-use Rattle.scene_hub.proofs.LogLists.{list_begun}
 use Rattle.scene_hub.proofs.scene_list.SceneList.begin.Goals as goal
 
 pub compare_exchange-requires : goal.compare_exchange-requires

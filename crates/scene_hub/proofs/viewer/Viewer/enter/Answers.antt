@@ -1,6 +1,6 @@
-use Rattle.std.proofs.Common.{arith, ◌∙◌, ◌≡◌}
+use Rattle.std.proofs.Common.{◌∙◌}
 use Rattle.left_right.specs.Sides.{view}
-use Rattle.scene_hub.specs.HubList.{ComesBefore, IsSameHub, scenes}
+use Rattle.scene_hub.specs.HubList.{ComesBefore, scenes}
 use Rattle.scene_hub.proofs.HubSteps.{has_itself, scenes_grow, seen_before}
 use Rattle.scene_hub.proofs.Numbers.{newer_is_longer}
 use Rattle.scene_hub.proofs.viewer.Viewer.enter.Goals as goal
