@@ -1,11 +1,11 @@
 -- The words that are built are requests.
-use Rattle.std.proofs.Common.{◌≡◌, ℕ, Bool, true, false, not, ◌&&◌, cond, List, [], ◌∷◌, refl, ap, ◌∙◌, Option, Some, None}
-use Rattle.std.specs.Prelude.{codes, flat_map, length, nat_le, position, ◌==◌, ◌||◌}
+use Rattle.std.proofs.Common.{◌≡◌, ℕ, Bool, true, false, not, ◌&&◌, cond, List, [], ◌∷◌, refl, ap, Option, Some, None}
+use Rattle.std.specs.Prelude.{codes, length, nat_le, position, ◌==◌, ◌||◌}
 use Rattle.std.specs.List.{list_all}
 use Rattle.std.specs.Str.{bytes_eq}
 use Rattle.outside_io.specs.FileName.{is_file_name, is_name_byte}
 use Rattle.model_runs.specs.Built.{built_script}
-use Rattle.model_runs.specs.Words.{Request, RunScript, Script, Setting, default_options, make_request, only_one, options_in, request_of, run_request, settings_of, split_at, split_word, split_words}
+use Rattle.model_runs.specs.Words.{RunScript, Script, default_options, request_of, run_request, settings_of, split_at, split_word, split_words}
 
 both : (a b : Bool) → (a && b) ≡ true → (a ≡ true) × (b ≡ true)
 both true true e = (refl, refl)

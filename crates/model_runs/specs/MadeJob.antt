@@ -9,7 +9,6 @@ use Rattle.script_words.specs.Words.{joined}
 use Rattle.run_texts.specs.Events.{Puts}
 use Rattle.run_texts.specs.Texts.{sum_text}
 use Rattle.model_runs.specs.Run.{Ending, Plan, plan_of_script, report}
-use Rattle.model_runs.specs.State.{Numbers}
 use Rattle.model_runs.specs.Words.{default_options}
 
 -- ---- draws

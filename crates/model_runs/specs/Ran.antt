@@ -1,5 +1,5 @@
 -- What is promised of a run, whatever it meets.
-use Rattle.std.specs.Prelude.{◌≡◌, ◌≢◌, ℕ, ◌≤◌, ◌⊎◌, List, ◌++◌, drop, flat_map, length, min, take, Option, Some, None, []}
+use Rattle.std.specs.Prelude.{◌≡◌, ℕ, ◌≤◌, ◌⊎◌, List, ◌++◌, drop, flat_map, length, min, take, Option, Some, None, []}
 use Rattle.std.specs.Option.{option_map}
 use Rattle.outside_io.specs.Faults.{Rose}
 use Rattle.run_texts.specs.Events.{Event, Puts, Writes}

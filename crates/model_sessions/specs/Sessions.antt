@@ -1,5 +1,5 @@
 -- Renders among the steps of a history, and the cached pairs that they leave.
-use Rattle.std.specs.Prelude.{ℕ, ◌≤◌, Bool, ◌&&◌, ◌==◌, if◌then◌else◌, is_none, ⊤, List, [], fold, length, Some, unwrap_or}
+use Rattle.std.specs.Prelude.{ℕ, ◌-◌, ◌^◌, ◌≤◌, min, Bool, ◌&&◌, ◌==◌, if◌then◌else◌, is_none, ⊤, List, [], fold, length, Some, unwrap_or}
 use Rattle.std.specs.List.{AllByRecursion}
 use Rattle.plane_rect.specs.Rectangle.{Rectangle, empty, scaled}
 use Rattle.model_buffers.specs.Table.{Table, no_buffers}
@@ -28,6 +28,21 @@ new_session = record { history = new_history no_buffers; cached = uncounted [] }
 -- the last committed state, as its nodes read it
 abbrev pub last_scene : {Op : Type 0} → Session Table Op → Scene Op
 last_scene session = scene_of (last_state session.history)
+
+-- ---- counts
+
+-- the largest count that is reported of a session
+abbrev pub max_count : ℕ
+max_count = 2 ^ 64 - 1
+
+-- How many pairs the renders of a session applied and reused, each up to the largest count.
+pub record Counts : Type 0 where
+  pub applied : ℕ
+  pub reused : ℕ
+
+abbrev pub counts_of : {Op : Type 0} → Session Table Op → Counts
+counts_of session =
+    record { applied = min max_count session.cached.applied; reused = min max_count session.cached.reused }
 
 -- ---- steps
 

@@ -1,17 +1,17 @@
 -- What the lines of a script that is built are to do, all together.
-use Rattle.std.proofs.Common.{◌≡◌, ◌≢◌, ℕ, zero, suc, ◌+◌, ◌*◌, ◌≤◌, ◌<◌, Bool, true, false, ◌&&◌, ◌==◌, ◌||◌, not, cond, List, [], ◌∷◌, ◌++◌, drop, flat_map, length, map, All, IsTrue, Option, Some, None, Result, Ok, Err, get_or, is_none, refl, sym, ap, ◌∙◌, subst, arith}
+use Rattle.std.proofs.Common.{◌≡◌, ◌≢◌, ℕ, zero, suc, ◌+◌, ◌*◌, ◌≤◌, ◌<◌, Bool, true, false, ◌&&◌, ◌==◌, ◌||◌, not, cond, List, [], ◌∷◌, drop, length, All, Option, Some, None, Result, Ok, Err, get_or, is_none, refl, sym, ap, ◌∙◌, subst, arith}
 use Rattle.std.proofs.lemmas.Bool.Decides.{nat_tests}
 use Rattle.std.proofs.lemmas.Slice.Eq.{bytes_eq-Decides}
 use Rattle.std.specs.Prelude.{nat_le}
 use Rattle.std.specs.Str.{bytes_eq}
-use Rattle.plane_rect.specs.Rectangle.{Rectangle, Inside, InLimits, area, end_column, end_row, in_limits, includes, is_empty, same_rectangle}
+use Rattle.plane_rect.specs.Rectangle.{Rectangle, area, end_column, end_row, in_limits, includes, is_empty, same_rectangle}
 use Rattle.plane_rect.specs.SameRectangle.{same_rectangle-true}
 use Rattle.pixel_formats.specs.declared.format.Format.TheVariants.{Y8}
 use Rattle.outside_io.specs.Files.{Files, file}
-use Rattle.model_images.specs.FromRaw.{byte_count, image_from_raw, pixels_from_raw}
-use Rattle.model_images.specs.Image.{Image, at, image_from_fn, is_inside}
+use Rattle.model_images.specs.FromRaw.{image_from_raw, pixels_from_raw}
+use Rattle.model_images.specs.Image.{Image, at, is_inside}
 use Rattle.model_images.specs.Level.{level}
-use Rattle.model_images.specs.Paint.{blank, cut, inverted_image, painted}
+use Rattle.model_images.specs.Paint.{blank, cut, inverted_image}
 use Rattle.model_images.specs.Raw.{raw}
 use Rattle.model_images.proofs.Laws.{at-image_from_fn, generated_equal}
 use Rattle.model_images.proofs.Samples.{inside_where}
@@ -35,11 +35,11 @@ use Rattle.model_states.specs.Retained.{retained_from}
 use Rattle.model_states.specs.State.{State}
 use Rattle.model_states.specs.Workspace.{Workspace, commit_edited}
 use Rattle.script_read.specs.declared.command.OpWords.TheVariants as words
-use Rattle.model_runs.specs.Built.{built_ending, first_unbuilt, if_passed, next_stage, unless_built}
+use Rattle.model_runs.specs.Built.{built_ending, first_unbuilt, if_passed, unless_built}
 use Rattle.model_runs.specs.Effects.{edit_gives, effect, load_into, node_image, renders_known, step_gives, writes}
 use Rattle.model_runs.specs.Effects as runs
 use Rattle.model_runs.specs.Run.{and_on, effects, files_after_all, outcome_from, outcome_of_effects}
-use Rattle.model_runs.specs.State.{Effect, RunState, first_state, in_workspace, leaves, number_in, refuses, scene_in, workspace_of}
+use Rattle.model_runs.specs.State.{Effect, RunState, first_state, in_workspace, number_in, refuses, scene_in, workspace_of}
 use Rattle.model_runs.specs.Words.{default_options}
 use Rattle.model_sessions.specs.Sessions.{render_need}
 use Rattle.model_states.specs.Edits.{has_node}

@@ -1,15 +1,11 @@
 -- The state after the lines that make, load and invert a buffer and commit its nodes.
-use Rattle.std.proofs.Common.{◌≡◌, ◌≢◌, ℕ, ◌≤◌, ◌<◌, Bool, true, false, ◌&&◌, not, cond, List, [], ◌∷◌, ◌++◌, length, map, Option, Some, None, Result, Ok, Err, IsTrue, is_none, refl, sym, ap, ◌∙◌, subst, arith}
-use Rattle.std.proofs.lemmas.Bool.Decides.{nat_tests}
+use Rattle.std.proofs.Common.{◌≡◌, ◌≢◌, ℕ, true, false, List, [], ◌∷◌, Ok, refl}
 use Rattle.std.specs.Str.{bytes_eq}
-use Rattle.plane_rect.specs.Rectangle.{Rectangle, area, in_limits, includes, Inside}
+use Rattle.plane_rect.specs.Rectangle.{Rectangle, in_limits}
 use Rattle.pixel_formats.specs.declared.format.Format.TheVariants.{Y8}
-use Rattle.model_images.specs.FromRaw.{image_from_raw, pixels_from_raw}
-use Rattle.model_images.specs.Image.{Image, at, image_from_fn}
-use Rattle.model_images.specs.Paint.{blank, cut, inverted_image, painted}
-use Rattle.model_images.proofs.Laws.{at-image_from_fn, generated_equal}
-use Rattle.model_images.proofs.Samples.{inside_where}
-use Rattle.model_buffers.specs.Layout.{View}
+use Rattle.model_images.specs.FromRaw.{pixels_from_raw}
+use Rattle.model_images.specs.Image.{Image}
+use Rattle.model_images.specs.Paint.{blank, cut, painted}
 use Rattle.model_buffers.specs.Table.{Table}
 use Rattle.model_graphs.proofs.Evaluating.{apart_bytes, same_bytes}
 use Rattle.model_graphs.specs.declared.node.Body.TheVariants.{Compute, Source}
@@ -21,10 +17,7 @@ use Rattle.model_operations.specs.Meanings.{int_meanings}
 use Rattle.model_operations.specs.declared.operation.IntOp.{IntOp}
 use Rattle.model_operations.specs.declared.operation.IntOp.TheVariants.{Invert}
 use Rattle.model_states.specs.Edits.{edited, has_node}
-use Rattle.model_states.specs.Need.{wide}
 use Rattle.model_states.specs.State.{Scene, image_of}
-use Rattle.model_states.specs.declared.refused.StateRefused.{StateRefused}
-use Rattle.model_sessions.specs.Sessions.{render_need}
 use Rattle.model_sessions.specs.Tables.{table_images, table_shapes}
 
 -- the table of one buffer, over the whole of its root
@@ -54,7 +47,7 @@ module _ (buffer source node : List ℕ) (r : Rectangle) (image : Image) (apart 
       edited int_meanings (table_shapes (one_buffer buffer r image)) [] (two_edits buffer source node) ≡ Ok (two_nodes buffer source node)
   nodes_committed limits format =
       let differ : bytes_eq source node ≡ false = apart_bytes source node _ refl apart in
-      simp (differ, same_bytes buffer, same_bytes source, same_bytes node, limits, format)
+      simp (differ, same_bytes buffer, same_bytes source, limits, format)
 
   pub node_there : has_node (two_nodes buffer source node) node ≡ true
   node_there =

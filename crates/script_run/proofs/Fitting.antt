@@ -1,17 +1,17 @@
 -- Renders of the node that inverts a buffer fit the cache.
-use Rattle.std.proofs.Common.{◌≡◌, ◌≢◌, ℕ, suc, ◌≤◌, ◌<◌, ◌^◌, Bool, true, false, ◌&&◌, cond, List, [], ◌∷◌, length, map, Option, Some, None, is_none, unwrap_or, refl, sym, ap, ◌∙◌, subst, arith}
-use Rattle.std.specs.Prelude.{nat_lt, nat_le, slice_index_or}
+use Rattle.std.proofs.Common.{◌≡◌, ◌≢◌, ℕ, ◌≤◌, ◌^◌, Bool, true, false, cond, List, [], ◌∷◌, length, map, Option, Some, None, is_none, unwrap_or, refl, ap, ◌∙◌, arith}
+use Rattle.std.specs.Prelude.{nat_lt, slice_index_or}
 use Rattle.std.proofs.lemmas.Bool.Decides.{nat_tests}
 use Rattle.std.proofs.lemmas.List.{length-map}
 use Rattle.std.specs.List.{range_with_len}
 use Rattle.std.specs.Str.{bytes_eq}
-use Rattle.plane_rect.specs.Rectangle.{Rectangle, area, empty, in_limits, meet}
+use Rattle.plane_rect.specs.Rectangle.{Rectangle, empty, in_limits, meet}
 use Rattle.plane_rect.specs.Tile.{Tile, tile_lines, tile_of}
 use Rattle.model_images.specs.Image.{Image}
 use Rattle.model_graphs.proofs.Evaluating.{apart_bytes, same_bytes}
 use Rattle.model_graphs.specs.Facts.{stated_shapes}
 use Rattle.model_graphs.specs.Node.{index_of}
-use Rattle.model_graphs.specs.Shapes.{Shape, no_shape}
+use Rattle.model_graphs.specs.Shapes.{no_shape}
 use Rattle.model_operations.specs.Meanings.{int_meanings}
 use Rattle.model_operations.specs.declared.operation.IntOp.{IntOp}
 use Rattle.model_states.specs.Need.{Needed, strip_of, strip_rectangles, tile_line, wide}

@@ -1,5 +1,5 @@
 -- What a run promises, by what it leaves and why it ends.
-use Rattle.std.proofs.Common.{◌≡◌, ◌≢◌, ℕ, ◌+◌, ◌⊎◌, List, [], ◌∷◌, ◌++◌, drop, length, take, append_assoc, Option, Some, None, Result, Ok, Err, IfSome, inl, inr, refl, sym, ap, ◌∙◌, subst}
+use Rattle.std.proofs.Common.{◌≡◌, ℕ, ◌+◌, ◌⊎◌, List, [], ◌∷◌, ◌++◌, drop, length, take, append_assoc, Option, Some, None, Result, Ok, Err, IfSome, inl, inr, refl, sym, ap, ◌∙◌, subst}
 use Rattle.std.specs.Prelude.{⊤}
 use Rattle.std.specs.Option.{option_map}
 use Rattle.std.proofs.lemmas.List.{append-nil, take-append-drop}
@@ -7,7 +7,7 @@ use Rattle.std.proofs.Math.Seq.{take-append_seam, take-append-add}
 use Rattle.outside_io.specs.Files.{Files, file}
 use Rattle.model_runs.specs.Built.{built_plan, plan_of_read}
 use Rattle.model_runs.specs.Ending.{IsRefusal, IsWhole, Leaves, MayTear, end_status, status_of}
-use Rattle.model_runs.specs.Ran.{Faults, NoneRose, Ran, SufficesFor, bytes_put, texts_in}
+use Rattle.model_runs.specs.Ran.{Faults, NoneRose, Ran, texts_in}
 use Rattle.model_runs.specs.Run.{Plan, lines_of_file, watched_in}
 use Rattle.model_runs.specs.State.{Numbers, Watched}
 use Rattle.model_runs.specs.Watching.{AreNumbers}

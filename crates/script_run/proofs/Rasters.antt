@@ -1,14 +1,13 @@
 -- Rasters of format Y8.
-use Rattle.std.proofs.Common.{◌≡◌, ℕ, ◌+◌, ◌*◌, ◌-◌, ◌<◌, List, length, refl, sym, ap, ◌∙◌, arith}
+use Rattle.std.proofs.Common.{◌≡◌, ℕ, ◌-◌, List, length, sym, ap, ◌∙◌, arith}
 use Rattle.std.specs.List.{flat_map}
-use Rattle.std.proofs.lemmas.Nat.{mul-le}
-use Rattle.plane_rect.specs.Rectangle.{Rectangle, Inside, area, offset}
+use Rattle.plane_rect.specs.Rectangle.{Rectangle, area, offset}
 use Rattle.pixel_formats.specs.Format.{channels, depth}
 use Rattle.pixel_formats.specs.declared.format.Format.TheVariants.{Y8}
 use Rattle.pixel_formats.specs.Invert.{inverted_pixel}
 use Rattle.pixel_formats.specs.Row.{HasPixels, pixel_at}
 use Rattle.model_images.specs.FromRaw.{image_from_raw, pixels_from_raw}
-use Rattle.model_images.specs.Image.{Image, at, sampled}
+use Rattle.model_images.specs.Image.{Image, at}
 use Rattle.model_images.specs.Paint.{cut, inverted_image}
 use Rattle.model_images.specs.Raw.{raw, sample_bytes}
 use Rattle.model_images.proofs.FromRawLaws.{at-image_from_raw}

@@ -1,12 +1,8 @@
 -- What a status says.
-use Rattle.std.proofs.Common.{◌≡◌, ℕ, ◌⊎◌, List, Option, Some, None, Result, Ok, Err, IfSome, refl, inl, inr}
-use Rattle.outside_io.specs.Files.{Files}
+use Rattle.std.proofs.Common.{◌≡◌, ◌⊎◌, Result, Ok, Err, refl, inl, inr}
 use Rattle.model_runs.specs.declared.ending.End.{End}
 use Rattle.model_runs.specs.declared.ending.End.TheVariants as ends
-use Rattle.run_texts.specs.Events.{Outcome}
-use Rattle.run_texts.specs.World.{World, LeavesSome}
-use Rattle.run_texts.proofs.Leaving.{some_weaker}
-use Rattle.model_runs.specs.Ending.{Leaves, MayTear, status_of}
+use Rattle.model_runs.specs.Ending.{MayTear, status_of}
 
 pub may_tear_at : (ended : Result (Unit {0}) End) → MayTear ended → (status_of ended ≡ 4) ⊎ (status_of ended ≡ 7)
 may_tear_at (Ok done) torn = absurd torn

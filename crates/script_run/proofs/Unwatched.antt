@@ -20,7 +20,7 @@ use Rattle.model_runs.specs.Built.{built_ending, first_unbuilt, next_stage, plan
 use Rattle.model_runs.specs.Effects.{edit_gives, effect, grabs_view, load_into, opens, renders, renders_known, step_gives}
 use Rattle.model_runs.specs.Run.{and_on, effects, files_after_all, plan_of_lines, watched_in}
 use Rattle.model_runs.specs.Words.{default_options}
-use Rattle.model_runs.specs.State.{Effect, RunState, Watched, first_state, leaves, refuses, scene_in, workspace_of}
+use Rattle.model_runs.specs.State.{Effect, RunState, first_state, leaves, refuses, scene_in, workspace_of}
 use Rattle.model_runs.specs.declared.stage.Stage.{Stage}
 use Rattle.model_runs.specs.declared.stage.Stage.TheVariants as stages
 use Rattle.pixel_formats.specs.declared.abyss.Abyss.{Abyss}

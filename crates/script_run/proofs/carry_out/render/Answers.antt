@@ -1,4 +1,4 @@
-use Rattle.std.proofs.Common.{◌≡◌, ◌∙◌, [], ◌∷◌, length, ap, rules}
+use Rattle.std.proofs.Common.{◌∙◌, [], ◌∷◌, length, ap}
 use Rattle.model_images.specs.Image.{Image}
 use Rattle.model_images.specs.Raw.{raw}
 use Rattle.run_texts.specs.Texts.{render_text}

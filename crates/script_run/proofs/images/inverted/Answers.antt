@@ -2,7 +2,6 @@ use Rattle.std.proofs.Common.{◌≡◌, length, ap, ◌∙◌, rules}
 use Rattle.std.proofs.lemmas.List.{with_items_is}
 use Rattle.pixel_formats.specs.declared.format.Format.TheVariants.{Y8}
 use Rattle.model_images.specs.FromRaw.{image_from_raw}
-use Rattle.plane_rect.specs.Rectangle.{area}
 use Rattle.script_run.proofs.Rasters.{inverted-raster}
 use Rattle.script_run.proofs.images.inverted.Goals as goal
 

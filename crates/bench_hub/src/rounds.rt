@@ -1,0 +1,41 @@
+//! The loops that are timed.
+
+use crate::page::Page;
+use scene_hub::{Editor, Viewer};
+use std::sync::Wait;
+
+/// Enters so often by the first viewer. Returns the sum of the numbers that it saw.
+pub fn enter_often(viewers: &mut [Viewer<Page>], rounds: u32) -> u64 {
+    let Some(viewer) = viewers.first_mut() else {
+        return 0;
+    };
+    let mut sum: u64 = 0;
+    for _ in 0..rounds {
+        if viewer.enter().is_ok() {
+            sum = sum.wrapping_add(viewer.number());
+        }
+    }
+    sum
+}
+
+/// Publishes so often. Returns the sum of the numbers of the receipts.
+pub fn publish_often<R: Wait>(rt: &R, editor: &mut Editor<Page>, rounds: u32) -> u64 {
+    let mut sum: u64 = 0;
+    for _ in 0..rounds {
+        sum = sum.wrapping_add(publish_next(rt, editor));
+    }
+    sum
+}
+
+/// Publishes the next page. Returns its receipt's number, or 0 where it is refused.
+fn publish_next<R: Wait>(rt: &R, editor: &mut Editor<Page>) -> u64 {
+    let number = editor.number();
+    if number == u64::MAX {
+        return 0;
+    }
+    let page = Page { number: number + 1 };
+    match editor.publish(rt, page) {
+        Ok(receipt) => receipt.number(),
+        Err(_) => 0,
+    }
+}

@@ -1,0 +1,9 @@
+//! Worked examples of hubs, and hubs whose editor and viewers run side by side.
+#![tactic(auto)]
+
+mod pages;
+#[cfg(test)]
+mod tests;
+mod watches;
+
+pub use pages::Page;
