@@ -1,5 +1,8 @@
 //! Graphs made in few words, and renders of them.
 
+ghost use Rattle.std.specs.Prelude.{IfOk, length};
+ghost use Rattle.plain_graphs.specs.Needs.{AreStripsBelow};
+
 use model_operations::IntOp;
 use pixel_formats::Format;
 use plain_graphs::{Body, BufferFact, Change, Graph, Lookups, NodeSpec, Strip, need, needed_pairs};
@@ -77,7 +80,9 @@ fn strips_of(
     graph: &Graph,
     word: &str,
     request: [i64; 4],
-) -> Result<Vec<Strip>, Fail> {
+) -> Result<Vec<Strip>, Fail>
+    ensures { IfOk result (λ strips. AreStripsBelow (length graph.now.nodes) strips.items) }
+{
     let wanted = name(word)?;
     if graph.nodes.len() > 256 {
         return Err(Fail::from("too many"));
