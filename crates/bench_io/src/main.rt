@@ -10,20 +10,26 @@ mod swap_bench;
 mod swap_loops;
 
 use anyhow::Result;
+use outside_io::FileSwap;
 use std::alloc::Global;
 use std::rt::Env;
+use swap_bench::SwapBench;
 
 fn main(rt: HostRuntime) -> Result<()> {
     let count = count_asked(&rt)?;
     let word = std::env::args(&rt)?.nth(1);
-    match word.as_deref() {
-        Some("swap") => swap_bench::time_all(&rt, count),
-        Some("script") => script_bench::time_all(&rt, count),
-        _ => {
-            swap_bench::time_all(&rt, None)?;
-            script_bench::time_all(&rt, None)
-        }
+    let times_swap = word.as_deref() != Some("script");
+    let times_script = word.as_deref() != Some("swap");
+    if times_swap {
+        let bench = SwapBench::new(count);
+        swap_bench::time_memory(&rt, bench)?;
+        let mut file = FileSwap::new(&rt, bench.blocks());
+        swap_bench::time_file(&rt, bench, &mut file)?;
     }
+    if times_script {
+        script_bench::time_all(&rt, count)?;
+    }
+    Ok(())
 }
 
 /// Returns the number of names or lines on the command line, where there is one.

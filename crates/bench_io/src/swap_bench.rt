@@ -5,7 +5,7 @@ ghost use Rattle.std.specs.Prelude.{◌≡◌, ◌≤◌, ◌^◌};
 
 use crate::swap_loops;
 use anyhow::Result;
-use outside_io::{FileSwap, Lent, SureSwap, SwapDisk};
+use outside_io::{Lent, SureSwap, SwapDisk};
 use std::alloc::Global;
 use std::io;
 use std::rt::Clock;
@@ -18,14 +18,22 @@ const FEW_NAMES: u32 = 100;
 
 /// How many names there are, and whether the times are printed.
 #[derive(Clone, Copy)]
-struct SwapBench {
+pub struct SwapBench {
     names: u32,
     is_timed: bool,
 }
 
 impl SwapBench {
-    /// How many blocks the names are put into: few more than they take.
-    fn blocks(self) -> u32
+    /// Returns a benchmark of so many names, or of few, without times, where none are asked for.
+    pub fn new(names: Option<u32>) -> SwapBench {
+        SwapBench {
+            names: names.unwrap_or(FEW_NAMES),
+            is_timed: names.is_some(),
+        }
+    }
+
+    /// Returns how many blocks the names are put into: few more than they take.
+    pub fn blocks(self) -> u32
         ensures { result ≤ 2 ^ 20 }
     {
         self.names.saturating_mul(11).min(1 << 20)
@@ -50,27 +58,26 @@ impl SwapBench {
     }
 }
 
-/// Times the store over a disk in memory and over the real file. Without a number of names there are
-/// few, and no time is printed.
-pub fn time_all<R: Clock + Print + Eprint + Files + Alloc<A = Global>>(
+/// Times plain blocks and the store over a disk in memory.
+pub fn time_memory<R: Clock + Print + Eprint + Alloc<A = Global>>(
     rt: &R,
-    names: Option<u32>,
+    bench: SwapBench,
 ) -> Result<()> {
-    let bench = SwapBench {
-        names: names.unwrap_or(FEW_NAMES),
-        is_timed: names.is_some(),
-    };
     println!(rt; "in memory")?;
     let mut disk = SureSwap::new(rt.alloc(), bench.blocks())?;
     time_blocks(rt, bench, &mut disk)?;
-    time_store(rt, bench, &mut disk)?;
-    drop(disk);
+    time_store(rt, bench, &mut disk)
+}
 
+/// Times plain blocks and the store over the real file.
+pub fn time_file<R: Clock + Print + Eprint + Alloc<A = Global>, D: SwapDisk>(
+    rt: &R,
+    bench: SwapBench,
+    file: &mut D,
+) -> Result<()> {
     println!(rt; "in a file")?;
-    let mut disk = FileSwap::new(rt, bench.blocks());
-    time_blocks(rt, bench, &mut disk)?;
-    time_store(rt, bench, &mut disk)?;
-    Ok(())
+    time_blocks(rt, bench, file)?;
+    time_store(rt, bench, file)
 }
 
 /// Times plain writes and reads of each block.
