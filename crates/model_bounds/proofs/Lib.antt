@@ -1,0 +1,2 @@
+mod TileCounts
+mod NeedCounts
