@@ -1,2 +1,3 @@
 mod TileCounts
 mod NeedCounts
+mod RunCounts

@@ -9,12 +9,10 @@ use Rattle.std.proofs.lemmas.Option.{same_Some, slice_get-map}
 use Rattle.plane_rect.specs.Rectangle.{InLimits, Includes, Rectangle, empty, meet}
 use Rattle.plane_rect.specs.Tile.{Tile, tile_lines, tile_of, tile_square}
 use Rattle.plane_rect.proofs.Rectangles.{Inside-meet}
-use Rattle.model_graphs.specs.declared.node.Body.{Body}
-use Rattle.model_graphs.specs.declared.node.Body.TheVariants.{Source, Compute}
 use Rattle.model_graphs.specs.declared.node.NodeFact.{NodeFact}
 use Rattle.model_graphs.specs.Facts.{specs_of, stated_shapes}
 use Rattle.model_graphs.specs.Laws.{IsBoxed}
-use Rattle.model_graphs.specs.Meanings.{Meanings, result_box}
+use Rattle.model_graphs.specs.Meanings.{Meanings}
 use Rattle.model_graphs.specs.Node.{Apply, FromBuffer, Node, Step, step_of}
 use Rattle.model_graphs.specs.Shapes.{Shape, Shapes, no_shape}
 use Rattle.model_states.specs.declared.strip.Strip.{Strip}
@@ -140,9 +138,9 @@ module _ {Op : Type 0} (meanings : Meanings Op) (boxed : IsBoxed meanings) where
       let box = (get_or shapes node no_shape).box in
       let first = take (suc node) steps in
       let few = needed_few shapes steps ((node, meet rectangle box) ∷ []) (reverse first) (stated_in_limits buffers facts is) (first_steps steps (suc node))
-          (λ u v there. ((Inside-meet u v rectangle box).0 there).1, tt) in
+      (λ u v there. ((Inside-meet u v rectangle box).0 there).1, tt) in
       let count : length (reverse first) ≤ 256 =
-          omega (arith, is.valid.few, length-reverse first, length-take (suc node) steps, length-map (specs_of facts) (λ (node : Node Op). step_of (specs_of facts) node.body)) in
+      omega (arith, is.valid.few, length-reverse first, length-take (suc node) steps, length-map (specs_of facts) (λ (node : Node Op). step_of (specs_of facts) node.body)) in
       omega (arith, few, count)
 
   each_few : (buffers : Shapes) (facts : List (NodeFact Op)) (node : ℕ) (rectangles : List Rectangle) → AreStated meanings buffers facts →
@@ -158,8 +156,12 @@ module _ {Op : Type 0} (meanings : Meanings Op) (boxed : IsBoxed meanings) where
   all_few buffers facts node (rectangle ∷ rectangles) is =
       let here = strip_few buffers facts node rectangle is in
       let rest = all_few buffers facts node rectangles is in
-      omega (arith, here, rest,
-      length-append (strip_of meanings facts node rectangle).need (flat_map (λ (strip : Strip). strip.need) (map (strip_of meanings facts node) rectangles)))
+      omega (
+        arith,
+        here,
+        rest,
+        length-append (strip_of meanings facts node rectangle).need (flat_map (λ (strip : Strip). strip.need) (map (strip_of meanings facts node) rectangles)),
+      )
 
   -- ---- the laws
 
@@ -173,5 +175,5 @@ module _ {Op : Type 0} (meanings : Meanings Op) (boxed : IsBoxed meanings) where
       let rows = range_with_len (tile_of request.first_row) (tile_lines request) in
       let few = all_few buffers facts node (strip_rectangles request) is in
       let count : length (strip_rectangles request) ≡ tile_lines request =
-          length-map rows (λ row. meet request (tile_line row)) ∙ length-range_with_len (tile_of request.first_row) (tile_lines request) in
+      length-map rows (λ row. meet request (tile_line row)) ∙ length-range_with_len (tile_of request.first_row) (tile_lines request) in
       omega (arith, few, count, lines-few request limits)

@@ -1,11 +1,10 @@
 -- A box in limits meets at most 10,244 tiles, and so does a hull of rectangles in it.
 use Rattle.std.proofs.Common.{◌≡◌, ℕ, ◌+◌, ◌-◌, ◌*◌, ◌/◌, ◌^◌, ◌<◌, ◌≤◌, ◌⊎◌, ◌||◌, Bool, true, false, cond, eqb, List, [], ◌∷◌, filter, length, inl, inr, min, max, refl, sym, ap, subst, arith}
 use Rattle.std.specs.List.{AllByRecursion, list_any}
-use Rattle.std.proofs.lemmas.Bool.{cases_lt}
 use Rattle.std.proofs.lemmas.Bool.Decides.{nat_tests}
 use Rattle.std.proofs.lemmas.Nat.{mul-le}
 use Rattle.plane_rect.specs.Rectangle.{InLimits, Includes, Inside, Rectangle, empty, end_column, end_row, hull, is_empty, rectangle, spanning}
-use Rattle.plane_rect.specs.Tile.{Tile, tile_columns, tile_lines, tiles}
+use Rattle.plane_rect.specs.Tile.{tile_columns, tile_lines, tiles}
 use Rattle.plane_rect.proofs.TileLists.{length-tiles}
 use Rattle.model_states.specs.Regions.{hull_of, meets, tiles_of_any}
 
