@@ -1,14 +1,7 @@
 -- How many pairs the renders of a run have looked up, and when a report shows their counts as they are.
-use Rattle.std.specs.Prelude.{◌≡◌, ◌^◌, ◌<◌, List}
-use Rattle.std.specs.List.{AllByRecursion}
-use Rattle.script_read.specs.Spelling.{HasValidFields}
-use Rattle.script_read.specs.declared.command.Line.{Line}
+use Rattle.std.specs.Prelude.{◌≡◌, ◌^◌, ◌<◌}
 use Rattle.model_runs.specs.State.{RunState}
 use Rattle.model_sessions.specs.Sessions.{Counts, counts_of}
-
--- the fields of each command are what their types keep
-abbrev pub HaveValidFields : List Line → Type 0
-HaveValidFields lines = AllByRecursion (λ (line : Line). HasValidFields line.command) lines
 
 -- how many pairs were applied and reused, without a limit
 abbrev pub true_counts : RunState → Counts

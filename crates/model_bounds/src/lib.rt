@@ -1,8 +1,9 @@
 //! How many pairs a render needs at most, and what counts of a run stay below.
 #![tactic(auto)]
 
-ghost use Rattle.std.specs.Prelude.{ℕ, ◌<◌, ◌^◌, List, flat_map, length};
+ghost use Rattle.std.specs.Prelude.{ℕ, ◌<◌, ◌≤◌, ◌^◌, List, flat_map, length};
 ghost use Rattle.std.specs.List.{AllByRecursion};
+ghost use Rattle.pixel_formats.specs.Limits.{max_lines};
 ghost use Rattle.plane_rect.specs.Rectangle.{InLimits, Rectangle};
 ghost use Rattle.model_graphs.specs.declared.node.NodeFact.{NodeFact};
 ghost use Rattle.model_graphs.specs.Laws.{IsBoxed};
@@ -19,7 +20,7 @@ ghost use Rattle.model_runs.specs.State.{Effect as EffectData, Numbers, first_st
 ghost use Rattle.outside_io.specs.Files.{Files};
 ghost use Rattle.script_read.specs.IsScript.{IsScript};
 ghost use Rattle.script_read.specs.declared.command.Line.{Line};
-ghost use Rattle.model_bounds.specs.Counts.{HasTrueCounts, HaveValidFields};
+ghost use Rattle.model_bounds.specs.Counts.{HasTrueCounts};
 
 /// States that what a request needs of valid nodes are fewer than 2^32 pairs: of each strip whatever
 /// the request, and of all strips of a request in limits.
@@ -40,13 +41,19 @@ pub fn renders_need_few_pairs<Op>()
         length (needed_pairs scene.nodes (render_need meanings scene name level rectangle)) < 2 ^ 32 }
 {}
 
-/// States that the counts of applied and reused pairs are below 2^64 in each state that a run of a
-/// script reaches, and in its last one, so that the counts that are reported are the true ones.
+/// States that a script has at most 10,000 lines.
+pub fn scripts_have_few_lines()
+    ensures { (lines : List Line) → IsScript lines → length lines ≤ max_lines }
+{}
+
+/// States that the counts of applied and reused pairs are below 2^64 in each state that a run of at
+/// most 10,000 lines reaches, and in its last one, so that the counts that are reported are the true
+/// ones.
 pub fn counts_stay_below()
     ensures each { (capacity : ℕ) (numbers : Numbers) (files : Files) (lines : List Line) →
-        IsScript lines → HaveValidFields lines →
+        length lines ≤ max_lines →
         AllByRecursion (λ (effect : EffectData). HasTrueCounts effect.next) (effects_of capacity numbers files lines) }
     ensures last { (capacity : ℕ) (numbers : Numbers) (files : Files) (lines : List Line) →
-        IsScript lines → HaveValidFields lines →
+        length lines ≤ max_lines →
         HasTrueCounts (state_after (first_state numbers) (effects_of capacity numbers files lines)) }
 {}
