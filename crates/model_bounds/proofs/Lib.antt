@@ -1,0 +1,4 @@
+mod TileCounts
+mod NeedCounts
+mod ValidNodes
+mod RunCounts
