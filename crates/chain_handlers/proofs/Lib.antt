@@ -1,0 +1,2 @@
+mod NameCounts
+mod DiskPuts

@@ -1,0 +1,9 @@
+//! Tiles under names, in handlers that stand on one another.
+#![tactic(auto)]
+
+mod disk_handler;
+mod tile_handler;
+
+pub use disk_handler::{DiskHandler, SwapHandler};
+pub use swap_store::SwapRefused;
+pub use tile_handler::TileHandler;
