@@ -1,6 +1,6 @@
 //! The handler whose tiles are on a swap disk.
 
-ghost use Rattle.std.specs.Prelude.{◌≡◌, ◌≤◌, Some, IfErr, OnErr, OnOk, length};
+ghost use Rattle.std.specs.Prelude.{◌≡◌, ◌≤◌, Some, IfErr, OnErr, OnOk, length, ⊤};
 ghost use Rattle.std.specs.Option.{option_map};
 ghost use Rattle.std.specs.FinMap as map;
 ghost use Rattle.chain_owners.specs.Held.{HasLengths};
@@ -89,6 +89,10 @@ impl<D: SwapDisk> DiskHandler<D> {
 
 impl<D: SwapDisk> TileHandler for DiskHandler<D> {
     ghost in_swap = { λ tiles. disk_held tiles.store.placement (D.blocks tiles.store.disk) };
+
+    ghost full_at_get = { λ _. ⊥ };
+
+    ghost full_at_put = { λ _. ⊤ };
 
     fn has(&self, name: u64) -> bool {
         self.store.has(name)

@@ -18,6 +18,14 @@ pub trait TileHandler: ChainMeaning {
     /// What is on the swap disk, whatever is in memory.
     ghost in_swap: { Self → Held };
 
+    /// Holds where a get is refused for room: a cache holds as many tiles as it can. Without a cache no
+    /// get is.
+    ghost full_at_get: { Self → Type 0 };
+
+    /// Holds where a put is refused for room: the cache, where there is one, holds as many tiles as it
+    /// can.
+    ghost full_at_put: { Self → Type 0 };
+
     /// Returns whether a name is there.
     fn has(&self, name: u64) -> bool
         ensures { result ≡ is_some (length_of (Self.held self.now) name) };
@@ -30,8 +38,9 @@ pub trait TileHandler: ChainMeaning {
         ensures held { Self.held self.new ≡ Self.held self.old }
         ensures cause { IfErr result
             (HasSwapCause (Self.counts self.old) (Self.counts self.new) (Self.counts self.old).names) }
-        ensures full { IfErr result (ReportsRoom (Self.held self.old) (Self.store self.new)) }
-        ensures resident { IfErr result (OnFull (Self.resident self.new ≡ (Self.counts self.old).capacity)) }
+        ensures full { Self.is_valid self.old →
+            IfErr result (ReportsRoom (Self.held self.old) (Self.store self.new)) }
+        ensures resident { IfErr result (OnFull (full_at_get self.new)) }
         ensures continues { Continues (Self.counts self.old) (Self.counts self.new) }
         ensures loans { Self.loans self.new ≡ Self.loans self.old }
         ensures valid { Self.is_valid self.old → Self.is_valid self.new };
@@ -42,9 +51,9 @@ pub trait TileHandler: ChainMeaning {
         ensures unchanged { OnErr result (Self.held self.new ≡ Self.held self.old) }
         ensures cause { IfErr result (HasSwapCause (Self.counts self.old) (Self.counts self.new)
             (map.len (with_tile (Self.held self.old) name tile.now).lengths)) }
-        ensures full { IfErr result
+        ensures full { Self.is_valid self.old → IfErr result
             (ReportsRoom (with_tile (Self.held self.old) name tile.now) (Self.store self.new)) }
-        ensures resident { IfErr result (OnFull (Self.resident self.new ≡ (Self.counts self.old).capacity)) }
+        ensures resident { IfErr result (OnFull (full_at_put self.new)) }
         ensures continues { Continues (Self.counts self.old) (Self.counts self.new) }
         ensures loans { Self.loans self.new ≡ Self.loans self.old }
         ensures valid { Self.is_valid self.old → Self.is_valid self.new };
@@ -63,7 +72,8 @@ pub trait TileHandler: ChainMeaning {
         ensures held { Self.held self.new ≡ Self.held self.old }
         ensures cause { IfErr result (HasSwapCause (emptied (Self.counts self.old))
             (Self.counts self.new) (Self.counts self.old).names) }
-        ensures full { IfErr result (ReportsRoom (Self.held self.old) (Self.store self.new)) }
+        ensures full { Self.is_valid self.old →
+            IfErr result (ReportsRoom (Self.held self.old) (Self.store self.new)) }
         ensures continues { Continues (Self.counts self.old) (Self.counts self.new) }
         ensures loans { Self.loans self.new ≡ Self.loans self.old }
         ensures valid { Self.is_valid self.old → Self.is_valid self.new };

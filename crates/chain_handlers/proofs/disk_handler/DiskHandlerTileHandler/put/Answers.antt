@@ -9,7 +9,7 @@ returns-clause-cause g c =
     _ _ c.write-answer.result c.write-answer.ensures.err c.write-answer.ensures.cause
 
 pub returns-clause-full : goal.returns-clause-full
-returns-clause-full g c =
+returns-clause-full g c = λ valid.
     reported c.args.self.now.store.placement c.write-answer.new.self.store.placement c.free_runs.ensures.laws c.args.name c.args.tile.now c.bytes.ensures.size
     _ _ (g.D.SwapDisk.blocks c.args.self.now.store.disk) c.write-answer.result c.write-answer.ensures.err c.write-answer.ensures.cause
 
