@@ -90,9 +90,9 @@ impl<D: SwapDisk> DiskHandler<D> {
 impl<D: SwapDisk> TileHandler for DiskHandler<D> {
     ghost in_swap = { λ tiles. disk_held tiles.store.placement (D.blocks tiles.store.disk) };
 
-    ghost full_at_get = { λ _. ⊥ };
+    ghost full_at_get = { λ _ _. ⊥ };
 
-    ghost full_at_put = { λ _. ⊤ };
+    ghost full_at_put = { λ _ _. ⊤ };
 
     fn has(&self, name: u64) -> bool {
         self.store.has(name)

@@ -1,6 +1,6 @@
 //! Maps from names to tiles.
 
-ghost use Rattle.std.specs.Prelude.{◌≡◌, Some, IfErr, IfOk, OnErr, OnOk, IsSome, is_some};
+ghost use Rattle.std.specs.Prelude.{◌≡◌, ℕ, Some, IfErr, IfOk, OnErr, OnOk, IsSome, is_some};
 ghost use Rattle.std.specs.FinMap as map;
 ghost use Rattle.tile_cow.specs.Tile.{IsTileLength};
 ghost use Rattle.chain_owners.specs.Counts.{Continues};
@@ -18,13 +18,13 @@ pub trait TileHandler: ChainMeaning {
     /// What is on the swap disk, whatever is in memory.
     ghost in_swap: { Self → Held };
 
-    /// Holds where a get is refused for room: a cache holds as many tiles as it can. Without a cache no
-    /// get is.
-    ghost full_at_get: { Self → Type 0 };
+    /// Holds where a get is refused for room while there are so many names: a cache holds as many tiles
+    /// as it can, and there are more names. Without a cache no get is.
+    ghost full_at_get: { Self → ℕ → Type 0 };
 
-    /// Holds where a put is refused for room: the cache, where there is one, holds as many tiles as it
-    /// can.
-    ghost full_at_put: { Self → Type 0 };
+    /// Holds where a put is refused for room that would have left so many names: the cache, where there
+    /// is one, holds as many tiles as it can, which is fewer than that.
+    ghost full_at_put: { Self → ℕ → Type 0 };
 
     /// Returns whether a name is there.
     fn has(&self, name: u64) -> bool
@@ -36,11 +36,11 @@ pub trait TileHandler: ChainMeaning {
         requires known { length_of (Self.held self.old) name ≡ Some len }
         ensures read { IfOk result (Reads (Self.held self.old) name len) }
         ensures held { Self.held self.new ≡ Self.held self.old }
-        ensures cause { IfErr result
-            (HasSwapCause (Self.counts self.old) (Self.counts self.new) (Self.counts self.old).names) }
+        ensures cause { IfErr result (HasSwapCause (emptied (Self.counts self.old))
+            (Self.counts self.new) (Self.counts self.old).names) }
         ensures full { Self.is_valid self.old →
             IfErr result (ReportsRoom (Self.held self.old) (Self.store self.new)) }
-        ensures resident { IfErr result (OnFull (full_at_get self.new)) }
+        ensures resident { IfErr result (OnFull (full_at_get self.new (Self.counts self.old).names)) }
         ensures continues { Continues (Self.counts self.old) (Self.counts self.new) }
         ensures loans { Self.loans self.new ≡ Self.loans self.old }
         ensures valid { Self.is_valid self.old → Self.is_valid self.new };
@@ -49,11 +49,12 @@ pub trait TileHandler: ChainMeaning {
     fn put(&mut self, name: u64, tile: &Tile) -> Result<(), SwapRefused>
         ensures put { OnOk result (Self.held self.new ≡ with_tile (Self.held self.old) name tile.now) }
         ensures unchanged { OnErr result (Self.held self.new ≡ Self.held self.old) }
-        ensures cause { IfErr result (HasSwapCause (Self.counts self.old) (Self.counts self.new)
+        ensures cause { IfErr result (HasSwapCause (emptied (Self.counts self.old)) (Self.counts self.new)
             (map.len (with_tile (Self.held self.old) name tile.now).lengths)) }
         ensures full { Self.is_valid self.old → IfErr result
             (ReportsRoom (with_tile (Self.held self.old) name tile.now) (Self.store self.new)) }
-        ensures resident { IfErr result (OnFull (full_at_put self.new)) }
+        ensures resident { IfErr result
+            (OnFull (full_at_put self.new (map.len (with_tile (Self.held self.old) name tile.now).lengths))) }
         ensures continues { Continues (Self.counts self.old) (Self.counts self.new) }
         ensures loans { Self.loans self.new ≡ Self.loans self.old }
         ensures valid { Self.is_valid self.old → Self.is_valid self.new };
