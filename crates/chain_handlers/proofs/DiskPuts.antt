@@ -21,7 +21,7 @@ use Rattle.swap_store.proofs.RunLists.{IsRunList-below}
 use Rattle.swap_store.proofs.Windows.{few_names_leave_room}
 use Rattle.swap_store.specs.declared.block_map.Extent.{Extent}
 use Rattle.chain_handlers.specs.DiskTiles.{IsDisk, disk_counts, disk_held, disk_room}
-use Rattle.chain_handlers.specs.Tiles.{ReportsRoom}
+use Rattle.chain_handlers.specs.Tiles.{ReportsPut}
 use Rattle.chain_handlers.proofs.NameCounts.{len-inserted, len-map_values, len-some}
 
 pub disk_valid : (p : Placement) (blocks : Option Blocks) → IsPlacement p → HasLengths (disk_held p blocks) → IsDisk p blocks
@@ -87,10 +87,10 @@ module _ (old new : Placement) (same : new ≡ old) (laws : IsPlacement new) (na
   put_cause faults faults' refusals.NoMemory cause = tt
 
   pub put_reports : (faults faults' : ℕ) (before : Option Blocks) (refused : SwapRefused) → HasPutCause old.free (length tile) faults faults' refused
-      → ReportsRoom (with_tile (disk_held old before) name tile) (Some (disk_room new)) refused
+      → ReportsPut (disk_held old before) tile (Some (disk_room new)) refused
   put_reports faults faults' before refusals.SwapFault cause = tt
   put_reports faults faults' before (refusals.SwapFull needed found) cause = record {
-    tile = record { name = name; len = length tile; there = get_here (lengths_of old.extents) name (length tile); blocks = cause.0 };
+    tile = inr cause.0;
     longest = cause.1 ∙ ap (λ (p : Placement). longest p.free) (sym same);
   }
   put_reports faults faults' before refusals.NoMemory cause = tt
@@ -102,7 +102,7 @@ module _ (old new : Placement) (laws : IsPlacement new) (name : ℕ) (tile : Lis
   caused (Err refused) same cause = put_cause old new same laws name tile size faults faults' refused cause
 
   pub reported : (before : Option Blocks) (answer : Result (Unit {0}) SwapRefused) → OnErr answer (new ≡ old) → IfErr answer (HasPutCause old.free (length tile) faults faults')
-      → IfErr answer (ReportsRoom (with_tile (disk_held old before) name tile) (Some (disk_room new)))
+      → IfErr answer (ReportsPut (disk_held old before) tile (Some (disk_room new)))
   reported before (Ok done) same cause = tt
   reported before (Err refused) same cause = put_reports old new same laws name tile size faults faults' before refused cause
 

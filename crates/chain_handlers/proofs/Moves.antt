@@ -1,11 +1,15 @@
 -- A tile that moves from a cache to what is below it.
-use Rattle.std.proofs.Common.{◌≡◌, ℕ, ◌+◌, ◌-◌, ◌<◌, ◌≤◌, eqb, List, [], ◌∷◌, ◌++◌, length, take, Option, Some, None, is_some, true≢false, false, IfErr, Result, Ok, Err, refl, sym, ap, ◌∙◌, subst, inl, inr, length-take, arith}
+use Rattle.std.proofs.Common.{◌≡◌, ℕ, ◌+◌, ◌-◌, ◌<◌, ◌≤◌, eqb, List, [], ◌∷◌, ◌++◌, length, take, Option, Some, None, is_some, true≢false, false, cond, IfErr, Result, Ok, Err, refl, sym, ap, ◌∙◌, subst, inl, inr, length-take, arith}
 use Rattle.std.specs.Cmp.{nat_eq_equiv}
 use Rattle.std.specs.FinMap as map
+use Rattle.std.specs.FinMap.{len-insert}
 use Rattle.std.specs.List.{IsDistinct}
-use Rattle.std.specs.Map.{keys_of, lookup}
+use Rattle.std.specs.Map.{keys_of, lookup, remove_entry}
 use Rattle.std.proofs.lemmas.Bool.{cases_eq, eq-eqb, ne_eqb}
-use Rattle.std.proofs.lemmas.Map.Entries.{lookup_from_place}
+use Rattle.std.proofs.lemmas.Cmp.{nat_cmp_total}
+use Rattle.std.proofs.lemmas.Map.{lookup-none}
+use Rattle.std.proofs.lemmas.Map.Entries.{lookup_from_place, none_past_head}
+use Rattle.std.proofs.lemmas.Map.Keys.{IsDistinct-tail}
 use Rattle.lru.specs.LruCache.{last_entry, lru_cache, promoted, put_entries}
 use Rattle.lru.proofs.CallerLemmas.{lookup-put_entries}
 use Rattle.chain_owners.specs.Counts.{Counts}
@@ -17,8 +21,8 @@ use Rattle.swap_store.specs.declared.refusal.SwapRefused.TheVariants as refusals
 use Rattle.swap_store.specs.Cause.{HasSwapCause}
 use Rattle.swap_store.proofs.Causes.{cause-more}
 use Rattle.chain_handlers.specs.Overlay.{IsCache, overlay}
-use Rattle.chain_handlers.specs.Tiles.{ReportsRoom}
-use Rattle.chain_handlers.proofs.Overlays.{names-below, overlay-has, overlay-hides, overlay-last, overlay-promoted, overlay-put, split_last}
+use Rattle.chain_handlers.specs.Tiles.{ReportsPut, ReportsRoom}
+use Rattle.chain_handlers.proofs.Overlays.{names-below, overlay-has, overlay-hides, overlay-lacks, overlay-last, overlay-promoted, overlay-put, overlay-removed, overlay-shadow, split_last}
 
 -- a tile of one map is one of another that has its lengths
 pub reports-above : (inner outer : Held) (store : Option Room) (refused : SwapRefused)
@@ -73,9 +77,21 @@ module _ (es : List (ℕ × List ℕ)) (name : ℕ) (bytes : List ℕ) (below : 
   moved-cause old now refused = cause-more old now _ _ refused names-moved
 
   pub moved-report : (capacity : ℕ) (store : Option Room) (refused : SwapRefused) → IsDistinct eqb (keys_of es) → IsCache es capacity below
-      → ReportsRoom (with_tile below name bytes) store refused → ReportsRoom (overlay es below) store refused
-  moved-report capacity store refused apart laws =
-      reports-above (with_tile below name bytes) (overlay es below) store refused (agrees-moved apart laws.agrees)
+      → ReportsPut below bytes store refused → ReportsRoom (overlay es below) store refused
+  moved-report capacity store refusals.SwapFault apart laws is = tt
+  moved-report capacity store (refusals.SwapFull needed found) apart laws is = record {
+    tile = elim is.tile [
+      | inl tile ↦ record { name = tile.name; len = tile.len; there = laws.agrees tile.name tile.len tile.there; blocks = tile.blocks }
+      | inr own ↦ record {
+        name = name;
+        len = length bytes;
+        there = (overlay-has name es bytes below (lookup_from_place nat_eq_equiv es (length es - 1) name bytes apart last)).0;
+        blocks = own;
+      }
+    ];
+    longest = is.longest;
+  }
+  moved-report capacity store refusals.NoMemory apart laws is = tt
 
 pub is-none : {X : Type 0} (o : Option X) → is_some o ≡ false → o ≡ None
 is-none None is = refl
@@ -111,3 +127,44 @@ promoted-laws es capacity name below laws fits = record {
   fits = fits;
   agrees = λ q len has. ap (λ held. length_of held q) (overlay-promoted name es below) ∙ laws.agrees q len has;
 }
+
+module _ (es : List (ℕ × List ℕ)) (capacity name : ℕ) (below new : Held) (apart : IsDistinct eqb (keys_of es)) (is : new ≡ without_tile below name) where
+  pub removed-held : overlay (remove_entry (eqb name) es) new ≡ without_tile (overlay es below) name
+  removed-held = ap (overlay (remove_entry (eqb name) es)) is ∙ overlay-removed name es below apart
+
+  pub removed-laws : IsCache es capacity below → length (remove_entry (eqb name) es) ≤ capacity → IsCache (remove_entry (eqb name) es) capacity new
+  removed-laws laws fits = record {
+    fits = fits;
+    agrees = λ q len has. elim (cases_eq q name) [
+      | inl same ↦ absurd (none-some len (sym (ap (length_of (without_tile below name)) same ∙ get_gone below.lengths name) ∙ sym (ap (λ held. length_of held q) is) ∙ has))
+      | inr ne ↦ ap (λ held. length_of held q) removed-held ∙ get_left (overlay es below).lengths name q ne
+          ∙ laws.agrees q len (sym (get_left below.lengths name q ne) ∙ sym (ap (λ held. length_of held q) is) ∙ has)
+    ];
+  }
+    where
+      none-some : (len : ℕ) → None ≡ Some len → ⊥
+      none-some len wrong = cc
+
+-- ---- names of a full cache
+
+step : (es : List (ℕ × List ℕ)) (name : ℕ) (bytes : List ℕ) (below : Held) → lookup (eqb name) es ≡ None
+    → length es ≤ map.len (overlay es (without_tile below name)).lengths → length es + 1 ≤ map.len (with_tile (overlay es below) name bytes).lengths
+step es name bytes below none le =
+    let missing : map.get (overlay es (without_tile below name)).lengths name ≡ None =
+        (overlay-lacks name es (without_tile below name) none).0 ∙ get_gone below.lengths name in
+    let more : map.len (with_tile (overlay es (without_tile below name)) name bytes).lengths ≡ map.len (overlay es (without_tile below name)).lengths + 1 =
+        len-insert nat_cmp_total (overlay es (without_tile below name)).lengths name (length bytes)
+        ∙ ap (λ o. cond (is_some o) (map.len (overlay es (without_tile below name)).lengths) (map.len (overlay es (without_tile below name)).lengths + 1)) missing in
+    omega (arith, le, more, ap (λ (h : Held). map.len h.lengths) (overlay-shadow name es bytes below))
+
+distinct-names : (es : List (ℕ × List ℕ)) (below : Held) → IsDistinct eqb (keys_of es) → length es ≤ map.len (overlay es below).lengths
+distinct-names [] below apart = omega arith
+distinct-names (e ∷ es) below apart =
+    omega (arith, step es e.0 e.1 below
+    (lookup-none (eqb e.0) es (none_past_head nat_eq_equiv e.0 e es apart (nat_eq_equiv.refl e.0)))
+    (distinct-names es (without_tile below e.0) (IsDistinct-tail eqb e.0 (keys_of es) apart)))
+
+-- a name that isn't in memory is one more than those that are
+pub one-more-name : (es : List (ℕ × List ℕ)) (name : ℕ) (bytes : List ℕ) (below : Held) → IsDistinct eqb (keys_of es) → lookup (eqb name) es ≡ None
+    → length es + 1 ≤ map.len (with_tile (overlay es below) name bytes).lengths
+one-more-name es name bytes below apart none = step es name bytes below none (distinct-names es (without_tile below name) apart)

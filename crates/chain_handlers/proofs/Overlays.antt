@@ -2,8 +2,13 @@
 use Rattle.std.proofs.Common.{◌≡◌, ◌≢◌, ℕ, ◌+◌, ◌-◌, ◌<◌, ◌≤◌, Bool, true, false, true≢false, cond, eqb, zero, suc, slice_get, take_all, List, [], ◌∷◌, ◌++◌, length, take, Option, Some, None, IfSome, is_some, refl, sym, ap, ap₂, ◌∙◌, inl, inr, arith}
 use Rattle.std.specs.Option.{option_and_then, option_map, option_map_or}
 use Rattle.std.specs.FinMap as map
-use Rattle.std.specs.Map.{lookup, lookup_entry, remove_entry}
+use Rattle.std.specs.Cmp.{nat_eq_equiv}
+use Rattle.std.specs.List.{IsDistinct}
+use Rattle.std.specs.Map.{keys_of, lookup, lookup_entry, remove_entry}
 use Rattle.std.proofs.lemmas.Bool.{cases_eq, eq-eqb, ne_eqb}
+use Rattle.std.proofs.lemmas.Map.{lookup-none}
+use Rattle.std.proofs.lemmas.Map.Entries.{none_past_head}
+use Rattle.std.proofs.lemmas.Map.Keys.{IsDistinct-tail}
 use Rattle.lru.specs.LruCache.{last_entry, lru_cache, promoted, put_entries}
 use Rattle.chain_owners.specs.Held.{Held, bytes_of, length_of, with_tile, without_tile}
 use Rattle.chain_owners.specs.Values.{Named}
@@ -109,7 +114,7 @@ module _ (name : ℕ) where
 
 
   -- of a name in memory, nothing below is seen
-  overlay-shadow : (es : Entries) (bytes : List ℕ) (below : Held)
+  pub overlay-shadow : (es : Entries) (bytes : List ℕ) (below : Held)
       → with_tile (overlay es (without_tile below name)) name bytes ≡ with_tile (overlay es below) name bytes
   overlay-shadow [] bytes below = put-fill below name bytes
   overlay-shadow (f ∷ es) bytes below = elim (cases_eq f.0 name) [
@@ -167,3 +172,28 @@ module _ (name : ℕ) where
           ap (λ n. with_tile (overlay (remove_entry (eqb name) es) below) n bytes) found.0
           ∙ sym (put-twice (overlay (remove_entry (eqb name) es) below) name e.1 bytes)
           ∙ ap (λ held. with_tile held name bytes) found.1
+
+  -- taken out where it isn't in memory, a name is taken out below
+  pub overlay-out : (es : Entries) (below : Held) → lookup (eqb name) es ≡ None
+      → overlay es (without_tile below name) ≡ without_tile (overlay es below) name
+  overlay-out [] below is = refl
+  overlay-out (f ∷ es) below is = elim (cases_eq name f.0) [
+    | inl same ↦ absurd (let no : Some f.1 ≡ None = rw (eq-eqb name f.0 same) at is in cc)
+    | inr ne ↦
+        ap (λ held. with_tile held f.0 f.1) (overlay-out es below (rw (ne_eqb name f.0 ne) at is))
+        ∙ sym (out-swap (overlay es below) name f.0 f.1 ne)
+  ]
+
+  -- a name that is taken out in memory and below is gone
+  pub overlay-removed : (es : Entries) (below : Held) → IsDistinct eqb (keys_of es)
+      → overlay (remove_entry (eqb name) es) (without_tile below name) ≡ without_tile (overlay es below) name
+  overlay-removed [] below apart = refl
+  overlay-removed (f ∷ es) below apart = elim (cases_eq name f.0) [
+    | inl same ↦
+        let none = lookup-none (eqb name) es (none_past_head nat_eq_equiv name f es apart (eq-eqb name f.0 same)) in
+        rw (eq-eqb name f.0 same)
+        (overlay-out es below none ∙ sym (out-put (overlay es below) name f.1)
+        ∙ ap (λ n. without_tile (with_tile (overlay es below) n f.1) name) same)
+    | inr ne ↦ rw (ne_eqb name f.0 ne)
+        (ap (λ held. with_tile held f.0 f.1) (overlay-removed es below (IsDistinct-tail eqb f.0 (keys_of es) apart)) ∙ sym (out-swap (overlay es below) name f.0 f.1 ne))
+  ]

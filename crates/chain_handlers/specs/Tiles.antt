@@ -1,5 +1,5 @@
 -- What calls on tiles under names answer.
-use Rattle.std.specs.Prelude.{◌≡◌, ℕ, List, Option, Some, None, IfSome, ⊤, length, replicate}
+use Rattle.std.specs.Prelude.{◌≡◌, ◌⊎◌, ℕ, List, Option, Some, None, IfSome, ⊤, length, replicate}
 use Rattle.chain_owners.specs.Counts.{Counts}
 use Rattle.chain_owners.specs.Held.{Held, bytes_of, length_of}
 use Rattle.chain_owners.specs.Room.{Room}
@@ -27,7 +27,7 @@ IsLongest None found = ⊥
 IsLongest (Some room) found = found ≡ longest room.free
 
 -- The two numbers of a swap without room: the blocks of one of these tiles, and the longest free run
--- as the call leaves the store. It is answered only where the cache holds as many tiles as it can.
+-- as the call leaves the store.
 pub record HasNumbers (held : Held) (store : Option Room) (needed found : ℕ) : Type 0 where
   pub tile : IsTileOf held needed
   pub longest : IsLongest store found
@@ -37,6 +37,16 @@ abbrev pub ReportsRoom : Held → Option Room → SwapRefused → Type 0
 ReportsRoom held store refusals.SwapFault = ⊤
 ReportsRoom held store (refusals.SwapFull needed found) = HasNumbers held store needed found
 ReportsRoom held store refusals.NoMemory = ⊤
+
+-- The same of a call that puts these bytes: the blocks may be theirs.
+pub record HasPutNumbers (held : Held) (bytes : List ℕ) (store : Option Room) (needed found : ℕ) : Type 0 where
+  pub tile : IsTileOf held needed ⊎ (needed ≡ blocks_for (length bytes))
+  pub longest : IsLongest store found
+
+abbrev pub ReportsPut : Held → List ℕ → Option Room → SwapRefused → Type 0
+ReportsPut held bytes store refusals.SwapFault = ⊤
+ReportsPut held bytes store (refusals.SwapFull needed found) = HasPutNumbers held bytes store needed found
+ReportsPut held bytes store refusals.NoMemory = ⊤
 
 -- a refusal for room comes only where this holds
 abbrev pub OnFull : Type 0 → SwapRefused → Type 0

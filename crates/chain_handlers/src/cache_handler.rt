@@ -151,11 +151,11 @@ impl<H: TileHandler + Drop> CacheHandler<H> {
     }
 
     /// Keeps a tile in memory under a name, for which there is room, and nowhere else.
-    fn insert(&mut self, name: u64, tile: Tile) -> Result<(), NoMemory>
+    fn insert(&mut self, name: u64, tile: &Tile) -> Result<(), NoMemory>
         requires { lookup (nat_eq name) self.old.tiles.entries ≡ None
             → length self.old.tiles.entries < self.old.tiles.cap }
         ensures held { OnOk result (overlay self.new.tiles.entries (H.held self.new.below)
-            ≡ with_tile (overlay self.old.tiles.entries (H.held self.old.below)) name tile) }
+            ≡ with_tile (overlay self.old.tiles.entries (H.held self.old.below)) name tile.now) }
         ensures tiles { OnErr result (self.new.tiles ≡ self.old.tiles) }
         ensures below { OnErr result (self.new.below ≡ self.old.below) }
         ensures capacity { self.new.tiles.cap ≡ self.old.tiles.cap }
@@ -165,7 +165,8 @@ impl<H: TileHandler + Drop> CacheHandler<H> {
         ensures laws { IsCache self.old.tiles.entries self.old.tiles.cap (H.held self.old.below) →
             IsCache self.new.tiles.entries self.new.tiles.cap (H.held self.new.below) }
     {
-        self.tiles.put(name, tile)?;
+        let shared = tile.share(self.alloc)?;
+        self.tiles.put(name, shared)?;
         self.forget_below(name);
         self.tiles.len();
         Ok(())
@@ -189,6 +190,53 @@ impl<H: TileHandler + Drop> CacheHandler<H> {
         self.tiles.promote(&name);
         self.tiles.len();
         Ok(Some(shared))
+    }
+
+    /// Makes room in memory for a name, where it isn't there yet.
+    fn make_room_for(&mut self, name: u64) -> Result<(), SwapRefused>
+        ensures held { overlay self.new.tiles.entries (H.held self.new.below)
+            ≡ overlay self.old.tiles.entries (H.held self.old.below) }
+        ensures room { OnOk result (lookup (nat_eq name) self.new.tiles.entries ≡ None
+            → length self.new.tiles.entries < self.new.tiles.cap) }
+        ensures crowded { OnErr result (length self.new.tiles.entries ≡ self.new.tiles.cap) }
+        ensures absent { OnErr result (lookup (nat_eq name) self.new.tiles.entries ≡ None) }
+        ensures apart { OnErr result (IsDistinct nat_eq (keys_of self.new.tiles.entries)) }
+        ensures capacity { self.new.tiles.cap ≡ self.old.tiles.cap }
+        ensures fewer { lookup (nat_eq name) self.old.tiles.entries ≡ None
+            → lookup (nat_eq name) self.new.tiles.entries ≡ None }
+        ensures cause { IfErr result (HasSwapCause (emptied (H.counts self.old.below)) (H.counts self.new.below)
+            (map.len (overlay self.old.tiles.entries (H.held self.old.below)).lengths)) }
+        ensures full { H.is_valid self.old.below →
+            IsCache self.old.tiles.entries self.old.tiles.cap (H.held self.old.below) → IfErr result
+            (ReportsRoom (overlay self.old.tiles.entries (H.held self.old.below)) (H.store self.new.below)) }
+        ensures continues { Continues (H.counts self.old.below) (H.counts self.new.below) }
+        ensures loans { H.loans self.new.below ≡ H.loans self.old.below }
+        ensures valid { H.is_valid self.old.below → H.is_valid self.new.below }
+        ensures laws { IsCache self.old.tiles.entries self.old.tiles.cap (H.held self.old.below) →
+            IsCache self.new.tiles.entries self.new.tiles.cap (H.held self.new.below) }
+    {
+        if self.tiles.contains(&name) {
+            return Ok(());
+        }
+        self.make_room()?;
+        Ok(())
+    }
+
+    /// Takes a name out, in memory and below.
+    fn remove(&mut self, name: u64)
+        ensures held { overlay self.new.tiles.entries (H.held self.new.below)
+            ≡ without_tile (overlay self.old.tiles.entries (H.held self.old.below)) name }
+        ensures capacity { self.new.tiles.cap ≡ self.old.tiles.cap }
+        ensures continues { Continues (H.counts self.old.below) (H.counts self.new.below) }
+        ensures loans { H.loans self.new.below ≡ H.loans self.old.below }
+        ensures valid { H.is_valid self.old.below → H.is_valid self.new.below }
+        ensures laws { IsCache self.old.tiles.entries self.old.tiles.cap (H.held self.old.below) →
+            IsCache self.new.tiles.entries self.new.tiles.cap (H.held self.new.below) }
+    {
+        self.tiles.len();
+        self.tiles.pop(&name);
+        self.forget_below(name);
+        self.tiles.len();
     }
 
     /// Gives the handler below back, with every tile that it has; those in memory are lost.

@@ -6,7 +6,7 @@ ghost use Rattle.tile_cow.specs.Tile.{IsTileLength};
 ghost use Rattle.chain_owners.specs.Counts.{Continues};
 ghost use Rattle.chain_owners.specs.Held.{Held, length_of, with_tile, without_tile};
 ghost use Rattle.swap_store.specs.Cause.{HasSwapCause};
-ghost use Rattle.chain_handlers.specs.Tiles.{OnFull, Reads, ReportsRoom, emptied};
+ghost use Rattle.chain_handlers.specs.Tiles.{OnFull, Reads, ReportsPut, ReportsRoom, emptied};
 
 use chain_owners::ChainMeaning;
 use swap_store::SwapRefused;
@@ -52,7 +52,7 @@ pub trait TileHandler: ChainMeaning {
         ensures cause { IfErr result (HasSwapCause (emptied (Self.counts self.old)) (Self.counts self.new)
             (map.len (with_tile (Self.held self.old) name tile.now).lengths)) }
         ensures full { Self.is_valid self.old → IfErr result
-            (ReportsRoom (with_tile (Self.held self.old) name tile.now) (Self.store self.new)) }
+            (ReportsPut (Self.held self.old) tile.now (Self.store self.new)) }
         ensures resident { IfErr result
             (OnFull (full_at_put self.new (map.len (with_tile (Self.held self.old) name tile.now).lengths))) }
         ensures continues { Continues (Self.counts self.old) (Self.counts self.new) }
