@@ -1,15 +1,14 @@
 -- What a disk holds after a tile was put on it, and why it may find no room.
-use Rattle.std.proofs.Common.{◌≡◌, ℕ, ◌+◌, ◌*◌, ◌<◌, ◌≤◌, ◌⊎◌, List, length, Option, Some, None, IsSome, Result, Ok, Err, IfErr, OnOk, OnErr, ◌^◌, refl, sym, ap, ap₂, ◌∙◌, inl, inr, subst, arith}
+use Rattle.std.proofs.Common.{◌≡◌, ℕ, ◌+◌, ◌*◌, ◌<◌, ◌≤◌, List, length, Option, Some, None, IsSome, Result, Ok, Err, IfErr, OnOk, OnErr, ◌^◌, sym, ap, ap₂, ◌∙◌, inl, inr, subst, arith}
 use Rattle.std.specs.Option.{option_map}
 use Rattle.std.specs.FinMap as map
 use Rattle.std.proofs.lemmas.Bool.{cases_lt}
 use Rattle.tile_cow.specs.Tile.{IsTileLength}
 use Rattle.outside_io.specs.Swap.{Blocks}
-use Rattle.chain_owners.specs.Held.{HasLengths, Held, with_tile, without_tile}
+use Rattle.chain_owners.specs.Held.{HasLengths}
 use Rattle.chain_owners.specs.Values.{Named}
 use Rattle.chain_owners.proofs.HeldLaws.{lengths-put, lengths-removed}
 use Rattle.chain_owners.proofs.MapValues.{get-map_values}
-use Rattle.chain_owners.proofs.Names.{get_here}
 use Rattle.swap_store.specs.declared.refusal.SwapRefused.{SwapRefused}
 use Rattle.swap_store.specs.declared.refusal.SwapRefused.TheVariants as refusals
 use Rattle.swap_store.specs.Cause.{HasSwapCause}

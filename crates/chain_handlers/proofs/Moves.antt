@@ -1,5 +1,5 @@
 -- A tile that moves from a cache to what is below it.
-use Rattle.std.proofs.Common.{◌≡◌, ℕ, ◌+◌, ◌-◌, ◌<◌, ◌≤◌, eqb, List, [], ◌∷◌, ◌++◌, length, take, Option, Some, None, is_some, true≢false, false, cond, IfErr, Result, Ok, Err, refl, sym, ap, ◌∙◌, subst, inl, inr, length-take, arith}
+use Rattle.std.proofs.Common.{◌≡◌, ℕ, ◌+◌, ◌-◌, ◌<◌, ◌≤◌, eqb, List, [], ◌∷◌, ◌++◌, length, take, Option, Some, None, is_some, true≢false, false, cond, IfSome, refl, sym, ap, ◌∙◌, subst, inl, inr, length-take, arith}
 use Rattle.std.specs.Cmp.{nat_eq_equiv}
 use Rattle.std.specs.FinMap as map
 use Rattle.std.specs.FinMap.{len-insert}
@@ -12,16 +12,17 @@ use Rattle.std.proofs.lemmas.Map.Entries.{lookup_from_place, none_past_head}
 use Rattle.std.proofs.lemmas.Map.Keys.{IsDistinct-tail}
 use Rattle.lru.specs.LruCache.{last_entry, lru_cache, promoted, put_entries}
 use Rattle.lru.proofs.CallerLemmas.{lookup-put_entries}
-use Rattle.chain_owners.specs.Counts.{Counts}
-use Rattle.chain_owners.specs.Held.{Held, length_of, with_tile, without_tile}
+use Rattle.chain_owners.specs.Counts.{Continues, Counts}
+use Rattle.chain_owners.specs.Held.{Held, bytes_of, length_of, with_tile, without_tile}
 use Rattle.chain_owners.specs.Room.{Room}
 use Rattle.chain_owners.proofs.Names.{get_elsewhere, get_gone, get_here, get_left}
 use Rattle.swap_store.specs.declared.refusal.SwapRefused.{SwapRefused}
 use Rattle.swap_store.specs.declared.refusal.SwapRefused.TheVariants as refusals
 use Rattle.swap_store.specs.Cause.{HasSwapCause}
-use Rattle.swap_store.proofs.Causes.{cause-more}
+use Rattle.swap_store.proofs.Causes.{cause-before, cause-more}
 use Rattle.chain_handlers.specs.Overlay.{IsCache, overlay}
-use Rattle.chain_handlers.specs.Tiles.{ReportsPut, ReportsRoom}
+use Rattle.chain_handlers.specs.Tiles.{OnFull, Reads, ReportsPut, ReportsRoom, emptied}
+use Rattle.chain_handlers.proofs.NameCounts.{len-inserted}
 use Rattle.chain_handlers.proofs.Overlays.{names-below, overlay-has, overlay-hides, overlay-lacks, overlay-last, overlay-promoted, overlay-put, overlay-removed, overlay-shadow, split_last}
 
 -- a tile of one map is one of another that has its lengths
@@ -151,20 +152,68 @@ step : (es : List (ℕ × List ℕ)) (name : ℕ) (bytes : List ℕ) (below : He
     → length es ≤ map.len (overlay es (without_tile below name)).lengths → length es + 1 ≤ map.len (with_tile (overlay es below) name bytes).lengths
 step es name bytes below none le =
     let missing : map.get (overlay es (without_tile below name)).lengths name ≡ None =
-        (overlay-lacks name es (without_tile below name) none).0 ∙ get_gone below.lengths name in
+    (overlay-lacks name es (without_tile below name) none).0 ∙ get_gone below.lengths name in
     let more : map.len (with_tile (overlay es (without_tile below name)) name bytes).lengths ≡ map.len (overlay es (without_tile below name)).lengths + 1 =
-        len-insert nat_cmp_total (overlay es (without_tile below name)).lengths name (length bytes)
-        ∙ ap (λ o. cond (is_some o) (map.len (overlay es (without_tile below name)).lengths) (map.len (overlay es (without_tile below name)).lengths + 1)) missing in
+    len-insert nat_cmp_total (overlay es (without_tile below name)).lengths name (length bytes)
+    ∙ ap (λ o. cond (is_some o) (map.len (overlay es (without_tile below name)).lengths) (map.len (overlay es (without_tile below name)).lengths + 1)) missing in
     omega (arith, le, more, ap (λ (h : Held). map.len h.lengths) (overlay-shadow name es bytes below))
 
 distinct-names : (es : List (ℕ × List ℕ)) (below : Held) → IsDistinct eqb (keys_of es) → length es ≤ map.len (overlay es below).lengths
 distinct-names [] below apart = omega arith
 distinct-names (e ∷ es) below apart =
-    omega (arith, step es e.0 e.1 below
-    (lookup-none (eqb e.0) es (none_past_head nat_eq_equiv e.0 e es apart (nat_eq_equiv.refl e.0)))
-    (distinct-names es (without_tile below e.0) (IsDistinct-tail eqb e.0 (keys_of es) apart)))
+    omega (
+      arith,
+      step es e.0 e.1 below
+          (lookup-none (eqb e.0) es (none_past_head nat_eq_equiv e.0 e es apart (nat_eq_equiv.refl e.0)))
+          (distinct-names es (without_tile below e.0) (IsDistinct-tail eqb e.0 (keys_of es) apart)),
+    )
 
 -- a name that isn't in memory is one more than those that are
 pub one-more-name : (es : List (ℕ × List ℕ)) (name : ℕ) (bytes : List ℕ) (below : Held) → IsDistinct eqb (keys_of es) → lookup (eqb name) es ≡ None
     → length es + 1 ≤ map.len (with_tile (overlay es below) name bytes).lengths
 one-more-name es name bytes below apart none = step es name bytes below none (distinct-names es (without_tile below name) apart)
+
+-- what the room for a tile that is put reports, and why it isn't there
+pub put-report : (held : Held) (bytes : List ℕ) (store : Option Room) (refused : SwapRefused) → ReportsRoom held store refused → ReportsPut held bytes store refused
+put-report held bytes store refusals.SwapFault is = tt
+put-report held bytes store (refusals.SwapFull needed found) is = record { tile = inl is.tile; longest = is.longest }
+put-report held bytes store refusals.NoMemory is = tt
+
+pub on-full : (P : Type 0) (refused : SwapRefused) → P → OnFull P refused
+on-full P refusals.SwapFault p = tt
+on-full P (refusals.SwapFull needed found) p = p
+on-full P refusals.NoMemory p = tt
+
+pub put-cause : (held : Held) (name : ℕ) (bytes : List ℕ) (old now : Counts) (refused : SwapRefused) → HasSwapCause old now (map.len held.lengths) refused
+    → HasSwapCause old now (map.len (with_tile held name bytes).lengths) refused
+put-cause held name bytes old now refused = cause-more old now _ _ refused (len-inserted held.lengths name (length bytes))
+
+-- what excuses a refusal excuses it also where other calls came before
+pub cause-since : (first second last : Counts) (names : ℕ) (refused : SwapRefused) → Continues first second
+    → HasSwapCause (emptied second) last names refused → HasSwapCause (emptied first) last names refused
+cause-since first second last names refused continues =
+    cause-before (emptied first) (emptied second) last second.names names refused (record {
+      continues = record { used = continues.used; capacity = refl; later = continues.later };
+      names = omega arith;
+    })
+
+-- a name that is there, but not in memory, is one more than those that are
+pub one-of-more : (es : List (ℕ × List ℕ)) (name len : ℕ) (below : Held) → IsDistinct eqb (keys_of es) → lookup (eqb name) es ≡ None
+    → length_of (overlay es below) name ≡ Some len → length es + 1 ≤ map.len (overlay es below).lengths
+one-of-more es name len below apart none known =
+    let same : map.len (with_tile (overlay es below) name []).lengths ≡ map.len (overlay es below).lengths =
+    len-insert nat_cmp_total (overlay es below).lengths name 0
+    ∙ ap (λ o. cond (is_some o) (map.len (overlay es below).lengths) (map.len (overlay es below).lengths + 1)) known in
+    omega (arith, one-more-name es name [] below apart none, same)
+
+-- a tile that is read below is read
+pub reads-above : (es : List (ℕ × List ℕ)) (name len : ℕ) (tile : List ℕ) (below outer : Held) → overlay es below ≡ outer
+    → lookup (eqb name) es ≡ None → length_of outer name ≡ Some len → Reads below name len tile → Reads outer name len tile
+reads-above es name len tile below outer is none known read = record {
+  length = read.length;
+  bytes = subst (λ o. IfSome o (λ b. tile ≡ b)) (sym (overlay-lacks name es below none).1 ∙ ap (λ held. bytes_of held name) is) read.bytes;
+  absent = λ missing. absurd (some-none (sym known ∙ missing));
+}
+  where
+    some-none : Some len ≡ None → ⊥
+    some-none wrong = cc

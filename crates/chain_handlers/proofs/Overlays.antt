@@ -1,5 +1,5 @@
 -- What a cache holds after a tile moved, came or went.
-use Rattle.std.proofs.Common.{◌≡◌, ◌≢◌, ℕ, ◌+◌, ◌-◌, ◌<◌, ◌≤◌, Bool, true, false, true≢false, cond, eqb, zero, suc, slice_get, take_all, List, [], ◌∷◌, ◌++◌, length, take, Option, Some, None, IfSome, is_some, refl, sym, ap, ap₂, ◌∙◌, inl, inr, arith}
+use Rattle.std.proofs.Common.{◌≡◌, ◌≢◌, ℕ, ◌+◌, ◌-◌, ◌<◌, ◌≤◌, eqb, zero, suc, slice_get, take_all, List, [], ◌∷◌, ◌++◌, length, take, Option, Some, None, IfSome, refl, sym, ap, ap₂, ◌∙◌, inl, inr, arith}
 use Rattle.std.specs.Option.{option_and_then, option_map, option_map_or}
 use Rattle.std.specs.FinMap as map
 use Rattle.std.specs.Cmp.{nat_eq_equiv}
@@ -15,7 +15,7 @@ use Rattle.chain_owners.specs.Values.{Named}
 use Rattle.chain_owners.proofs.Names.{get_elsewhere, get_here}
 use Rattle.chain_handlers.specs.Overlay.{overlay}
 use Rattle.chain_handlers.proofs.NameCounts.{len-inserted}
-use Rattle.chain_handlers.proofs.Tiles.{out-absent, out-put, out-swap, put-fill, put-known, put-swap, put-twice}
+use Rattle.chain_handlers.proofs.Tiles.{out-put, out-swap, put-fill, put-swap, put-twice}
 
 abbrev Entries : Type 0
 Entries = List (ℕ × List ℕ)
@@ -46,7 +46,6 @@ pub names-below : (es : Entries) (below : Held) → map.len below.lengths ≤ ma
 names-below [] below = omega arith
 names-below (e ∷ es) below = omega (arith, names-below es below, len-inserted (overlay es below).lengths e.0 (length e.1))
 
-
 module _ (name : ℕ) where
   bytes-elsewhere : (c : Option (Named (List ℕ))) (k : ℕ) (v : List ℕ) → name ≢ k
       → option_and_then (λ content. map.get content name) (option_map (λ (m : Named (List ℕ)). map.insert m k v) c)
@@ -61,9 +60,10 @@ module _ (name : ℕ) where
   overlay-found (f ∷ es) e below is = elim (cases_eq name f.0) [
     | inl same ↦
         let found = eq-eqb name f.0 same in
-        let at : f ≡ e = let some : Some f ≡ Some e = rw found at is in cc in
-        (ap (λ (x : ℕ × List ℕ). x.0) (sym at) ∙ sym same,
-        rw found (ap₂ (λ n t. with_tile (overlay es below) n t) same (ap (λ (x : ℕ × List ℕ). x.1) (sym at))))
+        let at : f ≡ e = let some : Some f ≡ Some e = rw found at is in cc in (
+          ap (λ (x : ℕ × List ℕ). x.0) (sym at) ∙ sym same,
+          rw found (ap₂ (λ n t. with_tile (overlay es below) n t) same (ap (λ (x : ℕ × List ℕ). x.1) (sym at))),
+        )
     | inr ne ↦
         let passed = ne_eqb name f.0 ne in
         let on = overlay-found es e below (rw passed at is) in
@@ -111,7 +111,6 @@ module _ (name : ℕ) where
         let on = overlay-lacks es below (rw (ne_eqb name f.0 ne) at is) in
         (get_elsewhere (overlay es below).lengths f.0 (length f.1) name ne ∙ on.0, bytes-elsewhere (overlay es below).content f.0 f.1 ne ∙ on.1)
   ]
-
 
   -- of a name in memory, nothing below is seen
   pub overlay-shadow : (es : Entries) (bytes : List ℕ) (below : Held)

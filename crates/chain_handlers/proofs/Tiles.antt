@@ -1,12 +1,12 @@
 -- Tiles that are put, replaced and taken out in another order.
-use Rattle.std.proofs.Common.{◌≡◌, ◌≢◌, ℕ, Bool, true, false, cond, eqb, List, length, Option, Some, None, IfSome, is_some, refl, sym, ap, ap₂, ◌∙◌, inl, inr}
+use Rattle.std.proofs.Common.{◌≡◌, ◌≢◌, ℕ, true, false, cond, eqb, List, length, Option, Some, None, IfSome, is_some, refl, sym, ap, ap₂, ◌∙◌, inl, inr}
 use Rattle.std.specs.Option.{option_and_then, option_map}
 use Rattle.std.specs.FinMap as map
-use Rattle.std.proofs.lemmas.Bool.{cases_eq, eq-eqb, ne_eqb}
+use Rattle.std.proofs.lemmas.Bool.{cases_eq}
 use Rattle.chain_owners.specs.Chain.{HasSameNames}
 use Rattle.chain_owners.specs.Held.{Held, bytes_of, length_of, with_tile, without_tile}
 use Rattle.chain_owners.specs.Values.{Named}
-use Rattle.chain_owners.proofs.Names.{get-inserted, get-removed, get_elsewhere, get_gone, get_here, get_left, same_names}
+use Rattle.chain_owners.proofs.Names.{get-inserted, get_elsewhere, get_gone, get_here, get_left, same_names}
 
 module _ {X : Type 0} where
   -- equal at one name, and equal elsewhere

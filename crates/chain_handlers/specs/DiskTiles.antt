@@ -1,9 +1,9 @@
 -- What a chain that is a store holds. Its laws are here and not among the proofs, since it is declared
 -- with them.
-use Rattle.std.specs.Prelude.{◌≡◌, ℕ, List, map, length, Option, Some, None, IfSome, is_some, ◌≤◌}
+use Rattle.std.specs.Prelude.{◌≡◌, ℕ, List, map, Option, Some, None, is_some}
 use Rattle.std.specs.Option.{option_map}
 use Rattle.std.specs.FinMap as map
-use Rattle.std.specs.FinMap.{entries, find, from_entries, get-entries, get-from_entries}
+use Rattle.std.specs.FinMap.{entries, find, get-entries, get-from_entries}
 use Rattle.std.specs.Ordering.{nat_cmp, eq_by_cmp}
 use Rattle.std.proofs.Common.{refl, sym, ap, ◌∙◌, arith, Bool, true, false, cond, [], ◌∷◌}
 use Rattle.std.proofs.lemmas.Cmp.{nat_cmp_total}

@@ -40,7 +40,7 @@ same-cond false x y o p same = same
 names-put : (lengths : Named ℕ) (content : Option (Named (List ℕ))) (name : ℕ) (bytes : List ℕ)
     → IfSome content (λ c. (q : ℕ) → is_some (map.get c q) ≡ is_some (map.get lengths q))
     → IfSome (option_map (λ (c : Named (List ℕ)). map.insert c name bytes) content)
-      (λ c. (q : ℕ) → is_some (map.get c q) ≡ is_some (map.get (map.insert lengths name (length bytes)) q))
+    (λ c. (q : ℕ) → is_some (map.get c q) ≡ is_some (map.get (map.insert lengths name (length bytes)) q))
 names-put lengths None name bytes is = tt
 names-put lengths (Some content) name bytes is = λ q.
     ap is_some (get-inserted content name bytes q)

@@ -9,7 +9,7 @@ ghost use Rattle.tile_cow.specs.Tile.{IsTileLength};
 ghost use Rattle.chain_owners.specs.Counts.{Continues};
 ghost use Rattle.chain_owners.specs.Held.{length_of, with_tile, without_tile};
 ghost use Rattle.swap_store.specs.Cause.{HasSwapCause};
-ghost use Rattle.chain_handlers.specs.Tiles.{OnFull, Reads, ReportsRoom, emptied};
+ghost use Rattle.chain_handlers.specs.Tiles.{OnFull, Reads, ReportsPut, ReportsRoom, emptied};
 ghost use Rattle.chain_handlers.specs.Overlay.{IsCache, cache_counts, cache_has_counts, cache_is_chain, overlay, overlay_has_same_names};
 
 use crate::tile_handler::TileHandler;
@@ -237,6 +237,54 @@ impl<H: TileHandler + Drop> CacheHandler<H> {
         self.tiles.pop(&name);
         self.forget_below(name);
         self.tiles.len();
+    }
+
+    /// Keeps a tile in memory under a name, for which it makes room.
+    fn keep(&mut self, name: u64, tile: &Tile) -> Result<(), SwapRefused>
+        ensures put { OnOk result (overlay self.new.tiles.entries (H.held self.new.below)
+            ≡ with_tile (overlay self.old.tiles.entries (H.held self.old.below)) name tile.now) }
+        ensures unchanged { OnErr result (overlay self.new.tiles.entries (H.held self.new.below)
+            ≡ overlay self.old.tiles.entries (H.held self.old.below)) }
+        ensures capacity { self.new.tiles.cap ≡ self.old.tiles.cap }
+        ensures cause { IfErr result (HasSwapCause (emptied (H.counts self.old.below)) (H.counts self.new.below)
+            (map.len (with_tile (overlay self.old.tiles.entries (H.held self.old.below)) name tile.now).lengths)) }
+        ensures full { H.is_valid self.old.below →
+            IsCache self.old.tiles.entries self.old.tiles.cap (H.held self.old.below) → IfErr result
+            (ReportsPut (overlay self.old.tiles.entries (H.held self.old.below)) tile.now (H.store self.new.below)) }
+        ensures resident { IfErr result (OnFull ((length self.new.tiles.entries ≡ self.new.tiles.cap)
+            × (self.new.tiles.cap < map.len (with_tile (overlay self.old.tiles.entries (H.held self.old.below)) name tile.now).lengths))) }
+        ensures continues { Continues (H.counts self.old.below) (H.counts self.new.below) }
+        ensures loans { H.loans self.new.below ≡ H.loans self.old.below }
+        ensures valid { H.is_valid self.old.below → H.is_valid self.new.below }
+        ensures laws { IsCache self.old.tiles.entries self.old.tiles.cap (H.held self.old.below) →
+            IsCache self.new.tiles.entries self.new.tiles.cap (H.held self.new.below) }
+    {
+        self.make_room_for(name)?;
+        self.insert(name, tile)?;
+        Ok(())
+    }
+
+    /// Puts all tiles below that are in memory, and takes them out of it.
+    fn move_all(&mut self) -> Result<(), SwapRefused>
+        ensures held { overlay self.new.tiles.entries (H.held self.new.below)
+            ≡ overlay self.old.tiles.entries (H.held self.old.below) }
+        ensures empty { OnOk result (self.new.tiles.entries ≡ []) }
+        ensures capacity { self.new.tiles.cap ≡ self.old.tiles.cap }
+        ensures cause { IfErr result (HasSwapCause (emptied (H.counts self.old.below)) (H.counts self.new.below)
+            (map.len (overlay self.old.tiles.entries (H.held self.old.below)).lengths)) }
+        ensures full { H.is_valid self.old.below →
+            IsCache self.old.tiles.entries self.old.tiles.cap (H.held self.old.below) → IfErr result
+            (ReportsRoom (overlay self.old.tiles.entries (H.held self.old.below)) (H.store self.new.below)) }
+        ensures continues { Continues (H.counts self.old.below) (H.counts self.new.below) }
+        ensures loans { H.loans self.new.below ≡ H.loans self.old.below }
+        ensures valid { H.is_valid self.old.below → H.is_valid self.new.below }
+        ensures laws { IsCache self.old.tiles.entries self.old.tiles.cap (H.held self.old.below) →
+            IsCache self.new.tiles.entries self.new.tiles.cap (H.held self.new.below) }
+    {
+        while !self.tiles.is_empty() {
+            self.move_last()?;
+        }
+        Ok(())
     }
 
     /// Gives the handler below back, with every tile that it has; those in memory are lost.

@@ -1,5 +1,3 @@
-use Rattle.std.proofs.Common.{Ok, Err}
-use Rattle.swap_store.specs.declared.refusal.SwapRefused.{SwapRefused}
 use Rattle.chain_handlers.proofs.DiskPuts.{caused, put_valid, reported}
 use Rattle.chain_handlers.proofs.disk_handler.DiskHandlerTileHandler.put.Goals as goal
 
