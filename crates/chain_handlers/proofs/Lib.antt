@@ -1,0 +1,5 @@
+mod NameCounts
+mod DiskPuts
+mod Tiles
+mod Overlays
+mod Moves

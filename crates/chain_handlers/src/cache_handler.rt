@@ -1,0 +1,301 @@
+//! The handler that keeps tiles in memory.
+
+ghost use Rattle.std.specs.Prelude.{◌≡◌, ◌⊎◌, ℕ, ◌≤◌, ◌<◌, ◌-◌, [], Some, None, IfErr, IfOk, IsNone, OnErr, OnOk, length, nat_eq};
+ghost use Rattle.std.specs.FinMap as map;
+ghost use Rattle.std.specs.List.{IsDistinct};
+ghost use Rattle.std.specs.Map.{keys_of, lookup};
+ghost use Rattle.std.specs.NonZero.{non_zero_usize_get};
+ghost use Rattle.tile_cow.specs.Tile.{IsTileLength};
+ghost use Rattle.chain_owners.specs.Counts.{Continues};
+ghost use Rattle.chain_owners.specs.Held.{length_of, with_tile, without_tile};
+ghost use Rattle.swap_store.specs.Cause.{HasSwapCause};
+ghost use Rattle.chain_handlers.specs.Tiles.{OnFull, Reads, ReportsPut, ReportsRoom, emptied};
+ghost use Rattle.chain_handlers.specs.Overlay.{IsCache, cache_counts, cache_has_counts, cache_is_chain, overlay, overlay_has_same_names};
+
+use crate::tile_handler::TileHandler;
+use chain_owners::ChainMeaning;
+use lru::LruCache;
+use no_memory::NoMemory;
+use std::alloc::Global;
+use std::num::NonZeroUsize;
+use swap_store::SwapRefused;
+use tile_cow::Tile;
+
+/// Keeps tiles in memory, and the others below. A tile that has to leave is below before it does.
+#[derive(Drop)]
+pub struct CacheHandler<H: TileHandler + Drop> {
+    tiles: LruCache<u64, Tile>,
+    below: H,
+    alloc: Global,
+}
+
+impl<H: TileHandler + Drop> ChainMeaning for CacheHandler<H> {
+    ghost held = { λ cache. overlay cache.tiles.entries (H.held cache.below) };
+
+    ghost counts = { λ cache.
+        cache_counts cache.tiles.entries cache.tiles.cap (H.held cache.below) (H.counts cache.below) };
+
+    ghost store = { λ cache. H.store cache.below };
+
+    ghost resident = { λ cache. length cache.tiles.entries };
+
+    ghost loans = { λ cache. H.loans cache.below };
+
+    ghost is_valid = { λ cache.
+        H.is_valid cache.below × IsCache cache.tiles.entries cache.tiles.cap (H.held cache.below) };
+
+    ghost same_names = { λ cache.
+        overlay_has_same_names cache.tiles.entries (H.held cache.below) (H.same_names cache.below) };
+
+    ghost same_counts = { λ cache. cache_has_counts cache.tiles.entries cache.tiles.cap
+        (H.held cache.below) (H.counts cache.below) (H.store cache.below) (H.same_counts cache.below) };
+
+    ghost chain_laws = { λ cache valid. cache_is_chain cache.tiles.entries cache.tiles.cap
+        (H.held cache.below) (H.counts cache.below) (H.store cache.below) (H.resident cache.below)
+        (H.chain_laws cache.below valid.0) valid.1 };
+}
+
+impl<H: TileHandler + Drop> CacheHandler<H> {
+    /// Returns a handler of the tiles below, which keeps at most `capacity` of them in memory.
+    pub fn new(alloc: Global, below: H, capacity: u32) -> Result<CacheHandler<H>, NoMemory>
+        requires { 1 ≤ capacity }
+        ensures below { IfOk result (λ cache. cache.below ≡ below) }
+        ensures empty { IfOk result (λ cache. cache.tiles.entries ≡ []) }
+        ensures capacity { IfOk result (λ cache. cache.tiles.cap ≡ capacity) }
+    {
+        let capacity = NonZeroUsize::new(capacity as usize).unwrap();
+        let tiles = LruCache::sparse(alloc, capacity)?;
+        Ok(CacheHandler::over(alloc, tiles, below))
+    }
+
+    /// Returns a handler of the tiles below, whose own tiles are in memory already.
+    pub(crate) fn over(alloc: Global, tiles: LruCache<u64, Tile>, below: H) -> CacheHandler<H>
+        ensures below { result.below ≡ below }
+        ensures tiles { result.tiles ≡ tiles }
+    {
+        CacheHandler {
+            tiles,
+            below,
+            alloc,
+        }
+    }
+
+    /// Puts the tile that was used the longest time ago below, and then takes it out of memory.
+    fn move_last(&mut self) -> Result<(), SwapRefused>
+        ensures held { overlay self.new.tiles.entries (H.held self.new.below)
+            ≡ overlay self.old.tiles.entries (H.held self.old.below) }
+        ensures moved { OnOk result (length self.new.tiles.entries ≡ length self.old.tiles.entries - 1) }
+        ensures unmoved { OnErr result (self.new.tiles ≡ self.old.tiles) }
+        ensures capacity { self.new.tiles.cap ≡ self.old.tiles.cap }
+        ensures fewer { (k : ℕ) → lookup (nat_eq k) self.old.tiles.entries ≡ None
+            → lookup (nat_eq k) self.new.tiles.entries ≡ None }
+        ensures cause { IfErr result (HasSwapCause (emptied (H.counts self.old.below)) (H.counts self.new.below)
+            (map.len (overlay self.old.tiles.entries (H.held self.old.below)).lengths)) }
+        ensures full { H.is_valid self.old.below →
+            IsCache self.old.tiles.entries self.old.tiles.cap (H.held self.old.below) → IfErr result
+            (ReportsRoom (overlay self.old.tiles.entries (H.held self.old.below)) (H.store self.new.below)) }
+        ensures continues { Continues (H.counts self.old.below) (H.counts self.new.below) }
+        ensures loans { H.loans self.new.below ≡ H.loans self.old.below }
+        ensures valid { H.is_valid self.old.below → H.is_valid self.new.below }
+        ensures laws { IsCache self.old.tiles.entries self.old.tiles.cap (H.held self.old.below) →
+            IsCache self.new.tiles.entries self.new.tiles.cap (H.held self.new.below) }
+    {
+        let Some((name, tile)) = self.tiles.peek_lru() else {
+            return Ok(());
+        };
+        self.tiles.len();
+        self.below.put(*name, tile)?;
+        self.tiles.pop_lru();
+        Ok(())
+    }
+
+    /// Makes room for one tile more in memory.
+    fn make_room(&mut self) -> Result<(), SwapRefused>
+        ensures held { overlay self.new.tiles.entries (H.held self.new.below)
+            ≡ overlay self.old.tiles.entries (H.held self.old.below) }
+        ensures room { OnOk result (length self.new.tiles.entries < self.new.tiles.cap) }
+        ensures unmoved { OnErr result (self.new.tiles ≡ self.old.tiles) }
+        ensures crowded { OnErr result (length self.old.tiles.entries ≡ self.old.tiles.cap) }
+        ensures apart { IsDistinct nat_eq (keys_of self.old.tiles.entries) }
+        ensures capacity { self.new.tiles.cap ≡ self.old.tiles.cap }
+        ensures fewer { (k : ℕ) → lookup (nat_eq k) self.old.tiles.entries ≡ None
+            → lookup (nat_eq k) self.new.tiles.entries ≡ None }
+        ensures cause { IfErr result (HasSwapCause (emptied (H.counts self.old.below)) (H.counts self.new.below)
+            (map.len (overlay self.old.tiles.entries (H.held self.old.below)).lengths)) }
+        ensures full { H.is_valid self.old.below →
+            IsCache self.old.tiles.entries self.old.tiles.cap (H.held self.old.below) → IfErr result
+            (ReportsRoom (overlay self.old.tiles.entries (H.held self.old.below)) (H.store self.new.below)) }
+        ensures continues { Continues (H.counts self.old.below) (H.counts self.new.below) }
+        ensures loans { H.loans self.new.below ≡ H.loans self.old.below }
+        ensures valid { H.is_valid self.old.below → H.is_valid self.new.below }
+        ensures laws { IsCache self.old.tiles.entries self.old.tiles.cap (H.held self.old.below) →
+            IsCache self.new.tiles.entries self.new.tiles.cap (H.held self.new.below) }
+    {
+        if self.tiles.len() < self.tiles.cap().get() {
+            return Ok(());
+        }
+        self.move_last()
+    }
+
+    /// Takes a name out of what is below, where it is there.
+    fn forget_below(&mut self, name: u64)
+        ensures held { H.held self.new.below ≡ without_tile (H.held self.old.below) name }
+        ensures tiles { self.new.tiles ≡ self.old.tiles }
+        ensures continues { Continues (H.counts self.old.below) (H.counts self.new.below) }
+        ensures loans { H.loans self.new.below ≡ H.loans self.old.below }
+        ensures valid { H.is_valid self.old.below → H.is_valid self.new.below }
+    {
+        if self.below.has(name) {
+            self.below.forget(name);
+        }
+    }
+
+    /// Keeps a tile in memory under a name, for which there is room, and nowhere else.
+    fn insert(&mut self, name: u64, tile: &Tile) -> Result<(), NoMemory>
+        requires { lookup (nat_eq name) self.old.tiles.entries ≡ None
+            → length self.old.tiles.entries < self.old.tiles.cap }
+        ensures held { OnOk result (overlay self.new.tiles.entries (H.held self.new.below)
+            ≡ with_tile (overlay self.old.tiles.entries (H.held self.old.below)) name tile.now) }
+        ensures tiles { OnErr result (self.new.tiles ≡ self.old.tiles) }
+        ensures below { OnErr result (self.new.below ≡ self.old.below) }
+        ensures capacity { self.new.tiles.cap ≡ self.old.tiles.cap }
+        ensures continues { Continues (H.counts self.old.below) (H.counts self.new.below) }
+        ensures loans { H.loans self.new.below ≡ H.loans self.old.below }
+        ensures valid { H.is_valid self.old.below → H.is_valid self.new.below }
+        ensures laws { IsCache self.old.tiles.entries self.old.tiles.cap (H.held self.old.below) →
+            IsCache self.new.tiles.entries self.new.tiles.cap (H.held self.new.below) }
+    {
+        let shared = tile.share(self.alloc)?;
+        self.tiles.put(name, shared)?;
+        self.forget_below(name);
+        self.tiles.len();
+        Ok(())
+    }
+
+    /// Returns the tile of a name that is in memory, and makes it the one that was used last.
+    fn find(&mut self, name: u64) -> Result<Option<Tile>, NoMemory>
+        ensures found { IfOk result (λ found. found ≡ lookup (nat_eq name) self.old.tiles.entries) }
+        ensures absent { lookup (nat_eq name) self.old.tiles.entries ≡ None → self.new.tiles ≡ self.old.tiles }
+        ensures held { overlay self.new.tiles.entries (H.held self.new.below)
+            ≡ overlay self.old.tiles.entries (H.held self.old.below) }
+        ensures below { self.new.below ≡ self.old.below }
+        ensures capacity { self.new.tiles.cap ≡ self.old.tiles.cap }
+        ensures laws { IsCache self.old.tiles.entries self.old.tiles.cap (H.held self.old.below) →
+            IsCache self.new.tiles.entries self.new.tiles.cap (H.held self.new.below) }
+    {
+        let Some(tile) = self.tiles.peek(&name) else {
+            return Ok(None);
+        };
+        let shared = tile.share(self.alloc)?;
+        self.tiles.promote(&name);
+        self.tiles.len();
+        Ok(Some(shared))
+    }
+
+    /// Makes room in memory for a name, where it isn't there yet.
+    fn make_room_for(&mut self, name: u64) -> Result<(), SwapRefused>
+        ensures held { overlay self.new.tiles.entries (H.held self.new.below)
+            ≡ overlay self.old.tiles.entries (H.held self.old.below) }
+        ensures room { OnOk result (lookup (nat_eq name) self.new.tiles.entries ≡ None
+            → length self.new.tiles.entries < self.new.tiles.cap) }
+        ensures crowded { OnErr result (length self.new.tiles.entries ≡ self.new.tiles.cap) }
+        ensures absent { OnErr result (lookup (nat_eq name) self.new.tiles.entries ≡ None) }
+        ensures apart { OnErr result (IsDistinct nat_eq (keys_of self.new.tiles.entries)) }
+        ensures capacity { self.new.tiles.cap ≡ self.old.tiles.cap }
+        ensures fewer { lookup (nat_eq name) self.old.tiles.entries ≡ None
+            → lookup (nat_eq name) self.new.tiles.entries ≡ None }
+        ensures cause { IfErr result (HasSwapCause (emptied (H.counts self.old.below)) (H.counts self.new.below)
+            (map.len (overlay self.old.tiles.entries (H.held self.old.below)).lengths)) }
+        ensures full { H.is_valid self.old.below →
+            IsCache self.old.tiles.entries self.old.tiles.cap (H.held self.old.below) → IfErr result
+            (ReportsRoom (overlay self.old.tiles.entries (H.held self.old.below)) (H.store self.new.below)) }
+        ensures continues { Continues (H.counts self.old.below) (H.counts self.new.below) }
+        ensures loans { H.loans self.new.below ≡ H.loans self.old.below }
+        ensures valid { H.is_valid self.old.below → H.is_valid self.new.below }
+        ensures laws { IsCache self.old.tiles.entries self.old.tiles.cap (H.held self.old.below) →
+            IsCache self.new.tiles.entries self.new.tiles.cap (H.held self.new.below) }
+    {
+        if self.tiles.contains(&name) {
+            return Ok(());
+        }
+        self.make_room()?;
+        Ok(())
+    }
+
+    /// Takes a name out, in memory and below.
+    fn remove(&mut self, name: u64)
+        ensures held { overlay self.new.tiles.entries (H.held self.new.below)
+            ≡ without_tile (overlay self.old.tiles.entries (H.held self.old.below)) name }
+        ensures capacity { self.new.tiles.cap ≡ self.old.tiles.cap }
+        ensures continues { Continues (H.counts self.old.below) (H.counts self.new.below) }
+        ensures loans { H.loans self.new.below ≡ H.loans self.old.below }
+        ensures valid { H.is_valid self.old.below → H.is_valid self.new.below }
+        ensures laws { IsCache self.old.tiles.entries self.old.tiles.cap (H.held self.old.below) →
+            IsCache self.new.tiles.entries self.new.tiles.cap (H.held self.new.below) }
+    {
+        self.tiles.len();
+        self.tiles.pop(&name);
+        self.forget_below(name);
+        self.tiles.len();
+    }
+
+    /// Keeps a tile in memory under a name, for which it makes room.
+    fn keep(&mut self, name: u64, tile: &Tile) -> Result<(), SwapRefused>
+        ensures put { OnOk result (overlay self.new.tiles.entries (H.held self.new.below)
+            ≡ with_tile (overlay self.old.tiles.entries (H.held self.old.below)) name tile.now) }
+        ensures unchanged { OnErr result (overlay self.new.tiles.entries (H.held self.new.below)
+            ≡ overlay self.old.tiles.entries (H.held self.old.below)) }
+        ensures capacity { self.new.tiles.cap ≡ self.old.tiles.cap }
+        ensures cause { IfErr result (HasSwapCause (emptied (H.counts self.old.below)) (H.counts self.new.below)
+            (map.len (with_tile (overlay self.old.tiles.entries (H.held self.old.below)) name tile.now).lengths)) }
+        ensures full { H.is_valid self.old.below →
+            IsCache self.old.tiles.entries self.old.tiles.cap (H.held self.old.below) → IfErr result
+            (ReportsPut (overlay self.old.tiles.entries (H.held self.old.below)) tile.now (H.store self.new.below)) }
+        ensures resident { IfErr result (OnFull ((length self.new.tiles.entries ≡ self.new.tiles.cap)
+            × (self.new.tiles.cap < map.len (with_tile (overlay self.old.tiles.entries (H.held self.old.below)) name tile.now).lengths))) }
+        ensures continues { Continues (H.counts self.old.below) (H.counts self.new.below) }
+        ensures loans { H.loans self.new.below ≡ H.loans self.old.below }
+        ensures valid { H.is_valid self.old.below → H.is_valid self.new.below }
+        ensures laws { IsCache self.old.tiles.entries self.old.tiles.cap (H.held self.old.below) →
+            IsCache self.new.tiles.entries self.new.tiles.cap (H.held self.new.below) }
+    {
+        self.make_room_for(name)?;
+        self.insert(name, tile)?;
+        Ok(())
+    }
+
+    /// Puts all tiles below that are in memory, and takes them out of it.
+    fn move_all(&mut self) -> Result<(), SwapRefused>
+        ensures held { overlay self.new.tiles.entries (H.held self.new.below)
+            ≡ overlay self.old.tiles.entries (H.held self.old.below) }
+        ensures empty { OnOk result (self.new.tiles.entries ≡ []) }
+        ensures capacity { self.new.tiles.cap ≡ self.old.tiles.cap }
+        ensures cause { IfErr result (HasSwapCause (emptied (H.counts self.old.below)) (H.counts self.new.below)
+            (map.len (overlay self.old.tiles.entries (H.held self.old.below)).lengths)) }
+        ensures full { H.is_valid self.old.below →
+            IsCache self.old.tiles.entries self.old.tiles.cap (H.held self.old.below) → IfErr result
+            (ReportsRoom (overlay self.old.tiles.entries (H.held self.old.below)) (H.store self.new.below)) }
+        ensures continues { Continues (H.counts self.old.below) (H.counts self.new.below) }
+        ensures loans { H.loans self.new.below ≡ H.loans self.old.below }
+        ensures valid { H.is_valid self.old.below → H.is_valid self.new.below }
+        ensures laws { IsCache self.old.tiles.entries self.old.tiles.cap (H.held self.old.below) →
+            IsCache self.new.tiles.entries self.new.tiles.cap (H.held self.new.below) }
+    {
+        while !self.tiles.is_empty() {
+            self.move_last()?;
+        }
+        Ok(())
+    }
+
+    /// Gives the handler below back, with every tile that it has; those in memory are lost.
+    pub fn into_below(self) -> H
+        ensures { result ≡ self.below }
+    {
+        let CacheHandler {
+            tiles: _,
+            below,
+            alloc: _,
+        } = self;
+        below
+    }
+}

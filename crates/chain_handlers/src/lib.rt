@@ -1,0 +1,11 @@
+//! Tiles under names, in handlers that stand on one another.
+#![tactic(auto)]
+
+mod cache_handler;
+mod disk_handler;
+mod tile_handler;
+
+pub use cache_handler::CacheHandler;
+pub use disk_handler::{DiskHandler, SwapHandler};
+pub use swap_store::SwapRefused;
+pub use tile_handler::TileHandler;
