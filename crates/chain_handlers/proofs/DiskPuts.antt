@@ -20,7 +20,7 @@ use Rattle.swap_store.proofs.RunLists.{IsRunList-below}
 use Rattle.swap_store.proofs.Windows.{few_names_leave_room}
 use Rattle.swap_store.specs.declared.block_map.Extent.{Extent}
 use Rattle.chain_handlers.specs.DiskTiles.{IsDisk, disk_counts, disk_held, disk_room}
-use Rattle.chain_handlers.specs.Tiles.{ReportsPut}
+use Rattle.chain_contracts.specs.Tiles.{ReportsPut}
 use Rattle.chain_handlers.proofs.NameCounts.{len-inserted, len-map_values, len-some}
 
 pub disk_valid : (p : Placement) (blocks : Option Blocks) → IsPlacement p → HasLengths (disk_held p blocks) → IsDisk p blocks

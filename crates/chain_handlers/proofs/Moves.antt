@@ -21,7 +21,7 @@ use Rattle.swap_store.specs.declared.refusal.SwapRefused.TheVariants as refusals
 use Rattle.swap_store.specs.Cause.{HasSwapCause}
 use Rattle.swap_store.proofs.Causes.{cause-before, cause-more}
 use Rattle.chain_handlers.specs.Overlay.{IsCache, overlay}
-use Rattle.chain_handlers.specs.Tiles.{OnFull, Reads, ReportsPut, ReportsRoom, emptied}
+use Rattle.chain_contracts.specs.Tiles.{OnFull, Reads, ReportsPut, ReportsRoom, emptied}
 use Rattle.chain_handlers.proofs.NameCounts.{len-inserted}
 use Rattle.chain_handlers.proofs.Overlays.{names-below, overlay-has, overlay-hides, overlay-lacks, overlay-last, overlay-promoted, overlay-put, overlay-removed, overlay-shadow, split_last}
 

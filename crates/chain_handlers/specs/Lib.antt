@@ -1,3 +1,2 @@
-pub mod Tiles
 pub mod DiskTiles
 pub mod Overlay

@@ -9,10 +9,10 @@ ghost use Rattle.tile_cow.specs.Tile.{IsTileLength};
 ghost use Rattle.chain_owners.specs.Counts.{Continues};
 ghost use Rattle.chain_owners.specs.Held.{length_of, with_tile, without_tile};
 ghost use Rattle.swap_store.specs.Cause.{HasSwapCause};
-ghost use Rattle.chain_handlers.specs.Tiles.{OnFull, Reads, ReportsPut, ReportsRoom, emptied};
+ghost use Rattle.chain_contracts.specs.Tiles.{OnFull, Reads, ReportsPut, ReportsRoom, emptied};
 ghost use Rattle.chain_handlers.specs.Overlay.{IsCache, cache_counts, cache_has_counts, cache_is_chain, overlay, overlay_has_same_names};
 
-use crate::tile_handler::TileHandler;
+use chain_contracts::TileHandler;
 use chain_owners::ChainMeaning;
 use lru::LruCache;
 use no_memory::NoMemory;

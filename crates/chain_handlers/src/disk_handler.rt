@@ -8,7 +8,7 @@ ghost use Rattle.swap_store.specs.Content.{content_of, lengths_of};
 ghost use Rattle.swap_store.specs.Store.{HasPutCause};
 ghost use Rattle.chain_handlers.specs.DiskTiles.{IsDisk, disk_counts, disk_has_counts, disk_has_same_names, disk_held, disk_is_chain, disk_room};
 
-use crate::tile_handler::TileHandler;
+use chain_contracts::TileHandler;
 use chain_owners::ChainMeaning;
 use outside_io::{Lent, SwapDisk};
 use swap_store::{Store, SwapRefused};

@@ -3,9 +3,8 @@
 
 mod cache_handler;
 mod disk_handler;
-mod tile_handler;
 
 pub use cache_handler::CacheHandler;
 pub use disk_handler::{DiskHandler, SwapHandler};
 pub use swap_store::SwapRefused;
-pub use tile_handler::TileHandler;
+pub use chain_contracts::TileHandler;

@@ -1,7 +1,7 @@
 use Rattle.std.proofs.Common.{◌≡◌, Err, ap, ◌∙◌, rules, arith}
 use Rattle.chain_owners.specs.Held.{Held, with_tile}
 use Rattle.chain_handlers.specs.Overlay.{overlay}
-use Rattle.chain_handlers.specs.Tiles.{emptied}
+use Rattle.chain_contracts.specs.Tiles.{emptied}
 use Rattle.chain_handlers.proofs.Moves.{on-full, one-more-name, put-cause, put-report}
 use Rattle.chain_handlers.proofs.cache_handler.CacheHandler.keep.Goals as goal
 

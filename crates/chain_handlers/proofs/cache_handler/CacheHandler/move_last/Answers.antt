@@ -1,5 +1,5 @@
 use Rattle.std.proofs.Common.{◌≡◌, Err, sym, rules}
-use Rattle.chain_handlers.specs.Tiles.{emptied}
+use Rattle.chain_contracts.specs.Tiles.{emptied}
 use Rattle.chain_handlers.proofs.Moves.{laws-moved, lacks-moved, moved-cause, moved-held, moved-report}
 use Rattle.chain_handlers.proofs.cache_handler.CacheHandler.move_last.Goals as goal
 

@@ -6,7 +6,7 @@ ghost use Rattle.tile_cow.specs.Tile.{IsTileLength};
 ghost use Rattle.chain_owners.specs.Counts.{Continues};
 ghost use Rattle.chain_owners.specs.Held.{Held, length_of, with_tile, without_tile};
 ghost use Rattle.swap_store.specs.Cause.{HasSwapCause};
-ghost use Rattle.chain_handlers.specs.Tiles.{OnFull, Reads, ReportsPut, ReportsRoom, emptied};
+ghost use Rattle.chain_contracts.specs.Tiles.{OnFull, Reads, ReportsPut, ReportsRoom, emptied};
 
 use chain_owners::ChainMeaning;
 use swap_store::SwapRefused;

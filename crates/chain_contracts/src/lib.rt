@@ -1,0 +1,10 @@
+//! What handlers of tiles and chains of them answer: their traits.
+#![tactic(auto)]
+
+mod tile_chain;
+mod tile_handler;
+
+pub use chain_owners::ChainMeaning;
+pub use swap_store::SwapRefused;
+pub use tile_chain::TileChain;
+pub use tile_handler::TileHandler;
