@@ -7,3 +7,7 @@ pub mod Nodes
 pub mod OperationWords
 pub mod Script
 pub mod Spelling
+pub mod Grammar
+pub mod CommandGrammars
+pub mod LineCauses
+pub mod TextCauses

@@ -4,6 +4,7 @@
 mod command;
 mod commands;
 mod keyword;
+pub mod laws;
 mod limits;
 mod nodes;
 mod operation_word;
