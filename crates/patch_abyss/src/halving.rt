@@ -35,7 +35,7 @@ pub fn halve(alloc: Global, image: &Patch) -> Result<Patch, NoMemory>
     let mut down = vec![in alloc; 0; count]?;
     let mut bytes = vec![in alloc; 0; byte_count(&rect, format)]?;
     halve_rows(image, &rect, &mut up, &mut down, &mut bytes);
-    Ok(Patch::from_bytes(rect, format, bytes))
+    Ok(Patch::from_vec(rect, format, bytes))
 }
 
 /// Writes the samples of a halved image, row by row. Two rows of twice the width hold those of the

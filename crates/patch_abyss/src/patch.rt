@@ -78,11 +78,10 @@ impl Patch {
         ensures { IfOk result (λ patch. patch ≡ blank rect format) }
     {
         let bytes = vec![in alloc; 0; byte_count(&rect, format)]?;
-        Ok(Patch::from_bytes(rect, format, bytes))
+        Ok(Patch::from_vec(rect, format, bytes))
     }
 
-    /// Returns the patch of these raw bytes, without a copy: the pixels row by row, each row from
-    /// the left.
+    /// Returns the patch of a copy of these raw bytes: the pixels row by row, each row from the left.
     ///
     /// # Errors
     ///
@@ -167,7 +166,7 @@ impl Patch {
         }
         let mut bytes = vec![in alloc; 0; byte_count(&rect, format)]?;
         copy_meet(&mut bytes, &rect, &self.bytes, &self.rect, pixel);
-        Ok(Patch::from_bytes(rect, format, bytes))
+        Ok(Patch::from_vec(rect, format, bytes))
     }
 
     /// Returns the patch over whole rows of the rectangle, whose bytes follow one another.
@@ -178,7 +177,7 @@ impl Patch {
         ensures { IfOk result (λ patch. patch ≡ cut self.now rows) }
     {
         let bytes = Vec::from_slice(alloc, self.rows(rows.first_row()..rows.end_row()))?;
-        Ok(Patch::from_bytes(rows, self.format, bytes))
+        Ok(Patch::from_vec(rows, self.format, bytes))
     }
 
     /// Returns the patch over a part of the rectangle, whose memory is written once.
@@ -193,7 +192,7 @@ impl Patch {
         let rows = Rows::of_part(&self.rect, &part, pixel);
         let (count, many) = (part.w as usize * pixel, part.h as usize);
         let bytes = cut_rows(alloc, &self.bytes, rows, count, many)?;
-        Ok(Patch::from_bytes(part, format, bytes))
+        Ok(Patch::from_vec(part, format, bytes))
     }
 
     /// Writes the samples of the other patch at the positions that are in both rectangles. Takes
@@ -242,10 +241,10 @@ impl Patch {
         self.lay(&square, tile.bytes());
     }
 
-    /// Returns the patch of as many raw bytes as the rectangle has.
-    pub(crate) fn from_bytes(rect: Rect, format: Format, bytes: Vec<u8>) -> Patch
+    /// Returns the patch of as many raw bytes as the rectangle has, without a copy: the pixels row by
+    /// row, each row from the left.
+    pub fn from_vec(rect: Rect, format: Format, bytes: Vec<u8>) -> Patch
         requires limits { InLimits rect }
-        requires rectangle { IsRectangle rect }
         requires count { length bytes.items ≡ byte_count rect format }
         ensures { result ≡ image_from_raw rect format bytes.items }
     {

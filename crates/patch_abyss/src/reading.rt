@@ -37,7 +37,7 @@ pub fn fetch(alloc: Global, image: &Patch, abyss: Abyss, rect: Rect) -> Result<P
     let format = image.format();
     let mut bytes = vec![in alloc; 0; byte_count(&rect, format)]?;
     fetch_rows(image, abyss, &rect, &mut bytes);
-    Ok(Patch::from_bytes(rect, format, bytes))
+    Ok(Patch::from_vec(rect, format, bytes))
 }
 
 /// Writes the samples of a rectangle, band by band from the top.

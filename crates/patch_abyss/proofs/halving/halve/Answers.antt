@@ -12,8 +12,8 @@ pub byte_count-requires : goal.byte_count-requires
 byte_count-requires c =
     subst InLimits (sym c.halved-rect.ensures.value) (InLimits-halved c.rect.result c.rect.ensures.rectangle c.rect.ensures.limits)
 
-pub from_bytes-requires-clause-limits : goal.from_bytes-requires-clause-limits
-from_bytes-requires-clause-limits c =
+pub from_vec-requires-clause-limits : goal.from_vec-requires-clause-limits
+from_vec-requires-clause-limits c =
     subst InLimits (sym c.halved-rect.ensures.value) (InLimits-halved c.rect.result c.rect.ensures.rectangle c.rect.ensures.limits)
 
 pub returns : goal.returns
@@ -22,7 +22,7 @@ returns c =
     let rect = c.halved-rect.result in
     let new = c.halve_rows.new.bytes in
     let fits : length new ≡ c.in_ok-bytes.bytes.len = search rules in
-    rw c.format-format.ensures at c.from_bytes.ensures
+    rw c.format-format.ensures at c.from_vec.ensures
     ∙ ap (image_from_raw rect image.format) (with_items_is c.in_ok-bytes.bytes new fits)
     ∙ RowsFilled-all rect image.format (mean_at image) new c.halve_rows.ensures.generated
     ∙ ap (λ (r : Rectangle). image_from_fn r image.format (mean_at image)) c.halved-rect.ensures.value

@@ -30,6 +30,6 @@ returns c =
     let rect = c.args.rect in
     let new = c.fetch_rows.new.bytes in
     let fits : length new ≡ c.in_ok-bytes.bytes.len = search rules in
-    rw c.format-format.ensures at c.from_bytes.ensures
+    rw c.format-format.ensures at c.from_vec.ensures
     ∙ ap (image_from_raw rect image.format) (with_items_is c.in_ok-bytes.bytes new fits)
     ∙ RowsFilled-all rect image.format (abyss_at image c.args.abyss) new c.fetch_rows.ensures.generated

@@ -6,8 +6,8 @@ use Rattle.model_images.specs.FromRaw.{byte_count, image_from_raw}
 use Rattle.patch_abyss.proofs.FilledRows.{RowsFilled-all, RowsFilled-by_pixels}
 use Rattle.patch_abyss.proofs.patch.Patch.band.Goals as goal
 
-pub from_bytes-requires-clause-count : goal.from_bytes-requires-clause-count
-from_bytes-requires-clause-count c =
+pub from_vec-requires-clause-count : goal.from_vec-requires-clause-count
+from_vec-requires-clause-count c =
     let image = c.args.self.now in
     let rows = c.args.rows in
     let n = pixel_bytes image.format in
@@ -25,7 +25,7 @@ returns c =
     let image = c.args.self.now in
     let rows = c.args.rows in
     let bytes = c.in_ok-bytes.bytes.items in
-    c.from_bytes.ensures
+    c.from_vec.ensures
     ∙ ap (λ (shown : Image). image_from_raw rows shown.format bytes) c.self.view_is
     ∙ RowsFilled-all rows image.format (at image) bytes
     (RowsFilled-by_pixels rows image.format (at image) rows.height bytes

@@ -25,8 +25,8 @@ cut_rows-requires-clause-from c =
     (rows_have_room patch.rect part p inside some.0 some.1 c.of_part-rows.result (c.part.inside.w * p) c.deref.result.now c.of_part-rows.ensures.start c.of_part-rows.ensures.stride count
     (ap length c.deref.ensures.value ∙ c.self.invariant.whole ∙ ap (λ (m : ℕ). area patch.rect * m) (sym c.pixel_bytes-pixel.ensures)))
 
-pub from_bytes-requires-clause-count : goal.from_bytes-requires-clause-count
-from_bytes-requires-clause-count c =
+pub from_vec-requires-clause-count : goal.from_vec-requires-clause-count
+from_vec-requires-clause-count c =
     let patch = c.self.inside in
     let part = c.args.part in
     let p = c.pixel_bytes-pixel.result in
@@ -49,8 +49,8 @@ returns c =
     let count : c.part.inside.w * p ≡ part.width * n = ap (λ (r : Rectangle). r.width * p) c.part.view_is ∙ ap (λ (m : ℕ). part.width * m) pixel in
     let high : c.part.inside.h ≡ part.height = ap (λ (r : Rectangle). r.height) c.part.view_is in
     let cut : AreRows rows (c.part.inside.w * p) part.height patch.bytes.items bytes = rw (high, c.deref.ensures.value) at c.in_ok-bytes.ensures in
-    subst (λ (shown : Image). c.from_bytes.result ≡ image_from_fn part shown.format (at shown)) c.self.view_is
-    (c.from_bytes.ensures
+    subst (λ (shown : Image). c.from_vec.result ≡ image_from_fn part shown.format (at shown)) c.self.view_is
+    (c.from_vec.ensures
     ∙ RowsFilled-all part patch.format (at image) bytes
     (RowsFilled-by_pixels part patch.format (at image) part.height bytes
     (part_pixels patch.rect part patch.format rows (c.part.inside.w * p) patch.bytes.items bytes inside

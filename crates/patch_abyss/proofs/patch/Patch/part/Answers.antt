@@ -21,7 +21,7 @@ returns c =
     let has : HasPart to from.rect (meet to from.rect) (pixel_bytes from.format) from.bytes.items (replicate n 0) new =
     rw (c.pixel_bytes-pixel.ensures, c.deref.ensures.value, c.deref_mut.ensures.value, zeros) at c.copy_meet.ensures.part in
     rw (← c.self.view_is)
-    (c.from_bytes.ensures
+    (c.from_vec.ensures
     ∙ ap (image_from_raw to from.format) (with_items_is c.in_ok-bytes.bytes new fits)
     ∙ generated_equal to from.format (pixels_from_raw to from.format new) (at (image_from_raw from.rect from.format from.bytes.items))
     (part_generated to from.rect (meet to from.rect) from.format n from.bytes.items new

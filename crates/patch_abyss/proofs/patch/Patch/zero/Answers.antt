@@ -6,6 +6,6 @@ use Rattle.patch_abyss.proofs.patch.Patch.zero.Goals as goal
 pub returns : goal.returns
 returns c =
     let zeros : c.in_ok-bytes.bytes.items ≡ replicate c.byte_count.result 0 = search rules in
-    c.from_bytes.ensures
+    c.from_vec.ensures
     ∙ ap (image_from_raw c.args.rect c.args.format) zeros
     ∙ image_from_raw-zeros c.args.rect c.args.format c.byte_count.result
