@@ -5,6 +5,6 @@ mod cache_handler;
 mod disk_handler;
 
 pub use cache_handler::CacheHandler;
+pub use chain_contracts::TileHandler;
 pub use disk_handler::{DiskHandler, SwapHandler};
 pub use swap_store::SwapRefused;
-pub use chain_contracts::TileHandler;
