@@ -1,2 +1,4 @@
 pub mod DiskTiles
 pub mod Overlay
+pub mod Zeros
+pub mod OwnedTiles

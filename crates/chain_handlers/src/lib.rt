@@ -3,8 +3,13 @@
 
 mod cache_handler;
 mod disk_handler;
+mod empty_handler;
+mod owned_tiles;
+mod owner_counts;
+mod zero_tiles;
 
 pub use cache_handler::CacheHandler;
-pub use chain_contracts::TileHandler;
+pub use chain_contracts::{TileChain, TileHandler};
 pub use disk_handler::{DiskHandler, SwapHandler};
+pub use empty_handler::EmptyHandler;
 pub use swap_store::SwapRefused;

@@ -1,0 +1,123 @@
+//! Tiles under names that have owners.
+
+ghost use Rattle.std.specs.Prelude.{◌≡◌, ◌-◌, ◌^◌, ◌<◌, ◌≤◌, Some, None, IfSome, unwrap_or};
+ghost use Rattle.std.specs.FinMap as map;
+ghost use Rattle.chain_handlers.specs.DiskTiles.{disk_counts, disk_has_counts, disk_has_same_names, disk_held, disk_is_chain, disk_room};
+ghost use Rattle.chain_handlers.specs.Overlay.{IsCache, cache_counts, cache_has_counts, cache_is_chain, overlay, overlay_has_same_names};
+ghost use Rattle.chain_handlers.specs.OwnedTiles.{HaveOwners, owned_is_chain, owned_has_counts, with_counts};
+
+use crate::cache_handler::CacheHandler;
+use crate::disk_handler::DiskHandler;
+use crate::empty_handler::EmptyHandler;
+use crate::owner_counts::OwnerCounts;
+use chain_contracts::{TileChain, TileHandler};
+use chain_owners::ChainMeaning;
+use no_memory::NoMemory;
+use outside_io::{Lent, SwapDisk};
+use swap_store::SwapRefused;
+use tile_cow::Tile;
+
+/// The tiles of a chain: zeros where none is, then those in memory, then those on the disk.
+type Tiles<D> = EmptyHandler<CacheHandler<DiskHandler<D>>>;
+
+/// A map from names to tiles over a disk that it owns, in which each name has owners.
+#[derive(Drop)]
+pub struct OwnedTiles<D: SwapDisk + Drop> {
+    tiles: Tiles<D>,
+    owners: OwnerCounts,
+    next: u64,
+    ghost counted: { HaveOwners (overlay tiles.below.tiles.entries (disk_held
+        tiles.below.below.store.placement (D.blocks tiles.below.below.store.disk))) owners },
+}
+
+/// A chain over a disk that was lent to it.
+pub type Chain<'s, D> = OwnedTiles<Lent<'s, D>>;
+
+impl<D: SwapDisk + Drop> ChainMeaning for OwnedTiles<D> {
+    ghost held = { λ chain. with_counts (⟦<Tiles<D> as ChainMeaning>⟧.held chain.tiles) chain.owners };
+
+    ghost counts = { λ chain. ⟦<Tiles<D> as ChainMeaning>⟧.counts chain.tiles };
+
+    ghost store = { λ chain. ⟦<Tiles<D> as ChainMeaning>⟧.store chain.tiles };
+
+    ghost resident = { λ chain. ⟦<Tiles<D> as ChainMeaning>⟧.resident chain.tiles };
+
+    ghost loans = { λ chain. ⟦<Tiles<D> as ChainMeaning>⟧.loans chain.tiles };
+
+    ghost is_valid = { λ chain. ⟦<Tiles<D> as ChainMeaning>⟧.is_valid chain.tiles };
+
+    ghost same_names = { λ chain. ⟦<Tiles<D> as ChainMeaning>⟧.same_names chain.tiles };
+
+    ghost same_counts = { λ chain. owned_has_counts _ _ _ chain.owners (⟦<Tiles<D> as ChainMeaning>⟧.same_counts chain.tiles) };
+
+    ghost chain_laws = { λ chain valid. owned_is_chain _ _ _ _ chain.owners (⟦<Tiles<D> as ChainMeaning>⟧.chain_laws chain.tiles valid) };
+}
+
+impl<D: SwapDisk + Drop> OwnedTiles<D> {
+    /// Returns a name that isn't there, and is never 0: the first one from the next on, or from 1 on
+    /// where all of those are there. It looks at as many names as there are, and one more.
+    fn free_name(&self) -> Option<u64>
+        ensures absent { IfSome result (λ name. map.get self.now.owners name ≡ None) }
+        ensures range { IfSome result (λ name. (1 ≤ name) × (name < 2 ^ 64 - 1)) }
+    {
+        if let Some(name) = self.owners.first_absent(self.next.max(1)) {
+            return Some(name);
+        }
+        self.owners.first_absent(1)
+    }
+}
+
+impl<D: SwapDisk + Drop> TileChain for OwnedTiles<D> {
+    ghost in_swap = { λ chain. with_counts (⟦<Tiles<D> as TileHandler>⟧.in_swap chain.tiles) chain.owners };
+
+    fn new_name(&mut self, tile: Tile) -> Result<u64, SwapRefused> {
+        let name = self.free_name().ok_or(SwapRefused::NoMemory)?;
+        self.owners.add(name)?;
+        if let Err(refused) = self.tiles.put(name, &tile) {
+            self.owners.remove(name);
+            return Err(refused);
+        }
+        self.next = name + 1;
+        Ok(name)
+    }
+
+    fn read(&mut self, name: u64, len: u32) -> Result<Tile, SwapRefused> {
+        self.tiles.read(name, len)
+    }
+
+    fn zero(&mut self, len: u32) -> Result<Tile, NoMemory> {
+        self.tiles.zero(len)
+    }
+
+    fn rewrite(&mut self, name: u64, tile: &Tile) -> Result<(), SwapRefused> {
+        self.tiles.put(name, tile)
+    }
+
+    fn own(&mut self, name: u64) {
+        let count = self.owners(name);
+        if count < u32::MAX {
+            self.owners.set(name, count + 1);
+        }
+    }
+
+    fn disown(&mut self, name: u64) {
+        let count = self.owners(name);
+        if count == u32::MAX {
+            return;
+        }
+        if count > 1 {
+            self.owners.set(name, count - 1);
+            return;
+        }
+        self.tiles.forget(name);
+        self.owners.remove(name);
+    }
+
+    fn owners(&self, name: u64) -> u32 {
+        self.owners.of(name).unwrap_or(0)
+    }
+
+    fn flush(&mut self) -> Result<(), SwapRefused> {
+        self.tiles.flush()
+    }
+}
