@@ -3,3 +3,4 @@ mod DiskPuts
 mod Tiles
 mod Overlays
 mod Moves
+mod Owning

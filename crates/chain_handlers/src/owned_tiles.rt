@@ -73,12 +73,16 @@ impl<D: SwapDisk + Drop> TileChain for OwnedTiles<D> {
     fn new_name(&mut self, tile: Tile) -> Result<u64, SwapRefused> {
         let name = self.free_name().ok_or(SwapRefused::NoMemory)?;
         self.owners.add(name)?;
-        if let Err(refused) = self.tiles.put(name, &tile) {
-            self.owners.remove(name);
-            return Err(refused);
+        match self.tiles.put(name, &tile) {
+            Ok(()) => {
+                self.next = name + 1;
+                Ok(name)
+            }
+            Err(refused) => {
+                self.owners.remove(name);
+                Err(refused)
+            }
         }
-        self.next = name + 1;
-        Ok(name)
     }
 
     fn read(&mut self, name: u64, len: u32) -> Result<Tile, SwapRefused> {
