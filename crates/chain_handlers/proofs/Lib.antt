@@ -4,3 +4,4 @@ mod Tiles
 mod Overlays
 mod Moves
 mod Owning
+mod Fresh

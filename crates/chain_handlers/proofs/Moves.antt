@@ -240,9 +240,11 @@ crowded-for es capacity name len below full apart none known = record {
 }
 
 -- a tile that is kept where it was read changes nothing
-pub refetched : (held : Held) (name len : ℕ) (tile : List ℕ) → HasSameNames held → length_of held name ≡ Some len → Reads held name len tile
-    → with_tile held name tile ≡ held
-refetched held name len tile same known read = put-known held name tile same (known ∙ ap (λ n. Some n) (sym read.length)) read.bytes
+pub refetched : (outer middle new : Held) (name len : ℕ) (tile : List ℕ) → new ≡ with_tile middle name tile → middle ≡ outer
+    → HasSameNames outer → length_of outer name ≡ Some len → Reads outer name len tile → new ≡ outer
+refetched outer middle new name len tile put same names known read =
+    put ∙ ap (λ held. with_tile held name tile) same
+    ∙ put-known outer name tile names (known ∙ ap (λ n. Some n) (sym read.length)) read.bytes
 
 -- a tile that is found in memory is read
 pub reads-found : (es : List (ℕ × List ℕ)) (name len : ℕ) (tile : List ℕ) (below : Held) → lookup (eqb name) es ≡ Some tile

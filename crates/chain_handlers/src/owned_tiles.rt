@@ -1,12 +1,13 @@
 //! Tiles under names that have owners.
 
-ghost use Rattle.std.specs.Prelude.{◌≡◌, ◌-◌, ◌^◌, ◌<◌, ◌≤◌, Some, None, IfSome, unwrap_or};
+ghost use Rattle.std.specs.Prelude.{◌≡◌, ◌-◌, ◌^◌, ◌<◌, ◌≤◌, ◌∷◌, None, IfOk, IfSome, min};
 ghost use Rattle.std.specs.FinMap as map;
 ghost use Rattle.chain_handlers.specs.DiskTiles.{disk_counts, disk_has_counts, disk_has_same_names, disk_held, disk_is_chain, disk_room};
 ghost use Rattle.chain_handlers.specs.Overlay.{IsCache, cache_counts, cache_has_counts, cache_is_chain, overlay, overlay_has_same_names};
-ghost use Rattle.chain_handlers.specs.OwnedTiles.{HaveOwners, owned_is_chain, owned_has_counts, with_counts};
+ghost use Rattle.chain_handlers.specs.OwnedTiles.{HaveOwners, counts_over, nothing_over, owned_has_counts, owned_is_chain, with_counts};
 
 use crate::cache_handler::CacheHandler;
+use crate::chain_memory::ChainMemory;
 use crate::disk_handler::DiskHandler;
 use crate::empty_handler::EmptyHandler;
 use crate::owner_counts::OwnerCounts;
@@ -14,7 +15,8 @@ use chain_contracts::{TileChain, TileHandler};
 use chain_owners::ChainMeaning;
 use no_memory::NoMemory;
 use outside_io::{Lent, SwapDisk};
-use swap_store::SwapRefused;
+use std::alloc::Global;
+use swap_store::{Store, SwapRefused};
 use tile_cow::Tile;
 
 /// The tiles of a chain: zeros where none is, then those in memory, then those on the disk.
@@ -53,7 +55,68 @@ impl<D: SwapDisk + Drop> ChainMeaning for OwnedTiles<D> {
     ghost chain_laws = { λ chain valid. owned_is_chain _ _ _ _ chain.owners (⟦<Tiles<D> as ChainMeaning>⟧.chain_laws chain.tiles valid) };
 }
 
+impl<'s, D: SwapDisk> OwnedTiles<Lent<'s, D>> {
+    /// Returns a chain without names, whose tiles take at most `blocks` blocks of a disk, or all where it
+    /// has fewer, and of which at most `resident` are in memory. Who has to know the disk where that runs
+    /// out of memory takes a `ChainMemory` first, and then makes the chain by `over`.
+    pub fn new(alloc: Global, disk: &'s mut D, blocks: u32, resident: u32) -> Result<Chain<'s, D>, NoMemory>
+        requires { 1 ≤ resident }
+        ensures held { IfOk result (λ chain.
+            ⟦<Chain<'s, D> as ChainMeaning>⟧.held chain ≡ nothing_over (D.blocks disk.old)) }
+        ensures counts { IfOk result (λ chain. ⟦<Chain<'s, D> as ChainMeaning>⟧.counts chain
+            ≡ counts_over (D.faults disk.old) (min blocks (D.block_count disk.old)) resident) }
+        ensures resident { IfOk result (λ chain. ⟦<Chain<'s, D> as ChainMeaning>⟧.resident chain ≡ 0) }
+        ensures loans { IfOk result (λ chain.
+            ⟦<Chain<'s, D> as ChainMeaning>⟧.loans chain ≡ disk.entry.ghost_name ∷ D.loans disk.old) }
+        ensures valid { IfOk result (λ chain. ⟦<Chain<'s, D> as ChainMeaning>⟧.is_valid chain) }
+        ensures disk { IfOk result (λ chain. chain.tiles.below.below.store.disk.disk ≡ disk.entry) }
+    {
+        let memory = ChainMemory::new(alloc, blocks.min(disk.size()), resident)?;
+        Ok(OwnedTiles::over(memory, Lent { disk }))
+    }
+}
+
 impl<D: SwapDisk + Drop> OwnedTiles<D> {
+    /// Returns a chain without names over a disk, for which the memory was taken before. It can't fail,
+    /// so who lends the disk here knows it where the memory was refused.
+    pub fn over(memory: ChainMemory, disk: D) -> OwnedTiles<D>
+        requires { memory.store.used ≤ D.block_count disk }
+        ensures held { ⟦<OwnedTiles<D> as ChainMeaning>⟧.held result ≡ nothing_over (D.blocks disk) }
+        ensures counts { ⟦<OwnedTiles<D> as ChainMeaning>⟧.counts result
+            ≡ counts_over (D.faults disk) memory.store.used memory.tiles.cap }
+        ensures resident { ⟦<OwnedTiles<D> as ChainMeaning>⟧.resident result ≡ 0 }
+        ensures loans { ⟦<OwnedTiles<D> as ChainMeaning>⟧.loans result ≡ D.loans disk }
+        ensures valid { ⟦<OwnedTiles<D> as ChainMeaning>⟧.is_valid result }
+        ensures disk { result.tiles.below.below.store.disk ≡ disk }
+    {
+        let ChainMemory {
+            store,
+            tiles,
+            alloc,
+        } = memory;
+        let below = DiskHandler::new(Store::over(store, disk));
+        let cache = CacheHandler::over(alloc, tiles, below);
+        OwnedTiles {
+            tiles: EmptyHandler::new(alloc, cache),
+            owners: OwnerCounts::new(alloc),
+            next: 1,
+        }
+    }
+
+    /// Gives the disk back, as the last call left it. Tiles that are in memory alone are lost.
+    pub fn end(self) -> D
+        ensures disk { result ≡ self.tiles.below.below.store.disk }
+        ensures faults { D.faults result ≡ (⟦<OwnedTiles<D> as ChainMeaning>⟧.counts self).faults }
+        ensures loans { D.loans result ≡ ⟦<OwnedTiles<D> as ChainMeaning>⟧.loans self }
+    {
+        let OwnedTiles {
+            tiles,
+            owners: _,
+            next: _,
+        } = self;
+        tiles.into_below().into_below().end()
+    }
+
     /// Returns a name that isn't there, and is never 0: the first one from the next on, or from 1 on
     /// where all of those are there. It looks at as many names as there are, and one more.
     fn free_name(&self) -> Option<u64>

@@ -32,8 +32,8 @@ pub returns-clause-held : goal.returns-clause-held
 returns-clause-held g c =
     let es = c.args.self.now.tiles.entries in
     let below = g.H.ChainMeaning.held c.args.self.now.below in
-    let read = reads-above es c.args.name c.args.len c.in_ok-tile.tile below (overlay es below) refl c.requires.absent c.requires.known c.in_ok-tile.ensures.read in
-    c.in_ok-insert.ensures.held
-    ∙ ap (λ (held : Held). with_tile held c.args.name c.in_ok-tile.tile) (c.make_room.ensures.held ∙ ap (overlay es) c.get.ensures.held)
-    ∙ refetched (overlay es below) c.args.name c.args.len c.in_ok-tile.tile
-    (overlay_has_same_names es below (g.H.ChainMeaning.same_names c.args.self.now.below)) c.requires.known read
+    refetched (overlay es below) (overlay c.make_room.new.self.tiles.entries (g.H.ChainMeaning.held c.make_room.new.self.below))
+    (overlay c.insert.new.self.tiles.entries (g.H.ChainMeaning.held c.insert.new.self.below)) c.args.name c.args.len c.in_ok-tile.tile
+    c.in_ok-insert.ensures.held (c.make_room.ensures.held ∙ ap (overlay es) c.get.ensures.held)
+    (overlay_has_same_names es below (g.H.ChainMeaning.same_names c.args.self.now.below)) c.requires.known
+    (reads-above es c.args.name c.args.len c.in_ok-tile.tile below (overlay es below) refl c.requires.absent c.requires.known c.in_ok-tile.ensures.read)
