@@ -5,3 +5,4 @@ mod Overlays
 mod Moves
 mod Owning
 mod Fresh
+mod TestPages

@@ -59,7 +59,12 @@ impl<'s, D: SwapDisk> OwnedTiles<Lent<'s, D>> {
     /// Returns a chain without names, whose tiles take at most `blocks` blocks of a disk, or all where it
     /// has fewer, and of which at most `resident` are in memory. Who has to know the disk where that runs
     /// out of memory takes a `ChainMemory` first, and then makes the chain by `over`.
-    pub fn new(alloc: Global, disk: &'s mut D, blocks: u32, resident: u32) -> Result<Chain<'s, D>, NoMemory>
+    pub fn new(
+        alloc: Global,
+        disk: &'s mut D,
+        blocks: u32,
+        resident: u32,
+    ) -> Result<Chain<'s, D>, NoMemory>
         requires { 1 ≤ resident }
         ensures held { IfOk result (λ chain.
             ⟦<Chain<'s, D> as ChainMeaning>⟧.held chain ≡ nothing_over (D.blocks disk.old)) }

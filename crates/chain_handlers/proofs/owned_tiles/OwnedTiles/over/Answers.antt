@@ -26,10 +26,9 @@ returns-clause-counts g c =
 pub returns-clause-valid : goal.returns-clause-valid
 returns-clause-valid g c =
     let memory = c.args.memory in
-    rw (c.new.ensures, c.over-cache.ensures.below, c.over-cache.ensures.tiles, c.new-below.ensures.store, c.over.ensures.placement, c.over.ensures.disk)
-    (
+    rw (c.new.ensures, c.over-cache.ensures.below, c.over-cache.ensures.tiles, c.new-below.ensures.store, c.over.ensures.placement, c.over.ensures.disk) (
       let valid = rw (c.over.ensures.placement, c.over.ensures.disk) at c.new-below.ensures.valid in
-      valid (fresh-lengths memory.store memory.no_names (g.D.SwapDisk.blocks c.args.disk)),
+          valid (fresh-lengths memory.store memory.no_names (g.D.SwapDisk.blocks c.args.disk)),
       fresh-cache memory.store memory.no_names memory.tiles.entries memory.no_tiles memory.tiles.cap
           (disk_held memory.store (g.D.SwapDisk.blocks c.args.disk)),
     )
