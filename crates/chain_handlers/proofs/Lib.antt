@@ -3,3 +3,6 @@ mod DiskPuts
 mod Tiles
 mod Overlays
 mod Moves
+mod Owning
+mod Fresh
+mod TestPages

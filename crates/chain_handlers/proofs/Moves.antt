@@ -1,5 +1,5 @@
 -- A tile that moves from a cache to what is below it.
-use Rattle.std.proofs.Common.{◌≡◌, ℕ, ◌+◌, ◌-◌, ◌<◌, ◌≤◌, eqb, List, [], ◌∷◌, ◌++◌, length, take, Option, Some, None, is_some, true≢false, false, cond, IfSome, refl, sym, ap, ◌∙◌, subst, inl, inr, length-take, arith}
+use Rattle.std.proofs.Common.{◌≡◌, ℕ, ◌+◌, ◌-◌, ◌<◌, ◌≤◌, eqb, List, [], ◌∷◌, ◌++◌, length, take, Option, Some, None, is_some, true≢false, true, false, cond, IfSome, refl, sym, ap, ◌∙◌, subst, inl, inr, length-take, arith}
 use Rattle.std.specs.Cmp.{nat_eq_equiv}
 use Rattle.std.specs.FinMap as map
 use Rattle.std.specs.FinMap.{len-insert}
@@ -12,6 +12,7 @@ use Rattle.std.proofs.lemmas.Map.Entries.{lookup_from_place, none_past_head}
 use Rattle.std.proofs.lemmas.Map.Keys.{IsDistinct-tail}
 use Rattle.lru.specs.LruCache.{last_entry, lru_cache, promoted, put_entries}
 use Rattle.lru.proofs.CallerLemmas.{lookup-put_entries}
+use Rattle.chain_owners.specs.Chain.{HasSameNames}
 use Rattle.chain_owners.specs.Counts.{Continues, Counts}
 use Rattle.chain_owners.specs.Held.{Held, bytes_of, length_of, with_tile, without_tile}
 use Rattle.chain_owners.specs.Room.{Room}
@@ -20,9 +21,10 @@ use Rattle.swap_store.specs.declared.refusal.SwapRefused.{SwapRefused}
 use Rattle.swap_store.specs.declared.refusal.SwapRefused.TheVariants as refusals
 use Rattle.swap_store.specs.Cause.{HasSwapCause}
 use Rattle.swap_store.proofs.Causes.{cause-before, cause-more}
-use Rattle.chain_handlers.specs.Overlay.{IsCache, overlay}
+use Rattle.chain_handlers.specs.Overlay.{IsCache, IsCrowded, overlay}
 use Rattle.chain_contracts.specs.Tiles.{OnFull, Reads, ReportsPut, ReportsRoom, emptied}
 use Rattle.chain_handlers.proofs.NameCounts.{len-inserted}
+use Rattle.chain_handlers.proofs.Tiles.{put-known}
 use Rattle.chain_handlers.proofs.Overlays.{names-below, overlay-has, overlay-hides, overlay-lacks, overlay-last, overlay-promoted, overlay-put, overlay-removed, overlay-shadow, split_last}
 
 -- a tile of one map is one of another that has its lengths
@@ -217,3 +219,61 @@ reads-above es name len tile below outer is none known read = record {
   where
     some-none : Some len ≡ None → ⊥
     some-none wrong = cc
+
+-- a tile that isn't in memory is below
+pub known-below : (es : List (ℕ × List ℕ)) (name len : ℕ) (below : Held) → lookup (eqb name) es ≡ None
+    → length_of (overlay es below) name ≡ Some len → length_of below name ≡ Some len
+known-below es name len below none known = sym (overlay-lacks name es below none).0 ∙ known
+
+-- what excuses a refusal below excuses it above, where there are as many names at least
+pub cause-above : (es : List (ℕ × List ℕ)) (below : Held) (old now : Counts) (refused : SwapRefused) → old.names ≡ map.len below.lengths
+    → HasSwapCause (emptied old) now old.names refused → HasSwapCause (emptied old) now (map.len (overlay es below).lengths) refused
+cause-above es below old now refused counted =
+    cause-more (emptied old) now old.names (map.len (overlay es below).lengths) refused (omega (arith, names-below es below, counted))
+
+-- a cache without room for a name that is there has fewer tiles than there are names
+pub crowded-for : (es : List (ℕ × List ℕ)) (capacity name len : ℕ) (below : Held) → length es ≡ capacity → IsDistinct eqb (keys_of es)
+    → lookup (eqb name) es ≡ None → length_of (overlay es below) name ≡ Some len → IsCrowded (length es) capacity (map.len (overlay es below).lengths)
+crowded-for es capacity name len below full apart none known = record {
+  full = full;
+  past = omega (arith, full, one-of-more es name len below apart none known);
+}
+
+-- a tile that is kept where it was read changes nothing
+pub refetched : (outer middle new : Held) (name len : ℕ) (tile : List ℕ) → new ≡ with_tile middle name tile → middle ≡ outer
+    → HasSameNames outer → length_of outer name ≡ Some len → Reads outer name len tile → new ≡ outer
+refetched outer middle new name len tile put same names known read =
+    put ∙ ap (λ held. with_tile held name tile) same
+    ∙ put-known outer name tile names (known ∙ ap (λ n. Some n) (sym read.length)) read.bytes
+
+-- a tile that is found in memory is read
+pub reads-found : (es : List (ℕ × List ℕ)) (name len : ℕ) (tile : List ℕ) (below : Held) → lookup (eqb name) es ≡ Some tile
+    → length_of (overlay es below) name ≡ Some len → Reads (overlay es below) name len tile
+reads-found es name len tile below found known =
+    let has = overlay-has name es tile below found in
+    record {
+      length = some-same (length tile) len (sym has.0 ∙ known);
+      bytes = has.1;
+      absent = λ missing. absurd (some-none (length tile) (sym has.0 ∙ missing));
+    }
+  where
+    some-same : (m n : ℕ) → Some m ≡ Some n → m ≡ n
+    some-same m n is = cc
+
+    some-none : (m : ℕ) → Some m ≡ None → ⊥
+    some-none m wrong = cc
+
+some-of : {X : Type 0} (o : Option X) → is_some o ≡ true → (x : X) × (o ≡ Some x)
+some-of None is = absurd (true≢false (sym is))
+some-of (Some x) is = (x, refl)
+
+-- a name is there where it is in memory, and otherwise where it is below
+pub has-above : (es : List (ℕ × List ℕ)) (name : ℕ) (below : Held) → is_some (lookup (eqb name) es) ≡ true
+    → is_some (length_of (overlay es below) name) ≡ true
+has-above es name below there =
+    let found = some-of (lookup (eqb name) es) there in
+    ap is_some (overlay-has name es found.0 below found.1).0
+
+pub has-below : (es : List (ℕ × List ℕ)) (name : ℕ) (below : Held) → is_some (lookup (eqb name) es) ≡ false
+    → is_some (length_of (overlay es below) name) ≡ is_some (length_of below name)
+has-below es name below missing = ap is_some (overlay-lacks name es below (is-none (lookup (eqb name) es) missing)).0

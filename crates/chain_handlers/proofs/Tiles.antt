@@ -36,11 +36,11 @@ module _ {X : Type 0} where
       (λ q other. get_left (map.insert m j w) k q other ∙ get-inserted m j w q
       ∙ sym (get-inserted (map.remove m k) j w q ∙ ap (cond (eqb q j) (Some w)) (get_left m k q other)))
 
-  map-out : (m : Named X) (k : ℕ) (v : X) → map.remove (map.insert m k v) k ≡ map.remove m k
+  pub map-out : (m : Named X) (k : ℕ) (v : X) → map.remove (map.insert m k v) k ≡ map.remove m k
   map-out m k v = by_name _ _ k (get_gone (map.insert m k v) k ∙ sym (get_gone m k))
       (λ q ne. get_left (map.insert m k v) k q ne ∙ get_elsewhere m k v q ne ∙ sym (get_left m k q ne))
 
-  map-absent : (m : Named X) (k : ℕ) → map.get m k ≡ None → map.remove m k ≡ m
+  pub map-absent : (m : Named X) (k : ℕ) → map.get m k ≡ None → map.remove m k ≡ m
   map-absent m k none = by_name _ _ k (get_gone m k ∙ sym none) (λ q ne. get_left m k q ne)
 
   map-known : (m : Named X) (k : ℕ) (v : X) → map.get m k ≡ Some v → map.insert m k v ≡ m

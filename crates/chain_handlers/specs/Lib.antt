@@ -1,2 +1,5 @@
 pub mod DiskTiles
 pub mod Overlay
+pub mod Zeros
+pub mod OwnedTiles
+pub mod Pages

@@ -1,6 +1,6 @@
 -- What a cache over other tiles holds. Its laws are here and not among the proofs, since it is declared
 -- with them.
-use Rattle.std.specs.Prelude.{◌≡◌, ℕ, ◌≤◌, List, [], ◌∷◌, length, Option, Some, None, IfSome, is_some}
+use Rattle.std.specs.Prelude.{◌≡◌, ℕ, ◌<◌, ◌≤◌, List, [], ◌∷◌, length, Option, Some, None, IfSome, is_some}
 use Rattle.std.specs.Option.{option_map}
 use Rattle.std.specs.FinMap as map
 use Rattle.std.proofs.Common.{Bool, true, false, cond, eqb, refl, sym, ap, ◌∙◌}
@@ -31,6 +31,11 @@ pub record IsCache (es : List (ℕ × List ℕ)) (capacity : ℕ) (below : Held)
   pub fits : length es ≤ capacity
   -- a name below has as many bytes there as above
   pub agrees : (name len : ℕ) → length_of below name ≡ Some len → length_of (overlay es below) name ≡ Some len
+
+-- a cache of so many tiles at most has so many, and there are more names than that
+pub record IsCrowded (resident capacity names : ℕ) : Type 0 where
+  pub full : resident ≡ capacity
+  pub past : capacity < names
 
 same-cond : {X Y : Type 0} (b : Bool) (x : X) (y : Y) (o : Option X) (p : Option Y)
     → is_some o ≡ is_some p → is_some (cond b (Some x) o) ≡ is_some (cond b (Some y) p)

@@ -10,7 +10,7 @@ ghost use Rattle.chain_owners.specs.Counts.{Continues};
 ghost use Rattle.chain_owners.specs.Held.{length_of, with_tile, without_tile};
 ghost use Rattle.swap_store.specs.Cause.{HasSwapCause};
 ghost use Rattle.chain_contracts.specs.Tiles.{OnFull, Reads, ReportsPut, ReportsRoom, emptied};
-ghost use Rattle.chain_handlers.specs.Overlay.{IsCache, cache_counts, cache_has_counts, cache_is_chain, overlay, overlay_has_same_names};
+ghost use Rattle.chain_handlers.specs.Overlay.{IsCache, IsCrowded, cache_counts, cache_has_counts, cache_is_chain, overlay, overlay_has_same_names};
 
 use chain_contracts::TileHandler;
 use chain_owners::ChainMeaning;
@@ -251,8 +251,8 @@ impl<H: TileHandler + Drop> CacheHandler<H> {
         ensures full { H.is_valid self.old.below →
             IsCache self.old.tiles.entries self.old.tiles.cap (H.held self.old.below) → IfErr result
             (ReportsPut (overlay self.old.tiles.entries (H.held self.old.below)) tile.now (H.store self.new.below)) }
-        ensures resident { IfErr result (OnFull ((length self.new.tiles.entries ≡ self.new.tiles.cap)
-            × (self.new.tiles.cap < map.len (with_tile (overlay self.old.tiles.entries (H.held self.old.below)) name tile.now).lengths))) }
+        ensures resident { IfErr result (OnFull (IsCrowded (length self.new.tiles.entries) self.new.tiles.cap
+            (map.len (with_tile (overlay self.old.tiles.entries (H.held self.old.below)) name tile.now).lengths))) }
         ensures continues { Continues (H.counts self.old.below) (H.counts self.new.below) }
         ensures loans { H.loans self.new.below ≡ H.loans self.old.below }
         ensures valid { H.is_valid self.old.below → H.is_valid self.new.below }
@@ -262,6 +262,36 @@ impl<H: TileHandler + Drop> CacheHandler<H> {
         self.make_room_for(name)?;
         self.insert(name, tile)?;
         Ok(())
+    }
+
+    /// Reads a tile from below that isn't in memory, for which it makes room there. After an error the
+    /// tile is where it was.
+    fn fetch(&mut self, name: u64, len: u32) -> Result<Tile, SwapRefused>
+        requires size { IsTileLength len }
+        requires known { length_of (overlay self.old.tiles.entries (H.held self.old.below)) name ≡ Some len }
+        requires absent { lookup (nat_eq name) self.old.tiles.entries ≡ None }
+        ensures read { IfOk result (Reads (overlay self.old.tiles.entries (H.held self.old.below)) name len) }
+        ensures held { overlay self.new.tiles.entries (H.held self.new.below)
+            ≡ overlay self.old.tiles.entries (H.held self.old.below) }
+        ensures capacity { self.new.tiles.cap ≡ self.old.tiles.cap }
+        ensures cause { IfErr result (HasSwapCause (emptied (H.counts self.old.below)) (H.counts self.new.below)
+            (map.len (overlay self.old.tiles.entries (H.held self.old.below)).lengths)) }
+        ensures full { H.is_valid self.old.below →
+            IsCache self.old.tiles.entries self.old.tiles.cap (H.held self.old.below) → IfErr result
+            (ReportsRoom (overlay self.old.tiles.entries (H.held self.old.below)) (H.store self.new.below)) }
+        ensures resident { IfErr result (OnFull (IsCrowded (length self.new.tiles.entries) self.new.tiles.cap
+            (map.len (overlay self.old.tiles.entries (H.held self.old.below)).lengths)
+            ⊎ H.full_at_get self.new.below (H.counts self.new.below).names)) }
+        ensures continues { Continues (H.counts self.old.below) (H.counts self.new.below) }
+        ensures loans { H.loans self.new.below ≡ H.loans self.old.below }
+        ensures valid { H.is_valid self.old.below → H.is_valid self.new.below }
+        ensures laws { IsCache self.old.tiles.entries self.old.tiles.cap (H.held self.old.below) →
+            IsCache self.new.tiles.entries self.new.tiles.cap (H.held self.new.below) }
+    {
+        let tile = self.below.get(name, len)?;
+        self.make_room()?;
+        self.insert(name, &tile)?;
+        Ok(tile)
     }
 
     /// Puts all tiles below that are in memory, and takes them out of it.
@@ -288,7 +318,7 @@ impl<H: TileHandler + Drop> CacheHandler<H> {
     }
 
     /// Gives the handler below back, with every tile that it has; those in memory are lost.
-    pub fn into_below(self) -> H
+    pub(crate) fn into_below(self) -> H
         ensures { result ≡ self.below }
     {
         let CacheHandler {
@@ -297,5 +327,38 @@ impl<H: TileHandler + Drop> CacheHandler<H> {
             alloc: _,
         } = self;
         below
+    }
+}
+
+impl<H: TileHandler + Drop> TileHandler for CacheHandler<H> {
+    ghost in_swap = { λ cache. H.in_swap cache.below };
+
+    ghost full_at_get = { λ cache names. IsCrowded (length cache.tiles.entries) cache.tiles.cap names
+        ⊎ H.full_at_get cache.below (H.counts cache.below).names };
+
+    ghost full_at_put = { λ cache names. IsCrowded (length cache.tiles.entries) cache.tiles.cap names };
+
+    fn has(&self, name: u64) -> bool {
+        self.tiles.contains(&name) || self.below.has(name)
+    }
+
+    fn get(&mut self, name: u64, len: u32) -> Result<Tile, SwapRefused> {
+        if let Some(tile) = self.find(name)? {
+            return Ok(tile);
+        }
+        self.fetch(name, len)
+    }
+
+    fn put(&mut self, name: u64, tile: &Tile) -> Result<(), SwapRefused> {
+        self.keep(name, tile)
+    }
+
+    fn forget(&mut self, name: u64) {
+        self.remove(name);
+    }
+
+    fn flush(&mut self) -> Result<(), SwapRefused> {
+        self.move_all()?;
+        self.below.flush()
     }
 }

@@ -2,9 +2,19 @@
 #![tactic(auto)]
 
 mod cache_handler;
+mod chain_memory;
 mod disk_handler;
+mod empty_handler;
+mod owned_tiles;
+mod owner_counts;
+#[cfg(test)]
+mod tests;
+mod zero_tiles;
 
 pub use cache_handler::CacheHandler;
+pub use chain_contracts::{TileChain, TileHandler};
+pub use chain_memory::ChainMemory;
 pub use disk_handler::{DiskHandler, SwapHandler};
+pub use empty_handler::EmptyHandler;
+pub use owned_tiles::{Chain, OwnedTiles};
 pub use swap_store::SwapRefused;
-pub use chain_contracts::TileHandler;

@@ -26,7 +26,7 @@ returns-in_err-make_room_for-clause-resident g c =
     let more = one-more-name c.make_room_for.new.self.tiles.entries c.args.name c.args.tile.now (g.H.ChainMeaning.held c.make_room_for.new.self.below)
     c.in_err-make_room_for.ensures.apart c.in_err-make_room_for.ensures.absent in
     let more' = rw c.make_room_for.ensures.held at more in
-    rw same (on-full _ c.in_err-make_room_for.field-0.0 (c.in_err-make_room_for.ensures.crowded, omega (arith, more', c.in_err-make_room_for.ensures.crowded)))
+    rw same (on-full _ c.in_err-make_room_for.field-0.0 (record { full = c.in_err-make_room_for.ensures.crowded; past = omega (arith, more', c.in_err-make_room_for.ensures.crowded) }))
 
 pub returns-clause-put : goal.returns-clause-put
 returns-clause-put g c =

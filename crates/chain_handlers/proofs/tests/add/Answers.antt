@@ -1,0 +1,11 @@
+use Rattle.std.proofs.Common.{sym, subst}
+use Rattle.chain_handlers.specs.Pages.{ArePages}
+use Rattle.chain_handlers.proofs.TestPages.{pages-put}
+use Rattle.chain_handlers.proofs.tests.add.Goals as goal
+
+pub returns : goal.returns
+returns g c = record {
+  pages = subst ArePages (sym c.in_ok-name.ensures.named)
+      (pages-put (g.C.ChainMeaning.held c.args.chain.now) c.in_ok-name.name c.requires.pages c.in_ok-tile.tile c.in_ok-tile.ensures);
+  reachable = c.new_name.ensures.valid c.requires.reachable;
+}
