@@ -5,4 +5,3 @@ mod Overlays
 mod Moves
 mod Owning
 mod Fresh
-mod TestPages

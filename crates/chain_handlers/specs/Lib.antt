@@ -2,4 +2,3 @@ pub mod DiskTiles
 pub mod Overlay
 pub mod Zeros
 pub mod OwnedTiles
-pub mod Pages

@@ -7,8 +7,6 @@ mod disk_handler;
 mod empty_handler;
 mod owned_tiles;
 mod owner_counts;
-#[cfg(test)]
-mod tests;
 mod zero_tiles;
 
 pub use cache_handler::CacheHandler;

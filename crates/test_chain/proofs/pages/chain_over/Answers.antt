@@ -1,5 +1,5 @@
-use Rattle.chain_handlers.proofs.TestPages.{no_pages}
-use Rattle.chain_handlers.proofs.tests.chain_over.Goals as goal
+use Rattle.test_chain.proofs.PageLaws.{no_pages}
+use Rattle.test_chain.proofs.pages.chain_over.Goals as goal
 
 pub returns : goal.returns
 returns g c = record {

@@ -9,7 +9,7 @@ use Rattle.chain_owners.specs.Held.{Held, disowned, length_of, owned, with_name,
 use Rattle.chain_owners.proofs.HeldLaws.{after-disowned, after-owned}
 use Rattle.chain_owners.proofs.Names.{get_elsewhere, get_gone, get_here, get_left}
 use Rattle.chain_handlers.specs.OwnedTiles.{nothing_over}
-use Rattle.chain_handlers.specs.Pages.{ArePages, HasPages}
+use Rattle.test_chain.specs.Pages.{ArePages, HasPages}
 
 same-some : (m n : ℕ) → Some m ≡ Some n → m ≡ n
 same-some m n is = cc

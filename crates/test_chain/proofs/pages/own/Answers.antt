@@ -1,7 +1,7 @@
 use Rattle.std.proofs.Common.{sym, subst}
-use Rattle.chain_handlers.specs.Pages.{ArePages}
-use Rattle.chain_handlers.proofs.TestPages.{pages-owned}
-use Rattle.chain_handlers.proofs.tests.own.Goals as goal
+use Rattle.test_chain.specs.Pages.{ArePages}
+use Rattle.test_chain.proofs.PageLaws.{pages-owned}
+use Rattle.test_chain.proofs.pages.own.Goals as goal
 
 pub returns : goal.returns
 returns g c = record {

@@ -1,7 +1,7 @@
 use Rattle.std.proofs.Common.{sym, subst}
-use Rattle.chain_handlers.specs.Pages.{ArePages}
-use Rattle.chain_handlers.proofs.TestPages.{pages-put}
-use Rattle.chain_handlers.proofs.tests.replace.Goals as goal
+use Rattle.test_chain.specs.Pages.{ArePages}
+use Rattle.test_chain.proofs.PageLaws.{pages-put}
+use Rattle.test_chain.proofs.pages.replace.Goals as goal
 
 pub returns : goal.returns
 returns g c = record {

@@ -1,0 +1,58 @@
+//! A plain list of names with their pages and their owners.
+
+use std::alloc::{AllocError, Global};
+
+/// A name, the byte that its page has everywhere, and its number of owners.
+#[derive(Clone, Copy, Debug, PartialEq, Eq)]
+pub struct PlainName {
+    pub name: u64,
+    pub byte: u8,
+    pub owners: u32,
+}
+
+/// Names in the order in which they were added.
+#[derive(Drop)]
+pub struct PlainNames {
+    entries: Vec<PlainName>,
+}
+
+impl PlainNames {
+    /// Returns a list without names.
+    pub fn new(alloc: Global) -> PlainNames {
+        PlainNames {
+            entries: Vec::new(alloc),
+        }
+    }
+
+    /// Returns the names as a slice.
+    pub fn as_slice(&self) -> &[PlainName] {
+        &self.entries
+    }
+
+    /// Returns some name, by a number, where there is one.
+    pub fn some(&self, number: u64) -> Option<PlainName> {
+        let index = number.checked_rem(self.entries.len() as u64)?;
+        self.entries.get(index as usize).copied()
+    }
+
+    /// Adds a name of one owner.
+    pub fn add(&mut self, name: u64, byte: u8) -> Result<(), AllocError> {
+        self.entries.push(PlainName {
+            name,
+            byte,
+            owners: 1,
+        })?;
+        Ok(())
+    }
+
+    /// Gives a name another page, and so many owners. Without owners it goes.
+    pub fn change(&mut self, name: u64, byte: u8, owners: u32) {
+        for entry in self.entries.iter_mut() {
+            if entry.name == name {
+                entry.byte = byte;
+                entry.owners = owners;
+            }
+        }
+        self.entries.retain(|entry| entry.owners > 0);
+    }
+}

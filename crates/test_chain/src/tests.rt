@@ -1,0 +1,69 @@
+//! Expected values are worked out by hand from the doc comments, or are those of a plain list.
+
+use crate::examples::{fill, name_two};
+use crate::pages::chain_over;
+use crate::play::play;
+use chain_handlers::TileChain;
+use outside_io::{MemSwap, SureSwap, SwapDisk};
+use std::alloc::Global;
+use std::process::Abort;
+use std::test::Fail;
+
+#[test]
+fn names_keep_their_bytes_and_owners(rt: HostRuntime) -> Result<(), Fail> {
+    let alloc = rt.alloc();
+    let mut disk = SureSwap::new(alloc, 4)?;
+    let mut chain = chain_over(alloc, &mut disk, 4)?;
+    name_two(&rt, &mut chain, alloc)?;
+    assert!(rt; chain.zero(8_192)?.bytes().iter().all(|byte| *byte == 0));
+    let _disk = chain.end();
+    Ok(())
+}
+
+#[test]
+fn a_refused_call_changes_no_name(rt: HostRuntime) -> Result<(), Fail> {
+    let alloc = rt.alloc();
+    let mut disk = MemSwap::new(alloc, 1, Vec::new(alloc), vec![in alloc; 1]?)?;
+    let mut chain = chain_over(alloc, &mut disk, 4)?;
+    fill(&rt, &mut chain, alloc)
+}
+
+/// Makes so many calls on a chain over a disk, of which one page is in memory, and beside them on a plain
+/// list. Returns how many of them were refused once.
+fn play_over<D: SwapDisk>(
+    rt: &impl Abort,
+    alloc: Global,
+    disk: &mut D,
+    steps: u64,
+) -> Result<u32, Fail> {
+    let mut chain = chain_over(alloc, disk, 16)?;
+    play(rt, &mut chain, alloc, steps)
+}
+
+#[test]
+fn ten_thousand_calls_with_one_page_in_memory(rt: HostRuntime) -> Result<(), Fail> {
+    let alloc = rt.alloc();
+    let mut disk = SureSwap::new(alloc, 16)?;
+    assert_eq!(rt; play_over(&rt, alloc, &mut disk, 10_000)?, 0);
+    Ok(())
+}
+
+#[test]
+fn each_read_and_each_write_fails_in_turn(rt: HostRuntime) -> Result<(), Fail> {
+    let alloc = rt.alloc();
+    for failing in 1..15 {
+        let mut reads = MemSwap::new(alloc, 16, vec![in alloc; failing]?, Vec::new(alloc))?;
+        assert_eq!(rt;
+            play_over(&rt, alloc, &mut reads, 60)?,
+            1,
+            "read {failing} fails"
+        );
+        let mut writes = MemSwap::new(alloc, 16, Vec::new(alloc), vec![in alloc; failing]?)?;
+        assert_eq!(rt;
+            play_over(&rt, alloc, &mut writes, 60)?,
+            1,
+            "write {failing} fails"
+        );
+    }
+    Ok(())
+}
