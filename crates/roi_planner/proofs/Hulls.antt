@@ -111,6 +111,16 @@ pub hull_of-append : (xs ys : List Rectangle) → hull_of (xs ++ ys) ≡ hull (h
 hull_of-append [] ys = refl
 hull_of-append (x ∷ xs) ys = ap (hull x) (hull_of-append xs ys) ∙ sym (hull-associative x (hull_of xs) (hull_of ys))
 
+-- an empty hull is the empty rectangle
+pub hull_of-empty : (xs : List Rectangle) → is_empty (hull_of xs) ≡ true → hull_of xs ≡ empty
+hull_of-empty [] none = refl
+hull_of-empty (x ∷ xs) none = by (is_empty x) (is_empty (hull_of xs)) refl refl (hull_of-empty xs)
+  where
+    by : (s t : Bool) → is_empty x ≡ s → is_empty (hull_of xs) ≡ t → (is_empty (hull_of xs) ≡ true → hull_of xs ≡ empty) → hull x (hull_of xs) ≡ empty
+    by true t e f rest = hull-left_empty x (hull_of xs) e ∙ rest (ap is_empty (sym (hull-left_empty x (hull_of xs) e)) ∙ none)
+    by false true e f rest = absurd (let here : is_empty (hull x (hull_of xs)) ≡ false = ap is_empty (hull-right_empty x (hull_of xs) e f) ∙ e in cc)
+    by false false e f rest = absurd (let here : is_empty (hull x (hull_of xs)) ≡ false = hull-not_empty x (hull_of xs) e f in cc)
+
 -- taken from the last on
 pub hull_of-folded : (xs : List Rectangle) → fold (λ (h r : Rectangle). hull r h) empty (reverse xs) ≡ hull_of xs
 hull_of-folded [] = refl

@@ -5,3 +5,6 @@ pub mod AskedLaws
 pub mod StatedLaws
 pub mod NeedLaws
 pub mod Rows
+pub mod TileCounts
+pub mod NeedCounts
+pub mod Widths

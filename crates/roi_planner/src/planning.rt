@@ -1,7 +1,6 @@
 //! Plans of requests, strip by strip.
 
 ghost use Rattle.std.specs.Prelude.{◌≡◌, ℕ, ◌<◌, ◌≤◌, ◌^◌, IfErr, IfOk, None, OnOk, length};
-ghost use Rattle.plane_rect.specs.Rectangle.{InLimits};
 ghost use Rattle.plane_rect.specs.Tile.{last_tile};
 ghost use Rattle.model_states.specs.Need.{need, strip_rectangles, tile_line, wide};
 ghost use Rattle.roi_planner.specs.Inputs.{AreStatedOverSome};
@@ -35,7 +34,6 @@ pub fn plan<K: OpKit>(
     capacity: u32,
 ) -> Result<StripList, PlanRefused>
     requires known { node < length nodes.now }
-    requires limits { InLimits rect }
     requires stated { AreStatedOverSome K.Op.meanings nodes.now }
     ensures strips { IfOk result (λ strips. strips ≡ need K.Op.meanings nodes.now node rect) }
     ensures narrow { OnOk result (wide capacity (need K.Op.meanings nodes.now node rect) ≡ None) }
@@ -67,7 +65,6 @@ pub fn check_widths<K: OpKit>(
     capacity: u32,
 ) -> Result<(), PlanRefused>
     requires known { node < length nodes.now }
-    requires limits { InLimits rect }
     requires stated { AreStatedOverSome K.Op.meanings nodes.now }
     ensures narrow { OnOk result (wide capacity (need K.Op.meanings nodes.now node rect) ≡ None) }
     ensures refused { IfErr result (AreRefused capacity (need K.Op.meanings nodes.now node rect)) }
