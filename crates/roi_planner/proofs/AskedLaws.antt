@@ -1,5 +1,5 @@
 -- What is asked of nodes, one rectangle after another.
-use Rattle.std.proofs.Common.{◌≡◌, ◌≢◌, ℕ, suc, ◌+◌, ◌<◌, ◌≤◌, Bool, true, false, cond, eqb, List, [], ◌∷◌, ◌++◌, filter, length, get_or, set, map, take, refl, sym, ap, ◌∙◌, subst, arith, append_assoc, inl, inr}
+use Rattle.std.proofs.Common.{◌≡◌, ◌≢◌, ℕ, suc, ◌+◌, ◌<◌, ◌≤◌, Bool, false, cond, eqb, List, [], ◌∷◌, ◌++◌, filter, length, get_or, set, map, take, refl, sym, ap, ◌∙◌, subst, arith, append_assoc, inl, inr}
 use Rattle.std.specs.List.{enumerate_from, flat_map}
 use Rattle.std.proofs.Math.Seq.{take-suc}
 use Rattle.std.proofs.lemmas.Bool.{cases_eq, eq-eqb}
@@ -48,7 +48,7 @@ asked-one regions region asked node rect are inside added = record {
             let all : asked_of (asked ++ more) n ≡ asked_of asked node ++ rect ∷ [] =
             ap (asked_of (asked ++ more)) here ∙ asked_of-append asked more node ∙ ap (λ rs. asked_of asked node ++ rs) (asked-here node rect) in
             let same = same-then region (get_or regions node [] ++ rect ∷ []) (asked_of asked node ++ rect ∷ []) added
-                (same-append (get_or regions node []) (asked_of asked node) (rect ∷ []) (rect ∷ []) (are.each node inside) (same-itself (rect ∷ []))) in
+            (same-append (get_or regions node []) (asked_of asked node) (rect ∷ []) (rect ∷ []) (are.each node inside) (same-itself (rect ∷ []))) in
             subst (MeetSameTiles (get_or (set regions node region) n [])) (sym all)
             (subst (λ (a : List Rectangle). MeetSameTiles a (asked_of asked node ++ rect ∷ [])) (sym new) same)
         | inr there ↦

@@ -1,10 +1,10 @@
 -- Rectangles that meet the same tiles, and rectangles whose hull is their union.
-use Rattle.std.proofs.Common.{◌≡◌, ℕ, ◌+◌, ◌<◌, ◌≤◌, ◌⊎◌, Bool, true, false, cond, ◌||◌, List, [], ◌∷◌, ◌++◌, filter, inl, inr, min, max, refl, sym, ap, ◌∙◌, subst, arith, append_assoc, length, Contains}
+use Rattle.std.proofs.Common.{◌≡◌, ℕ, ◌≤◌, ◌⊎◌, Bool, true, false, cond, ◌||◌, List, [], ◌∷◌, ◌++◌, filter, inl, inr, refl, sym, ap, ◌∙◌, subst, arith, append_assoc, length, Contains}
 use Rattle.std.specs.Bool.{OnTrue}
 use Rattle.std.specs.List.{list_any}
 use Rattle.std.proofs.lemmas.Bool.{cases_lt}
 use Rattle.std.proofs.lemmas.List.Folds.{list_any-append}
-use Rattle.plane_rect.specs.Rectangle.{Includes, Inside, IsRectangle, Rectangle, empty, end_column, end_row, hull, is_empty, meet}
+use Rattle.plane_rect.specs.Rectangle.{Includes, Inside, Rectangle, empty, end_column, end_row, hull, is_empty, meet}
 use Rattle.plane_rect.specs.Tile.{Meets, Tile, tile_square, tiles}
 use Rattle.plane_rect.proofs.Differences.{hull-minimum, no_positions}
 use Rattle.plane_rect.proofs.Lists.{Contains-first, Contains-later}

@@ -1,5 +1,5 @@
 -- Nodes that are stated over some buffers, by their positions.
-use Rattle.std.proofs.Common.{◌≡◌, ℕ, ◌<◌, List, [], length, get_or, map, Option, Some, None, refl, sym, ap, ◌∙◌, subst, arith, IsSome, All}
+use Rattle.std.proofs.Common.{◌≡◌, ℕ, ◌<◌, List, [], length, get_or, map, Option, Some, None, refl, sym, ap, ◌∙◌, subst, arith, IsSome}
 use Rattle.std.specs.Prelude.{IsSomeAnd, slice_get}
 use Rattle.std.proofs.lemmas.List.{get_or-map, length-map}
 use Rattle.std.proofs.lemmas.Option.{slice_get-get_or}
@@ -13,9 +13,8 @@ use Rattle.model_graphs.specs.Meanings.{Meanings}
 use Rattle.model_graphs.specs.Node.{FromBuffer, Node, Step, index_of, step_of}
 use Rattle.model_graphs.specs.Shapes.{Shape, no_shape}
 use Rattle.model_states.specs.Need.{asked_by}
-use Rattle.model_states.specs.Valid.{Suits, input_boxes, steps_of}
+use Rattle.model_states.specs.Valid.{Suits, input_boxes}
 use Rattle.model_states.proofs.Suited.{suits_all}
-use Rattle.op_contracts.specs.Applying.{bounds_of}
 use Rattle.op_contracts.proofs.Bounds.{bounds-valid}
 use Rattle.roi_planner.specs.Asked.{asked_of_body}
 use Rattle.roi_planner.specs.Inputs.{AreStatedOverSome, Inputs, SuitsBody, all_inputs, box_at, inputs_of, step_at}

@@ -6,8 +6,8 @@ use Rattle.model_graphs.specs.declared.node.Body.TheVariants.{Source, Compute}
 use Rattle.model_graphs.specs.declared.node.NodeFact.{NodeFact}
 use Rattle.model_graphs.specs.Facts.{specs_of, stated_shapes}
 use Rattle.model_graphs.specs.Meanings.{Meanings}
-use Rattle.model_graphs.specs.Node.{FromBuffer, Node, Step, index_of}
-use Rattle.model_graphs.specs.Shapes.{Shape, Shapes, no_shape}
+use Rattle.model_graphs.specs.Node.{FromBuffer, Step, index_of}
+use Rattle.model_graphs.specs.Shapes.{Shapes, no_shape}
 use Rattle.model_states.specs.Valid.{AreStated, input_boxes, steps_of}
 use Rattle.op_contracts.specs.Applying.{bounds_of}
 

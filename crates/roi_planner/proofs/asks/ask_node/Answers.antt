@@ -1,9 +1,8 @@
 use Rattle.std.proofs.Common.{◌≡◌, ℕ, ◌<◌, [], ◌++◌, List, length, get_or, sym, ap, ◌∙◌, subst, arith}
 use Rattle.std.proofs.lemmas.List.{get_or_default}
 use Rattle.plane_rect.specs.Rectangle.{Rectangle}
-use Rattle.plane_rect.specs.Tile.{Tile}
-use Rattle.model_graphs.specs.Facts.{specs_of, stated_shapes}
-use Rattle.model_graphs.specs.Node.{Step, step_of}
+use Rattle.model_graphs.specs.Facts.{stated_shapes}
+use Rattle.model_graphs.specs.Node.{Step}
 use Rattle.model_states.specs.Need.{Asked, asked_by, asked_of}
 use Rattle.model_states.specs.Regions.{tiles_of_any}
 use Rattle.roi_planner.specs.Asked.{AreAsked, asked_of_body}

@@ -1,7 +1,6 @@
-use Rattle.std.proofs.Common.{◌≡◌, ℕ, ◌<◌, ◌≤◌, ◌∷◌, [], ◌++◌, List, length, get_or, take, sym, ap, ◌∙◌, subst, arith}
+use Rattle.std.proofs.Common.{◌≡◌, ℕ, ◌<◌, ◌≤◌, ◌++◌, List, length, get_or, take, ap, ◌∙◌, subst}
 use Rattle.std.proofs.lemmas.List.{get_or_default}
 use Rattle.plane_rect.specs.Rectangle.{Rectangle}
-use Rattle.model_states.specs.Need.{Asked}
 use Rattle.roi_planner.specs.Asked.{AreAsked, asked_of_part}
 use Rattle.roi_planner.proofs.AskedLaws.{part-all, part-more}
 use Rattle.roi_planner.proofs.asks.ask_part.Goals as goal

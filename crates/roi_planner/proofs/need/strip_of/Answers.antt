@@ -1,7 +1,7 @@
-use Rattle.std.proofs.Common.{◌≡◌, ◌∷◌, [], ◌++◌, suc, ◌+◌, List, length, ap, sym, ◌∙◌, subst, arith}
+use Rattle.std.proofs.Common.{◌≡◌, ◌∷◌, [], suc, ◌+◌, List, ap, sym, ◌∙◌, subst, arith}
 use Rattle.plane_rect.specs.Rectangle.{Rectangle, meet}
 use Rattle.model_graphs.specs.declared.node.NodeFact.{NodeFact}
-use Rattle.model_states.specs.Need.{Asked, Needed, strip_of}
+use Rattle.model_states.specs.Need.{Asked, Needed}
 use Rattle.model_states.specs.declared.strip.Strip.{Strip}
 use Rattle.roi_planner.specs.Asked.{AreAsked}
 use Rattle.roi_planner.specs.Inputs.{box_at}

@@ -1,6 +1,5 @@
-use Rattle.std.proofs.Common.{◌≡◌, ◌<◌, ◌^◌, List, length, sym, ap, ◌∙◌, subst, Some, refl}
-use Rattle.plane_rect.specs.Rectangle.{Rectangle}
-use Rattle.model_states.specs.Need.{need, strip_of, wide}
+use Rattle.std.proofs.Common.{◌≡◌, ◌<◌, ◌^◌, length, sym, ◌∙◌, subst, refl}
+use Rattle.model_states.specs.Need.{need, strip_of}
 use Rattle.model_states.specs.declared.strip.Strip.{Strip as StripData}
 use Rattle.roi_planner.specs.declared.refused.PlanRefused.TheVariants.{Strip}
 use Rattle.roi_planner.specs.Refusals.{AreRefused}
