@@ -16,11 +16,11 @@ has-sides r some = by (eqb r.width 0) (eqb r.height 0) refl refl some
     by false true e f none = absurd (cc)
     by false false e f none = (grind (arith, nat_tests), grind (arith, nat_tests))
 
-pub some-sides : (r : Rectangle) → 0 < r.width → 0 < r.height → is_empty r ≡ false
+some-sides : (r : Rectangle) → 0 < r.width → 0 < r.height → is_empty r ≡ false
 some-sides r wide high = grind (arith, nat_tests)
 
 -- the rectangle around two that have positions
-abbrev pub around : Rectangle → Rectangle → Rectangle
+abbrev around : Rectangle → Rectangle → Rectangle
 around a b = record {
   first_column = min a.first_column b.first_column;
   first_row = min a.first_row b.first_row;
@@ -49,7 +49,7 @@ hull-right_empty a b some none = by (is_empty a) (is_empty b) some none
     by false true e f = refl
     by false false e f = absurd (cc)
 
-pub hull-some : (a b : Rectangle) → is_empty a ≡ false → is_empty b ≡ false → hull a b ≡ around a b
+hull-some : (a b : Rectangle) → is_empty a ≡ false → is_empty b ≡ false → hull a b ≡ around a b
 hull-some a b some more = by (is_empty a) (is_empty b) some more
   where
     left : (0 < a.width) × (0 < a.height)

@@ -1,10 +1,9 @@
 -- Rectangles that meet the same tiles, and rectangles whose hull is their union.
-use Rattle.std.proofs.Common.{◌≡◌, ℕ, ◌≤◌, ◌⊎◌, Bool, true, false, cond, ◌||◌, List, [], ◌∷◌, ◌++◌, filter, inl, inr, refl, sym, ap, ◌∙◌, subst, arith, append_assoc, length, Contains}
+use Rattle.std.proofs.Common.{◌≡◌, ℕ, Bool, true, false, cond, ◌||◌, List, [], ◌∷◌, ◌++◌, filter, inl, inr, refl, sym, ap, ◌∙◌, subst, arith, append_assoc, length, Contains}
 use Rattle.std.specs.Bool.{OnTrue}
 use Rattle.std.specs.List.{list_any}
-use Rattle.std.proofs.lemmas.Bool.{cases_lt}
 use Rattle.std.proofs.lemmas.List.Folds.{list_any-append}
-use Rattle.plane_rect.specs.Rectangle.{Includes, Inside, Rectangle, empty, end_column, end_row, hull, is_empty, meet}
+use Rattle.plane_rect.specs.Rectangle.{Includes, Inside, Rectangle, empty, hull, is_empty, meet}
 use Rattle.plane_rect.specs.Tile.{Meets, Tile, tile_square, tiles}
 use Rattle.plane_rect.proofs.Differences.{hull-minimum, no_positions}
 use Rattle.plane_rect.proofs.Lists.{Contains-first, Contains-later}
@@ -15,7 +14,7 @@ use Rattle.model_states.specs.Regions.{hull_of, meets, tiles_of_any}
 use Rattle.model_states.proofs.NeededRight.{meets_whole}
 use Rattle.model_states.proofs.RightPairs.{a_position}
 use Rattle.roi_planner.specs.Asked.{HullIsUnion, MeetSameTiles}
-use Rattle.roi_planner.proofs.Hulls.{around, hull-associative, hull-left_empty, hull-right_empty, hull-some, hull_of-append}
+use Rattle.roi_planner.proofs.Hulls.{hull-associative, hull-left_empty, hull-right_empty, hull_of-append}
 
 -- ---- lists that meet the same tiles
 
@@ -87,49 +86,9 @@ pub on-true : (b : Bool) (P : Type 0) → (b ≡ true → P) → OnTrue b P
 on-true true P is = is refl
 on-true false P is = tt
 
--- one contains the other
-pub contained-joined : (a b : Rectangle) → Includes a b → HullIsUnion a b
-contained-joined a b inside u v there = inl (hull-minimum a b a (λ u v h. h) inside u v there)
-
+-- the second contains the first
 pub containing-joined : (a b : Rectangle) → Includes b a → HullIsUnion a b
 containing-joined a b inside u v there = inr (hull-minimum a b b inside (λ u v h. h) u v there)
-
--- a position of a hull is between the first and the end of both
-around-inside : (a b : Rectangle) (u v : ℕ) → Inside u v (hull a b) → Inside u v a ⊎ Inside u v b ⊎ Inside u v (around a b)
-around-inside a b u v there = by (is_empty a) (is_empty b) refl refl
-  where
-    by : (s t : Bool) → is_empty a ≡ s → is_empty b ≡ t → Inside u v a ⊎ Inside u v b ⊎ Inside u v (around a b)
-    by true t e f = inr (inl (subst (Inside u v) (hull-left_empty a b e) there))
-    by false true e f = inl (subst (Inside u v) (hull-right_empty a b e f) there)
-    by false false e f = inr (inr (subst (Inside u v) (hull-some a b e f) there))
-
--- they have the same rows, and their columns touch
-pub columns-joined : (a b : Rectangle) → a.first_row ≡ b.first_row → a.height ≡ b.height → b.first_column ≤ end_column a → a.first_column ≤ end_column b → HullIsUnion a b
-columns-joined a b top same left right u v there = elim (around-inside a b u v there) [
-  | inl here ↦ inl here
-  | inr (inl here) ↦ inr here
-  | inr (inr here) ↦ elim (cases_lt u (end_column a)) [
-    | inl low ↦ elim (cases_lt u a.first_column) [
-      | inl before ↦ inr (record { column = (omega (arith, here.column), omega (arith, before, right)); row = (omega (arith, here.row), omega (arith, here.row)) })
-      | inr after ↦ inl (record { column = (after, low); row = (omega (arith, here.row), omega (arith, here.row)) })
-    ]
-    | inr high ↦ inr (record { column = (omega (arith, high, left), omega (arith, here.column, high)); row = (omega (arith, here.row), omega (arith, here.row)) })
-  ]
-]
-
--- they have the same columns, and their rows touch
-pub rows-joined : (a b : Rectangle) → a.first_column ≡ b.first_column → a.width ≡ b.width → b.first_row ≤ end_row a → a.first_row ≤ end_row b → HullIsUnion a b
-rows-joined a b first same above below u v there = elim (around-inside a b u v there) [
-  | inl here ↦ inl here
-  | inr (inl here) ↦ inr here
-  | inr (inr here) ↦ elim (cases_lt v (end_row a)) [
-    | inl low ↦ elim (cases_lt v a.first_row) [
-      | inl before ↦ inr (record { column = (omega (arith, here.column), omega (arith, here.column)); row = (omega (arith, here.row), omega (arith, before, below)) })
-      | inr after ↦ inl (record { column = (omega (arith, here.column), omega (arith, here.column)); row = (after, low) })
-    ]
-    | inr high ↦ inr (record { column = (omega (arith, here.column), omega (arith, here.column)); row = (omega (arith, high, above), omega (arith, here.row, high)) })
-  ]
-]
 
 -- ---- steps of adding a rectangle
 
