@@ -1,6 +1,6 @@
 //! What a strip needs.
 
-ghost use Rattle.std.specs.Prelude.{◌≡◌, ℕ, ◌++◌, ◌<◌, ◌≤◌, List, IfOk, OnOk, length, reverse, take};
+ghost use Rattle.std.specs.Prelude.{◌≡◌, ℕ, ◌++◌, ◌^◌, ◌<◌, ◌≤◌, List, IfOk, OnOk, length, reverse, take};
 ghost use Rattle.model_graphs.specs.Facts.{specs_of, stated_shapes};
 ghost use Rattle.model_graphs.specs.Node.{step_of};
 ghost use Rattle.model_graphs.specs.declared.node.NodeFact.{NodeFact as Fact};
@@ -19,8 +19,9 @@ use op_contracts::OpKit;
 use plane_rect::{Rect, TileAt};
 use std::alloc::Global;
 
-/// Returns what is needed for a rectangle of the node at a position: the rectangle is a request cut to
-/// one row of tiles. Takes time in proportion to the needed tiles and to the inputs times the nodes.
+/// Returns what is needed for a rectangle of the node at a position, which are fewer than 2^32 tiles:
+/// the rectangle is a request cut to one row of tiles. Takes time in proportion to the needed tiles and
+/// to the inputs times the nodes.
 ///
 /// # Errors
 ///
@@ -34,10 +35,11 @@ pub fn strip_need<K: OpKit>(
 ) -> Result<Strip, NoMemory>
     requires node { node < length nodes.now }
     requires stated { AreStatedOverSome K.Op.meanings nodes.now }
-    ensures { IfOk result (λ strip. strip ≡ strip_of K.Op.meanings nodes.now node rect) }
+    ensures strip { IfOk result (λ strip. strip ≡ strip_of K.Op.meanings nodes.now node rect) }
+    ensures few { IfOk result (λ strip. length strip.need < 2 ^ 32) }
 {
     let inputs = all_inputs(alloc, nodes)?;
-    strip_of(kit, alloc, nodes, &inputs, node, rect)
+    Ok(strip_of(kit, alloc, nodes, &inputs, node, rect)?)
 }
 
 /// Returns what is needed for a rectangle of the node at a position, where the inputs of all nodes are
