@@ -1,0 +1,10 @@
+pub mod Hulls
+pub mod Joined
+pub mod Named
+pub mod AskedLaws
+pub mod StatedLaws
+pub mod NeedLaws
+pub mod Rows
+pub mod TileCounts
+pub mod NeedCounts
+pub mod Widths

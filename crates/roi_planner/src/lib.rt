@@ -1,0 +1,16 @@
+//! Plans of renders: the tiles that a request needs, strip by strip.
+#![tactic(auto)]
+
+mod asks;
+mod inputs;
+mod need;
+mod planning;
+mod refused;
+mod region;
+mod strips;
+
+pub use model_states::{NeedList, Strip};
+pub use need::strip_need;
+pub use planning::{check_widths, plan, strip_rects};
+pub use refused::PlanRefused;
+pub use strips::StripList;

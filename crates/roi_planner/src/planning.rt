@@ -1,0 +1,121 @@
+//! Plans of requests, strip by strip.
+
+ghost use Rattle.std.specs.Prelude.{◌≡◌, ℕ, ◌<◌, ◌≤◌, ◌^◌, IfErr, IfOk, None, OnOk, length};
+ghost use Rattle.plane_rect.specs.Tile.{last_tile};
+ghost use Rattle.model_states.specs.Need.{need, strip_rectangles, tile_line, wide};
+ghost use Rattle.roi_planner.specs.Inputs.{AreStatedOverSome};
+ghost use Rattle.roi_planner.specs.Refusals.{AreRefused};
+
+use crate::inputs::all_inputs;
+use crate::need::strip_of;
+use crate::refused::PlanRefused;
+use crate::strips::StripList;
+use model_graphs::NodeFact;
+use model_states::Strip;
+use no_memory::NoMemory;
+use op_contracts::OpKit;
+use plane_rect::{PLANE_SIDE, Rect, TILE_SIDE};
+use std::alloc::Global;
+
+/// Returns what is needed for a request of the node at a position: a strip for each row of tiles that
+/// it meets, from the top. Takes time in proportion to the needed tiles, and to the inputs times the
+/// nodes.
+///
+/// # Errors
+///
+/// `Strip` exactly where a strip needs more tiles than the capacity, with the number of the first such
+/// strip, and `NoMemory` if memory runs out.
+pub fn plan<K: OpKit>(
+    kit: &K,
+    alloc: Global,
+    nodes: &[NodeFact<K::Op>],
+    node: u32,
+    rect: Rect,
+    capacity: u32,
+) -> Result<StripList, PlanRefused>
+    requires known { node < length nodes.now }
+    requires stated { AreStatedOverSome K.Op.meanings nodes.now }
+    ensures strips { IfOk result (λ strips. strips ≡ need K.Op.meanings nodes.now node rect) }
+    ensures narrow { OnOk result (wide capacity (need K.Op.meanings nodes.now node rect) ≡ None) }
+    ensures refused { IfErr result (AreRefused capacity (need K.Op.meanings nodes.now node rect)) }
+{
+    let inputs = all_inputs(alloc, nodes)?;
+    let rects = strip_rects(alloc, &rect)?;
+    let mut strips = Vec::with_capacity(alloc, rects.len())?;
+    for rect in &rects {
+        let strip = strip_of(kit, alloc, nodes, &inputs, node, *rect)?;
+        check_strip(&strip, capacity)?;
+        strips.push(strip)?;
+    }
+    Ok(StripList::new(strips))
+}
+
+/// Tests whether each strip of a request needs at most as many tiles as the capacity. It keeps one
+/// strip at a time, and takes the time of [`plan`].
+///
+/// # Errors
+///
+/// As [`plan`].
+pub fn check_widths<K: OpKit>(
+    kit: &K,
+    alloc: Global,
+    nodes: &[NodeFact<K::Op>],
+    node: u32,
+    rect: Rect,
+    capacity: u32,
+) -> Result<(), PlanRefused>
+    requires known { node < length nodes.now }
+    requires stated { AreStatedOverSome K.Op.meanings nodes.now }
+    ensures narrow { OnOk result (wide capacity (need K.Op.meanings nodes.now node rect) ≡ None) }
+    ensures refused { IfErr result (AreRefused capacity (need K.Op.meanings nodes.now node rect)) }
+{
+    let inputs = all_inputs(alloc, nodes)?;
+    for rect in &strip_rects(alloc, &rect)? {
+        let strip = strip_of(kit, alloc, nodes, &inputs, node, *rect)?;
+        check_strip(&strip, capacity)?;
+    }
+    Ok(())
+}
+
+/// Tests whether a strip needs at most as many tiles as the capacity.
+fn check_strip(strip: &Strip, capacity: u32) -> Result<(), PlanRefused>
+    requires { length strip.now.need < 2 ^ 32 }
+    ensures narrow { OnOk result (length strip.now.need ≤ capacity) }
+    ensures wide { IfErr result (λ refused. capacity < length strip.now.need) }
+    ensures refused { IfErr result (λ refused. refused ≡ PlanRefused.Strip (length strip.now.need) capacity) }
+{
+    let needed = strip.need.as_slice().len() as u32;
+    if needed > capacity {
+        return Err(PlanRefused::Strip { needed, capacity });
+    }
+    Ok(())
+}
+
+/// Returns the rectangles of a request's strips: the request cut at the rows of tiles that it meets,
+/// from the top.
+///
+/// # Errors
+///
+/// `NoMemory` if memory runs out.
+pub fn strip_rects(alloc: Global, request: &Rect) -> Result<Vec<Rect>, NoMemory>
+    ensures { IfOk result (λ rects. rects.items ≡ strip_rectangles request.now) }
+{
+    let (first, end) = (
+        request.first_row() / TILE_SIDE,
+        request.end_row().div_ceil(TILE_SIDE),
+    );
+    let mut rects = Vec::new(alloc);
+    for row in first..end {
+        rects.push(request.meet(&tile_line(row)))?;
+    }
+    Ok(rects)
+}
+
+/// Returns all positions of a row of tiles.
+fn tile_line(row: u32) -> Rect
+    requires { row < last_tile }
+    ensures { result ≡ tile_line row }
+{
+    let first_row = row * TILE_SIDE;
+    Rect::spanning(0, first_row, PLANE_SIDE, first_row + TILE_SIDE)
+}
