@@ -18,7 +18,7 @@ pub(crate) struct Divisor {
     offset: u64,
     ghost some: { 0 < count },
     ghost few: { count ≤ 16641 },
-    ghost reciprocal: { factor ≡ 70368744177664 / count + 1 },
+    ghost reciprocal: { factor ≡ 2 ^ 46 / count + 1 },
     ghost half: { offset ≡ count / 2 * factor },
 }
 

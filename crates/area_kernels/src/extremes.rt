@@ -46,7 +46,7 @@ fn pick_part<L: Lanes, P: Pick>(format: Format, area: Area, patch: &mut [u8], ds
 
 /// Writes the largest sample of the square around each position, in each channel. The patch has the
 /// part of the result grown by the radius, read under a policy, and at least sixteen samples after
-/// it; it is overwritten. The cost a sample grows with the logarithm of the radius.
+/// it; it is overwritten. The cost grows with the part that is read and the logarithm of the radius.
 pub fn area_max(format: Format, area: Area, patch: &mut [u8], dst: &mut [u8])
     requires read { depth format * (read_samples area (channels format) + 16) ≤ length patch.old }
     requires written { length dst.old ≡ depth format * written_samples area (channels format) }
@@ -62,7 +62,7 @@ pub fn area_max(format: Format, area: Area, patch: &mut [u8], dst: &mut [u8])
 
 /// Writes the smallest sample of the square around each position, in each channel. The patch has the
 /// part of the result grown by the radius, read under a policy, and at least sixteen samples after
-/// it; it is overwritten. The cost a sample grows with the logarithm of the radius.
+/// it; it is overwritten. The cost grows with the part that is read and the logarithm of the radius.
 pub fn area_min(format: Format, area: Area, patch: &mut [u8], dst: &mut [u8])
     requires read { depth format * (read_samples area (channels format) + 16) ≤ length patch.old }
     requires written { length dst.old ≡ depth format * written_samples area (channels format) }

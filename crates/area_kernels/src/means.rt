@@ -16,14 +16,14 @@ use crate::sums::sum_row;
 use pixel_formats::Format;
 use simd_samples::{ByteLanes, Lanes, WordLanes};
 
-/// The samples of the longest row that is read, and sixteen more.
-const COLUMNS: usize = 784;
+/// The samples of the longest row that is read, of 192 pixels of four channels, and sixteen more.
+const COLUMNS: usize = 4 * 192 + 16;
 
-/// The samples of the longest row that is written, and sixteen more.
-const SUMS: usize = 272;
+/// The samples of the longest row that is written, of 64 pixels of four channels, and sixteen more.
+const SUMS: usize = 4 * 64 + 16;
 
-/// The bytes of as many samples.
-const MEAN_BYTES: usize = 544;
+/// The bytes of as many samples of two bytes.
+const MEAN_BYTES: usize = 2 * SUMS;
 
 /// Writes the means of the squares of a row, of which the sums of columns are given. The sums after
 /// the row are zeros before and after.
@@ -111,8 +111,8 @@ fn mean_part<L: Lanes>(format: Format, area: Area, patch: &[u8], dst: &mut [u8])
 
 /// Writes the mean of the square around each position, rounded to the nearest, in each channel. The
 /// patch has the part of the result grown by the radius, read under a policy, and at least sixteen
-/// samples after it. The cost a sample grows with the height that is read, and not with the number
-/// of samples of a square.
+/// samples after it. The cost grows with the part that is read, and not with the number of samples
+/// of a square.
 pub fn area_mean(format: Format, area: Area, patch: &[u8], dst: &mut [u8])
     requires read { depth format * (read_samples area (channels format) + 16) ≤ length patch.now }
     requires written { length dst.old ≡ depth format * written_samples area (channels format) }
