@@ -71,6 +71,20 @@ added sum coming = (sum + coming) % 2 ^ 32
 abbrev pub slid : ℕ → ℕ → ℕ → ℕ
 slid sum coming leaving = ((sum + coming) % 2 ^ 32 + (2 ^ 32 - leaving)) % 2 ^ 32
 
+-- the numbers of samples that are counted from a block's first one
+pub added_here : (s : ℕ → ℕ) (from at : ℕ) (old new : List ℕ) → ((j : ℕ) → j < 16 → get_or new (at + j) 0 ≡ added (get_or old (at + j) 0) (s (from + at + j)))
+    → (j : ℕ) → j < 16 → get_or new (at + j) 0 ≡ added (get_or old (at + j) 0) (s (from + (at + j)))
+added_here s from at old new made j lt =
+    let coming : from + at + j ≡ from + (at + j) = omega arith in
+    made j lt ∙ ap (λ k. added (get_or old (at + j) 0) (s k)) coming
+
+pub slid_here : (s : ℕ → ℕ) (from out at : ℕ) (old new : List ℕ) → ((j : ℕ) → j < 16 → get_or new (at + j) 0 ≡ slid (get_or old (at + j) 0) (s (from + at + j)) (s (out + at + j)))
+    → (j : ℕ) → j < 16 → get_or new (at + j) 0 ≡ slid (get_or old (at + j) 0) (s (from + (at + j))) (s (out + (at + j)))
+slid_here s from out at old new made j lt =
+    let coming : from + at + j ≡ from + (at + j) = omega arith in
+    let leaving : out + at + j ≡ out + (at + j) = omega arith in
+    made j lt ∙ (λ t. slid (get_or old (at + j) 0) (s (coming t)) (s (leaving t)))
+
 pub added_fits : (sum coming : ℕ) → sum ≤ 8454015 → coming ≤ 65535 → added sum coming ≡ sum + coming
 added_fits sum coming few small = omega arith
 
@@ -82,15 +96,15 @@ module _ (d stride side first : ℕ) (samples old new : List ℕ) (fits : (k : �
   sample-small i = omega (arith, sample-below d samples fits i, few_levels d shallow)
 
   -- a row more in each sum
-  pub HoldsColumns-added : side < 129 → HoldsColumns d stride side first samples old
-      → ((i : ℕ) → i < stride → get_or new i 0 ≡ added (get_or old i 0) (sample_at d samples ((first + side) * stride + i)))
-      → HoldsColumns d stride (suc side) first samples new
-  HoldsColumns-added few held made = record {
+  pub HoldsColumns-added : (row next : ℕ) → row ≡ first + side → next ≡ suc side → side < 129 → HoldsColumns d stride side first samples old
+      → ((i : ℕ) → i < stride → get_or new i 0 ≡ added (get_or old i 0) (sample_at d samples (row * stride + i)))
+      → HoldsColumns d stride next first samples new
+  HoldsColumns-added row next is more few held made = record {
     columns = λ i lt.
         let f : ℕ → ℕ = λ j. sample_at d samples ((first + j) * stride + i) in
         let small : sum_of side f ≤ side * 65535 = sum_of-below side 65535 f (λ k _. sample-small ((first + k) * stride + i)) in
-        made i lt ∙ ap (λ n. added n (f side)) (held.columns i lt)
-        ∙ added_fits (sum_of side f) (f side) (omega arith) (sample-small ((first + side) * stride + i));
+        made i lt ∙ (λ t. added (held.columns i lt t) (sample_at d samples (is t * stride + i)))
+        ∙ added_fits (sum_of side f) (f side) (omega arith) (sample-small ((first + side) * stride + i)) ∙ ap (λ n. sum_of n f) (sym more);
   }
 
   -- the row after the last in each sum, without the first

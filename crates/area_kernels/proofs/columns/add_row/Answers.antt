@@ -1,6 +1,6 @@
-use Rattle.std.proofs.Common.{◌≡◌, ◌+◌, ◌*◌, get_or, ap, ◌∙◌, arith}
+use Rattle.std.proofs.Common.{◌+◌, ◌*◌, arith}
 use Rattle.pixel_formats.specs.Sample.{sample_at}
-use Rattle.area_kernels.proofs.SumLaws.{ChangedBelow-more, ChangedBelow-none, added}
+use Rattle.area_kernels.proofs.SumLaws.{ChangedBelow-more, ChangedBelow-none, added, added_here}
 use Rattle.area_kernels.proofs.columns.add_row.Goals as goal
 
 pub loop-block-init : goal.loop-block-init
@@ -12,9 +12,7 @@ loop-block-preserved g c =
     let from = c.args.coming in
     let at = 16 * c.loop-block.block in
     ChangedBelow-more (λ i sum. added sum (s (from + i))) at (16 * (c.loop-block.block + 1)) c.args.sums.now c.loop-block.sums c.add_block.new.sums (omega arith) c.loop-block.invariant
-    (λ j lt.
-    let coming : from + at + j ≡ from + (at + j) = omega arith in
-    c.add_block.ensures.here j lt ∙ ap (λ k. added (get_or c.loop-block.sums (at + j) 0) (s k)) coming)
+    (added_here s from at c.loop-block.sums c.add_block.new.sums c.add_block.ensures.here)
     c.add_block.ensures.before c.add_block.ensures.after
 
 pub returns : goal.returns

@@ -1,6 +1,6 @@
-use Rattle.std.proofs.Common.{◌≡◌, ◌+◌, ◌*◌, get_or, ◌∙◌, arith}
+use Rattle.std.proofs.Common.{◌+◌, ◌*◌, arith}
 use Rattle.pixel_formats.specs.Sample.{sample_at}
-use Rattle.area_kernels.proofs.SumLaws.{ChangedBelow-more, ChangedBelow-none, slid}
+use Rattle.area_kernels.proofs.SumLaws.{ChangedBelow-more, ChangedBelow-none, slid, slid_here}
 use Rattle.area_kernels.proofs.columns.slide_row.Goals as goal
 
 pub loop-block-init : goal.loop-block-init
@@ -15,10 +15,7 @@ loop-block-preserved g c =
     let last = c.args.leaving in
     let at = 16 * c.loop-block.block in
     ChangedBelow-more (λ i sum. slid sum (s (first + i)) (s (last + i))) at (16 * (c.loop-block.block + 1)) c.args.sums.now c.loop-block.sums c.slide_block.new.sums (omega arith) c.loop-block.invariant
-    (λ j lt.
-    let coming : first + at + j ≡ first + (at + j) = omega arith in
-    let leaving : last + at + j ≡ last + (at + j) = omega arith in
-    c.slide_block.ensures.here j lt ∙ (λ t. slid (get_or c.loop-block.sums (at + j) 0) (s (coming t)) (s (leaving t))))
+    (slid_here s first last at c.loop-block.sums c.slide_block.new.sums c.slide_block.ensures.here)
     c.slide_block.ensures.before c.slide_block.ensures.after
 
 pub returns : goal.returns

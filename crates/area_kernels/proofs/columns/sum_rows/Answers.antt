@@ -1,7 +1,5 @@
-use Rattle.std.proofs.Common.{◌≡◌, ◌+◌, ◌*◌, ◌≤◌, get_or, ap, ◌∙◌, subst, suc, ℕ, arith}
-use Rattle.pixel_formats.specs.Sample.{sample_at}
-use Rattle.area_kernels.specs.Columns.{HoldsColumns}
-use Rattle.area_kernels.proofs.SumLaws.{HoldsColumns-added, HoldsColumns-none, added}
+use Rattle.std.proofs.Common.{◌≤◌, ◌+◌, arith}
+use Rattle.area_kernels.proofs.SumLaws.{HoldsColumns-added, HoldsColumns-none}
 use Rattle.area_kernels.proofs.columns.sum_rows.Goals as goal
 
 pub loop-row-init : goal.loop-row-init
@@ -12,9 +10,5 @@ loop-row-preserved g c =
     let d = g.L.Lanes.depth in
     let row = c.loop-row.row in
     let shallow : d ≤ 2 = omega (arith, g.met.L.Lanes.few, g.met.L.Lanes.sixteen) in
-    let next : suc row ≡ row + 1 = omega arith in
-    subst (λ (n : ℕ). HoldsColumns d c.args.stride n 0 c.args.samples.now c.add_row.new.sums) next
-    (HoldsColumns-added d c.args.stride row 0 c.args.samples.now c.loop-row.sums c.add_row.new.sums c.type_inv.samples shallow (omega arith) c.loop-row.invariant
-    (λ i lt.
-    let here : row ≡ 0 + row = omega arith in
-    c.add_row.ensures i lt ∙ ap (λ n. added (get_or c.loop-row.sums i 0) (sample_at d c.args.samples.now (n * c.args.stride + i))) here))
+    HoldsColumns-added d c.args.stride row 0 c.args.samples.now c.loop-row.sums c.add_row.new.sums c.type_inv.samples shallow row (row + 1) (omega arith) (omega arith) (omega arith)
+    c.loop-row.invariant c.add_row.ensures
