@@ -1,0 +1,16 @@
+//! Kernels over parts of images, for operations that read the square around each position.
+#![tactic(auto)]
+
+mod area;
+mod columns;
+mod divisor;
+mod extremes;
+pub mod laws;
+mod means;
+mod picks;
+mod rows;
+mod sums;
+
+pub use area::Area;
+pub use extremes::{area_max, area_min};
+pub use means::area_mean;
