@@ -1,0 +1,5 @@
+pub mod Picking
+pub mod Squares
+pub mod Sweeps
+pub mod CopiedSamples
+pub mod PartLaws
