@@ -3,3 +3,6 @@ pub mod Squares
 pub mod Sweeps
 pub mod CopiedSamples
 pub mod PartLaws
+pub mod SumLaws
+pub mod DivisorLaws
+pub mod MeanLaws

@@ -1,3 +1,4 @@
 pub mod Sequences
 pub mod Parts
 pub mod PickLaws
+pub mod Columns

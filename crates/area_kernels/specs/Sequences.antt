@@ -1,10 +1,14 @@
 -- What is made of the first numbers of a sequence.
-use Rattle.std.specs.Prelude.{◌≡◌, ℕ, zero, suc, ◌+◌}
+use Rattle.std.specs.Prelude.{◌≡◌, ℕ, zero, suc, ◌+◌, ◌/◌}
 
 -- the sum of the first n numbers of a sequence
 abbrev pub sum_of : ℕ → (ℕ → ℕ) → ℕ
 sum_of zero f = 0
 sum_of (suc n) f = sum_of n f + f n
+
+-- the mean of so many numbers of which the sum is given, rounded to the nearest
+abbrev pub mean_sum : ℕ → ℕ → ℕ
+mean_sum count sum = (sum + count / 2) / count
 
 -- what is picked of the first n numbers of a sequence, and of its first number where n is 0
 abbrev pub best : (ℕ → ℕ → ℕ) → ℕ → (ℕ → ℕ) → ℕ

@@ -2,10 +2,15 @@
 #![tactic(auto)]
 
 mod area;
+mod columns;
+mod divisor;
 mod extremes;
 pub mod laws;
+mod means;
 mod picks;
 mod rows;
+mod sums;
 
 pub use area::Area;
 pub use extremes::{area_max, area_min};
+pub use means::area_mean;

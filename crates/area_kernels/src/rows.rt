@@ -7,7 +7,13 @@ use simd_samples::Lanes;
 
 /// Copies `count` samples from number `first` of a row on to number `at` of another on. All others
 /// are unchanged.
-fn copy_samples<L: Lanes>(from: &[u8], first: usize, to: &mut [u8], at: usize, count: usize)
+pub(crate) fn copy_samples<L: Lanes>(
+    from: &[u8],
+    first: usize,
+    to: &mut [u8],
+    at: usize,
+    count: usize,
+)
     requires read { L.depth * (first + count) ≤ length from.now }
     requires written { L.depth * (at + count) ≤ length to.old }
     ensures here { (i : ℕ) → i < count → sample_at L.depth to.new (at + i) ≡ sample_at L.depth from.now (first + i) }

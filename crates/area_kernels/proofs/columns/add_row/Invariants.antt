@@ -1,0 +1,7 @@
+use Rattle.std.proofs.Common.{◌+◌, ◌*◌}
+use Rattle.pixel_formats.specs.Sample.{sample_at}
+use Rattle.area_kernels.proofs.SumLaws.{ChangedBelow, added}
+use Rattle.area_kernels.proofs.columns.add_row.Given as goal
+
+abbrev pub invariant-loop-block : goal.invariant-loop-block
+invariant-loop-block g l = ChangedBelow (λ i sum. added sum (sample_at g.L.Lanes.depth l.samples (l.coming + i))) (16 * l.block) l.fn.sums l.sums

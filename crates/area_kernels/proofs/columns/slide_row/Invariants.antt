@@ -1,0 +1,9 @@
+use Rattle.std.proofs.Common.{◌+◌, ◌*◌}
+use Rattle.pixel_formats.specs.Sample.{sample_at}
+use Rattle.area_kernels.proofs.SumLaws.{ChangedBelow, slid}
+use Rattle.area_kernels.proofs.columns.slide_row.Given as goal
+
+abbrev pub invariant-loop-block : goal.invariant-loop-block
+invariant-loop-block g l =
+    let s = sample_at g.L.Lanes.depth l.samples in
+    ChangedBelow (λ i sum. slid sum (s (l.coming + i)) (s (l.leaving + i))) (16 * l.block) l.fn.sums l.sums

@@ -1,0 +1,128 @@
+//! The means of squares.
+
+ghost use Rattle.std.specs.Prelude.{◌≡◌, ℕ, ◌+◌, ◌*◌, ◌/◌, ◌<◌, ◌≤◌, length, slice_index};
+ghost use Rattle.area_kernels.specs.Columns.{HoldsColumns};
+ghost use Rattle.area_kernels.specs.Parts.{HoldsPart, grown, read_samples, square_samples, written_samples};
+ghost use Rattle.area_kernels.specs.Sequences.{mean_sum, sum_of};
+ghost use Rattle.model_operations.specs.Windows.{mean_of, window_side};
+ghost use Rattle.pixel_formats.specs.Format.{channels, depth};
+ghost use Rattle.pixel_formats.specs.Sample.{max_sample_of, sample_at};
+
+use crate::area::Area;
+use crate::columns::{slide_rows, sum_rows};
+use crate::divisor::Divisor;
+use crate::rows::copy_samples;
+use crate::sums::sum_row;
+use pixel_formats::Format;
+use simd_samples::{ByteLanes, Lanes, WordLanes};
+
+/// The samples of the longest row that is read, and sixteen more.
+const COLUMNS: usize = 784;
+
+/// The samples of the longest row that is written, and sixteen more.
+const SUMS: usize = 272;
+
+/// The bytes of as many samples.
+const MEAN_BYTES: usize = 544;
+
+/// Writes the means of the squares of a row, of which the sums of columns are given. The sums after
+/// the row are zeros before and after.
+fn mean_row<L: Lanes>(
+    area: Area,
+    channels: usize,
+    divisor: &Divisor,
+    columns: &[u32],
+    sums: &mut [u32],
+    means: &mut [u8],
+)
+    requires channels { channels ≤ 4 }
+    requires count { divisor.now.count ≡ (2 * area.radius + 1) * (2 * area.radius + 1) }
+    requires columns { grown area.radius area.width * channels ≤ length columns.now }
+    requires small { (i : ℕ) → slice_index columns.now i ≤ (2 * area.radius + 1) * max_sample_of L.depth }
+    requires sums { area.width * channels + 16 ≤ length sums.old }
+    requires means { L.depth * (area.width * channels + 16) ≤ length means.old }
+    requires clear { (i : ℕ) → area.width * channels ≤ i → slice_index sums.old i ≡ 0 }
+    ensures made { (x c : ℕ) → x < area.width → c < channels → sample_at L.depth means.new (x * channels + c)
+        ≡ mean_sum divisor.now.count (sum_of (2 * area.radius + 1) (λ i. slice_index columns.now ((x + i) * channels + c))) }
+    ensures clear { (i : ℕ) → area.width * channels ≤ i → slice_index sums.new i ≡ 0 }
+{
+    sum_row(columns, channels, 2 * area.radius, area.width, sums);
+    divisor.divide::<L>(sums, means, area.width * channels);
+}
+
+/// Makes the sums of columns those of the rows from the next one on, where the result has a row
+/// there.
+fn next_columns<L: Lanes>(patch: &[u8], stride: usize, area: Area, row: usize, columns: &mut [u32])
+    requires row { row < area.height }
+    requires patch { L.depth * ((area.height + 2 * area.radius) * stride + 16) ≤ length patch.now }
+    requires room { stride + 16 ≤ length columns.old }
+    requires columns { HoldsColumns L.depth stride (2 * area.radius + 1) row patch.now columns.old }
+    ensures { row + 1 < area.height → HoldsColumns L.depth stride (2 * area.radius + 1) (row + 1) patch.now columns.new }
+{
+    if row + 1 < area.height {
+        slide_rows::<L>(patch, stride, area.side(), row, columns);
+    }
+}
+
+/// Writes the means of the squares of all rows.
+fn mean_rows<L: Lanes>(area: Area, channels: usize, patch: &[u8], dst: &mut [u8])
+    requires channels { channels ≤ 4 }
+    requires read { L.depth * (read_samples area channels + 16) ≤ length patch.now }
+    requires written { L.depth * written_samples area channels ≤ length dst.old }
+    ensures { (x y c : ℕ) → x < area.width → y < area.height → c < channels
+        → sample_at L.depth dst.new (y * (area.width * channels) + (x * channels + c))
+        ≡ mean_sum ((2 * area.radius + 1) * (2 * area.radius + 1)) (sum_of (2 * area.radius + 1) (λ i. sum_of (2 * area.radius + 1) (λ j.
+        sample_at L.depth patch.now ((y + j) * (grown area.radius area.width * channels) + ((x + i) * channels + c))))) }
+{
+    let side = area.side();
+    let stride = area.stride(channels);
+    let count = area.width * channels;
+    let divisor = Divisor::new((side * side) as u64);
+    let mut columns = [0; COLUMNS];
+    let mut sums = [0; SUMS];
+    let mut means = [0; MEAN_BYTES];
+    sum_rows::<L>(patch, stride, side, &mut columns);
+    for y in 0..area.height {
+        mean_row::<L>(
+            area,
+            channels,
+            &divisor,
+            &columns[..stride],
+            &mut sums,
+            &mut means,
+        );
+        copy_samples::<L>(&means, 0, dst, y * count, count);
+        next_columns::<L>(patch, stride, area, y, &mut columns);
+    }
+}
+
+/// Writes the means of the squares of a part.
+fn mean_part<L: Lanes>(format: Format, area: Area, patch: &[u8], dst: &mut [u8])
+    requires depth { depth format ≡ L.depth }
+    requires read { depth format * (read_samples area (channels format) + 16) ≤ length patch.now }
+    requires written { length dst.old ≡ depth format * written_samples area (channels format) }
+    ensures { (f : ℕ → ℕ → ℕ → ℕ) (u v : ℕ)
+        → HoldsPart format (grown area.radius area.width) (grown area.radius area.height) patch.now f u v
+        → HoldsPart format area.width area.height dst.new
+        (λ s t c. mean_of (window_side area.radius * window_side area.radius) (square_samples area.radius f s t c)) u v }
+{
+    mean_rows::<L>(area, format.channels() as usize, patch, dst);
+}
+
+/// Writes the mean of the square around each position, rounded to the nearest, in each channel. The
+/// patch has the part of the result grown by the radius, read under a policy, and at least sixteen
+/// samples after it. The cost a sample grows with the height that is read, and not with the number
+/// of samples of a square.
+pub fn area_mean(format: Format, area: Area, patch: &[u8], dst: &mut [u8])
+    requires read { depth format * (read_samples area (channels format) + 16) ≤ length patch.now }
+    requires written { length dst.old ≡ depth format * written_samples area (channels format) }
+    ensures { (f : ℕ → ℕ → ℕ → ℕ) (u v : ℕ)
+        → HoldsPart format (grown area.radius area.width) (grown area.radius area.height) patch.now f u v
+        → HoldsPart format area.width area.height dst.new
+        (λ s t c. mean_of (window_side area.radius * window_side area.radius) (square_samples area.radius f s t c)) u v }
+{
+    match format.depth() {
+        1 => mean_part::<ByteLanes>(format, area, patch, dst),
+        _ => mean_part::<WordLanes>(format, area, patch, dst),
+    }
+}
