@@ -1,5 +1,5 @@
 -- Parts of images that are moved, and read under a policy.
-use Rattle.std.proofs.Common.{◌≡◌, ℕ, ◌+◌, ◌-◌, ◌*◌, ◌<◌, ◌≤◌, ◌&&◌, Bool, true, false, cond, leb, List, IsTrue, refl, sym, ap, ◌∙◌, subst, arith}
+use Rattle.std.proofs.Common.{◌≡◌, ℕ, ◌+◌, ◌-◌, ◌*◌, ◌<◌, ◌≤◌, ◌&&◌, Bool, true, false, cond, leb, IsTrue, refl, sym, ap, ◌∙◌, arith}
 use Rattle.std.proofs.lemmas.Bool.Decides.{nat_tests}
 use Rattle.plane_rect.specs.Rectangle.{Inside, Rectangle, offset}
 use Rattle.pixel_formats.specs.Format.{channels, depth}
@@ -17,7 +17,8 @@ use Rattle.model_images.proofs.Positions.{by_positions}
 use Rattle.model_images.proofs.RawLaws.{raw-samples}
 use Rattle.model_images.proofs.Sides.{nearest-within}
 use Rattle.model_operations.specs.Windows.{read_before}
-use Rattle.area_ops.proofs.Near.{AreNearSides, from-counted, nearest-counted, to-counted}
+use Rattle.area_ops.specs.Grown.{IsNear, near_part}
+use Rattle.area_ops.proofs.Near.{AreNearSides, all-column, all-inside, all-row, from-counted, nearest-counted, to-counted}
 
 -- the raw bytes of a part of an image, over a rectangle of the same size
 module _ (image : Image) (part moved : Rectangle) (width : moved.width ≡ part.width) (height : moved.height ≡ part.height) where
@@ -133,3 +134,25 @@ module _ (radius : ℕ) (image : Image) (policy : Abyss) (part near counted : Re
 
   pub read-near : abyss_at moved policy x y c ≡ read_before radius image policy (part.first_column + x) (part.first_row + y) c
   read-near = read-if (leb radius (part.first_column + x) && leb radius (part.first_row + y)) refl
+
+-- where all of a grown part is in an image's box, no policy is asked
+module _ (radius : ℕ) (image : Image) (policy : Abyss) (part : Rectangle) (near : IsNear radius image.box part)
+    (width : (near_part radius image.box part).width ≡ part.width + 2 * radius) (height : (near_part radius image.box part).height ≡ part.height + 2 * radius) where
+  pub read-all : (x y c : ℕ) → x < part.width + 2 * radius → y < part.height + 2 * radius
+      → at image ((near_part radius image.box part).first_column + x) ((near_part radius image.box part).first_row + y) c
+      ≡ read_before radius image policy (part.first_column + x) (part.first_row + y) c
+  read-all x y c column row =
+      let a = (near_part radius image.box part).first_column in
+      let b = (near_part radius image.box part).first_row in
+      let left : a + radius ≡ part.first_column = all-column radius image.box part near width height in
+      let top : b + radius ≡ part.first_row = all-row radius image.box part near width height in
+      let u : ℕ = part.first_column + x - radius in
+      let v : ℕ = part.first_row + y - radius in
+      let is_column : a + x ≡ u = omega (arith, left) in
+      let is_row : b + y ≡ v = omega (arith, top) in
+      let tests : (leb radius (part.first_column + x) && leb radius (part.first_row + y)) ≡ true =
+      after-tests radius (part.first_column + x) (part.first_row + y) (omega (arith, left)) (omega (arith, top)) in
+      sym (abyss_at-inside image policy (a + x) (b + y) c (all-inside radius image.box part near width height x y column row))
+      ∙ ap (λ (n : ℕ). abyss_at image policy n (b + y) c) is_column
+      ∙ ap (λ (n : ℕ). abyss_at image policy u n c) is_row
+      ∙ sym (ap (λ (t : Bool). cond t (abyss_at image policy u v c) (outside_at image policy u v c)) tests)

@@ -104,3 +104,25 @@ module _ (radius : ℕ) (box part : Rectangle) (near : IsNear radius box part) w
 
   pub counted-height : (r : Rectangle) → r ≡ near_part radius box part → (counted_part radius part r).height ≡ r.height
   counted-height r is = subst (λ (q : Rectangle). (counted_part radius part q).height ≡ q.height) (sym is) near-sides.height
+
+  -- where all of the grown part is in the box
+  module _ (width : (near_part radius box part).width ≡ part.width + 2 * radius) (height : (near_part radius box part).height ≡ part.height + 2 * radius) where
+    all-sides : ((near_part radius box part).first_column + radius ≡ part.first_column) × ((near_part radius box part).first_row + radius ≡ part.first_row)
+    all-sides =
+        let sides = near-sides in
+        (omega (arith, sides.columns.begins, sides.columns.ends, width), omega (arith, sides.rows.begins, sides.rows.ends, height))
+
+    pub all-column : (near_part radius box part).first_column + radius ≡ part.first_column
+    all-column = all-sides.0
+
+    pub all-row : (near_part radius box part).first_row + radius ≡ part.first_row
+    all-row = all-sides.1
+
+    pub all-inside : (x y : ℕ) → x < part.width + 2 * radius → y < part.height + 2 * radius
+        → Inside ((near_part radius box part).first_column + x) ((near_part radius box part).first_row + y) box
+    all-inside x y column row =
+        let sides = near-sides in
+        record {
+          column = (omega (arith, sides.columns.begins), omega (arith, sides.columns.ends, width, column));
+          row = (omega (arith, sides.rows.begins), omega (arith, sides.rows.ends, height, row));
+        }

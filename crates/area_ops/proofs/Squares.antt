@@ -1,14 +1,14 @@
 -- What operations give of squares.
-use Rattle.std.proofs.Common.{◌≡◌, [], ◌∷◌, Ok, Err, Some, None, Result, ℕ, ◌+◌, ◌-◌, ◌*◌, ◌<◌, ◌≤◌, ◌&&◌, ◌||◌, Bool, true, false, cond, eqb, leb, ltb, List, length, IsTrue, refl, sym, ap, ◌∙◌, subst, arith}
+use Rattle.std.proofs.Common.{◌≡◌, [], ◌∷◌, Ok, Err, Result, ℕ, ◌+◌, ◌-◌, ◌*◌, ◌<◌, ◌≤◌, ◌||◌, Bool, true, false, cond, ltb, List, length, refl, sym, ap, ◌∙◌, subst, arith}
 use Rattle.std.proofs.lemmas.Bool.Decides.{nat_tests}
 use Rattle.std.specs.Prelude.{unwrap_or}
 use Rattle.std.specs.Result.{IfOk}
-use Rattle.plane_rect.specs.Rectangle.{Includes, Inside, Rectangle, empty, end_column, end_row, grown, if_in_limits, in_limits, is_empty, plane_side, spanning}
+use Rattle.plane_rect.specs.Rectangle.{Includes, Inside, Rectangle, empty, end_column, end_row, if_in_limits, in_limits, is_empty, plane_side, spanning}
 use Rattle.plane_rect.specs.Tile.{Tile, tile_square}
 use Rattle.plane_rect.specs.declared.rect.RectRefused.TheVariants.{Place, Size}
 use Rattle.plane_rect.proofs.Rectangles.{Inside-spanning}
 use Rattle.pixel_formats.specs.Format.{channels, depth}
-use Rattle.pixel_formats.specs.Limits.{IsArea, is_area, suits_areas}
+use Rattle.pixel_formats.specs.Limits.{IsArea, is_area}
 use Rattle.pixel_formats.specs.declared.abyss.Abyss.{Abyss}
 use Rattle.pixel_formats.specs.declared.abyss.Abyss.TheVariants as policies
 use Rattle.pixel_formats.specs.declared.format.Format.{Format}

@@ -1,5 +1,5 @@
 -- Parts of images that are grown by a radius, and what of them is in the image's box.
-use Rattle.std.specs.Prelude.{◌≡◌, ℕ, ◌+◌, ◌-◌, ◌*◌, ◌<◌, ◌≤◌, List, length, max, min}
+use Rattle.std.specs.Prelude.{ℕ, ◌+◌, ◌-◌, ◌*◌, ◌<◌, ◌≤◌, List, length, max, min}
 use Rattle.plane_rect.specs.Rectangle.{Rectangle, end_column, end_row, spanning}
 use Rattle.pixel_formats.specs.Format.{channels, depth}
 use Rattle.pixel_formats.specs.declared.abyss.Abyss.{Abyss}

@@ -38,7 +38,11 @@ pub(crate) fn grown_part(
     requires near { IsNear radius window.now.bounds out.now }
     ensures { IfOk result (λ bytes. HoldsGrown (window_image window.now) radius abyss out.now bytes.items) }
 {
-    let part = window.part(alloc, near_part(radius, &window.bounds, out))?;
+    let near = near_part(radius, &window.bounds, out);
+    let part = window.part(alloc, near)?;
+    if is_all_near(radius, out, &near) {
+        return padded_bytes(alloc, &part);
+    }
     let counted = counted_part(radius, out, &part.rect());
     let moved = moved_patch(alloc, &part, counted)?;
     let grown = Rect::spanning(0, 0, out.w + 2 * radius, out.h + 2 * radius);
@@ -61,6 +65,18 @@ fn near_part(radius: u32, bounds: &Rect, out: &Rect) -> Rect
         (out.end_column() + radius).min(bounds.end_column()),
         (out.end_row() + radius).min(bounds.end_row()),
     )
+}
+
+/// Returns whether the positions of a box that are in a part grown by a radius are all of the grown
+/// part, so that nothing is read outside the box.
+fn is_all_near(radius: u32, out: &Rect, near: &Rect) -> bool
+    requires radius { radius ≤ 64 }
+    requires columns { out.now.width ≤ 64 }
+    requires rows { out.now.height ≤ 64 }
+    ensures columns { IsTrue result → near.now.width ≡ out.now.width + 2 * radius }
+    ensures rows { IsTrue result → near.now.height ≡ out.now.height + 2 * radius }
+{
+    near.w == out.w + 2 * radius && near.h == out.h + 2 * radius
 }
 
 /// Returns a rectangle of a part grown by a radius, in columns and rows that count from those with

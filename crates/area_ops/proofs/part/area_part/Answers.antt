@@ -1,9 +1,8 @@
-use Rattle.std.proofs.Common.{◌≡◌, ◌<◌, ℕ, sym, ap, ◌∙◌, arith, refl}
-use Rattle.plane_rect.specs.Rectangle.{Rectangle, is_empty}
-use Rattle.pixel_formats.specs.declared.format.Format.{Format}
+use Rattle.std.proofs.Common.{◌≡◌, sym, ap, ◌∙◌, arith, refl}
+use Rattle.plane_rect.specs.Rectangle.{Rectangle}
 use Rattle.model_graphs.specs.Windows.{Window, window_image}
 use Rattle.patch_abyss.proofs.TilesOfPatches.{some_positions}
-use Rattle.area_ops.proofs.Squares.{count-made, few-columns, nothing-made, part-made, result-near, room-made}
+use Rattle.area_ops.proofs.Squares.{count-made, few-columns, nothing-made, part-made, result-near}
 use Rattle.area_ops.proofs.part.area_part.Goals as goal
 
 pub returns-then-is_empty : goal.returns-then-is_empty
