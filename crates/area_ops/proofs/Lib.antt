@@ -1,0 +1,4 @@
+pub mod Near
+pub mod Moved
+pub mod Padded
+pub mod Squares
