@@ -1,0 +1,4 @@
+pub mod Lent
+pub mod Agreeing
+pub mod Pixels
+pub mod Pairs

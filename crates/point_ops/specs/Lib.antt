@@ -1,0 +1,4 @@
+pub mod Changes
+pub mod Combinations
+pub mod Generated
+pub mod PartBytes

@@ -1,0 +1,8 @@
+//! The operations whose pixels are each of one pixel of every input, carried out on parts of tiles.
+#![tactic(auto)]
+
+mod change;
+mod combine;
+mod generate;
+mod part_bytes;
+mod patches;
