@@ -1,4 +1,5 @@
 pub mod Changes
 pub mod Combinations
 pub mod Generated
+pub mod Moved
 pub mod PartBytes

@@ -2,7 +2,11 @@
 #![tactic(auto)]
 
 mod change;
+mod checker;
+mod color;
 mod combine;
-mod generate;
+
+mod moves;
 mod part_bytes;
 mod patches;
+mod samples;

@@ -34,5 +34,23 @@ pub(crate) fn patch_of(
     requires count { length bytes.items ≡ byte_count rect format }
     ensures { IfOk result (λ patch. patch ≡ image_from_raw rect format bytes.items) }
 {
-    Patch::from_raw(alloc, rect, format, &bytes).map_err(|_| NoMemory)
+    patch_of_slice(alloc, rect, format, &bytes)
+}
+
+/// Returns the patch of a copy of a rectangle's raw bytes.
+///
+/// # Errors
+///
+/// `NoMemory` if memory runs out.
+pub(crate) fn patch_of_slice(
+    alloc: Global,
+    rect: Rect,
+    format: Format,
+    bytes: &[u8],
+) -> Result<Patch, NoMemory>
+    requires limits { InLimits rect }
+    requires count { length bytes.now ≡ byte_count rect format }
+    ensures { IfOk result (λ patch. patch ≡ image_from_raw rect format bytes.now) }
+{
+    Patch::from_raw(alloc, rect, format, bytes).map_err(|_| NoMemory)
 }
