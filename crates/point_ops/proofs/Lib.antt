@@ -6,3 +6,4 @@ pub mod Encoded
 pub mod Rows
 pub mod Squares
 pub mod Moved
+pub mod Flipped

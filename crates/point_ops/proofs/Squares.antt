@@ -45,15 +45,19 @@ range-more a n =
     sym (map-id (range_with_len a (n + 1))) ∙ map-range_with_len_more (λ (i : ℕ). i) a n (a + n) (omega arith)
     ∙ ap (λ (xs : List ℕ). xs ++ (a + n) ∷ []) (map-id (range_with_len a n))
 
+pub flat-more : (g : ℕ → List ℕ) (a n : ℕ) → flat_map g (range_with_len a (n + 1)) ≡ flat_map g (range_with_len a n) ++ g (a + n)
+flat-more g a n =
+    ap (flat_map g) (range-more a n)
+    ∙ flat_map-append g (range_with_len a n) ((a + n) ∷ [])
+    ∙ ap (λ (xs : List ℕ). flat_map g (range_with_len a n) ++ xs) (append-nil (g (a + n)))
+
 pub one-more : (g : ℕ → List ℕ) (a i : ℕ) → a ≤ i
     → flat_map g (range_with_len a (i + 1 - a)) ≡ flat_map g (range_with_len a (i - a)) ++ g i
 one-more g a i after =
     let count : i + 1 - a ≡ i - a + 1 = omega (arith, after) in
     let last : a + (i - a) ≡ i = omega (arith, after) in
     ap (λ (n : ℕ). flat_map g (range_with_len a n)) count
-    ∙ ap (flat_map g) (range-more a (i - a))
-    ∙ flat_map-append g (range_with_len a (i - a)) ((a + (i - a)) ∷ [])
-    ∙ ap (λ (xs : List ℕ). flat_map g (range_with_len a (i - a)) ++ xs) (append-nil (g (a + (i - a))))
+    ∙ flat-more g a (i - a)
     ∙ ap (λ (u : ℕ). flat_map g (range_with_len a (i - a)) ++ g u) last
 
 no-pixels : (f : Format) (pixels : ℕ → Pixel) → HasPixels f [] pixels
@@ -70,10 +74,7 @@ rows-follow f g w a (suc n) pixels each =
     let rows = flat_map g (range_with_len a n) in
     let count : suc n ≡ n + 1 = omega arith in
     let more : flat_map g (range_with_len a (suc n)) ≡ rows ++ g (a + n) =
-    ap (λ (m : ℕ). flat_map g (range_with_len a m)) count
-    ∙ ap (flat_map g) (range-more a n)
-    ∙ flat_map-append g (range_with_len a n) ((a + n) ∷ [])
-    ∙ ap (λ (xs : List ℕ). rows ++ xs) (append-nil (g (a + n))) in
+    ap (λ (m : ℕ). flat_map g (range_with_len a m)) count ∙ flat-more g a n in
     (ap length more ∙ length-append rows (g (a + n)) ∙ omega (arith, before.0, last.0),
     subst (λ (xs : List ℕ). HasPixels f xs pixels) (sym more) (HasPixels-append f rows (g (a + n)) (n * w) before.0 pixels before.1 last.1))
 

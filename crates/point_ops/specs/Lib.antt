@@ -1,5 +1,6 @@
 pub mod Changes
 pub mod Combinations
+pub mod Flipped
 pub mod Generated
 pub mod Moved
 pub mod PartBytes

@@ -6,6 +6,7 @@ mod checker;
 mod color;
 mod combine;
 
+mod flip;
 mod moves;
 mod part_bytes;
 mod patches;
