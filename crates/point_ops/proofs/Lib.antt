@@ -7,3 +7,4 @@ pub mod Rows
 pub mod Squares
 pub mod Moved
 pub mod Flipped
+pub mod Results

@@ -4,3 +4,4 @@ pub mod Flipped
 pub mod Generated
 pub mod Moved
 pub mod PartBytes
+pub mod PointOps
