@@ -1,4 +1,5 @@
-use Rattle.std.proofs.Common.{◌≡◌, ◌∙◌, [], ◌∷◌, All, List, ℕ, ap, arith, refl, rules, subst, sym}
+use Rattle.std.proofs.Common.{◌≡◌, ◌∙◌, [], ◌∷◌, All, List, ℕ, ap, arith, refl, rules, subst, sym, to_z, of_z, w64}
+use Rattle.std.specs.Result.{IfOk}
 use Rattle.std.specs.Prelude.{IsSome}
 use Rattle.plane_rect.specs.Rectangle.{InLimits}
 use Rattle.model_images.specs.Image.{at, image_from_fn}
@@ -70,7 +71,14 @@ translated_part-requires-clause-whole c =
     whole-first IsWholeWindow c.args.windows.now c.index-windows-0-in-Translate.result (omega (arith, count)) c.index-windows-0-in-Translate.is c.requires.whole
 
 pub translated_part-requires-clause-part : goal.translated_part-requires-clause-part
-translated_part-requires-clause-part c = ?
+translated_part-requires-clause-part c =
+    let dx = c.in-Translate.dx in
+    let dy = c.in-Translate.dy in
+    let w = c.index-windows-0-in-Translate.result in
+    let are : c.args.windows.now ≡ w ∷ [] = one-of c.args.windows.now w (c.requires.inputs ∙ ap input_count c.in-Translate.is) c.index-windows-0-in-Translate.is in
+    let back : to_z w64 (of_z w64 dx) ≡ dx = search rules in
+    let back_down : to_z w64 (of_z w64 dy) ≡ dy = search rules in
+    rw (back, back_down) (translate-inside c.args.op.now (Translate dx dy) c.args.windows.now w c.args.out c.in-Translate.is are c.requires.part)
 
 pub flipped_part-requires-clause-part : goal.flipped_part-requires-clause-part
 flipped_part-requires-clause-part c =
@@ -157,7 +165,17 @@ returns-in-Flip c =
     rw (part-of c.args.op.now op c.args.windows.now (w ∷ []) c.args.out c.in-Flip.is are c.requires.format c.requires.part) at c.flipped_part.ensures
 
 pub returns-in-Translate : goal.returns-in-Translate
-returns-in-Translate c = ?
+returns-in-Translate c =
+    let dx = c.in-Translate.dx in
+    let dy = c.in-Translate.dy in
+    let w = c.index-windows-0-in-Translate.result in
+    let are : c.args.windows.now ≡ w ∷ [] = one-of c.args.windows.now w (c.requires.inputs ∙ ap input_count c.in-Translate.is) c.index-windows-0-in-Translate.is in
+    let back : to_z w64 (of_z w64 dx) ≡ dx = search rules in
+    let back_down : to_z w64 (of_z w64 dy) ≡ dy = search rules in
+    let given : IfOk c.translated_part.result
+    (λ patch. patch ≡ image_from_fn c.args.out w.format (λ u v. at (window_image w) (source_index dx u) (source_index dy v))) =
+    rw (back, back_down) at c.translated_part.ensures in
+    rw (part-of c.args.op.now (Translate dx dy) c.args.windows.now (w ∷ []) c.args.out c.in-Translate.is are c.requires.format c.requires.part) at given
 
 pub returns-in-Add : goal.returns-in-Add
 returns-in-Add c =
