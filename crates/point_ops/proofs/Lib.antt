@@ -1,0 +1,10 @@
+pub mod Lent
+pub mod Agreeing
+pub mod Pixels
+pub mod Pairs
+pub mod Encoded
+pub mod Rows
+pub mod Squares
+pub mod Moved
+pub mod Flipped
+pub mod Results

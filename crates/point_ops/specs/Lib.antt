@@ -1,0 +1,7 @@
+pub mod Changes
+pub mod Combinations
+pub mod Flipped
+pub mod Generated
+pub mod Moved
+pub mod PartBytes
+pub mod PointOps

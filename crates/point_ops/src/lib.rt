@@ -1,0 +1,15 @@
+//! The operations whose pixels are each of one pixel of every input, carried out on parts of tiles.
+#![tactic(auto)]
+
+mod applying;
+mod change;
+mod checker;
+mod color;
+mod combine;
+mod flip;
+mod moves;
+mod part_bytes;
+mod patches;
+mod samples;
+
+pub use applying::apply;

@@ -1,0 +1,74 @@
+//! The raw bytes of parts of what windows show.
+
+ghost use Rattle.std.specs.Prelude.{◌≡◌, IfOk, IfSome};
+ghost use Rattle.plane_rect.specs.Rectangle.{InLimits};
+ghost use Rattle.plane_rect.specs.Tile.{tile_square};
+ghost use Rattle.model_graphs.specs.Windows.{IsWholeWindow, window_image};
+ghost use Rattle.point_ops.specs.PartBytes.{AreRawBytesOf, bytes_of};
+
+use no_memory::NoMemory;
+use op_contracts::Window;
+use patch_abyss::Patch;
+use plane_rect::{Rect, TileAt};
+use std::alloc::Global;
+
+/// The raw bytes of a part of what a window shows.
+#[derive(Drop)]
+pub(crate) enum PartBytes<'a> {
+    /// Those of a tile of the window, which the part is.
+    Lent(&'a [u8]),
+    /// A copy of the part.
+    Copied(Patch),
+}
+
+impl PartBytes<'_> {
+    /// Returns the bytes.
+    pub fn as_slice(&self) -> &[u8]
+        ensures { result.now ≡ bytes_of self.now }
+    {
+        match self {
+            PartBytes::Lent(bytes) => bytes,
+            PartBytes::Copied(patch) => patch.raw_bytes(),
+        }
+    }
+}
+
+/// Returns the raw bytes of what a window shows over a rectangle, without a copy where that is a
+/// tile in the input's box. Else it takes time in proportion to the rectangle's pixels and to the
+/// number of tiles.
+///
+/// # Errors
+///
+/// `NoMemory` if memory runs out.
+pub(crate) fn part_bytes(alloc: Global, window: &Window, rect: Rect) -> Result<PartBytes<'_>, NoMemory>
+    requires whole { IsWholeWindow window.now }
+    requires limits { InLimits rect }
+    ensures { IfOk result (λ part. AreRawBytesOf (window_image window.now) rect (bytes_of part)) }
+{
+    match lent_tile(window, &rect) {
+        Some(bytes) => Ok(PartBytes::Lent(bytes)),
+        None => Ok(PartBytes::Copied(window.part(alloc, rect)?)),
+    }
+}
+
+/// Returns the raw bytes of the tile that a rectangle is, where it is one in the input's box and the
+/// window has it.
+fn lent_tile<'a>(window: &'a Window, rect: &Rect) -> Option<&'a [u8]>
+    requires { IsWholeWindow window.now }
+    ensures { IfSome result (λ bytes. AreRawBytesOf (window_image window.now) rect.now bytes.now) }
+{
+    let bytes = window.tile_bytes(whole_tile(rect)?)?;
+    if window.bounds.contains(rect) {
+        Some(bytes)
+    } else {
+        None
+    }
+}
+
+/// Returns the tile that a rectangle is, where it is one.
+fn whole_tile(rect: &Rect) -> Option<TileAt>
+    ensures { IfSome result (λ at. rect.now ≡ tile_square at) }
+{
+    let at = TileAt::of_position(rect.first_column(), rect.first_row());
+    if at.rect() == *rect { Some(at) } else { None }
+}
