@@ -1,9 +1,9 @@
 -- A chain without names.
-use Rattle.std.proofs.Common.{◌≡◌, ℕ, List, [], length, Option, Some, None, IfSome, is_some, refl, sym, ap, ap₂, ◌∙◌, subst, arith}
+use Rattle.std.proofs.Common.{◌≡◌, ℕ, List, [], length, Option, Some, None, is_some, refl, sym, ap, ap₂, ◌∙◌, subst, arith}
 use Rattle.std.specs.Ordering.{nat_cmp}
 use Rattle.std.specs.Option.{option_map}
 use Rattle.std.specs.FinMap as map
-use Rattle.std.specs.FinMap.{get-empty, len-empty}
+use Rattle.std.specs.FinMap.{len-empty}
 use Rattle.outside_io.specs.Swap.{Blocks}
 use Rattle.chain_owners.specs.Held.{HasLengths, Held}
 use Rattle.chain_owners.specs.Values.{Named}

@@ -1,12 +1,12 @@
 -- Tiles whose names have owners, after a name came or went, or had another number of owners.
-use Rattle.std.proofs.Common.{◌≡◌, ◌≢◌, ℕ, ◌+◌, ◌-◌, ◌*◌, ◌^◌, ◌<◌, ◌≤◌, Bool, true, false, true≢false, cond, List, length, Option, Some, None, IsSome, is_some, Result, Ok, Err, IfErr, OnErr, OnOk, refl, sym, ap, ap₂, ◌∙◌, subst, inl, inr, arith}
+use Rattle.std.proofs.Common.{◌≡◌, ◌≢◌, ℕ, ◌+◌, ◌-◌, ◌<◌, ◌≤◌, cond, List, length, Option, Some, None, IsSome, is_some, Result, Ok, Err, IfErr, OnErr, OnOk, sym, ap, ap₂, ◌∙◌, subst, inl, inr, arith}
 use Rattle.std.specs.Option.{unwrap_or}
 use Rattle.std.specs.FinMap as map
 use Rattle.std.specs.FinMap.{len-insert}
 use Rattle.std.proofs.lemmas.Bool.{cases_eq}
 use Rattle.std.proofs.lemmas.Cmp.{nat_cmp_total}
 use Rattle.chain_owners.specs.Counts.{Continues, Counts, Grows, IsFullOver}
-use Rattle.chain_owners.specs.Held.{Held, disowned, length_of, max_owners, owned, owners_of, with_name, with_owners, with_tile, without_name, without_tile}
+use Rattle.chain_owners.specs.Held.{Held, disowned, length_of, max_owners, owned, owners_of, with_tile, without_tile}
 use Rattle.chain_owners.specs.Values.{Named}
 use Rattle.chain_owners.proofs.HeldLaws.{len-put, len-removed}
 use Rattle.chain_owners.proofs.Names.{get_elsewhere, get_gone, get_here, get_left}

@@ -2,8 +2,8 @@
 
 ghost use Rattle.std.specs.Prelude.{◌≡◌, ◌-◌, ◌^◌, ◌<◌, ◌≤◌, ◌∷◌, None, IfOk, IfSome, min};
 ghost use Rattle.std.specs.FinMap as map;
-ghost use Rattle.chain_handlers.specs.DiskTiles.{disk_counts, disk_has_counts, disk_has_same_names, disk_held, disk_is_chain, disk_room};
-ghost use Rattle.chain_handlers.specs.Overlay.{IsCache, cache_counts, cache_has_counts, cache_is_chain, overlay, overlay_has_same_names};
+ghost use Rattle.chain_handlers.specs.DiskTiles.{disk_held};
+ghost use Rattle.chain_handlers.specs.Overlay.{overlay};
 ghost use Rattle.chain_handlers.specs.OwnedTiles.{HaveOwners, counts_over, nothing_over, owned_has_counts, owned_is_chain, with_counts};
 
 use crate::cache_handler::CacheHandler;
@@ -22,7 +22,8 @@ use tile_cow::Tile;
 /// The tiles of a chain: zeros where none is, then those in memory, then those on the disk.
 type Tiles<D> = EmptyHandler<CacheHandler<DiskHandler<D>>>;
 
-/// A map from names to tiles over a disk that it owns, in which each name has owners.
+/// A map from names to tiles over a disk that it owns, in which each name has owners. A clause sees what
+/// it holds by `ChainMeaning`.
 #[derive(Drop)]
 pub struct OwnedTiles<D: SwapDisk + Drop> {
     tiles: Tiles<D>,

@@ -1,15 +1,14 @@
 -- Chains of pages stay chains of pages.
-use Rattle.std.proofs.Common.{◌≡◌, ◌≢◌, ℕ, List, length, Option, Some, None, IfSome, is_some, true, false, refl, sym, ap, ◌∙◌, subst, inl, inr}
-use Rattle.std.specs.FinMap as map
+use Rattle.std.proofs.Common.{◌≡◌, ◌≢◌, ℕ, List, length, Option, Some, None, IfSome, is_some, true, false, refl, sym, ap, ◌∙◌, inl, inr}
 use Rattle.std.specs.FinMap.{get-empty}
 use Rattle.std.specs.Ordering.{nat_cmp}
 use Rattle.std.proofs.lemmas.Bool.{cases_eq}
 use Rattle.outside_io.specs.Swap.{Blocks}
-use Rattle.chain_owners.specs.Held.{Held, disowned, length_of, owned, with_name, with_tile, without_name}
+use Rattle.chain_owners.specs.Held.{Held, disowned, length_of, owned, with_tile, without_name}
 use Rattle.chain_owners.proofs.HeldLaws.{after-disowned, after-owned}
 use Rattle.chain_owners.proofs.Names.{get_elsewhere, get_gone, get_here, get_left}
 use Rattle.chain_handlers.specs.OwnedTiles.{nothing_over}
-use Rattle.test_chain.specs.Pages.{ArePages, HasPages}
+use Rattle.test_chain.specs.Pages.{ArePages}
 
 same-some : (m n : ℕ) → Some m ≡ Some n → m ≡ n
 same-some m n is = cc

@@ -1,5 +1,4 @@
 use Rattle.std.proofs.Common.{◌≡◌, Err, inl, refl, ap, ◌∙◌, rules}
-use Rattle.chain_owners.specs.Held.{Held, with_tile}
 use Rattle.chain_handlers.specs.Overlay.{overlay, overlay_has_same_names}
 use Rattle.chain_handlers.proofs.Moves.{cause-above, crowded-for, known-below, on-full, reads-above, refetched}
 use Rattle.chain_handlers.proofs.cache_handler.CacheHandler.fetch.Goals as goal

@@ -1,6 +1,6 @@
 use Rattle.std.proofs.Common.{arith, [], refl}
-use Rattle.chain_handlers.specs.DiskTiles.{disk_counts, disk_held}
-use Rattle.chain_handlers.specs.Overlay.{cache_counts, overlay}
+use Rattle.chain_handlers.specs.DiskTiles.{disk_held}
+use Rattle.chain_handlers.specs.Overlay.{overlay}
 use Rattle.chain_handlers.proofs.Owning.{counted-removed, counted-set, fewer-held, grows-removed, kept-held, last-held}
 use Rattle.chain_handlers.proofs.owned_tiles.OwnedTilesTileChain.disown.Goals as goal
 

@@ -1,6 +1,6 @@
-use Rattle.std.proofs.Common.{◌≡◌, Some, IsSome, length, refl, ap, is_some, arith}
+use Rattle.std.proofs.Common.{length, refl, ap, is_some, arith}
 use Rattle.std.specs.FinMap as map
-use Rattle.chain_owners.specs.Held.{length_of, with_tile}
+use Rattle.chain_owners.specs.Held.{with_tile}
 use Rattle.chain_handlers.specs.DiskTiles.{disk_counts, disk_held}
 use Rattle.chain_handlers.specs.Overlay.{cache_counts, overlay}
 use Rattle.chain_handlers.proofs.Owning.{caused-crowded, counted-kept, grows-kept, len-known}

@@ -1,6 +1,5 @@
 use Rattle.std.proofs.lemmas.Grind.{common_steps}
-use Rattle.std.proofs.Common.{arith, ◌≡◌, eqb, cond, Some}
-use Rattle.std.specs.Map.{lookup}
+use Rattle.std.proofs.Common.{arith}
 use Rattle.chain_owners.proofs.Names.{entries-inserted, get-lookup}
 use Rattle.chain_handlers.proofs.owner_counts.OwnerCounts.set.Goals as goal
 use Rattle.chain_handlers.proofs.owner_counts.OwnerCounts.set.Goals.{in-Some, in_default}
