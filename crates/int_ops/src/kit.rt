@@ -1,0 +1,95 @@
+//! The kit.
+
+ghost use Rattle.std.specs.Prelude.{◌≡◌, ◌<◌, All, IfOk, IsSome, length};
+ghost use Rattle.plane_rect.specs.Rectangle.{Includes};
+ghost use Rattle.model_images.specs.Paint.{cut};
+ghost use Rattle.model_graphs.specs.Meanings.{result_box};
+ghost use Rattle.model_graphs.specs.Permits.{Takes};
+ghost use Rattle.model_graphs.specs.Windows.{IsWholeWindow};
+ghost use Rattle.model_operations.specs.Meanings.{int_meanings, same_operation};
+ghost use Rattle.op_contracts.specs.Applying.{HaveRequired, IsInOneTile, bounds_of, result_of_windows, window_bounds, window_formats};
+
+use crate::purse::{IntPermit, IntPurse};
+use area_ops::{AreaKind, area_part};
+use model_operations::IntOp;
+use no_memory::NoMemory;
+use op_contracts::{OpKit, Window};
+use patch_abyss::Patch;
+use pixel_formats::Format;
+use plane_rect::Rect;
+use std::alloc::Global;
+
+/// Carries out the fifteen operations.
+#[derive(Clone, Copy, Debug, Drop)]
+pub struct IntKit;
+
+impl OpKit for IntKit {
+    type Op = IntOp;
+
+    type Purse = IntPurse;
+
+    type Permit = IntPermit;
+
+    ghost permits = { λ purse. purse.left };
+
+    fn arity(&self, op: &IntOp) -> u32 {
+        operation_regions::input_count(op) as u32
+    }
+
+    fn check(&self, op: &IntOp, formats: &[Format]) -> Option<Format> {
+        operation_regions::format_of(op, formats)
+    }
+
+    fn bounds(&self, op: &IntOp, boxes: &[Rect]) -> Option<Rect> {
+        operation_regions::box_of(op, boxes).filter(Rect::in_limits)
+    }
+
+    fn required(&self, op: &IntOp, boxes: &[Rect], input: usize, out: Rect) -> Rect {
+        operation_regions::required(op, boxes, input, out)
+    }
+
+    fn invalidated(&self, op: &IntOp, boxes: &[Rect], input: usize, changed: Rect) -> Rect {
+        operation_regions::invalidated(op, boxes, input, changed)
+    }
+
+    fn left(&self, purse: &IntPurse) -> u64 {
+        purse.left()
+    }
+
+    fn take(&self, purse: &mut IntPurse) -> Option<IntPermit> {
+        purse.take()
+    }
+
+    fn same(&self, a: &IntOp, b: &IntOp) -> bool {
+        a == b
+    }
+
+    fn copy_op(&self, alloc: Global, op: &IntOp) -> Result<IntOp, NoMemory> {
+        operation_regions::copy(alloc, op)
+    }
+
+    fn apply(
+        &self,
+        alloc: Global,
+        permit: IntPermit,
+        op: &IntOp,
+        boxes: &[Rect],
+        windows: &[Window],
+        out: Rect,
+    ) -> Result<Patch, NoMemory> {
+        let IntPermit { _spent } = permit;
+        let _bounds = boxes;
+        match op {
+            IntOp::BoxMean { radius, abyss } => {
+                area_part(alloc, AreaKind::BoxMean, *radius, *abyss, &windows[0], out)
+            }
+            IntOp::Dilate { radius, abyss } => {
+                area_part(alloc, AreaKind::Dilate, *radius, *abyss, &windows[0], out)
+            }
+            IntOp::Erode { radius, abyss } => {
+                area_part(alloc, AreaKind::Erode, *radius, *abyss, &windows[0], out)
+            }
+            _ => point_ops::apply(alloc, op, windows, out),
+        }
+    }
+}

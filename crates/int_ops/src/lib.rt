@@ -1,0 +1,9 @@
+//! The kit that carries out the fifteen operations.
+#![tactic(auto)]
+
+mod kit;
+mod purse;
+
+pub use kit::IntKit;
+pub use model_operations::IntOp;
+pub use purse::{IntPermit, IntPurse};
