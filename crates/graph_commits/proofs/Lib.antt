@@ -1,0 +1,5 @@
+pub mod NameLaws
+pub mod BufferLaws
+pub mod EditLaws
+pub mod WalkLaws
+pub mod StateLaws
