@@ -3,3 +3,6 @@ pub mod BufferLaws
 pub mod EditLaws
 pub mod WalkLaws
 pub mod StateLaws
+pub mod SuitedLaws
+pub mod GraphLaws
+pub mod FilterLaws

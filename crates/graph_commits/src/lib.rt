@@ -2,14 +2,22 @@
 //! one state and the next, and the states that can be undone and redone to.
 #![tactic(auto)]
 
+mod bodies;
 mod buffers;
+mod change;
 mod copies;
+mod damage_list;
 mod edits;
+mod graph;
+mod history;
 mod names;
 mod refused;
+mod regions;
 mod shape;
 mod state;
 mod walk;
 
+pub use damage_list::DamageList;
+pub use graph::{Damage, Graph};
 pub use refused::GraphRefused;
 pub use state::GraphState;

@@ -1,12 +1,12 @@
 //! States of graphs: buffers, and valid nodes over them.
 
-ghost use Rattle.std.specs.Prelude.{◌≡◌, ◌≤◌, [], IfErr, IfOk, All, length, map, slice_index_or};
-ghost use Rattle.std.specs.List.{IsDistinct, zip};
-ghost use Rattle.model_graphs.specs.Facts.{specs_of, stated_shapes};
+ghost use Rattle.std.specs.Prelude.{◌≡◌, ◌≤◌, [], IfErr, IfOk, filter, length, map, not};
+ghost use Rattle.std.specs.List.{zip};
+ghost use Rattle.model_graphs.specs.Facts.{specs_of};
 ghost use Rattle.model_graphs.specs.Node.{index_of};
-ghost use Rattle.model_graphs.specs.Shapes.{no_shape};
 ghost use Rattle.model_states.specs.Damage.{side_shape};
-ghost use Rattle.model_states.specs.Valid.{with_shape};
+ghost use Rattle.model_states.specs.Edits.{has_node};
+ghost use Rattle.model_states.specs.Valid.{node_names, with_shape};
 ghost use Rattle.graph_commits.specs.Refusals.{IsRefusalOf};
 ghost use Rattle.graph_commits.specs.States.{IsGraphState, edited_side};
 
@@ -84,6 +84,33 @@ impl<Op: OpMeaning + Drop> GraphState<Op> {
         self.names.index_of(name)
     }
 
+    /// Returns whether a node of a name is there.
+    pub(crate) fn has(&self, name: Name) -> bool
+        ensures { result ≡ has_node (specs_of self.now.nodes) name }
+    {
+        self.index_of(name) < self.nodes().len()
+    }
+
+    /// Returns the names of the nodes of which another state has none, in their order.
+    pub(crate) fn names_not_in(
+        &self,
+        alloc: Global,
+        other: &GraphState<Op>,
+    ) -> Result<Vec<Name>, NoMemory>
+        ensures { IfOk result (λ names. names.items
+            ≡ filter (λ name. not (has_node (specs_of other.now.nodes) name)) (node_names (specs_of self.now.nodes))) }
+    {
+        let nodes = self.nodes();
+        let mut names = Vec::new(alloc);
+        for fact in nodes {
+            let name = fact.spec.name;
+            if !other.has(name) {
+                names.push(name)?;
+            }
+        }
+        Ok(names)
+    }
+
     /// Returns the stated shape of the node of a name, and that of the image without a pixel where there
     /// is none.
     pub(crate) fn shape_of(&self, name: Name) -> Shape
@@ -106,6 +133,7 @@ impl<Op: OpMeaning + Drop> GraphState<Op> {
         buffers: &[BufferFact],
     ) -> Result<GraphState<Op>, GraphRefused>
         ensures ok { IfOk result (λ state. edited_side Op.meanings self.now edits.now buffers.now ≡ Ok state) }
+        ensures state { IfOk result (λ state. IsGraphState Op.meanings state) }
         ensures refused { IfErr result (IsRefusalOf (edited_side Op.meanings self.now edits.now buffers.now)) }
     {
         let draft = Draft::of(kit, alloc, &self.nodes, &self.names)?;
