@@ -22,6 +22,7 @@ use Rattle.model_states.proofs.NodeDamage as node_damage
 use Rattle.model_states.proofs.RetainedLaws.{commit_few}
 use Rattle.model_states.proofs.Symmetric as symmetric
 use Rattle.model_states.proofs.Voids.{listed_damage}
+use Rattle.graph_commits.proofs.VoidLaws.{steady_back}
 use Rattle.graph_commits.specs.declared.refused.GraphRefused.{GraphRefused}
 use Rattle.graph_commits.specs.declared.refused.GraphRefused.TheVariants.{State, NoMemory}
 use Rattle.graph_commits.specs.Graphs.{AreAfter, AreBefore, AreDamagesOf, AreStillThere, AreUnchangedOutside, IsGraph, IsStep}
@@ -57,11 +58,6 @@ steady_from old new still name a b there again =
     let same : found.0 ≡ b = cc (found.1, again) in
     subst (IsSteady a) same found.2
 
-flip : (old new : Facts) → AreSteady old new → AreSteady new old
-flip old new steady name b a again there =
-    let one = steady name a b there again in
-    record { root = sym one.root; shape = sym one.shape }
-
 module _ {Op : Type 0} (same : Op → Op → Bool) (meanings : Meanings Op) (equality : IsEquality same) (keeps : KeepsLaws meanings) where
   -- ---- the damage of a step
 
@@ -86,7 +82,7 @@ module _ {Op : Type 0} (same : Op → Op → Bool) (meanings : Meanings Op) (equ
     stated_change = record { old = old.stated; new = new.stated; steady = steady }
 
     back_stated : IsStatedChange meanings (reversed change)
-    back_stated = record { old = new.stated; new = old.stated; steady = flip change.old.buffers change.new.buffers steady }
+    back_stated = record { old = new.stated; new = old.stated; steady = steady_back change.old.buffers change.new.buffers steady }
 
     back_each : (name : List ℕ) → rectangle_of (damage_list same meanings change) name ≡ damage same meanings (reversed change) name
     back_each name =

@@ -6,3 +6,4 @@ pub mod StateLaws
 pub mod SuitedLaws
 pub mod GraphLaws
 pub mod FilterLaws
+pub mod VoidLaws

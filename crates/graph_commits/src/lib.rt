@@ -10,6 +10,7 @@ mod damage_list;
 mod edits;
 mod graph;
 mod history;
+pub mod laws;
 mod names;
 mod refused;
 mod regions;
