@@ -1,6 +1,6 @@
 -- Facts of buffers by their names.
-use Rattle.std.proofs.Common.{◌≡◌, ℕ, List, Option, Some, None, refl, ap, ◌∙◌, unwrap_or}
-use Rattle.std.specs.Prelude.{is_none, is_some, option_map}
+use Rattle.std.proofs.Common.{◌≡◌, ℕ, List, Option, Some, None, refl, ap, ◌∙◌}
+use Rattle.std.specs.Prelude.{is_some, option_map}
 use Rattle.model_graphs.specs.declared.buffer.BufferFact.{BufferFact}
 use Rattle.model_graphs.specs.Facts.{Facts, fact_of, shape_of_fact, shapes_of_facts}
 use Rattle.model_graphs.specs.Shapes.{shape_in}

@@ -1,5 +1,5 @@
 -- Edits made one after another.
-use Rattle.std.proofs.Common.{◌≡◌, ℕ, suc, ◌+◌, ◌<◌, List, [], ◌∷◌, length, get_or, drop, refl, ap, sym, subst, ◌∙◌, drop-cons, Option, Some, None, Result, Ok, Err}
+use Rattle.std.proofs.Common.{◌≡◌, ℕ, suc, ◌<◌, List, [], ◌∷◌, length, get_or, drop, refl, ap, sym, ◌∙◌, drop-cons, None, Result, Ok, Err}
 use Rattle.model_graphs.specs.Node.{Node}
 use Rattle.model_states.specs.Edits.{edit_refused, then_edit, unless_refused, with_edit, with_edits}
 use Rattle.model_graphs.specs.Shapes.{Shapes}

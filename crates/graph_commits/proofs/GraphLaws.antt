@@ -1,33 +1,29 @@
 -- What holds of graphs stays true, and what steps answer.
-use Rattle.std.proofs.Common.{◌≡◌, ℕ, zero, suc, ◌+◌, ◌-◌, ◌^◌, ◌<◌, ◌≤◌, Bool, true, false, eqb, cond, List, [], ◌∷◌, length, take, refl, sym, ap, ◌∙◌, subst, arith, Option, Some, None, Result, Ok, Err}
+use Rattle.std.proofs.Common.{◌≡◌, ℕ, zero, suc, ◌<◌, Bool, false, eqb, cond, List, [], ◌∷◌, take, refl, sym, ap, ◌∙◌, subst, arith, Some, Result, Ok, Err}
 use Rattle.std.specs.Prelude.{IsOkAnd}
 use Rattle.std.proofs.lemmas.Bool.Decides.{nat_tests}
-use Rattle.model_graphs.specs.declared.buffer.BufferFact.{BufferFact}
 use Rattle.model_graphs.specs.declared.node.NodeEdit.{NodeEdit}
-use Rattle.model_graphs.specs.Facts.{Facts, fact_of, shapes_of_facts, specs_of}
+use Rattle.model_graphs.specs.Facts.{Facts, shapes_of_facts, specs_of}
 use Rattle.model_graphs.specs.Laws.{IsEquality, KeepsLaws}
 use Rattle.model_graphs.specs.Meanings.{Meanings}
 use Rattle.model_graphs.specs.Node.{Node}
 use Rattle.pixel_formats.specs.Limits.{max_undoable}
 use Rattle.model_states.specs.declared.refused.StateRefused.{StateRefused}
-use Rattle.model_states.specs.declared.refused.StateRefused.TheVariants.{NothingToRedo, NothingToUndo, TooManyCommits}
+use Rattle.model_states.specs.declared.refused.StateRefused.TheVariants.{TooManyCommits}
 use Rattle.model_states.specs.Commits.{Graph, change_to, commit_nodes, commit_side, committed, side_of}
 use Rattle.model_states.specs.Damage.{AreSteady, Change, IsStatedChange, IsSteady, Side, damage, damage_list, reversed}
 use Rattle.model_states.specs.Edits.{edited}
 use Rattle.model_states.specs.Neighbors.{SamplesAgreeOutside, scene_of_side}
 use Rattle.model_states.specs.Rectangles.{Rectangles, rectangle_of}
-use Rattle.model_states.specs.Retained.{Retained, Separated, Stepped, last_number, left_state, redo_to, undo_to, unless_last, with_commit}
+use Rattle.model_states.specs.Retained.{Separated, Stepped, last_number, left_state, redo_to, undo_to, unless_last, with_commit}
 use Rattle.model_states.specs.State.{image_of}
 use Rattle.model_states.proofs.NodeDamage as node_damage
 use Rattle.model_states.proofs.RetainedLaws.{commit_few}
 use Rattle.model_states.proofs.Symmetric as symmetric
 use Rattle.model_states.proofs.Voids.{listed_damage}
 use Rattle.graph_commits.proofs.VoidLaws.{steady_back}
-use Rattle.graph_commits.specs.declared.refused.GraphRefused.{GraphRefused}
-use Rattle.graph_commits.specs.declared.refused.GraphRefused.TheVariants.{State, NoMemory}
-use Rattle.graph_commits.specs.Graphs.{AreAfter, AreBefore, AreDamagesOf, AreStillThere, AreUnchangedOutside, IsGraph, IsStep}
+use Rattle.graph_commits.specs.Graphs.{AreAfter, AreBefore, AreDamagesOf, AreStillThere, AreUnchangedOutside, IsGraph}
 use Rattle.graph_commits.specs.Histories.{first_delta}
-use Rattle.graph_commits.specs.Refusals.{IsRefusalOf}
 use Rattle.graph_commits.specs.States.{IsGraphState, edited_side, side_of_result}
 
 -- ---- the last number
@@ -37,13 +33,6 @@ not_last number less = grind (arith, nat_tests)
 
 pub unless_open : {A : Type 0} (number : ℕ) (r : Result A StateRefused) → number < last_number → unless_last number r ≡ r
 unless_open {A} number r less = ap (λ b. cond b (Err TooManyCommits) r) (not_last number less)
-
-is_last : (number : ℕ) → number ≡ last_number → eqb number last_number ≡ true
-is_last number last = grind (arith, nat_tests)
-
-pub last_refused : {A : Type 0} (number : ℕ) (r : Result A StateRefused) (why : GraphRefused) → number ≡ last_number → why ≡ State TooManyCommits → IsRefusalOf (unless_last number r) why
-last_refused {A} number r why last is =
-    subst (IsRefusalOf (unless_last number r)) (sym is) (ap (λ b. cond b (Err TooManyCommits) r) (is_last number last))
 
 -- what one result has
 result_is : {A : Type 0} (r : Result A StateRefused) (a : A) → r ≡ Ok a → IsOkAnd r (λ x. x ≡ a)
@@ -110,21 +99,10 @@ module _ {Op : Type 0} (same : Op → Op → Bool) (meanings : Meanings Op) (equ
         ap (λ (s : Side Op). Ok (commit_side same meanings graph s written)) one
     nodes_committed (Err why) next e = absurd (cc e)
 
-    nodes_refused : (r : Result (List (Node Op)) StateRefused) (why : StateRefused) → side_of_result meanings buffers r ≡ Err why →
-        commit_nodes same meanings graph buffers written r ≡ Err why
-    nodes_refused (Ok nodes) why e = absurd (cc e)
-    nodes_refused (Err w) why e = let one : w ≡ why = cc in ap (λ (r : StateRefused). Err r) one
-
     pub committed_is : (next : Side Op) → graph.number < last_number → edited_side meanings graph.latest edits buffers ≡ Ok next →
         committed same meanings graph edits buffers written ≡ Ok (commit_side same meanings graph next written)
     committed_is next less made =
         unless_open graph.number (commit_nodes same meanings graph buffers written result) less ∙ nodes_committed result next made
-
-    pub commit_refused : (why : GraphRefused) → graph.number < last_number → IsRefusalOf (edited_side meanings graph.latest edits buffers) why →
-        IsRefusalOf (committed same meanings graph edits buffers written) why
-    commit_refused NoMemory less refused = tt
-    commit_refused (State why) less refused =
-        unless_open graph.number (commit_nodes same meanings graph buffers written result) less ∙ nodes_refused result why refused
 
     edited_buffers : (r : Result (List (Node Op)) StateRefused) (next : Side Op) → side_of_result meanings buffers r ≡ Ok next → buffers ≡ next.buffers
     edited_buffers (Ok nodes) next e = let one : side_of meanings buffers nodes ≡ next = cc in ap (λ (s : Side Op). s.buffers) one
@@ -145,7 +123,6 @@ module _ {Op : Type 0} (same : Op → Op → Bool) (meanings : Meanings Op) (equ
       AreSteady graph.latest.buffers next.buffers →
       IsGraph same meanings (with_commit graph next (damage_list same meanings (change_to graph next written)))
   graph_committed graph next written is state steady =
-      let delta = damage_list same meanings (change_to graph next written) in
       record {
         latest = state;
         undoable =
@@ -165,10 +142,6 @@ module _ {Op : Type 0} (same : Op → Op → Bool) (meanings : Meanings Op) (equ
       ap (λ (next : Graph Op). Ok (record { next = next; delta = back.delta })) leads
       ∙ ap (λ delta. Ok (record { next = new; delta = delta })) here
 
-  pub nothing_undone : (graph : Graph Op) (states : List (Separated (Side Op) Rectangles)) → first_delta states ≡ None → undo_to graph states ≡ Err NothingToUndo
-  nothing_undone graph [] none = refl
-  nothing_undone graph (back ∷ rest) none = absurd (cc)
-
   pub redone_is : (graph new : Graph Op) (states : List (Separated (Side Op) Rectangles)) (delta : Rectangles) → first_delta states ≡ Some delta →
       IsOkAnd (redo_to graph states) (λ step. step.next ≡ new) → redo_to graph states ≡ Ok (record { next = new; delta = delta })
   redone_is graph new [] delta first leads = absurd (cc)
@@ -176,48 +149,6 @@ module _ {Op : Type 0} (same : Op → Op → Bool) (meanings : Meanings Op) (equ
       let here : next.delta ≡ delta = cc in
       ap (λ (g : Graph Op). Ok (record { next = g; delta = next.delta })) leads
       ∙ ap (λ delta. Ok (record { next = new; delta = delta })) here
-
-  pub nothing_redone : (graph : Graph Op) (states : List (Separated (Side Op) Rectangles)) → first_delta states ≡ None → redo_to graph states ≡ Err NothingToRedo
-  nothing_redone graph [] none = refl
-  nothing_redone graph (next ∷ rest) none = absurd (cc)
-
-  pub some_first : (states : List (Separated (Side Op) Rectangles)) (delta : Rectangles) → first_delta states ≡ Some delta → 0 < length states
-  some_first [] delta first = absurd (cc)
-  some_first (state ∷ states) delta first = omega arith
-
-  -- what an undo leaves is a graph again
-  undo_kept : (graph : Graph Op) (states : List (Separated (Side Op) Rectangles)) (new : Graph Op) → IsGraphState meanings graph.latest →
-      AreBefore same meanings graph.latest states → AreAfter same meanings graph.latest graph.redoable → length states + length graph.redoable ≤ max_undoable →
-      IsOkAnd (undo_to graph states) (λ step. step.next ≡ new) → IsGraph same meanings new
-  undo_kept graph [] new latest before after few leads = absurd leads
-  undo_kept graph (back ∷ rest) new latest before after few leads =
-      subst (IsGraph same meanings) leads
-      (record {
-        latest = before.0;
-        undoable = before.2;
-        redoable = (latest, before.1, after);
-        few = omega (arith, few);
-      })
-
-  pub graph_undone : (graph new : Graph Op) → IsGraph same meanings graph → IsOkAnd (undo_to graph graph.undoable) (λ step. step.next ≡ new) → IsGraph same meanings new
-  graph_undone graph new is leads = undo_kept graph graph.undoable new is.latest is.undoable is.redoable is.few leads
-
-  -- and what a redo leaves
-  redo_kept : (graph : Graph Op) (states : List (Separated (Side Op) Rectangles)) (new : Graph Op) → IsGraphState meanings graph.latest →
-      AreAfter same meanings graph.latest states → AreBefore same meanings graph.latest graph.undoable → length graph.undoable + length states ≤ max_undoable →
-      IsOkAnd (redo_to graph states) (λ step. step.next ≡ new) → IsGraph same meanings new
-  redo_kept graph [] new latest after before few leads = absurd leads
-  redo_kept graph (next ∷ rest) new latest after before few leads =
-      subst (IsGraph same meanings) leads
-      (record {
-        latest = after.0;
-        undoable = (latest, after.1, before);
-        redoable = after.2;
-        few = omega (arith, few);
-      })
-
-  pub graph_redone : (graph new : Graph Op) → IsGraph same meanings graph → IsOkAnd (redo_to graph graph.redoable) (λ step. step.next ≡ new) → IsGraph same meanings new
-  graph_redone graph new is leads = redo_kept graph graph.redoable new is.latest is.redoable is.undoable is.few leads
 
   -- ---- the damage of an undo and of a redo
 
@@ -320,3 +251,8 @@ module _ {Op : Type 0} (same : Op → Op → Bool) (meanings : Meanings Op) (equ
         subst (λ (side : Side Op). AreDamagesOf same meanings (change_to graph side written) delta) (sym (ap (λ (g : Graph Op). g.latest) after_is))
         (subst (AreDamagesOf same meanings (change_to graph next written)) (sym list)
         (damages_are (change_to graph next written) (stated_change (change_to graph next written) is.latest state steady)))
+
+    pub buffers_after : after.latest.buffers ≡ buffers
+    buffers_after =
+        ap (λ (g : Graph Op). g.latest.buffers) after_is
+        ∙ sym (edited_buffers graph edits buffers written (edited meanings (shapes_of_facts buffers) (specs_of graph.latest.nodes) edits) next made)

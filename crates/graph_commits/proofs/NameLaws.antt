@@ -1,10 +1,10 @@
 -- Names by their positions, and those of nodes.
-use Rattle.std.proofs.Common.{◌≡◌, ℕ, zero, suc, ◌+◌, ◌<◌, ◌≤◌, Bool, true, false, not, cond, List, [], ◌∷◌, ◌++◌, map, length, take, drop, refl, sym, ap, ◌∙◌, subst, arith, slice_set, Some, None, unwrap_or}
+use Rattle.std.proofs.Common.{◌≡◌, ℕ, suc, ◌+◌, ◌<◌, ◌≤◌, Bool, true, false, not, cond, List, [], ◌∷◌, ◌++◌, length, take, drop, refl, sym, ap, ◌∙◌, subst, arith, slice_set, Some, None, unwrap_or}
 use Rattle.std.specs.Prelude.{nat_lt}
 use Rattle.std.specs.List.{list_any, prefix_len, remove}
 use Rattle.std.specs.Str.{bytes_eq}
 use Rattle.std.proofs.lemmas.Bool.Decides.{nat_tests, same_from_decides}
-use Rattle.std.proofs.lemmas.List.{length-map, map-append, set_split}
+use Rattle.std.proofs.lemmas.List.{length-map, set_split}
 use Rattle.indexmap.proofs.SetLemmas.{map-remove}
 use Rattle.std.proofs.lemmas.List.Sums.{prefix_len-le-length}
 use Rattle.std.proofs.lemmas.Slice.Eq.{bytes_eq-Decides}
@@ -108,12 +108,6 @@ module _ {Op : Type 0} where
       after ≡ set_at nodes node (index_of nodes node.name) → names ≡ node_names after
   beside_replaced names inner nodes after node beside is there set =
       beside ∙ ap node_names is ∙ sym (set_names nodes node there) ∙ ap node_names (sym set)
-
-  -- and where one comes after them
-  pub beside_appended : (names more : List (List ℕ)) (nodes after : List (Node Op)) (node : Node Op) →
-      names ≡ node_names nodes → more ≡ names ++ node.name ∷ [] → after ≡ nodes ++ node ∷ [] → more ≡ node_names after
-  beside_appended names more nodes after node beside pushed appended =
-      pushed ∙ ap (λ names. names ++ node.name ∷ []) beside ∙ sym (map-append (λ (node : Node Op). node.name) nodes (node ∷ [])) ∙ ap node_names (sym appended)
 
   -- a name of no node is past the index
   pub position_past : (names : List (List ℕ)) (inner nodes : List (Node Op)) (name : List ℕ) →

@@ -1,7 +1,6 @@
 -- What edits make of a state.
-use Rattle.std.proofs.Common.{◌≡◌, List, [], ◌∷◌, map, length, refl, sym, ap, ◌∙◌, subst, Option, Some, None, Result, Ok, Err}
+use Rattle.std.proofs.Common.{◌≡◌, List, [], ◌∷◌, map, refl, sym, ap, ◌∙◌, subst, Option, Some, None, Result, Ok, Err}
 use Rattle.std.specs.List.{AllByRecursion, zip}
-use Rattle.std.proofs.lemmas.List.{length-map}
 use Rattle.std.proofs.lemmas.Result.{IfOk-at_ok}
 use Rattle.plane_rect.specs.Rectangle.{IsRectangle}
 use Rattle.model_graphs.specs.declared.node.NodeEdit.{NodeEdit}
@@ -50,10 +49,6 @@ module _ {Op : Type 0} (meanings : Meanings Op) where
   module _ (side : Side Op) (edits : List (NodeEdit Op)) (buffers : Facts) where
     abbrev edited_nodes : Result (List (Node Op)) StateRefused
     edited_nodes = with_edits (shapes_of_facts buffers) (Ok (specs_of side.nodes)) edits
-
-    pub edits_refused : (why : GraphRefused) → IsRefusalOf edited_nodes why → IsRefusalOf (edited_side meanings side edits buffers) why
-    edits_refused NoMemory refused = tt
-    edits_refused (State why) refused = ap (λ r. side_of_result meanings buffers (walked meanings (shapes_of_facts buffers) r)) refused
 
     module _ (nodes : List (Node Op)) (made : edited_nodes ≡ Ok nodes) where
       pub walk_refused : (why : GraphRefused) → IsRefusalOf (shapes_unless_refused meanings (shapes_of_facts buffers) [] (steps_of nodes)) why →

@@ -9,7 +9,7 @@ use Rattle.model_graphs.specs.Facts.{shapes_of_facts, specs_of, stated_shapes}
 use Rattle.model_graphs.specs.Meanings.{Meanings}
 use Rattle.model_graphs.specs.Node.{Node, index_of}
 use Rattle.model_graphs.specs.Shapes.{Shape, no_shape}
-use Rattle.model_states.specs.Damage.{Change, Side, new_boxes}
+use Rattle.model_states.specs.Damage.{Change, new_boxes}
 use Rattle.model_states.specs.Valid.{Suits, input_boxes, shapes_of}
 use Rattle.model_states.proofs.Suited.{suits_all}
 use Rattle.op_contracts.specs.Applying.{bounds_of}

@@ -4,7 +4,7 @@ use Rattle.model_graphs.specs.declared.buffer.BufferFact.{BufferFact}
 use Rattle.model_graphs.specs.Evaluation.{Buffers}
 use Rattle.model_graphs.specs.Facts.{AreImagesOf, Facts, fact_of}
 use Rattle.model_graphs.specs.Meanings.{Meanings}
-use Rattle.model_states.specs.Commits.{Graph, change_to}
+use Rattle.model_states.specs.Commits.{Graph}
 use Rattle.model_states.specs.Damage.{AreSteady, Change, IsStatedChange, IsSteady, Side, damage, damage_list}
 use Rattle.model_states.specs.Neighbors.{AgreeOutsideRoots, SamplesAgreeOutside, scene_of_side}
 use Rattle.model_states.specs.Rectangles.{Rectangles, rectangle_of}

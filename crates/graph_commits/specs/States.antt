@@ -1,5 +1,5 @@
 -- States of graphs, and what edits make of them.
-use Rattle.std.specs.Prelude.{◌≡◌, List, Result, Ok, Err}
+use Rattle.std.specs.Prelude.{List, Result, Ok, Err}
 use Rattle.std.specs.List.{AllByRecursion}
 use Rattle.plane_rect.specs.Rectangle.{IsRectangle}
 use Rattle.model_graphs.specs.declared.node.NodeEdit.{NodeEdit}

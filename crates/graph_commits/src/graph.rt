@@ -1,14 +1,12 @@
 //! Graphs: states that follow one another, by commits, undos and redos.
 
-ghost use Rattle.std.specs.Prelude.{◌≡◌, [], Err, IfErr, IfOk, Ok, OnErr, All, map};
-ghost use Rattle.std.specs.List.{IsDistinct};
-ghost use Rattle.std.specs.Str.{bytes_eq};
-ghost use Rattle.model_graphs.specs.Facts.{fact_names, rectangles_of};
+ghost use Rattle.std.specs.Prelude.{◌≡◌, IfErr, IfOk, Ok, OnErr, OnOk};
+ghost use Rattle.model_graphs.specs.Facts.{rectangles_of};
 ghost use Rattle.model_states.specs.Commits.{change_to, committed, new_graph};
 ghost use Rattle.model_states.specs.Damage.{damage_list};
 ghost use Rattle.model_states.specs.Rectangles.{Rectangles};
 ghost use Rattle.model_states.specs.Retained.{redone, undone};
-ghost use Rattle.graph_commits.specs.Graphs.{AreDamagesOf, AreStillThere};
+ghost use Rattle.graph_commits.specs.Graphs.{AreDamagesOf, AreStillThere, IsGraph};
 ghost use Rattle.graph_commits.specs.Refusals.{IsRefusalOf};
 
 use crate::change::Change;
@@ -64,9 +62,17 @@ impl<Op: OpMeaning + Drop> Graph<Op> {
 
     /// Returns the nodes of the last state in their order, with their boxes and formats.
     pub fn nodes(&self) -> &[NodeFact<Op>]
-        ensures { result.now ≡ self.now.latest.nodes }
+        ensures nodes { result.now ≡ self.now.latest.nodes }
+        ensures graph { IsGraph Op.same Op.meanings self.now }
     {
         self.history.latest().nodes()
+    }
+
+    /// Returns the facts of the buffers that the last state is over.
+    pub fn buffers(&self) -> &[BufferFact]
+        ensures { result.now ≡ self.now.latest.buffers }
+    {
+        self.history.latest().buffers()
     }
 
     /// Returns the number of the last state.
@@ -82,9 +88,8 @@ impl<Op: OpMeaning + Drop> Graph<Op> {
     ///
     /// # Errors
     ///
-    /// The first cause in the order of `StateRefused`'s use: `TooManyCommits`, or that of the first edit
-    /// that is refused, or that of the first node that is not valid. `NoMemory` if memory runs out. The
-    /// graph is unchanged.
+    /// `TooManyCommits`, or else the cause of the first edit that is refused, or else that of the first
+    /// node that is not valid, and `NoMemory` if memory runs out. The graph is unchanged.
     pub fn commit<K: OpKit<Op = Op>>(
         &mut self,
         kit: &K,
@@ -97,6 +102,7 @@ impl<Op: OpMeaning + Drop> Graph<Op> {
             committed Op.same Op.meanings self.old edits.now buffers.now (rectangles_of edited.now)
             ≡ Ok (record { next = self.new; delta = damage.rects })) }
         ensures number { IfOk result (λ damage. damage.number ≡ self.new.number) }
+        ensures buffers { OnOk result (self.new.latest.buffers ≡ buffers.now) }
         ensures damages { IfOk result (λ damage.
             AreDamagesOf Op.same Op.meanings (change_to self.old self.new.latest (rectangles_of edited.now)) damage.rects) }
         ensures refused { IfErr result

@@ -1,4 +1,4 @@
-use Rattle.std.proofs.Common.{◌≡◌, ◌<◌, length, sym, []}
+use Rattle.std.proofs.Common.{◌<◌, length, sym, []}
 use Rattle.model_graphs.specs.Facts.{shapes_of_facts}
 use Rattle.model_states.specs.Valid.{steps_of}
 use Rattle.graph_commits.specs.States.{shapes_unless_refused}

@@ -1,6 +1,6 @@
 use Rattle.std.proofs.Common.{◌≡◌, ◌++◌, ℕ, List, map, drop}
 use Rattle.std.specs.List.{enumerate_from}
-use Rattle.model_states.specs.Damage.{known_damage, new_boxes}
+use Rattle.model_states.specs.Damage.{known_damage}
 use Rattle.graph_commits.proofs.change.Change.invalidated.Given as goal
 
 abbrev pub invariant-loop-input : goal.invariant-loop-input

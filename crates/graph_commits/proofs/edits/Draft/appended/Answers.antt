@@ -1,4 +1,3 @@
-use Rattle.std.proofs.Common.{◌≡◌, length, ap, ◌∙◌, sym}
 use Rattle.graph_commits.proofs.NameLaws.{appended_nodes, position_past}
 use Rattle.graph_commits.proofs.edits.Draft.appended.Goals as goal
 

@@ -1,5 +1,4 @@
-use Rattle.std.proofs.Common.{◌≡◌, ◌<◌, ◌++◌, ◌∷◌, suc, take, drop, length, ap, ◌∙◌, sym, subst, slice_set, arith}
-use Rattle.std.proofs.lemmas.List.{set_split}
+use Rattle.std.proofs.Common.{◌<◌, length, slice_set, arith}
 use Rattle.model_graphs.specs.Node.{index_of}
 use Rattle.graph_commits.proofs.NameLaws.{beside_replaced, replaced_nodes}
 use Rattle.graph_commits.proofs.edits.Draft.replaced.Goals as goal

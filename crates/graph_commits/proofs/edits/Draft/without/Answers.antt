@@ -1,5 +1,4 @@
-use Rattle.std.proofs.Common.{◌≡◌, ◌<◌, length, ap, ◌∙◌, sym, arith}
-use Rattle.model_graphs.specs.Node.{index_of}
+use Rattle.std.proofs.Common.{length, ap, arith}
 use Rattle.graph_commits.proofs.NameLaws.{beside_removed, position_is, removed_nodes}
 use Rattle.graph_commits.proofs.edits.Draft.without.Goals as goal
 

@@ -2,11 +2,11 @@ use Rattle.std.proofs.Common.{◌≡◌, ◌∙◌, ◌<◌, ap, sym, subst, Ok}
 use Rattle.model_graphs.specs.Facts.{rectangles_of}
 use Rattle.model_graphs.specs.Laws.{KeepsLaws}
 use Rattle.model_states.specs.Commits.{Graph, change_to}
-use Rattle.model_states.specs.Damage.{Change, Side, damage_list}
+use Rattle.model_states.specs.Damage.{Side, damage_list}
 use Rattle.model_states.specs.Retained.{last_number, with_commit}
-use Rattle.graph_commits.specs.Graphs.{AreStillThere, IsGraph}
+use Rattle.graph_commits.specs.Graphs.{IsGraph}
 use Rattle.graph_commits.specs.States.{edited_side}
-use Rattle.graph_commits.proofs.GraphLaws.{answer_is, damages_answered, graph_after}
+use Rattle.graph_commits.proofs.GraphLaws.{answer_is, buffers_after, damages_answered, graph_after}
 use Rattle.graph_commits.proofs.graph.Graph.commit.Given
 use Rattle.graph_commits.proofs.graph.Graph.commit.Goals as goal
 
@@ -54,5 +54,11 @@ returns-clause-committed g c =
 pub returns-clause-damages : goal.returns-clause-damages
 returns-clause-damages g c =
     damages_answered g.Op.OpMeaning.same g.Op.OpMeaning.meanings g.Op.OpMeaning.distinguished (keeps g) c.args.self.now c.commit.new.self c.in_ok-new.new
+    c.args.edits.now c.args.buffers.now (rectangles_of c.args.edited.now) c.in_ok-rects.rects c.in_ok-retained.retained
+    (graph g c) (less g c) (made g c) c.in_ok-new.ensures.state c.requires.still (list g c) c.in_ok-retained.ensures (left g c)
+
+pub returns-clause-buffers : goal.returns-clause-buffers
+returns-clause-buffers g c =
+    buffers_after g.Op.OpMeaning.same g.Op.OpMeaning.meanings g.Op.OpMeaning.distinguished (keeps g) c.args.self.now c.commit.new.self c.in_ok-new.new
     c.args.edits.now c.args.buffers.now (rectangles_of c.args.edited.now) c.in_ok-rects.rects c.in_ok-retained.retained
     (graph g c) (less g c) (made g c) c.in_ok-new.ensures.state c.requires.still (list g c) c.in_ok-retained.ensures (left g c)

@@ -1,10 +1,10 @@
-use Rattle.std.proofs.Common.{◌≡◌, ◌∙◌, ap, sym, subst, Ok, [], map}
+use Rattle.std.proofs.Common.{◌≡◌, ◌∙◌, ap, sym, subst, Ok, map}
 use Rattle.std.specs.List.{zip}
 use Rattle.std.proofs.lemmas.Result.{err_from_is_err_and}
 use Rattle.model_graphs.specs.Facts.{shapes_of_facts, specs_of}
 use Rattle.model_states.specs.Edits.{with_edits}
-use Rattle.model_states.specs.Valid.{node_names, steps_of, with_shape}
-use Rattle.graph_commits.specs.States.{IsGraphState, edited_side, shapes_unless_refused}
+use Rattle.model_states.specs.Valid.{node_names, with_shape}
+use Rattle.graph_commits.specs.States.{IsGraphState}
 use Rattle.graph_commits.proofs.StateLaws.{edited_side-is, edited_state, names_of_facts, walk_refused}
 use Rattle.graph_commits.proofs.state.GraphState.edited.Given
 use Rattle.graph_commits.proofs.state.GraphState.edited.Goals as goal

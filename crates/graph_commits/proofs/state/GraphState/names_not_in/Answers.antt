@@ -1,4 +1,4 @@
-use Rattle.std.proofs.Common.{◌≡◌, ◌∙◌, ℕ, Bool, true, false, not, List, filter, ap, sym}
+use Rattle.std.proofs.Common.{◌∙◌, ℕ, not, List, filter, ap, sym}
 use Rattle.model_graphs.specs.Facts.{specs_of}
 use Rattle.model_states.specs.Edits.{has_node}
 use Rattle.model_states.specs.Valid.{node_names}
