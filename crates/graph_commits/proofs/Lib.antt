@@ -1,0 +1,9 @@
+pub mod NameLaws
+pub mod BufferLaws
+pub mod EditLaws
+pub mod WalkLaws
+pub mod StateLaws
+pub mod SuitedLaws
+pub mod GraphLaws
+pub mod FilterLaws
+pub mod VoidLaws

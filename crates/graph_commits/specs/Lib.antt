@@ -1,0 +1,6 @@
+pub mod Names
+pub mod Refusals
+pub mod States
+pub mod Damages
+pub mod Histories
+pub mod Graphs

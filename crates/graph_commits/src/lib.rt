@@ -1,0 +1,24 @@
+//! Graphs that are edited by commits, for whatever kit of operations: their states, the damage between
+//! one state and the next, and the states that can be undone and redone to.
+#![tactic(auto)]
+
+mod bodies;
+mod buffers;
+mod change;
+mod copies;
+mod damage_list;
+mod edits;
+mod graph;
+mod history;
+pub mod laws;
+mod names;
+mod refused;
+mod regions;
+mod shape;
+mod state;
+mod walk;
+
+pub use damage_list::DamageList;
+pub use graph::{Damage, Graph};
+pub use refused::GraphRefused;
+pub use state::GraphState;

@@ -1,0 +1,32 @@
+//! Rectangles of roots and of inputs.
+
+ghost use Rattle.std.specs.Prelude.{◌≡◌};
+ghost use Rattle.model_graphs.specs.Facts.{rectangles_of};
+ghost use Rattle.model_states.specs.Rectangles.{rectangle_of};
+ghost use Rattle.model_states.specs.Regions.{hull_of};
+
+use model_graphs::Edited;
+use plane_rect::Rect;
+
+/// Returns the hull of all of these.
+pub(crate) fn hull_of(rects: &[Rect]) -> Rect
+    ensures { result ≡ hull_of rects.now }
+{
+    match rects.split_first() {
+        Some((first, rest)) => first.hull(&hull_of(rest)),
+        None => Rect::EMPTY,
+    }
+}
+
+/// Returns the rectangle that was written of the root buffer of a name, without a position where none
+/// was.
+pub(crate) fn rectangle_of(edited: &[Edited], root: &[u8]) -> Rect
+    ensures { result ≡ rectangle_of (rectangles_of edited.now) root.now }
+{
+    for written in edited {
+        if root == written.root.as_bytes() {
+            return written.rect;
+        }
+    }
+    Rect::EMPTY
+}
