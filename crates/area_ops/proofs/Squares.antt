@@ -1,7 +1,7 @@
 -- What operations give of squares.
-use Rattle.std.proofs.Common.{◌≡◌, [], ◌∷◌, Ok, Err, Result, ℕ, ◌+◌, ◌-◌, ◌*◌, ◌<◌, ◌≤◌, ◌||◌, Bool, true, false, cond, ltb, List, length, refl, sym, ap, ◌∙◌, subst, arith}
+use Rattle.std.proofs.Common.{◌≡◌, [], ◌∷◌, Ok, Err, Result, ℕ, ◌+◌, ◌-◌, ◌*◌, ◌<◌, ◌≤◌, ◌||◌, Bool, true, false, cond, ltb, List, length, refl, sym, ap, ◌∙◌, subst, arith, eqb, Option, None, Some, ◌&&◌}
 use Rattle.std.proofs.lemmas.Bool.Decides.{nat_tests}
-use Rattle.std.specs.Prelude.{unwrap_or}
+use Rattle.std.specs.Prelude.{IsSome, unwrap_or}
 use Rattle.std.specs.Result.{IfOk}
 use Rattle.plane_rect.specs.Rectangle.{Includes, Inside, Rectangle, empty, end_column, end_row, if_in_limits, in_limits, is_empty, plane_side, spanning}
 use Rattle.plane_rect.specs.Tile.{Tile, tile_square}
@@ -18,6 +18,7 @@ use Rattle.model_images.specs.Paint.{blank, cut}
 use Rattle.model_images.proofs.Laws.{at-image_from_fn, generated_equal}
 use Rattle.model_graphs.specs.Meanings.{result_box, result_format, result_of}
 use Rattle.model_operations.specs.Boxes.{area_box}
+use Rattle.model_operations.specs.Inputs.{input_format}
 use Rattle.model_operations.specs.Meanings.{int_meanings}
 use Rattle.model_operations.specs.Windows.{read_before, window}
 use Rattle.model_operations.specs.Values.{value_at}
@@ -35,6 +36,19 @@ area-true radius policies.Clamp is = grind (arith, nat_tests)
 area-true radius policies.Loop is = absurd (cc is.1)
 area-true radius policies.Black is = grind (arith, nat_tests)
 area-true radius policies.White is = grind (arith, nat_tests)
+
+area-from : (radius : ℕ) (policy : Abyss) → is_area radius policy ≡ true → IsArea radius policy
+area-from radius policy e = grind (arith, nat_tests)
+
+in-range : (a b : Bool) (format : Option Format) → IsSome (cond (a && b) format None) → b ≡ true
+in-range a true format some = refl
+in-range true false format some = absurd (cc some)
+in-range false false format some = absurd (cc some)
+
+pub area-given : (kind : AreaKind) (radius : ℕ) (policy : Abyss) (formats : List Format) → IsSome (int_meanings.format (operation_of kind radius policy) formats) → IsArea radius policy
+area-given BoxMean radius policy formats some = area-from radius policy (in-range (eqb (length formats) 1) (is_area radius policy) (Some (input_format formats 0)) some)
+area-given Dilate radius policy formats some = area-from radius policy (in-range (eqb (length formats) 1) (is_area radius policy) (Some (input_format formats 0)) some)
+area-given Erode radius policy formats some = area-from radius policy (in-range (eqb (length formats) 1) (is_area radius policy) (Some (input_format formats 0)) some)
 
 its-format : (kind : AreaKind) (radius : ℕ) (policy : Abyss) (format : Format) → is_area radius policy ≡ true
     → result_format int_meanings (operation_of kind radius policy) (format ∷ []) ≡ format

@@ -3,6 +3,7 @@
 
 mod grown;
 mod kind;
+pub mod laws;
 mod part;
 
 pub use kind::AreaKind;
