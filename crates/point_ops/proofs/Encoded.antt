@@ -70,7 +70,6 @@ unit-everywhere format samples bytes out is =
     (λ u v c there known.
     let column : nearest 0 1 u ≡ 0 = omega arith in
     let row : nearest 0 1 v ≡ 0 = omega arith in
-
     clamp-everywhere image u v c
     ∙ ap (λ (n : ℕ). at image n (nearest 0 1 v) c) column
     ∙ ap (λ (n : ℕ). at image 0 n c) row

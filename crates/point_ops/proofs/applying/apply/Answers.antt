@@ -200,4 +200,3 @@ returns-in-Mask c =
     let are : c.args.windows.now ≡ v ∷ w ∷ [] =
     two-of c.args.windows.now v w (c.requires.inputs ∙ ap input_count c.in-Mask.is) c.index-windows-0-in-Mask.is c.index-windows-1-in-Mask.is in
     rw (part-of c.args.op.now Mask c.args.windows.now (v ∷ w ∷ []) c.args.out c.in-Mask.is are c.requires.format c.requires.part) at c.combined_part-in-Mask.ensures
-
