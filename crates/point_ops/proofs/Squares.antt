@@ -1,5 +1,5 @@
 -- Rows of single pixels, and of squares.
-use Rattle.std.proofs.Common.{◌≡◌, ℕ, zero, suc, ◌+◌, ◌-◌, ◌*◌, ◌/◌, ◌<◌, ◌≤◌, Bool, true, false, cond, List, ◌++◌, length, sym, ap, ◌∙◌, subst, arith, length-append, [], ◌∷◌, map, ◌%◌, ◌==◌, if◌then◌else◌, Result, Ok, Err, Vec, Global}
+use Rattle.std.proofs.Common.{◌≡◌, ℕ, zero, suc, ◌+◌, ◌-◌, ◌*◌, ◌/◌, ◌<◌, ◌≤◌, Bool, true, false, cond, List, ◌++◌, length, sym, ap, ◌∙◌, subst, arith, length-append, [], ◌∷◌, ◌%◌, ◌==◌, if◌then◌else◌, Result, Ok, Err, Vec, Global}
 use Rattle.std.specs.Result.{IfOk}
 use Rattle.std.proofs.lemmas.Bool.Decides.{nat_tests}
 use Rattle.std.proofs.lemmas.Nat.{div-mul-add, mod-mul-add}
@@ -10,7 +10,7 @@ use Rattle.std.proofs.lemmas.List.FromFn.{map-range_with_len_more}
 use Rattle.plane_rect.specs.Rectangle.{Rectangle, end_column, end_row, offset}
 use Rattle.plane_rect.proofs.RectangleLaws.{offset-column, offset-row}
 use Rattle.pixel_formats.specs.Format.{channels, pixel_bytes}
-use Rattle.pixel_formats.specs.Row.{HasPixels, Pixel, pixel_at, pixel_count}
+use Rattle.pixel_formats.specs.Row.{HasPixels, Pixel, pixel_at}
 use Rattle.pixel_formats.specs.declared.format.Format.{Format}
 use Rattle.model_images.specs.FromRaw.{byte_count, image_from_raw}
 use Rattle.model_images.specs.Image.{image_from_fn}
