@@ -1,8 +1,8 @@
 -- What becomes of pixels depends on nothing but their channels.
-use Rattle.std.proofs.Common.{◌≡◌, ℕ, ◌+◌, ◌-◌, ◌<◌, Bool, true, false, cond, refl, sym, ap, ◌∙◌, arith}
+use Rattle.std.proofs.Common.{◌≡◌, ℕ, ◌-◌, ◌<◌, Bool, true, false, cond, refl, ap, ◌∙◌, arith}
 use Rattle.std.proofs.lemmas.Bool.Decides.{nat_tests}
 use Rattle.pixel_formats.specs.Average.{mean_of_three}
-use Rattle.pixel_formats.specs.Convert.{color_of, converted_pixel, gray_of, is_gray, rechannelled, rescaled}
+use Rattle.pixel_formats.specs.Convert.{color_of, converted_pixel, gray_of, is_gray, rescaled}
 use Rattle.pixel_formats.specs.Format.{channels, depth, has_alpha, max_sample}
 use Rattle.pixel_formats.specs.Gain.{gained}
 use Rattle.pixel_formats.specs.Invert.{inverted}

@@ -1,9 +1,8 @@
 -- The raw bytes of samples, and the image of one pixel everywhere.
-use Rattle.std.proofs.Common.{◌≡◌, ℕ, zero, suc, ◌+◌, ◌*◌, ◌/◌, ◌%◌, ◌<◌, List, [], ◌∷◌, ◌++◌, length, map, get_or, refl, sym, ap, ◌∙◌, arith, length-append, Result, Ok, Err, Vec, Global}
+use Rattle.std.proofs.Common.{◌≡◌, ℕ, zero, suc, ◌+◌, ◌*◌, ◌/◌, ◌<◌, List, [], ◌∷◌, length, map, get_or, refl, ap, ◌∙◌, arith, length-append, Result, Ok, Err, Vec, Global}
 use Rattle.std.specs.Result.{IfOk}
 use Rattle.std.specs.List.{flat_map, range_with_len}
 use Rattle.std.proofs.lemmas.List.FromFn.{get_or-map-range_with_len}
-use Rattle.std.proofs.lemmas.Grind.{flat_map-append}
 use Rattle.plane_rect.specs.Rectangle.{Rectangle, spanning}
 use Rattle.pixel_formats.specs.Format.{channels, depth}
 use Rattle.pixel_formats.specs.Row.{sample_at}
@@ -11,7 +10,7 @@ use Rattle.pixel_formats.specs.declared.format.Format.{Format}
 use Rattle.pixel_formats.specs.declared.abyss.Abyss.TheVariants.{Clamp}
 use Rattle.model_images.specs.Abyss.{abyss_at, nearest}
 use Rattle.model_images.specs.FromRaw.{byte_count, image_from_raw}
-use Rattle.model_images.specs.Image.{Image, at, image_from_fn}
+use Rattle.model_images.specs.Image.{at, image_from_fn}
 use Rattle.model_images.specs.Raw.{sample_bytes}
 use Rattle.model_images.proofs.FromRawLaws.{at-image_from_raw, by_depth}
 use Rattle.model_images.proofs.Laws.{generated_equal}
@@ -70,7 +69,6 @@ unit-everywhere format samples bytes out is =
     (λ u v c there known.
     let column : nearest 0 1 u ≡ 0 = omega arith in
     let row : nearest 0 1 v ≡ 0 = omega arith in
-
     clamp-everywhere image u v c
     ∙ ap (λ (n : ℕ). at image n (nearest 0 1 v) c) column
     ∙ ap (λ (n : ℕ). at image 0 n c) row

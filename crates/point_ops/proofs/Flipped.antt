@@ -1,14 +1,14 @@
 -- Parts of images that are mirrored.
-use Rattle.std.proofs.Common.{◌≡◌, ℕ, zero, suc, ◌+◌, ◌-◌, ◌*◌, ◌/◌, ◌%◌, ◌<◌, ◌≤◌, inl, inr, Bool, true, false, List, length, take, drop, get_or, min, refl, sym, ap, ◌∙◌, subst, arith, add-zero}
+use Rattle.std.proofs.Common.{◌≡◌, ℕ, zero, suc, ◌+◌, ◌-◌, ◌*◌, ◌/◌, ◌%◌, ◌<◌, ◌≤◌, inl, inr, Bool, true, false, List, length, take, drop, get_or, refl, sym, ap, ◌∙◌, subst, arith}
 use Rattle.std.specs.List.{flat_map, range_with_len}
 use Rattle.std.proofs.lemmas.List.{get_or-drop, get_or-take, length-take}
-use Rattle.std.proofs.lemmas.Nat.{div-mul-add, div_below, mod-mul-add, mod_below, mul-add-lt, div-add-mod'}
+use Rattle.std.proofs.lemmas.Nat.{div-mul-add, div_below, mod-mul-add, mod_below, mul-add-lt}
 use Rattle.std.proofs.Math.ListN.{length-drop}
 use Rattle.std.proofs.Math.Nat.{mul-le-mul_right}
 use Rattle.plane_rect.specs.Rectangle.{Includes, InLimits, Inside, IsRectangle, Rectangle, area, empty, end_column, end_row, offset}
 use Rattle.plane_rect.proofs.Rectangles.{rectangle-some, some_or_empty}
 use Rattle.pixel_formats.specs.Format.{channels, depth, pixel_bytes}
-use Rattle.pixel_formats.specs.Row.{HasPixels, Pixel, pixel_at, pixel_count}
+use Rattle.pixel_formats.specs.Row.{HasPixels, Pixel, pixel_at}
 use Rattle.pixel_formats.specs.declared.format.Format.{Format}
 use Rattle.model_images.specs.FromRaw.{byte_count, image_from_raw}
 use Rattle.model_images.specs.Image.{Image, at, image_from_fn}
@@ -65,14 +65,15 @@ turned-pixels f xs w count whole =
     (λ i below.
     let there : 0 + i ≡ i = omega arith in
     let is : chunk_from_end xs n count (0 + i) ≡ take n (drop ((count - 1 - i) * n) xs) = ap (chunk_from_end xs n count) there ∙ chunk-is xs n count i below in
-    let long : length (chunk_from_end xs n count (0 + i)) ≡ n = ap length is ∙ chunk-long xs n count i whole below in
-    (long,
-    λ k c few known.
-    let within : k < w = subst (λ (m : ℕ). k < m) (pixel_count_of f (chunk_from_end xs n count (0 + i)) w long) few in
-    ap (λ (ys : List ℕ). pixel_at f ys k c) is
-    ∙ chunk-pixel f xs w (count - 1 - i) k c within known
-    ∙ ap (λ (m : ℕ). pixel_at f xs ((count - 1 - m) * w + k) c) (sym (div-mul-add i w k within))
-    ∙ ap (λ (m : ℕ). pixel_at f xs ((count - 1 - (i * w + k) / w) * w + m) c) (sym (mod-mul-add i w k within))))
+    let long : length (chunk_from_end xs n count (0 + i)) ≡ n = ap length is ∙ chunk-long xs n count i whole below in (
+      long,
+      λ k c few known.
+          let within : k < w = subst (λ (m : ℕ). k < m) (pixel_count_of f (chunk_from_end xs n count (0 + i)) w long) few in
+          ap (λ (ys : List ℕ). pixel_at f ys k c) is
+          ∙ chunk-pixel f xs w (count - 1 - i) k c within known
+          ∙ ap (λ (m : ℕ). pixel_at f xs ((count - 1 - m) * w + k) c) (sym (div-mul-add i w k within))
+          ∙ ap (λ (m : ℕ). pixel_at f xs ((count - 1 - (i * w + k) / w) * w + m) c) (sym (mod-mul-add i w k within)),
+    ))
 
 -- ---- the pixels of a rectangle, mirrored
 
@@ -80,9 +81,10 @@ module _ (f : Format) (r : Rectangle) (src bytes : List ℕ) (whole : length src
   pub upright-pixels : bytes ≡ flat_map (chunk_from_end src (r.width * pixel_bytes f) r.height) (range_with_len 0 r.height)
       → (length bytes ≡ byte_count r f) × HasPixels f bytes (λ i. pixel_at f src (flipped_index false r i))
   upright-pixels is =
-      let all = turned-pixels f src r.width r.height (whole ∙ omega arith) in
-      (ap length is ∙ all.0 ∙ omega arith,
-      subst (λ (xs : List ℕ). HasPixels f xs (λ i. pixel_at f src (flipped_index false r i))) (sym is) all.1)
+      let all = turned-pixels f src r.width r.height (whole ∙ omega arith) in (
+        ap length is ∙ all.0 ∙ omega arith,
+        subst (λ (xs : List ℕ). HasPixels f xs (λ i. pixel_at f src (flipped_index false r i))) (sym is) all.1,
+      )
 
   -- from the pixel of an index in the reverse of all, and of the rows, to the one of its row
   twice-turned : (i : ℕ) → i < area r → ((r.height - 1 - i / r.width) * r.width + i % r.width < area r)
@@ -113,16 +115,17 @@ module _ (f : Format) (r : Rectangle) (src bytes : List ℕ) (whole : length src
       let long : length pixels ≡ byte_count r f = ap length same ∙ turn.0 ∙ omega arith in
       let has : HasPixels f pixels (turned f src 1 (area r)) = subst (λ (xs : List ℕ). HasPixels f xs (turned f src 1 (area r))) (sym same) turn.1 in
       let all = turned-pixels f pixels r.width r.height (long ∙ omega arith) in
-      let count : length bytes ≡ byte_count r f = ap length is ∙ all.0 ∙ omega arith in
-      (count,
-      λ i c below known.
-      let few : i < area r = subst (λ (n : ℕ). i < n) (pixel_count_of f bytes (area r) count) below in
-      let turned_twice = twice-turned i few in
-      let rows : HasPixels f bytes (turned f pixels r.width r.height) = subst (λ (xs : List ℕ). HasPixels f xs (turned f pixels r.width r.height)) (sym is) all.1 in
-      rows i c below known
-      ∙ has ((r.height - 1 - i / r.width) * r.width + i % r.width) c
-      (subst (λ (n : ℕ). (r.height - 1 - i / r.width) * r.width + i % r.width < n) (sym (pixel_count_of f pixels (area r) long)) turned_twice.0) known
-      ∙ ap (λ (n : ℕ). pixel_at f src n c) turned_twice.1)
+      let count : length bytes ≡ byte_count r f = ap length is ∙ all.0 ∙ omega arith in (
+        count,
+        λ i c below known.
+            let few : i < area r = subst (λ (n : ℕ). i < n) (pixel_count_of f bytes (area r) count) below in
+            let turned_twice = twice-turned i few in
+            let rows : HasPixels f bytes (turned f pixels r.width r.height) = subst (λ (xs : List ℕ). HasPixels f xs (turned f pixels r.width r.height)) (sym is) all.1 in
+            rows i c below known
+            ∙ has ((r.height - 1 - i / r.width) * r.width + i % r.width) c
+            (subst (λ (n : ℕ). (r.height - 1 - i / r.width) * r.width + i % r.width < n) (sym (pixel_count_of f pixels (area r) long)) turned_twice.0) known
+            ∙ ap (λ (n : ℕ). pixel_at f src n c) turned_twice.1,
+      )
 
   pub turned-long : (pixels : List ℕ) → pixels ≡ flat_map (chunk_from_end src (pixel_bytes f) (area r)) (range_with_len 0 (area r)) → length pixels ≡ byte_count r f
   turned-long pixels first =
@@ -197,9 +200,9 @@ module _ (box part : Rectangle) (wide : 0 < part.width) (high : 0 < part.height)
         width = refl;
         height = refl;
         inside = λ u v there. record {
-              column = (omega (arith, first.column, last.column, there.column, wide), omega (arith, first.column, last.column, there.column, wide));
-              row = there.row;
-            };
+          column = (omega (arith, first.column, last.column, there.column, wide), omega (arith, first.column, last.column, there.column, wide));
+          row = there.row;
+        };
         index = λ u v there.
             let column : part.width - 1 - (u - part.first_column) ≡ mirrored box.first_column box.width u - start = omega (arith, first.column, last.column, there.column, wide) in
             ap (λ (n : ℕ). n * part.width + (part.width - 1 - offset part u v % part.width)) (row-index part u v there)
@@ -221,9 +224,9 @@ module _ (box part : Rectangle) (wide : 0 < part.width) (high : 0 < part.height)
         width = refl;
         height = refl;
         inside = λ u v there. record {
-              column = there.column;
-              row = (omega (arith, first.row, last.row, there.row, high), omega (arith, first.row, last.row, there.row, high));
-            };
+          column = there.column;
+          row = (omega (arith, first.row, last.row, there.row, high), omega (arith, first.row, last.row, there.row, high));
+        };
         index = λ u v there.
             let row : part.height - 1 - (v - part.first_row) ≡ mirrored box.first_row box.height v - start = omega (arith, first.row, last.row, there.row, high) in
             ap (λ (n : ℕ). (part.height - 1 - n) * part.width + offset part u v % part.width) (row-index part u v there)

@@ -1,8 +1,7 @@
 -- Parts of images that are moved.
-use Rattle.std.proofs.Common.{◌≡◌, [], ◌∷◌, ℕ, ℤ, pos, negsuc, ◌+◌, ◌-◌, ◌*◌, ◌<◌, ◌≤◌, inl, inr, List, Option, Some, None, min, refl, sym, ap, ◌∙◌, subst, arith, length, add-zero}
+use Rattle.std.proofs.Common.{◌≡◌, [], ◌∷◌, ℕ, ℤ, pos, negsuc, ◌+◌, ◌-◌, ◌*◌, ◌<◌, inl, inr, List, Option, Some, None, min, refl, sym, ap, ◌∙◌, subst, arith, length, add-zero}
 use Rattle.std.specs.Prelude.{unwrap_or}
-use Rattle.std.proofs.lemmas.Bool.Decides.{nat_tests}
-use Rattle.plane_rect.specs.Rectangle.{Includes, InLimits, Inside, IsRectangle, Rectangle, empty, end_column, end_row, if_in_limits, offset, rectangle, shifted, spanning}
+use Rattle.plane_rect.specs.Rectangle.{Includes, InLimits, Inside, IsRectangle, Rectangle, empty, end_column, end_row, if_in_limits, offset, shifted}
 use Rattle.plane_rect.proofs.Rectangles.{rectangle-some, some_or_empty}
 use Rattle.pixel_formats.specs.Format.{channels, depth}
 use Rattle.pixel_formats.specs.Row.{sample_at}

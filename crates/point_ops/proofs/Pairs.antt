@@ -1,5 +1,5 @@
 -- Rows of pixels that are made of two rows.
-use Rattle.std.proofs.Common.{◌≡◌, ℕ, ◌+◌, ◌-◌, ◌*◌, ◌/◌, ◌%◌, ◌<◌, List, length, refl, sym, ap, ◌∙◌, subst, arith}
+use Rattle.std.proofs.Common.{◌≡◌, ℕ, ◌+◌, ◌-◌, ◌*◌, ◌/◌, ◌%◌, ◌<◌, List, length, sym, ap, ◌∙◌, subst, arith}
 use Rattle.plane_rect.specs.Rectangle.{Rectangle, area, offset}
 use Rattle.pixel_formats.specs.Format.{channels, depth, max_sample, pixel_bytes}
 use Rattle.pixel_formats.specs.Mask.{masked_pixel}
@@ -8,7 +8,7 @@ use Rattle.pixel_formats.specs.Row.{HasPixels, Pixel, pixel_at, pixel_count, sam
 use Rattle.pixel_formats.specs.Sample.{added, scaled_by}
 use Rattle.pixel_formats.specs.declared.format.Format.{Format}
 use Rattle.pixel_formats.specs.declared.format.Format.TheVariants.{Y8}
-use Rattle.model_images.specs.FromRaw.{byte_count, image_from_raw}
+use Rattle.model_images.specs.FromRaw.{image_from_raw}
 use Rattle.model_images.specs.Image.{Image, at, image_from_fn}
 use Rattle.sample_rows.proofs.ConvertLaws.{whole_pixels}
 use Rattle.sample_rows.proofs.RowLaws.{pixel_count_of}

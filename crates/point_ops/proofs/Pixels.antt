@@ -1,14 +1,13 @@
 -- Rows of pixels as the raw bytes of rectangles.
-use Rattle.std.proofs.Common.{◌≡◌, ℕ, ◌*◌, ◌%◌, ◌<◌, List, length, sym, ap, ◌∙◌, subst}
+use Rattle.std.proofs.Common.{◌≡◌, ℕ, ◌*◌, ◌<◌, List, length, sym, ap, ◌∙◌, subst}
 use Rattle.plane_rect.specs.Rectangle.{Inside, Rectangle, area, offset}
 use Rattle.plane_rect.proofs.RectangleLaws.{offset-below}
 use Rattle.pixel_formats.specs.Format.{channels, pixel_bytes}
-use Rattle.pixel_formats.specs.Row.{HasPixels, Pixel, pixel_at, pixel_count}
+use Rattle.pixel_formats.specs.Row.{HasPixels, Pixel, pixel_at}
 use Rattle.pixel_formats.specs.declared.format.Format.{Format}
 use Rattle.model_images.specs.FromRaw.{byte_count, image_from_raw, pixels_from_raw}
 use Rattle.model_images.specs.Image.{Image, at, image_from_fn}
 use Rattle.model_images.proofs.Laws.{generated_equal}
-use Rattle.sample_rows.proofs.ConvertLaws.{whole_pixels}
 use Rattle.sample_rows.proofs.RowLaws.{pixel_count_of}
 use Rattle.point_ops.specs.PartBytes.{AreRawBytesOf}
 use Rattle.point_ops.specs.Changes.{changed_format, changed_pixel}

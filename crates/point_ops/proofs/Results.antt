@@ -1,20 +1,20 @@
 -- Parts of what operations give of the images that windows show.
-use Rattle.std.proofs.Common.{◌≡◌, ℕ, ◌+◌, ◌<◌, ◌≤◌, List, [], ◌∷◌, Bool, true, false, ◌&&◌, cond, eqb, leb, All, length, get_or, Option, Some, None, Ok, refl, sym, ap, ◌∙◌, subst, arith, map}
+use Rattle.std.proofs.Common.{◌≡◌, ℕ, ◌<◌, List, [], ◌∷◌, Bool, true, false, ◌&&◌, cond, eqb, All, length, get_or, Option, Some, None, refl, sym, ap, ◌∙◌, subst, arith}
 use Rattle.std.specs.Prelude.{IsSome, unwrap_or}
 use Rattle.std.specs.List.{list_all}
 use Rattle.std.proofs.lemmas.Bool.{leb-true}
 use Rattle.std.proofs.lemmas.Bool.Decides.{Decides-eqb}
 use Rattle.std.proofs.lemmas.List.Elements.{All-cons}
-use Rattle.plane_rect.specs.Rectangle.{Includes, InLimits, Inside, IsRectangle, Rectangle, empty, if_in_limits, in_limits}
+use Rattle.plane_rect.specs.Rectangle.{Includes, Rectangle, empty, in_limits}
 use Rattle.pixel_formats.specs.Format.{channels, depth, has_alpha, max_sample, same_format}
 use Rattle.pixel_formats.specs.declared.format.Format.{Format}
 use Rattle.pixel_formats.specs.declared.format.Format.TheVariants.{Y8}
-use Rattle.model_images.specs.Image.{Image, at, image_from_fn}
+use Rattle.model_images.specs.Image.{at, image_from_fn}
 use Rattle.model_images.specs.Paint.{cut}
 use Rattle.model_images.proofs.Laws.{at-image_from_fn, generated_equal}
 use Rattle.model_images.proofs.Tests.{both, Decides-same_format}
 use Rattle.model_graphs.specs.Meanings.{boxes_of, formats_of, result_box, result_format}
-use Rattle.model_graphs.specs.Windows.{Window, window_image}
+use Rattle.model_graphs.specs.Windows.{Window}
 use Rattle.model_operations.specs.Arguments.{in_range}
 use Rattle.model_operations.specs.Formats.{are_samples, format_of, format_with, is_mask_of, is_sample}
 use Rattle.model_operations.specs.Inputs.{input_count, input_format}

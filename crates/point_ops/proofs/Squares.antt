@@ -1,5 +1,5 @@
 -- Rows of single pixels, and of squares.
-use Rattle.std.proofs.Common.{◌≡◌, ℕ, zero, suc, ◌+◌, ◌-◌, ◌*◌, ◌/◌, ◌<◌, ◌≤◌, Bool, true, false, cond, List, ◌++◌, length, sym, ap, ◌∙◌, subst, arith, length-append, [], ◌∷◌, map, ◌%◌, ◌==◌, if◌then◌else◌, Result, Ok, Err, Vec, Global}
+use Rattle.std.proofs.Common.{◌≡◌, ℕ, zero, suc, ◌+◌, ◌-◌, ◌*◌, ◌/◌, ◌<◌, ◌≤◌, Bool, true, false, cond, List, ◌++◌, length, sym, ap, ◌∙◌, subst, arith, length-append, [], ◌∷◌, ◌%◌, ◌==◌, if◌then◌else◌, Result, Ok, Err, Vec, Global}
 use Rattle.std.specs.Result.{IfOk}
 use Rattle.std.proofs.lemmas.Bool.Decides.{nat_tests}
 use Rattle.std.proofs.lemmas.Nat.{div-mul-add, mod-mul-add}
@@ -10,7 +10,7 @@ use Rattle.std.proofs.lemmas.List.FromFn.{map-range_with_len_more}
 use Rattle.plane_rect.specs.Rectangle.{Rectangle, end_column, end_row, offset}
 use Rattle.plane_rect.proofs.RectangleLaws.{offset-column, offset-row}
 use Rattle.pixel_formats.specs.Format.{channels, pixel_bytes}
-use Rattle.pixel_formats.specs.Row.{HasPixels, Pixel, pixel_at, pixel_count}
+use Rattle.pixel_formats.specs.Row.{HasPixels, Pixel, pixel_at}
 use Rattle.pixel_formats.specs.declared.format.Format.{Format}
 use Rattle.model_images.specs.FromRaw.{byte_count, image_from_raw}
 use Rattle.model_images.specs.Image.{image_from_fn}
@@ -34,9 +34,10 @@ only-pixel f bytes pixels is (suc k) c below known =
 pub pixel-after : (f : Format) (old bytes : List ℕ) (n : ℕ) (pixels : ℕ → Pixel) → length old ≡ n * pixel_bytes f → HasPixels f old pixels
     → IsPixel f (pixels n) bytes → (length (old ++ bytes) ≡ (n + 1) * pixel_bytes f) × HasPixels f (old ++ bytes) pixels
 pixel-after f old bytes n pixels long has is =
-    let own : IsPixel f (pixels (n + 0)) bytes = subst (λ (i : ℕ). IsPixel f (pixels i) bytes) (omega arith) is in
-    (length-append old bytes ∙ omega (arith, long, is.count),
-    HasPixels-append f old bytes n long pixels has (only-pixel f bytes (λ k. pixels (n + k)) own))
+    let own : IsPixel f (pixels (n + 0)) bytes = subst (λ (i : ℕ). IsPixel f (pixels i) bytes) (omega arith) is in (
+      length-append old bytes ∙ omega (arith, long, is.count),
+      HasPixels-append f old bytes n long pixels has (only-pixel f bytes (λ k. pixels (n + k)) own),
+    )
 
 -- ---- the bytes of numbers in a row, one after the other
 
@@ -74,9 +75,10 @@ rows-follow f g w a (suc n) pixels each =
     let rows = flat_map g (range_with_len a n) in
     let count : suc n ≡ n + 1 = omega arith in
     let more : flat_map g (range_with_len a (suc n)) ≡ rows ++ g (a + n) =
-    ap (λ (m : ℕ). flat_map g (range_with_len a m)) count ∙ flat-more g a n in
-    (ap length more ∙ length-append rows (g (a + n)) ∙ omega (arith, before.0, last.0),
-    subst (λ (xs : List ℕ). HasPixels f xs pixels) (sym more) (HasPixels-append f rows (g (a + n)) (n * w) before.0 pixels before.1 last.1))
+    ap (λ (m : ℕ). flat_map g (range_with_len a m)) count ∙ flat-more g a n in (
+      ap length more ∙ length-append rows (g (a + n)) ∙ omega (arith, before.0, last.0),
+      subst (λ (xs : List ℕ). HasPixels f xs pixels) (sym more) (HasPixels-append f rows (g (a + n)) (n * w) before.0 pixels before.1 last.1),
+    )
 
 -- ---- checkerboards
 
@@ -100,10 +102,11 @@ module _ (f : Format) (size v1 v2 : ℕ) (first second : List ℕ) (one : IsPixe
       let all = rows-follow f (by_square size first second) 1 a w pixels
       (λ i below.
       let is = chosen (square_number size (a + i) % 2 == 0) in
-      let there : i * 1 + 0 ≡ i = omega arith in
-      (is.count ∙ omega arith,
-      only-pixel f (by_square size first second (a + i)) (λ k. pixels (i * 1 + k))
-      (subst (λ (k : ℕ). IsPixel f (pixels k) (by_square size first second (a + i))) (sym there) is))) in
+      let there : i * 1 + 0 ≡ i = omega arith in (
+        is.count ∙ omega arith,
+        only-pixel f (by_square size first second (a + i)) (λ k. pixels (i * 1 + k))
+            (subst (λ (k : ℕ). IsPixel f (pixels k) (by_square size first second (a + i))) (sym there) is),
+      )) in
       (all.0 ∙ omega arith, all.1)
 
 module _ (f : Format) (size v1 v2 : ℕ) (r : Rectangle) (even odd : List ℕ)
@@ -133,12 +136,13 @@ module _ (f : Format) (size v1 v2 : ℕ) (r : Rectangle) (even odd : List ℕ)
   board bytes made =
       let all = rows-follow f (by_square size even odd) r.width r.first_row r.height pixels
       (λ i below. ((row-of (square_number size (r.first_row + i) % 2 == 0)).0, row-pixels i)) in
-      let count : length bytes ≡ byte_count r f = ap length made ∙ all.0 ∙ omega arith in
-      (count,
-      image-of_pixels r f bytes pixels (checker_pixel f size v1 v2) count (subst (λ (xs : List ℕ). HasPixels f xs pixels) (sym made) all.1)
-      (λ u v c there known.
-      ap (λ (n : ℕ). checker_pixel f size v1 v2 n (r.first_row + offset r u v / r.width) c) (offset-column u v r there)
-      ∙ ap (λ (n : ℕ). checker_pixel f size v1 v2 u n c) (offset-row u v r there)))
+      let count : length bytes ≡ byte_count r f = ap length made ∙ all.0 ∙ omega arith in (
+        count,
+        image-of_pixels r f bytes pixels (checker_pixel f size v1 v2) count (subst (λ (xs : List ℕ). HasPixels f xs pixels) (sym made) all.1)
+            (λ u v c there known.
+            ap (λ (n : ℕ). checker_pixel f size v1 v2 n (r.first_row + offset r u v / r.width) c) (offset-column u v r there)
+            ∙ ap (λ (n : ℕ). checker_pixel f size v1 v2 u n c) (offset-row u v r there)),
+      )
 
 pub checkerboard : (f : Format) (size v1 v2 : ℕ) (r : Rectangle) (first second even odd bytes : List ℕ) → IsPixel f (opaque_pixel f v1) first → IsPixel f (opaque_pixel f v2) second
     → even ≡ flat_map (by_square size first second) (range_with_len r.first_column (end_column r - r.first_column))

@@ -1,5 +1,5 @@
 -- Pixels that are changed, each by itself.
-use Rattle.std.specs.Prelude.{ℕ, ◌<◌}
+use Rattle.std.specs.Prelude.{◌<◌}
 use Rattle.pixel_formats.specs.Convert.{converted_pixel}
 use Rattle.pixel_formats.specs.Gain.{gained_pixel}
 use Rattle.pixel_formats.specs.Invert.{inverted_pixel}

@@ -1,5 +1,5 @@
 -- Parts of images that are moved or mirrored.
-use Rattle.std.specs.Prelude.{ℕ, ℤ, min}
+use Rattle.std.specs.Prelude.{ℤ, min}
 use Rattle.plane_rect.specs.Rectangle.{Rectangle, end_column, end_row, spanning}
 use Rattle.model_operations.specs.Moves.{source_index}
 

@@ -1,6 +1,6 @@
 //! The call that carries out an operation.
 
-ghost use Rattle.std.specs.Prelude.{◌≡◌, All, IfOk, IsSome, length};
+ghost use Rattle.std.specs.Prelude.{◌≡◌, ◌↔◌, All, IfOk, IsSome, IsTrue, length};
 ghost use Rattle.plane_rect.specs.Rectangle.{Includes};
 ghost use Rattle.model_images.specs.Paint.{cut};
 ghost use Rattle.model_graphs.specs.Meanings.{result_box};
@@ -40,15 +40,38 @@ pub fn apply(alloc: Global, op: &IntOp, windows: &[Window], out: Rect) -> Result
 {
     prove!(out.area() <= 1 << 25);
     match op {
-        IntOp::Color { format, samples, .. } => color_part(alloc, *format, samples.as_slice(), out),
-        IntOp::Checker { format, size, v1, v2, .. } => checker_part(alloc, *format, *size, *v1, *v2, out),
+        IntOp::Color {
+            format,
+            samples,
+            ..
+        } => color_part(alloc, *format, samples.as_slice(), out),
+        IntOp::Checker {
+            format,
+            size,
+            v1,
+            v2,
+            ..
+        } => checker_part(alloc, *format, *size, *v1, *v2, out),
         IntOp::Convert { format } => {
             changed_part(alloc, Change::Convert { format: *format }, &windows[0], out)
         }
         IntOp::Invert => changed_part(alloc, Change::Invert, &windows[0], out),
-        IntOp::Threshold { at } => changed_part(alloc, Change::Threshold { at: *at }, &windows[0], out),
+        IntOp::Threshold { at } => changed_part(
+            alloc,
+            Change::Threshold { at: *at },
+            &windows[0],
+            out,
+        ),
         IntOp::Gain { num, den } => {
-            changed_part(alloc, Change::Gain { num: *num, den: *den }, &windows[0], out)
+            changed_part(
+                alloc,
+                Change::Gain {
+                    num: *num,
+                    den: *den,
+                },
+                &windows[0],
+                out,
+            )
         }
         IntOp::Translate { dx, dy } => translated_part(alloc, *dx, *dy, &windows[0], out),
         IntOp::Crop { .. } => windows[0].part(alloc, out),
@@ -58,4 +81,14 @@ pub fn apply(alloc: Global, op: &IntOp, windows: &[Window], out: Rect) -> Result
         IntOp::Mask => combined_part(alloc, Combination::Mask, &windows[0], &windows[1], out),
         IntOp::BoxMean { .. } | IntOp::Dilate { .. } | IntOp::Erode { .. } => unreachable!(),
     }
+}
+
+/// Returns whether each pixel of an operation's result is of one pixel of every input.
+pub fn is_point_op(op: &IntOp) -> bool
+    ensures { IsTrue result ↔ IsPointOp op.now }
+{
+    !matches!(
+        op,
+        IntOp::BoxMean { .. } | IntOp::Dilate { .. } | IntOp::Erode { .. }
+    )
 }

@@ -57,7 +57,10 @@ fn checker_bytes(
     requires second { IsSampleOf format v2 }
     ensures { IfOk result (λ bytes. IsCheckerboard format size v1 v2 out.now bytes.items) }
 {
-    let (first, second) = (raw_opaque(alloc, format, v1)?, raw_opaque(alloc, format, v2)?);
+    let (first, second) = (
+        raw_opaque(alloc, format, v1)?,
+        raw_opaque(alloc, format, v2)?,
+    );
     let (start, end) = (out.first_column(), out.end_column());
     let even = alternated(alloc, size, &first, &second, start..end)?;
     let odd = alternated(alloc, size, &second, &first, start..end)?;

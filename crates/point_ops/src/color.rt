@@ -35,4 +35,3 @@ pub(crate) fn color_part(
     let one = patch_of(alloc, Rect::spanning(0, 0, 1, 1), format, pixel)?;
     fetch(alloc, &one, Abyss::Clamp, out)
 }
-

@@ -94,7 +94,10 @@ pub(crate) fn combined_part(
         (λ u v. combined_pixel combination first.now.format (at (window_image first.now) u v) (at (window_image second.now) u v))) }
 {
     let formats = (first.format, second.format);
-    let (a, b) = (part_bytes(alloc, first, out)?, part_bytes(alloc, second, out)?);
+    let (a, b) = (
+        part_bytes(alloc, first, out)?,
+        part_bytes(alloc, second, out)?,
+    );
     let bytes = combined_bytes(alloc, combination, formats, a.as_slice(), b.as_slice())?;
     patch_of(alloc, out, formats.0, bytes)
 }

@@ -12,4 +12,4 @@ mod part_bytes;
 mod patches;
 mod samples;
 
-pub use applying::apply;
+pub use applying::{apply, is_point_op};

@@ -40,7 +40,11 @@ impl PartBytes<'_> {
 /// # Errors
 ///
 /// `NoMemory` if memory runs out.
-pub(crate) fn part_bytes(alloc: Global, window: &Window, rect: Rect) -> Result<PartBytes<'_>, NoMemory>
+pub(crate) fn part_bytes(
+    alloc: Global,
+    window: &Window,
+    rect: Rect,
+) -> Result<PartBytes<'_>, NoMemory>
     requires whole { IsWholeWindow window.now }
     requires limits { InLimits rect }
     ensures { IfOk result (λ part. AreRawBytesOf (window_image window.now) rect (bytes_of part)) }

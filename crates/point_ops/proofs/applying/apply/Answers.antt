@@ -1,18 +1,11 @@
-use Rattle.std.proofs.Common.{◌≡◌, ◌∙◌, [], ◌∷◌, All, List, ℕ, ap, arith, refl, rules, subst, sym, to_z, of_z, w64}
+use Rattle.std.proofs.Common.{◌≡◌, ◌∙◌, [], ◌∷◌, ap, arith, rules, to_z, of_z, w64}
 use Rattle.std.specs.Result.{IfOk}
-use Rattle.std.specs.Prelude.{IsSome}
-use Rattle.plane_rect.specs.Rectangle.{InLimits}
 use Rattle.model_images.specs.Image.{at, image_from_fn}
-use Rattle.model_images.specs.Paint.{cut, no_image}
-use Rattle.model_graphs.specs.Windows.{IsWholeWindow, Window, window_image}
-use Rattle.model_operations.specs.Formats.{format_of}
+use Rattle.model_graphs.specs.Windows.{IsWholeWindow, window_image}
 use Rattle.model_operations.specs.Inputs.{input_count}
-use Rattle.model_operations.specs.Meanings.{int_meanings}
 use Rattle.model_operations.specs.Moves.{source_index}
 use Rattle.model_operations.specs.declared.operation.IntOp.TheVariants.{Color, Checker, Convert, Invert, Threshold, Gain, Translate, Crop, Flip, Add, Over, Mask}
-use Rattle.op_contracts.specs.Applying.{result_of_windows}
 use Rattle.op_contracts.proofs.Limits.{InLimits-in_tile}
-use Rattle.point_ops.specs.Generated.{IsSampleOf}
 use Rattle.point_ops.proofs.Results.{color-samples, flip-inside, none-of, one-of, part-of, suits-add, suits-mask, suits-over, taken-by, translate-inside, two-of, whole-first}
 use Rattle.point_ops.proofs.applying.apply.Goals as goal
 
@@ -200,4 +193,3 @@ returns-in-Mask c =
     let are : c.args.windows.now ≡ v ∷ w ∷ [] =
     two-of c.args.windows.now v w (c.requires.inputs ∙ ap input_count c.in-Mask.is) c.index-windows-0-in-Mask.is c.index-windows-1-in-Mask.is in
     rw (part-of c.args.op.now Mask c.args.windows.now (v ∷ w ∷ []) c.args.out c.in-Mask.is are c.requires.format c.requires.part) at c.combined_part-in-Mask.ensures
-

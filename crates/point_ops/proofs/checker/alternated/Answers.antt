@@ -1,6 +1,5 @@
-use Rattle.std.proofs.Common.{◌≡◌, ℕ, List, ◌-◌, ◌%◌, ◌==◌, Bool, cond, ◌++◌, ap, ◌∙◌, sym, arith}
+use Rattle.std.proofs.Common.{◌≡◌, ℕ, List, ◌-◌, Bool, cond, ◌++◌, ap, ◌∙◌, sym, arith}
 use Rattle.std.specs.List.{flat_map, range_with_len}
-use Rattle.model_operations.specs.Values.{square_number}
 use Rattle.point_ops.specs.Generated.{by_square}
 use Rattle.point_ops.proofs.Squares.{one-more}
 use Rattle.point_ops.proofs.checker.alternated.Goals as goal

@@ -1,6 +1,6 @@
-use Rattle.std.proofs.Common.{◌≡◌, ℕ, List, ◌-◌}
+use Rattle.std.proofs.Common.{◌≡◌, ◌-◌}
 use Rattle.std.specs.List.{flat_map, range_with_len}
-use Rattle.plane_rect.specs.Rectangle.{end_column, end_row}
+use Rattle.plane_rect.specs.Rectangle.{end_column}
 use Rattle.point_ops.specs.Generated.{by_square, opaque_pixel}
 use Rattle.point_ops.proofs.Squares.{IsPixel, checkerboard-made}
 use Rattle.point_ops.proofs.checker.checker_bytes.Goals as goal

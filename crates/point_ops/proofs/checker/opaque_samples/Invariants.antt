@@ -6,5 +6,5 @@ use Rattle.point_ops.proofs.checker.opaque_samples.Given as goal
 abbrev pub invariant-loop-channel : goal.invariant-loop-channel
 invariant-loop-channel l = record {
   samples : l.samples.items ≡ map (opaque_pixel l.fn.format l.fn.value) (range_with_len 0 l.channel);
-  each : All (IsSampleOf l.fn.format) l.samples.items
+  each : All (IsSampleOf l.fn.format) l.samples.items;
 }

@@ -1,7 +1,6 @@
-use Rattle.std.proofs.Common.{◌≡◌, List, ℕ, ◌<◌, ap, ◌∙◌, map}
-use Rattle.std.specs.List.{flat_map, range_with_len}
-use Rattle.pixel_formats.specs.Format.{channels, depth}
-use Rattle.model_images.specs.Raw.{sample_bytes}
+use Rattle.std.proofs.Common.{◌≡◌, ◌∙◌, map}
+use Rattle.std.specs.List.{range_with_len}
+use Rattle.pixel_formats.specs.Format.{channels}
 use Rattle.point_ops.specs.Generated.{opaque_pixel}
 use Rattle.point_ops.proofs.Encoded.{all-encoded}
 use Rattle.point_ops.proofs.checker.raw_opaque.Goals as goal

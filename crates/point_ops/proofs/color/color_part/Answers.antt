@@ -1,8 +1,8 @@
-use Rattle.std.proofs.Common.{◌≡◌, List, ℕ, ap, ◌∙◌, sym, get_or}
+use Rattle.std.proofs.Common.{◌≡◌, ap, ◌∙◌, get_or}
 use Rattle.plane_rect.specs.Rectangle.{Rectangle}
 use Rattle.pixel_formats.specs.declared.abyss.Abyss.TheVariants.{Clamp}
 use Rattle.model_images.specs.Abyss.{abyss_at}
-use Rattle.model_images.specs.FromRaw.{byte_count, image_from_raw}
+use Rattle.model_images.specs.FromRaw.{image_from_raw}
 use Rattle.model_images.specs.Image.{Image, image_from_fn}
 use Rattle.point_ops.proofs.Encoded.{unit, unit-count, unit-everywhere}
 use Rattle.point_ops.proofs.color.color_part.Goals as goal

@@ -1,6 +1,4 @@
-use Rattle.std.proofs.Common.{◌≡◌, ap, subst}
-use Rattle.pixel_formats.specs.Row.{HasPixels, pixel_at}
-use Rattle.pixel_formats.specs.declared.format.Format.{Format}
+use Rattle.std.proofs.Common.{◌≡◌, ap}
 use Rattle.model_images.specs.FromRaw.{image_from_raw}
 use Rattle.model_images.specs.Image.{at, image_from_fn}
 use Rattle.model_graphs.specs.Windows.{Window, window_image}

@@ -1,8 +1,7 @@
-use Rattle.std.proofs.Common.{◌≡◌, ℕ, List, ◌*◌, ◌∙◌, length, ap, sym, subst, arith, true, false}
+use Rattle.std.proofs.Common.{◌≡◌, ◌∙◌, length, ap}
 use Rattle.std.specs.List.{flat_map, range_with_len}
 use Rattle.plane_rect.specs.Rectangle.{Rectangle, area}
 use Rattle.pixel_formats.specs.Format.{pixel_bytes}
-use Rattle.model_images.specs.FromRaw.{byte_count}
 use Rattle.point_ops.specs.Flipped.{chunk_from_end}
 use Rattle.point_ops.proofs.Flipped.{row-bytes, sideways-bytes, turned-long, upright-bytes}
 use Rattle.point_ops.proofs.flip.flipped_bytes.Goals as goal

@@ -8,7 +8,7 @@ use Rattle.model_graphs.specs.Windows.{Window, window_image}
 use Rattle.model_operations.specs.Values.{flipped_pixel}
 use Rattle.point_ops.specs.Flipped.{flipped_index, mirrored_source}
 use Rattle.point_ops.specs.PartBytes.{AreRawBytesOf}
-use Rattle.point_ops.proofs.Flipped.{MirrorsFrom, mirrored-count, mirrored-image, mirrored-limits, mirrors-from}
+use Rattle.point_ops.proofs.Flipped.{mirrored-count, mirrored-image, mirrored-limits, mirrors-from}
 use Rattle.point_ops.proofs.flip.flipped_part.Goals as goal
 
 pub part_bytes-requires-clause-limits : goal.part_bytes-requires-clause-limits
