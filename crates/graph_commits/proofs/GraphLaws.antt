@@ -182,10 +182,11 @@ module _ {Op : Type 0} (same : Op → Op → Bool) (meanings : Meanings Op) (equ
   undo_some graph new (back ∷ rest) delta latest before undone =
       let there : back.state ≡ new.latest = ap (λ (s : Stepped (Graph Op) Rectangles). s.next.latest) (result_is (undo_to graph (back ∷ rest)) (record { next = new; delta = delta }) undone) in
       let that : back.delta ≡ delta = ap (λ (s : Stepped (Graph Op) Rectangles). s.delta) (result_is (undo_to graph (back ∷ rest)) (record { next = new; delta = delta }) undone) in
-      let by = before.1.damage in
-      (by.0,
-      undo_all graph new (back ∷ rest) delta latest before undone by.0
-      (sym that ∙ by.1 ∙ ap (λ (side : Side Op). damage_list same meanings (record { old = side; new = graph.latest; rectangles = by.0 })) there))
+      let by = before.1.damage in (
+        by.0,
+        undo_all graph new (back ∷ rest) delta latest before undone by.0
+            (sym that ∙ by.1 ∙ ap (λ (side : Side Op). damage_list same meanings (record { old = side; new = graph.latest; rectangles = by.0 })) there),
+      )
 
   redo_all : (graph new : Graph Op) (states : List (Separated (Side Op) Rectangles)) (delta : Rectangles) → IsGraphState meanings graph.latest →
       AreAfter same meanings graph.latest states → redo_to graph states ≡ Ok (record { next = new; delta = delta }) → (written : Rectangles) →
@@ -203,10 +204,11 @@ module _ {Op : Type 0} (same : Op → Op → Bool) (meanings : Meanings Op) (equ
   redo_some graph new (next ∷ rest) delta latest after redone =
       let there : next.state ≡ new.latest = ap (λ (s : Stepped (Graph Op) Rectangles). s.next.latest) (result_is (redo_to graph (next ∷ rest)) (record { next = new; delta = delta }) redone) in
       let that : next.delta ≡ delta = ap (λ (s : Stepped (Graph Op) Rectangles). s.delta) (result_is (redo_to graph (next ∷ rest)) (record { next = new; delta = delta }) redone) in
-      let by = after.1.damage in
-      (by.0,
-      redo_all graph new (next ∷ rest) delta latest after redone by.0
-      (sym that ∙ by.1 ∙ ap (λ (side : Side Op). damage_list same meanings (change_to graph side by.0)) there))
+      let by = after.1.damage in (
+        by.0,
+        redo_all graph new (next ∷ rest) delta latest after redone by.0
+            (sym that ∙ by.1 ∙ ap (λ (side : Side Op). damage_list same meanings (change_to graph side by.0)) there),
+      )
 
   module _ (graph new : Graph Op) (is : IsGraph same meanings graph) (delta : Rectangles) where
     pub undo_damages : undo_to graph graph.undoable ≡ Ok (record { next = new; delta = delta }) → (written : Rectangles) →

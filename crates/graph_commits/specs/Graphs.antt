@@ -1,11 +1,13 @@
 -- What holds of graphs, and what the damage of a step promises.
-use Rattle.std.specs.Prelude.{◌≡◌, ℕ, ⊤, Bool, List, [], ◌∷◌, Some}
+use Rattle.std.specs.Prelude.{◌≡◌, ◌&&◌, false, ℕ, ⊤, Bool, List, [], ◌∷◌, Some}
+use Rattle.std.specs.Option.{option_map_or}
+use Rattle.std.specs.Str.{bytes_eq}
 use Rattle.model_graphs.specs.declared.buffer.BufferFact.{BufferFact}
 use Rattle.model_graphs.specs.Evaluation.{Buffers}
-use Rattle.model_graphs.specs.Facts.{AreImagesOf, Facts, fact_of}
+use Rattle.model_graphs.specs.Facts.{AreImagesOf, Facts, fact_of, shape_of_fact}
 use Rattle.model_graphs.specs.Meanings.{Meanings}
 use Rattle.model_states.specs.Commits.{Graph}
-use Rattle.model_states.specs.Damage.{AreSteady, Change, IsStatedChange, IsSteady, Side, damage, damage_list}
+use Rattle.model_states.specs.Damage.{AreSteady, Change, IsStatedChange, IsSteady, Side, damage, damage_list, same_shape}
 use Rattle.model_states.specs.Neighbors.{AgreeOutsideRoots, SamplesAgreeOutside, scene_of_side}
 use Rattle.model_states.specs.Rectangles.{Rectangles, rectangle_of}
 use Rattle.model_states.specs.Retained.{AreFew, Separated}
@@ -15,6 +17,11 @@ use Rattle.graph_commits.specs.States.{IsGraphState}
 -- each buffer of a table is among these, with the same root, box and format
 abbrev pub AreStillThere : Facts → Facts → Type 0
 AreStillThere old new = (name : List ℕ) (a : BufferFact) → fact_of old name ≡ Some a → (b : BufferFact) × (fact_of new name ≡ Some b) × IsSteady a b
+
+-- the test of one buffer
+abbrev pub is_still_there : Facts → BufferFact → Bool
+is_still_there facts fact =
+    option_map_or (λ (found : BufferFact). bytes_eq fact.root found.root && same_shape (shape_of_fact fact) (shape_of_fact found)) (fact_of facts fact.name) false
 
 -- ---- the damage of a step
 

@@ -61,11 +61,7 @@ impl<'a, Op: OpMeaning + Drop> Change<'a, Op> {
     }
 
     /// Returns the damages of the new state's nodes, in their order.
-    fn damages<K: OpKit<Op = Op>>(
-        &self,
-        kit: &K,
-        alloc: Global,
-    ) -> Result<Vec<Rect>, NoMemory>
+    fn damages<K: OpKit<Op = Op>>(&self, kit: &K, alloc: Global) -> Result<Vec<Rect>, NoMemory>
         ensures { IfOk result (λ rects. rects.items ≡ damages Op.same Op.meanings self.now) }
     {
         let new = self.new;

@@ -46,11 +46,7 @@ pub(crate) fn copy_node<K: OpKit>(
 }
 
 /// Returns an equal body.
-fn copy_body<K: OpKit>(
-    kit: &K,
-    alloc: Global,
-    body: &Body<K::Op>,
-) -> Result<Body<K::Op>, NoMemory>
+fn copy_body<K: OpKit>(kit: &K, alloc: Global, body: &Body<K::Op>) -> Result<Body<K::Op>, NoMemory>
     ensures { IfOk result (λ copied. copied ≡ body.now) }
 {
     match body {

@@ -1,14 +1,17 @@
 //! Graphs: states that follow one another, by commits, undos and redos.
 
 ghost use Rattle.std.specs.Prelude.{◌≡◌, IfErr, IfOk, Ok, OnErr, OnOk};
+ghost use Rattle.std.specs.Bool.{OnTrue};
+ghost use Rattle.std.specs.List.{list_all};
 ghost use Rattle.model_graphs.specs.Facts.{rectangles_of};
 ghost use Rattle.model_states.specs.Commits.{change_to, committed, new_graph};
 ghost use Rattle.model_states.specs.Damage.{damage_list};
 ghost use Rattle.model_states.specs.Rectangles.{Rectangles};
 ghost use Rattle.model_states.specs.Retained.{redone, undone};
-ghost use Rattle.graph_commits.specs.Graphs.{AreDamagesOf, AreStillThere, IsGraph};
+ghost use Rattle.graph_commits.specs.Graphs.{AreDamagesOf, AreStillThere, IsGraph, is_still_there};
 ghost use Rattle.graph_commits.specs.Refusals.{IsRefusalOf};
 
+use crate::buffers::are_still_there;
 use crate::change::Change;
 use crate::damage_list::DamageList;
 use crate::history::History;
@@ -80,6 +83,15 @@ impl<Op: OpMeaning + Drop> Graph<Op> {
         ensures { result ≡ self.now.number }
     {
         self.history.number()
+    }
+
+    /// Returns whether each buffer of the last state is among these, with its root, its bounds and its
+    /// format. A commit over them asks for that.
+    pub fn has_all_buffers_in(&self, buffers: &[BufferFact]) -> bool
+        ensures test { result ≡ list_all (is_still_there buffers.now) self.now.latest.buffers }
+        ensures there { OnTrue result (AreStillThere self.now.latest.buffers buffers.now) }
+    {
+        are_still_there(self.buffers(), buffers)
     }
 
     /// Commits edits: they are made one by one over these buffers, to whose roots `edited` was written

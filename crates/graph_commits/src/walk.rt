@@ -155,11 +155,7 @@ fn indices_of<Op: Drop>(
 }
 
 /// Returns the boxes at these positions.
-fn input_boxes(
-    alloc: Global,
-    known: &[Shape],
-    indices: &[usize],
-) -> Result<Vec<Rect>, NoMemory>
+fn input_boxes(alloc: Global, known: &[Shape], indices: &[usize]) -> Result<Vec<Rect>, NoMemory>
     ensures { IfOk result (λ boxes. boxes.items ≡ input_boxes known.now indices.now) }
 {
     Ok(
@@ -171,11 +167,7 @@ fn input_boxes(
 }
 
 /// Returns the formats at these positions.
-fn input_formats(
-    alloc: Global,
-    known: &[Shape],
-    indices: &[usize],
-) -> Result<Vec<Format>, NoMemory>
+fn input_formats(alloc: Global, known: &[Shape], indices: &[usize]) -> Result<Vec<Format>, NoMemory>
     ensures { IfOk result (λ formats. formats.items ≡ input_formats known.now indices.now) }
 {
     Ok(

@@ -43,12 +43,13 @@ state g c =
     c.in_ok-shapes.shapes.items c.in_ok-shapes.ensures.ok old c.in_ok-shapes.ensures.rectangles)
 
 pub invariant_of-result : goal.invariant_of-result
-invariant_of-result g c =
-    (c.into_parts-specs.ensures.names
-    ∙ names_of_facts g.Op.OpMeaning.meanings c.args.self.now c.args.edits.now c.args.buffers.now c.in_ok-draft-2.draft (made g c)
-    c.in_ok-shapes.shapes.items c.in_ok-shapes.ensures.ok
-    ∙ ap (λ facts. node_names (specs_of facts)) (sym (facts g c)),
-    state g c)
+invariant_of-result g c = (
+  c.into_parts-specs.ensures.names
+      ∙ names_of_facts g.Op.OpMeaning.meanings c.args.self.now c.args.edits.now c.args.buffers.now c.in_ok-draft-2.draft (made g c)
+      c.in_ok-shapes.shapes.items c.in_ok-shapes.ensures.ok
+      ∙ ap (λ facts. node_names (specs_of facts)) (sym (facts g c)),
+  state g c,
+)
 
 pub returns-clause-ok : goal.returns-clause-ok
 returns-clause-ok g c =

@@ -11,14 +11,14 @@ loop-fact-preserved g c =
     let test = λ (name : List ℕ). not (has_node (specs_of c.args.other.now.nodes) name) in
     let nodes = c.nodes-nodes.result.now in
     elim c.if-not-has.branch [
-      then-not-has+in_ok-push w ↦
-        taken test nodes c.loop-fact.names.items (filter test (node_names (specs_of nodes))) c.loop-fact.fact-index c.loop-fact.invariant
-        c.if-not-has.names.items c.fact-item.result c.loop-fact-test.true (sym c.fact-item.is)
-        (ap not (sym c.has.ensures ∙ w.if-not-has.true)) (ap (λ names. names.items) w.names-is ∙ w.in_ok-push.ensures.items)
-    | else-not-has w ↦
-        skipped test nodes c.loop-fact.names.items (filter test (node_names (specs_of nodes))) c.loop-fact.fact-index c.loop-fact.invariant
-        c.if-not-has.names.items c.fact-item.result c.loop-fact-test.true (sym c.fact-item.is)
-        (ap not (sym c.has.ensures ∙ w.if-not-has.false)) (ap (λ names. names.items) w.names-is)
+      | then-not-has+in_ok-push w ↦
+          taken test nodes c.loop-fact.names.items (filter test (node_names (specs_of nodes))) c.loop-fact.fact-index c.loop-fact.invariant
+          c.if-not-has.names.items c.fact-item.result c.loop-fact-test.true (sym c.fact-item.is)
+          (ap not (sym c.has.ensures ∙ w.if-not-has.true)) (ap (λ names. names.items) w.names-is ∙ w.in_ok-push.ensures.items)
+      | else-not-has w ↦
+          skipped test nodes c.loop-fact.names.items (filter test (node_names (specs_of nodes))) c.loop-fact.fact-index c.loop-fact.invariant
+          c.if-not-has.names.items c.fact-item.result c.loop-fact-test.true (sym c.fact-item.is)
+          (ap not (sym c.has.ensures ∙ w.if-not-has.false)) (ap (λ names. names.items) w.names-is)
     ]
 
 pub returns : goal.returns
