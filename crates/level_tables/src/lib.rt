@@ -1,0 +1,8 @@
+//! Tables of tiles: the level handler of one root buffer.
+#![tactic(auto)]
+
+mod level_tile;
+mod table;
+
+pub use level_tile::LevelTile;
+pub use table::LevelTable;
