@@ -99,6 +99,19 @@ module _ {K : Type 0} where
       | inr miss ↦ Contains-later e es (k, v) (Contains-lookup es k v (rw miss at is))
     ]
 
+    pub lookup-absent : ((a : K) → eq a a ≡ true) → (es : List (K × ℕ)) (k : K) (v : ℕ) → lookup (eq k) es ≡ None → ¬ Contains es (k, v)
+    lookup-absent one [] k v none there = omega (arith, there.1)
+    lookup-absent one (e ∷ es) k v none there = elim (Contains-cases e es (k, v) there) [
+      | inl here ↦
+          let hit : eq k e.0 ≡ true = (let P : K × ℕ → Type 0 = λ p. eq k p.0 ≡ true in subst P (sym here) (one k)) in
+          let found : Some e.1 ≡ None = rw hit at none in
+          absurd (let lost : true ≡ false = ap is_some found in true≢false lost)
+      | inr later ↦ elim (cases_Bool (eq k e.0)) [
+        | inl hit ↦ let found : Some e.1 ≡ None = rw hit at none in true≢false (ap is_some found)
+        | inr miss ↦ lookup-absent one es k v (rw miss at none) later
+      ]
+    ]
+
     key-found : (es : List (K × ℕ)) (k : K) → is_some (lookup (eq k) es) ≡ true → lookup_key (eq k) es ≡ Some k
     key-found [] k there = absurd (true≢false (sym there))
     key-found (e ∷ es) k there = elim (cases_Bool (eq k e.0)) [

@@ -44,9 +44,15 @@ where_exposed None (Some y) a b same is = absurd (true≢false (sym same))
 where_exposed (Some x) None a b same is = absurd (true≢false same)
 where_exposed (Some x) (Some y) a b same is = ap (λ z. Some z) is
 
+pub where_known : {X Y Z : Type 0} (o : Option X) (p : Option Y) (a b : Z) → is_some o ≡ is_some p → (IsSome o → a ≡ b) → option_map (λ (x : X). a) o ≡ option_map (λ (y : Y). b) p
+where_known None None a b same is = refl
+where_known None (Some y) a b same is = absurd (true≢false (sym same))
+where_known (Some x) None a b same is = absurd (true≢false same)
+where_known (Some x) (Some y) a b same is = ap (λ z. Some z) (is refl)
+
 module _ (tiles : LevelTiles) (old new : Held) (exposed : is_some new.content ≡ is_some old.content)
     (unchanged : (name : ℕ) → 0 < times (names tiles) name → Unchanged old new name) where
-  bytes-framed : (tile : Tile) → bytes_in new tiles.put tile ≡ bytes_in old tiles.put tile
+  pub bytes-framed : (tile : Tile) → bytes_in new tiles.put tile ≡ bytes_in old tiles.put tile
   bytes-framed tile = of (lookup (same_tile tile) tiles.put) refl
     where
       of : (o : Option ℕ) → lookup (same_tile tile) tiles.put ≡ o → option_and_then (bytes_of new) o ≡ option_and_then (bytes_of old) o
@@ -82,6 +88,9 @@ module _ (old new : Held) (before after : List ℕ) (respects : Respects old new
       over-framed tiles old new respects.exposed (others-unchanged old new before after respects (names tiles) owns) over
       (owns-fewer new (after ++ names tiles) (names tiles) (λ q. omega (arith, times-append after (names tiles) q))
       (others-own old new before after respects (names tiles) owns))
+
+  pub bytes-beside : (tile : Tile) → bytes_in new tiles.put tile ≡ bytes_in old tiles.put tile
+  bytes-beside = bytes-framed tiles old new respects.exposed (others-unchanged old new before after respects (names tiles) owns)
 
   pub image-beside : image_of tiles new ≡ image_of tiles old
   image-beside = image-framed tiles old new respects.exposed (others-unchanged old new before after respects (names tiles) owns)

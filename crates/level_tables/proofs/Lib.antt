@@ -1,3 +1,7 @@
 pub mod Entries
 pub mod Frames
 pub mod Changes
+pub mod Keeping
+pub mod Switching
+pub mod Fresh
+pub mod Owning

@@ -2,7 +2,10 @@
 #![tactic(auto)]
 
 mod level_tile;
+mod puts;
+mod shares;
 mod table;
+mod tile_bytes;
 
 pub use level_tile::LevelTile;
 pub use table::LevelTable;

@@ -1,6 +1,6 @@
 //! A table of tiles and the names that it holds.
 
-ghost use Rattle.std.specs.Prelude.{◌≡◌, ◌≤◌, ◌+◌, ◌∷◌, ◌++◌, [], None, IfSome, IfNone, OnOk};
+ghost use Rattle.std.specs.Prelude.{◌≡◌, ◌≤◌, ◌+◌, ◌∷◌, ◌++◌, [], None, IfOk, IfSome, IfNone, OnOk};
 ghost use Rattle.std.specs.List.{IsDistinct};
 ghost use Rattle.std.specs.List.Sorted.{IsPermutation};
 ghost use Rattle.std.specs.Map.{keys_of, lookup};
@@ -25,8 +25,8 @@ use std::marker::Model;
 #[derive(Drop)]
 pub struct LevelTable {
     format: Format,
-    put: IndexMap<TileAt, u64>,
-    levels: IndexMap<LevelTile, u64>,
+    pub(crate) put: IndexMap<TileAt, u64>,
+    pub(crate) levels: IndexMap<LevelTile, u64>,
     alloc: Global,
 }
 
@@ -61,6 +61,22 @@ impl LevelTable {
         ensures { result ≡ self.now.tiles.format }
     {
         self.format
+    }
+
+    /// Returns a table of the same tiles and names, of which it is no owner.
+    ///
+    /// # Errors
+    ///
+    /// `NoMemory` if memory runs out.
+    pub(crate) fn copy(&self) -> Result<LevelTable, NoMemory>
+        ensures { IfOk result (λ copy. copy.tiles ≡ self.now.tiles) }
+    {
+        Ok(LevelTable {
+            format: self.format,
+            put: self.put.clone()?,
+            levels: self.levels.clone()?,
+            alloc: self.alloc,
+        })
     }
 
     /// Makes room for so many more positions, so that as many can be put without memory.
@@ -125,6 +141,7 @@ impl LevelTable {
         ensures unchanged { IfNone result (self.new.tiles ≡ self.old.tiles) }
         ensures others { self.new.tiles ≡ record self.old.tiles { levels = self.new.tiles.levels } }
         ensures gone { lookup (same_level_tile at) self.new.tiles.levels ≡ None }
+        ensures room { self.new.room ≡ self.old.room }
         ensures once { IsDistinct same_level_tile (keys_of self.new.tiles.levels) }
     {
         self.levels.swap_remove(&at)
