@@ -9,6 +9,7 @@ use Rattle.chain_owners.specs.Owners.{Owns, Respects, times}
 use Rattle.chain_owners.proofs.Ownership.{disowned-respects, others-own, others-unchanged, owned-more, owned-respects, owned-stopped, owns-fewer, respects-beside, respects-both, respects-same, times-append, times-here}
 use Rattle.level_tables.specs.LevelTiles.{LevelTiles, names}
 use Rattle.level_tables.specs.Over.{IsOver}
+use Rattle.level_tables.proofs.Frames.{over-beside}
 
 owned-lengths : (held : Held) (name : ℕ) → (owned held name).lengths ≡ held.lengths
 owned-lengths held name = elim (cases_eq (owners_of held name) max_owners) [
@@ -94,3 +95,53 @@ put-there tiles held over q some = ap is_some ((over.named q (omega (arith, some
 
 pub levels-there : (tiles : LevelTiles) (held : Held) → IsOver tiles held → (q : ℕ) → 0 < times (values_of tiles.levels) q → IsSome (length_of held q)
 levels-there tiles held over q some = ap is_some ((over.named q (omega (arith, some, times-append (values_of tiles.put) (values_of tiles.levels) q))).length)
+
+module _ (tiles : LevelTiles) (old : Held) (over : IsOver tiles old) where
+  abbrev put_names : List ℕ
+  put_names = values_of tiles.put
+
+  abbrev level_names : List ℕ
+  level_names = values_of tiles.levels
+
+  -- a table that is shared
+  module _ (mid new : Held) (first : Respects old mid [] put_names) (second : Respects mid new [] level_names) where
+    pub shared-others : Respects old new (names tiles) (names tiles ++ names tiles)
+    shared-others =
+        respects-both old mid (names tiles) (put_names ++ names tiles)
+        (respects-beside old mid [] put_names first (names tiles) (put_names ++ names tiles) (names tiles)
+        (λ q. omega arith) (λ q. omega (arith, times-append put_names (names tiles) q)))
+        new (names tiles ++ names tiles)
+        (respects-beside mid new [] level_names second (put_names ++ names tiles) (names tiles ++ names tiles) (put_names ++ names tiles)
+        (λ q. omega arith)
+        (λ q. omega (arith, times-append (names tiles) (names tiles) q, times-append put_names (names tiles) q, times-append put_names level_names q)))
+
+    pub shared-owns : Owns new (names tiles ++ names tiles)
+    shared-owns =
+        owns-fewer new ((names tiles ++ names tiles) ++ []) (names tiles ++ names tiles) (λ q. omega (arith, times-append (names tiles ++ names tiles) [] q))
+        (others-own old new (names tiles) (names tiles ++ names tiles) shared-others []
+        (owns-fewer old (names tiles) (names tiles ++ []) (λ q. omega (arith, times-append (names tiles) [] q)) over.owned))
+
+    pub shared-over : IsOver tiles new
+    shared-over =
+        let at_mid = over-beside old mid [] put_names first tiles over.owned over in
+        over-beside mid new [] level_names second tiles at_mid.owned at_mid
+
+  -- a table that is released
+  pub put-owned : Owns old put_names
+  put-owned = owns-fewer old (names tiles) put_names (λ q. omega (arith, times-append put_names level_names q)) over.owned
+
+  module _ (mid : Held) (first : Respects old mid put_names []) where
+    pub levels-owned : Owns mid level_names
+    levels-owned = others-own old mid put_names [] first level_names over.owned
+
+    pub levels-left : (q : ℕ) → 0 < times level_names q → IsSome (length_of mid q)
+    levels-left q some =
+        let same = others-unchanged old mid put_names [] first level_names over.owned q some in
+        rw same.length (levels-there tiles old over q some)
+
+    pub released-others : (new : Held) → Respects mid new level_names [] → Respects old new (names tiles) []
+    released-others new second =
+        respects-both old mid (names tiles) level_names
+        (respects-beside old mid put_names [] first (names tiles) level_names level_names
+        (λ q. omega (arith, times-append put_names level_names q)) (λ q. omega arith))
+        new [] second
