@@ -5,3 +5,4 @@ pub mod Keeping
 pub mod Switching
 pub mod Fresh
 pub mod Owning
+pub mod Averaging

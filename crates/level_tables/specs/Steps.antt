@@ -59,4 +59,5 @@ names_with_levels z now =
 -- Tiles of the levels 1 to z may be held that weren't.
 pub record HoldsMore (z : ℕ) (old new : State) : Type 0 where
   pub kept : KeepsTiles old new
+  pub higher : (at : LevelTile) (name : ℕ) → Contains new.tiles.levels (at, name) → z < at.level → Contains old.tiles.levels (at, name)
   pub names : (top : ℕ) → z ≤ top → names_with_levels top new ≤ names_with_levels top old

@@ -1,6 +1,7 @@
 //! Tables of tiles: the level handler of one root buffer.
 #![tactic(auto)]
 
+mod four_tiles;
 mod level_tile;
 mod puts;
 mod shares;

@@ -10,6 +10,7 @@ ghost use Rattle.level_tables.specs.LevelTiles.{image_of, image_with, names, pos
 ghost use Rattle.level_tables.specs.Over.{IsOver, IsTileName, max_level, tile_length};
 ghost use Rattle.level_tables.specs.Steps.{Switches, VoidsAbove, VoidsOne, state};
 
+use crate::four_tiles::HALF_ORIGIN;
 use crate::level_tile::LevelTile;
 use crate::table::LevelTable;
 use crate::tile_bytes::bytes_of;
@@ -20,9 +21,6 @@ use tile_cow::Tile;
 
 /// The largest level.
 pub(crate) const MAX_LEVEL: u32 = 8;
-
-/// Half of how far the tiles reach from the origin, to each side, in tiles.
-const HALF_TILE_ORIGIN: u32 = 1 << 17;
 
 impl LevelTable {
     /// Holds a tile of a level no longer.
@@ -121,7 +119,7 @@ fn tile_above(at: TileAt) -> TileAt
     ensures { result ≡ above_of at }
 {
     TileAt::from_indices(
-        at.column() / 2 + HALF_TILE_ORIGIN,
-        at.row() / 2 + HALF_TILE_ORIGIN,
+        at.column() / 2 + HALF_ORIGIN,
+        at.row() / 2 + HALF_ORIGIN,
     )
 }

@@ -1,2 +1,0 @@
--- placeholder
-use Rattle.std.specs.Prelude.{ℕ}
