@@ -39,13 +39,13 @@ one-below tile above is =
     let row : tile.row / 2 + half_origin ≡ above.row = ap (λ (t : Tile). t.row) is in
     elim (side above.row tile.row (omega (arith, row)) row) [
       | inl upper ↦ inl (elim (side above.column tile.column (omega (arith, column)) column) [
-          | inl left ↦ inl (same left upper)
-          | inr right ↦ inr (same right upper)
-        ])
+        | inl left ↦ inl (same left upper)
+        | inr right ↦ inr (same right upper)
+      ])
       | inr lower ↦ inr (elim (side above.column tile.column (omega (arith, column)) column) [
-          | inl left ↦ inl (same left lower)
-          | inr right ↦ inr (same right lower)
-        ])
+        | inl left ↦ inl (same left lower)
+        | inr right ↦ inr (same right lower)
+      ])
     ]
   where
     same : {m n : ℕ} → tile.column ≡ m → tile.row ≡ n → tile ≡ record { column = m; row = n }
@@ -59,7 +59,7 @@ box-of : (image : Image) (tile : Tile) (found : Option (List ℕ)) → (with_fou
 box-of image tile None = refl
 box-of image tile (Some bytes) = refl
 
-format-of : (image : Image) (tile : Tile) (found : Option (List ℕ)) → (with_found image tile found).format ≡ image.format
+pub format-of : (image : Image) (tile : Tile) (found : Option (List ℕ)) → (with_found image tile found).format ≡ image.format
 format-of image tile None = refl
 format-of image tile (Some bytes) = refl
 

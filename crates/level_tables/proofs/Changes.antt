@@ -67,7 +67,7 @@ times-push : (es : List (LevelTile × ℕ)) (e : LevelTile × ℕ) (q : ℕ) →
 times-push [] e q = refl
 times-push (first ∷ es) e q = omega (arith, times-push es e q)
 
-only : (e other : LevelTile × ℕ) → Contains (e ∷ []) other → e ≡ other
+pub only : (e other : LevelTile × ℕ) → Contains (e ∷ []) other → e ≡ other
 only e other there = elim (Contains-cases e [] other there) [ inl here ↦ here | inr later ↦ absurd (omega (arith, later.1)) ]
 
 module _ (tiles : LevelTiles) (held : Held) (at : LevelTile) (name : ℕ) (over : IsOver tiles held) where
@@ -108,9 +108,9 @@ Contains-position [] at other there = absurd (omega (arith, there.1))
 Contains-position (first ∷ tiles) at other there = elim (cases_Bool (same_tile at first)) [
   | inl hit ↦ rw hit there
   | inr miss ↦ rw miss (elim (Contains-cases first tiles other there) [
-      | inl here ↦ Contains-first first (position_with tiles at) other here
-      | inr later ↦ Contains-later first (position_with tiles at) other (Contains-position tiles at other later)
-    ])
+    | inl here ↦ Contains-first first (position_with tiles at) other here
+    | inr later ↦ Contains-later first (position_with tiles at) other (Contains-position tiles at other later)
+  ])
 ]
 
 pub Contains-put : (tiles : List Tile) (at : Tile) → Contains (position_with tiles at) at
@@ -125,12 +125,12 @@ position-cases [] at other there = elim (Contains-cases at [] other there) [ inl
 position-cases (first ∷ tiles) at other there = elim (cases_Bool (same_tile at first)) [
   | inl hit ↦ inl (rw hit at there)
   | inr miss ↦ elim (Contains-cases first (position_with tiles at) other (rw miss at there)) [
-      | inl here ↦ inl (Contains-first first tiles other here)
-      | inr later ↦ elim (position-cases tiles at other later) [
-        | inl before ↦ inl (Contains-later first tiles other before)
-        | inr last ↦ inr last
-      ]
+    | inl here ↦ inl (Contains-first first tiles other here)
+    | inr later ↦ elim (position-cases tiles at other later) [
+      | inl before ↦ inl (Contains-later first tiles other before)
+      | inr last ↦ inr last
     ]
+  ]
 ]
 
 -- tiles that are known are among those that were put
@@ -150,9 +150,14 @@ module _ (tiles : LevelTiles) (held : Held) (at : Tile) (name : ℕ) where
 
   pub times-after : (q : ℕ) → times (option_to_list (lookup (same_tile at) tiles.put) ++ names after) q ≡ times (name ∷ names tiles) q
   times-after q =
-      omega (arith, times-inserted tiles.put at name q, times-append (option_to_list (lookup (same_tile at) tiles.put)) (names after) q,
-      times-append (values_of after.put) (values_of tiles.levels) q, times-append (values_of tiles.put) (values_of tiles.levels) q,
-      times-append (name ∷ []) (names tiles) q)
+      omega (
+        arith,
+        times-inserted tiles.put at name q,
+        times-append (option_to_list (lookup (same_tile at) tiles.put)) (names after) q,
+        times-append (values_of after.put) (values_of tiles.levels) q,
+        times-append (values_of tiles.put) (values_of tiles.levels) q,
+        times-append (name ∷ []) (names tiles) q,
+      )
 
   pub bytes-after : (tile : Tile) → bytes_in held after.put tile ≡ tile_with (bytes_in held tiles.put) at (bytes_of held name) tile
   bytes-after tile = rw (lookup-inserted tiles.put at name tile) (elim (cases_Bool (same_tile tile at)) [ inl hit ↦ rw hit refl | inr miss ↦ rw miss refl ])
@@ -205,8 +210,13 @@ module _ (tiles : LevelTiles) (held : Held) (at : Tile) (name : ℕ) where
           (λ q. omega (arith, times-after q, times-append (option_to_list (lookup (same_tile at) tiles.put)) (names after) q)) owns;
       named = λ q some. elim (cases_eq q name) [
         | inl here ↦ subst (IsTileName tiles.format held) (sym here) is_name
-        | inr other ↦ over.named q (omega (arith, some, times-after q,
-            times-append (option_to_list (lookup (same_tile at) tiles.put)) (names after) q, times-elsewhere (names tiles) name q other))
+        | inr other ↦ over.named q (omega (
+          arith,
+          some,
+          times-after q,
+          times-append (option_to_list (lookup (same_tile at) tiles.put)) (names after) q,
+          times-elsewhere (names tiles) name q other,
+        ))
       ];
       shape = shape-after;
       averaged = λ other q there. of other held.content (bytes_of held q) (void other q there) (over.averaged other q there);

@@ -161,12 +161,12 @@ lookup-inserted (e ∷ put) at name q = elim (cases_Bool (same_tile at e.0)) [
       let same : e.0 ≡ at = sym (same_tile-true at e.0 hit) in
       rw (hit, same) (elim (cases_Bool (same_tile q at)) [ inl here ↦ rw here refl | inr other ↦ rw other refl ])
   | inr miss ↦ rw miss (elim (cases_Bool (same_tile q e.0)) [
-      | inl here ↦
-          let same : q ≡ e.0 = same_tile-true q e.0 here in
-          let other : same_tile q at ≡ false = rw same (same_tile-laws.symm e.0 at ∙ miss) in
-          rw (here, other) refl
-      | inr other ↦ rw other (lookup-inserted put at name q)
-    ])
+    | inl here ↦
+        let same : q ≡ e.0 = same_tile-true q e.0 here in
+        let other : same_tile q at ≡ false = rw same (same_tile-laws.symm e.0 at ∙ miss) in
+        rw (here, other) refl
+    | inr other ↦ rw other (lookup-inserted put at name q)
+  ])
 ]
 
 pub times-inserted : (put : List (Tile × ℕ)) (at : Tile) (name q : ℕ)

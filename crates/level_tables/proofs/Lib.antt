@@ -6,3 +6,6 @@ pub mod Switching
 pub mod Fresh
 pub mod Owning
 pub mod Averaging
+pub mod Counting
+pub mod Finding
+pub mod Holding

@@ -1,5 +1,5 @@
 -- Tiles of levels, and the four tiles below each.
-use Rattle.std.specs.Prelude.{◌≡◌, ◌≢◌, ℕ, ◌+◌, ◌-◌, ◌*◌, ◌<◌, ◌≤◌, ◌^◌, Contains, IfSome, List, length, Option, None, Some}
+use Rattle.std.specs.Prelude.{◌≡◌, ◌≢◌, ℕ, ◌+◌, ◌-◌, ◌*◌, ◌<◌, ◌≤◌, ◌^◌, Contains, IfSome, List, length, Option, None, Some, ◌==◌, if◌then◌else◌}
 use Rattle.plane_rect.specs.Rectangle.{Rectangle}
 use Rattle.std.specs.Map.{lookup}
 use Rattle.chain_owners.specs.Held.{Held}
@@ -23,10 +23,14 @@ abbrev pub IsFound : Option Image → List Tile → Format → ℕ → Tile → 
 IsFound image put format z at None = (tile : Tile) → Contains put tile → tile_at_level tile z ≢ at
 IsFound image put format z at (Some bytes) = IsFoundTile image put format z at bytes
 
+-- the name of a tile of a level, where the table holds it
+abbrev pub name_in : LevelTiles → ℕ → Tile → Option ℕ
+name_in tiles z at =
+    if z == 0 then lookup (same_tile at) tiles.put else lookup (same_level_tile (record { level = z; tile = at })) tiles.levels
+
 -- a tile whose name the table holds, or no name
 abbrev pub IsHeldTile : LevelTiles → Held → ℕ → Tile → Option (List ℕ) → Type 0
-IsHeldTile tiles held z at None =
-    (z ≡ 0 → lookup (same_tile at) tiles.put ≡ None) × (1 ≤ z → lookup (same_level_tile (record { level = z; tile = at })) tiles.levels ≡ None)
+IsHeldTile tiles held z at None = name_in tiles z at ≡ None
 IsHeldTile tiles held z at (Some bytes) = IsFoundTile (image_of tiles held) (positions tiles) tiles.format z at bytes
 
 -- the tiles of levels above the first all begin in the half of the plane around the origin

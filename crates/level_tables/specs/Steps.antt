@@ -1,6 +1,5 @@
 -- What calls leave of a table and its chain.
-use Rattle.std.specs.Prelude.{◌≡◌, ◌≢◌, ℕ, ◌+◌, ◌-◌, ◌<◌, ◌≤◌, ◌∷◌, Contains, List, nat_le}
-use Rattle.std.specs.List.{count_by}
+use Rattle.std.specs.Prelude.{◌≡◌, ◌≢◌, ℕ, ◌+◌, ◌-◌, ◌<◌, ◌≤◌, [], ◌∷◌, Contains, List, nat_le, if◌then◌else◌}
 use Rattle.plane_rect.specs.Tile.{Tile}
 use Rattle.chain_owners.specs.Counts.{Continues, Counts, Grows}
 use Rattle.chain_owners.specs.Held.{Held, bytes_of}
@@ -51,10 +50,15 @@ pub record Switches (tile : Tile) (name : ℕ) (old new : State) : Type 0 where
   pub over : IsOver new.tiles new.held
   pub counts : Grows 0 old.counts new.counts
 
+-- how many tiles of the levels up to z are held
+abbrev pub level_count : ℕ → List (LevelTile × ℕ) → ℕ
+level_count z [] = 0
+level_count z (entry ∷ entries) = (if nat_le entry.0.level z then 1 else 0) + level_count z entries
+
 -- How many names a chain has at most after all tiles of the levels 1 to z are held that there can be.
 abbrev pub names_with_levels : ℕ → State → ℕ
 names_with_levels z now =
-    now.counts.names + (level_tiles (hull_of now.tiles) z - count_by (λ (entry : LevelTile × ℕ). nat_le entry.0.level z) now.tiles.levels)
+    now.counts.names + (level_tiles (hull_of now.tiles) z - level_count z now.tiles.levels)
 
 -- Tiles of the levels 1 to z may be held that weren't.
 pub record HoldsMore (z : ℕ) (old new : State) : Type 0 where

@@ -42,7 +42,12 @@ impl FourTiles {
     /// # Errors
     ///
     /// `NoMemory` if memory runs out.
-    pub(crate) fn average(&self, alloc: Global, format: Format, at: TileAt) -> Result<Tile, NoMemory>
+    pub(crate) fn average(
+        &self,
+        alloc: Global,
+        format: Format,
+        at: TileAt,
+    ) -> Result<Tile, NoMemory>
         requires half { IsInHalf at }
         requires lengths { HaveTileLength format self.now }
         ensures { IfOk result (λ tile. tile ≡ tile_bytes (halved_image (image_of_four format at self.now)) at) }

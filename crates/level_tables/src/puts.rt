@@ -88,7 +88,12 @@ impl LevelTable {
     ///
     /// `SwapFault` only where the swap's count of I/O errors rose in this call, `SwapFull` only where
     /// one name more can fill the swap, and `NoMemory` if memory runs out.
-    pub fn put<C: TileChain>(&mut self, chain: &mut C, at: TileAt, tile: Tile) -> Result<(), SwapRefused>
+    pub fn put<C: TileChain>(
+        &mut self,
+        chain: &mut C,
+        at: TileAt,
+        tile: Tile,
+    ) -> Result<(), SwapRefused>
         requires over { IsOver self.old.tiles (C.held chain.old) }
         requires length { length tile ≡ tile_length self.old.tiles.format }
         requires whole { IsWhole at }
@@ -118,8 +123,5 @@ impl LevelTable {
 fn tile_above(at: TileAt) -> TileAt
     ensures { result ≡ above_of at }
 {
-    TileAt::from_indices(
-        at.column() / 2 + HALF_ORIGIN,
-        at.row() / 2 + HALF_ORIGIN,
-    )
+    TileAt::from_indices(at.column() / 2 + HALF_ORIGIN, at.row() / 2 + HALF_ORIGIN)
 }

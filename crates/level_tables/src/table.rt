@@ -63,6 +63,11 @@ impl LevelTable {
         self.format
     }
 
+    /// Returns the allocator that its calls take memory from.
+    pub(crate) fn allocator(&self) -> Global {
+        self.alloc
+    }
+
     /// Returns a table of the same tiles and names, of which it is no owner.
     ///
     /// # Errors

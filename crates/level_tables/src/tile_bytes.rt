@@ -10,6 +10,14 @@ pub(crate) fn bytes_of(tile: &Tile) -> &[u8]
     ensures value { result.now ≡ tile.now }
     ensures small { AreBytes tile.now }
 {
-    let bytes = tile.bytes();
+    small_bytes(tile.bytes())
+}
+
+/// Returns the bytes, of which it says that they are below 256.
+fn small_bytes(bytes: &[u8]) -> &[u8]
+    ensures value { result.now ≡ bytes.now }
+    ensures small { AreBytes bytes.now }
+{
+    let _len = bytes.len();
     bytes
 }

@@ -42,7 +42,7 @@ returns-clause-others g c =
     let held = g.C.ChainMeaning.held c.args.chain.now in
     let mid = g.C.ChainMeaning.held c.new_name.new.self in
     let fresh : Respects held mid (names old) (c.in_ok-name.name ∷ names old) =
-        rw c.in_ok-name.ensures.named
-        (fresh-beside held c.in_ok-name.name c.args.tile c.in_ok-name.ensures.unowned (names old)) in
+    rw c.in_ok-name.ensures.named
+    (fresh-beside held c.in_ok-name.name c.args.tile c.in_ok-name.ensures.unowned (names old)) in
     respects-both held mid (names old) (c.in_ok-name.name ∷ names old) fresh (g.C.ChainMeaning.held c.switch_one.new.chain) (names c.switch_one.new.self.tiles)
     (rw c.reserve.ensures.tiles at c.switch_one.ensures.switched.others)

@@ -36,6 +36,6 @@ pub returns-clause-voided : goal.returns-clause-voided
 returns-clause-voided g c =
     let all : c.loop-level.level ≡ max_level = omega arith in
     let P : ℕ → Type 0 = λ n. VoidsAbove c.args.at n
-        (state c.args.self.now.tiles (g.C.ChainMeaning.held c.args.chain.now) (g.C.ChainMeaning.counts c.args.chain.now))
-        (state c.loop-level.self.tiles (g.C.ChainMeaning.held c.loop-level.chain) (g.C.ChainMeaning.counts c.loop-level.chain)) in
+    (state c.args.self.now.tiles (g.C.ChainMeaning.held c.args.chain.now) (g.C.ChainMeaning.counts c.args.chain.now))
+    (state c.loop-level.self.tiles (g.C.ChainMeaning.held c.loop-level.chain) (g.C.ChainMeaning.counts c.loop-level.chain)) in
     subst P all c.loop-level.invariant.voided
