@@ -1,0 +1,15 @@
+use Rattle.std.proofs.Common.{◌≡◌, ℕ, List, replicate, ap, ◌∙◌}
+use Rattle.level_tables.specs.Over.{tile_length}
+use Rattle.level_tables.specs.Steps.{state}
+use Rattle.level_tables.proofs.Finding.{zero-exact}
+use Rattle.level_tables.proofs.Keeping.{kept-format}
+use Rattle.level_tables.proofs.table.LevelTable.tile.Goals as goal
+
+pub returns-in_ok-zero-in-None-clause-bytes : goal.returns-in_ok-zero-in-None-clause-bytes
+returns-in_ok-zero-in-None-clause-bytes g c =
+    let old = state c.args.self.now.tiles (g.C.ChainMeaning.held c.args.chain.now) (g.C.ChainMeaning.counts c.args.chain.now) in
+    let now = state c.find.new.self.tiles (g.C.ChainMeaning.held c.find.new.chain) (g.C.ChainMeaning.counts c.find.new.chain) in
+    zero-exact old.tiles old.held c.args.level c.args.at c.in_ok-zero-in-None.field-0
+    (rw c.in-None.is at c.in_ok-tile.ensures.found)
+    (c.in_ok-zero-in-None.ensures.zero
+    ∙ ap (λ (n : ℕ). replicate n 0) (c.tile_len.ensures.value ∙ ap tile_length (kept-format old now c.find.ensures.more.kept)))

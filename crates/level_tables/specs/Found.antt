@@ -1,0 +1,90 @@
+-- Tiles of levels, and the four tiles below each.
+use Rattle.std.specs.Prelude.{◌≡◌, ◌≢◌, ℕ, ◌+◌, ◌-◌, ◌*◌, ◌<◌, ◌≤◌, ◌^◌, Contains, IfSome, List, length, Option, None, Some, ◌==◌, if◌then◌else◌}
+use Rattle.plane_rect.specs.Rectangle.{Rectangle}
+use Rattle.std.specs.Map.{lookup}
+use Rattle.chain_owners.specs.Held.{Held}
+use Rattle.level_tables.specs.LevelTiles.{LevelTiles, image_of, positions, same_level_tile}
+use Rattle.plane_rect.specs.Tile.{Tile, same_tile, tile_origin, tile_side, tile_square}
+use Rattle.pixel_formats.specs.declared.format.Format.{Format}
+use Rattle.model_images.specs.Image.{Image}
+use Rattle.model_images.specs.Level.{tile_at_level}
+use Rattle.model_images.specs.Paint.{blank, put_raw}
+use Rattle.level_tables.specs.Over.{IsTileOfLevel, tile_length}
+use Rattle.level_tables.specs.declared.four_tiles.FourTiles.{FourTiles}
+
+-- the bytes are those of a tile of a level, for which some tile that was put is averaged
+pub record IsFoundTile (image : Option Image) (put : List Tile) (format : Format) (z : ℕ) (at : Tile) (bytes : List ℕ) : Type 0 where
+  pub length : length bytes ≡ tile_length format
+  pub exact : IsTileOfLevel image z at bytes
+  pub below : (tile : Tile) × Contains put tile × (tile_at_level tile z ≡ at)
+
+-- A tile of a level, or none where none that was put is averaged for it.
+abbrev pub IsFound : Option Image → List Tile → Format → ℕ → Tile → Option (List ℕ) → Type 0
+IsFound image put format z at None = (tile : Tile) → Contains put tile → tile_at_level tile z ≢ at
+IsFound image put format z at (Some bytes) = IsFoundTile image put format z at bytes
+
+-- the name of a tile of a level, where the table holds it
+abbrev pub name_in : LevelTiles → ℕ → Tile → Option ℕ
+name_in tiles z at =
+    if z == 0 then lookup (same_tile at) tiles.put else lookup (same_level_tile (record { level = z; tile = at })) tiles.levels
+
+-- a tile whose name the table holds, or no name
+abbrev pub IsHeldTile : LevelTiles → Held → ℕ → Tile → Option (List ℕ) → Type 0
+IsHeldTile tiles held z at None = name_in tiles z at ≡ None
+IsHeldTile tiles held z at (Some bytes) = IsFoundTile (image_of tiles held) (positions tiles) tiles.format z at bytes
+
+-- the tiles of levels above the first all begin in the half of the plane around the origin
+abbrev pub half_origin : ℕ
+half_origin = 2 ^ 17
+
+pub record IsInHalf (at : Tile) : Type 0 where
+  pub left : half_origin ≤ at.column
+  pub right : at.column < 3 * half_origin
+  pub top : half_origin ≤ at.row
+  pub bottom : at.row < 3 * half_origin
+
+-- one of the four tiles that are averaged for a tile of the next level
+abbrev pub tile_below : Tile → ℕ → ℕ → Tile
+tile_below at right lower = record { column = 2 * (at.column - half_origin) + right; row = 2 * (at.row - half_origin) + lower }
+
+-- the positions of the four
+abbrev pub square_below : Tile → Rectangle
+square_below at = record {
+  first_column = tile_side * (2 * (at.column - half_origin));
+  first_row = tile_side * (2 * (at.row - half_origin));
+  width = 2 * tile_side;
+  height = 2 * tile_side;
+}
+
+-- the four are found
+pub record AreFound (image : Option Image) (put : List Tile) (format : Format) (z : ℕ) (at : Tile) (four : FourTiles) : Type 0 where
+  pub upper_left : IsFound image put format z (tile_below at 0 0) four.upper_left
+  pub upper_right : IsFound image put format z (tile_below at 1 0) four.upper_right
+  pub lower_left : IsFound image put format z (tile_below at 0 1) four.lower_left
+  pub lower_right : IsFound image put format z (tile_below at 1 1) four.lower_right
+
+-- those that are there have the length of a tile
+abbrev pub HasTileLength : Format → Option (List ℕ) → Type 0
+HasTileLength format found = IfSome found (λ bytes. length bytes ≡ tile_length format)
+
+pub record HaveTileLength (format : Format) (four : FourTiles) : Type 0 where
+  pub upper_left : HasTileLength format four.upper_left
+  pub upper_right : HasTileLength format four.upper_right
+  pub lower_left : HasTileLength format four.lower_left
+  pub lower_right : HasTileLength format four.lower_right
+
+-- an image with a tile in it, if there is one
+abbrev pub with_found : Image → Tile → Option (List ℕ) → Image
+with_found image at None = image
+with_found image at (Some bytes) = put_raw image (tile_square at) bytes
+
+-- the image of the four, zero where one isn't there
+abbrev pub image_of_four : Format → Tile → FourTiles → Image
+image_of_four format at four =
+    with_found
+    (with_found
+    (with_found
+    (with_found (blank (square_below at) format) (tile_below at 0 0) four.upper_left)
+    (tile_below at 1 0) four.upper_right)
+    (tile_below at 0 1) four.lower_left)
+    (tile_below at 1 1) four.lower_right

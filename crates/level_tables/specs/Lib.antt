@@ -1,0 +1,4 @@
+pub mod LevelTiles
+pub mod Over
+pub mod Steps
+pub mod Found

@@ -1,0 +1,15 @@
+//! Tables of tiles: the level handler of one root buffer.
+#![tactic(auto)]
+
+mod four_tiles;
+mod laws;
+mod level_tile;
+mod puts;
+mod reads;
+mod shares;
+mod table;
+mod tile_bytes;
+
+pub use laws::{other_tables_are_unchanged, tables_are_framed};
+pub use level_tile::LevelTile;
+pub use table::LevelTable;
