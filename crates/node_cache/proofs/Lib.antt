@@ -1,0 +1,4 @@
+mod Lists
+mod Owning
+mod Voids
+mod Views

@@ -1,0 +1,13 @@
+//! Tiles of nodes that were evaluated, kept for the next render: most recent first.
+#![tactic(auto)]
+
+mod node_cache;
+mod pair_key;
+mod pair_store;
+mod rectangles;
+
+pub use chain_owners::ChainMeaning;
+pub use node_cache::NodeCache;
+pub use pair_key::PairKey;
+pub use pair_store::PairStore;
+pub use swap_store::SwapRefused;
