@@ -9,7 +9,7 @@ ghost use Rattle.model_graphs.specs.Windows.{IsWholeWindow, window_image};
 ghost use Rattle.point_ops.specs.Changes.{HasDivisor, changed_format, changed_pixel};
 
 use crate::part_bytes::part_bytes;
-use crate::patches::{patch_of, pixel_count};
+use crate::patches::pixel_count;
 use no_memory::NoMemory;
 use op_contracts::Window;
 use patch_abyss::Patch;
@@ -100,5 +100,5 @@ pub(crate) fn changed_part(
     let from = window.format;
     let src = part_bytes(alloc, window, out)?;
     let bytes = changed_bytes(alloc, change, from, src.as_slice(), pixel_count(&out))?;
-    patch_of(alloc, out, change.format(from), bytes)
+    Ok(Patch::from_vec(out, change.format(from), bytes))
 }

@@ -9,7 +9,6 @@ ghost use Rattle.model_images.specs.Image.{image_from_fn};
 ghost use Rattle.model_operations.specs.Values.{checker_pixel, square_number};
 ghost use Rattle.point_ops.specs.Generated.{IsCheckerboard, IsSampleOf, by_square, opaque_pixel};
 
-use crate::patches::patch_of;
 use crate::samples::raw_pixel;
 use no_memory::NoMemory;
 use patch_abyss::Patch;
@@ -40,7 +39,7 @@ pub(crate) fn checker_part(
     ensures { IfOk result (λ patch. patch ≡ image_from_fn out format (checker_pixel format size v1 v2)) }
 {
     let bytes = checker_bytes(alloc, format, size, v1, v2, &out)?;
-    patch_of(alloc, out, format, bytes)
+    Ok(Patch::from_vec(out, format, bytes))
 }
 
 /// Returns the raw bytes of the squares over a rectangle.

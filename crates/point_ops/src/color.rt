@@ -6,7 +6,6 @@ ghost use Rattle.pixel_formats.specs.Format.{channels};
 ghost use Rattle.model_images.specs.Image.{image_from_fn};
 ghost use Rattle.point_ops.specs.Generated.{IsSampleOf};
 
-use crate::patches::patch_of;
 use crate::samples::raw_pixel;
 use no_memory::NoMemory;
 use patch_abyss::{Abyss, Patch, fetch};
@@ -32,6 +31,6 @@ pub(crate) fn color_part(
     ensures { IfOk result (λ patch. patch ≡ image_from_fn out format (λ u v. slice_index samples.now)) }
 {
     let pixel = raw_pixel(alloc, format, samples)?;
-    let one = patch_of(alloc, Rect::spanning(0, 0, 1, 1), format, pixel)?;
+    let one = Patch::from_vec(Rect::spanning(0, 0, 1, 1), format, pixel);
     fetch(alloc, &one, Abyss::Clamp, out)
 }

@@ -9,7 +9,6 @@ ghost use Rattle.model_graphs.specs.Windows.{IsWholeWindow, window_image};
 ghost use Rattle.point_ops.specs.Combinations.{Suit, combined_pixel};
 
 use crate::part_bytes::part_bytes;
-use crate::patches::patch_of;
 use no_memory::NoMemory;
 use op_contracts::Window;
 use patch_abyss::Patch;
@@ -99,5 +98,5 @@ pub(crate) fn combined_part(
         part_bytes(alloc, second, out)?,
     );
     let bytes = combined_bytes(alloc, combination, formats, a.as_slice(), b.as_slice())?;
-    patch_of(alloc, out, formats.0, bytes)
+    Ok(Patch::from_vec(out, formats.0, bytes))
 }

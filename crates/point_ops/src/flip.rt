@@ -12,7 +12,7 @@ ghost use Rattle.model_operations.specs.Values.{flipped_pixel};
 ghost use Rattle.point_ops.specs.Flipped.{chunk_from_end, flipped_index, mirrored_source};
 
 use crate::part_bytes::part_bytes;
-use crate::patches::{patch_of, pixel_count};
+use crate::patches::pixel_count;
 use no_memory::NoMemory;
 use op_contracts::Window;
 use patch_abyss::Patch;
@@ -40,7 +40,7 @@ pub(crate) fn flipped_part(
     let source = mirrored_source(sideways, &window.bounds, &out);
     let part = part_bytes(alloc, window, source)?;
     let bytes = flipped_bytes(alloc, sideways, window.format, part.as_slice(), &out)?;
-    patch_of(alloc, out, window.format, bytes)
+    Ok(Patch::from_vec(out, window.format, bytes))
 }
 
 /// Returns the positions of a box that become those of a part when mirrored in it.

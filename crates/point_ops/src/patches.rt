@@ -19,24 +19,6 @@ pub(crate) fn pixel_count(rect: &Rect) -> usize
     rect.area() as usize
 }
 
-/// Returns the patch of a rectangle's raw bytes.
-///
-/// # Errors
-///
-/// `NoMemory` if memory runs out.
-pub(crate) fn patch_of(
-    alloc: Global,
-    rect: Rect,
-    format: Format,
-    bytes: Vec<u8>,
-) -> Result<Patch, NoMemory>
-    requires limits { InLimits rect }
-    requires count { length bytes.items ≡ byte_count rect format }
-    ensures { IfOk result (λ patch. patch ≡ image_from_raw rect format bytes.items) }
-{
-    patch_of_slice(alloc, rect, format, &bytes)
-}
-
 /// Returns the patch of a copy of a rectangle's raw bytes.
 ///
 /// # Errors

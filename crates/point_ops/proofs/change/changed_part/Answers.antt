@@ -21,4 +21,4 @@ returns c =
     ≡ image_from_fn c.args.out (changed_format c.args.change window.format) (λ u v. changed_pixel c.args.change window.format (at (window_image window) u v)) =
     changed-of (window_image window) c.args.out c.as_slice.result.now src c.args.change from c.format.result c.in_ok-bytes.bytes.items
     format c.format.ensures count c.in_ok-bytes.ensures.pixels in
-    rw same at c.patch_of.ensures
+    rw same at c.from_vec.ensures

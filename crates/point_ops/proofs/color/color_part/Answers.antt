@@ -7,17 +7,17 @@ use Rattle.model_images.specs.Image.{Image, image_from_fn}
 use Rattle.point_ops.proofs.Encoded.{unit, unit-count, unit-everywhere}
 use Rattle.point_ops.proofs.color.color_part.Goals as goal
 
-pub patch_of-requires-clause-count : goal.patch_of-requires-clause-count
-patch_of-requires-clause-count c =
+pub from_vec-one-requires-clause-count : goal.from_vec-one-requires-clause-count
+from_vec-one-requires-clause-count c =
     rw c.spanning.ensures (unit-count c.args.format c.args.samples.now c.in_ok-pixel.pixel.items c.requires.count c.in_ok-pixel.ensures)
 
 pub returns : goal.returns
 returns c =
-    let one = c.in_ok-one.one in
+    let one = c.from_vec-one.result in
     let out = c.args.out in
     let format = c.args.format in
     let pixel = c.in_ok-pixel.pixel.items in
-    let is : one ≡ image_from_raw unit format pixel = c.in_ok-one.ensures ∙ ap (λ (r : Rectangle). image_from_raw r format pixel) c.spanning.ensures in
+    let is : one ≡ image_from_raw unit format pixel = c.from_vec-one.ensures ∙ ap (λ (r : Rectangle). image_from_raw r format pixel) c.spanning.ensures in
     let same : image_from_fn out one.format (abyss_at one Clamp) ≡ image_from_fn out format (λ u v k. get_or c.args.samples.now k 0) =
     ap (λ (image : Image). image_from_fn out image.format (abyss_at image Clamp)) is
     ∙ unit-everywhere format c.args.samples.now pixel out c.in_ok-pixel.ensures in

@@ -20,4 +20,4 @@ returns c =
     combined-of (window_image first) (window_image second) c.args.out c.as_slice.result.now c.as_slice-2.result.now a b
     c.args.combination c.first.inside.format c.second.inside.format c.in_ok-bytes.bytes.items c.requires.suit format other
     c.in_ok-bytes.ensures.count c.in_ok-bytes.ensures.pixels in
-    rw same at c.patch_of.ensures
+    rw same at c.from_vec.ensures

@@ -54,4 +54,4 @@ returns c =
     ap (λ (f : Format). image_from_raw out f bytes) format
     ∙ mirrored-image c.args.sideways (window_image window) source out
     (mirrors-from c.args.sideways window.bounds out source c.requires.part c.mirrored_source-source.ensures.rectangle is) c.as_slice.result.now src bytes count pixels in
-    rw same at c.patch_of.ensures
+    rw same at c.from_vec.ensures
