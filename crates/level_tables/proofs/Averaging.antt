@@ -1,20 +1,20 @@
 -- The four tiles below one, and the mean of them.
-use Rattle.std.proofs.Common.{◌≡◌, ◌≢◌, ℕ, ◌+◌, ◌-◌, ◌*◌, ◌/◌, ◌<◌, ◌≤◌, ◌⊎◌, List, Option, Some, None, inl, inr, refl, sym, ap, subst, ◌∙◌, arith}
+use Rattle.std.proofs.Common.{◌≡◌, ℕ, ◌+◌, ◌-◌, ◌*◌, ◌/◌, ◌<◌, ◌≤◌, ◌⊎◌, List, Option, Some, None, inl, inr, refl, sym, ap, subst, ◌∙◌, arith}
 use Rattle.std.proofs.lemmas.Bool.{cases_eq}
-use Rattle.plane_rect.specs.Rectangle.{Inside, IsRectangle, Rectangle, empty, plane_side}
+use Rattle.plane_rect.specs.Rectangle.{Inside, IsRectangle}
 use Rattle.plane_rect.specs.Tile.{Tile, tile_at, tile_of, tile_square}
 use Rattle.plane_rect.proofs.TileLists.{Inside-tile_square}
-use Rattle.pixel_formats.specs.Format.{channels, pixel_bytes}
+use Rattle.pixel_formats.specs.Format.{channels}
 use Rattle.pixel_formats.specs.declared.format.Format.{Format}
 use Rattle.model_images.specs.Agreement.{AgreeOver}
 use Rattle.model_images.specs.FromRaw.{pixels_from_raw}
 use Rattle.model_images.specs.Image.{Image, at}
-use Rattle.model_images.specs.Level.{halved_image, level, source_of_level, tile_above, tile_at_level}
+use Rattle.model_images.specs.Level.{halved_image, source_of_level, tile_above}
 use Rattle.model_images.specs.Paint.{blank}
-use Rattle.model_images.specs.Raw.{raw, tile_bytes}
+use Rattle.model_images.specs.Raw.{tile_bytes}
 use Rattle.model_images.proofs.Agreeing.{at-by_channels}
 use Rattle.model_images.proofs.AgreeingLevels.{Inside-source_of_tile, levels-local-bytes}
-use Rattle.model_images.proofs.Laws.{at-image_from_fn, at_no_channel}
+use Rattle.model_images.proofs.Laws.{at-image_from_fn}
 use Rattle.model_images.proofs.LevelLaws.{level-next, level-zero}
 use Rattle.model_images.proofs.Painting.{at-painted, painted-outside}
 use Rattle.model_images.proofs.Positions.{by_positions}

@@ -1,25 +1,23 @@
 -- Tables that hold a name more or fewer, over one chain.
-use Rattle.std.proofs.Common.{◌≡◌, ◌≢◌, ℕ, ◌+◌, ◌<◌, ◌≤◌, true, false, cond, List, [], ◌∷◌, ◌++◌, Option, Some, None, Contains, inl, inr, true≢false, refl, sym, ap, subst, ◌∙◌, arith}
+use Rattle.std.proofs.Common.{◌≡◌, ◌≢◌, ℕ, List, [], ◌∷◌, ◌++◌, Option, Some, None, Contains, inl, inr, true≢false, refl, sym, ap, subst, ◌∙◌, arith}
 use Rattle.std.specs.Prelude.{◌⊎◌, IfSome, IsSome}
 use Rattle.std.specs.List.{IsDistinct}
 use Rattle.std.specs.List.Sorted.{IsPermutation}
 use Rattle.std.specs.Map.{keys_of, lookup, values_of}
-use Rattle.std.specs.Option.{is_some, option_and_then, option_map, option_to_list}
+use Rattle.std.specs.Option.{option_and_then, option_map, option_to_list}
 use Rattle.std.proofs.lemmas.Bool.{cases_Bool, cases_eq}
 use Rattle.std.proofs.lemmas.List.Elements.{Contains-append_cases}
 use Rattle.std.proofs.lemmas.List.Sorted.{Contains-permutation, IsPermutation-map, IsPermutation-sym}
 use Rattle.indexmap.specs.IndexMap.{insert_entry}
-use Rattle.plane_rect.specs.Tile.{IsWhole, Tile, same_tile, tile_square}
-use Rattle.plane_rect.specs.SameTile.{same_tile-laws, same_tile-true}
+use Rattle.plane_rect.specs.Tile.{IsWhole, Tile, same_tile}
+use Rattle.plane_rect.specs.SameTile.{same_tile-true}
 use Rattle.plane_rect.proofs.Lists.{Contains-cases, Contains-first, Contains-later}
 use Rattle.chain_owners.specs.Held.{Held, bytes_of}
 use Rattle.chain_owners.specs.Owners.{Owns, times}
-use Rattle.chain_owners.proofs.Ownership.{owns-fewer, times-append, times-elsewhere, times-here}
-use Rattle.model_images.specs.Agreement.{AgreeElsewhere}
-use Rattle.model_images.specs.Image.{Image}
+use Rattle.chain_owners.proofs.Ownership.{owns-fewer, times-append, times-elsewhere}
 use Rattle.model_images.specs.Level.{level, tile_at_level}
 use Rattle.model_images.specs.Raw.{tile_bytes}
-use Rattle.model_images.specs.Tiles.{AreZeroAround, HeldTiles, put_image}
+use Rattle.model_images.specs.Tiles.{put_image}
 use Rattle.model_images.proofs.AgreeingLevels.{levels-other_tiles}
 use Rattle.model_images.proofs.HeldTiles.{one_tile-changes}
 use Rattle.model_images.proofs.PutTiles.{around-hull, hull-is}

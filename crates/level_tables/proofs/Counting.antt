@@ -1,22 +1,20 @@
 -- How many tiles of levels a table can hold.
-use Rattle.std.proofs.Common.{◌≡◌, ◌≢◌, ℕ, zero, suc, ◌+◌, ◌-◌, ◌*◌, ◌/◌, ◌<◌, ◌≤◌, ◌↔◌, Bool, true, false, cond, leb, List, [], ◌∷◌, ◌++◌, length, map, Option, Some, None, Contains, Decides, inl, inr, refl, sym, ap, subst, ◌∙◌, length-append, arith}
+use Rattle.std.proofs.Common.{◌≡◌, ℕ, zero, suc, ◌+◌, ◌*◌, ◌/◌, ◌≤◌, true, false, cond, leb, List, [], ◌∷◌, ◌++◌, length, None, Contains, Decides, inl, inr, refl, sym, ap, subst, ◌∙◌, length-append, arith}
 use Rattle.std.specs.List.{AllByRecursion, IsDistinct}
 use Rattle.std.specs.Map.{keys_of, lookup}
-use Rattle.std.specs.Set.{is_member}
-use Rattle.std.proofs.lemmas.Bool.{cases_Bool, cases_lt, le-leb, leb-true, lt-leb}
-use Rattle.std.proofs.lemmas.List.{length-map}
+use Rattle.std.proofs.lemmas.Bool.{cases_Bool, cases_lt, leb-true}
 use Rattle.std.proofs.lemmas.List.Elements.{Contains-append_left, Contains-append_right}
 use Rattle.std.proofs.lemmas.Map.{none_passes_from_lookup}
 use Rattle.std.proofs.lemmas.Map.Keys.{IsDistinct-cons, IsDistinct-head, IsDistinct-tail}
 use Rattle.std.proofs.lemmas.Map.Made.{is_member-Decides, length-le_from_is_member}
-use Rattle.plane_rect.specs.Rectangle.{Inside, IsRectangle, Rectangle, half, halved}
-use Rattle.plane_rect.specs.Tile.{IsWhole, Meets, Tile, tile_at, tile_of, tile_origin, tile_square, tiles}
+use Rattle.plane_rect.specs.Rectangle.{IsRectangle, Rectangle, half}
+use Rattle.plane_rect.specs.Tile.{IsWhole, Meets, Tile, tile_at, tile_of, tile_origin, tiles}
 use Rattle.plane_rect.proofs.Lists.{Contains-cases, Contains-first, Contains-later}
 use Rattle.plane_rect.proofs.Moved.{halved-positions}
 use Rattle.plane_rect.proofs.RectangleLaws.{IsRectangle-halved}
 use Rattle.plane_rect.proofs.TileLists.{Inside-tile_square, tiles-meeting}
 use Rattle.model_images.specs.Level.{level_box, tile_above, tile_at_level}
-use Rattle.model_images.specs.TileCounts.{level_tiles, tile_count}
+use Rattle.model_images.specs.TileCounts.{level_tiles}
 use Rattle.model_images.specs.Tiles.{hull_of_tiles}
 use Rattle.model_images.proofs.PutTiles.{hull-is, hull-square}
 use Rattle.level_tables.specs.LevelTiles.{LevelTiles, hull_of, positions, same_level_tile}

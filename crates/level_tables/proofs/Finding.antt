@@ -1,21 +1,20 @@
 -- Tiles of levels that are found, or averaged.
-use Rattle.std.proofs.Common.{◌≡◌, ◌≢◌, ℕ, zero, suc, ◌+◌, ◌-◌, ◌*◌, ◌/◌, ◌<◌, ◌≤◌, ◌⊎◌, true, false, cond, eqb, List, [], ◌∷◌, ◌++◌, length, replicate, Option, Some, None, Contains, inl, inr, true≢false, refl, sym, ap, subst, ◌∙◌, arith}
+use Rattle.std.proofs.Common.{◌≡◌, ◌≢◌, ℕ, zero, suc, ◌+◌, ◌-◌, ◌*◌, ◌/◌, ◌≤◌, ◌⊎◌, true, List, [], ◌∷◌, length, replicate, Option, Some, None, Contains, inl, inr, true≢false, refl, sym, ap, subst, ◌∙◌, arith}
 use Rattle.std.specs.Prelude.{IfSome, IsSome}
 use Rattle.std.specs.Map.{keys_of, lookup}
 use Rattle.std.specs.Option.{is_some, option_and_then, option_map}
 use Rattle.std.proofs.lemmas.Bool.{cases_Bool, cases_eq, eq-eqb, ne_eqb}
-use Rattle.plane_rect.specs.Rectangle.{Inside, IsRectangle}
 use Rattle.plane_rect.specs.Tile.{IsWhole, Tile, same_tile, tile_square}
 use Rattle.plane_rect.specs.SameTile.{same_tile-laws, same_tile-true}
 use Rattle.plane_rect.proofs.Lists.{Contains-cases}
-use Rattle.pixel_formats.specs.Format.{channels, pixel_bytes}
+use Rattle.pixel_formats.specs.Format.{pixel_bytes}
 use Rattle.pixel_formats.specs.declared.format.Format.{Format}
 use Rattle.chain_owners.specs.Held.{Held, bytes_of, length_of}
 use Rattle.chain_contracts.specs.Tiles.{Reads}
 use Rattle.model_images.specs.FromRaw.{pixels_from_raw}
 use Rattle.model_images.specs.Image.{Image, at}
 use Rattle.model_images.specs.Level.{halved_image, level, tile_above, tile_at_level}
-use Rattle.model_images.specs.Raw.{raw, tile_bytes}
+use Rattle.model_images.specs.Raw.{tile_bytes}
 use Rattle.model_images.specs.Tiles.{AreTileBytes, put_image}
 use Rattle.model_images.specs.Paint.{blank}
 use Rattle.model_images.proofs.ByteLaws.{length-tile_bytes}
@@ -25,11 +24,9 @@ use Rattle.model_images.proofs.PutTiles.{hull-is, put-read}
 use Rattle.model_images.proofs.RawLaws.{pixels-zero, raw-samples}
 use Rattle.level_tables.specs.LevelTiles.{LevelTiles, bytes_in, hull_of, image_of, positions, same_level_tile}
 use Rattle.level_tables.specs.Over.{AreLevelTiles, IsOver, IsTileOfLevel, tile_length}
-use Rattle.level_tables.specs.Found.{AreFound, HasTileLength, HaveTileLength, IsFound, IsFoundTile, IsHeldTile, IsInHalf, half_origin, image_of_four, name_in, square_below, tile_below, with_found}
+use Rattle.level_tables.specs.Found.{AreFound, HasTileLength, HaveTileLength, IsFound, IsFoundTile, IsInHalf, half_origin, image_of_four, name_in, square_below, tile_below, with_found}
 use Rattle.level_tables.specs.declared.four_tiles.FourTiles.{FourTiles}
-use Rattle.level_tables.specs.declared.level_tile.LevelTile.{LevelTile}
 use Rattle.level_tables.proofs.Averaging.{AreRight, IsRight, format-of, four-halved, one-below}
-use Rattle.level_tables.proofs.Changes.{among-put}
 use Rattle.level_tables.proofs.Entries.{Contains-key, Contains-lookup, same_level_tile-true}
 use Rattle.level_tables.proofs.Frames.{level-named, put-named}
 

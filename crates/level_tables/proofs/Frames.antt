@@ -1,20 +1,19 @@
 -- What is seen of a table depends on nothing but the bytes of its names.
-use Rattle.std.proofs.Common.{◌≡◌, ℕ, ◌+◌, ◌<◌, ◌≤◌, true, false, List, [], ◌∷◌, ◌++◌, Option, Some, None, Contains, inl, inr, true≢false, refl, sym, ap, subst, ◌∙◌, arith}
+use Rattle.std.proofs.Common.{◌≡◌, ℕ, ◌<◌, List, ◌++◌, Option, Some, None, Contains, true≢false, refl, sym, ap, subst, ◌∙◌, arith}
 use Rattle.std.specs.Prelude.{IfSome, IsSome}
-use Rattle.std.specs.Map.{keys_of, lookup, values_of}
+use Rattle.std.specs.Map.{lookup, values_of}
 use Rattle.std.specs.Option.{is_some, option_and_then, option_map, option_map_or}
 use Rattle.plane_rect.specs.Tile.{Tile, same_tile, tile_at, tile_square}
 use Rattle.plane_rect.specs.SameTile.{same_tile-true}
 use Rattle.pixel_formats.specs.declared.format.Format.{Format}
-use Rattle.chain_owners.specs.Held.{Held, bytes_of, length_of}
+use Rattle.chain_owners.specs.Held.{Held, bytes_of}
 use Rattle.chain_owners.specs.Owners.{Owns, Respects, Unchanged, times}
 use Rattle.chain_owners.proofs.Ownership.{others-own, others-unchanged, owns-fewer, times-append}
 use Rattle.model_images.specs.FromRaw.{pixels_from_raw}
-use Rattle.model_images.specs.Image.{Image}
 use Rattle.model_images.specs.Tiles.{AreTileBytes, HeldTiles, held_pixels, hull_of_tiles, put_image}
 use Rattle.model_images.proofs.Laws.{generated_equal}
 use Rattle.level_tables.specs.LevelTiles.{LevelTiles, bytes_in, image_of, names, positions}
-use Rattle.level_tables.specs.Over.{IsOver, IsTileName, IsTileOfLevel}
+use Rattle.level_tables.specs.Over.{IsOver}
 use Rattle.level_tables.specs.declared.level_tile.LevelTile.{LevelTile}
 use Rattle.level_tables.proofs.Entries.{Contains-lookup, Contains-value, times-contained}
 

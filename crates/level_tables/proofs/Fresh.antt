@@ -1,12 +1,12 @@
 -- A new name beside a table.
-use Rattle.std.proofs.Common.{◌≡◌, ℕ, ◌+◌, ◌<◌, ◌≤◌, cond, List, [], ◌∷◌, ◌++◌, length, Option, Some, None, refl, sym, ap, subst, ◌∙◌, true≢false, arith}
+use Rattle.std.proofs.Common.{◌≡◌, ℕ, cond, List, [], ◌∷◌, length, Option, Some, None, refl, sym, ap, subst, ◌∙◌, true≢false}
 use Rattle.std.specs.Prelude.{IfSome, IsSome}
 use Rattle.std.specs.FinMap as map
 use Rattle.std.specs.Option.{is_some, option_and_then, option_map}
 use Rattle.plane_rect.specs.Tile.{Tile, same_tile}
 use Rattle.pixel_formats.specs.declared.format.Format.{Format}
-use Rattle.chain_owners.specs.Held.{Held, bytes_of, length_of, owners_of, with_name}
-use Rattle.chain_owners.specs.Owners.{Owns, Respects, times}
+use Rattle.chain_owners.specs.Held.{Held, bytes_of, owners_of, with_name}
+use Rattle.chain_owners.specs.Owners.{Owns, Respects}
 use Rattle.chain_owners.specs.Values.{Named}
 use Rattle.chain_owners.proofs.Names.{get_here}
 use Rattle.chain_owners.proofs.Ownership.{new_name-respects, others-own}
@@ -14,7 +14,7 @@ use Rattle.model_images.specs.FromRaw.{AreBytes}
 use Rattle.model_images.specs.Tiles.{AreTileBytes, put_image}
 use Rattle.level_tables.specs.LevelTiles.{LevelTiles, bytes_in, image_of, image_with, names, position_with, positions, tile_with}
 use Rattle.level_tables.specs.Over.{IsOver, IsTileName, tile_length}
-use Rattle.level_tables.specs.Steps.{State, Switches, state}
+use Rattle.level_tables.specs.Steps.{State, Switches}
 use Rattle.level_tables.proofs.Frames.{bytes-beside, over-beside, put_image-same, where_exposed, where_known}
 
 bytes-inserted : (content : Option (Named (List ℕ))) (name : ℕ) (bytes : List ℕ) → IsSome content

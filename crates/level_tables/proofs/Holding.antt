@@ -1,5 +1,5 @@
 -- Calls that hold more tiles of levels, one after another.
-use Rattle.std.proofs.Common.{◌≡◌, ℕ, ◌+◌, ◌-◌, ◌<◌, ◌≤◌, cond, leb, List, [], ◌∷◌, ◌++◌, length, Option, Some, None, Contains, inl, inr, refl, sym, ap, subst, ◌∙◌, arith}
+use Rattle.std.proofs.Common.{◌≡◌, ℕ, ◌+◌, ◌<◌, ◌≤◌, List, [], ◌∷◌, ◌++◌, length, Option, Some, None, inl, inr, refl, sym, ap, subst, ◌∙◌, arith}
 use Rattle.std.specs.List.{IsDistinct}
 use Rattle.std.specs.FinMap as map
 use Rattle.std.specs.Map.{keys_of, lookup}
@@ -9,7 +9,6 @@ use Rattle.plane_rect.specs.Tile.{Tile}
 use Rattle.pixel_formats.specs.declared.format.Format.{Format}
 use Rattle.chain_owners.specs.Counts.{AreCounts, Continues, Counts, Grows}
 use Rattle.chain_owners.specs.Held.{Held, owners_of, with_name}
-use Rattle.chain_owners.specs.Owners.{times}
 use Rattle.chain_owners.specs.Room.{Room}
 use Rattle.chain_owners.proofs.Ownership.{respects-beside, times-append}
 use Rattle.swap_store.specs.Cause.{HasSwapCause}
@@ -17,8 +16,7 @@ use Rattle.swap_store.specs.declared.refusal.SwapRefused.{SwapRefused}
 use Rattle.swap_store.proofs.Causes.{cause-before, cause-more}
 use Rattle.model_images.specs.FromRaw.{AreBytes}
 use Rattle.model_images.specs.Image.{Image}
-use Rattle.model_images.specs.TileCounts.{level_tiles}
-use Rattle.level_tables.specs.LevelTiles.{LevelTiles, hull_of, image_of, names, positions, same_level_tile}
+use Rattle.level_tables.specs.LevelTiles.{LevelTiles, image_of, names, positions, same_level_tile}
 use Rattle.level_tables.specs.Over.{IsAbove, IsOver, IsTileOfLevel, tile_length}
 use Rattle.level_tables.specs.Steps.{HoldsMore, KeepsTiles, State, level_count, names_with_levels, state}
 use Rattle.level_tables.specs.Found.{IsFound}

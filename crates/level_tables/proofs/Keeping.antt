@@ -1,17 +1,17 @@
 -- What calls keep of a table, one after another.
-use Rattle.std.proofs.Common.{◌≡◌, ◌≢◌, ℕ, zero, suc, ◌+◌, ◌-◌, ◌<◌, ◌≤◌, List, [], ◌∷◌, ◌++◌, Option, Some, None, Contains, inl, inr, refl, sym, ap, subst, ◌∙◌, arith}
+use Rattle.std.proofs.Common.{◌≡◌, ℕ, suc, ◌+◌, List, [], ◌∷◌, None, Contains, inl, inr, refl, ap, subst, ◌∙◌, arith}
 use Rattle.std.specs.Prelude.{IsSome}
 use Rattle.std.specs.List.{IsDistinct}
 use Rattle.std.specs.List.Sorted.{IsPermutation}
 use Rattle.std.specs.Map.{keys_of, lookup}
 use Rattle.std.specs.Option.{is_some}
 use Rattle.std.proofs.lemmas.Bool.{cases_lt}
-use Rattle.plane_rect.specs.Tile.{Tile, same_tile}
+use Rattle.plane_rect.specs.Tile.{Tile}
 use Rattle.pixel_formats.specs.declared.format.Format.{Format}
 use Rattle.model_images.specs.Tiles.{put_image}
 use Rattle.chain_owners.specs.Counts.{Continues, Counts, Grows}
 use Rattle.chain_owners.specs.Held.{Held, disowned, length_of}
-use Rattle.chain_owners.specs.Owners.{Owns, Respects, times}
+use Rattle.chain_owners.specs.Owners.{Owns, Respects}
 use Rattle.chain_owners.proofs.Ownership.{disowned-respects, owns-fewer, respects-beside, respects-both, respects-same, times-append, times-here}
 use Rattle.model_images.specs.Level.{tile_above, tile_at_level}
 use Rattle.level_tables.specs.LevelTiles.{LevelTiles, bytes_in, image_of, names, positions, same_level_tile}

@@ -1,21 +1,19 @@
 -- A name that becomes the table's tile of a position.
-use Rattle.std.proofs.Common.{◌≡◌, ◌≢◌, ℕ, ◌+◌, ◌<◌, ◌≤◌, cond, List, [], ◌∷◌, ◌++◌, Option, Some, None, Contains, refl, sym, ap, subst, ◌∙◌, arith}
+use Rattle.std.proofs.Common.{◌≡◌, ℕ, cond, List, [], ◌∷◌, ◌++◌, Option, Some, None, sym, ap, subst, ◌∙◌, arith}
 use Rattle.std.specs.Prelude.{IfSome, IsSome}
-use Rattle.std.specs.Map.{keys_of, lookup, values_of}
-use Rattle.std.specs.Option.{is_some, option_to_list}
+use Rattle.std.specs.Map.{keys_of, lookup}
+use Rattle.std.specs.Option.{is_some}
 use Rattle.indexmap.specs.IndexMap.{insert_entry}
 use Rattle.plane_rect.specs.Tile.{IsWhole, Tile, same_tile}
 use Rattle.pixel_formats.specs.declared.format.Format.{Format}
-use Rattle.chain_owners.specs.Counts.{Continues, Counts, Grows}
+use Rattle.chain_owners.specs.Counts.{Counts, Grows}
 use Rattle.chain_owners.specs.Held.{Held, bytes_of, disowned, length_of}
 use Rattle.chain_owners.specs.Owners.{Owns, Respects, Unchanged, times}
 use Rattle.chain_owners.proofs.Ownership.{disowned-respects, others-own, others-unchanged, owns-fewer, respects-beside, respects-both, respects-same, times-append, times-here}
-use Rattle.model_images.specs.Level.{tile_at_level}
 use Rattle.model_images.specs.Tiles.{AreTileBytes}
 use Rattle.level_tables.specs.LevelTiles.{LevelTiles, bytes_in, names, position_with, positions, tile_with}
 use Rattle.level_tables.specs.Over.{IsOver, IsTileName, max_level}
-use Rattle.level_tables.specs.Steps.{KeepsTiles, State, Switches, VoidsAbove, state}
-use Rattle.level_tables.specs.declared.level_tile.LevelTile.{LevelTile}
+use Rattle.level_tables.specs.Steps.{State, Switches, VoidsAbove, state}
 use Rattle.level_tables.proofs.Entries.{keys-inserted}
 use Rattle.level_tables.proofs.Frames.{bytes-beside, over-beside, put-named}
 use Rattle.level_tables.proofs.Changes.{bytes-after, over-after, times-after}

@@ -4,7 +4,7 @@ use Rattle.plane_rect.specs.Rectangle.{Rectangle}
 use Rattle.std.specs.Map.{lookup}
 use Rattle.chain_owners.specs.Held.{Held}
 use Rattle.level_tables.specs.LevelTiles.{LevelTiles, image_of, positions, same_level_tile}
-use Rattle.plane_rect.specs.Tile.{Tile, same_tile, tile_origin, tile_side, tile_square}
+use Rattle.plane_rect.specs.Tile.{Tile, same_tile, tile_side, tile_square}
 use Rattle.pixel_formats.specs.declared.format.Format.{Format}
 use Rattle.model_images.specs.Image.{Image}
 use Rattle.model_images.specs.Level.{tile_at_level}

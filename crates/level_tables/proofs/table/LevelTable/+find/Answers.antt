@@ -1,10 +1,10 @@
-use Rattle.std.proofs.Common.{◌≡◌, ℕ, ◌+◌, ◌-◌, ◌<◌, ◌≤◌, List, Option, None, Some, sym, subst, ap, ◌∙◌, arith, rules}
+use Rattle.std.proofs.Common.{◌≡◌, ◌-◌, ◌≤◌, None, subst, arith, rules}
 use Rattle.std.proofs.lemmas.Bool.{not-true}
 use Rattle.std.proofs.lemmas.Grind.{common_steps}
 use Rattle.std.proofs.lemmas.Result.{IfErr-weaker, IfOk-weaker, err_from_is_err_and}
 use Rattle.plane_rect.specs.Tile.{Tile}
 use Rattle.swap_store.specs.Cause.{HasSwapCause}
-use Rattle.level_tables.specs.LevelTiles.{LevelTiles, image_of, positions, same_level_tile}
+use Rattle.level_tables.specs.LevelTiles.{image_of, positions}
 use Rattle.level_tables.specs.Steps.{HoldsMore, names_with_levels, state}
 use Rattle.level_tables.specs.Found.{IsFound, IsInHalf, name_in, tile_below}
 use Rattle.level_tables.specs.declared.level_tile.LevelTile.{LevelTile}

@@ -1,6 +1,6 @@
-use Rattle.std.proofs.Common.{◌≡◌, ◌∷◌, ◌++◌, [], ℕ, List, ap, sym, ◌∙◌, arith}
+use Rattle.std.proofs.Common.{ℕ, List, ap, ◌∙◌}
 use Rattle.indexmap.proofs.CallerLemmas.{insert_entry-new}
-use Rattle.level_tables.specs.LevelTiles.{LevelTiles, same_level_tile}
+use Rattle.level_tables.specs.LevelTiles.{same_level_tile}
 use Rattle.level_tables.specs.declared.level_tile.LevelTile.{LevelTile}
 use Rattle.level_tables.proofs.Entries.{taken}
 use Rattle.level_tables.proofs.table.LevelTable.hold.Goals as goal

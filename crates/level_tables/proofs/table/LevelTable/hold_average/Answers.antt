@@ -1,9 +1,8 @@
-use Rattle.std.proofs.Common.{◌≡◌, ℕ, suc, ◌-◌, ◌+◌, ◌∷◌, ◌++◌, List, [], length, Contains, true≢false, sym, subst, ap, ◌∙◌, arith}
+use Rattle.std.proofs.Common.{◌≡◌, ℕ, suc, ◌-◌, ◌+◌, ◌∷◌, ◌++◌, [], Contains, true≢false, sym, subst, ap, ◌∙◌, arith}
 use Rattle.std.specs.List.{IsDistinct}
 use Rattle.std.specs.Map.{keys_of}
 use Rattle.std.proofs.lemmas.Result.{err_from_is_err_and}
 use Rattle.plane_rect.specs.Tile.{Tile}
-use Rattle.chain_owners.specs.Held.{Held}
 use Rattle.model_images.specs.Level.{tile_at_level}
 use Rattle.swap_store.proofs.Causes.{cause-more}
 use Rattle.level_tables.specs.LevelTiles.{LevelTiles, image_of, positions, same_level_tile}
@@ -12,7 +11,6 @@ use Rattle.level_tables.specs.Steps.{HoldsMore, names_with_levels, state}
 use Rattle.level_tables.specs.declared.level_tile.LevelTile.{LevelTile}
 use Rattle.level_tables.proofs.Finding.{average-exact, length-average, some-above}
 use Rattle.level_tables.proofs.Holding.{holds-one, room-for}
-use Rattle.level_tables.proofs.table.LevelTable.hold_average.Given.{Over}
 use Rattle.level_tables.proofs.table.LevelTable.hold_average.Goals as goal
 
 pub returns-in_err-name-clause-cause : goal.returns-in_err-name-clause-cause

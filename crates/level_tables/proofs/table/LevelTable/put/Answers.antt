@@ -1,11 +1,8 @@
-use Rattle.std.proofs.Common.{◌≡◌, ℕ, ◌∷◌, List, [], Some, sym, subst, ap, ◌∙◌}
-use Rattle.plane_rect.specs.Tile.{Tile}
-use Rattle.chain_owners.specs.Held.{Held, bytes_of, with_name}
-use Rattle.chain_owners.specs.Owners.{Owns, Respects}
+use Rattle.std.proofs.Common.{◌∷◌, ◌∙◌}
+use Rattle.chain_owners.specs.Owners.{Respects}
 use Rattle.chain_owners.proofs.Ownership.{respects-both}
-use Rattle.level_tables.specs.LevelTiles.{LevelTiles, image_of, image_with, names}
-use Rattle.level_tables.specs.Over.{IsOver, IsTileName}
-use Rattle.level_tables.specs.Steps.{State, Switches, state}
+use Rattle.level_tables.specs.LevelTiles.{names}
+use Rattle.level_tables.specs.Steps.{state}
 use Rattle.level_tables.proofs.Fresh.{fresh-image, fresh-named, fresh-over, fresh-owns, fresh-beside, switched-image}
 use Rattle.level_tables.proofs.table.LevelTable.put.Goals as goal
 

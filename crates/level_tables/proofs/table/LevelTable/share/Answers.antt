@@ -1,6 +1,4 @@
-use Rattle.std.proofs.Common.{ℕ, ◌<◌}
 use Rattle.level_tables.specs.LevelTiles.{LevelTiles}
-use Rattle.level_tables.specs.Over.{IsOver}
 use Rattle.level_tables.proofs.Owning.{levels-there, put-there, shared-others, shared-over, shared-owns}
 use Rattle.level_tables.proofs.table.LevelTable.share.Goals as goal
 

@@ -1,6 +1,6 @@
-use Rattle.std.proofs.Common.{◌≡◌, sym, subst, ◌∙◌}
+use Rattle.std.proofs.Common.{sym, subst, ◌∙◌}
 use Rattle.level_tables.specs.LevelTiles.{LevelTiles}
-use Rattle.level_tables.specs.Steps.{State, Switches, state}
+use Rattle.level_tables.specs.Steps.{Switches, state}
 use Rattle.level_tables.proofs.Switching.{gone-there, put-again, put-fresh}
 use Rattle.level_tables.proofs.table.LevelTable.switch_one.Goals as goal
 

@@ -1,4 +1,4 @@
-use Rattle.std.proofs.Common.{◌≡◌, ℕ, List, replicate, ap, ◌∙◌}
+use Rattle.std.proofs.Common.{ℕ, replicate, ap, ◌∙◌}
 use Rattle.level_tables.specs.Over.{tile_length}
 use Rattle.level_tables.specs.Steps.{state}
 use Rattle.level_tables.proofs.Finding.{zero-exact}
