@@ -1,12 +1,12 @@
 -- What callers see of a cache that keeps its tiles itself, after each of its calls.
-use Rattle.std.proofs.Common.{◌≡◌, ℕ, zero, suc, ◌+◌, ◌-◌, ◌^◌, ◌<◌, ◌≤◌, false, List, [], ◌∷◌, map, take, length, Option, Some, None, is_some, option_map, refl, sym, ap, subst, ◌∙◌, arith}
-use Rattle.std.specs.Prelude.{Result, Ok, Err, IfErr, IfOk, IfSome}
+use Rattle.std.proofs.Common.{◌≡◌, ℕ, zero, suc, ◌-◌, ◌^◌, ◌<◌, ◌≤◌, false, List, [], ◌∷◌, map, take, length, Option, Some, None, is_some, option_map, refl, sym, ap, subst, ◌∙◌, arith}
+use Rattle.std.specs.Prelude.{Result, Ok, Err, IfErr, IfSome}
 use Rattle.std.specs.Option.{option_map_or}
 use Rattle.std.specs.List.{AllByRecursion, IsDistinct}
 use Rattle.std.specs.Map.{keys_of, lookup, lookup_entry, remove_entry}
 use Rattle.std.proofs.lemmas.List.{take_all}
 use Rattle.lru.specs.LruCache.{LruCache, lru_cache, put_entries}
-use Rattle.model_states.specs.Cache.{Cached, Pair, by_pair, find_pair, itself}
+use Rattle.model_states.specs.Cache.{Cached, by_pair, find_pair, itself}
 use Rattle.node_cache.specs.declared.pair_key.PairKey.{PairKey}
 use Rattle.node_cache.specs.HandTiles.{HandEntries, HandEntry, IsHandCache, hand_bytes, hand_size}
 use Rattle.node_cache.specs.Keys.{pair_of, same_key}
@@ -37,13 +37,13 @@ module _ (k : PairKey) (es : HandEntries) where
   hand-finds len found sized is =
       let at : found ≡ option_map (λ (e : HandEntry). e.1) (lookup_entry (same_key k) es) = is ∙ sym (entry-lookup k es) in
       record {
-    there = ap is_some at ∙ there (lookup_entry (same_key k) es) ∙ ap is_some (sym (find-made itself (entry_pair {V = List ℕ}) (λ e. refl) k es));
-    length = subst (λ o. IfSome o (λ (tile : List ℕ). length tile ≡ len)) (sym at)
-        (lengths len (lookup_entry (same_key k) es)
-        (subst (λ o. IfSome o (λ (s : Sized). s.length ≡ len)) (find-made by_sized hand_size (λ e. refl) k es) sized));
-    bytes = at ∙ bytes (lookup_entry (same_key k) es)
-        ∙ sym (ap (option_map (λ (c : Cached). c.bytes)) (find-made by_pair hand_bytes (λ e. refl) k es));
-  }
+        there = ap is_some at ∙ there (lookup_entry (same_key k) es) ∙ ap is_some (sym (find-made itself (entry_pair {V = List ℕ}) (λ e. refl) k es));
+        length = subst (λ o. IfSome o (λ (tile : List ℕ). length tile ≡ len)) (sym at)
+            (lengths len (lookup_entry (same_key k) es)
+            (subst (λ o. IfSome o (λ (s : Sized). s.length ≡ len)) (find-made by_sized hand_size (λ e. refl) k es) sized));
+        bytes = at ∙ bytes (lookup_entry (same_key k) es)
+            ∙ sym (ap (option_map (λ (c : Cached). c.bytes)) (find-made by_pair hand_bytes (λ e. refl) k es));
+      }
 
   no-value : (o : Option HandEntry) → option_map (entry_pair {V = List ℕ}) o ≡ None → option_map (λ (e : HandEntry). e.1) o ≡ None
   no-value None is = refl

@@ -12,7 +12,7 @@ use Rattle.std.proofs.lemmas.Cmp.{nat_cmp_total}
 use Rattle.lru.specs.LruCache.{displaced, lru_cache, promoted, put_entries}
 use Rattle.tile_cow.specs.Tile.{IsTileLength}
 use Rattle.chain_owners.specs.Counts.{AreCounts, Counts, Grows}
-use Rattle.chain_owners.specs.Held.{Held, bytes_of, disowned, length_of, max_owners, owners_of, with_name, without_name}
+use Rattle.chain_owners.specs.Held.{Held, bytes_of, disowned, length_of, owners_of, with_name, without_name}
 use Rattle.chain_owners.specs.Owners.{Owns, Respects, Unchanged, times}
 use Rattle.chain_owners.specs.Room.{Room}
 use Rattle.chain_owners.specs.Values.{Named}

@@ -1,5 +1,3 @@
-use Rattle.std.proofs.Common.{◌∙◌, ap}
-use Rattle.lru.specs.LruCache.{LruCache}
 use Rattle.node_cache.proofs.HandViews.{hand-put}
 use Rattle.node_cache.proofs.hand_cache.HandCache.put.Goals as goal
 

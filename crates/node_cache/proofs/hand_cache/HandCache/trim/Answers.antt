@@ -1,4 +1,4 @@
-use Rattle.std.proofs.Common.{ℕ, List, map, take, sym, ◌∙◌, ap, arith}
+use Rattle.std.proofs.Common.{ℕ, List, map, sym, ◌∙◌, ap, arith}
 use Rattle.std.proofs.lemmas.List.{take-map}
 use Rattle.lru.specs.LruCache.{LruCache}
 use Rattle.node_cache.specs.declared.pair_key.PairKey.{PairKey}

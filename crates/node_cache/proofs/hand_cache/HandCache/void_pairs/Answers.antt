@@ -1,4 +1,4 @@
-use Rattle.std.proofs.Common.{not, rules, arith}
+use Rattle.std.proofs.Common.{not, arith}
 use Rattle.node_cache.specs.HandTiles.{HandEntry}
 use Rattle.node_cache.specs.Keys.{is_voided}
 use Rattle.node_cache.proofs.Voids.{turns-begin, turns-end, turns-next}

@@ -1,15 +1,13 @@
-use Rattle.std.proofs.Common.{◌≡◌, ℕ, List, map, refl, Some, sym, ap, subst, ◌∙◌}
+use Rattle.std.proofs.Common.{◌≡◌, ℕ, List, map, refl, Some, ap, ◌∙◌}
 use Rattle.std.specs.Map.{lookup}
-use Rattle.lru.specs.LruCache.{LruCache, promoted}
+use Rattle.lru.specs.LruCache.{LruCache}
 use Rattle.model_states.specs.Cache.{Cached, by_pair, itself}
-use Rattle.swap_store.specs.Cause.{HasSwapCause}
-use Rattle.swap_store.specs.declared.refusal.SwapRefused.TheVariants as refusals
 use Rattle.node_cache.specs.declared.pair_key.PairKey.{PairKey}
 use Rattle.node_cache.specs.HandTiles.{hand_bytes, hand_size}
 use Rattle.node_cache.specs.Keys.{same_key}
 use Rattle.node_cache.specs.NodeNames.{entry_pair, pairs_in}
 use Rattle.node_cache.specs.Stores.{Finds, by_sized, pair_at}
-use Rattle.node_cache.proofs.HandViews.{hand-finds, if-err}
+use Rattle.node_cache.proofs.HandViews.{hand-finds}
 use Rattle.node_cache.proofs.Lists.{look-made}
 use Rattle.node_cache.proofs.Views.{if-ok, on-result}
 use Rattle.node_cache.proofs.hand_cache.HandCachePairStoreUnit.look.Goals as goal

@@ -1,4 +1,4 @@
-use Rattle.std.proofs.Common.{◌≡◌, refl, sym, ◌∙◌, ap, rules}
+use Rattle.std.proofs.Common.{rules}
 use Rattle.node_cache.proofs.Owning.{cache-empty}
 use Rattle.node_cache.proofs.node_cache.NodeCache.new.Goals as goal
 
