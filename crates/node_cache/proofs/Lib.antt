@@ -2,3 +2,4 @@ mod Lists
 mod Owning
 mod Voids
 mod Views
+mod HandViews

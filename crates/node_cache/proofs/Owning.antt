@@ -12,7 +12,7 @@ use Rattle.std.proofs.lemmas.Cmp.{nat_cmp_total}
 use Rattle.lru.specs.LruCache.{displaced, lru_cache, promoted, put_entries}
 use Rattle.tile_cow.specs.Tile.{IsTileLength}
 use Rattle.chain_owners.specs.Counts.{AreCounts, Counts, Grows}
-use Rattle.chain_owners.specs.Held.{Held, bytes_of, disowned, length_of, max_owners, owners_of, with_name, without_name}
+use Rattle.chain_owners.specs.Held.{Held, bytes_of, disowned, length_of, owners_of, with_name, without_name}
 use Rattle.chain_owners.specs.Owners.{Owns, Respects, Unchanged, times}
 use Rattle.chain_owners.specs.Room.{Room}
 use Rattle.chain_owners.specs.Values.{Named}
@@ -416,3 +416,14 @@ one-more-tile held name names tile are = record {
 pub displaced-is : (k : PairKey) (name : ℕ) (es : Entries) (most : ℕ) → lookup (same_key k) es ≡ None
     → displaced same_key (lru_cache es most) k name ≡ slice_get es (most - 1)
 displaced-is k name es most none = ap (λ o. option_map_or (λ (old : ℕ). Some (k, old)) o (slice_get es (most - 1))) none
+
+pub cache-empty : (most capacity : ℕ) (held : Held) → 1 ≤ capacity → most ≡ capacity → IsNodeCache [] most capacity held
+unfolding IsDistinct
+cache-empty most capacity held some same = record {
+  distinct = tt;
+  fits = omega arith;
+  some = some;
+  same = same;
+  owned = record { counted = λ q. inr (omega arith) };
+  tiles = record { named = λ q here. absurd (omega (arith, here)) };
+}

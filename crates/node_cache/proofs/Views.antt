@@ -1,24 +1,23 @@
 -- What callers see of a cache whose tiles are in a chain, after each of its calls.
-use Rattle.std.proofs.Common.{◌≡◌, ℕ, ◌+◌, ◌-◌, ◌<◌, ◌≤◌, Bool, true, false, not, cond, List, [], ◌∷◌, map, length, Option, Some, None, is_some, option_map, refl, sym, ap, ap₂, subst, ◌∙◌, true≢false, arith}
+use Rattle.std.proofs.Common.{◌≡◌, ℕ, ◌<◌, true, List, [], map, length, Option, Some, None, is_some, option_map, refl, sym, ap, ap₂, subst, ◌∙◌, arith}
 use Rattle.std.specs.Prelude.{Result, Ok, Err, OnOk, OnErr, IfOk, IfSome, IsSomeAnd, MatchResult}
 use Rattle.std.specs.Option.{option_and_then, unwrap_or}
 use Rattle.std.specs.List.{IsDistinct}
 use Rattle.std.specs.Map.{keys_of, lookup, lookup_entry, values_of}
 use Rattle.lru.specs.LruCache.{lru_cache, promoted, put_entries}
 use Rattle.plane_rect.specs.Rectangle.{Rectangle}
-use Rattle.plane_rect.specs.Tile.{Tile}
 use Rattle.chain_owners.specs.Counts.{Counts, Grows}
 use Rattle.chain_owners.specs.Held.{Held, bytes_of, length_of}
-use Rattle.chain_owners.specs.Owners.{Unchanged, times}
+use Rattle.chain_owners.specs.Owners.{times}
 use Rattle.chain_owners.specs.Values.{Named}
 use Rattle.model_states.specs.Cache.{Cached, Pair, after_keep, after_look, by_pair, find_pair, itself, voided}
 use Rattle.node_cache.specs.declared.pair_key.PairKey.{PairKey}
 use Rattle.node_cache.specs.Keys.{entries_left, pair_of, same_key}
 use Rattle.node_cache.specs.NodeLaws.{AreUnchanged, bytes-unchanged, cached-unchanged, known-constant, sizes-unchanged}
-use Rattle.node_cache.specs.NodeNames.{AreTileNames, Entries, GivesUp, IsFoundIn, IsNodeCache, IsTileName, cached_in, entry_bytes, entry_pair, entry_size, pairs_in, sizes_in}
+use Rattle.node_cache.specs.NodeNames.{AreTileNames, Entries, GivesUp, IsFoundIn, cached_in, entry_bytes, entry_pair, entry_size, pairs_in, sizes_in}
 use Rattle.node_cache.specs.Stores.{Finds, Sized, by_sized, cached_at, sized_at}
 use Rattle.node_cache.proofs.Lists.{entry-lookup, find-made, keep-made, look-made, void-made}
-use Rattle.node_cache.proofs.Owning.{gives_up-none, gives_up-reads, length-promoted, looked-up, times-promoted}
+use Rattle.node_cache.proofs.Owning.{gives_up-reads, length-promoted, looked-up, times-promoted}
 
 -- ---- by what a call answers
 

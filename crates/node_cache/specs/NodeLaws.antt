@@ -1,18 +1,18 @@
 -- What holds of each cache whose tiles are in a chain. These laws are here and not among the proofs, since the
 -- cache is declared with them.
-use Rattle.std.specs.Prelude.{◌≡◌, ℕ, ◌+◌, ◌<◌, ◌≤◌, true, List, [], ◌∷◌, map, length, Option, Some, None, IfSome, IsSome, IsSomeAnd, is_some}
+use Rattle.std.specs.Prelude.{◌≡◌, ℕ, ◌<◌, ◌≤◌, true, List, [], ◌∷◌, map, length, Option, Some, None, IfSome, IsSome, IsSomeAnd, is_some}
 use Rattle.std.specs.Option.{option_map, unwrap_or}
 use Rattle.std.specs.List.{IsDistinct, AllByRecursion}
 use Rattle.std.specs.Map.{keys_of, values_of}
 use Rattle.std.proofs.Common.{refl, sym, ap, ap₂, subst, ◌∙◌, false, true≢false, arith}
 use Rattle.chain_owners.specs.Held.{Held, bytes_of, length_of}
-use Rattle.chain_owners.specs.Owners.{IsFramed, Owns, Unchanged, times}
+use Rattle.chain_owners.specs.Owners.{IsFramed, Unchanged, times}
 use Rattle.chain_owners.specs.Values.{Named}
 use Rattle.chain_owners.proofs.Ownership.{times-here}
 use Rattle.model_states.specs.Cache.{Cached, HasDistinctPairs, Pair, itself, same_pair}
 use Rattle.node_cache.specs.declared.pair_key.PairKey.{PairKey}
 use Rattle.node_cache.specs.Keys.{pair_of, same_key}
-use Rattle.node_cache.specs.NodeNames.{AreTileNames, Entries, IsNodeCache, IsTileName, cached_in, entry_bytes, entry_pair, entry_size, pairs_in, sizes_in}
+use Rattle.node_cache.specs.NodeNames.{AreTileNames, Entries, IsNodeCache, IsTileName, cached_in, entry_bytes, pairs_in, sizes_in}
 use Rattle.node_cache.specs.Stores.{AreExposed, AreWithin, IsFramedCondition, Sized, by_sized, sized_of}
 
 -- names that are unchanged
@@ -93,7 +93,7 @@ bytes-sizes (e ∷ es) held exposed are =
     let is = are.named e.1 (here e es) in
     ap₂ {B = List Sized} (λ x xs. x ∷ xs)
     (ap (λ n. let sized : Sized = record { pair = pair_of e.0; length = n } in sized)
-        (one-length (bytes_of held e.1) (length_of held e.1) is.len is.there (is.bytes exposed)))
+    (one-length (bytes_of held e.1) (length_of held e.1) is.len is.there (is.bytes exposed)))
     (bytes-sizes es held exposed (record { named = λ name some. are.named name (later e es name some) }))
 
 lengths-known : (es : Entries) (held : Held) (o : Option (Named (List ℕ))) → held.content ≡ o → AreTileNames held (values_of es)

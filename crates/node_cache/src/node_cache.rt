@@ -4,7 +4,7 @@ ghost use Rattle.std.specs.Prelude.{◌≡◌, ℕ, ◌≤◌, [], ◌∷◌, �
 ghost use Rattle.std.specs.Map.{lookup, remove_entry, values_of};
 ghost use Rattle.tile_cow.specs.Tile.{IsTileLength};
 ghost use Rattle.chain_owners.specs.Counts.{Grows};
-ghost use Rattle.chain_owners.specs.Held.{length_of};
+ghost use Rattle.chain_owners.specs.Held.{Held, length_of};
 ghost use Rattle.chain_owners.specs.Owners.{Owns};
 ghost use Rattle.swap_store.specs.Cause.{HasSwapCause};
 ghost use Rattle.chain_contracts.specs.Tiles.{Reads};
@@ -39,7 +39,8 @@ impl NodeCache {
     pub fn new(alloc: Global, capacity: u32) -> Result<NodeCache, NoMemory>
         requires { 1 ≤ capacity }
         ensures empty { IfOk result (λ cache. cache.names.entries ≡ []) }
-        ensures most { IfOk result (λ cache. cache.names.cap ≡ capacity) }
+        ensures over { IfOk result (λ cache. (held : Held) →
+            IsNodeCache cache.names.entries cache.names.cap cache.capacity held) }
         ensures capacity { IfOk result (λ cache. cache.capacity ≡ capacity) }
     {
         let most = NonZeroUsize::new(capacity as usize).unwrap();
@@ -156,12 +157,12 @@ impl NodeCache {
         let Some((key, _name)) = self.names.peek_lru() else {
             return;
         };
-        let key = *key;
-        if key.is_voided(node, rect) {
-            self.drop_pair(chain, key);
+        let last = *key;
+        if last.is_voided(node, rect) {
+            self.drop_pair(chain, last);
             return;
         }
-        self.names.promote(&key);
+        self.names.promote(&last);
         self.names.len();
     }
 

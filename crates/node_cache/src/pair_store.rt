@@ -45,7 +45,13 @@ pub trait PairStore<H: ChainMeaning> {
     ///
     /// `SwapFault` only where the swap's count of I/O errors rose in this call, `SwapFull` only where
     /// the chain's names can fill the swap, and `NoMemory` if memory runs out. The list is then unchanged.
-    fn look(&mut self, chain: &mut H, node: Name, at: TileAt, len: u32) -> Result<Option<Tile>, SwapRefused>
+    fn look(
+        &mut self,
+        chain: &mut H,
+        node: Name,
+        at: TileAt,
+        len: u32,
+    ) -> Result<Option<Tile>, SwapRefused>
         requires over { is_over self.old (H.held chain.old) }
         requires length { IfSome (find_pair by_sized (sizes self.old (H.held chain.old)) (pair_at node at))
             (λ sized. sized.length ≡ len) }
@@ -58,7 +64,7 @@ pub trait PairStore<H: ChainMeaning> {
             (λ _. sizes self.new (H.held chain.new) ≡ sizes self.old (H.held chain.old)) }
         ensures cached { MatchResult result
             (λ _. cached self.new (H.held chain.new)
-                ≡ option_map (λ list. after_look by_pair list (pair_at node at)) (cached self.old (H.held chain.old)))
+            ≡ option_map (λ list. after_look by_pair list (pair_at node at)) (cached self.old (H.held chain.old)))
             (λ _. cached self.new (H.held chain.new) ≡ cached self.old (H.held chain.old)) }
         ensures capacity { capacity self.new ≡ capacity self.old }
         ensures cause { IfErr result (HasSwapCause (H.counts chain.old) (H.counts chain.new) (H.counts chain.old).names) }
@@ -87,11 +93,11 @@ pub trait PairStore<H: ChainMeaning> {
             (λ _. pairs self.new ≡ pairs self.old) }
         ensures sizes { MatchResult result
             (λ _. sizes self.new (H.held chain.new)
-                ≡ after_keep (capacity self.old) (sizes self.old (H.held chain.old)) (sized_at node at (length tile)))
+            ≡ after_keep (capacity self.old) (sizes self.old (H.held chain.old)) (sized_at node at (length tile)))
             (λ _. sizes self.new (H.held chain.new) ≡ sizes self.old (H.held chain.old)) }
         ensures cached { MatchResult result
             (λ _. cached self.new (H.held chain.new) ≡ option_map
-                (λ list. after_keep (capacity self.old) list (cached_at node at tile)) (cached self.old (H.held chain.old)))
+            (λ list. after_keep (capacity self.old) list (cached_at node at tile)) (cached self.old (H.held chain.old)))
             (λ _. cached self.new (H.held chain.new) ≡ cached self.old (H.held chain.old)) }
         ensures capacity { capacity self.new ≡ capacity self.old }
         ensures cause { IfErr result (HasSwapCause (H.counts chain.old) (H.counts chain.new)
@@ -137,6 +143,7 @@ pub trait PairStore<H: ChainMeaning> {
     /// The list with its bytes depends on nothing of the chain but the bytes of the names that the store
     /// holds, and so does the list with its lengths.
     ghost framed: { (store : Self) → IsFramed (names store) (cached store) };
+
     ghost framed_sizes: { (store : Self) → IsFramed (names store) (sizes store) };
 
     /// The same of what it asks of the chain, beside that it owns these names.

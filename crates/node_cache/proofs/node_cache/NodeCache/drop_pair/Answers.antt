@@ -1,4 +1,4 @@
-use Rattle.std.proofs.Common.{◌≡◌, Some, None, refl, sym, rules}
+use Rattle.std.proofs.Common.{◌≡◌, Some, None, refl, rules}
 use Rattle.std.specs.Map.{lookup, values_of}
 use Rattle.node_cache.specs.Keys.{same_key}
 use Rattle.node_cache.proofs.Lists.{removed-none}

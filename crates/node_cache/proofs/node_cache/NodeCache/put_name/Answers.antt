@@ -1,11 +1,8 @@
-use Rattle.std.proofs.Common.{◌≡◌, ◌∷◌, ◌-◌, ℕ, Some, None, refl, sym, ◌∙◌, arith}
+use Rattle.std.proofs.Common.{◌≡◌, ◌∷◌, ◌-◌, ℕ, Some, None, sym, ◌∙◌, arith}
 use Rattle.std.specs.Prelude.{slice_get}
 use Rattle.std.specs.Map.{values_of}
-use Rattle.chain_owners.specs.Held.{Held}
-use Rattle.lru.specs.LruCache.{LruCache}
 use Rattle.node_cache.specs.declared.pair_key.PairKey.{PairKey}
-use Rattle.node_cache.specs.NodeNames.{GivesUp}
-use Rattle.node_cache.proofs.Owning.{cache-after, cache-left, displaced-is, fallen-tile, gives_up-fallen, gives_up-none_fallen, gives_up-one, one-more-tile, some-length}
+use Rattle.node_cache.proofs.Owning.{cache-after, displaced-is, fallen-tile, gives_up-fallen, gives_up-none_fallen, gives_up-one, one-more-tile, some-length}
 use Rattle.node_cache.proofs.node_cache.NodeCache.put_name.Goals as goal
 
 pub returns-in-Ok-None-clause-given_up : goal.returns-in-Ok-None-clause-given_up

@@ -1,8 +1,6 @@
-use Rattle.std.proofs.Common.{◌≡◌, ◌-◌, length, Some, None, refl, sym, rules}
-use Rattle.std.specs.Prelude.{slice_get}
+use Rattle.std.proofs.Common.{refl, sym, rules}
 use Rattle.std.specs.Map.{values_of}
 use Rattle.node_cache.specs.Keys.{same_key}
-use Rattle.node_cache.specs.NodeNames.{Entries, Entry}
 use Rattle.node_cache.proofs.Lists.{none-last, turned-front, turned-out}
 use Rattle.node_cache.proofs.Owning.{cache-promoted, gives_up-none, gives_up-reads, length-promoted, times-promoted}
 use Rattle.node_cache.proofs.node_cache.NodeCache.turn_last.Goals as goal

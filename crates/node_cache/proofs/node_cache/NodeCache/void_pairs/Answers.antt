@@ -1,4 +1,4 @@
-use Rattle.std.proofs.Common.{◌≡◌, not, refl, ◌∙◌, rules, arith}
+use Rattle.std.proofs.Common.{not, refl, ◌∙◌, arith}
 use Rattle.std.specs.Map.{values_of}
 use Rattle.node_cache.specs.Keys.{is_voided}
 use Rattle.node_cache.specs.NodeNames.{Entry}

@@ -1,9 +1,8 @@
-use Rattle.std.proofs.Common.{◌≡◌, ◌∙◌, ℕ, None, ap, ap₂}
-use Rattle.std.specs.Map.{lookup, values_of}
+use Rattle.std.proofs.Common.{◌∙◌, ℕ, ap}
 use Rattle.lru.specs.LruCache.{LruCache}
 use Rattle.node_cache.specs.declared.pair_key.PairKey.{PairKey}
 use Rattle.node_cache.specs.NodeLaws.{cached-unchanged, sizes-unchanged}
-use Rattle.node_cache.specs.NodeNames.{cached_in, pairs_in, sizes_in}
+use Rattle.node_cache.specs.NodeNames.{cached_in, sizes_in}
 use Rattle.node_cache.proofs.Owning.{keep-grows, keep-names, keep-one, keep-others, new-bytes, new-length, new-over, new-owns, new-respects, new-tile, new-unchanged}
 use Rattle.node_cache.proofs.Views.{keep-cached, keep-pairs, keep-sizes, no-pair}
 use Rattle.node_cache.proofs.node_cache.NodeCachePairStore.keep.Goals as goal

@@ -1,4 +1,4 @@
-use Rattle.std.proofs.Common.{◌≡◌, ℕ, ap, ap₂}
+use Rattle.std.proofs.Common.{ℕ, ap, ap₂}
 use Rattle.std.specs.Map.{lookup, values_of}
 use Rattle.lru.specs.LruCache.{LruCache}
 use Rattle.node_cache.specs.declared.pair_key.PairKey.{PairKey}
