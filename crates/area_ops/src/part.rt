@@ -19,10 +19,10 @@ use patch_abyss::{Abyss, Patch};
 use plane_rect::Rect;
 use std::alloc::Global;
 
-/// Returns a part of what an operation gives of the image that a window shows, of which it makes the
-/// square of `2 * radius + 1` pixels a side around each position. The part is in one tile. The time
-/// grows with the part's pixels, grown by the radius, and with the number of tiles, but not with
-/// the pixels of a square.
+/// Returns a part of what an operation on the squares of `2 * radius + 1` pixels a side around each
+/// position gives of the image that a window shows. The part is in one tile. Takes time in
+/// proportion to the pixels of the part grown by the radius, to the logarithm of the radius and to
+/// the number of tiles, and not to the pixels of a square.
 ///
 /// # Errors
 ///
