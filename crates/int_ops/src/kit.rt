@@ -71,14 +71,12 @@ impl OpKit for IntKit {
     fn apply(
         &self,
         alloc: Global,
-        permit: IntPermit,
+        _permit: IntPermit,
         op: &IntOp,
-        boxes: &[Rect],
+        _boxes: &[Rect],
         windows: &[Window],
         out: Rect,
     ) -> Result<Patch, NoMemory> {
-        let IntPermit { _spent } = permit;
-        let _bounds = boxes;
         match op {
             IntOp::BoxMean { radius, abyss } => {
                 area_part(alloc, AreaKind::BoxMean, *radius, *abyss, &windows[0], out)

@@ -9,3 +9,4 @@ pub mod Averaging
 pub mod Counting
 pub mod Finding
 pub mod Holding
+mod Empty

@@ -1,10 +1,16 @@
 //! Laws by which callers speak of tables that they didn't hand to a call.
 
-ghost use Rattle.std.specs.Prelude.{◌≡◌, ℕ, ◌<◌, ◌++◌, List, is_some};
+ghost use Rattle.std.specs.Prelude.{◌≡◌, ℕ, ◌<◌, ◌++◌, List, [], is_some};
+ghost use Rattle.pixel_formats.specs.declared.format.Format.{Format};
 ghost use Rattle.chain_owners.specs.Held.{Held};
 ghost use Rattle.chain_owners.specs.Owners.{IsFramed, Owns, Respects, Unchanged, times};
 ghost use Rattle.level_tables.specs.LevelTiles.{LevelTiles, image_of, names};
 ghost use Rattle.level_tables.specs.Over.{IsOver};
+
+/// States that a table of no tile asks nothing of a chain.
+pub fn new_tables_ask_nothing()
+    ensures { (format : Format) (held : Held) → IsOver (record { format = format; put = []; levels = [] }) held }
+{}
 
 /// States that a table's image depends on nothing of the chain but the bytes of the names that it holds, and
 /// that what it asks of the chain depends on nothing else but that it owns them.

@@ -10,6 +10,6 @@ mod shares;
 mod table;
 mod tile_bytes;
 
-pub use laws::{other_tables_are_unchanged, tables_are_framed};
+pub use laws::{new_tables_ask_nothing, other_tables_are_unchanged, tables_are_framed};
 pub use level_tile::LevelTile;
 pub use table::LevelTable;
