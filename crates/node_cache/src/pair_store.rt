@@ -141,9 +141,10 @@ pub trait PairStore<H: ChainMeaning> {
         ensures { result ≡ capacity self.now };
 
     /// The list with its bytes depends on nothing of the chain but the bytes of the names that the store
-    /// holds, and so does the list with its lengths.
+    /// holds.
     ghost framed: { (store : Self) → IsFramed (names store) (cached store) };
 
+    /// So does the list with its lengths.
     ghost framed_sizes: { (store : Self) → IsFramed (names store) (sizes store) };
 
     /// The same of what it asks of the chain, beside that it owns these names.
