@@ -9,8 +9,8 @@ ghost use Rattle.model_graphs.specs.Windows.{IsWholeWindow};
 ghost use Rattle.model_operations.specs.Meanings.{int_meanings, same_operation};
 ghost use Rattle.op_contracts.specs.Applying.{HaveRequired, IsInOneTile, bounds_of, result_of_windows, window_bounds, window_formats};
 
+use crate::area_op::AreaOp;
 use crate::purse::{IntPermit, IntPurse};
-use area_ops::{AreaKind, area_part};
 use model_operations::IntOp;
 use no_memory::NoMemory;
 use op_contracts::{OpKit, Window};
@@ -77,17 +77,9 @@ impl OpKit for IntKit {
         windows: &[Window],
         out: Rect,
     ) -> Result<Patch, NoMemory> {
-        match op {
-            IntOp::BoxMean { radius, abyss } => {
-                area_part(alloc, AreaKind::BoxMean, *radius, *abyss, &windows[0], out)
-            }
-            IntOp::Dilate { radius, abyss } => {
-                area_part(alloc, AreaKind::Dilate, *radius, *abyss, &windows[0], out)
-            }
-            IntOp::Erode { radius, abyss } => {
-                area_part(alloc, AreaKind::Erode, *radius, *abyss, &windows[0], out)
-            }
-            _ => point_ops::apply(alloc, op, windows, out),
+        match AreaOp::of(op) {
+            Some(area) => area.apply(alloc, windows, out),
+            None => point_ops::apply(alloc, op, windows, out),
         }
     }
 }

@@ -1,6 +1,7 @@
 //! The kit that carries out the fifteen operations.
 #![tactic(auto)]
 
+mod area_op;
 mod kit;
 mod purse;
 

@@ -67,6 +67,15 @@ pub fn disown<C: TileChain>(rt: &impl Abort, chain: &mut C, name: u64) -> u32
     chain.owners(name)
 }
 
+/// Reads a page, whatever is in it.
+pub fn read<C: TileChain>(chain: &mut C, name: u64) -> Result<(), SwapRefused>
+    requires { HasPages (C.held chain.old) (C.is_valid chain.old) }
+    ensures { HasPages (C.held chain.new) (C.is_valid chain.new) }
+{
+    let _tile = chain.read(name, 4_096)?;
+    Ok(())
+}
+
 /// Checks that a name reads as a page of this byte.
 pub fn check<C: TileChain>(
     rt: &impl Abort,

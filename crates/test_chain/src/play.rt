@@ -3,7 +3,7 @@
 
 ghost use Rattle.test_chain.specs.Pages.{HasPages};
 
-use crate::pages::{add, check, disown, own, page, replace};
+use crate::pages::{add, check, disown, own, read, replace};
 use crate::plain::{PlainName, PlainNames};
 use chain_handlers::{SwapRefused, TileChain};
 use std::alloc::Global;
@@ -42,7 +42,7 @@ fn check_name<C: TileChain>(
     ensures { HasPages (C.held chain.new) (C.is_valid chain.new) }
 {
     assert_eq!(rt; chain.owners(entry.name), entry.owners);
-    let refused = refusals(rt, &chain.read(entry.name, 4_096));
+    let refused = refusals(rt, &read(chain, entry.name));
     check(rt, chain, alloc, entry.name, entry.byte)?;
     Ok(refused)
 }
