@@ -32,8 +32,8 @@ pub trait SourceTiles<H: ChainMeaning> {
     ghost is_over: { Self → Held → Type 0 };
 
     /// Returns the 64 by 64 pixels of a tile of a buffer, zero outside the buffer's box. Whatever it
-    /// answers, the buffers and their images are unchanged, the other owners' names too, and the chain
-    /// has no name more.
+    /// answers, the buffers and their images are unchanged, the other owners' names too, no name has
+    /// other owners than before, and the chain has no name more.
     ///
     /// # Errors
     ///
@@ -49,6 +49,8 @@ pub trait SourceTiles<H: ChainMeaning> {
         ensures images { images self.new (H.held chain.new) ≡ images self.old (H.held chain.old) }
         ensures over { is_over self.new (H.held chain.new) }
         ensures others { Respects (H.held chain.old) (H.held chain.new) (names self.old) (names self.new) }
+        ensures names { names self.new ≡ names self.old }
+        ensures owners { (H.held chain.new).owners ≡ (H.held chain.old).owners }
         ensures counts { Grows 0 (H.counts chain.old) (H.counts chain.new) }
         ensures valid { H.is_valid chain.old → H.is_valid chain.new }
         ensures loans { H.loans chain.new ≡ H.loans chain.old };

@@ -1,6 +1,6 @@
 //! The files of the current folder as a shelf.
 
-ghost use Rattle.std.specs.Prelude.{◌≡◌, ◌≤◌, ◌⊎◌, None, IfOk, IsTrue, vec_len};
+ghost use Rattle.std.specs.Prelude.{◌≡◌, ◌≤◌, ◌⊎◌, None, IfOk, IsTrue, length, vec_len};
 ghost use Rattle.outside_io.specs.Faults.{faults_after};
 ghost use Rattle.outside_io.specs.FileName.{is_file_name};
 ghost use Rattle.outside_io.specs.Shelf.{TakesAtMost, WriteLeaves, has_failed};
@@ -12,6 +12,9 @@ use std::fs::{Files, OpenFile};
 use std::io::{ErrorKind, Read};
 use std::marker::Model;
 use std::{fs, io};
+
+/// How often a read is made again that a signal interrupted.
+const MAX_INTERRUPTIONS: u32 = 1000;
 
 /// The files of the current folder. It doesn't expose what they hold.
 #[derive(Drop)]
@@ -125,25 +128,36 @@ fn read_prefix<F: Read + OpenFile + Drop>(
 }
 
 /// Reads a file into the first of `bytes`, to the file's end or until `most` bytes are read, and
-/// returns how many were. `bytes` grows where the file is longer than it.
+/// returns how many were. `bytes` grows where the file is longer than it. Each turn but the last takes
+/// at least one byte.
 fn fill<F: Read>(file: &mut F, bytes: &mut Vec<u8>, most: usize) -> io::Result<usize>
     requires { vec_len bytes.old ≤ most }
     ensures filled { IfOk result (λ filled. filled ≤ vec_len bytes.new) }
     ensures most { vec_len bytes.new ≤ most }
 {
     let mut filled = 0;
-    for _ in 0..u64::MAX {
+    while filled < most {
         if filled >= bytes.len() {
-            if filled >= most {
-                return Ok(filled);
-            }
             bytes.resize(filled.saturating_mul(2).clamp(1, most), 0)?;
         }
-        match file.read(&mut bytes[filled..]) {
-            Ok(0) => return Ok(filled),
-            Ok(count) => filled += count,
+        let count = read_some(file, &mut bytes[filled..])?;
+        if count == 0 {
+            return Ok(filled);
+        }
+        filled += count;
+    }
+    Ok(filled)
+}
+
+/// Reads once, and again where a signal interrupted it, at most `MAX_INTERRUPTIONS` times.
+fn read_some<F: Read>(file: &mut F, into: &mut [u8]) -> io::Result<usize>
+    ensures read { IfOk result (λ count. count ≤ length into.old) }
+    ensures length { length into.new ≡ length into.old }
+{
+    for _ in 0..MAX_INTERRUPTIONS {
+        match file.read(into) {
             Err(error) if error.kind() == ErrorKind::Interrupted => {}
-            Err(error) => return Err(error),
+            answer => return answer,
         }
     }
     Err(io::Error::from(ErrorKind::Interrupted))

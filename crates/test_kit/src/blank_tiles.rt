@@ -48,6 +48,7 @@ impl<H: ChainMeaning> SourceTiles<H> for BlankTiles {
         ensures cause { IfErr result (HasSwapCause (H.counts chain.old) (H.counts chain.new) (H.counts chain.old).names) }
         ensures unchanged { self.new ≡ self.old }
         ensures others { Respects (H.held chain.old) (H.held chain.new) [] [] }
+        ensures owners { (H.held chain.new).owners ≡ (H.held chain.old).owners }
         ensures counts { Grows 0 (H.counts chain.old) (H.counts chain.new) }
         ensures valid { H.is_valid chain.old → H.is_valid chain.new }
         ensures loans { H.loans chain.new ≡ H.loans chain.old }
