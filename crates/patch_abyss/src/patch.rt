@@ -272,7 +272,7 @@ impl Patch {
     }
 
     /// Returns the raw bytes, without a copy.
-    fn into_raw(self) -> Vec<u8>
+    pub fn into_raw(self) -> Vec<u8>
         ensures value { result.items ≡ raw self self.box }
         ensures count { length result.items ≡ byte_count self.box self.format }
     {
