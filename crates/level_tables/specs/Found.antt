@@ -1,9 +1,9 @@
 -- Tiles of levels, and the four tiles below each.
-use Rattle.std.specs.Prelude.{◌≡◌, ◌≢◌, ℕ, ◌+◌, ◌-◌, ◌*◌, ◌<◌, ◌≤◌, ◌^◌, Contains, IfSome, List, length, Option, None, Some, ◌==◌, if◌then◌else◌}
+use Rattle.std.specs.Prelude.{◌≡◌, ◌≢◌, ℕ, ◌+◌, ◌-◌, ◌*◌, ◌<◌, ◌≤◌, ◌^◌, Contains, IfSome, IsSome, is_some, List, length, Option, None, Some, ◌==◌, if◌then◌else◌}
 use Rattle.plane_rect.specs.Rectangle.{Rectangle}
 use Rattle.std.specs.Map.{lookup}
 use Rattle.chain_owners.specs.Held.{Held}
-use Rattle.level_tables.specs.LevelTiles.{LevelTiles, image_of, positions, same_level_tile}
+use Rattle.level_tables.specs.LevelTiles.{LevelTiles, bytes_in, image_of, positions, same_level_tile}
 use Rattle.plane_rect.specs.Tile.{Tile, same_tile, tile_side, tile_square}
 use Rattle.pixel_formats.specs.declared.format.Format.{Format}
 use Rattle.model_images.specs.Image.{Image}
@@ -32,6 +32,12 @@ name_in tiles z at =
 abbrev pub IsHeldTile : LevelTiles → Held → ℕ → Tile → Option (List ℕ) → Type 0
 IsHeldTile tiles held z at None = name_in tiles z at ≡ None
 IsHeldTile tiles held z at (Some bytes) = IsFoundTile (image_of tiles held) (positions tiles) tiles.format z at bytes
+
+-- The tile that was put at a position, or none where none was: with the bytes of its name, where these are exposed.
+pub record IsPutTile (tiles : LevelTiles) (held : Held) (at : Tile) (found : Option (List ℕ)) : Type 0 where
+  pub there : is_some found ≡ is_some (lookup (same_tile at) tiles.put)
+  pub length : IfSome found (λ bytes. length bytes ≡ tile_length tiles.format)
+  pub exact : IsSome held.content → found ≡ bytes_in held tiles.put at
 
 -- the tiles of levels above the first all begin in the half of the plane around the origin
 abbrev pub half_origin : ℕ

@@ -4,6 +4,7 @@
 mod four_tiles;
 mod laws;
 mod level_tile;
+mod put_tiles;
 mod puts;
 mod reads;
 mod shares;

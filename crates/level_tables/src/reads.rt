@@ -59,7 +59,7 @@ impl LevelTable {
     }
 
     /// Returns how many bytes a tile has.
-    fn tile_len(&self) -> u32
+    pub(crate) fn tile_len(&self) -> u32
         ensures value { result ≡ tile_length self.now.tiles.format }
         ensures size { IsTileLength result }
     {

@@ -23,7 +23,7 @@ use Rattle.model_operations.specs.Values.{value_at}
 use Rattle.model_operations.specs.declared.operation.IntOp.{IntOp}
 use Rattle.model_operations.specs.declared.operation.IntOp.TheVariants.{Color, Checker, Convert, Invert, Threshold, Gain, Translate, Crop, Flip, BoxMean, Dilate, Erode, Add, Over, Mask}
 use Rattle.op_contracts.specs.Applying.{result_of_windows, window_bounds, window_formats, window_images}
-use Rattle.point_ops.specs.Generated.{IsSampleOf}
+use Rattle.solid_patches.specs.Samples.{IsSampleOf}
 
 -- ---- the formats of results
 

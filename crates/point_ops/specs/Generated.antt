@@ -1,5 +1,5 @@
 -- Images that are generated without an input.
-use Rattle.std.specs.Prelude.{◌≡◌, ℕ, ◌≤◌, ◌%◌, ◌==◌, if◌then◌else◌, List, length}
+use Rattle.std.specs.Prelude.{◌≡◌, ℕ, ◌%◌, ◌==◌, if◌then◌else◌, List, length}
 use Rattle.plane_rect.specs.Rectangle.{Rectangle}
 use Rattle.pixel_formats.specs.Format.{max_sample}
 use Rattle.pixel_formats.specs.Recolor.{is_alpha}
@@ -8,10 +8,6 @@ use Rattle.pixel_formats.specs.declared.format.Format.{Format}
 use Rattle.model_images.specs.FromRaw.{byte_count, image_from_raw}
 use Rattle.model_images.specs.Image.{image_from_fn}
 use Rattle.model_operations.specs.Values.{checker_pixel, square_number}
-
--- a pixel of the format may have the sample
-abbrev pub IsSampleOf : Format → ℕ → Type 0
-IsSampleOf format sample = sample ≤ max_sample format
 
 -- the pixel of one value in its colors, and of full alpha
 abbrev pub opaque_pixel : Format → ℕ → Pixel

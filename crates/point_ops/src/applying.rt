@@ -11,7 +11,6 @@ ghost use Rattle.point_ops.specs.PointOps.{IsPointOp};
 
 use crate::change::{Change, changed_part};
 use crate::checker::checker_part;
-use crate::color::color_part;
 use crate::combine::{Combination, combined_part};
 use crate::flip::flipped_part;
 use crate::moves::translated_part;
@@ -20,6 +19,7 @@ use no_memory::NoMemory;
 use op_contracts::Window;
 use patch_abyss::Patch;
 use plane_rect::Rect;
+use solid_patches::solid_patch;
 use std::alloc::Global;
 
 /// Returns a part of the result that an operation gives of the images that windows show. The part is
@@ -44,7 +44,7 @@ pub fn apply(alloc: Global, op: &IntOp, windows: &[Window], out: Rect) -> Result
             format,
             samples,
             ..
-        } => color_part(alloc, *format, samples.as_slice(), out),
+        } => solid_patch(alloc, *format, samples.as_slice(), out),
         IntOp::Checker {
             format,
             size,

@@ -7,13 +7,14 @@ ghost use Rattle.pixel_formats.specs.Format.{channels, pixel_bytes};
 ghost use Rattle.pixel_formats.specs.Row.{pixel_at};
 ghost use Rattle.model_images.specs.Image.{image_from_fn};
 ghost use Rattle.model_operations.specs.Values.{checker_pixel, square_number};
-ghost use Rattle.point_ops.specs.Generated.{IsCheckerboard, IsSampleOf, by_square, opaque_pixel};
+ghost use Rattle.point_ops.specs.Generated.{IsCheckerboard, by_square, opaque_pixel};
+ghost use Rattle.solid_patches.specs.Samples.{IsSampleOf};
 
-use crate::samples::raw_pixel;
 use no_memory::NoMemory;
 use patch_abyss::Patch;
 use pixel_formats::Format;
 use plane_rect::{PLANE_ORIGIN, Rect};
+use solid_patches::raw_pixel;
 use std::alloc::Global;
 use std::ops::Range;
 

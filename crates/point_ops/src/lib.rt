@@ -4,12 +4,10 @@
 mod applying;
 mod change;
 mod checker;
-mod color;
 mod combine;
 mod flip;
 mod moves;
 mod part_bytes;
 mod patches;
-mod samples;
 
 pub use applying::{apply, is_point_op};

@@ -14,8 +14,8 @@ prove-unreachable-requires c =
     let limits = InLimits-in_tile c.args.out c.requires.tile.0 c.area.ensures.rectangle c.requires.tile.1 in
     omega (arith, limits.2, c.area.ensures.value, c.if-prove.true)
 
-pub color_part-requires-clause-limits : goal.color_part-requires-clause-limits
-color_part-requires-clause-limits c = InLimits-in_tile c.args.out c.requires.tile.0 c.area.ensures.rectangle c.requires.tile.1
+pub solid_patch-requires-clause-limits : goal.solid_patch-requires-clause-limits
+solid_patch-requires-clause-limits c = InLimits-in_tile c.args.out c.requires.tile.0 c.area.ensures.rectangle c.requires.tile.1
 
 pub checker_part-requires-clause-limits : goal.checker_part-requires-clause-limits
 checker_part-requires-clause-limits c = InLimits-in_tile c.args.out c.requires.tile.0 c.area.ensures.rectangle c.requires.tile.1
@@ -50,8 +50,8 @@ combined_part-requires-in-Over-clause-limits c = InLimits-in_tile c.args.out c.r
 pub combined_part-requires-in-Mask-clause-limits : goal.combined_part-requires-in-Mask-clause-limits
 combined_part-requires-in-Mask-clause-limits c = InLimits-in_tile c.args.out c.requires.tile.0 c.area.ensures.rectangle c.requires.tile.1
 
-pub color_part-requires-clause-each : goal.color_part-requires-clause-each
-color_part-requires-clause-each c =
+pub solid_patch-requires-clause-each : goal.solid_patch-requires-clause-each
+solid_patch-requires-clause-each c =
     let op = Color c.in-Color.format c.in-Color.rect c.in-Color.samples in
     let are : c.args.windows.now ≡ [] = none-of c.args.windows.now (c.requires.inputs ∙ ap input_count c.in-Color.is) in
     rw c.as_slice.ensures
@@ -107,7 +107,7 @@ pub returns-in-Color : goal.returns-in-Color
 returns-in-Color c =
     let op = Color c.in-Color.format c.in-Color.rect c.in-Color.samples in
     let are : c.args.windows.now ≡ [] = none-of c.args.windows.now (c.requires.inputs ∙ ap input_count c.in-Color.is) in
-    rw (part-of c.args.op.now op c.args.windows.now [] c.args.out c.in-Color.is are c.requires.format c.requires.part) at (rw c.as_slice.ensures at c.color_part.ensures)
+    rw (part-of c.args.op.now op c.args.windows.now [] c.args.out c.in-Color.is are c.requires.format c.requires.part) at (rw c.as_slice.ensures at c.solid_patch.ensures)
 
 pub returns-in-Checker : goal.returns-in-Checker
 returns-in-Checker c =

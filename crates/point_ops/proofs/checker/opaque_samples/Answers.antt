@@ -2,7 +2,8 @@ use Rattle.std.proofs.Common.{◌≡◌, List, ℕ, ◌∷◌, [], ◌++◌, All
 use Rattle.std.specs.List.{range_with_len}
 use Rattle.std.proofs.lemmas.List.Elements.{All-push}
 use Rattle.std.proofs.lemmas.List.FromFn.{map-range_with_len_more}
-use Rattle.point_ops.specs.Generated.{IsSampleOf, opaque_pixel}
+use Rattle.point_ops.specs.Generated.{opaque_pixel}
+use Rattle.solid_patches.specs.Samples.{IsSampleOf}
 use Rattle.point_ops.proofs.checker.opaque_samples.Goals as goal
 
 pub loop-channel-preserved : goal.loop-channel-preserved

@@ -4,14 +4,18 @@ ghost use Rattle.std.specs.Prelude.{◌≡◌, ◌++◌, All, IfOk};
 ghost use Rattle.std.specs.List.{flat_map};
 ghost use Rattle.pixel_formats.specs.Format.{depth};
 ghost use Rattle.model_images.specs.Raw.{sample_bytes};
-ghost use Rattle.point_ops.specs.Generated.{IsSampleOf};
+ghost use Rattle.solid_patches.specs.Samples.{IsSampleOf};
 
 use no_memory::NoMemory;
 use pixel_formats::Format;
 use std::alloc::Global;
 
-/// Returns the raw bytes of a pixel of these samples.
-pub(crate) fn raw_pixel(alloc: Global, format: Format, samples: &[u32]) -> Result<Vec<u8>, NoMemory>
+/// Returns the raw bytes of a pixel of these samples, in their order.
+///
+/// # Errors
+///
+/// `NoMemory` if memory runs out.
+pub fn raw_pixel(alloc: Global, format: Format, samples: &[u32]) -> Result<Vec<u8>, NoMemory>
     requires { All (IsSampleOf format) samples.now }
     ensures { IfOk result (λ bytes. bytes.items ≡ flat_map (sample_bytes (depth format)) samples.now) }
 {

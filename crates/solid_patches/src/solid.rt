@@ -1,10 +1,10 @@
-//! Images of one pixel everywhere.
+//! Patches of one pixel everywhere.
 
 ghost use Rattle.std.specs.Prelude.{◌≡◌, All, IfOk, length, slice_index};
 ghost use Rattle.plane_rect.specs.Rectangle.{InLimits};
 ghost use Rattle.pixel_formats.specs.Format.{channels};
 ghost use Rattle.model_images.specs.Image.{image_from_fn};
-ghost use Rattle.point_ops.specs.Generated.{IsSampleOf};
+ghost use Rattle.solid_patches.specs.Samples.{IsSampleOf};
 
 use crate::samples::raw_pixel;
 use no_memory::NoMemory;
@@ -19,7 +19,7 @@ use std::alloc::Global;
 /// # Errors
 ///
 /// `NoMemory` if memory runs out.
-pub(crate) fn color_part(
+pub fn solid_patch(
     alloc: Global,
     format: Format,
     samples: &[u32],

@@ -4,8 +4,8 @@ use Rattle.pixel_formats.specs.declared.abyss.Abyss.TheVariants.{Clamp}
 use Rattle.model_images.specs.Abyss.{abyss_at}
 use Rattle.model_images.specs.FromRaw.{image_from_raw}
 use Rattle.model_images.specs.Image.{Image, image_from_fn}
-use Rattle.point_ops.proofs.Encoded.{unit, unit-count, unit-everywhere}
-use Rattle.point_ops.proofs.color.color_part.Goals as goal
+use Rattle.solid_patches.proofs.Encoded.{unit, unit-count, unit-everywhere}
+use Rattle.solid_patches.proofs.solid.solid_patch.Goals as goal
 
 pub from_vec-one-requires-clause-count : goal.from_vec-one-requires-clause-count
 from_vec-one-requires-clause-count c =
