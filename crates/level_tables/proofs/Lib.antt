@@ -10,3 +10,4 @@ pub mod Counting
 pub mod Finding
 pub mod Holding
 mod Empty
+pub mod SwitchingAll
