@@ -1,5 +1,5 @@
 -- Names that become tiles of a table, one after another.
-use Rattle.std.proofs.Common.{◌≡◌, ℕ, ◌+◌, ◌<◌, List, [], ◌∷◌, ◌++◌, drop, length, slice_index_or, Option, Some, Contains, cond, inl, inr, refl, sym, ap, subst, ◌∙◌, arith}
+use Rattle.std.proofs.Common.{◌≡◌, ℕ, ◌+◌, ◌<◌, ◌≤◌, List, [], ◌∷◌, ◌++◌, drop, length, slice_index_or, Option, Some, Contains, cond, inl, inr, refl, sym, ap, subst, ◌∙◌, arith}
 use Rattle.std.specs.Prelude.{IsSome}
 use Rattle.std.specs.Map.{keys_of, values_of}
 use Rattle.std.proofs.lemmas.Bool.{cases_eq}
@@ -127,8 +127,8 @@ module _ (all items : List (Tile × ℕ)) (same : items ≡ all) (i : ℕ) where
   pub next-left : (e : Tile × ℕ) → i < length items → e ≡ slice_index_or items i e → drop i all ≡ e ∷ drop (i + 1) all
   next-left e less is = rw (← same) (drop_more items i e less ∙ ap (λ (first : Tile × ℕ). first ∷ drop (i + 1) items) (sym is))
 
-  pub none-left : ¬ (i < length items) → drop i all ≡ []
-  none-left end = rw (← same) (drop_all i items (omega (arith, end)))
+  pub none-left : length items ≤ i → drop i all ≡ []
+  none-left end = rw (← same) (drop_all i items end)
 
 pub record Switching (all left : List (Tile × ℕ)) (old now : State) : Type 0 where
   pub format : now.tiles.format ≡ old.tiles.format

@@ -5,14 +5,13 @@ ghost use Rattle.std.specs.Map.{keys_of, values_of};
 ghost use Rattle.chain_owners.specs.Counts.{Grows};
 ghost use Rattle.chain_owners.specs.Owners.{Owns, Respects};
 ghost use Rattle.plane_rect.specs.Tile.{IsWhole};
-ghost use Rattle.model_images.specs.Level.{tile_above as above_of};
 ghost use Rattle.swap_store.specs.Cause.{HasSwapCause};
 ghost use Rattle.level_tables.specs.LevelTiles.{image_of, image_with, names, position_with, positions, positions_with};
 ghost use Rattle.level_tables.specs.NewTiles.{AreNewTiles, tiles_in};
 ghost use Rattle.level_tables.specs.Over.{IsOver, IsTileName, max_level, tile_length};
 ghost use Rattle.level_tables.specs.Steps.{Switches, VoidsAbove, VoidsOne, state};
 
-use crate::four_tiles::HALF_ORIGIN;
+use crate::four_tiles::tile_above;
 use crate::level_tile::LevelTile;
 use crate::new_tiles::NewTiles;
 use crate::table::LevelTable;
@@ -146,11 +145,4 @@ impl LevelTable {
             self.switch_one(chain, entry.0, entry.1);
         }
     }
-}
-
-/// Returns the tile of the next level for which a tile is averaged.
-fn tile_above(at: TileAt) -> TileAt
-    ensures { result ≡ above_of at }
-{
-    TileAt::from_indices(at.column() / 2 + HALF_ORIGIN, at.row() / 2 + HALF_ORIGIN)
 }
