@@ -1,4 +1,3 @@
-use Rattle.std.proofs.Common.{◌≡◌}
 use Rattle.level_tables.proofs.SwitchingAll.{added-others, added-over, added-tiles}
 use Rattle.level_tables.proofs.new_tiles.NewTiles.add.Goals as goal
 

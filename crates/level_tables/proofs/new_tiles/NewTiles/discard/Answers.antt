@@ -1,7 +1,6 @@
-use Rattle.std.proofs.Common.{◌+◌, ℕ, List, drop, length, slice_index_or, refl, ap, ◌∙◌, arith}
+use Rattle.std.proofs.Common.{◌+◌, ℕ, List, drop, refl, ap, ◌∙◌, arith}
 use Rattle.std.specs.Map.{values_of}
 use Rattle.std.specs.Option.{is_some}
-use Rattle.std.proofs.lemmas.List.{drop_all}
 use Rattle.plane_rect.specs.Tile.{Tile}
 use Rattle.level_tables.proofs.Keeping.{continues-both, continues-same}
 use Rattle.level_tables.proofs.Owning.{disowning-end, disowning-first, disowning-next, disowning-there}

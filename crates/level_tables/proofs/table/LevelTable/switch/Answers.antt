@@ -1,7 +1,5 @@
-use Rattle.std.proofs.Common.{◌≡◌, ◌+◌, ◌<◌, ◌∷◌, ℕ, List, drop, length, slice_index_or, refl, sym, ap, ◌∙◌, arith}
-use Rattle.std.proofs.lemmas.List.{drop_all}
-use Rattle.plane_rect.specs.Tile.{Tile}
-use Rattle.level_tables.specs.Steps.{State, state}
+use Rattle.std.proofs.Common.{◌+◌, drop, length, refl, ap, ◌∙◌, arith}
+use Rattle.level_tables.specs.Steps.{state}
 use Rattle.level_tables.proofs.SwitchingAll.{next-left, next-named, next-owned, next-whole, none-left, switched-all, switched-others, switched-positions, switching-first, switching-next}
 use Rattle.level_tables.proofs.table.LevelTable.switch.Goals as goal
 
