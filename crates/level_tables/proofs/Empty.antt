@@ -1,13 +1,11 @@
 -- Tables of no tile.
-use Rattle.std.proofs.Common.{ℕ, ◌<◌, List, [], Contains, inr, arith}
+use Rattle.std.proofs.Common.{[], Contains, inr, arith}
 use Rattle.std.specs.List.{IsDistinct}
-use Rattle.plane_rect.specs.Tile.{Tile}
 use Rattle.pixel_formats.specs.declared.format.Format.{Format}
 use Rattle.chain_owners.specs.Held.{Held}
-use Rattle.level_tables.specs.LevelTiles.{LevelTiles}
 use Rattle.level_tables.specs.Over.{IsOver}
 
-none_in : {X : Type 0} (x : X) → Contains [] x → ⊥
+pub none_in : {X : Type 0} (x : X) → Contains [] x → ⊥
 none_in x among = grind arith
 
 pub over-none : (format : Format) (held : Held) → IsOver (record { format = format; put = []; levels = [] }) held

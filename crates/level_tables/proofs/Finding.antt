@@ -24,9 +24,10 @@ use Rattle.model_images.proofs.PutTiles.{hull-is, put-read}
 use Rattle.model_images.proofs.RawLaws.{pixels-zero, raw-samples}
 use Rattle.level_tables.specs.LevelTiles.{LevelTiles, bytes_in, hull_of, image_of, positions, same_level_tile}
 use Rattle.level_tables.specs.Over.{AreLevelTiles, IsOver, IsTileOfLevel, tile_length}
-use Rattle.level_tables.specs.Found.{AreFound, HasTileLength, HaveTileLength, IsFound, IsFoundTile, IsInHalf, half_origin, image_of_four, name_in, square_below, tile_below, with_found}
+use Rattle.level_tables.specs.Found.{AreFound, HasNoneBelow, HasTileLength, HaveTileLength, IsFound, IsFoundTile, IsInHalf, half_origin, image_of_four, name_in, square_below, tile_below, with_found}
 use Rattle.level_tables.specs.declared.four_tiles.FourTiles.{FourTiles}
 use Rattle.level_tables.proofs.Averaging.{AreRight, IsRight, format-of, four-halved, one-below}
+use Rattle.level_tables.proofs.Empty.{none_in}
 use Rattle.level_tables.proofs.Entries.{Contains-key, Contains-lookup, same_level_tile-true}
 use Rattle.level_tables.proofs.Frames.{level-named, put-named}
 
@@ -288,4 +289,27 @@ none-below tiles z at are none out = elim (cases_eq z 0) [
   | inr above ↦
       let some : 1 ≤ z = omega (arith, above) in
       none-outside tiles at z are some (λ half. out (some, half))
+]
+
+-- ---- tiles that were put, looked at one after another
+
+abbrev pub Passed : List Tile → List Tile → ℕ → Tile → Type 0
+Passed put left z at = (tile : Tile) → Contains put tile → Contains left tile ⊎ (tile_at_level tile z ≢ at)
+
+pub passed-first : (put left : List Tile) (z : ℕ) (at : Tile) → left ≡ put → Passed put left z at
+passed-first put left z at is = λ tile there. inl (let P : List Tile → Type 0 = λ tiles. Contains tiles tile in subst P (sym is) there)
+
+pub passed-next : (put left rest : List Tile) (first : Tile) (z : ℕ) (at : Tile) → left ≡ first ∷ rest → tile_at_level first z ≢ at → Passed put left z at → Passed put rest z at
+passed-next put left rest first z at is ne before = λ tile there. elim (before tile there) [
+  | inr other ↦ inr other
+  | inl more ↦ elim (Contains-cases first rest tile (let P : List Tile → Type 0 = λ tiles. Contains tiles tile in subst P is more)) [
+    | inl here ↦ inr (λ same. ne (ap (λ (t : Tile). tile_at_level t z) here ∙ same))
+    | inr later ↦ inl later
+  ]
+]
+
+pub all-passed : (put left : List Tile) (z : ℕ) (at : Tile) → left ≡ [] → Passed put left z at → HasNoneBelow put z at
+all-passed put left z at is passed tile there = elim (passed tile there) [
+  | inr other ↦ other
+  | inl more ↦ absurd (none_in tile (let P : List Tile → Type 0 = λ tiles. Contains tiles tile in subst P is more))
 ]

@@ -11,3 +11,4 @@ pub mod Finding
 pub mod Holding
 mod Empty
 pub mod PutTiles
+pub mod SwitchingAll

@@ -18,9 +18,13 @@ pub record IsFoundTile (image : Option Image) (put : List Tile) (format : Format
   pub exact : IsTileOfLevel image z at bytes
   pub below : (tile : Tile) × Contains put tile × (tile_at_level tile z ≡ at)
 
+-- no tile that was put is averaged for this tile of a level
+abbrev pub HasNoneBelow : List Tile → ℕ → Tile → Type 0
+HasNoneBelow put z at = (tile : Tile) → Contains put tile → tile_at_level tile z ≢ at
+
 -- A tile of a level, or none where none that was put is averaged for it.
 abbrev pub IsFound : Option Image → List Tile → Format → ℕ → Tile → Option (List ℕ) → Type 0
-IsFound image put format z at None = (tile : Tile) → Contains put tile → tile_at_level tile z ≢ at
+IsFound image put format z at None = HasNoneBelow put z at
 IsFound image put format z at (Some bytes) = IsFoundTile image put format z at bytes
 
 -- the name of a tile of a level, where the table holds it

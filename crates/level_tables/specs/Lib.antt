@@ -2,3 +2,4 @@ pub mod LevelTiles
 pub mod Over
 pub mod Steps
 pub mod Found
+pub mod NewTiles

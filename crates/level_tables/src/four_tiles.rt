@@ -2,7 +2,7 @@
 
 ghost use Rattle.std.specs.Prelude.{◌≡◌, ◌≤◌, ◌*◌, ◌↔◌, IfOk, IsTrue, None};
 ghost use Rattle.pixel_formats.specs.Format.{pixel_bytes};
-ghost use Rattle.model_images.specs.Level.{halved_image};
+ghost use Rattle.model_images.specs.Level.{halved_image, tile_above as above_of, tile_at_level};
 ghost use Rattle.model_images.specs.Raw.{tile_bytes};
 ghost use Rattle.level_tables.specs.Found.{HasTileLength, HaveTileLength, IsInHalf, image_of_four, square_below, tile_below, with_found};
 
@@ -81,6 +81,24 @@ pub(crate) fn is_in_half(at: TileAt) -> bool
         && at.column() < 3 * HALF_ORIGIN
         && HALF_ORIGIN <= at.row()
         && at.row() < 3 * HALF_ORIGIN
+}
+
+/// Returns the tile of the next level for which a tile is averaged.
+pub(crate) fn tile_above(at: TileAt) -> TileAt
+    ensures { result ≡ above_of at }
+{
+    TileAt::from_indices(at.column() / 2 + HALF_ORIGIN, at.row() / 2 + HALF_ORIGIN)
+}
+
+/// Returns the tile of a level for which a tile of level 0 is averaged.
+pub(crate) fn at_level(at: TileAt, level: u32) -> TileAt
+    ensures { result ≡ tile_at_level at level }
+{
+    let mut above = at;
+    for _step in 0..level {
+        above = tile_above(above);
+    }
+    above
 }
 
 /// Returns one of the four tiles that are averaged for a tile of the next level.

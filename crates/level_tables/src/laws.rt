@@ -1,10 +1,13 @@
 //! Laws by which callers speak of tables that they didn't hand to a call.
 
-ghost use Rattle.std.specs.Prelude.{◌≡◌, ℕ, ◌<◌, ◌++◌, List, [], is_some};
+ghost use Rattle.std.specs.Prelude.{◌≡◌, ℕ, ◌<◌, ◌++◌, List, [], Option, is_some};
+ghost use Rattle.std.specs.Map.{values_of};
+ghost use Rattle.plane_rect.specs.Tile.{Tile};
 ghost use Rattle.pixel_formats.specs.declared.format.Format.{Format};
 ghost use Rattle.chain_owners.specs.Held.{Held};
 ghost use Rattle.chain_owners.specs.Owners.{IsFramed, Owns, Respects, Unchanged, times};
-ghost use Rattle.level_tables.specs.LevelTiles.{LevelTiles, image_of, names};
+ghost use Rattle.level_tables.specs.LevelTiles.{LevelTiles, image_of, image_with, names};
+ghost use Rattle.level_tables.specs.NewTiles.{AreNewTiles, tiles_in};
 ghost use Rattle.level_tables.specs.Over.{IsOver};
 
 /// States that a table of no tile asks nothing of a chain.
@@ -22,10 +25,28 @@ pub fn tables_are_framed()
 {}
 
 /// States that a call on the chain that respects its other owners leaves a table as it was that it wasn't
-/// handed: its image is unchanged, and what it asks of the chain holds again.
+/// handed: its image is unchanged, also after tiles are put into it, and what it asks of the chain holds again.
 pub fn other_tables_are_unchanged()
     ensures image { (tiles : LevelTiles) (old new : Held) (before after : List ℕ) →
         Respects old new before after → Owns old (before ++ names tiles) → image_of tiles new ≡ image_of tiles old }
+    ensures image_with { (tiles : LevelTiles) (entries : List (Tile × Option (List ℕ))) (old new : Held) (before after : List ℕ) →
+        Respects old new before after → Owns old (before ++ names tiles) →
+        image_with tiles new entries ≡ image_with tiles old entries }
     ensures over { (tiles : LevelTiles) (old new : Held) (before after : List ℕ) →
         Respects old new before after → Owns old (before ++ names tiles) → IsOver tiles old → IsOver tiles new }
+{}
+
+/// States that a list of no new tile asks nothing of a chain.
+pub fn no_new_tiles_ask_nothing()
+    ensures { (format : Format) (held : Held) → AreNewTiles format [] held }
+{}
+
+/// States that a call on the chain that respects its other owners leaves new tiles as they were that it
+/// wasn't handed: their bytes are unchanged, and what they ask of the chain holds again.
+pub fn other_new_tiles_are_unchanged()
+    ensures tiles { (entries : List (Tile × ℕ)) (old new : Held) (before after : List ℕ) →
+        Respects old new before after → Owns old (before ++ values_of entries) → tiles_in new entries ≡ tiles_in old entries }
+    ensures over { (format : Format) (entries : List (Tile × ℕ)) (old new : Held) (before after : List ℕ) →
+        Respects old new before after → Owns old (before ++ values_of entries) →
+        AreNewTiles format entries old → AreNewTiles format entries new }
 {}

@@ -4,6 +4,7 @@
 mod four_tiles;
 mod laws;
 mod level_tile;
+mod new_tiles;
 mod put_tiles;
 mod puts;
 mod reads;
@@ -11,6 +12,10 @@ mod shares;
 mod table;
 mod tile_bytes;
 
-pub use laws::{new_tables_ask_nothing, other_tables_are_unchanged, tables_are_framed};
+pub use laws::{
+    new_tables_ask_nothing, no_new_tiles_ask_nothing, other_new_tiles_are_unchanged,
+    other_tables_are_unchanged, tables_are_framed,
+};
 pub use level_tile::LevelTile;
+pub use new_tiles::NewTiles;
 pub use table::LevelTable;

@@ -1,17 +1,19 @@
 //! Tiles put into a table.
 
-ghost use Rattle.std.specs.Prelude.{◌≡◌, ◌≢◌, ℕ, ◌+◌, ◌≤◌, ◌∷◌, [], Contains, IfErr, OnErr, OnOk, Some, length};
+ghost use Rattle.std.specs.Prelude.{◌≡◌, ℕ, ◌+◌, ◌≤◌, ◌∷◌, ◌++◌, [], IfErr, OnErr, OnOk, Some, length};
+ghost use Rattle.std.specs.Map.{keys_of, values_of};
 ghost use Rattle.chain_owners.specs.Counts.{Grows};
 ghost use Rattle.chain_owners.specs.Owners.{Owns, Respects};
-ghost use Rattle.plane_rect.specs.Tile.{IsWhole};
-ghost use Rattle.model_images.specs.Level.{tile_above as above_of};
+ghost use Rattle.plane_rect.specs.Tile.{IsWhole, Tile as Position};
 ghost use Rattle.swap_store.specs.Cause.{HasSwapCause};
-ghost use Rattle.level_tables.specs.LevelTiles.{image_of, image_with, names, position_with, positions};
+ghost use Rattle.level_tables.specs.LevelTiles.{bytes_in, image_of, image_with, names, position_with, positions, positions_with, tiles_with};
+ghost use Rattle.level_tables.specs.NewTiles.{AreNewTiles, tiles_in};
 ghost use Rattle.level_tables.specs.Over.{IsOver, IsTileName, max_level, tile_length};
 ghost use Rattle.level_tables.specs.Steps.{Switches, VoidsAbove, VoidsOne, state};
 
-use crate::four_tiles::HALF_ORIGIN;
+use crate::four_tiles::tile_above;
 use crate::level_tile::LevelTile;
+use crate::new_tiles::NewTiles;
 use crate::table::LevelTable;
 use crate::tile_bytes::bytes_of;
 use chain_contracts::TileChain;
@@ -117,11 +119,32 @@ impl LevelTable {
         self.switch_one(chain, at, name);
         Ok(())
     }
-}
 
-/// Returns the tile of the next level for which a tile is averaged.
-fn tile_above(at: TileAt) -> TileAt
-    ensures { result ≡ above_of at }
-{
-    TileAt::from_indices(at.column() / 2 + HALF_ORIGIN, at.row() / 2 + HALF_ORIGIN)
+    /// Makes tiles that were made beside the table its own, all of them at once, each in place of the one
+    /// that its position had. The image has their bytes there afterwards, those of the last one where a
+    /// position is there twice, and what was averaged from the old ones isn't held any more. Takes no
+    /// memory.
+    pub fn switch<C: TileChain>(&mut self, chain: &mut C, tiles: NewTiles)
+        requires over { IsOver self.old.tiles (C.held chain.old) }
+        requires made { AreNewTiles self.old.tiles.format tiles.entries (C.held chain.old) }
+        requires owned { Owns (C.held chain.old) (names self.old.tiles ++ values_of tiles.entries) }
+        requires room { length tiles.entries ≤ self.old.room }
+        ensures image { image_of self.new.tiles (C.held chain.new)
+            ≡ image_with self.old.tiles (C.held chain.old) (tiles_in (C.held chain.old) tiles.entries) }
+        ensures bytes { (tile : Position) → bytes_in (C.held chain.new) self.new.tiles.put tile
+            ≡ tiles_with (bytes_in (C.held chain.old) self.old.tiles.put) (tiles_in (C.held chain.old) tiles.entries) tile }
+        ensures positions { positions self.new.tiles
+            ≡ positions_with (positions self.old.tiles) (keys_of tiles.entries) }
+        ensures format { self.new.tiles.format ≡ self.old.tiles.format }
+        ensures over { IsOver self.new.tiles (C.held chain.new) }
+        ensures others { Respects (C.held chain.old) (C.held chain.new)
+            (names self.old.tiles ++ values_of tiles.entries) (names self.new.tiles) }
+        ensures counts { Grows 0 (C.counts chain.old) (C.counts chain.new) }
+        ensures loans { C.loans chain.new ≡ C.loans chain.old }
+        ensures valid { C.is_valid chain.old → C.is_valid chain.new }
+    {
+        for entry in tiles.entries() {
+            self.switch_one(chain, entry.0, entry.1);
+        }
+    }
 }

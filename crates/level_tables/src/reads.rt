@@ -1,6 +1,6 @@
 //! Tiles read from a table.
 
-ghost use Rattle.std.specs.Prelude.{◌≡◌, ℕ, ◌+◌, ◌-◌, ◌≤◌, ◌↔◌, IfErr, IfOk, IsTrue, None, OnOk, length};
+ghost use Rattle.std.specs.Prelude.{◌≡◌, ℕ, ◌+◌, ◌-◌, ◌≤◌, ◌↔◌, ◌⊎◌, IfErr, IfOk, IsTrue, None, OnOk, length};
 ghost use Rattle.std.specs.Map.{lookup};
 ghost use Rattle.chain_owners.specs.Counts.{Grows};
 ghost use Rattle.chain_owners.specs.Owners.{Respects};
@@ -10,9 +10,9 @@ ghost use Rattle.swap_store.specs.Cause.{HasSwapCause};
 ghost use Rattle.level_tables.specs.LevelTiles.{hull_of, image_of, names, positions, same_level_tile};
 ghost use Rattle.level_tables.specs.Over.{IsOver, IsTileOfLevel, max_level, tile_length};
 ghost use Rattle.level_tables.specs.Steps.{HoldsMore, names_with_levels, state};
-ghost use Rattle.level_tables.specs.Found.{AreFound, IsFound, IsHeldTile, IsInHalf, name_in};
+ghost use Rattle.level_tables.specs.Found.{AreFound, HasNoneBelow, IsFound, IsHeldTile, IsInHalf, name_in};
 
-use crate::four_tiles::{FourTiles, is_in_half, tile_below};
+use crate::four_tiles::{FourTiles, at_level, is_in_half, tile_below};
 use crate::level_tile::LevelTile;
 use crate::table::LevelTable;
 use crate::tile_bytes::bytes_of;
@@ -135,6 +135,28 @@ impl LevelTable {
         Ok(Some(tile))
     }
 
+    /// Returns whether a tile may have been put that is averaged for this tile of a level. It looks at each
+    /// tile that was put, unless these are more than can be averaged for it: then it says yes.
+    fn may_have_below(&self, level: u32, at: TileAt) -> bool
+        requires { level ≤ max_level }
+        ensures { IsTrue result ⊎ HasNoneBelow (positions self.now.tiles) level at }
+    {
+        let below = 1 << (2 * level);
+        below < self.put.len() || self.has_below(level, at)
+    }
+
+    /// Returns whether a tile was put that is averaged for this tile of a level. Looks at each.
+    fn has_below(&self, level: u32, at: TileAt) -> bool
+        ensures { IsTrue result ⊎ HasNoneBelow (positions self.now.tiles) level at }
+    {
+        for tile in self.put.keys() {
+            if at_level(*tile, level) == at {
+                return true;
+            }
+        }
+        false
+    }
+
     /// Returns a tile of a level, or none where nothing was put that is averaged for it.
     fn find<C: TileChain>(
         &mut self,
@@ -158,7 +180,10 @@ impl LevelTable {
         if let Some(tile) = held {
             return Ok(Some(tile));
         }
-        if !has_below(level, at) {
+        if !may_be_above(level, at) {
+            return Ok(None);
+        }
+        if !self.may_have_below(level, at) {
             return Ok(None);
         }
         let upper_left = self.find(chain, level - 1, tile_below(at, 0, 0))?;
@@ -175,8 +200,8 @@ impl LevelTable {
     }
 }
 
-/// Returns whether there may be tiles that are averaged for a tile of a level.
-fn has_below(level: u32, at: TileAt) -> bool
+/// Returns whether tiles of the plane may be averaged for a tile of a level.
+fn may_be_above(level: u32, at: TileAt) -> bool
     ensures { IsTrue result ↔ ((1 ≤ level) × IsInHalf at) }
 {
     1 <= level && is_in_half(at)

@@ -1,4 +1,4 @@
-use Rattle.std.proofs.Common.{◌≡◌, ◌-◌, ◌≤◌, None, subst, arith, rules}
+use Rattle.std.proofs.Common.{◌≡◌, ◌-◌, ◌≤◌, ◌∙◌, None, inl, inr, true≢false, sym, subst, arith, rules}
 use Rattle.std.proofs.lemmas.Bool.{not-true}
 use Rattle.std.proofs.lemmas.Grind.{common_steps}
 use Rattle.std.proofs.lemmas.Result.{IfErr-weaker, IfOk-weaker, err_from_is_err_and}
@@ -252,10 +252,16 @@ returns-clause-cause g t c = λ top low.
     IfErr-weaker c.hold_average.result (HasSwapCause s4.counts s5.counts (names_with_levels top s4)) (HasSwapCause start.counts s5.counts (names_with_levels top start))
     (λ e is. cause-next c.args.level start s4 s5 raised top low e is) (c.hold_average.ensures.cause top low)
 
-pub returns-then-not-has_below-clause-found : goal.returns-then-not-has_below-clause-found
-returns-then-not-has_below-clause-found g t c =
+pub returns-then-not-may_be_above-clause-found : goal.returns-then-not-may_be_above-clause-found
+returns-then-not-may_be_above-clause-found g t c =
     let tiles = c.args.self.now.tiles in
     let none : name_in tiles c.args.level c.args.at ≡ None = rw c.in_default.is at c.in_ok-held.ensures.found in
     let out : ¬ ((1 ≤ c.args.level) × IsInHalf c.args.at) =
-    λ both. (let yes = c.has_below.ensures.1 both in first_of (cc, grind (arith, yes), grind (arith, not-true, yes), search (rules, not-true, yes))) in
+    λ both. (let yes = c.may_be_above.ensures.1 both in first_of (cc, grind (arith, yes), grind (arith, not-true, yes), search (rules, not-true, yes))) in
     none-below tiles c.args.level c.args.at c.requires.over.shape none out
+
+pub returns-then-not-may_have_below-clause-found : goal.returns-then-not-may_have_below-clause-found
+returns-then-not-may_have_below-clause-found g t c = elim c.may_have_below.ensures [
+  | inl looks ↦ absurd (true≢false (sym looks ∙ c.if-not-may_have_below.true))
+  | inr none ↦ none
+]
