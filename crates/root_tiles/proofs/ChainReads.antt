@@ -1,5 +1,5 @@
 -- Reads of a chain, one after another.
-use Rattle.std.proofs.Common.{refl, ◌∙◌, arith}
+use Rattle.std.proofs.Common.{ℕ, ◌+◌, refl, ◌∙◌, arith}
 use Rattle.chain_owners.specs.Counts.{Counts, Grows}
 use Rattle.swap_store.specs.Cause.{HasSwapCause}
 use Rattle.swap_store.specs.declared.refusal.SwapRefused.{SwapRefused}
@@ -12,20 +12,23 @@ grows-same counts = record {
   names = omega arith;
 }
 
+pub grows-both : (added more : ℕ) (first second last : Counts) → Grows added first second → Grows more second last → Grows (added + more) first last
+grows-both added more first second last a b = record {
+  continues = record {
+    used = b.continues.used ∙ a.continues.used;
+    capacity = b.continues.capacity ∙ a.continues.capacity;
+    later = omega (arith, a.continues.later, b.continues.later);
+  };
+  names = omega (arith, a.names, b.names);
+}
+
 pub read-none : (state : ChainState) → IsRead state state
 read-none state = record { held = refl; counts = grows-same state.counts; loans = refl; valid = λ is. is }
 
 pub read-both : (first second last : ChainState) → IsRead first second → IsRead second last → IsRead first last
 read-both first second last a b = record {
   held = b.held ∙ a.held;
-  counts = record {
-    continues = record {
-      used = b.counts.continues.used ∙ a.counts.continues.used;
-      capacity = b.counts.continues.capacity ∙ a.counts.continues.capacity;
-      later = omega (arith, a.counts.continues.later, b.counts.continues.later);
-    };
-    names = omega (arith, a.counts.names, b.counts.names);
-  };
+  counts = grows-both 0 0 first.counts second.counts last.counts a.counts b.counts;
   loans = b.loans ∙ a.loans;
   valid = λ is. b.valid (a.valid is);
 }

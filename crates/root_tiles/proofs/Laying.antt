@@ -35,11 +35,10 @@ laid-first held box format tiles all = record {
 }
 
 -- a tile that isn't held is zero
-lacking : (held : HeldTiles) (patch : Image) (t : Tile) (u v c : ℕ) → held t ≡ None → t ≡ tile_at u v → at patch u v c ≡ 0 → IsHeldAt held patch u v c
-lacking held patch t u v c none is zero =
-    zero
-    ∙ sym (ap (λ (o : Option (List ℕ)). option_map_or (λ bytes. pixels_from_raw (tile_square (tile_at u v)) patch.format bytes u v c) o 0) none)
-    ∙ ap (λ (tile : Tile). option_map_or (λ bytes. pixels_from_raw (tile_square (tile_at u v)) patch.format bytes u v c) (held tile) 0) is
+pub pixel-lacking : (format : Format) (held : HeldTiles) (t : Tile) (u v c : ℕ) → held t ≡ None → t ≡ tile_at u v → held_pixels format held u v c ≡ 0
+pixel-lacking format held t u v c none is =
+    sym (ap (λ (tile : Tile). option_map_or (λ bytes. pixels_from_raw (tile_square (tile_at u v)) format bytes u v c) (held tile) 0) is)
+    ∙ ap (λ (o : Option (List ℕ)). option_map_or (λ bytes. pixels_from_raw (tile_square (tile_at u v)) format bytes u v c) o 0) none
 
 laid-lacking : (held : HeldTiles) (patch : Image) (t : Tile) (rest : List Tile) → held t ≡ None → Laid held patch (t ∷ rest) → Laid held patch rest
 laid-lacking held patch t rest none laid = record {
@@ -47,7 +46,7 @@ laid-lacking held patch t rest none laid = record {
   pixels = λ u v c there known. elim (laid.pixels u v c there known) [
     | inl is ↦ inl is
     | inr zero ↦ elim (Contains-cases t rest (tile_at u v) zero.1) [
-      | inl here ↦ inl (lacking held patch t u v c none here zero.0)
+      | inl here ↦ inl (zero.0 ∙ sym (pixel-lacking patch.format held t u v c none here))
       | inr later ↦ inr (zero.0, later)
     ]
   ];

@@ -1,2 +1,5 @@
 pub mod Laying
 pub mod ChainReads
+pub mod Solid
+pub mod PaintedTiles
+pub mod Making

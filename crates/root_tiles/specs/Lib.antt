@@ -1,2 +1,4 @@
 pub mod Chains
+pub mod Made
+pub mod Paints
 pub mod Roots

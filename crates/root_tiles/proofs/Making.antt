@@ -1,0 +1,168 @@
+-- Painted tiles that are made beside a root, one after another.
+use Rattle.std.proofs.Common.{◌≡◌, ℕ, ◌+◌, ◌<◌, ◌≤◌, ◌⊎◌, inl, inr, List, [], ◌∷◌, ◌++◌, Contains, length, Option, Some, None, refl, sym, ap, subst, ◌∙◌, arith}
+use Rattle.std.specs.Prelude.{IfSome, IsSome, IsSomeAnd}
+use Rattle.std.specs.Map.{keys_of, values_of}
+use Rattle.chain_owners.specs.Counts.{Counts, Grows}
+use Rattle.chain_owners.specs.Held.{Held}
+use Rattle.chain_owners.specs.Owners.{Owns, Respects}
+use Rattle.chain_owners.proofs.Ownership.{others-own, owns-fewer, respects-beside, respects-both, respects-same, times-append}
+use Rattle.level_tables.specs.LevelTiles.{bytes_in, names}
+use Rattle.level_tables.specs.NewTiles.{AreNewTiles, tiles_in}
+use Rattle.level_tables.proofs.Frames.{bytes-beside, over-beside}
+use Rattle.level_tables.proofs.SwitchingAll.{made-none}
+use Rattle.model_images.specs.Tiles.{AreZeroAround, AreZeroOutside}
+use Rattle.plane_rect.specs.Rectangle.{Rectangle}
+use Rattle.plane_rect.specs.Tile.{Meets, Tile}
+use Rattle.plane_rect.proofs.Lists.{Contains-cases, Contains-first, Contains-later}
+use Rattle.root_tiles.specs.Chains.{ChainState, IsRead}
+use Rattle.root_tiles.specs.Made.{ArePainted, Makes}
+use Rattle.root_tiles.specs.Paints.{IsPainted}
+use Rattle.root_tiles.specs.Roots.{IsRootOver, RootTiles, root_names}
+use Rattle.root_tiles.proofs.ChainReads.{grows-both, grows-same}
+
+none-in : {X : Type 0} (x : X) → Contains [] x → ⊥
+none-in x h = omega (arith, h.1)
+
+-- an element of a list that is one longer
+last-cases : {X : Type 0} (xs : List X) (x y : X) → Contains (xs ++ x ∷ []) y → Contains xs y ⊎ (x ≡ y)
+last-cases [] x y h = elim (Contains-cases x [] y h) [ inl is ↦ inr is | inr none ↦ absurd (none-in y none) ]
+last-cases (first ∷ xs) x y h = elim (Contains-cases first (xs ++ x ∷ []) y h) [
+  | inl is ↦ inl (Contains-first first xs y is)
+  | inr later ↦ elim (last-cases xs x y later) [
+    | inl there ↦ inl (Contains-later first xs y there)
+    | inr is ↦ inr is
+  ]
+]
+
+keys-last : (entries : List (Tile × ℕ)) (e : Tile × ℕ) → keys_of (entries ++ e ∷ []) ≡ keys_of entries ++ e.0 ∷ []
+keys-last [] e = refl
+keys-last (first ∷ entries) e = ap (λ (ks : List Tile). first.0 ∷ ks) (keys-last entries e)
+
+pub length-last : (entries : List (Tile × ℕ)) (e : Tile × ℕ) → length (entries ++ e ∷ []) ≡ length entries + 1
+length-last [] e = refl
+length-last (first ∷ entries) e = omega (arith, length-last entries e)
+
+pub makes-none : (root : RootTiles) (r : Rectangle) (f : ℕ → ℕ → ℕ → ℕ) (state : ChainState) (entries : List (Tile × ℕ)) → entries ≡ []
+    → IsRootOver root state.held → Makes root r f 0 state state entries
+makes-none root r f state entries none over = subst (Makes root r f 0 state state) (sym none) (record {
+  made = made-none root.tiles.format state.held;
+  owned = owns-fewer state.held (root_names root) (root_names root ++ []) (λ q. omega (arith, times-append (root_names root) [] q)) over.table.owned;
+  others = respects-beside state.held state.held [] [] (respects-same state.held []) (root_names root) (root_names root ++ []) (root_names root)
+      (λ q. omega arith) (λ q. omega (arith, times-append (root_names root) [] q));
+  over = over;
+  bytes = λ tile. refl;
+  painted = λ exposed tile bytes there. absurd (none-in (tile, bytes) there);
+  meeting = λ tile there. absurd (none-in tile there);
+  grows = grows-same state.counts;
+  loans = refl;
+  valid = λ is. is;
+})
+
+-- a root that wasn't handed to a call
+module _ (root : RootTiles) (old new : Held) (before after : List ℕ) (respects : Respects old new before after)
+    (owns : Owns old (before ++ root_names root)) where
+  zero-same : (same : (tile : Tile) → bytes_in new root.tiles.put tile ≡ bytes_in old root.tiles.put tile)
+      → AreZeroAround root.box root.tiles.format (bytes_in old root.tiles.put) → AreZeroAround root.box root.tiles.format (bytes_in new root.tiles.put)
+  zero-same same around tile = subst (λ (o : Option (List ℕ)). IfSome o (AreZeroOutside root.box root.tiles.format tile)) (sym (same tile)) (around tile)
+
+  pub root-beside : IsRootOver root old → IsRootOver root new
+  root-beside over = record {
+    table = over-beside old new before after respects root.tiles owns over.table;
+    rectangle = over.rectangle;
+    limits = over.limits;
+    meeting = over.meeting;
+    zero = zero-same (bytes-beside old new before after respects root.tiles owns) over.zero;
+  }
+
+-- what changes no name leaves what was made
+pub makes-same : (root : RootTiles) (r : Rectangle) (f : ℕ → ℕ → ℕ → ℕ) (added more : ℕ) (old now new : ChainState) (entries : List (Tile × ℕ))
+    → Makes root r f added old now entries → new.held ≡ now.held → Grows more now.counts new.counts → new.loans ≡ now.loans → (now.valid → new.valid)
+    → Makes root r f (added + more) old new entries
+makes-same root r f added more old now new entries makes held counts loans valid =
+    let same : now.held ≡ new.held = sym held in record {
+      made = subst (AreNewTiles root.tiles.format entries) same makes.made;
+      owned = subst (λ (h : Held). Owns h (root_names root ++ values_of entries)) same makes.owned;
+      others = subst (λ (h : Held). Respects old.held h (root_names root) (root_names root ++ values_of entries)) same makes.others;
+      over = subst (IsRootOver root) same makes.over;
+      bytes = λ tile. ap (λ (h : Held). bytes_in h root.tiles.put tile) held ∙ makes.bytes tile;
+      painted = λ exposed. subst (λ (h : Held). ArePainted root.tiles.format (bytes_in old.held root.tiles.put) r f (tiles_in h entries)) same (makes.painted exposed);
+      meeting = makes.meeting;
+      grows = grows-both added more old.counts now.counts new.counts makes.grows counts;
+      loans = loans ∙ makes.loans;
+      valid = λ is. valid (makes.valid is);
+    }
+
+pub makes-read : (root : RootTiles) (r : Rectangle) (f : ℕ → ℕ → ℕ → ℕ) (added : ℕ) (old now new : ChainState) (entries : List (Tile × ℕ))
+    → Makes root r f added old now entries → IsRead now new → Makes root r f added old new entries
+makes-read root r f added old now new entries makes read =
+    let none : added + 0 ≡ added = omega arith in
+    subst (λ n. Makes root r f n old new entries) none (makes-same root r f added 0 old now new entries makes read.held read.counts read.loans read.valid)
+
+pub makes-raise : (root : RootTiles) (r : Rectangle) (f : ℕ → ℕ → ℕ → ℕ) (added most : ℕ) (old now : ChainState) (entries : List (Tile × ℕ))
+    → added ≤ most → Makes root r f added old now entries → Makes root r f most old now entries
+makes-raise root r f added most old now entries less makes = record {
+  made = makes.made;
+  owned = makes.owned;
+  others = makes.others;
+  over = makes.over;
+  bytes = makes.bytes;
+  painted = makes.painted;
+  meeting = makes.meeting;
+  grows = record { continues = makes.grows.continues; names = omega (arith, makes.grows.names, less) };
+  loans = makes.loans;
+  valid = makes.valid;
+}
+
+-- a tile that meets the rectangle is made, painted
+module _ (root : RootTiles) (r : Rectangle) (f : ℕ → ℕ → ℕ → ℕ) (added : ℕ) (old now new : ChainState) (entries more : List (Tile × ℕ))
+    (at : Tile) (bytes : List ℕ) (name : ℕ) (is : more ≡ entries ++ (at, name) ∷ []) (makes : Makes root r f added old now entries)
+    (respects : Respects now.held new.held (values_of entries) (values_of more)) where
+  owns : Owns now.held (values_of entries ++ root_names root)
+  owns =
+      owns-fewer now.held (root_names root ++ values_of entries) (values_of entries ++ root_names root)
+      (λ q. omega (arith, times-append (root_names root) (values_of entries) q, times-append (values_of entries) (root_names root) q)) makes.owned
+
+  owned-next : Owns new.held (root_names root ++ values_of more)
+  owned-next =
+      owns-fewer new.held (values_of more ++ root_names root) (root_names root ++ values_of more)
+      (λ q. omega (arith, times-append (root_names root) (values_of more) q, times-append (values_of more) (root_names root) q))
+      (others-own now.held new.held (values_of entries) (values_of more) respects (root_names root) owns)
+
+  others-next : Respects old.held new.held (root_names root) (root_names root ++ values_of more)
+  others-next =
+      respects-both old.held now.held (root_names root) (root_names root ++ values_of entries) makes.others new.held (root_names root ++ values_of more)
+      (respects-beside now.held new.held (values_of entries) (values_of more) respects (root_names root ++ values_of entries) (root_names root ++ values_of more) (root_names root)
+      (λ q. omega (arith, times-append (root_names root) (values_of entries) q)) (λ q. omega (arith, times-append (root_names root) (values_of more) q)))
+
+  painted-next : IsSome old.held.content → tiles_in new.held more ≡ tiles_in now.held entries ++ (at, Some bytes) ∷ []
+      → IsPainted root.tiles.format (bytes_in old.held root.tiles.put) r f at bytes
+      → ArePainted root.tiles.format (bytes_in old.held root.tiles.put) r f (tiles_in new.held more)
+  painted-next exposed tiles painted tile found there =
+      elim (last-cases (tiles_in now.held entries) (at, Some bytes) (tile, found) (subst (λ (es : List (Tile × Option (List ℕ))). Contains es (tile, found)) tiles there)) [
+        | inl before ↦ makes.painted exposed tile found before
+        | inr here ↦ subst (λ (e : Tile × Option (List ℕ)). IsSomeAnd e.1 (IsPainted root.tiles.format (bytes_in old.held root.tiles.put) r f e.0)) here painted
+      ]
+
+  meeting-next : Meets at r → (tile : Tile) → Contains (keys_of more) tile → Meets tile r
+  meeting-next meets tile there =
+      elim (last-cases (keys_of entries) at tile (subst (λ (ks : List Tile). Contains ks tile) (ap keys_of is ∙ keys-last entries (at, name)) there)) [
+        | inl before ↦ makes.meeting tile before
+        | inr here ↦ subst (λ (t : Tile). Meets t r) here meets
+      ]
+
+  pub makes-next : AreNewTiles root.tiles.format more new.held
+      → (IsSome now.held.content → tiles_in new.held more ≡ tiles_in now.held entries ++ (at, Some bytes) ∷ [])
+      → (IsSome old.held.content → IsPainted root.tiles.format (bytes_in old.held root.tiles.put) r f at bytes)
+      → Meets at r → Grows 1 now.counts new.counts → new.loans ≡ now.loans → (now.valid → new.valid) → Makes root r f (added + 1) old new more
+  makes-next made tiles painted meets counts loans valid = record {
+    made = made;
+    owned = owned-next;
+    others = others-next;
+    over = root-beside root now.held new.held (values_of entries) (values_of more) respects owns makes.over;
+    bytes = λ tile. bytes-beside now.held new.held (values_of entries) (values_of more) respects root.tiles owns tile ∙ makes.bytes tile;
+    painted = λ exposed. painted-next exposed (tiles (makes.others.exposed ∙ exposed)) (painted exposed);
+    meeting = meeting-next meets;
+    grows = grows-both added 1 old.counts now.counts new.counts makes.grows counts;
+    loans = loans ∙ makes.loans;
+    valid = λ is. valid (makes.valid is);
+  }

@@ -1,0 +1,86 @@
+//! Rectangles of a root that are written, all or nothing.
+
+ghost use Rattle.std.specs.Prelude.{◌≡◌, ◌+◌, ◌≤◌, [], IfErr, OnErr, OnOk, length};
+ghost use Rattle.std.specs.Option.{option_map};
+ghost use Rattle.chain_owners.specs.Counts.{Grows};
+ghost use Rattle.chain_owners.specs.Owners.{Respects};
+ghost use Rattle.model_images.specs.Paint.{painted};
+ghost use Rattle.model_images.specs.TileCounts.{tile_count};
+ghost use Rattle.plane_rect.specs.Rectangle.{Includes};
+ghost use Rattle.swap_store.specs.Cause.{HasSwapCause};
+ghost use Rattle.root_tiles.specs.Made.{HasAll, Makes};
+ghost use Rattle.root_tiles.specs.Paints.{IsPaint, paint_pixels};
+ghost use Rattle.root_tiles.specs.Roots.{IsRootOver, root_image, root_names, root_shape};
+
+use crate::paint::Paint;
+use crate::root::Root;
+use chain_contracts::TileChain;
+use level_tables::NewTiles;
+use plane_rect::Rect;
+use swap_store::SwapRefused;
+
+impl Root {
+    /// Writes over a rectangle of the box. After an error the tiles and the image are as before.
+    pub(crate) fn write<C: TileChain>(
+        &mut self,
+        chain: &mut C,
+        rect: Rect,
+        paint: &Paint,
+    ) -> Result<(), SwapRefused>
+        requires over { IsRootOver self.old (C.held chain.old) }
+        requires inside { Includes self.old.box rect }
+        requires paint { IsPaint self.old.tiles.format rect paint.now }
+        ensures image { OnOk result (root_image self.new (C.held chain.new) ≡ option_map
+            (λ image. painted image rect (paint_pixels self.old.tiles.format rect paint.now))
+            (root_image self.old (C.held chain.old))) }
+        ensures shape { root_shape self.new ≡ root_shape self.old }
+        ensures unchanged { OnErr result (self.new ≡ self.old) }
+        ensures same { OnErr result (root_image self.new (C.held chain.new) ≡ root_image self.old (C.held chain.old)) }
+        ensures over { IsRootOver self.new (C.held chain.new) }
+        ensures others { Respects (C.held chain.old) (C.held chain.new) (root_names self.old) (root_names self.new) }
+        ensures counts { Grows (tile_count rect) (C.counts chain.old) (C.counts chain.new) }
+        ensures cause { IfErr result (HasSwapCause (C.counts chain.old) (C.counts chain.new)
+            ((C.counts chain.old).names + tile_count rect)) }
+        ensures loans { C.loans chain.new ≡ C.loans chain.old }
+        ensures valid { C.is_valid chain.old → C.is_valid chain.new }
+    {
+        self.table.reserve(rect.tiles().count())?;
+        let mut made = NewTiles::new(self.alloc, self.format());
+        if let Err(refused) = self.make(chain, rect, paint, &mut made) {
+            made.discard(chain);
+            return Err(refused);
+        }
+        self.table.switch(chain, made);
+        Ok(())
+    }
+
+    /// Makes the tiles beside the root as they are once something is written over a rectangle of the box.
+    fn make<C: TileChain>(
+        &self,
+        chain: &mut C,
+        rect: Rect,
+        paint: &Paint,
+        made: &mut NewTiles,
+    ) -> Result<(), SwapRefused>
+        requires over { IsRootOver self.now (C.held chain.old) }
+        requires inside { Includes self.now.box rect }
+        requires paint { IsPaint self.now.tiles.format rect paint.now }
+        requires format { made.old.format ≡ self.now.tiles.format }
+        requires none { made.old.entries ≡ [] }
+        ensures format { made.new.format ≡ self.now.tiles.format }
+        ensures made { Makes self.now rect (paint_pixels self.now.tiles.format rect paint.now) (tile_count rect)
+            (record { held = C.held chain.old; counts = C.counts chain.old; loans = C.loans chain.old; valid = C.is_valid chain.old })
+            (record { held = C.held chain.new; counts = C.counts chain.new; loans = C.loans chain.new; valid = C.is_valid chain.new })
+            made.new.entries }
+        ensures few { length made.new.entries ≤ tile_count rect }
+        ensures all { OnOk result (HasAll rect made.new.entries) }
+        ensures cause { IfErr result (HasSwapCause (C.counts chain.old) (C.counts chain.new)
+            ((C.counts chain.old).names + tile_count rect)) }
+    {
+        for at in rect.tiles() {
+            let tile = self.painted_tile(chain, at, rect, paint)?;
+            made.add(chain, at, tile)?;
+        }
+        Ok(())
+    }
+}
