@@ -1,5 +1,5 @@
 -- Reads of a chain, one after another.
-use Rattle.std.proofs.Common.{ℕ, ◌+◌, refl, ◌∙◌, arith}
+use Rattle.std.proofs.Common.{◌≡◌, ℕ, ◌+◌, ◌≤◌, refl, subst, ◌∙◌, arith}
 use Rattle.chain_owners.specs.Counts.{Counts, Grows}
 use Rattle.swap_store.specs.Cause.{HasSwapCause}
 use Rattle.swap_store.specs.declared.refusal.SwapRefused.{SwapRefused}
@@ -39,3 +39,15 @@ pub refused-later : (first second last : Counts) (refused : SwapRefused) → Gro
 refused-later first second last refused grows cause =
     cause-more first last second.names first.names refused (omega (arith, grows.names))
     (cause-before first second last 0 second.names refused grows cause)
+
+pub grows-read : (added : ℕ) (first second last : Counts) → Grows added first second → Grows 0 second last → Grows added first last
+grows-read added first second last a b =
+    let none : added + 0 ≡ added = omega arith in
+    subst (λ n. Grows n first last) none (grows-both added 0 first second last a b)
+
+-- a refusal after calls that added some names is excused by these and those that may come
+pub refused-after : (added most more names : ℕ) (first second last : Counts) (refused : SwapRefused) → added + more ≤ most → names ≤ second.names + more
+    → Grows added first second → HasSwapCause second last names refused → HasSwapCause first last (first.names + most) refused
+refused-after added most more names first second last refused less few grows cause =
+    cause-more first last names (first.names + most) refused (omega (arith, grows.names, less, few))
+    (cause-before first second last added names refused grows cause)

@@ -1,7 +1,8 @@
 -- Painted tiles that are made beside a root, one after another.
-use Rattle.std.proofs.Common.{◌≡◌, ℕ, ◌+◌, ◌<◌, ◌≤◌, ◌⊎◌, inl, inr, List, [], ◌∷◌, ◌++◌, Contains, length, Option, Some, None, refl, sym, ap, subst, ◌∙◌, arith}
+use Rattle.std.proofs.Common.{◌≡◌, ℕ, ◌+◌, ◌<◌, ◌≤◌, ◌⊎◌, inl, inr, List, [], ◌∷◌, ◌++◌, Contains, length, Option, Some, None, cond, refl, sym, ap, subst, ◌∙◌, arith}
 use Rattle.std.specs.Prelude.{IfSome, IsSome, IsSomeAnd}
 use Rattle.std.specs.Map.{keys_of, values_of}
+use Rattle.std.specs.Option.{option_map_or}
 use Rattle.chain_owners.specs.Counts.{Counts, Grows}
 use Rattle.chain_owners.specs.Held.{Held}
 use Rattle.chain_owners.specs.Owners.{Owns, Respects}
@@ -10,9 +11,11 @@ use Rattle.level_tables.specs.LevelTiles.{bytes_in, names}
 use Rattle.level_tables.specs.NewTiles.{AreNewTiles, tiles_in}
 use Rattle.level_tables.proofs.Frames.{bytes-beside, over-beside}
 use Rattle.level_tables.proofs.SwitchingAll.{made-none}
+use Rattle.model_images.specs.FromRaw.{pixels_from_raw}
+use Rattle.model_images.specs.Image.{is_inside}
 use Rattle.model_images.specs.Tiles.{AreZeroAround, AreZeroOutside}
-use Rattle.plane_rect.specs.Rectangle.{Rectangle}
-use Rattle.plane_rect.specs.Tile.{Meets, Tile}
+use Rattle.plane_rect.specs.Rectangle.{Includes, IsRectangle, Rectangle}
+use Rattle.plane_rect.specs.Tile.{IsWhole, Meets, Tile, tile_at, tile_square}
 use Rattle.plane_rect.proofs.Lists.{Contains-cases, Contains-first, Contains-later}
 use Rattle.root_tiles.specs.Chains.{ChainState, IsRead}
 use Rattle.root_tiles.specs.Made.{ArePainted, Makes}
@@ -20,7 +23,7 @@ use Rattle.root_tiles.specs.Paints.{IsPainted}
 use Rattle.root_tiles.specs.Roots.{IsRootOver, RootTiles, root_names}
 use Rattle.root_tiles.proofs.ChainReads.{grows-both, grows-same}
 
-none-in : {X : Type 0} (x : X) → Contains [] x → ⊥
+pub none-in : {X : Type 0} (x : X) → Contains [] x → ⊥
 none-in x h = omega (arith, h.1)
 
 -- an element of a list that is one longer
@@ -34,6 +37,15 @@ last-cases (first ∷ xs) x y h = elim (Contains-cases first (xs ++ x ∷ []) y 
   ]
 ]
 
+last-there : {X : Type 0} (xs : List X) (x y : X) → Contains xs y ⊎ (x ≡ y) → Contains (xs ++ x ∷ []) y
+last-there [] x y (inl none) = absurd (none-in y none)
+last-there [] x y (inr is) = Contains-first x [] y is
+last-there (first ∷ xs) x y (inl there) = elim (Contains-cases first xs y there) [
+  | inl is ↦ Contains-first first (xs ++ x ∷ []) y is
+  | inr later ↦ Contains-later first (xs ++ x ∷ []) y (last-there xs x y (inl later))
+]
+last-there (first ∷ xs) x y (inr is) = Contains-later first (xs ++ x ∷ []) y (last-there xs x y (inr is))
+
 keys-last : (entries : List (Tile × ℕ)) (e : Tile × ℕ) → keys_of (entries ++ e ∷ []) ≡ keys_of entries ++ e.0 ∷ []
 keys-last [] e = refl
 keys-last (first ∷ entries) e = ap (λ (ks : List Tile). first.0 ∷ ks) (keys-last entries e)
@@ -43,20 +55,33 @@ length-last [] e = refl
 length-last (first ∷ entries) e = omega (arith, length-last entries e)
 
 pub makes-none : (root : RootTiles) (r : Rectangle) (f : ℕ → ℕ → ℕ → ℕ) (state : ChainState) (entries : List (Tile × ℕ)) → entries ≡ []
-    → IsRootOver root state.held → Makes root r f 0 state state entries
-makes-none root r f state entries none over = subst (Makes root r f 0 state state) (sym none) (record {
-  made = made-none root.tiles.format state.held;
-  owned = owns-fewer state.held (root_names root) (root_names root ++ []) (λ q. omega (arith, times-append (root_names root) [] q)) over.table.owned;
-  others = respects-beside state.held state.held [] [] (respects-same state.held []) (root_names root) (root_names root ++ []) (root_names root)
-      (λ q. omega arith) (λ q. omega (arith, times-append (root_names root) [] q));
-  over = over;
-  bytes = λ tile. refl;
-  painted = λ exposed tile bytes there. absurd (none-in (tile, bytes) there);
-  meeting = λ tile there. absurd (none-in tile there);
-  grows = grows-same state.counts;
-  loans = refl;
-  valid = λ is. is;
-})
+    → IsRootOver root state.held → Makes root r f (length entries) state state entries
+makes-none root r f state entries none over =
+    let P : List (Tile × ℕ) → Type 0 = λ es. Makes root r f (length es) state state es in
+    subst P (sym none) (record {
+      made = made-none root.tiles.format state.held;
+      owned = owns-fewer state.held (root_names root) (root_names root ++ []) (λ q. omega (arith, times-append (root_names root) [] q)) over.table.owned;
+      others = respects-beside state.held state.held [] [] (respects-same state.held []) (root_names root) (root_names root ++ []) (root_names root)
+          (λ q. omega arith) (λ q. omega (arith, times-append (root_names root) [] q));
+      over = over;
+      bytes = λ tile. refl;
+      painted = λ exposed tile bytes there. absurd (none-in (tile, bytes) there);
+      meeting = λ tile there. absurd (none-in tile there);
+      grows = grows-same state.counts;
+      loans = refl;
+      valid = λ is. is;
+    })
+
+-- a tile that meets a part of a box is within the plane
+pub whole-met : (box r : Rectangle) (tile : Tile) → IsRectangle box → Includes box r → Meets tile r → IsWhole tile
+whole-met box r tile is inside meets =
+    let there = inside meets.0 meets.1 meets.2 in
+    (omega (arith, ap (λ (t : Tile). t.column) meets.3, there.column, is.columns), omega (arith, ap (λ (t : Tile). t.row) meets.3, there.row, is.rows))
+
+pub keys-more : (entries more : List (Tile × ℕ)) (at : Tile) (name : ℕ) → more ≡ entries ++ (at, name) ∷ [] → (tile : Tile)
+    → Contains (keys_of entries) tile ⊎ (at ≡ tile) → Contains (keys_of more) tile
+keys-more entries more at name is tile there =
+    subst (λ (ks : List Tile). Contains ks tile) (sym (ap keys_of is ∙ keys-last entries (at, name))) (last-there (keys_of entries) at tile there)
 
 -- a root that wasn't handed to a call
 module _ (root : RootTiles) (old new : Held) (before after : List ℕ) (respects : Respects old new before after)
@@ -112,6 +137,15 @@ makes-raise root r f added most old now entries less makes = record {
   loans = makes.loans;
   valid = makes.valid;
 }
+
+-- what is painted over the tiles as they are is painted over those that were there
+pub painted-first : (root : RootTiles) (r : Rectangle) (f : ℕ → ℕ → ℕ → ℕ) (old now : Held) (at : Tile) (bytes : List ℕ)
+    → ((tile : Tile) → bytes_in now root.tiles.put tile ≡ bytes_in old root.tiles.put tile)
+    → IsPainted root.tiles.format (bytes_in now root.tiles.put) r f at bytes → IsPainted root.tiles.format (bytes_in old root.tiles.put) r f at bytes
+painted-first root r f old now at bytes same painted = λ u v c there known.
+    painted u v c there known
+    ∙ ap (λ (n : ℕ). cond (is_inside u v r) (f u v c) n)
+    (ap (λ (o : Option (List ℕ)). option_map_or (λ bytes. pixels_from_raw (tile_square (tile_at u v)) root.tiles.format bytes u v c) o 0) (same (tile_at u v)))
 
 -- a tile that meets the rectangle is made, painted
 module _ (root : RootTiles) (r : Rectangle) (f : ℕ → ℕ → ℕ → ℕ) (added : ℕ) (old now new : ChainState) (entries more : List (Tile × ℕ))
