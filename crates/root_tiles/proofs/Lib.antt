@@ -3,3 +3,4 @@ pub mod ChainReads
 pub mod Solid
 pub mod PaintedTiles
 pub mod Making
+pub mod Written
