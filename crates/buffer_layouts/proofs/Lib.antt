@@ -1,0 +1,4 @@
+pub mod Numbering
+pub mod Rooted
+pub mod Held
+pub mod Answering
