@@ -2,3 +2,4 @@ pub mod Numbering
 pub mod Rooted
 pub mod Held
 pub mod Answering
+pub mod Adding

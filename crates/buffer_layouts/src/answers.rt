@@ -35,10 +35,10 @@ impl BufferLayout {
     pub fn sub_refused(&self, name: Name, parent: Name) -> Option<EditRefused>
         ensures { (rect : _) → result ≡ edit_refused self.now.layout (Sub name parent rect) }
     {
-        if self.fact(parent).is_none() {
-            return Some(EditRefused::UnknownBuffer);
+        match self.fact(parent) {
+            Some(_) => self.create_refused(name),
+            None => Some(EditRefused::UnknownBuffer),
         }
-        self.create_refused(name)
     }
 
     /// Returns what a buffer that is duplicated shows: its root is duplicated whole.

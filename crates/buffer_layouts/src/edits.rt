@@ -23,6 +23,7 @@ impl BufferLayout {
     {
         // `first_column` is called for its clause that the extent is a rectangle of the plane.
         let _ = extent.first_column();
+        let _ = &self.facts;
         self.add_root(name, format, extent, extent);
     }
 

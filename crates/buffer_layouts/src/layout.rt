@@ -71,7 +71,8 @@ impl BufferLayout {
     /// Returns the fact of the buffer of a name, where there is one. Its cost is proportional to the number of
     /// buffers.
     pub fn fact(&self, name: Name) -> Option<BufferFact>
-        ensures { result ≡ fact_of (facts_of self.now.layout) name }
+        ensures value { result ≡ fact_of (facts_of self.now.layout) name }
+        ensures layout { IsLayout self.now.layout }
     {
         fact_named(self.facts(), name).copied()
     }
@@ -108,7 +109,8 @@ impl BufferLayout {
     fn root_number(&self, name: Name) -> usize
         ensures { result ≡ root_number self.now.layout name }
     {
-        number_named(&self.roots, name).unwrap_or(self.roots.len())
+        let roots = self.roots();
+        number_named(roots, name).unwrap_or(roots.len())
     }
 
     /// Returns the bounding box of the root of a number, and that of no position past the last.
