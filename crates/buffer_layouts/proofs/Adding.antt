@@ -7,12 +7,13 @@ use Rattle.pixel_formats.specs.declared.format.Format.{Format}
 use Rattle.model_graphs.specs.Facts.{Facts, fact_of}
 use Rattle.model_graphs.specs.Shapes.{Shape}
 use Rattle.model_graphs.specs.declared.buffer.BufferFact.{BufferFact}
+use Rattle.model_buffers.specs.declared.edit.BufferEdit.{BufferEdit}
 use Rattle.model_buffers.specs.declared.edit.BufferEdit.TheVariants.{Create, Duplicate, Sub}
 use Rattle.model_buffers.specs.declared.refused.EditRefused.{EditRefused}
-use Rattle.model_buffers.specs.BufferEdit.{added, edit_refused, layout_with, layout_with_root, part_of}
-use Rattle.model_buffers.specs.Causes.{AddFromRefused, AddRefused, IsAddable, IsKnown}
+use Rattle.model_buffers.specs.BufferEdit.{IsProperEdit, added, edit_refused, layout_with, layout_with_root, part_of}
+use Rattle.model_buffers.specs.Causes.{IsCarriedOut, IsRefused}
 use Rattle.model_buffers.specs.Layout.{IsLayout, TableLayout, View, fact_in, facts_of, find, root_shape}
-use Rattle.model_buffers.proofs.CauseLaws.{create-causes, from-causes}
+use Rattle.model_buffers.proofs.CauseLaws.{causes}
 use Rattle.model_buffers.proofs.LayoutLaws.{by_value, edit-keeps, no_root, rooted_view}
 use Rattle.buffer_layouts.specs.Layouts.{AreHeld, HasRootFormat, layout_of_facts}
 use Rattle.buffer_layouts.specs.Views.{on_root, root_view}
@@ -23,26 +24,16 @@ use Rattle.buffer_layouts.proofs.Held.{buffers_pushed, root_added, roots_pushed,
 
 -- ---- edits that are carried out
 
-module _ (layout : TableLayout) (name : List ℕ) where
-  pub creates : (format : Format) (extent : Rectangle) → edit_refused layout (Create name format extent) ≡ None → IsAddable layout name
-  creates format extent none = subst (λ o. MatchOption o (IsAddable layout name) (AddRefused layout name)) none (create-causes layout name)
+module _ (layout : TableLayout) where
+  pub carried_out : (edit : BufferEdit) → edit_refused layout edit ≡ None → IsCarriedOut layout edit
+  carried_out edit none = subst (λ o. MatchOption o (IsCarriedOut layout edit) (IsRefused layout edit)) none (causes layout edit)
 
-  pub adds_from : (from : List ℕ) → edit_refused layout (Duplicate name from) ≡ None → IsKnown layout from × IsAddable layout name
-  adds_from from none =
-      subst (λ o. MatchOption o (IsKnown layout from × IsAddable layout name) (AddFromRefused layout name from)) none (from-causes layout name from)
+  pub kept : IsLayout layout → (edit : BufferEdit) → IsProperEdit edit → edit_refused layout edit ≡ None → IsLayout (layout_with layout edit)
+  kept is edit proper none = edit-keeps layout is edit proper (carried_out edit none)
 
-  pub created : IsLayout layout → (format : Format) (extent : Rectangle) → IsRectangle extent → InLimits extent → edit_refused layout (Create name format extent) ≡ None
-      → IsLayout (layout_with_root layout name (record { box = extent; format = format }) extent)
-  created is format extent rectangle limits none = edit-keeps layout is (Create name format extent) (rectangle, limits) (creates format extent none)
-
-  -- ---- duplicates
-
-  pub duplicated : IsLayout layout → (from : List ℕ) → edit_refused layout (Duplicate name from) ≡ None → IsLayout (layout_with layout (Duplicate name from))
-  duplicated is from none = edit-keeps layout is (Duplicate name from) tt (adds_from from none)
-
-  pub duplicate_is : (from : List ℕ) (seen : RootView) → root_view layout from ≡ Some seen
+  pub duplicate_is : (name from : List ℕ) (seen : RootView) → root_view layout from ≡ Some seen
       → layout_with layout (Duplicate name from) ≡ layout_with_root layout name (record { box = seen.bounds; format = seen.format }) seen.extent
-  duplicate_is from seen there = by (find layout.buffers from) refl there
+  duplicate_is name from seen there = by (find layout.buffers from) refl there
     where
       by : (o : Option View) → find layout.buffers from ≡ o → option_map (on_root layout) o ≡ Some seen
           → layout_with layout (Duplicate name from) ≡ layout_with_root layout name (record { box = seen.bounds; format = seen.format }) seen.extent
@@ -96,13 +87,12 @@ module _ (roots : List RootShape) (facts : Facts) (held : AreHeld roots facts) (
     part_format : HasRootFormat now.roots part
     part_format = by_fact now parent _ seen there (λ view e same.
         by_value _ (find now.roots view.root) (rooted_view now layout_now parent view e).root (λ (shape : Shape) root.
-        let formats : shape.format ≡ (fact_in now parent view).format = rw root refl in
-        subst (λ (fact : BufferFact). IsSomeAnd (find now.roots fact.root) (λ (shape : Shape). shape.format ≡ fact.format)) same (rw root formats)))
+        subst (λ (fact : BufferFact). IsSomeAnd (find now.roots fact.root) (λ (shape : Shape). shape.format ≡ fact.format)) same (rw root refl)))
 
     pub part_kept : IsRectangle rectangle → edit_refused now (Sub name parent rectangle) ≡ None → AreHeld roots facts_after
     part_kept proper none =
         let after : IsLayout (record { roots = now.roots; buffers = added now.buffers name part_view }) =
-        subst IsLayout part_is (edit-keeps now layout_now (Sub name parent rectangle) proper (adds_from now name parent none)) in
+        subst IsLayout part_is (kept now layout_now (Sub name parent rectangle) proper none) in
         rw more
         (view_added roots facts held part
         (subst (λ (layout : TableLayout). IsLayout (record { roots = layout.roots; buffers = added layout.buffers name part_view })) (sym is) after)
