@@ -21,10 +21,10 @@ returns-in-Ok-clause-parts c =
     let x : to_z w64 (of_z w64 c.args.dx) ≡ c.args.dx = to_z-of_z w64 c.args.dx c.ranges.dx in
     let y : to_z w64 (of_z w64 c.args.dy) ≡ c.args.dy = to_z-of_z w64 c.args.dy c.ranges.dy in
     record {
-  source = sym c.view.ensures.value ∙ c.in-Some.is;
-  target = sym c.view-2.ensures.value ∙ c.in-Some-view.is;
-  moved = rw (x, y) at c.in-Ok.ensures.moved;
-}
+      source = sym c.view.ensures.value ∙ c.in-Some.is;
+      target = sym c.view-2.ensures.value ∙ c.in-Some-view.is;
+      moved = rw (x, y) at c.in-Ok.ensures.moved;
+    }
 
 pub returns-in-Err-clause-refused : goal.returns-in-Err-clause-refused
 returns-in-Err-clause-refused c =
