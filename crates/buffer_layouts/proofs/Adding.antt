@@ -2,17 +2,16 @@
 use Rattle.std.proofs.Common.{◌≡◌, List, ℕ, [], ◌∷◌, ◌++◌, Option, Some, None, refl, sym, ap, ◌∙◌, subst}
 use Rattle.std.specs.Prelude.{MatchOption}
 use Rattle.std.specs.Option.{IsSomeAnd, option_map}
-use Rattle.plane_rect.specs.Rectangle.{InLimits, IsRectangle, Rectangle, meet}
+use Rattle.plane_rect.specs.Rectangle.{IsRectangle, Rectangle, meet}
 use Rattle.pixel_formats.specs.declared.format.Format.{Format}
 use Rattle.model_graphs.specs.Facts.{Facts, fact_of}
 use Rattle.model_graphs.specs.Shapes.{Shape}
 use Rattle.model_graphs.specs.declared.buffer.BufferFact.{BufferFact}
 use Rattle.model_buffers.specs.declared.edit.BufferEdit.{BufferEdit}
-use Rattle.model_buffers.specs.declared.edit.BufferEdit.TheVariants.{Create, Duplicate, Sub}
-use Rattle.model_buffers.specs.declared.refused.EditRefused.{EditRefused}
-use Rattle.model_buffers.specs.BufferEdit.{IsProperEdit, added, edit_refused, layout_with, layout_with_root, part_of}
+use Rattle.model_buffers.specs.declared.edit.BufferEdit.TheVariants.{Duplicate, Sub}
+use Rattle.model_buffers.specs.BufferEdit.{IsProperEdit, added, edit_refused, layout_with, layout_with_root}
 use Rattle.model_buffers.specs.Causes.{IsCarriedOut, IsRefused}
-use Rattle.model_buffers.specs.Layout.{IsLayout, TableLayout, View, fact_in, facts_of, find, root_shape}
+use Rattle.model_buffers.specs.Layout.{IsLayout, TableLayout, View, facts_of, find}
 use Rattle.model_buffers.proofs.CauseLaws.{causes}
 use Rattle.model_buffers.proofs.LayoutLaws.{by_value, edit-keeps, no_root, rooted_view}
 use Rattle.buffer_layouts.specs.Layouts.{AreHeld, HasRootFormat, layout_of_facts}

@@ -1,16 +1,13 @@
 -- Layouts as they are held.
-use Rattle.std.proofs.Common.{◌≡◌, ℕ, suc, ◌+◌, ◌<◌, All, List, [], ◌∷◌, ◌++◌, length, map, get_or, Option, Some, None, unwrap_or, refl, sym, ap, ◌∙◌, subst, arith}
+use Rattle.std.proofs.Common.{◌≡◌, ℕ, suc, All, List, [], ◌∷◌, ◌++◌, map, get_or, Option, Some, None, unwrap_or, refl, sym, ap, ◌∙◌, arith}
 use Rattle.std.specs.Option.{IsSomeAnd}
-use Rattle.std.specs.Prelude.{IsSome}
 use Rattle.std.proofs.lemmas.List.{map-append}
 use Rattle.std.proofs.lemmas.List.Elements.{All-push}
-use Rattle.plane_rect.specs.Rectangle.{Rectangle}
 use Rattle.pixel_formats.specs.declared.format.Format.{Format}
 use Rattle.model_graphs.specs.Facts.{Facts}
 use Rattle.model_graphs.specs.Shapes.{Shape, no_shape}
 use Rattle.model_graphs.specs.declared.buffer.BufferFact.{BufferFact}
-use Rattle.model_buffers.specs.BufferEdit.{layout_with_root}
-use Rattle.model_buffers.specs.Layout.{IsLayout, TableLayout, View, fact_in, facts_of, find, root_shape}
+use Rattle.model_buffers.specs.Layout.{IsLayout, TableLayout, View, fact_in, facts_of, find}
 use Rattle.model_buffers.proofs.FindLaws.{find-kept, find-new}
 use Rattle.buffer_layouts.specs.Layouts.{AreHeld, HasRootFormat, buffer_entry, layout_of_facts, root_entry}
 use Rattle.buffer_layouts.specs.declared.views.RootShape.{RootShape}

@@ -1,7 +1,7 @@
 -- What buffers show of numbered roots.
-use Rattle.std.proofs.Common.{◌≡◌, ℕ, ◌<◌, List, length, Option, Some, None, refl, sym, ap, ◌∙◌}
+use Rattle.std.proofs.Common.{◌≡◌, ℕ, ◌<◌, List, length, Some, refl}
 use Rattle.std.specs.Prelude.{slice_get}
-use Rattle.model_graphs.specs.Shapes.{Shape, no_shape}
+use Rattle.model_graphs.specs.Shapes.{Shape}
 use Rattle.model_buffers.specs.Layout.{IsLayout, TableLayout, View, find, root_shape}
 use Rattle.model_buffers.proofs.LayoutLaws.{by_value, rooted_view}
 use Rattle.buffer_layouts.specs.Views.{root_number, shape_at}

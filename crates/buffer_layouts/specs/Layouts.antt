@@ -1,5 +1,5 @@
 -- Layouts as they are held: shapes of roots, and facts of buffers.
-use Rattle.std.specs.Prelude.{◌≡◌, ℕ, ◌-◌, All, List, map, min, Vec, vec_capacity, vec_len}
+use Rattle.std.specs.Prelude.{◌≡◌, ℕ, All, List, map}
 use Rattle.std.specs.Option.{IsSomeAnd}
 use Rattle.model_graphs.specs.Facts.{Facts}
 use Rattle.model_graphs.specs.Shapes.{Shape}

@@ -1,6 +1,6 @@
 use Rattle.std.proofs.Common.{sym, ◌∙◌}
 use Rattle.model_buffers.specs.BufferEdit.{put_refused}
-use Rattle.buffer_layouts.proofs.Answering.{refused_by_view, refused_unknown}
+use Rattle.buffer_layouts.proofs.Answering.{refused_by_view}
 use Rattle.buffer_layouts.proofs.layout.BufferLayout.put_target.Goals as goal
 
 pub returns-in-Some-put_refused-clause-refused : goal.returns-in-Some-put_refused-clause-refused

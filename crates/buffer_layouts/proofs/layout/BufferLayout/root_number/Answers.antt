@@ -1,4 +1,4 @@
-use Rattle.std.proofs.Common.{List, ℕ, ap, sym, refl, ◌∙◌, length, unwrap_or}
+use Rattle.std.proofs.Common.{ap, sym, refl, ◌∙◌, length, unwrap_or}
 use Rattle.std.specs.Str.{bytes_eq}
 use Rattle.buffer_layouts.specs.Layouts.{root_entry}
 use Rattle.buffer_layouts.specs.declared.views.RootShape.{RootShape}
