@@ -1,0 +1,5 @@
+pub mod Numbering
+pub mod Rooted
+pub mod Held
+pub mod Answering
+pub mod Adding
