@@ -1,14 +1,17 @@
 -- Tables of gray tiles, and calls beside them.
-use Rattle.std.proofs.Common.{◌≡◌, ℕ, ◌+◌, List, [], ◌∷◌, ◌++◌, length, ap, ◌∙◌, arith}
+use Rattle.std.proofs.Common.{◌≡◌, ℕ, ◌+◌, List, [], ◌∷◌, ◌++◌, length, Result, Ok, Err, sym, ap, subst, ◌∙◌, arith}
+use Rattle.std.specs.Result.{OnOk}
 use Rattle.std.specs.Map.{values_of}
 use Rattle.plane_rect.specs.Tile.{Tile}
 use Rattle.pixel_formats.specs.declared.format.Format.{Format}
+use Rattle.pixel_formats.specs.declared.format.Format.TheVariants as formats
 use Rattle.chain_owners.specs.Held.{Held}
 use Rattle.chain_owners.specs.Owners.{Owns, Respects}
 use Rattle.chain_owners.proofs.Ownership.{others-own, owns-fewer, times-append}
 use Rattle.level_tables.specs.LevelTiles.{LevelTiles, names}
-use Rattle.level_tables.specs.NewTiles.{AreNewTiles}
+use Rattle.level_tables.specs.NewTiles.{Adds, AreNewTiles}
 use Rattle.level_tables.proofs.Frames.{over-beside}
+use Rattle.level_tables.proofs.SwitchingAll.{made-none}
 use Rattle.test_levels.specs.Tables.{AreTwo, HasBeside, IsGray}
 
 -- names may be taken in any order
@@ -46,7 +49,7 @@ beside-after tiles format entries entries' held held' respects beside made =
     let owns : Owns held (values_of entries ++ names tiles) = turned held (names tiles) (values_of entries) beside.owned in
     record {
       table = gray-beside held held' (values_of entries) (values_of entries') respects tiles owns beside.table;
-      format = beside.format;
+      gray = beside.gray;
       made = made;
       owned = turned held' (values_of entries') (names tiles) (others-own held held' (values_of entries) (values_of entries') respects (names tiles) owns);
     }
@@ -56,9 +59,24 @@ pub beside-gone : (tiles : LevelTiles) (format : Format) (entries : List (Tile �
 beside-gone tiles format entries held held' respects beside =
     gray-beside held held' (values_of entries) [] respects tiles (turned held (names tiles) (values_of entries) beside.owned) beside.table
 
-pub beside-none : (tiles : LevelTiles) (format : Format) (held : Held) → Owns held (names tiles) → Owns held (names tiles ++ [])
-beside-none tiles format held owns = owns-fewer held (names tiles) (names tiles ++ []) (λ q. omega (arith, times-append (names tiles) [] q)) owns
+pub beside-none : (tiles : LevelTiles) (format : Format) (held : Held) → format ≡ formats.Y8 → IsGray tiles held → HasBeside tiles format [] held
+beside-none tiles format held gray table = record {
+  table = table;
+  gray = gray;
+  made = made-none format held;
+  owned = owns-fewer held (names tiles) (names tiles ++ []) (λ q. omega (arith, times-append (names tiles) [] q)) table.over.owned;
+}
 
-pub length-last : {X : Type 0} (xs : List X) (x : X) → length (xs ++ x ∷ []) ≡ length xs + 1
-length-last [] x = omega arith
-length-last (y ∷ xs) x = omega (arith, length-last xs x)
+pub made-gray : (tiles : LevelTiles) (format : Format) (entries : List (Tile × ℕ)) (held : Held) → HasBeside tiles format entries held → AreNewTiles tiles.format entries held
+made-gray tiles format entries held beside =
+    let P : Format → Type 0 = λ f. AreNewTiles f entries held in
+    subst P (beside.gray ∙ sym beside.table.format) beside.made
+
+length-last : (entries : List (Tile × ℕ)) (e : Tile × ℕ) → length (entries ++ e ∷ []) ≡ length entries + 1
+length-last [] e = omega arith
+length-last (first ∷ entries) e = omega (arith, length-last entries e)
+
+pub one-more : {X E : Type 0} (r : Result X E) (at : Tile) (bytes : List ℕ) (old new : List (Tile × ℕ)) (held held' : Held)
+    → OnOk r (Adds at bytes old new held held') → OnOk r (length new ≡ length old + 1)
+one-more (Ok x) at bytes old new held held' is = ap (λ (es : List (Tile × ℕ)). length es) is.entries ∙ length-last old (at, is.name)
+one-more (Err e) at bytes old new held held' is = tt

@@ -24,6 +24,6 @@ pub record AreTwo (one other : LevelTiles) (held : Held) : Type 0 where
 -- a table of gray tiles beside new ones
 pub record HasBeside (tiles : LevelTiles) (format : Format) (entries : List (Tile × ℕ)) (held : Held) : Type 0 where
   pub table : IsGray tiles held
-  pub format : format ≡ formats.Y8
+  pub gray : format ≡ formats.Y8
   pub made : AreNewTiles format entries held
   pub owned : Owns held (names tiles ++ values_of entries)

@@ -85,8 +85,7 @@ pub fn add<C: TileChain>(
     ensures one { OnOk result (length tiles.new.entries ≡ length tiles.old.entries + 1) }
 {
     let tile = page(alloc, byte)?;
-    tiles.add(chain, at, tile)?;
-    Ok(())
+    tiles.add(chain, at, tile)
 }
 
 /// Makes new tiles beside a table its own.
