@@ -1,9 +1,0 @@
-//! Tables of tiles: small examples over chains.
-#![tactic(auto)]
-
-#[cfg(test)]
-mod calls;
-#[cfg(test)]
-mod examples;
-#[cfg(test)]
-mod tests;
