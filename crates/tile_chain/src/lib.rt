@@ -6,4 +6,4 @@ pub use chain_handlers::{
     CacheHandler, Chain, ChainMemory, DiskHandler, EmptyHandler, OwnedTiles, SwapHandler,
     SwapRefused,
 };
-pub use level_tables::{LevelTable, LevelTile};
+pub use level_tables::{LevelTable, LevelTile, NewTiles};
