@@ -68,12 +68,16 @@ pub fn is_applicable<K: OpKit>(
     requires boxes { boxes.now ≡ window_bounds windows.now }
     ensures { OnTrue result (IsApplicable K.Op.meanings op.now windows.now out.now) }
 {
-    windows.len() == kit.arity(op) as usize
-        && kit.check(op, formats).is_some()
-        && has_part(kit, op, boxes, out)
-        && tile.rect().contains(out)
-        && are_whole(windows)
-        && have_required(kit, op, boxes, windows, *out)
+    if windows.len() != kit.arity(op) as usize {
+        return false;
+    }
+    if kit.check(op, formats).is_none() || !has_part(kit, op, boxes, out) {
+        return false;
+    }
+    if !tile.rect().contains(out) || !are_whole(windows) {
+        return false;
+    }
+    have_required(kit, op, boxes, windows, *out)
 }
 
 /// Returns whether an operation has a box in limits, which contains a part.
