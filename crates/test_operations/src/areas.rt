@@ -160,7 +160,8 @@ const CORNERS: [Corner; 24] = [
         op: (Kind::Erode, 20, Abyss::White),
         out: [0, 0, 2, 1],
         gives: &[0, 0, 0, 0],
-    },];
+    },
+];
 
 #[test]
 fn squares_at_a_corner(rt: HostRuntime) -> Result<(), Fail> {
@@ -190,12 +191,10 @@ fn squares_at_the_corner_of_the_plane(rt: HostRuntime) -> Result<(), Fail> {
 }
 
 /// Returns bytes of 0 to 250, again and again.
-fn repeated(alloc: Global, count: usize) -> Result<Vec<u8>, Fail> {
+fn repeated(alloc: Global, count: u32) -> Result<Vec<u8>, Fail> {
     let mut bytes = Vec::new(alloc);
-    let mut value = 0;
-    for _ in 0..count {
-        bytes.push(value)?;
-        value = if value == 250 { 0 } else { value + 1 };
+    for number in 0..count {
+        bytes.push((number % 251) as u8)?;
     }
     Ok(bytes)
 }
