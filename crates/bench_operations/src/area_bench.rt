@@ -51,7 +51,15 @@ fn time_radius<R: Clock + Print + Eprint + Alloc<A = Global>>(
         width: 64,
         height: 64,
     };
-    time_kernel(rt, rounds, AreaKernel { is_mean, format, area })
+    time_kernel(
+        rt,
+        rounds,
+        AreaKernel {
+            is_mean,
+            format,
+            area,
+        },
+    )
 }
 
 /// Times a kernel on what a tile reads.
@@ -66,5 +74,12 @@ fn time_kernel<R: Clock + Print + Eprint + Alloc<A = Global>>(
     let mut dst = windows::bytes(alloc, kernel.written_bytes())?;
     let start = Instant::now(rt)?;
     let found = loops::area_kernel(kernel, &read, &mut patch, &mut dst, rounds);
-    report(rt, "  its kernel", kernel.format, u64::from(rounds), start, found)
+    report(
+        rt,
+        "  its kernel",
+        kernel.format,
+        u64::from(rounds),
+        start,
+        found,
+    )
 }

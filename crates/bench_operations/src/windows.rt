@@ -29,10 +29,15 @@ pub fn middle() -> TileAt {
 /// needed, grown by a radius.
 pub fn window(alloc: Global, format: Format, radius: u32) -> Result<Window> {
     let bounds = square(0, 192);
-    let count = bounds.area().saturating_mul(u64::from(format.pixel_bytes()));
+    let count = bounds
+        .area()
+        .saturating_mul(u64::from(format.pixel_bytes()));
     let patch = Patch::from_raw(alloc, bounds, format, &bytes(alloc, count as usize)?)?;
     let radius = i64::from(radius);
-    let need = square(64i64.saturating_sub(radius), radius.saturating_mul(2).saturating_add(64));
+    let need = square(
+        64i64.saturating_sub(radius),
+        radius.saturating_mul(2).saturating_add(64),
+    );
     let mut entries = Vec::new(alloc);
     for at in need.tiles() {
         entries.push((at, patch.tile(alloc, at)?))?;

@@ -1,7 +1,7 @@
 //! The operations on two pixels of each format, on parts of tiles, and where they are refused.
 
 use crate::cases::{CASES, Case};
-use crate::shown::{applied, gives, rect, row, window};
+use crate::shown::{Fields, applied, gives, rect, row, window};
 use int_ops::{IntKit, IntOp};
 use op_contracts::OpKit;
 use pixel_formats::{Abyss, Format, PixelSamples};
@@ -21,7 +21,7 @@ const FORMATS: [Format; 8] = [
 ];
 
 /// Returns operations of one image, and the rectangles of their results of two pixels.
-fn operations_of_one() -> [(IntOp, [i64; 4]); 10] {
+fn operations_of_one() -> [(IntOp, Fields); 10] {
     let abyss = [Abyss::Clamp, Abyss::Black, Abyss::White];
     let [clamp, black, white] = abyss;
     [
@@ -61,50 +61,75 @@ fn operations_of_one() -> [(IntOp, [i64; 4]); 10] {
     ]
 }
 
+/// Returns whether operations of the first image of a case give its results.
+fn give_of_one(alloc: Global, operations: &[(IntOp, Fields)], case: &Case) -> Result<bool, Fail> {
+    let windows = [row(alloc, case.format, case.first)?];
+    let mut all = true;
+    for ((op, out), raw) in operations.iter().zip(&case.of_one) {
+        all = all && gives(alloc, op, &windows, *out, raw)?;
+    }
+    Ok(all)
+}
+
 #[test]
 fn operations_of_one_image(rt: HostRuntime) -> Result<(), Fail> {
-    let alloc = rt.alloc();
     let operations = operations_of_one();
     for case in &CASES {
-        let windows = [row(alloc, case.format, case.first)?];
-        for ((op, out), raw) in operations.iter().zip(&case.of_one) {
-            assert!(rt; gives(alloc, op, &windows, *out, raw)?);
-        }
+        assert!(rt; give_of_one(rt.alloc(), &operations, case)?);
     }
     Ok(())
+}
+
+/// Returns whether the first image of a case is converted to each format as it should be.
+fn is_converted(alloc: Global, case: &Case) -> Result<bool, Fail> {
+    let windows = [row(alloc, case.format, case.first)?];
+    let mut all = true;
+    for (format, raw) in FORMATS.iter().zip(&case.converted) {
+        let op = IntOp::Convert { format: *format };
+        all = all && gives(alloc, &op, &windows, [0, 0, 2, 1], raw)?;
+    }
+    Ok(all)
 }
 
 #[test]
 fn conversions(rt: HostRuntime) -> Result<(), Fail> {
-    let alloc = rt.alloc();
     for case in &CASES {
-        let windows = [row(alloc, case.format, case.first)?];
-        for (format, raw) in FORMATS.iter().zip(&case.converted) {
-            let op = IntOp::Convert { format: *format };
-            assert!(rt; gives(alloc, &op, &windows, [0, 0, 2, 1], raw)?);
-        }
+        assert!(rt; is_converted(rt.alloc(), case)?);
     }
     Ok(())
 }
 
+/// Returns whether an operation of two rows of pixels gives these raw bytes.
+fn gives_of_two(
+    alloc: Global,
+    op: &IntOp,
+    first: (Format, &[u8]),
+    second: (Format, &[u8]),
+    raw: &[u8],
+) -> Result<bool, Fail> {
+    let pair = [
+        row(alloc, first.0, first.1)?,
+        row(alloc, second.0, second.1)?,
+    ];
+    gives(alloc, op, &pair, [0, 0, 2, 1], raw)
+}
+
+/// Returns whether the images of a case are added, masked and composited as they should be.
+fn give_of_two(alloc: Global, case: &Case) -> Result<bool, Fail> {
+    let [added, masked, composited] = case.of_two;
+    let (first, second) = ((case.format, case.first), (case.format, case.second));
+    let over = gives_of_two(alloc, &IntOp::Over, first, second, composited)?;
+    Ok(
+        over == case.format.has_alpha()
+            && gives_of_two(alloc, &IntOp::Add, first, second, added)?
+            && gives_of_two(alloc, &IntOp::Mask, first, case.mask, masked)?,
+    )
+}
+
 #[test]
 fn operations_of_two_images(rt: HostRuntime) -> Result<(), Fail> {
-    let alloc = rt.alloc();
     for case in &CASES {
-        let [added, masked, composited] = case.of_two;
-        let pair = [
-            row(alloc, case.format, case.first)?,
-            row(alloc, case.format, case.second)?,
-        ];
-        assert!(rt; gives(alloc, &IntOp::Add, &pair, [0, 0, 2, 1], added)?);
-        let over = gives(alloc, &IntOp::Over, &pair, [0, 0, 2, 1], composited)?;
-        assert!(rt; over == case.format.has_alpha());
-        let (format, mask) = case.mask;
-        let pair = [
-            row(alloc, case.format, case.first)?,
-            row(alloc, format, mask)?,
-        ];
-        assert!(rt; gives(alloc, &IntOp::Mask, &pair, [0, 0, 2, 1], masked)?);
+        assert!(rt; give_of_two(rt.alloc(), case)?);
     }
     Ok(())
 }
@@ -131,34 +156,43 @@ fn operations_of_none(alloc: Global, case: &Case) -> Result<[IntOp; 2], Fail> {
     ])
 }
 
+/// Returns whether an operation without an input gives these two pixels, which are in two tiles.
+fn gives_of_none(alloc: Global, op: &IntOp, pixel: usize, raw: &[u8]) -> Result<bool, Fail> {
+    match raw.split_at_checked(pixel) {
+        Some((left, right)) => Ok(
+            gives(alloc, op, &[], [-1, 0, 1, 1], left)?
+                && gives(alloc, op, &[], [0, 0, 1, 1], right)?,
+        ),
+        None => Ok(false),
+    }
+}
+
 #[test]
 fn operations_of_no_image(rt: HostRuntime) -> Result<(), Fail> {
     let alloc = rt.alloc();
     for case in &CASES {
         let pixel = case.format.pixel_bytes() as usize;
-        let operations = operations_of_none(alloc, case)?;
-        for (op, raw) in operations.iter().zip(&case.of_none) {
-            let Some((left, right)) = raw.split_at_checked(pixel) else {
-                return Err(Fail::from("too few bytes"));
-            };
-            assert!(rt; gives(alloc, op, &[], [-1, 0, 1, 1], left)?);
-            assert!(rt; gives(alloc, op, &[], [0, 0, 1, 1], right)?);
-        }
+        let [color, checker] = operations_of_none(alloc, case)?;
+        let [colored, checkered] = case.of_none;
+        assert!(rt; gives_of_none(alloc, &color, pixel, colored)?);
+        assert!(rt; gives_of_none(alloc, &checker, pixel, checkered)?);
     }
     Ok(())
 }
 
+/// Returns whether a copy of an operation is the same operation.
+fn is_copied(alloc: Global, op: &IntOp) -> Result<bool, Fail> {
+    let copy = IntKit.copy_op(alloc, op)?;
+    Ok(IntKit.same(op, &copy))
+}
+
 #[test]
 fn copies_are_the_same_operation(rt: HostRuntime) -> Result<(), Fail> {
-    let alloc = rt.alloc();
     for (op, _) in &operations_of_one() {
-        let copy = IntKit.copy_op(alloc, op)?;
-        assert!(rt; IntKit.same(op, &copy));
+        assert!(rt; is_copied(rt.alloc(), op)?);
     }
-    let (gain, other) = (
-        IntOp::Gain { num: 5, den: 4 },
-        IntOp::Gain { num: 4, den: 5 },
-    );
+    let gain = IntOp::Gain { num: 5, den: 4 };
+    let other = IntOp::Gain { num: 4, den: 5 };
     assert!(rt; !IntKit.same(&gain, &other));
     Ok(())
 }
