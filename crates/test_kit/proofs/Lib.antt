@@ -1,3 +1,4 @@
 pub mod Cuts
 pub mod BlankTile
 pub mod OneWindow
+mod Required
