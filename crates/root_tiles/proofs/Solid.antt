@@ -1,12 +1,18 @@
 -- Prefixes of tiles of one pixel.
-use Rattle.std.proofs.Common.{◌≡◌, ℕ, zero, suc, ◌+◌, ◌*◌, ◌<◌, ◌≤◌, List, [], ◌∷◌, length, take, get_or, refl, ap, ap₂, ◌∙◌, arith}
-use Rattle.plane_rect.specs.Rectangle.{Includes, Inside, Rectangle, area, offset}
-use Rattle.plane_rect.proofs.RectangleLaws.{offset-below}
+use Rattle.std.proofs.Common.{◌≡◌, ℕ, zero, suc, ◌+◌, ◌*◌, ◌/◌, ◌%◌, ◌<◌, ◌≤◌, List, [], ◌∷◌, cond, length, take, get_or, refl, sym, ap, ap₂, ◌∙◌, arith}
+use Rattle.plane_rect.specs.Rectangle.{Includes, Inside, Rectangle, area, offset, spanning}
+use Rattle.plane_rect.proofs.RectangleLaws.{offset-below, offset-index}
 use Rattle.pixel_formats.specs.Format.{channels, depth, pixel_bytes}
 use Rattle.pixel_formats.specs.Row.{sample_at}
 use Rattle.pixel_formats.specs.declared.format.Format.{Format}
 use Rattle.pixel_formats.specs.declared.format.Format.TheVariants.{Y8, YA8, RGB8, RGBA8, Y16, YA16, RGB16, RGBA16}
+use Rattle.model_images.specs.FromRaw.{byte_count, pixels_from_raw}
+use Rattle.model_images.specs.Image.{Image, at, image_from_fn, is_inside}
+use Rattle.model_images.specs.Paint.{painted}
+use Rattle.model_images.specs.Raw.{raw}
 use Rattle.model_images.proofs.FromRawLaws.{by_depth}
+use Rattle.model_images.proofs.Laws.{at-image_from_fn, generated_equal}
+use Rattle.model_images.proofs.RawLaws.{raw-samples}
 use Rattle.root_tiles.specs.Paints.{IsSolid, Paints}
 
 get-taken : (xs : List ℕ) (n i : ℕ) → i < n → get_or (take n xs) i 0 ≡ get_or xs i 0
@@ -66,3 +72,41 @@ solid-paints format r part bytes n solid inside small is = record {
       sample-taken format bytes n (o * channels format + c) (omega (arith, is, within format (area part) o c below known))
       ∙ solid.even o c (omega (arith, below, small)) known;
 }
+
+-- ---- the tile of one pixel
+
+-- the square at the plane's corner
+abbrev pub corner : Rectangle
+corner = spanning 0 0 64 64
+
+solid-sample : (format : Format) (samples : List ℕ) (image : Image) (bytes : List ℕ) → image ≡ image_from_fn corner format (λ u v c. get_or samples c 0)
+    → bytes ≡ raw image image.box → (k c : ℕ) → k < 4096 → c < channels format → sample_at (depth format) bytes (k * channels format + c) ≡ get_or samples c 0
+solid-sample format samples image bytes is are k c below known =
+    let f : ℕ → ℕ → ℕ → ℕ = λ u v c. get_or samples c 0 in
+    let u = 0 + k % 64 in
+    let v = 0 + k / 64 in
+    let there : Inside u v corner = record { column = (omega arith, omega arith); row = (omega arith, omega (arith, below)) } in
+    let of : bytes ≡ raw (image_from_fn corner format f) corner = are ∙ ap (λ (i : Image). raw i i.box) is in
+    ap (λ (n : ℕ). sample_at (depth format) bytes (n * channels format + c)) (sym (offset-index k corner))
+    ∙ ap (λ (b : List ℕ). pixels_from_raw corner format b u v c) of
+    ∙ raw-samples (image_from_fn corner format f) corner u v c there known
+    ∙ at-image_from_fn corner format f u v c there known
+
+pub solid-tile : (format : Format) (samples : List ℕ) (image : Image) (bytes : List ℕ) → image ≡ image_from_fn corner format (λ u v c. get_or samples c 0)
+    → bytes ≡ raw image image.box → length bytes ≡ byte_count image.box image.format
+    → IsSolid format bytes × ((c : ℕ) → c < channels format → sample_at (depth format) bytes c ≡ get_or samples c 0)
+solid-tile format samples image bytes is are count =
+    let first : (c : ℕ) → c < channels format → sample_at (depth format) bytes c ≡ get_or samples c 0 =
+    λ c known. ap (λ (n : ℕ). sample_at (depth format) bytes n) (omega arith) ∙ solid-sample format samples image bytes is are 0 c (omega arith) known in (
+      record {
+        whole = count ∙ ap (λ (i : Image). byte_count i.box i.format) is ∙ omega arith;
+        even = λ k c below known. solid-sample format samples image bytes is are k c below known ∙ sym (first c known);
+      },
+      first,
+    )
+
+-- what is painted depends on the samples of the format's channels alone
+pub painted-same : (image : Image) (r : Rectangle) (f g : ℕ → ℕ → ℕ → ℕ) → ((u v c : ℕ) → c < channels image.format → f u v c ≡ g u v c) → painted image r f ≡ painted image r g
+painted-same image r f g same =
+    generated_equal image.box image.format (λ u v c. cond (is_inside u v r) (f u v c) (at image u v c)) (λ u v c. cond (is_inside u v r) (g u v c) (at image u v c))
+    (λ u v c there known. ap (λ (n : ℕ). cond (is_inside u v r) n (at image u v c)) (same u v c known))

@@ -1,27 +1,115 @@
 //! Rectangles of a root that are written, all or nothing.
 
-ghost use Rattle.std.specs.Prelude.{◌≡◌, ◌+◌, ◌≤◌, [], IfErr, OnErr, OnOk, length};
+ghost use Rattle.std.specs.Prelude.{◌≡◌, ℕ, ◌+◌, ◌<◌, ◌≤◌, [], All, IfErr, IfOk, OnErr, OnOk, length, slice_index};
 ghost use Rattle.std.specs.Option.{option_map};
 ghost use Rattle.chain_owners.specs.Counts.{Grows};
 ghost use Rattle.chain_owners.specs.Owners.{Respects};
+ghost use Rattle.model_images.specs.FromRaw.{byte_count, pixels_from_raw};
 ghost use Rattle.model_images.specs.Paint.{painted};
 ghost use Rattle.model_images.specs.TileCounts.{tile_count};
+ghost use Rattle.pixel_formats.specs.Format.{channels, depth};
+ghost use Rattle.pixel_formats.specs.Row.{sample_at};
 ghost use Rattle.plane_rect.specs.Rectangle.{Includes};
+ghost use Rattle.solid_patches.specs.Samples.{IsSampleOf};
 ghost use Rattle.swap_store.specs.Cause.{HasSwapCause};
 ghost use Rattle.root_tiles.specs.Made.{HasAll, Makes};
-ghost use Rattle.root_tiles.specs.Paints.{IsPaint, paint_pixels};
+ghost use Rattle.root_tiles.specs.Paints.{IsPaint, IsSolid, paint_pixels};
 ghost use Rattle.root_tiles.specs.Roots.{IsRootOver, root_image, root_names, root_shape};
 
 use crate::paint::Paint;
 use crate::root::Root;
 use chain_contracts::TileChain;
 use level_tables::NewTiles;
-use plane_rect::Rect;
+use no_memory::NoMemory;
+use plane_rect::{Rect, TILE_SIDE};
+use solid_patches::solid_patch;
 use swap_store::SwapRefused;
+use tile_cow::Tile;
 
 impl Root {
+    /// Writes raw bytes over a rectangle of the box: its pixels row by row, each row from the left. After an
+    /// error the tiles and the image are as before. Takes time in proportion to the tiles of the rectangle.
+    ///
+    /// # Errors
+    ///
+    /// `SwapFault` only where the swap's count of I/O errors rose in this call, `SwapFull` only where
+    /// the chain's names and as many more as the rectangle meets tiles can fill the swap, and `NoMemory`
+    /// if memory runs out.
+    pub fn put_raw<C: TileChain>(
+        &mut self,
+        chain: &mut C,
+        rect: Rect,
+        bytes: &[u8],
+    ) -> Result<(), SwapRefused>
+        requires over { IsRootOver self.old (C.held chain.old) }
+        requires inside { Includes self.old.box rect }
+        requires count { length bytes.now ≡ byte_count rect self.old.tiles.format }
+        ensures image { OnOk result (root_image self.new (C.held chain.new) ≡ option_map
+            (λ image. painted image rect (pixels_from_raw rect self.old.tiles.format bytes.now))
+            (root_image self.old (C.held chain.old))) }
+        ensures shape { root_shape self.new ≡ root_shape self.old }
+        ensures unchanged { OnErr result (self.new ≡ self.old) }
+        ensures same { OnErr result (root_image self.new (C.held chain.new) ≡ root_image self.old (C.held chain.old)) }
+        ensures over { IsRootOver self.new (C.held chain.new) }
+        ensures others { Respects (C.held chain.old) (C.held chain.new) (root_names self.old) (root_names self.new) }
+        ensures counts { Grows (tile_count rect) (C.counts chain.old) (C.counts chain.new) }
+        ensures cause { IfErr result (HasSwapCause (C.counts chain.old) (C.counts chain.new)
+            ((C.counts chain.old).names + tile_count rect)) }
+        ensures loans { C.loans chain.new ≡ C.loans chain.old }
+        ensures valid { C.is_valid chain.old → C.is_valid chain.new }
+    {
+        self.write(chain, rect, &Paint::Raw(bytes))
+    }
+
+    /// Writes one pixel at each position of a rectangle of the box: a sample for each channel. After an error
+    /// the tiles and the image are as before. Takes time in proportion to the tiles of the rectangle.
+    ///
+    /// # Errors
+    ///
+    /// As [`Root::put_raw`].
+    pub fn fill<C: TileChain>(
+        &mut self,
+        chain: &mut C,
+        rect: Rect,
+        samples: &[u32],
+    ) -> Result<(), SwapRefused>
+        requires over { IsRootOver self.old (C.held chain.old) }
+        requires inside { Includes self.old.box rect }
+        requires count { length samples.now ≡ channels self.old.tiles.format }
+        requires each { All (IsSampleOf self.old.tiles.format) samples.now }
+        ensures image { OnOk result (root_image self.new (C.held chain.new) ≡ option_map
+            (λ image. painted image rect (λ u v. slice_index samples.now))
+            (root_image self.old (C.held chain.old))) }
+        ensures shape { root_shape self.new ≡ root_shape self.old }
+        ensures unchanged { OnErr result (self.new ≡ self.old) }
+        ensures same { OnErr result (root_image self.new (C.held chain.new) ≡ root_image self.old (C.held chain.old)) }
+        ensures over { IsRootOver self.new (C.held chain.new) }
+        ensures others { Respects (C.held chain.old) (C.held chain.new) (root_names self.old) (root_names self.new) }
+        ensures counts { Grows (tile_count rect) (C.counts chain.old) (C.counts chain.new) }
+        ensures cause { IfErr result (HasSwapCause (C.counts chain.old) (C.counts chain.new)
+            ((C.counts chain.old).names + tile_count rect)) }
+        ensures loans { C.loans chain.new ≡ C.loans chain.old }
+        ensures valid { C.is_valid chain.old → C.is_valid chain.new }
+    {
+        let tile = self.solid_tile(samples)?;
+        self.write(chain, rect, &Paint::Solid(&tile))
+    }
+
+    /// Returns a tile of one pixel everywhere.
+    fn solid_tile(&self, samples: &[u32]) -> Result<Tile, NoMemory>
+        requires count { length samples.now ≡ channels self.now.tiles.format }
+        requires each { All (IsSampleOf self.now.tiles.format) samples.now }
+        ensures solid { IfOk result (IsSolid self.now.tiles.format) }
+        ensures samples { IfOk result (λ tile. (c : ℕ) → c < channels self.now.tiles.format →
+            sample_at (depth self.now.tiles.format) tile c ≡ slice_index samples.now c) }
+    {
+        let square = Rect::spanning(0, 0, TILE_SIDE, TILE_SIDE);
+        let solid = solid_patch(self.alloc, self.format(), samples, square)?;
+        Tile::from_vec(self.alloc, solid.into_raw())
+    }
+
     /// Writes over a rectangle of the box. After an error the tiles and the image are as before.
-    pub(crate) fn write<C: TileChain>(
+    fn write<C: TileChain>(
         &mut self,
         chain: &mut C,
         rect: Rect,
