@@ -10,7 +10,9 @@ mod region;
 mod strips;
 
 pub use model_states::{NeedList, Strip};
+pub use inputs::{NodeInputs, all_inputs};
 pub use need::strip_need;
 pub use planning::{check_widths, plan, strip_rects};
 pub use refused::PlanRefused;
+pub use region::tile_part;
 pub use strips::StripList;

@@ -1,0 +1,5 @@
+pub mod Reading
+pub mod Entries
+pub mod Collected
+pub mod Places
+pub mod Whole
