@@ -3,3 +3,5 @@ pub mod Entries
 pub mod Collected
 pub mod Places
 pub mod Whole
+pub mod Applied
+pub mod Scenes

@@ -60,6 +60,20 @@ module _ {Op : Type 0} where
       let shape : NodeFact Op → Shape = λ fact. stated_shape fact in
       get_or_from_slice_get (stated_shapes nodes) n (shape fact) no_shape (slice_get-map shape nodes n ∙ ap (option_map shape) found)
 
+  -- a ready tile is of an operation
+  module _ (nodes : List (NodeFact Op)) (meanings : Meanings Op) (held : HeldTiles) (n : ℕ) (tile : Tile) (ready : IsReady meanings nodes held n tile) where
+    pub ready-inside : n < length nodes
+    ready-inside =
+        let spec : NodeFact Op → Node Op = λ fact. fact.spec in
+        let step : Node Op → Step Op = λ node. step_of (specs_of nodes) node.body in
+        omega (arith, slice_get_within (steps_of (specs_of nodes)) n (Apply ready.operation ready.inputs) ready.step, length-map (specs_of nodes) step, length-map nodes spec)
+
+    pub ready-body : (fact : NodeFact Op) → slice_get nodes n ≡ Some fact → (buffer : List ℕ) → fact.spec.body ≡ Source buffer → ⊥
+    ready-body fact found buffer is =
+        let own : slice_get (steps_of (specs_of nodes)) n ≡ Some (FromBuffer buffer) =
+        step-at nodes n fact found ∙ ap (λ (body : Body Op). Some (step_of (specs_of nodes) body)) is in
+        cc (own, ready.step)
+
   module _ (meanings : Meanings Op) (facts : Facts) (nodes : List (NodeFact Op)) (stated : AreStated meanings (shapes_of_facts facts) nodes) where
     pub suited : (n : ℕ) (fact : NodeFact Op) → slice_get nodes n ≡ Some fact
         → IsSuited meanings (shapes_of_facts facts) (stated_shapes nodes) n (step_of (specs_of nodes) fact.spec.body)

@@ -1,5 +1,5 @@
 -- Windows of inputs are what an application of an operation asks for.
-use Rattle.std.proofs.Common.{◌≡◌, ℕ, zero, suc, ◌*◌, ◌<◌, List, [], ◌∷◌, All, Contains, length, get_or, map, Option, Some, None, inl, inr, refl, sym, ap, ◌∙◌, subst, arith}
+use Rattle.std.proofs.Common.{◌≡◌, ℕ, zero, suc, ◌*◌, ◌<◌, true, List, [], ◌∷◌, All, Contains, length, get_or, map, Option, Some, None, inl, inr, refl, sym, ap, ◌∙◌, subst, arith}
 use Rattle.std.specs.Prelude.{IfSome, IsSome, IsTrue, option_map, slice_get, unwrap_or}
 use Rattle.std.specs.List.{IsDistinct}
 use Rattle.std.specs.Map.{lookup}
@@ -72,7 +72,7 @@ module _ {Op : Type 0} (meanings : Meanings Op) (facts : Facts) (nodes : List (N
       lengths.each n tile bytes input ∙ ap (λ (s : Shape). 4096 * pixel_bytes s.format) (shape-at nodes n fact found)
 
   -- each window is whole
-  window-whole : (images : Option Buffers) (n : ℕ) (fact : NodeFact Op) (need : Rectangle) (window : Window) → slice_get nodes n ≡ Some fact
+  pub window-whole : (images : Option Buffers) (n : ℕ) (fact : NodeFact Op) (need : Rectangle) (window : Window) → slice_get nodes n ≡ Some fact
       → IsInputWindow facts images held fact n need window → IsWholeWindow window
   window-whole images n fact need window found is = record {
     complete = λ tile met.
@@ -87,7 +87,7 @@ module _ {Op : Type 0} (meanings : Meanings Op) (facts : Facts) (nodes : List (N
   }
 
   module _ (images : Option Buffers) (operation : Op) (inputs : Inputs) (part : Rectangle) (windows : List Window)
-      (among : All (λ position. position < length nodes) inputs.positions)
+      (no_fact : NodeFact Op) (among : All (λ position. position < length nodes) inputs.positions)
       (boxes : inputs.boxes ≡ input_boxes (stated_shapes nodes) inputs.positions)
       (are : AreInputWindows meanings facts images held nodes operation inputs part windows) where
     -- the node of the input of a number
@@ -97,17 +97,12 @@ module _ {Op : Type 0} (meanings : Meanings Op) (facts : Facts) (nodes : List (N
       pub is : IsInputWindow facts images held fact (get_or inputs.positions i 0) (required_of meanings operation inputs part i) window
 
     pub numbered : (i : ℕ) (window : Window) → slice_get windows i ≡ Some window → Numbered i window
-    numbered i window e = of (slice_get nodes n) refl
-      where
-        n : ℕ
-        n = get_or inputs.positions i 0
-
-        inside : n < length nodes
-        inside = among i 0 (omega (arith, are.count, slice_get_within windows i window e))
-
-        of : (o : Option (NodeFact Op)) → slice_get nodes n ≡ o → Numbered i window
-        of None none = absurd (omega (arith, inside, none))
-        of (Some fact) found = record { fact = fact; found = found; is = are.each i window e fact found }
+    numbered i window e =
+        let n = get_or inputs.positions i 0 in
+        let below : i < length inputs.positions = omega (arith, are.count, slice_get_within windows i window e) in
+        let fact = get_or nodes n no_fact in
+        let found : slice_get nodes n ≡ Some fact = slice_get-get_or nodes n no_fact (among i 0 below) in
+        record { fact = fact; found = found; is = are.each i window e fact found }
 
     pub windows-bounds : window_bounds windows ≡ inputs.boxes
     windows-bounds =
