@@ -1,7 +1,6 @@
 -- What an operation is applied to for a tile, and what it gives.
-use Rattle.std.proofs.Common.{◌≡◌, ℕ, ◌*◌, ◌<◌, List, [], ◌∷◌, All, length, map, Option, Some, IsSome, refl, sym, ap, ◌∙◌, subst, arith}
+use Rattle.std.proofs.Common.{◌≡◌, ℕ, ◌*◌, List, [], ◌∷◌, All, length, Option, Some, IsSome, refl, sym, ap, ◌∙◌, subst}
 use Rattle.std.specs.Prelude.{slice_get}
-use Rattle.std.proofs.lemmas.List.{length-map}
 use Rattle.std.proofs.lemmas.Option.{get_or_from_slice_get, slice_get_within}
 use Rattle.plane_rect.specs.Rectangle.{Includes, Inside, Rectangle, meet}
 use Rattle.plane_rect.specs.Tile.{Tile, tile_square}
@@ -15,9 +14,9 @@ use Rattle.model_graphs.specs.declared.node.Body.{Body}
 use Rattle.model_graphs.specs.declared.node.Body.TheVariants.{Compute}
 use Rattle.model_graphs.specs.declared.node.NodeFact.{NodeFact}
 use Rattle.model_graphs.specs.Evaluation.{Buffers}
-use Rattle.model_graphs.specs.Facts.{Facts, shapes_of_facts, specs_of, stated_shape, stated_shapes}
+use Rattle.model_graphs.specs.Facts.{Facts, shapes_of_facts, specs_of, stated_shapes}
 use Rattle.model_graphs.specs.Meanings.{Meanings, formats_of, result_box, result_format}
-use Rattle.model_graphs.specs.Node.{index_of, step_of}
+use Rattle.model_graphs.specs.Node.{step_of}
 use Rattle.model_graphs.specs.Shapes.{Shape}
 use Rattle.model_graphs.specs.Windows.{IsWholeWindow, Window}
 use Rattle.model_states.specs.Valid.{AreStated, input_formats}
@@ -27,7 +26,7 @@ use Rattle.roi_planner.specs.Inputs.{Inputs, SuitsBody, SuitsInputs, inputs_of}
 use Rattle.roi_planner.proofs.StatedLaws.{suits-body}
 use Rattle.node_tiles.specs.Held.{HeldTiles}
 use Rattle.node_tiles.specs.Inputs.{AreInputWindows}
-use Rattle.node_tiles.specs.Stated.{HaveLengths, length_at, part_at, shape_at}
+use Rattle.node_tiles.specs.Stated.{HaveLengths, length_at, part_at}
 use Rattle.node_tiles.proofs.Places.{shape-at, suited}
 use Rattle.node_tiles.proofs.Whole.{windows-bounds, windows-formats, windows-required, windows-whole}
 

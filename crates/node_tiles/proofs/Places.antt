@@ -1,10 +1,10 @@
 -- Stated nodes by their positions: shapes, steps, and what is there of their inputs.
 use Rattle.std.proofs.Common.{◌≡◌, ℕ, ◌<◌, ◌⊎◌, Bool, true, false, List, length, get_or, map, Option, Some, None, inl, inr, refl, sym, ap, ◌∙◌, subst, arith}
-use Rattle.std.specs.Prelude.{IsSome, IsTrue, option_map, slice_get}
-use Rattle.std.proofs.lemmas.List.{get_or-map, length-map}
+use Rattle.std.specs.Prelude.{IsSome, option_map, slice_get}
+use Rattle.std.proofs.lemmas.List.{length-map}
 use Rattle.std.proofs.lemmas.Option.{get_or_from_slice_get, slice_get-map, slice_get_within}
-use Rattle.plane_rect.specs.Rectangle.{Inside, Rectangle, has_positions, meet}
-use Rattle.plane_rect.specs.Tile.{Meets, Tile, tile_at, tile_square}
+use Rattle.plane_rect.specs.Rectangle.{Inside, Rectangle, meet}
+use Rattle.plane_rect.specs.Tile.{Meets, Tile, tile_square}
 use Rattle.plane_rect.proofs.Differences.{no_positions}
 use Rattle.plane_rect.proofs.Rectangles.{Inside-meet}
 use Rattle.plane_rect.proofs.TileLists.{Inside-tile_square}
@@ -15,15 +15,15 @@ use Rattle.model_graphs.specs.declared.node.NodeFact.{NodeFact}
 use Rattle.model_graphs.specs.Facts.{Facts, fact_of, shape_of_fact, shapes_of_facts, specs_of, stated_shape, stated_shapes}
 use Rattle.model_graphs.specs.Meanings.{Meanings}
 use Rattle.model_graphs.specs.Node.{Apply, FromBuffer, Node, Step, index_of, step_of}
-use Rattle.model_graphs.specs.Shapes.{Shape, Shapes, no_shape, shape_in}
+use Rattle.model_graphs.specs.Shapes.{Shape, no_shape, shape_in}
 use Rattle.model_states.specs.Regions.{meets}
 use Rattle.model_states.specs.Serving.{IsSourceAt}
-use Rattle.model_states.specs.Valid.{AreStated, input_boxes, steps_of}
+use Rattle.model_states.specs.Valid.{AreStated, steps_of}
 use Rattle.model_states.proofs.Shapes.{shape_in-facts}
 use Rattle.model_states.proofs.Suited.{IsSuited, suited_at}
-use Rattle.roi_planner.specs.Inputs.{Inputs, inputs_of}
+use Rattle.roi_planner.specs.Inputs.{inputs_of}
 use Rattle.node_tiles.specs.Held.{HeldTiles, held_bytes}
-use Rattle.node_tiles.specs.Inputs.{AreInputsThere, AreThere, IsThere, required_of}
+use Rattle.node_tiles.specs.Inputs.{AreInputsThere, IsThere, required_of}
 use Rattle.node_tiles.specs.Stated.{IsReady, part_at, shape_at}
 
 -- a tile of a position of a rectangle meets it

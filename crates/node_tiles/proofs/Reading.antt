@@ -1,5 +1,5 @@
 -- Several reads of tiles are one.
-use Rattle.std.proofs.Common.{◌≡◌, ℕ, ◌+◌, ◌∙◌, refl, arith}
+use Rattle.std.proofs.Common.{ℕ, ◌+◌, ◌∙◌, refl, arith}
 use Rattle.chain_owners.specs.Counts.{Counts, Grows}
 use Rattle.chain_owners.proofs.Ownership.{respects-both, respects-same}
 use Rattle.swap_store.specs.Cause.{HasSwapCause}

@@ -1,12 +1,12 @@
 -- Over known images, the tile that an operation gives is the tile of its node's image.
-use Rattle.std.proofs.Common.{◌≡◌, ℕ, ◌<◌, List, [], ◌∷◌, length, get_or, map, Option, Some, None, refl, sym, ap, ◌∙◌, subst, arith}
+use Rattle.std.proofs.Common.{◌≡◌, ℕ, ◌<◌, List, [], ◌∷◌, length, get_or, map, Some, refl, sym, ap, ◌∙◌, subst, arith}
 use Rattle.std.specs.Prelude.{Contains, option_map, slice_get}
 use Rattle.std.proofs.lemmas.List.{get_or-map, length-map}
 use Rattle.std.proofs.lemmas.Option.{get_or_from_slice_get, same_Some, slice_get-get_or, slice_get-map, slice_get_within}
 use Rattle.std.proofs.lemmas.Map.Views.{Contains-from_lookup}
 use Rattle.plane_rect.specs.Rectangle.{Includes, Inside, Rectangle, meet}
 use Rattle.plane_rect.specs.SameTile.{same_tile-true}
-use Rattle.plane_rect.specs.Tile.{Tile, same_tile, tile_square}
+use Rattle.plane_rect.specs.Tile.{Tile, tile_square}
 use Rattle.plane_rect.proofs.Rectangles.{Inside-meet}
 use Rattle.model_images.specs.Image.{Image, at}
 use Rattle.model_images.specs.Paint.{cut, no_image}
@@ -18,13 +18,13 @@ use Rattle.model_images.proofs.RawLaws.{raw-over}
 use Rattle.model_graphs.specs.declared.node.Body.{Body}
 use Rattle.model_graphs.specs.declared.node.Body.TheVariants.{Source, Compute}
 use Rattle.model_graphs.specs.declared.node.NodeFact.{NodeFact}
-use Rattle.model_graphs.specs.Evaluation.{Buffers, buffer_image}
+use Rattle.model_graphs.specs.Evaluation.{Buffers}
 use Rattle.model_graphs.specs.Facts.{AreImagesOf, Facts, shapes_of_facts, specs_of, stated_shape, stated_shapes}
 use Rattle.model_graphs.specs.Laws.{IsLocal}
 use Rattle.model_graphs.specs.Meanings.{Meanings, boxes_of, result_box, result_of}
 use Rattle.model_graphs.specs.Node.{Node, index_of}
 use Rattle.model_graphs.specs.Shapes.{Shape, Shapes, no_shape, shape_of_image, shapes_of_images}
-use Rattle.model_graphs.specs.Windows.{AreWindowsOf, IsWindowOf, Window, tiles_of}
+use Rattle.model_graphs.specs.Windows.{AreWindowsOf, IsWindowOf, Window}
 use Rattle.model_states.specs.State.{Scene, body_image, image_of, node_images, node_of}
 use Rattle.model_states.specs.Valid.{AreStated, AreValid, input_boxes, node_names, shapes_of}
 use Rattle.model_states.proofs.Indices.{index_of_name}
@@ -33,9 +33,9 @@ use Rattle.model_states.proofs.Unrolled.{image_by_body}
 use Rattle.op_contracts.specs.Applying.{result_of_windows}
 use Rattle.op_contracts.proofs.Applied.{its-result}
 use Rattle.roi_planner.specs.Inputs.{Inputs, inputs_of}
-use Rattle.node_tiles.specs.Held.{HeldTiles, held_bytes}
+use Rattle.node_tiles.specs.Held.{HeldTiles}
 use Rattle.node_tiles.specs.Inputs.{AreInputWindows, IsInputTile, IsInputWindow, required_of}
-use Rattle.node_tiles.specs.Stated.{AreTilesOf, HaveLengths, bytes_at, scene_of, shape_at}
+use Rattle.node_tiles.specs.Stated.{AreTilesOf, HaveLengths, bytes_at, scene_of}
 use Rattle.node_tiles.proofs.Places.{shape-at, spec-at}
 use Rattle.node_tiles.proofs.Whole.{numbered, window-whole}
 use Rattle.node_tiles.proofs.Applied.{own-box, own-suits}

@@ -1,12 +1,11 @@
 -- Windows of inputs are what an application of an operation asks for.
-use Rattle.std.proofs.Common.{◌≡◌, ℕ, zero, suc, ◌*◌, ◌<◌, true, List, [], ◌∷◌, All, Contains, length, get_or, map, Option, Some, None, inl, inr, refl, sym, ap, ◌∙◌, subst, arith}
-use Rattle.std.specs.Prelude.{IfSome, IsSome, IsTrue, option_map, slice_get, unwrap_or}
+use Rattle.std.proofs.Common.{◌≡◌, ℕ, suc, ◌*◌, ◌<◌, true, List, [], ◌∷◌, All, Contains, length, get_or, map, Option, Some, None, inl, inr, refl, sym, ap, ◌∙◌, subst, arith}
+use Rattle.std.specs.Prelude.{IfSome, IsSome, option_map, slice_get, unwrap_or}
 use Rattle.std.specs.List.{IsDistinct}
-use Rattle.std.specs.Map.{lookup}
 use Rattle.std.proofs.lemmas.Option.{slice_get-get_or, slice_get_within}
 use Rattle.std.proofs.lemmas.Map.Made.{IsDistinct-from_AllPairs}
 use Rattle.std.proofs.lemmas.Map.Views.{IsSome-lookup_from_Contains}
-use Rattle.plane_rect.specs.Rectangle.{Includes, Inside, Rectangle}
+use Rattle.plane_rect.specs.Rectangle.{Inside, Rectangle}
 use Rattle.plane_rect.specs.SameTile.{same_tile-laws, same_tile-true}
 use Rattle.plane_rect.specs.Tile.{IsBefore, Meets, Tile, same_tile, tiles}
 use Rattle.plane_rect.proofs.TileLists.{tiles-in_order}
@@ -19,20 +18,18 @@ use Rattle.model_graphs.specs.declared.node.NodeFact.{NodeFact}
 use Rattle.model_graphs.specs.Evaluation.{Buffers}
 use Rattle.model_graphs.specs.Facts.{Facts, fact_of, shape_of_fact, shapes_of_facts, specs_of, stated_shape, stated_shapes}
 use Rattle.model_graphs.specs.Meanings.{Meanings}
-use Rattle.model_graphs.specs.Node.{index_of, step_of}
-use Rattle.model_graphs.specs.Shapes.{Shape, Shapes, no_shape, shape_in}
-use Rattle.model_graphs.specs.Windows.{HasTileLength, IsWholeWindow, Window, tiles_of}
+use Rattle.model_graphs.specs.Node.{step_of}
+use Rattle.model_graphs.specs.Shapes.{Shape, no_shape}
+use Rattle.model_graphs.specs.Windows.{IsWholeWindow, Window}
 use Rattle.model_states.specs.Valid.{AreStated, input_boxes, input_formats}
 use Rattle.model_states.proofs.Serves.{tiles_contain}
 use Rattle.model_states.proofs.Shapes.{shape_in-facts}
 use Rattle.model_states.proofs.Suited.{IsSuited}
 use Rattle.op_contracts.specs.Applying.{HaveRequired, window_bounds, window_formats}
-use Rattle.op_contracts.specs.Sources.{HasBufferLength}
-use Rattle.op_contracts.specs.TileList.{tiles_in}
-use Rattle.roi_planner.specs.Inputs.{Inputs, inputs_of}
-use Rattle.node_tiles.specs.Held.{HeldTiles, held_bytes}
-use Rattle.node_tiles.specs.Inputs.{AreInputTiles, AreInputWindows, IsInputTile, IsInputWindow, required_of}
-use Rattle.node_tiles.specs.Stated.{HaveLengths, length_at, shape_at}
+use Rattle.roi_planner.specs.Inputs.{Inputs}
+use Rattle.node_tiles.specs.Held.{HeldTiles}
+use Rattle.node_tiles.specs.Inputs.{AreInputWindows, IsInputTile, IsInputWindow, required_of}
+use Rattle.node_tiles.specs.Stated.{HaveLengths}
 use Rattle.node_tiles.proofs.Places.{buffer-known, meets-true, shape-at, suited}
 
 -- lists that are equal member by member

@@ -73,14 +73,5 @@ where
     let inputs = &inputs[node as usize];
     let part = tile_part(&at, &fact.bounds);
     let windows = input_windows(kit, alloc, nodes, inputs, held, sources, chain, op, part)?;
-    Ok(applied_tile(
-        kit,
-        alloc,
-        purse,
-        op,
-        inputs.boxes(),
-        &windows,
-        part,
-        at,
-    )?)
+    Ok(applied_tile(kit, alloc, purse, op, inputs.boxes(), &windows, part, at)?)
 }

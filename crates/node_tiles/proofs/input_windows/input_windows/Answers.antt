@@ -1,11 +1,10 @@
-use Rattle.std.proofs.Common.{◌≡◌, ◌∷◌, ◌++◌, ℕ, ◌<◌, ◌≤◌, List, length, get_or, Some, sym, ap, subst, refl, ◌∙◌, arith}
+use Rattle.std.proofs.Common.{◌≡◌, ℕ, ◌<◌, ◌≤◌, List, length, get_or, Some, sym, ap, subst, ◌∙◌, arith}
 use Rattle.std.specs.Prelude.{slice_get}
 use Rattle.std.proofs.lemmas.Option.{slice_get-get_or}
 use Rattle.plane_rect.specs.Rectangle.{Rectangle}
-use Rattle.model_graphs.specs.declared.node.NodeFact.{NodeFact}
 use Rattle.model_graphs.specs.Windows.{Window}
 use Rattle.node_tiles.specs.Inputs.{AreThere, IsInputWindow, required_of}
-use Rattle.node_tiles.specs.Reads.{Reads, Seen, seen}
+use Rattle.node_tiles.specs.Reads.{seen}
 use Rattle.node_tiles.proofs.Entries.{all-there-still, window-from}
 use Rattle.node_tiles.proofs.Reading.{cause-then, reads-both, reads-none}
 use Rattle.node_tiles.proofs.Collected.{windows-more}
