@@ -15,7 +15,6 @@ pub put-tile-known : (tiles : LevelTiles) (held : Held) → IsOver tiles held �
     → lookup (same_tile at) tiles.put ≡ Some name → length_of held name ≡ Some (tile_length tiles.format)
 put-tile-known tiles held over at name is = (over.named name (put-named tiles at name is)).length
 
-
 same-known : (bytes : List ℕ) (o : Option (List ℕ)) → IsSome o → IfSome o (λ there. bytes ≡ there) → Some bytes ≡ o
 same-known bytes None known is = absurd (true≢false (sym known))
 same-known bytes (Some there) known is = ap Some is

@@ -14,7 +14,7 @@ use std::marker::Model;
 
 /// The inputs of a node: the positions of their nodes, and their boxes. A clause sees both as lists.
 #[derive(Drop)]
-pub(crate) struct NodeInputs {
+pub struct NodeInputs {
     positions: Vec<usize>,
     boxes: Vec<Rect>,
 }
@@ -52,14 +52,14 @@ impl NodeInputs {
     }
 
     /// Returns the positions of the inputs among the nodes.
-    pub(crate) fn positions(&self) -> &[usize]
+    pub fn positions(&self) -> &[usize]
         ensures { result.now ≡ self.now.positions }
     {
         &self.positions
     }
 
     /// Returns the boxes of the inputs.
-    pub(crate) fn boxes(&self) -> &[Rect]
+    pub fn boxes(&self) -> &[Rect]
         ensures { result.now ≡ self.now.boxes }
     {
         &self.boxes
@@ -71,10 +71,7 @@ impl NodeInputs {
 /// # Errors
 ///
 /// `NoMemory` if memory runs out.
-pub(crate) fn all_inputs<Op>(
-    alloc: Global,
-    nodes: &[NodeFact<Op>],
-) -> Result<Vec<NodeInputs>, NoMemory>
+pub fn all_inputs<Op>(alloc: Global, nodes: &[NodeFact<Op>]) -> Result<Vec<NodeInputs>, NoMemory>
     ensures { IfOk result (λ all. all.items ≡ all_inputs nodes.now) }
 {
     let mut all = Vec::with_capacity(alloc, nodes.len())?;

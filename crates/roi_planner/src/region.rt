@@ -144,7 +144,7 @@ fn hull_of(rects: &[Rect]) -> Rect
 }
 
 /// Returns what a tile has of a rectangle.
-pub(crate) fn tile_part(tile: &TileAt, rect: &Rect) -> Rect
+pub fn tile_part(tile: &TileAt, rect: &Rect) -> Rect
     ensures { result ≡ meet (tile_square tile.now) rect.now }
 {
     let (first_column, first_row) = (tile.column() * TILE_SIDE, tile.row() * TILE_SIDE);

@@ -54,12 +54,12 @@ put-or P held (e ∷ entries) all tile =
             inl (subst (λ (o : Option (List ℕ)). IsSomeAnd o (P tile)) (sym here)
             (subst (λ (t : Tile). IsSomeAnd e.1 (P t)) (sym is) (all e.0 e.1 (Contains-first e entries (e.0, e.1) refl))))
         | inr miss ↦ inr (
-            same.0 ∙ ap (λ (b : Bool). cond b e.1 (held tile)) miss,
-            λ there. elim (Contains-cases e.0 (keys_of entries) tile there) [
-              | inl is ↦ absurd (true≢false (sym (ap (same_tile tile) is ∙ same_tile-laws.refl tile) ∙ miss))
-              | inr later ↦ same.1 later
-            ],
-          )
+          same.0 ∙ ap (λ (b : Bool). cond b e.1 (held tile)) miss,
+          λ there. elim (Contains-cases e.0 (keys_of entries) tile there) [
+            | inl is ↦ absurd (true≢false (sym (ap (same_tile tile) is ∙ same_tile-laws.refl tile) ∙ miss))
+            | inr later ↦ same.1 later
+          ],
+        )
       ]
     ]
 
@@ -199,7 +199,7 @@ module _ (root : RootTiles) (r : Rectangle) (f : ℕ → ℕ → ℕ → ℕ) (n
         → IsPutOr (IsPainted root.tiles.format (bytes_in s0.held root.tiles.put) r f) (bytes_in s0.held root.tiles.put) (tiles_in s2.held entries) (bytes_in new tiles.put) tile
     cases known tile =
         subst (λ (o : Option (List ℕ)). IsSomeAnd o (IsPainted root.tiles.format (bytes_in s0.held root.tiles.put) r f tile)
-            ⊎ ((o ≡ bytes_in s0.held root.tiles.put tile) × ¬ Contains (keys_of (tiles_in s2.held entries)) tile)) (sym (later-is tile))
+        ⊎ ((o ≡ bytes_in s0.held root.tiles.put tile) × ¬ Contains (keys_of (tiles_in s2.held entries)) tile)) (sym (later-is tile))
         (put-or (IsPainted root.tiles.format (bytes_in s0.held root.tiles.put) r f) (bytes_in s0.held root.tiles.put) (tiles_in s2.held entries) (makes.painted known) tile)
 
     among : (tile : Tile) → Meets tile r → Contains (keys_of (tiles_in s2.held entries)) tile

@@ -60,7 +60,7 @@ returns-clause-image g c =
     let all = c.in_default.ensures.all in
     let f = paint_pixels root.tiles.format rect c.args.paint.now in
     let P : RootTiles → Type 0 = λ r. root_image (record { box = root.box; tiles = c.switch.new.self.tiles }) new
-        ≡ option_map (λ image. painted image rect (paint_pixels r.tiles.format rect c.args.paint.now)) (root_image r held) in
+    ≡ option_map (λ image. painted image rect (paint_pixels r.tiles.format rect c.args.paint.now)) (root_image r held) in
     subst P same
     (switched-image root rect f (tile_count rect) s0 s2 c.make.new.made.entries c.make.ensures.made c.switch.new.self.tiles new
     c.switch.ensures.format c.switch.ensures.bytes c.switch.ensures.others.exposed

@@ -1,0 +1,47 @@
+-- Several reads of tiles are one.
+use Rattle.std.proofs.Common.{ℕ, ◌+◌, ◌∙◌, refl, arith}
+use Rattle.chain_owners.specs.Counts.{Counts, Grows}
+use Rattle.chain_owners.proofs.Ownership.{respects-both, respects-same}
+use Rattle.swap_store.specs.Cause.{HasSwapCause}
+use Rattle.swap_store.specs.declared.refusal.SwapRefused.{SwapRefused}
+use Rattle.swap_store.proofs.Causes.{cause-before, cause-more}
+use Rattle.node_tiles.specs.Reads.{Reads, Seen}
+
+pub grows-both : (added more : ℕ) (a b c : Counts) → Grows added a b → Grows more b c → Grows (added + more) a c
+grows-both added more a b c first second = record {
+  continues = record {
+    used = second.continues.used ∙ first.continues.used;
+    capacity = second.continues.capacity ∙ first.continues.capacity;
+    later = omega (arith, first.continues.later, second.continues.later);
+  };
+  names = omega (arith, first.names, second.names);
+}
+
+pub reads-none : (a : Seen) → Reads a a
+reads-none a = record {
+  facts = refl;
+  images = refl;
+  names = refl;
+  others = respects-same a.held a.names;
+  owners = refl;
+  counts = record { continues = record { used = refl; capacity = refl; later = omega arith }; names = omega arith };
+  loans = refl;
+}
+
+pub reads-both : (a b c : Seen) → Reads a b → Reads b c → Reads a c
+reads-both a b c first second = record {
+  facts = second.facts ∙ first.facts;
+  images = second.images ∙ first.images;
+  names = second.names ∙ first.names;
+  others = respects-both a.held b.held a.names b.names first.others c.held c.names second.others;
+  owners = second.owners ∙ first.owners;
+  counts = grows-both 0 0 a.counts b.counts c.counts first.counts second.counts;
+  loans = second.loans ∙ first.loans;
+}
+
+-- a refusal after reads has the cause that it has from their beginning on
+pub cause-then : (a b c : Seen) (refused : SwapRefused) → Reads a b → HasSwapCause b.counts c.counts b.counts.names refused
+    → HasSwapCause a.counts c.counts a.counts.names refused
+cause-then a b c refused reads cause =
+    cause-before a.counts b.counts c.counts 0 a.counts.names refused reads.counts
+    (cause-more b.counts c.counts b.counts.names a.counts.names refused (omega (arith, reads.counts.names)) cause)

@@ -1,0 +1,4 @@
+pub mod Held
+pub mod Stated
+pub mod Inputs
+pub mod Reads

@@ -1,0 +1,10 @@
+//! The tiles of nodes that a strip of a render holds while it is in work, and how one more is evaluated.
+#![tactic(auto)]
+
+mod applying;
+mod evaluating;
+mod input_windows;
+mod strip_tiles;
+
+pub use evaluating::evaluate;
+pub use strip_tiles::{NodeTile, StripTiles};
