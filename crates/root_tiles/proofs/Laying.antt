@@ -1,6 +1,6 @@
 -- Patches into which the tiles of a root are written, one after another.
-use Rattle.std.proofs.Common.{◌≡◌, ℕ, ◌<◌, ◌≤◌, ◌⊎◌, inl, inr, List, [], ◌∷◌, Contains, Option, Some, None, Bool, true, false, cond, refl, sym, ap, subst, ◌∙◌, arith}
-use Rattle.std.specs.Prelude.{IfSome, IsSome}
+use Rattle.std.proofs.Common.{◌≡◌, ℕ, ◌<◌, ◌⊎◌, inl, inr, List, [], ◌∷◌, Contains, Option, Some, None, Bool, true, false, cond, refl, sym, ap, subst, ◌∙◌, arith}
+use Rattle.std.specs.Prelude.{IsSome}
 use Rattle.std.specs.Option.{option_map, option_map_or}
 use Rattle.plane_rect.specs.Rectangle.{Includes, Inside, Rectangle}
 use Rattle.plane_rect.specs.Tile.{Tile, tile_at, tile_square}
@@ -9,7 +9,7 @@ use Rattle.plane_rect.proofs.TileLists.{Inside-tile_square}
 use Rattle.pixel_formats.specs.Format.{channels}
 use Rattle.pixel_formats.specs.declared.format.Format.{Format}
 use Rattle.model_images.specs.FromRaw.{pixels_from_raw}
-use Rattle.model_images.specs.Image.{Image, IsImage, at, image_from_fn, is_inside}
+use Rattle.model_images.specs.Image.{Image, IsImage, at, is_inside}
 use Rattle.model_images.specs.Paint.{blank, cut, put_raw}
 use Rattle.model_images.specs.Tiles.{HeldTiles, held_image, held_pixels}
 use Rattle.model_images.proofs.HeldTiles.{part-held}

@@ -1,13 +1,13 @@
 -- Painted tiles that are made beside a root, one after another.
-use Rattle.std.proofs.Common.{◌≡◌, ℕ, ◌+◌, ◌<◌, ◌≤◌, ◌⊎◌, inl, inr, List, [], ◌∷◌, ◌++◌, Contains, length, Option, Some, None, cond, refl, sym, ap, subst, ◌∙◌, arith}
+use Rattle.std.proofs.Common.{◌≡◌, ℕ, ◌+◌, ◌≤◌, ◌⊎◌, inl, inr, List, [], ◌∷◌, ◌++◌, Contains, length, Option, Some, cond, refl, sym, ap, subst, ◌∙◌, arith}
 use Rattle.std.specs.Prelude.{IfSome, IsSome, IsSomeAnd}
 use Rattle.std.specs.Map.{keys_of, values_of}
 use Rattle.std.specs.Option.{option_map_or}
-use Rattle.chain_owners.specs.Counts.{Counts, Grows}
+use Rattle.chain_owners.specs.Counts.{Grows}
 use Rattle.chain_owners.specs.Held.{Held}
 use Rattle.chain_owners.specs.Owners.{Owns, Respects}
 use Rattle.chain_owners.proofs.Ownership.{others-own, owns-fewer, respects-beside, respects-both, respects-same, times-append}
-use Rattle.level_tables.specs.LevelTiles.{bytes_in, names}
+use Rattle.level_tables.specs.LevelTiles.{bytes_in}
 use Rattle.level_tables.specs.NewTiles.{AreNewTiles, tiles_in}
 use Rattle.level_tables.proofs.Frames.{bytes-beside, over-beside}
 use Rattle.level_tables.proofs.SwitchingAll.{made-none}

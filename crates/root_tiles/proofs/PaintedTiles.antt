@@ -1,14 +1,14 @@
 -- Tiles once something is written over a rectangle.
-use Rattle.std.proofs.Common.{◌≡◌, ℕ, ◌-◌, ◌*◌, ◌<◌, ◌≤◌, ◌==◌, ◌||◌, max, min, List, replicate, Option, Some, None, Bool, true, false, cond, refl, sym, ap, subst, ◌∙◌, arith}
+use Rattle.std.proofs.Common.{◌≡◌, ℕ, ◌-◌, ◌*◌, ◌<◌, ◌≤◌, ◌==◌, ◌||◌, max, min, List, replicate, Option, Some, None, Bool, true, false, cond, refl, sym, ap, ◌∙◌, arith}
 use Rattle.std.proofs.lemmas.Nat.{mul-le}
 use Rattle.std.specs.Prelude.{IfSome}
 use Rattle.plane_rect.specs.Rectangle.{Inside, Rectangle, area, empty, end_column, end_row, meet}
-use Rattle.plane_rect.specs.Tile.{Tile, tile_at, tile_square}
+use Rattle.plane_rect.specs.Tile.{Tile, tile_square}
 use Rattle.plane_rect.proofs.TileLists.{Inside-tile_square}
 use Rattle.pixel_formats.specs.Format.{channels, pixel_bytes}
 use Rattle.pixel_formats.specs.declared.format.Format.{Format}
 use Rattle.model_images.specs.FromRaw.{image_from_raw, pixels_from_raw}
-use Rattle.model_images.specs.Image.{Image, at, image_from_fn, is_inside}
+use Rattle.model_images.specs.Image.{Image, at, is_inside}
 use Rattle.model_images.specs.Paint.{put_raw}
 use Rattle.model_images.specs.Tiles.{AreZeroAround, AreZeroOutside, HeldTiles, held_pixels, tile_or_zeros}
 use Rattle.model_images.proofs.FromRawLaws.{at-image_from_raw}

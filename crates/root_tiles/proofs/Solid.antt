@@ -1,5 +1,6 @@
 -- Prefixes of tiles of one pixel.
-use Rattle.std.proofs.Common.{◌≡◌, ℕ, zero, suc, ◌+◌, ◌*◌, ◌/◌, ◌%◌, ◌<◌, ◌≤◌, List, [], ◌∷◌, cond, length, take, get_or, refl, sym, ap, ap₂, ◌∙◌, arith}
+use Rattle.std.proofs.Common.{◌≡◌, ℕ, zero, suc, ◌+◌, ◌*◌, ◌/◌, ◌%◌, ◌<◌, ◌≤◌, List, [], ◌∷◌, cond, length, take, get_or, Option, Some, None, refl, sym, ap, ap₂, ◌∙◌, arith}
+use Rattle.std.specs.Option.{option_map}
 use Rattle.plane_rect.specs.Rectangle.{Includes, Inside, Rectangle, area, offset, spanning}
 use Rattle.plane_rect.proofs.RectangleLaws.{offset-below, offset-index}
 use Rattle.pixel_formats.specs.Format.{channels, depth, pixel_bytes}
@@ -110,3 +111,10 @@ pub painted-same : (image : Image) (r : Rectangle) (f g : ℕ → ℕ → ℕ �
 painted-same image r f g same =
     generated_equal image.box image.format (λ u v c. cond (is_inside u v r) (f u v c) (at image u v c)) (λ u v c. cond (is_inside u v r) (g u v c) (at image u v c))
     (λ u v c there known. ap (λ (n : ℕ). cond (is_inside u v r) n (at image u v c)) (same u v c known))
+
+-- the same of an image that may not be known
+pub filled-same : {X : Type 0} (content : Option X) (image : Image) (r : Rectangle) (f g : ℕ → ℕ → ℕ → ℕ)
+    → ((u v c : ℕ) → c < channels image.format → f u v c ≡ g u v c)
+    → option_map (λ (i : Image). painted i r f) (option_map (λ (x : X). image) content) ≡ option_map (λ (i : Image). painted i r g) (option_map (λ (x : X). image) content)
+filled-same None image r f g same = refl
+filled-same (Some x) image r f g same = ap Some (painted-same image r f g same)

@@ -1,5 +1,5 @@
 -- Roots once painted tiles are theirs.
-use Rattle.std.proofs.Common.{◌≡◌, ℕ, ◌<◌, ◌⊎◌, inl, inr, List, [], ◌∷◌, ◌++◌, Contains, Bool, true, false, cond, Option, Some, None, is_some, true≢false, refl, sym, ap, subst, ◌∙◌, arith}
+use Rattle.std.proofs.Common.{◌≡◌, ℕ, ◌<◌, ◌⊎◌, inl, inr, List, [], ◌∷◌, ◌++◌, Contains, Bool, false, cond, Option, Some, None, is_some, true≢false, refl, sym, ap, subst, ◌∙◌, arith}
 use Rattle.std.specs.Prelude.{IfSome, IsSome, IsSomeAnd}
 use Rattle.std.specs.Map.{keys_of, lookup, values_of}
 use Rattle.std.specs.Option.{option_and_then, option_map, option_map_or}
@@ -11,10 +11,10 @@ use Rattle.level_tables.specs.LevelTiles.{LevelTiles, bytes_in, position_with, p
 use Rattle.level_tables.specs.NewTiles.{tiles_in}
 use Rattle.level_tables.specs.Over.{IsOver}
 use Rattle.level_tables.proofs.Changes.{position-cases}
-use Rattle.level_tables.proofs.Frames.{bytes-beside, where_exposed, where_known}
+use Rattle.level_tables.proofs.Frames.{bytes-beside, where_exposed}
 use Rattle.level_tables.proofs.SwitchingAll.{tiles_with-same}
 use Rattle.model_images.specs.FromRaw.{pixels_from_raw}
-use Rattle.model_images.specs.Image.{Image, at, is_inside}
+use Rattle.model_images.specs.Image.{at, is_inside}
 use Rattle.model_images.specs.Paint.{painted}
 use Rattle.model_images.specs.Tiles.{AreZeroAround, AreZeroOutside, HeldTiles, held_image, held_pixels}
 use Rattle.model_images.proofs.HeldTiles.{pixel-held}
@@ -28,7 +28,7 @@ use Rattle.plane_rect.specs.Tile.{Meets, Tile, same_tile, tile_at, tile_square}
 use Rattle.plane_rect.proofs.Lists.{Contains-cases, Contains-first, Contains-later}
 use Rattle.plane_rect.proofs.TileLists.{Inside-tile_square}
 use Rattle.root_tiles.specs.Chains.{ChainState}
-use Rattle.root_tiles.specs.Made.{ArePainted, HasAll, Makes}
+use Rattle.root_tiles.specs.Made.{HasAll, Makes}
 use Rattle.root_tiles.specs.Paints.{IsPainted}
 use Rattle.root_tiles.specs.Roots.{IsRootOver, RootTiles, root_image, root_names}
 use Rattle.root_tiles.proofs.Laying.{pixel-lacking}

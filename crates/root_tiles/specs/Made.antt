@@ -1,5 +1,5 @@
 -- Tiles that are made beside a root, before they become its own.
-use Rattle.std.specs.Prelude.{◌≡◌, ℕ, ◌≤◌, ◌++◌, Contains, IsSome, IsSomeAnd, List, Option}
+use Rattle.std.specs.Prelude.{◌≡◌, ℕ, ◌++◌, Contains, IsSome, IsSomeAnd, List, Option}
 use Rattle.std.specs.Map.{keys_of, values_of}
 use Rattle.chain_owners.specs.Counts.{Grows}
 use Rattle.chain_owners.specs.Owners.{Owns, Respects}

@@ -1,6 +1,5 @@
-use Rattle.std.proofs.Common.{◌≡◌, ℕ, ◌*◌, List, ap, ap₂, subst, sym, take, ◌∙◌}
-use Rattle.root_tiles.specs.Paints.{IsPaint, IsSolid, Paints, paint_pixels}
-use Rattle.root_tiles.specs.declared.paint.Paint.{Paint}
+use Rattle.std.proofs.Common.{ℕ, ◌*◌, ap₂}
+use Rattle.root_tiles.specs.Paints.{IsSolid}
 use Rattle.root_tiles.proofs.Solid.{solid-paints}
 use Rattle.root_tiles.proofs.paint.Paint.piece.Goals as goal
 

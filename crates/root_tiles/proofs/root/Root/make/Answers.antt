@@ -1,14 +1,11 @@
-use Rattle.std.proofs.Common.{◌≡◌, ℕ, ◌+◌, ◌≤◌, ◌∷◌, ◌++◌, [], ◌⊎◌, inl, inr, List, Contains, Option, Some, length, refl, sym, ap, subst, ◌∙◌, arith}
+use Rattle.std.proofs.Common.{◌≡◌, ℕ, ◌+◌, ◌≤◌, ◌∷◌, inl, inr, List, Contains, length, refl, sym, ap, subst, ◌∙◌, arith}
 use Rattle.std.proofs.lemmas.Result.{err_from_is_err_and}
 use Rattle.std.specs.Prelude.{IsSome}
-use Rattle.std.specs.List.{All}
-use Rattle.std.specs.Map.{keys_of}
-use Rattle.chain_owners.specs.Held.{Held}
 use Rattle.level_tables.specs.LevelTiles.{bytes_in}
-use Rattle.level_tables.specs.NewTiles.{AreNewTiles, tiles_in}
+use Rattle.level_tables.specs.NewTiles.{AreNewTiles}
 use Rattle.model_images.specs.TileCounts.{tile_count}
 use Rattle.pixel_formats.specs.declared.format.Format.{Format}
-use Rattle.plane_rect.specs.Tile.{IsWhole, Meets, Tile}
+use Rattle.plane_rect.specs.Tile.{Tile}
 use Rattle.plane_rect.proofs.Lists.{Contains-cases, Contains-first, Contains-later}
 use Rattle.root_tiles.specs.Chains.{ChainState}
 use Rattle.root_tiles.specs.Paints.{IsPainted, paint_pixels}

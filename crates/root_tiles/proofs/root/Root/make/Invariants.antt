@@ -1,4 +1,4 @@
-use Rattle.std.proofs.Common.{◌≡◌, ℕ, ◌+◌, ◌⊎◌, Contains, length}
+use Rattle.std.proofs.Common.{◌≡◌, ◌+◌, ◌⊎◌, Contains, length}
 use Rattle.std.specs.Map.{keys_of}
 use Rattle.model_images.specs.TileCounts.{tile_count}
 use Rattle.plane_rect.specs.Tile.{IsWhole, Meets, Tile}

@@ -1,7 +1,6 @@
-use Rattle.std.proofs.Common.{rules, ◌≡◌, ℕ, ◌*◌, List, Bool, true, false, length, refl, sym, ap, subst, ◌∙◌, arith}
+use Rattle.std.proofs.Common.{rules, ◌≡◌, ℕ, ◌*◌, true, false, length, refl, sym, ap, subst, ◌∙◌, arith}
 use Rattle.std.proofs.lemmas.List.{with_items_is}
-use Rattle.std.specs.Prelude.{IsSome}
-use Rattle.plane_rect.specs.Rectangle.{Inside, Rectangle, area}
+use Rattle.plane_rect.specs.Rectangle.{Inside}
 use Rattle.plane_rect.specs.Tile.{tile_square}
 use Rattle.pixel_formats.specs.Format.{pixel_bytes}
 use Rattle.level_tables.specs.LevelTiles.{bytes_in}

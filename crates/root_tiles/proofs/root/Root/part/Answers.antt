@@ -1,7 +1,7 @@
 use Rattle.std.proofs.Common.{◌≡◌, ℕ, ◌∙◌, ◌∷◌, List, Contains, refl, sym, ap, subst}
 use Rattle.std.proofs.lemmas.Result.{err_from_is_err_and}
-use Rattle.plane_rect.specs.Rectangle.{Inside, Rectangle}
-use Rattle.plane_rect.specs.Tile.{Meets, Tile, tile_at}
+use Rattle.plane_rect.specs.Rectangle.{Inside}
+use Rattle.plane_rect.specs.Tile.{Tile, tile_at}
 use Rattle.level_tables.specs.LevelTiles.{bytes_in}
 use Rattle.chain_owners.specs.Held.{Held}
 use Rattle.model_images.specs.Image.{Image}

@@ -6,9 +6,7 @@ use Rattle.level_tables.specs.LevelTiles.{LevelTiles}
 use Rattle.model_images.specs.Paint.{painted}
 use Rattle.model_images.specs.TileCounts.{tile_count}
 use Rattle.plane_rect.specs.Rectangle.{Includes, Rectangle}
-use Rattle.std.specs.Map.{values_of}
 use Rattle.root_tiles.specs.Chains.{ChainState}
-use Rattle.root_tiles.specs.Made.{Makes}
 use Rattle.root_tiles.specs.Paints.{paint_pixels}
 use Rattle.root_tiles.specs.Roots.{IsRootOver, RootTiles, root_image, root_names}
 use Rattle.root_tiles.proofs.Written.{given-up-image, given-up-others, given-up-over, switched-image, switched-over}
