@@ -51,9 +51,7 @@ impl<K: OpKit> Engine<K> {
 }
 
 /// Returns a step's damage, or why it is refused.
-fn answer(
-    step: Result<Damage, GraphRefused>,
-) -> Result<Result<Damage, StateRefused>, NoMemory> {
+fn answer(step: Result<Damage, GraphRefused>) -> Result<Result<Damage, StateRefused>, NoMemory> {
     match step {
         Ok(damage) => Ok(Ok(damage)),
         Err(GraphRefused::State(refused)) => Ok(Err(refused)),

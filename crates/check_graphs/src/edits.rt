@@ -132,14 +132,20 @@ fn inputs(alloc: Global, count: u32, randoms: &mut Randoms) -> Result<Vec<Name>>
 /// Returns an operation.
 fn op(alloc: Global, randoms: &mut Randoms) -> Result<IntOp> {
     let rect = rect(randoms);
-    let abyss = if randoms.below(2) == 0 { Abyss::None } else { Abyss::Clamp };
+    let abyss = if randoms.below(2) == 0 {
+        Abyss::None
+    } else {
+        Abyss::Clamp
+    };
     Ok(match randoms.below(10) {
         0 => color(alloc, rect)?,
         1 | 2 => IntOp::Crop { rect },
         3 => IntOp::Invert,
         4 => IntOp::Flip { sideways: true },
         5 => translate(randoms),
-        6 => IntOp::Convert { format: Format::YA8 },
+        6 => IntOp::Convert {
+            format: Format::YA8,
+        },
         7 => IntOp::Over,
         8 => IntOp::Add,
         _ => IntOp::BoxMean { radius: 2, abyss },

@@ -124,7 +124,9 @@ fn source(word: &str, buffer: &str) -> Result<NodeEdit<IntOp>, Fail> {
 fn edits_of(alloc: Global, briefs: &[Brief]) -> Result<Vec<NodeEdit<IntOp>>, Fail> {
     let mut edits = Vec::new(alloc);
     for brief in briefs {
-        edits.push(edit_of(alloc, *brief)?).map_err(AllocError::from)?;
+        edits
+            .push(edit_of(alloc, *brief)?)
+            .map_err(AllocError::from)?;
     }
     Ok(edits)
 }

@@ -85,6 +85,12 @@ fn a_node_that_moves_is_not_damaged(rt: HostRuntime) -> Result<(), Fail> {
     let damage = commit(alloc, &mut trial, &moved)?;
     let nothing = [0, 0, 0, 0];
     assert!(rt; trial.has_nodes(&["s", "b", "i"]));
-    assert!(rt; is_damage(&damage, 2, &[("s", nothing), ("b", nothing), ("i", nothing)]));
+    assert!(rt;
+        is_damage(
+            &damage,
+            2,
+            &[("s", nothing), ("b", nothing), ("i", nothing)]
+        )
+    );
     Ok(())
 }

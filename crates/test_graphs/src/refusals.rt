@@ -78,10 +78,7 @@ fn a_refused_commit_leaves_what_can_be_redone(rt: HostRuntime) -> Result<(), Fai
 fn an_edit_is_refused_before_a_node(rt: HostRuntime) -> Result<(), Fail> {
     let alloc = rt.alloc();
     let mut trial = trial_over(alloc, [0, 0, 8, 8])?;
-    let edits = [
-        Brief::Compute("n", Kind::Invert, &[]),
-        Brief::Remove("zz"),
-    ];
+    let edits = [Brief::Compute("n", Kind::Invert, &[]), Brief::Remove("zz")];
     let refused = refusal(alloc, &mut trial, &edits)?;
     assert!(rt; refused == StateRefused::UnknownInput);
     Ok(())

@@ -35,10 +35,8 @@ impl<K: OpKit + Drop> Trial<K> {
     pub(crate) fn has_nodes(&self, wanted: &[&str]) -> bool {
         let nodes = self.graph.nodes();
         nodes.len() == wanted.len()
-            && nodes
-                .iter()
-                .zip(wanted)
-                .all(|(fact, word)| fact.spec.name.as_bytes() == word.as_bytes())
+            && nodes.iter().zip(wanted).all(|(fact, word)| fact.spec.name.as_bytes()
+                == word.as_bytes())
     }
 
     /// Commits edits over the buffers, some of which were written.
@@ -50,10 +48,7 @@ impl<K: OpKit + Drop> Trial<K> {
         if !self.graph.has_all_buffers_in(&self.buffers) {
             return Err(Fail::from("a buffer is gone"));
         }
-        Ok(
-            self.graph
-                .commit(&self.kit, edits, &self.buffers, edited)?,
-        )
+        Ok(self.graph.commit(&self.kit, edits, &self.buffers, edited)?)
     }
 
     /// Returns why a commit of these edits is refused, and fails where it is not.
