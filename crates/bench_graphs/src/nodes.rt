@@ -63,11 +63,13 @@ fn mean() -> IntOp {
     }
 }
 
-/// Returns an edit that sets the node of a name in the middle of the chain: by turns to one and to another
-/// operation.
-pub fn turned(alloc: Global, node: Name, input: Name, turn: bool) -> Result<NodeEdit<IntOp>> {
+/// Returns an edit that sets a node in the middle of the chain to the one or to the other operation.
+pub fn turned(alloc: Global, turn: bool) -> Result<Vec<NodeEdit<IntOp>>> {
     let op = if turn { IntOp::Invert } else { mean() };
-    compute(alloc, node, op, &[input])
+    let (node, input) = (name("k129")?, name("k128")?);
+    let mut edits = Vec::new(alloc);
+    edits.push(compute(alloc, node, op, &[input])?)?;
+    Ok(edits)
 }
 
 /// Returns an edit that sets a node of an operation.

@@ -46,7 +46,8 @@ impl<K: OpKit> Engine<K> {
 #[derive(Drop)]
 pub struct Rounds {
     engine: Engine<IntKit>,
-    edits: [NodeEdit<IntOp>; 2],
+    odd: Vec<NodeEdit<IntOp>>,
+    even: Vec<NodeEdit<IntOp>>,
     written: Edited,
 }
 
@@ -59,23 +60,24 @@ impl Rounds {
             buffers: buffers(alloc)?,
         };
         let _ = engine.commit(&first_edits(alloc)?, &[])?;
-        let (node, input) = (name("k129")?, name("k128")?);
         let root = name("a")?;
         let rect = Rect::new(100, 100, 3, 3)?;
+        let (odd, even) = (turned(alloc, true)?, turned(alloc, false)?);
         Ok(Rounds {
             engine,
-            edits: [
-                turned(alloc, node, input, true)?,
-                turned(alloc, node, input, false)?,
-            ],
+            odd,
+            even,
             written: Edited { root, rect },
         })
     }
 
-    /// Commits one edit.
+    /// Commits one edit, by turns the one and the other.
     pub fn edit(&mut self) -> Result<()> {
-        let turn = (self.engine.number() % 2) as usize;
-        let _ = self.engine.commit(&self.edits[turn..=turn], &[])?;
+        if self.engine.number() % 2 == 1 {
+            self.engine.commit(&self.odd, &[])?;
+        } else {
+            self.engine.commit(&self.even, &[])?;
+        }
         Ok(())
     }
 
