@@ -23,15 +23,14 @@ impl Tally {
 
     /// Counts a commit that was refused.
     pub fn count_refused(&mut self, cause: StateRefused) {
-        let count = match cause {
-            StateRefused::UnknownInput => &mut self.unknown,
-            StateRefused::Arity => &mut self.arity,
-            StateRefused::Formats => &mut self.formats,
-            StateRefused::Bounds => &mut self.bounds,
-            StateRefused::InUse => &mut self.in_use,
-            _ => &mut self.differ,
-        };
-        *count = count.saturating_add(1);
+        match cause {
+            StateRefused::UnknownInput => self.unknown = self.unknown.saturating_add(1),
+            StateRefused::Arity => self.arity = self.arity.saturating_add(1),
+            StateRefused::Formats => self.formats = self.formats.saturating_add(1),
+            StateRefused::Bounds => self.bounds = self.bounds.saturating_add(1),
+            StateRefused::InUse => self.in_use = self.in_use.saturating_add(1),
+            _ => self.differ = self.differ.saturating_add(1),
+        }
     }
 
     /// Counts a difference, where the two don't agree.
