@@ -24,7 +24,8 @@ fn name(word: &str) -> Result<Name> {
 
 /// Returns one of these words.
 fn word_of(words: &[&'static str], randoms: &mut Randoms) -> &'static str {
-    let index = randoms.below(words.len() as u32);
+    let count = u32::try_from(words.len()).unwrap_or(1);
+    let index = randoms.below(count);
     words.get(index as usize).copied().unwrap_or("p")
 }
 
