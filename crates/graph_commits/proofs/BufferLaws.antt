@@ -8,18 +8,11 @@ use Rattle.std.proofs.lemmas.Slice.Eq.{bytes_eq-Decides}
 use Rattle.model_states.specs.Damage.{IsSteady, same_shape}
 use Rattle.model_states.proofs.Kept.{same_shape-true}
 use Rattle.graph_commits.specs.Graphs.{AreStillThere, is_still_there}
-use Rattle.std.specs.Prelude.{is_some, option_map}
+use Rattle.std.specs.Prelude.{option_map}
 use Rattle.model_graphs.specs.declared.buffer.BufferFact.{BufferFact}
 use Rattle.model_graphs.specs.Facts.{Facts, fact_of, shape_of_fact, shapes_of_facts}
 use Rattle.model_graphs.specs.Shapes.{shape_in}
 use Rattle.model_states.proofs.Shapes.{shape_in-facts}
-
-pub some_shape : (facts : Facts) (name : List ℕ) → is_some (shape_in (shapes_of_facts facts) name) ≡ is_some (fact_of facts name)
-some_shape facts name = ap is_some (shape_in-facts facts name) ∙ of (fact_of facts name)
-  where
-    of : (o : Option BufferFact) → is_some (option_map shape_of_fact o) ≡ is_some o
-    of None = refl
-    of (Some fact) = refl
 
 -- the shape of a buffer is that of its fact
 pub shape_found : (facts : Facts) (name : List ℕ) → shape_in (shapes_of_facts facts) name ≡ option_map shape_of_fact (fact_of facts name)

@@ -1,6 +1,4 @@
-pub mod NameLaws
 pub mod BufferLaws
-pub mod EditLaws
 pub mod WalkLaws
 pub mod StateLaws
 pub mod SuitedLaws

@@ -15,9 +15,9 @@ use Rattle.model_states.specs.Edits.{steps_refused, unless_refused, walked, with
 use Rattle.model_states.specs.Valid.{AreStated, AreValid, node_names, shapes_of, steps_of, with_shape}
 use Rattle.model_states.proofs.EditLaws.{edits_leave_valid}
 use Rattle.model_states.proofs.Stated.{stated-nodes, stated_valid}
-use Rattle.graph_commits.specs.declared.refused.GraphRefused.{GraphRefused}
-use Rattle.graph_commits.specs.declared.refused.GraphRefused.TheVariants.{State, NoMemory}
-use Rattle.graph_commits.specs.Refusals.{IsRefusalOf}
+use Rattle.graph_edits.specs.declared.refused.GraphRefused.{GraphRefused}
+use Rattle.graph_edits.specs.declared.refused.GraphRefused.TheVariants.{State, NoMemory}
+use Rattle.graph_edits.specs.Refusals.{IsRefusalOf}
 use Rattle.graph_commits.specs.States.{HaveRectangularBoxes, IsGraphState, edited_side, shapes_unless_refused, side_of_result}
 
 module _ {Op : Type 0} (meanings : Meanings Op) where

@@ -1,5 +1,3 @@
-pub mod Names
-pub mod Refusals
 pub mod States
 pub mod Damages
 pub mod Histories

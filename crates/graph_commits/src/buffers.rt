@@ -1,21 +1,15 @@
-//! Buffers by their names.
+//! Facts of buffers, beside others and copied.
 
-ghost use Rattle.std.specs.Prelude.{◌≡◌, option_map};
+ghost use Rattle.std.specs.Prelude.{◌≡◌, IfOk};
 ghost use Rattle.std.specs.List.{list_all};
 ghost use Rattle.model_graphs.specs.Facts.{fact_of, shape_of_fact};
 ghost use Rattle.model_states.specs.Damage.{same_shape};
 ghost use Rattle.graph_commits.specs.Graphs.{is_still_there};
 
+use graph_edits::buffer_of;
 use model_graphs::BufferFact;
-use plane_rect::Name;
-
-/// Returns the buffer of a name, where there is one. Its cost is proportional to the number of buffers,
-/// of which there are at most 64.
-pub(crate) fn buffer_of(buffers: &[BufferFact], name: Name) -> Option<&BufferFact>
-    ensures { option_map (λ buffer. buffer.now) result ≡ fact_of buffers.now name }
-{
-    buffers.iter().find(|buffer| name == buffer.name)
-}
+use no_memory::NoMemory;
+use std::alloc::Global;
 
 /// Returns whether each of these buffers is among others, with its root, its bounds and its format.
 pub(crate) fn are_still_there(old: &[BufferFact], new: &[BufferFact]) -> bool
@@ -39,4 +33,18 @@ fn has_same_shape(a: &BufferFact, b: &BufferFact) -> bool
     ensures { result ≡ same_shape (shape_of_fact a.now) (shape_of_fact b.now) }
 {
     a.bounds == b.bounds && a.format == b.format
+}
+
+/// Returns equal facts of buffers.
+///
+/// # Errors
+///
+/// `NoMemory` if memory runs out.
+pub(crate) fn copy_buffers(
+    alloc: Global,
+    buffers: &[BufferFact],
+) -> Result<Vec<BufferFact>, NoMemory>
+    ensures { IfOk result (λ copied. copied.items ≡ buffers.now) }
+{
+    Ok(buffers.to_vec(alloc)?)
 }

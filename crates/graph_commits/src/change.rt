@@ -14,11 +14,11 @@ ghost use Rattle.graph_commits.specs.Damages.{damages_of};
 ghost use Rattle.graph_commits.specs.States.{IsGraphState};
 
 use crate::bodies::{inputs_of, same_body};
-use crate::buffers::buffer_of;
 use crate::damage_list::DamageList;
 use crate::regions::{hull_of, rectangle_of};
 use crate::shape::Shape;
 use crate::state::GraphState;
+use graph_edits::buffer_of;
 use model_graphs::{Body, Edited, NodeFact, NodeSpec, OpMeaning};
 use no_memory::NoMemory;
 use op_contracts::OpKit;

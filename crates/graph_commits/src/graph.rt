@@ -9,14 +9,14 @@ ghost use Rattle.model_states.specs.Damage.{damage_list};
 ghost use Rattle.model_states.specs.Rectangles.{Rectangles};
 ghost use Rattle.model_states.specs.Retained.{redone, undone};
 ghost use Rattle.graph_commits.specs.Graphs.{AreDamagesOf, AreStillThere, IsGraph, is_still_there};
-ghost use Rattle.graph_commits.specs.Refusals.{IsRefusalOf};
+ghost use Rattle.graph_edits.specs.Refusals.{IsRefusalOf};
 
 use crate::buffers::are_still_there;
 use crate::change::Change;
 use crate::damage_list::DamageList;
 use crate::history::History;
-use crate::refused::GraphRefused;
 use crate::state::GraphState;
+use graph_edits::GraphRefused;
 use model_graphs::{BufferFact, Edited, NodeEdit, NodeFact, OpMeaning};
 use model_states::StateRefused;
 use op_contracts::OpKit;

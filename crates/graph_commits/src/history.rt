@@ -4,10 +4,10 @@ ghost use Rattle.std.specs.Prelude.{◌≡◌, ◌+◌, ◌<◌, ◌∷◌, [], 
 ghost use Rattle.std.specs.VecDeque.{deque_capacity, deque_len};
 ghost use Rattle.model_states.specs.declared.refused.StateRefused.TheVariants.{TooManyCommits};
 ghost use Rattle.model_states.specs.Retained.{last_number, redo_to, retained_from, undo_to, with_commit};
-ghost use Rattle.graph_commits.specs.declared.refused.GraphRefused.TheVariants as refusals;
+ghost use Rattle.graph_edits.specs.declared.refused.GraphRefused.TheVariants as refusals;
 ghost use Rattle.graph_commits.specs.Histories.{first_delta};
 
-use crate::refused::GraphRefused;
+use graph_edits::GraphRefused;
 use model_states::StateRefused;
 use no_memory::NoMemory;
 use std::alloc::Global;

@@ -5,14 +5,10 @@
 mod bodies;
 mod buffers;
 mod change;
-mod copies;
 mod damage_list;
-mod edits;
 mod graph;
 mod history;
 pub mod laws;
-mod names;
-mod refused;
 mod regions;
 mod shape;
 mod state;
@@ -20,5 +16,5 @@ mod walk;
 
 pub use damage_list::DamageList;
 pub use graph::{Damage, Graph};
-pub use refused::GraphRefused;
+pub use graph_edits::GraphRefused;
 pub use state::GraphState;

@@ -7,15 +7,13 @@ ghost use Rattle.model_graphs.specs.Node.{index_of};
 ghost use Rattle.model_states.specs.Damage.{side_shape};
 ghost use Rattle.model_states.specs.Edits.{has_node};
 ghost use Rattle.model_states.specs.Valid.{node_names, with_shape};
-ghost use Rattle.graph_commits.specs.Refusals.{IsRefusalOf};
+ghost use Rattle.graph_edits.specs.Refusals.{IsRefusalOf};
 ghost use Rattle.graph_commits.specs.States.{IsGraphState, edited_side};
 
-use crate::copies::copy_buffers;
-use crate::edits::Draft;
-use crate::names::NameIndex;
-use crate::refused::GraphRefused;
+use crate::buffers::copy_buffers;
 use crate::shape::{Shape, stated_at};
 use crate::walk::walk;
+use graph_edits::{Draft, GraphRefused, NameIndex};
 use model_graphs::{BufferFact, NodeEdit, NodeFact, NodeSpec, OpMeaning};
 use no_memory::NoMemory;
 use op_contracts::OpKit;

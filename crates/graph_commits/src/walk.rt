@@ -8,14 +8,12 @@ ghost use Rattle.model_graphs.specs.Node.{Apply, index_of, step_of};
 ghost use Rattle.model_states.specs.Valid.{input_boxes, input_formats, steps_of};
 ghost use Rattle.model_graphs.specs.Shapes.{shape_in};
 ghost use Rattle.model_states.specs.declared.refused.StateRefused.TheVariants.{UnknownInput};
-ghost use Rattle.graph_commits.specs.declared.refused.GraphRefused.TheVariants as refusals;
-ghost use Rattle.graph_commits.specs.Refusals.{IsRefusalOf};
+ghost use Rattle.graph_edits.specs.declared.refused.GraphRefused.TheVariants as refusals;
+ghost use Rattle.graph_edits.specs.Refusals.{IsRefusalOf};
 ghost use Rattle.graph_commits.specs.States.{HaveRectangularBoxes, shape_unless_refused, shapes_unless_refused};
 
-use crate::buffers::buffer_of;
-use crate::edits::Draft;
-use crate::refused::GraphRefused;
 use crate::shape::{Shape, shape_at};
+use graph_edits::{Draft, GraphRefused, buffer_of};
 use model_graphs::{Body, BufferFact};
 use model_states::StateRefused;
 use no_memory::NoMemory;

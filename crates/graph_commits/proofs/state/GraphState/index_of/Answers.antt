@@ -1,6 +1,6 @@
 use Rattle.std.proofs.Common.{ap}
 use Rattle.model_graphs.specs.Facts.{specs_of}
-use Rattle.graph_commits.proofs.NameLaws.{position_is}
+use Rattle.graph_edits.proofs.NameLaws.{position_is}
 use Rattle.graph_commits.proofs.state.GraphState.index_of.Goals as goal
 
 pub returns-clause-value : goal.returns-clause-value
