@@ -15,14 +15,14 @@ use Rattle.level_tables.proofs.Frames.{bytes-beside, where_exposed}
 use Rattle.level_tables.proofs.SwitchingAll.{tiles_with-same}
 use Rattle.model_images.specs.FromRaw.{pixels_from_raw}
 use Rattle.model_images.specs.Image.{at, is_inside}
-use Rattle.model_images.specs.Paint.{painted}
+use Rattle.model_images.specs.Paint.{blank, painted}
 use Rattle.model_images.specs.Tiles.{AreZeroAround, AreZeroOutside, HeldTiles, held_image, held_pixels}
 use Rattle.model_images.proofs.HeldTiles.{pixel-held}
 use Rattle.model_images.proofs.Laws.{at-image_from_fn, generated_equal}
 use Rattle.model_images.proofs.Positions.{not_inside}
 use Rattle.pixel_formats.specs.Format.{channels}
 use Rattle.pixel_formats.specs.declared.format.Format.{Format}
-use Rattle.plane_rect.specs.Rectangle.{Includes, Inside, Rectangle}
+use Rattle.plane_rect.specs.Rectangle.{InLimits, Includes, Inside, IsRectangle, Rectangle}
 use Rattle.plane_rect.specs.SameTile.{same_tile-laws, same_tile-true}
 use Rattle.plane_rect.specs.Tile.{Meets, Tile, same_tile, tile_at, tile_square}
 use Rattle.plane_rect.proofs.Lists.{Contains-cases, Contains-first, Contains-later}
@@ -30,7 +30,7 @@ use Rattle.plane_rect.proofs.TileLists.{Inside-tile_square}
 use Rattle.root_tiles.specs.Chains.{ChainState}
 use Rattle.root_tiles.specs.Made.{HasAll, Makes}
 use Rattle.root_tiles.specs.Paints.{IsPainted}
-use Rattle.root_tiles.specs.Roots.{IsRootOver, RootTiles, root_image, root_names}
+use Rattle.root_tiles.specs.Roots.{IsRootOver, RootTiles, empty_root, root_image, root_names}
 use Rattle.root_tiles.proofs.Laying.{pixel-lacking}
 use Rattle.root_tiles.proofs.Making.{none-in, root-beside}
 
@@ -235,3 +235,29 @@ module _ (root : RootTiles) (r : Rectangle) (f : ℕ → ℕ → ℕ → ℕ) (n
           ];
       zero = zero-switched;
     }
+
+-- ---- what a call leaves of a root that it wasn't handed
+
+pub image-beside : (root : RootTiles) (old new : Held) (before after : List ℕ) → Respects old new before after → Owns old (before ++ root_names root)
+    → root_image root new ≡ root_image root old
+image-beside root old new before after respects owns =
+    where_exposed new.content old.content _ _ respects.exposed
+    (held_image-same root.box root.tiles.format (bytes_in old root.tiles.put) (bytes_in new root.tiles.put)
+    (bytes-beside old new before after respects root.tiles owns))
+
+-- ---- roots of no tile
+
+pub blank-over : (box : Rectangle) (format : Format) (held : Held) → IsOver (record { format = format; put = []; levels = [] }) held → IsRectangle box → InLimits box
+    → IsRootOver (empty_root box format) held
+blank-over box format held table is limits = record {
+  table = table;
+  rectangle = is;
+  limits = limits;
+  meeting = λ tile there. absurd (none-in tile there);
+  zero = λ tile. tt;
+}
+
+pub blank-image : (box : Rectangle) (format : Format) (held : Held) → root_image (empty_root box format) held ≡ option_map (λ _. blank box format) held.content
+blank-image box format held =
+    where_exposed held.content held.content _ _ refl
+    (generated_equal box format (held_pixels format (bytes_in held [])) (λ u v c. 0) (λ u v c there known. refl))

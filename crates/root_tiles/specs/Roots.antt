@@ -1,5 +1,5 @@
 -- Images of root buffers that are held by tables of tiles.
-use Rattle.std.specs.Prelude.{◌≡◌, ℕ, Contains, IfSome, List, None, Option, Some}
+use Rattle.std.specs.Prelude.{◌≡◌, ℕ, [], Contains, IfSome, List, None, Option, Some}
 use Rattle.std.specs.Option.{option_map}
 use Rattle.chain_owners.specs.Held.{Held}
 use Rattle.level_tables.specs.LevelTiles.{LevelTiles, bytes_in, names, positions}
@@ -8,6 +8,7 @@ use Rattle.model_graphs.specs.Shapes.{Shape}
 use Rattle.model_images.specs.Image.{Image}
 use Rattle.model_images.specs.Paint.{cut, put_raw}
 use Rattle.model_images.specs.Tiles.{AreZeroAround, held_image}
+use Rattle.pixel_formats.specs.declared.format.Format.{Format}
 use Rattle.plane_rect.specs.Rectangle.{InLimits, IsRectangle, Rectangle}
 use Rattle.plane_rect.specs.Tile.{Meets, Tile, tile_square}
 
@@ -16,6 +17,11 @@ pub record RootTiles : Type 0 where
   pub box : Rectangle
   pub tiles : LevelTiles
 
+-- the root of no tile
+abbrev pub empty_root : Rectangle → Format → RootTiles
+empty_root box format = record { box = box; tiles = record { format = format; put = []; levels = [] } }
+
+-- its box and its format
 abbrev pub root_shape : RootTiles → Shape
 root_shape root = record { box = root.box; format = root.tiles.format }
 

@@ -1,10 +1,13 @@
 //! The images of root buffers, each held by the tiles of a table over a chain.
 #![tactic(auto)]
 
+mod laws;
 mod paint;
 mod painting;
 mod reading;
 mod root;
+mod shares;
 mod writing;
 
+pub use laws::{new_roots_are_blank, other_roots_are_unchanged};
 pub use root::Root;

@@ -1,8 +1,8 @@
 //! A root: a box, and a table of tiles.
 
-ghost use Rattle.std.specs.Prelude.{◌≡◌, []};
+ghost use Rattle.std.specs.Prelude.{◌≡◌};
 ghost use Rattle.plane_rect.specs.Rectangle.{InLimits};
-ghost use Rattle.root_tiles.specs.Roots.{root_shape};
+ghost use Rattle.root_tiles.specs.Roots.{empty_root, root_shape};
 
 use level_tables::LevelTable;
 use pixel_formats::Format;
@@ -16,7 +16,7 @@ use std::marker::Model;
 /// `root_image` of that.
 #[derive(Drop)]
 pub struct Root {
-    bounds: Rect,
+    pub(crate) bounds: Rect,
     pub(crate) table: LevelTable,
     pub(crate) alloc: Global,
 }
@@ -33,7 +33,7 @@ impl Root {
     /// Returns the root of zeros over a box, whose calls take memory from `alloc`. It holds no tile.
     pub fn new(alloc: Global, format: Format, bounds: Rect) -> Root
         requires { InLimits bounds }
-        ensures { result ≡ record { box = bounds; tiles = record { format = format; put = []; levels = [] } } }
+        ensures { result ≡ empty_root bounds format }
     {
         Root {
             bounds,

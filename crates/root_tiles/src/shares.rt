@@ -1,0 +1,51 @@
+//! Roots shared and released.
+
+ghost use Rattle.std.specs.Prelude.{◌≡◌, ◌++◌, [], IfOk, OnErr, OnOk};
+ghost use Rattle.chain_owners.specs.Counts.{Grows};
+ghost use Rattle.chain_owners.specs.Owners.{Owns, Respects};
+ghost use Rattle.root_tiles.specs.Roots.{IsRootOver, root_image, root_names};
+
+use crate::root::Root;
+use chain_contracts::TileChain;
+use no_memory::NoMemory;
+
+impl Root {
+    /// Returns a root with the same box and tiles, which is an owner of each name as this one is. The chain's
+    /// names and bytes are unchanged. Takes one look into the chain for each tile, and copies none.
+    ///
+    /// # Errors
+    ///
+    /// `NoMemory` if memory runs out; then the chain is unchanged.
+    pub fn share<C: TileChain>(&self, chain: &mut C) -> Result<Root, NoMemory>
+        requires { IsRootOver self.now (C.held chain.old) }
+        ensures root { IfOk result (λ shared. shared ≡ self.now) }
+        ensures lengths { (C.held chain.new).lengths ≡ (C.held chain.old).lengths }
+        ensures content { (C.held chain.new).content ≡ (C.held chain.old).content }
+        ensures unchanged { OnErr result (C.held chain.new ≡ C.held chain.old) }
+        ensures image { root_image self.now (C.held chain.new) ≡ root_image self.now (C.held chain.old) }
+        ensures over { IsRootOver self.now (C.held chain.new) }
+        ensures owned { OnOk result (Owns (C.held chain.new) (root_names self.now ++ root_names self.now)) }
+        ensures others { OnOk result (Respects (C.held chain.old) (C.held chain.new)
+            (root_names self.now) (root_names self.now ++ root_names self.now)) }
+        ensures counts { C.counts chain.new ≡ C.counts chain.old }
+        ensures loans { C.loans chain.new ≡ C.loans chain.old }
+        ensures valid { C.is_valid chain.old → C.is_valid chain.new }
+    {
+        Ok(Root {
+            bounds: self.bounds(),
+            table: self.table.share(chain)?,
+            alloc: self.alloc,
+        })
+    }
+
+    /// Gives the root up, and with it all its names. Takes no memory.
+    pub fn release<C: TileChain>(self, chain: &mut C)
+        requires { IsRootOver self (C.held chain.old) }
+        ensures others { Respects (C.held chain.old) (C.held chain.new) (root_names self) [] }
+        ensures counts { Grows 0 (C.counts chain.old) (C.counts chain.new) }
+        ensures loans { C.loans chain.new ≡ C.loans chain.old }
+        ensures valid { C.is_valid chain.old → C.is_valid chain.new }
+    {
+        self.table.release(chain);
+    }
+}
