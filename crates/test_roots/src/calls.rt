@@ -1,0 +1,96 @@
+//! Calls on roots of gray pixels, on rectangles of four numbers.
+
+ghost use Rattle.std.specs.Prelude.{◌≡◌};
+ghost use Rattle.plane_rect.specs.Rectangle.{InLimits};
+ghost use Rattle.test_roots.specs.Gray.{IsGray};
+
+use chain_handlers::TileChain;
+use pixel_formats::Format;
+use plane_rect::Rect;
+use root_tiles::{Root, new_roots_are_blank, other_roots_are_unchanged};
+use std::alloc::Global;
+use std::process::Abort;
+use std::test::Fail;
+
+/// Returns the rectangle of four fields, or the one without a position where they are none in limits.
+pub fn rect(fields: [i64; 4]) -> Rect
+    ensures { InLimits result }
+{
+    let [x, y, w, h] = fields;
+    match Rect::new(x, y, w, h) {
+        Ok(rect) if rect.in_limits() => rect,
+        _ => Rect::EMPTY,
+    }
+}
+
+/// Returns a root of zeros.
+pub fn new_root<C: TileChain>(chain: &C, alloc: Global, fields: [i64; 4]) -> Root
+    ensures { IsGray result (C.held chain.now) }
+{
+    new_roots_are_blank();
+    Root::new(alloc, Format::Y8, rect(fields))
+}
+
+/// Writes bytes over a rectangle of the box.
+pub fn put<C: TileChain>(
+    rt: &impl Abort,
+    root: &mut Root,
+    chain: &mut C,
+    fields: [i64; 4],
+    bytes: &[u8],
+) -> Result<(), Fail>
+    requires { IsGray root.old (C.held chain.old) }
+    ensures { IsGray root.new (C.held chain.new) }
+{
+    let rect = rect(fields);
+    assert!(rt; root.bounds().contains(&rect));
+    assert!(rt; bytes.len() as u64 == rect.area());
+    root.put_raw(chain, rect, bytes)?;
+    Ok(())
+}
+
+/// Writes one byte everywhere in a rectangle of the box.
+pub fn fill<C: TileChain>(
+    rt: &impl Abort,
+    root: &mut Root,
+    chain: &mut C,
+    fields: [i64; 4],
+    byte: u8,
+) -> Result<(), Fail>
+    requires { IsGray root.old (C.held chain.old) }
+    ensures { IsGray root.new (C.held chain.new) }
+{
+    let rect = rect(fields);
+    assert!(rt; root.bounds().contains(&rect));
+    root.fill(chain, rect, &[u32::from(byte)])?;
+    Ok(())
+}
+
+/// Checks the bytes of a part of the box.
+pub fn check<C: TileChain>(
+    rt: &impl Abort,
+    root: &Root,
+    chain: &mut C,
+    fields: [i64; 4],
+    wanted: &[u8],
+) -> Result<(), Fail>
+    requires { IsGray root.now (C.held chain.old) }
+    ensures { IsGray root.now (C.held chain.new) }
+{
+    let rect = rect(fields);
+    assert!(rt; root.bounds().contains(&rect));
+    let part = root.part(chain, rect)?;
+    assert!(rt; part.raw_bytes() == wanted);
+    Ok(())
+}
+
+/// Shares a root, and gives the other one up.
+pub fn share_and_release<C: TileChain>(root: &Root, chain: &mut C) -> Result<(), Fail>
+    requires { IsGray root.now (C.held chain.old) }
+    ensures { IsGray root.now (C.held chain.new) }
+{
+    other_roots_are_unchanged();
+    let shared = root.share(chain)?;
+    shared.release(chain);
+    Ok(())
+}

@@ -1,0 +1,44 @@
+//! Small examples, whose results are worked out by hand.
+
+use crate::calls::{check, fill, new_root, put, share_and_release};
+use chain_handlers::TileChain;
+use std::alloc::Global;
+use std::process::Abort;
+use std::test::Fail;
+
+/// Writes over the borders of tiles, which are between the columns -1 and 0, and 63 and 64, and checks parts
+/// of the image, also beside what was written.
+pub fn write_over_borders<C: TileChain>(
+    rt: &impl Abort,
+    chain: &mut C,
+    alloc: Global,
+) -> Result<(), Fail> {
+    let mut root = new_root(chain, alloc, [-2, 0, 130, 2]);
+    check(rt, &root, chain, [-2, 0, 3, 1], &[0, 0, 0])?;
+    fill(rt, &mut root, chain, [-1, 0, 2, 1], 7)?;
+    check(rt, &root, chain, [-2, 0, 4, 1], &[0, 7, 7, 0])?;
+    put(rt, &mut root, chain, [62, 0, 3, 2], &[1, 2, 3, 4, 5, 6])?;
+    check(rt, &root, chain, [62, 0, 4, 1], &[1, 2, 3, 0])?;
+    check(rt, &root, chain, [62, 1, 4, 1], &[4, 5, 6, 0])?;
+    check(rt, &root, chain, [-2, 0, 4, 1], &[0, 7, 7, 0])?;
+    root.release(chain);
+    Ok(())
+}
+
+/// Shares a root whose tiles are in the swap but one, and writes over the whole of it.
+pub fn share_and_write<C: TileChain>(
+    rt: &impl Abort,
+    chain: &mut C,
+    alloc: Global,
+) -> Result<(), Fail> {
+    let mut root = new_root(chain, alloc, [0, 0, 200, 1]);
+    fill(rt, &mut root, chain, [0, 0, 200, 1], 9)?;
+    share_and_release(&root, chain)?;
+    check(rt, &root, chain, [126, 0, 4, 1], &[9, 9, 9, 9])?;
+    put(rt, &mut root, chain, [127, 0, 2, 1], &[1, 2])?;
+    check(rt, &root, chain, [126, 0, 4, 1], &[9, 1, 2, 9])?;
+    put(rt, &mut root, chain, [0, 0, 0, 0], &[])?;
+    check(rt, &root, chain, [198, 0, 2, 1], &[9, 9])?;
+    root.release(chain);
+    Ok(())
+}

@@ -1,0 +1,9 @@
+//! Roots of buffers: small examples over chains.
+#![tactic(auto)]
+
+#[cfg(test)]
+mod calls;
+#[cfg(test)]
+mod examples;
+#[cfg(test)]
+mod tests;
