@@ -83,7 +83,7 @@ pub fn first_edits(alloc: Global) -> Result<Vec<NodeEdit<IntOp>>> {
 /// Returns one to three edits.
 pub fn edits_at_random(alloc: Global, randoms: &mut Randoms) -> Result<Vec<NodeEdit<IntOp>>> {
     let mut edits = Vec::new(alloc);
-    for _ in 0..1 + randoms.below(3) {
+    for _ in 0..randoms.below(3).saturating_add(1) {
         edits.push(edit(alloc, randoms)?)?;
     }
     Ok(edits)
