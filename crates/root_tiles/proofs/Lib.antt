@@ -1,4 +1,4 @@
-pub mod Laying
+pub mod Blitting
 pub mod ChainReads
 pub mod Solid
 pub mod PaintedTiles

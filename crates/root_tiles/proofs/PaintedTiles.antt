@@ -18,7 +18,7 @@ use Rattle.model_images.proofs.Positions.{not_inside}
 use Rattle.model_images.proofs.Samples.{Inside_from, inside_where}
 use Rattle.patch_abyss.proofs.Parts.{pixels_zero}
 use Rattle.root_tiles.specs.Paints.{IsPainted, Paints}
-use Rattle.root_tiles.proofs.Laying.{pixel-lacking}
+use Rattle.root_tiles.proofs.Blitting.{pixel-lacking}
 
 -- bytes have the samples of a tile as it is held, outside a rectangle
 pub record IsStart (format : Format) (held : HeldTiles) (r : Rectangle) (t : Tile) (bytes : List ℕ) : Type 0 where

@@ -31,7 +31,7 @@ use Rattle.root_tiles.specs.Chains.{ChainState}
 use Rattle.root_tiles.specs.Made.{HasAll, Makes}
 use Rattle.root_tiles.specs.Paints.{IsPainted}
 use Rattle.root_tiles.specs.Roots.{IsRootOver, RootTiles, empty_root, root_image, root_names}
-use Rattle.root_tiles.proofs.Laying.{pixel-lacking}
+use Rattle.root_tiles.proofs.Blitting.{pixel-lacking}
 use Rattle.root_tiles.proofs.Making.{none-in, root-beside}
 
 -- ---- tiles after others were put

@@ -35,13 +35,13 @@ impl Root {
     {
         let mut patch = Patch::zero(self.alloc, rect, self.format())?;
         for at in rect.tiles() {
-            self.lay(chain, at, &mut patch)?;
+            self.blit(chain, at, &mut patch)?;
         }
         Ok(patch)
     }
 
     /// Writes the pixels of a tile into a patch, where the tile was put.
-    fn lay<C: TileChain>(
+    fn blit<C: TileChain>(
         &self,
         chain: &mut C,
         at: TileAt,
@@ -50,7 +50,7 @@ impl Root {
         requires over { IsRootOver self.now (C.held chain.old) }
         requires format { patch.old.format ≡ self.now.tiles.format }
         ensures shape { HasShape (shape_of_image patch.old) patch.new }
-        ensures laid { IfOk result (λ _. IsSome (C.held chain.old).content →
+        ensures blitted { IfOk result (λ _. IsSome (C.held chain.old).content →
             patch.new ≡ with_tile patch.old at (bytes_in (C.held chain.old) self.now.tiles.put at)) }
         ensures cause { IfErr result (HasSwapCause (C.counts chain.old) (C.counts chain.new) (C.counts chain.old).names) }
         ensures read { IsRead

@@ -9,7 +9,7 @@ use Rattle.model_images.specs.Paint.{blank, cut}
 use Rattle.model_images.specs.Tiles.{held_image}
 use Rattle.root_tiles.specs.Roots.{with_tile}
 use Rattle.root_tiles.proofs.ChainReads.{read-both, read-none, refused-later}
-use Rattle.root_tiles.proofs.Laying.{Laid, laid-first, laid-last, laid-next, part-known}
+use Rattle.root_tiles.proofs.Blitting.{Blitted, blitted-first, blitted-last, blitted-next, part-known}
 use Rattle.root_tiles.proofs.root.Root.part.Goals as goal
 
 pub loop-at-init : goal.loop-at-init
@@ -26,8 +26,8 @@ loop-at-init g c =
       record {
         shape = record { box = ap (λ (image : Image). image.box) is; format = ap (λ (image : Image). image.format) is };
         read = read-none _;
-        laid = λ exposed. subst (λ (image : Image). Laid held image c.into_iter-at-iterator.result) (sym is)
-            (laid-first held c.args.rect root.tiles.format c.into_iter-at-iterator.result meeting);
+        blitted = λ exposed. subst (λ (image : Image). Blitted held image c.into_iter-at-iterator.result) (sym is)
+            (blitted-first held c.args.rect root.tiles.format c.into_iter-at-iterator.result meeting);
       },
     )
 
@@ -43,27 +43,27 @@ loop-at-preserved g c =
       tt,
       record {
         shape = record {
-          box = c.lay.ensures.shape.box ∙ before.shape.box;
-          format = c.lay.ensures.shape.format ∙ before.shape.format;
+          box = c.blit.ensures.shape.box ∙ before.shape.box;
+          format = c.blit.ensures.shape.format ∙ before.shape.format;
         };
-        read = read-both _ _ _ before.read c.lay.ensures.read;
-        laid = λ exposed.
-            let put : c.lay.new.patch ≡ with_tile c.loop-at.patch c.in-Some.at (bytes_in now root.tiles.put c.in-Some.at) =
-            c.in_ok-lay.ensures.laid (rw same exposed) in
-            laid-next (bytes_in first root.tiles.put) c.loop-at.patch c.lay.new.patch c.in-Some.at c.next.new.self c.loop-at.at-iterator steps
+        read = read-both _ _ _ before.read c.blit.ensures.read;
+        blitted = λ exposed.
+            let put : c.blit.new.patch ≡ with_tile c.loop-at.patch c.in-Some.at (bytes_in now root.tiles.put c.in-Some.at) =
+            c.in_ok-blit.ensures.blitted (rw same exposed) in
+            blitted-next (bytes_in first root.tiles.put) c.loop-at.patch c.blit.new.patch c.in-Some.at c.next.new.self c.loop-at.at-iterator steps
             (put ∙ ap (λ (held : Held). with_tile c.loop-at.patch c.in-Some.at (bytes_in held root.tiles.put c.in-Some.at)) same)
-            (before.laid exposed);
+            (before.blitted exposed);
       },
     )
 
-pub returns-in_err-lay-clause-cause : goal.returns-in_err-lay-clause-cause
-returns-in_err-lay-clause-cause g c =
-    let p = err_from_is_err_and c.from_residual-in_err-lay.result c.from_residual-in_err-lay.ensures.1 in
-    rw (p.1, p.2) (refused-later (g.C.ChainMeaning.counts c.args.chain.now) (g.C.ChainMeaning.counts c.loop-at.chain) (g.C.ChainMeaning.counts c.lay.new.chain)
-    c.in_err-lay.field-0.0 c.loop-at.invariant.2.read.counts c.in_err-lay.ensures.cause)
+pub returns-in_err-blit-clause-cause : goal.returns-in_err-blit-clause-cause
+returns-in_err-blit-clause-cause g c =
+    let p = err_from_is_err_and c.from_residual-in_err-blit.result c.from_residual-in_err-blit.ensures.1 in
+    rw (p.1, p.2) (refused-later (g.C.ChainMeaning.counts c.args.chain.now) (g.C.ChainMeaning.counts c.loop-at.chain) (g.C.ChainMeaning.counts c.blit.new.chain)
+    c.in_err-blit.field-0.0 c.loop-at.invariant.2.read.counts c.in_err-blit.ensures.cause)
 
-pub returns-in_err-lay-clause-read : goal.returns-in_err-lay-clause-read
-returns-in_err-lay-clause-read g c = read-both _ _ _ c.loop-at.invariant.2.read c.lay.ensures.read
+pub returns-in_err-blit-clause-read : goal.returns-in_err-blit-clause-read
+returns-in_err-blit-clause-read g c = read-both _ _ _ c.loop-at.invariant.2.read c.blit.ensures.read
 
 pub returns-clause-image : goal.returns-clause-image
 returns-clause-image g c =
@@ -74,6 +74,6 @@ returns-clause-image g c =
     let patch = c.loop-at.patch in
     part-known first.content (held_image root.box root.tiles.format held) patch c.args.rect
     (λ exposed.
-    laid-last held root.box root.tiles.format patch c.loop-at.at-iterator c.in-None.ensures.steps.0 end.shape.format
-    (rw end.shape.box c.requires.inside) (end.laid exposed)
+    blitted-last held root.box root.tiles.format patch c.loop-at.at-iterator c.in-None.ensures.steps.0 end.shape.format
+    (rw end.shape.box c.requires.inside) (end.blitted exposed)
     ∙ ap (cut (held_image root.box root.tiles.format held)) end.shape.box)

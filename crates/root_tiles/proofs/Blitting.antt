@@ -22,14 +22,14 @@ abbrev IsHeldAt : HeldTiles → Image → ℕ → ℕ → ℕ → Type 0
 IsHeldAt held patch u v c = at patch u v c ≡ held_pixels patch.format held u v c
 
 -- each position of the patch has the sample of its tile, or is zero while its tile is still to come
-pub record Laid (held : HeldTiles) (patch : Image) (rest : List Tile) : Type 0 where
+pub record Blitted (held : HeldTiles) (patch : Image) (rest : List Tile) : Type 0 where
   pub whole : IsImage patch
   pub pixels : (u v c : ℕ) → Inside u v patch.box → c < channels patch.format
       → IsHeldAt held patch u v c ⊎ ((at patch u v c ≡ 0) × Contains rest (tile_at u v))
 
-pub laid-first : (held : HeldTiles) (box : Rectangle) (format : Format) (tiles : List Tile)
-    → ((u v : ℕ) → Inside u v box → Contains tiles (tile_at u v)) → Laid held (blank box format) tiles
-laid-first held box format tiles all = record {
+pub blitted-first : (held : HeldTiles) (box : Rectangle) (format : Format) (tiles : List Tile)
+    → ((u v : ℕ) → Inside u v box → Contains tiles (tile_at u v)) → Blitted held (blank box format) tiles
+blitted-first held box format tiles all = record {
   whole = IsImage-image_from_fn box format (λ u v c. 0);
   pixels = λ u v c there known. inr (at-image_from_fn box format (λ u v c. 0) u v c there known, all u v there);
 }
@@ -40,10 +40,10 @@ pixel-lacking format held t u v c none is =
     sym (ap (λ (tile : Tile). option_map_or (λ bytes. pixels_from_raw (tile_square (tile_at u v)) format bytes u v c) (held tile) 0) is)
     ∙ ap (λ (o : Option (List ℕ)). option_map_or (λ bytes. pixels_from_raw (tile_square (tile_at u v)) format bytes u v c) o 0) none
 
-laid-lacking : (held : HeldTiles) (patch : Image) (t : Tile) (rest : List Tile) → held t ≡ None → Laid held patch (t ∷ rest) → Laid held patch rest
-laid-lacking held patch t rest none laid = record {
-  whole = laid.whole;
-  pixels = λ u v c there known. elim (laid.pixels u v c there known) [
+blitted-lacking : (held : HeldTiles) (patch : Image) (t : Tile) (rest : List Tile) → held t ≡ None → Blitted held patch (t ∷ rest) → Blitted held patch rest
+blitted-lacking held patch t rest none blitted = record {
+  whole = blitted.whole;
+  pixels = λ u v c there known. elim (blitted.pixels u v c there known) [
     | inl is ↦ inl is
     | inr zero ↦ elim (Contains-cases t rest (tile_at u v) zero.1) [
       | inl here ↦ inl (zero.0 ∙ sym (pixel-lacking patch.format held t u v c none here))
@@ -52,9 +52,9 @@ laid-lacking held patch t rest none laid = record {
   ];
 }
 
-laid-there : (held : HeldTiles) (patch : Image) (t : Tile) (bytes : List ℕ) (rest : List Tile) → held t ≡ Some bytes
-    → Laid held patch (t ∷ rest) → Laid held (put_raw patch (tile_square t) bytes) rest
-laid-there held patch t bytes rest is laid = record {
+blitted-there : (held : HeldTiles) (patch : Image) (t : Tile) (bytes : List ℕ) (rest : List Tile) → held t ≡ Some bytes
+    → Blitted held patch (t ∷ rest) → Blitted held (put_raw patch (tile_square t) bytes) rest
+blitted-there held patch t bytes rest is blitted = record {
   whole = IsImage-image_from_fn patch.box patch.format painted;
   pixels = λ u v c there known. of u v c there known (is_inside u v (tile_square t)) refl;
 }
@@ -80,7 +80,7 @@ laid-there held patch t bytes rest is laid = record {
         let value : at new u v c ≡ at patch u v c =
         at-image_from_fn patch.box patch.format painted u v c there known
         ∙ ap (λ (b : Bool). cond b (pixels_from_raw (tile_square t) patch.format bytes u v c) (at patch u v c)) e in
-        elim (laid.pixels u v c there known) [
+        elim (blitted.pixels u v c there known) [
           | inl same ↦ inl (value ∙ same)
           | inr zero ↦ elim (Contains-cases t rest (tile_at u v) zero.1) [
             | inl here ↦ absurd (cc (sym e ∙ inside_where u v (tile_square t) ((Inside-tile_square u v t).1 here)))
@@ -88,27 +88,27 @@ laid-there held patch t bytes rest is laid = record {
           ]
         ]
 
-pub laid-next : (held : HeldTiles) (patch new : Image) (t : Tile) (rest tiles : List Tile) → tiles ≡ t ∷ rest → new ≡ with_tile patch t (held t)
-    → Laid held patch tiles → Laid held new rest
-laid-next held patch new t rest tiles is put laid = of (held t) refl put
+pub blitted-next : (held : HeldTiles) (patch new : Image) (t : Tile) (rest tiles : List Tile) → tiles ≡ t ∷ rest → new ≡ with_tile patch t (held t)
+    → Blitted held patch tiles → Blitted held new rest
+blitted-next held patch new t rest tiles is put blitted = of (held t) refl put
   where
-    here : Laid held patch (t ∷ rest)
-    here = subst (Laid held patch) is laid
+    here : Blitted held patch (t ∷ rest)
+    here = subst (Blitted held patch) is blitted
 
-    of : (found : Option (List ℕ)) → held t ≡ found → new ≡ with_tile patch t found → Laid held new rest
-    of None none put = subst (λ (image : Image). Laid held image rest) (sym put) (laid-lacking held patch t rest none here)
-    of (Some bytes) some put = subst (λ (image : Image). Laid held image rest) (sym put) (laid-there held patch t bytes rest some here)
+    of : (found : Option (List ℕ)) → held t ≡ found → new ≡ with_tile patch t found → Blitted held new rest
+    of None none put = subst (λ (image : Image). Blitted held image rest) (sym put) (blitted-lacking held patch t rest none here)
+    of (Some bytes) some put = subst (λ (image : Image). Blitted held image rest) (sym put) (blitted-there held patch t bytes rest some here)
 
 none-left : (tile : Tile) → Contains [] tile → ⊥
 none-left tile h = omega (arith, h.1)
 
 -- when no tile is still to come the patch is a part of the image
-pub laid-last : (held : HeldTiles) (box : Rectangle) (format : Format) (patch : Image) (rest : List Tile) → rest ≡ [] → patch.format ≡ format
-    → Includes box patch.box → Laid held patch rest → patch ≡ cut (held_image box format held) patch.box
-laid-last held box format patch rest none same inside laid =
-    sym (image_from_fn-at patch laid.whole)
+pub blitted-last : (held : HeldTiles) (box : Rectangle) (format : Format) (patch : Image) (rest : List Tile) → rest ≡ [] → patch.format ≡ format
+    → Includes box patch.box → Blitted held patch rest → patch ≡ cut (held_image box format held) patch.box
+blitted-last held box format patch rest none same inside blitted =
+    sym (image_from_fn-at patch blitted.whole)
     ∙ generated_equal patch.box patch.format (at patch) (held_pixels patch.format held)
-    (λ u v c there known. elim (laid.pixels u v c there known) [
+    (λ u v c there known. elim (blitted.pixels u v c there known) [
       | inl is ↦ is
       | inr zero ↦ absurd (none-left (tile_at u v) (subst (λ (tiles : List Tile). Contains tiles (tile_at u v)) none zero.1))
     ])
