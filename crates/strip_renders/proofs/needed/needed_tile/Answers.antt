@@ -1,0 +1,232 @@
+use Rattle.std.proofs.Common.{◌≡◌, ◌+◌, ◌++◌, refl, arith}
+use Rattle.chain_owners.specs.Owners.{Owns}
+use Rattle.chain_owners.proofs.Ownership.{others-own, others-unchanged, seen-unchanged}
+use Rattle.swap_store.specs.Cause.{HasSwapCause}
+use Rattle.swap_store.proofs.Causes.{cause-more}
+use Rattle.roi_planner.proofs.Widths.{handed-on}
+use Rattle.strip_renders.specs.Moments.{Keeps, moment}
+use Rattle.strip_renders.proofs.Moments.{Turns, cause-kept, keeps-both, keeps-most, keeps-turns, owns-last, owns-turned}
+use Rattle.strip_renders.proofs.needed.needed_tile.Goals as goal
+
+pub returns-in_err-tile-clause-keeps : goal.returns-in_err-tile-clause-keeps
+returns-in_err-tile-clause-keeps g c =
+    let old = moment (g.S.SourceTiles.facts c.args.sources.now) (g.S.SourceTiles.images c.args.sources.now (g.H.ChainMeaning.held c.args.chain.now)) (g.S.SourceTiles.names c.args.sources.now) (g.C.PairStore.pairs c.args.cache.now) (g.C.PairStore.sizes c.args.cache.now (g.H.ChainMeaning.held c.args.chain.now)) (g.C.PairStore.cached c.args.cache.now (g.H.ChainMeaning.held c.args.chain.now)) (g.C.PairStore.capacity c.args.cache.now) (g.C.PairStore.names c.args.cache.now) (g.H.ChainMeaning.held c.args.chain.now) (g.H.ChainMeaning.counts c.args.chain.now) (g.H.ChainMeaning.loans c.args.chain.now) in
+    let mid = moment (g.S.SourceTiles.facts c.args.sources.now) (g.S.SourceTiles.images c.args.sources.now (g.H.ChainMeaning.held c.look.new.chain)) (g.S.SourceTiles.names c.args.sources.now) (g.C.PairStore.pairs c.look.new.self) (g.C.PairStore.sizes c.look.new.self (g.H.ChainMeaning.held c.look.new.chain)) (g.C.PairStore.cached c.look.new.self (g.H.ChainMeaning.held c.look.new.chain)) (g.C.PairStore.capacity c.look.new.self) (g.C.PairStore.names c.look.new.self) (g.H.ChainMeaning.held c.look.new.chain) (g.H.ChainMeaning.counts c.look.new.chain) (g.H.ChainMeaning.loans c.look.new.chain) in
+    let h0 = g.H.ChainMeaning.held c.args.chain.now in
+    let h1 = g.H.ChainMeaning.held c.look.new.chain in
+    let source = g.S.SourceTiles.names c.args.sources.now in
+    let cached = g.C.PairStore.names c.args.cache.now in
+    let cached1 = g.C.PairStore.names c.look.new.self in
+    let owned : Owns h0 (cached ++ source) = owns-turned h0 source cached c.requires.owned in
+    let turns : Turns 0 old mid = record {
+      others = c.in_err-tile.ensures.others;
+      one_owner = c.in_err-tile.ensures.one_owner;
+      other_names = c.in_err-tile.ensures.other_names;
+      counts = c.in_err-tile.ensures.counts;
+      loans = c.in_err-tile.ensures.loans;
+      capacity = c.in_err-tile.ensures.capacity;
+    } in
+    let images : mid.images ≡ old.images = seen-unchanged h0 h1 cached cached1 c.in_err-tile.ensures.others source (g.S.SourceTiles.images c.args.sources.now) (g.met.S.SourceTiles.framed c.args.sources.now) owned in
+    let looked : Keeps 0 old mid = keeps-turns 0 old mid turns refl images refl in
+    keeps-most 0 1 old mid (omega arith) looked
+
+pub returns-in_err-tile-clause-sources_over : goal.returns-in_err-tile-clause-sources_over
+returns-in_err-tile-clause-sources_over g c =
+    let h0 = g.H.ChainMeaning.held c.args.chain.now in
+    let h1 = g.H.ChainMeaning.held c.look.new.chain in
+    let source = g.S.SourceTiles.names c.args.sources.now in
+    let cached = g.C.PairStore.names c.args.cache.now in
+    let cached1 = g.C.PairStore.names c.look.new.self in
+    let owned : Owns h0 (cached ++ source) = owns-turned h0 source cached c.requires.owned in
+    g.met.S.SourceTiles.framed_condition c.args.sources.now h0 h1 c.requires.sources_over c.in_err-tile.ensures.others.exposed
+    (others-unchanged h0 h1 cached cached1 c.in_err-tile.ensures.others source owned)
+    (owns-last h1 cached1 source (others-own h0 h1 cached cached1 c.in_err-tile.ensures.others source owned))
+
+pub returns-in_err-tile-clause-cause : goal.returns-in_err-tile-clause-cause
+returns-in_err-tile-clause-cause g c =
+    let old = moment (g.S.SourceTiles.facts c.args.sources.now) (g.S.SourceTiles.images c.args.sources.now (g.H.ChainMeaning.held c.args.chain.now)) (g.S.SourceTiles.names c.args.sources.now) (g.C.PairStore.pairs c.args.cache.now) (g.C.PairStore.sizes c.args.cache.now (g.H.ChainMeaning.held c.args.chain.now)) (g.C.PairStore.cached c.args.cache.now (g.H.ChainMeaning.held c.args.chain.now)) (g.C.PairStore.capacity c.args.cache.now) (g.C.PairStore.names c.args.cache.now) (g.H.ChainMeaning.held c.args.chain.now) (g.H.ChainMeaning.counts c.args.chain.now) (g.H.ChainMeaning.loans c.args.chain.now) in
+    let mid = moment (g.S.SourceTiles.facts c.args.sources.now) (g.S.SourceTiles.images c.args.sources.now (g.H.ChainMeaning.held c.look.new.chain)) (g.S.SourceTiles.names c.args.sources.now) (g.C.PairStore.pairs c.look.new.self) (g.C.PairStore.sizes c.look.new.self (g.H.ChainMeaning.held c.look.new.chain)) (g.C.PairStore.cached c.look.new.self (g.H.ChainMeaning.held c.look.new.chain)) (g.C.PairStore.capacity c.look.new.self) (g.C.PairStore.names c.look.new.self) (g.H.ChainMeaning.held c.look.new.chain) (g.H.ChainMeaning.counts c.look.new.chain) (g.H.ChainMeaning.loans c.look.new.chain) in
+    handed-on c.from_residual.result c.in_err-tile.field-0.0
+    (HasSwapCause (g.H.ChainMeaning.counts c.args.chain.now) (g.H.ChainMeaning.counts c.look.new.chain) ((g.H.ChainMeaning.counts c.args.chain.now).names + 1))
+    c.from_residual.ensures.1
+    (cause-more (g.H.ChainMeaning.counts c.args.chain.now) (g.H.ChainMeaning.counts c.look.new.chain) (g.H.ChainMeaning.counts c.args.chain.now).names ((g.H.ChainMeaning.counts c.args.chain.now).names + 1) c.in_err-tile.field-0.0 (omega arith) c.in_err-tile.ensures.cause)
+
+pub returns-in-Some-clause-keeps : goal.returns-in-Some-clause-keeps
+returns-in-Some-clause-keeps g c =
+    let old = moment (g.S.SourceTiles.facts c.args.sources.now) (g.S.SourceTiles.images c.args.sources.now (g.H.ChainMeaning.held c.args.chain.now)) (g.S.SourceTiles.names c.args.sources.now) (g.C.PairStore.pairs c.args.cache.now) (g.C.PairStore.sizes c.args.cache.now (g.H.ChainMeaning.held c.args.chain.now)) (g.C.PairStore.cached c.args.cache.now (g.H.ChainMeaning.held c.args.chain.now)) (g.C.PairStore.capacity c.args.cache.now) (g.C.PairStore.names c.args.cache.now) (g.H.ChainMeaning.held c.args.chain.now) (g.H.ChainMeaning.counts c.args.chain.now) (g.H.ChainMeaning.loans c.args.chain.now) in
+    let mid = moment (g.S.SourceTiles.facts c.args.sources.now) (g.S.SourceTiles.images c.args.sources.now (g.H.ChainMeaning.held c.look.new.chain)) (g.S.SourceTiles.names c.args.sources.now) (g.C.PairStore.pairs c.look.new.self) (g.C.PairStore.sizes c.look.new.self (g.H.ChainMeaning.held c.look.new.chain)) (g.C.PairStore.cached c.look.new.self (g.H.ChainMeaning.held c.look.new.chain)) (g.C.PairStore.capacity c.look.new.self) (g.C.PairStore.names c.look.new.self) (g.H.ChainMeaning.held c.look.new.chain) (g.H.ChainMeaning.counts c.look.new.chain) (g.H.ChainMeaning.loans c.look.new.chain) in
+    let h0 = g.H.ChainMeaning.held c.args.chain.now in
+    let h1 = g.H.ChainMeaning.held c.look.new.chain in
+    let source = g.S.SourceTiles.names c.args.sources.now in
+    let cached = g.C.PairStore.names c.args.cache.now in
+    let cached1 = g.C.PairStore.names c.look.new.self in
+    let owned : Owns h0 (cached ++ source) = owns-turned h0 source cached c.requires.owned in
+    let turns : Turns 0 old mid = record {
+      others = c.in_ok-tile.ensures.others;
+      one_owner = c.in_ok-tile.ensures.one_owner;
+      other_names = c.in_ok-tile.ensures.other_names;
+      counts = c.in_ok-tile.ensures.counts;
+      loans = c.in_ok-tile.ensures.loans;
+      capacity = c.in_ok-tile.ensures.capacity;
+    } in
+    let images : mid.images ≡ old.images = seen-unchanged h0 h1 cached cached1 c.in_ok-tile.ensures.others source (g.S.SourceTiles.images c.args.sources.now) (g.met.S.SourceTiles.framed c.args.sources.now) owned in
+    let looked : Keeps 0 old mid = keeps-turns 0 old mid turns refl images refl in
+    keeps-most 0 1 old mid (omega arith) looked
+
+pub returns-in-Some-clause-sources_over : goal.returns-in-Some-clause-sources_over
+returns-in-Some-clause-sources_over g c =
+    let h0 = g.H.ChainMeaning.held c.args.chain.now in
+    let h1 = g.H.ChainMeaning.held c.look.new.chain in
+    let source = g.S.SourceTiles.names c.args.sources.now in
+    let cached = g.C.PairStore.names c.args.cache.now in
+    let cached1 = g.C.PairStore.names c.look.new.self in
+    let owned : Owns h0 (cached ++ source) = owns-turned h0 source cached c.requires.owned in
+    g.met.S.SourceTiles.framed_condition c.args.sources.now h0 h1 c.requires.sources_over c.in_ok-tile.ensures.others.exposed
+    (others-unchanged h0 h1 cached cached1 c.in_ok-tile.ensures.others source owned)
+    (owns-last h1 cached1 source (others-own h0 h1 cached cached1 c.in_ok-tile.ensures.others source owned))
+
+pub fresh_tile-requires-clause-sources_over : goal.fresh_tile-requires-clause-sources_over
+fresh_tile-requires-clause-sources_over g c κs within =
+    let h0 = g.H.ChainMeaning.held c.args.chain.now in
+    let h1 = g.H.ChainMeaning.held c.look.new.chain in
+    let source = g.S.SourceTiles.names c.args.sources.now in
+    let cached = g.C.PairStore.names c.args.cache.now in
+    let cached1 = g.C.PairStore.names c.look.new.self in
+    let owned : Owns h0 (cached ++ source) = owns-turned h0 source cached c.requires.owned in
+    g.met.S.SourceTiles.framed_condition c.args.sources.now h0 h1 c.requires.sources_over c.in_ok-tile.ensures.others.exposed
+    (others-unchanged h0 h1 cached cached1 c.in_ok-tile.ensures.others source owned)
+    (owns-last h1 cached1 source (others-own h0 h1 cached cached1 c.in_ok-tile.ensures.others source owned))
+
+pub fresh_tile-requires-clause-owned : goal.fresh_tile-requires-clause-owned
+fresh_tile-requires-clause-owned g c κs within =
+    let h0 = g.H.ChainMeaning.held c.args.chain.now in
+    let h1 = g.H.ChainMeaning.held c.look.new.chain in
+    let source = g.S.SourceTiles.names c.args.sources.now in
+    let cached = g.C.PairStore.names c.args.cache.now in
+    let cached1 = g.C.PairStore.names c.look.new.self in
+    let owned : Owns h0 (cached ++ source) = owns-turned h0 source cached c.requires.owned in
+    owns-turned h1 cached1 source (others-own h0 h1 cached cached1 c.in_ok-tile.ensures.others source owned)
+
+pub returns-in_err-tile-2-clause-keeps : goal.returns-in_err-tile-2-clause-keeps
+returns-in_err-tile-2-clause-keeps g c =
+    let old = moment (g.S.SourceTiles.facts c.args.sources.now) (g.S.SourceTiles.images c.args.sources.now (g.H.ChainMeaning.held c.args.chain.now)) (g.S.SourceTiles.names c.args.sources.now) (g.C.PairStore.pairs c.args.cache.now) (g.C.PairStore.sizes c.args.cache.now (g.H.ChainMeaning.held c.args.chain.now)) (g.C.PairStore.cached c.args.cache.now (g.H.ChainMeaning.held c.args.chain.now)) (g.C.PairStore.capacity c.args.cache.now) (g.C.PairStore.names c.args.cache.now) (g.H.ChainMeaning.held c.args.chain.now) (g.H.ChainMeaning.counts c.args.chain.now) (g.H.ChainMeaning.loans c.args.chain.now) in
+    let mid = moment (g.S.SourceTiles.facts c.args.sources.now) (g.S.SourceTiles.images c.args.sources.now (g.H.ChainMeaning.held c.look.new.chain)) (g.S.SourceTiles.names c.args.sources.now) (g.C.PairStore.pairs c.look.new.self) (g.C.PairStore.sizes c.look.new.self (g.H.ChainMeaning.held c.look.new.chain)) (g.C.PairStore.cached c.look.new.self (g.H.ChainMeaning.held c.look.new.chain)) (g.C.PairStore.capacity c.look.new.self) (g.C.PairStore.names c.look.new.self) (g.H.ChainMeaning.held c.look.new.chain) (g.H.ChainMeaning.counts c.look.new.chain) (g.H.ChainMeaning.loans c.look.new.chain) in
+    let new = moment (g.S.SourceTiles.facts c.fresh_tile.new.sources) (g.S.SourceTiles.images c.fresh_tile.new.sources (g.H.ChainMeaning.held c.fresh_tile.new.chain)) (g.S.SourceTiles.names c.fresh_tile.new.sources) (g.C.PairStore.pairs c.fresh_tile.new.cache) (g.C.PairStore.sizes c.fresh_tile.new.cache (g.H.ChainMeaning.held c.fresh_tile.new.chain)) (g.C.PairStore.cached c.fresh_tile.new.cache (g.H.ChainMeaning.held c.fresh_tile.new.chain)) (g.C.PairStore.capacity c.fresh_tile.new.cache) (g.C.PairStore.names c.fresh_tile.new.cache) (g.H.ChainMeaning.held c.fresh_tile.new.chain) (g.H.ChainMeaning.counts c.fresh_tile.new.chain) (g.H.ChainMeaning.loans c.fresh_tile.new.chain) in
+    let h0 = g.H.ChainMeaning.held c.args.chain.now in
+    let h1 = g.H.ChainMeaning.held c.look.new.chain in
+    let source = g.S.SourceTiles.names c.args.sources.now in
+    let cached = g.C.PairStore.names c.args.cache.now in
+    let cached1 = g.C.PairStore.names c.look.new.self in
+    let owned : Owns h0 (cached ++ source) = owns-turned h0 source cached c.requires.owned in
+    let turns : Turns 0 old mid = record {
+      others = c.in_ok-tile.ensures.others;
+      one_owner = c.in_ok-tile.ensures.one_owner;
+      other_names = c.in_ok-tile.ensures.other_names;
+      counts = c.in_ok-tile.ensures.counts;
+      loans = c.in_ok-tile.ensures.loans;
+      capacity = c.in_ok-tile.ensures.capacity;
+    } in
+    let images : mid.images ≡ old.images = seen-unchanged h0 h1 cached cached1 c.in_ok-tile.ensures.others source (g.S.SourceTiles.images c.args.sources.now) (g.met.S.SourceTiles.framed c.args.sources.now) owned in
+    let looked : Keeps 0 old mid = keeps-turns 0 old mid turns refl images refl in
+    keeps-both 0 1 old mid new looked c.in_err-tile-2.ensures.keeps
+
+pub returns-in_err-tile-2-clause-valid : goal.returns-in_err-tile-2-clause-valid
+returns-in_err-tile-2-clause-valid g c =
+    λ is. c.in_err-tile-2.ensures.valid (c.in_ok-tile.ensures.valid is)
+
+pub returns-in_err-tile-2-clause-cause : goal.returns-in_err-tile-2-clause-cause
+returns-in_err-tile-2-clause-cause g c =
+    let old = moment (g.S.SourceTiles.facts c.args.sources.now) (g.S.SourceTiles.images c.args.sources.now (g.H.ChainMeaning.held c.args.chain.now)) (g.S.SourceTiles.names c.args.sources.now) (g.C.PairStore.pairs c.args.cache.now) (g.C.PairStore.sizes c.args.cache.now (g.H.ChainMeaning.held c.args.chain.now)) (g.C.PairStore.cached c.args.cache.now (g.H.ChainMeaning.held c.args.chain.now)) (g.C.PairStore.capacity c.args.cache.now) (g.C.PairStore.names c.args.cache.now) (g.H.ChainMeaning.held c.args.chain.now) (g.H.ChainMeaning.counts c.args.chain.now) (g.H.ChainMeaning.loans c.args.chain.now) in
+    let mid = moment (g.S.SourceTiles.facts c.args.sources.now) (g.S.SourceTiles.images c.args.sources.now (g.H.ChainMeaning.held c.look.new.chain)) (g.S.SourceTiles.names c.args.sources.now) (g.C.PairStore.pairs c.look.new.self) (g.C.PairStore.sizes c.look.new.self (g.H.ChainMeaning.held c.look.new.chain)) (g.C.PairStore.cached c.look.new.self (g.H.ChainMeaning.held c.look.new.chain)) (g.C.PairStore.capacity c.look.new.self) (g.C.PairStore.names c.look.new.self) (g.H.ChainMeaning.held c.look.new.chain) (g.H.ChainMeaning.counts c.look.new.chain) (g.H.ChainMeaning.loans c.look.new.chain) in
+    let h0 = g.H.ChainMeaning.held c.args.chain.now in
+    let h1 = g.H.ChainMeaning.held c.look.new.chain in
+    let source = g.S.SourceTiles.names c.args.sources.now in
+    let cached = g.C.PairStore.names c.args.cache.now in
+    let cached1 = g.C.PairStore.names c.look.new.self in
+    let owned : Owns h0 (cached ++ source) = owns-turned h0 source cached c.requires.owned in
+    let turns : Turns 0 old mid = record {
+      others = c.in_ok-tile.ensures.others;
+      one_owner = c.in_ok-tile.ensures.one_owner;
+      other_names = c.in_ok-tile.ensures.other_names;
+      counts = c.in_ok-tile.ensures.counts;
+      loans = c.in_ok-tile.ensures.loans;
+      capacity = c.in_ok-tile.ensures.capacity;
+    } in
+    let images : mid.images ≡ old.images = seen-unchanged h0 h1 cached cached1 c.in_ok-tile.ensures.others source (g.S.SourceTiles.images c.args.sources.now) (g.met.S.SourceTiles.framed c.args.sources.now) owned in
+    let looked : Keeps 0 old mid = keeps-turns 0 old mid turns refl images refl in
+    handed-on c.from_residual-in_err-tile-2.result c.in_err-tile-2.field-0.0
+    (HasSwapCause (g.H.ChainMeaning.counts c.args.chain.now) (g.H.ChainMeaning.counts c.fresh_tile.new.chain) ((g.H.ChainMeaning.counts c.args.chain.now).names + 1))
+    c.from_residual-in_err-tile-2.ensures.1
+    (cause-kept 0 ((g.H.ChainMeaning.counts c.look.new.chain).names + 1) ((g.H.ChainMeaning.counts c.args.chain.now).names + 1) old mid (g.H.ChainMeaning.counts c.fresh_tile.new.chain) c.in_err-tile-2.field-0.0
+    looked (omega (arith, c.in_ok-tile.ensures.counts.names)) c.in_err-tile-2.ensures.cause)
+
+pub returns-clause-keeps : goal.returns-clause-keeps
+returns-clause-keeps g c =
+    let old = moment (g.S.SourceTiles.facts c.args.sources.now) (g.S.SourceTiles.images c.args.sources.now (g.H.ChainMeaning.held c.args.chain.now)) (g.S.SourceTiles.names c.args.sources.now) (g.C.PairStore.pairs c.args.cache.now) (g.C.PairStore.sizes c.args.cache.now (g.H.ChainMeaning.held c.args.chain.now)) (g.C.PairStore.cached c.args.cache.now (g.H.ChainMeaning.held c.args.chain.now)) (g.C.PairStore.capacity c.args.cache.now) (g.C.PairStore.names c.args.cache.now) (g.H.ChainMeaning.held c.args.chain.now) (g.H.ChainMeaning.counts c.args.chain.now) (g.H.ChainMeaning.loans c.args.chain.now) in
+    let mid = moment (g.S.SourceTiles.facts c.args.sources.now) (g.S.SourceTiles.images c.args.sources.now (g.H.ChainMeaning.held c.look.new.chain)) (g.S.SourceTiles.names c.args.sources.now) (g.C.PairStore.pairs c.look.new.self) (g.C.PairStore.sizes c.look.new.self (g.H.ChainMeaning.held c.look.new.chain)) (g.C.PairStore.cached c.look.new.self (g.H.ChainMeaning.held c.look.new.chain)) (g.C.PairStore.capacity c.look.new.self) (g.C.PairStore.names c.look.new.self) (g.H.ChainMeaning.held c.look.new.chain) (g.H.ChainMeaning.counts c.look.new.chain) (g.H.ChainMeaning.loans c.look.new.chain) in
+    let new = moment (g.S.SourceTiles.facts c.fresh_tile.new.sources) (g.S.SourceTiles.images c.fresh_tile.new.sources (g.H.ChainMeaning.held c.fresh_tile.new.chain)) (g.S.SourceTiles.names c.fresh_tile.new.sources) (g.C.PairStore.pairs c.fresh_tile.new.cache) (g.C.PairStore.sizes c.fresh_tile.new.cache (g.H.ChainMeaning.held c.fresh_tile.new.chain)) (g.C.PairStore.cached c.fresh_tile.new.cache (g.H.ChainMeaning.held c.fresh_tile.new.chain)) (g.C.PairStore.capacity c.fresh_tile.new.cache) (g.C.PairStore.names c.fresh_tile.new.cache) (g.H.ChainMeaning.held c.fresh_tile.new.chain) (g.H.ChainMeaning.counts c.fresh_tile.new.chain) (g.H.ChainMeaning.loans c.fresh_tile.new.chain) in
+    let h0 = g.H.ChainMeaning.held c.args.chain.now in
+    let h1 = g.H.ChainMeaning.held c.look.new.chain in
+    let source = g.S.SourceTiles.names c.args.sources.now in
+    let cached = g.C.PairStore.names c.args.cache.now in
+    let cached1 = g.C.PairStore.names c.look.new.self in
+    let owned : Owns h0 (cached ++ source) = owns-turned h0 source cached c.requires.owned in
+    let turns : Turns 0 old mid = record {
+      others = c.in_ok-tile.ensures.others;
+      one_owner = c.in_ok-tile.ensures.one_owner;
+      other_names = c.in_ok-tile.ensures.other_names;
+      counts = c.in_ok-tile.ensures.counts;
+      loans = c.in_ok-tile.ensures.loans;
+      capacity = c.in_ok-tile.ensures.capacity;
+    } in
+    let images : mid.images ≡ old.images = seen-unchanged h0 h1 cached cached1 c.in_ok-tile.ensures.others source (g.S.SourceTiles.images c.args.sources.now) (g.met.S.SourceTiles.framed c.args.sources.now) owned in
+    let looked : Keeps 0 old mid = keeps-turns 0 old mid turns refl images refl in
+    keeps-both 0 1 old mid new looked c.in_ok-tile-2.ensures.keeps
+
+pub returns-clause-valid : goal.returns-clause-valid
+returns-clause-valid g c =
+    λ is. c.in_ok-tile-2.ensures.valid (c.in_ok-tile.ensures.valid is)
+
+pub look-requires-clause-length : goal.look-requires-clause-length
+look-requires-clause-length g c =
+    ?
+
+pub returns-in-Some-clause-length : goal.returns-in-Some-clause-length
+returns-in-Some-clause-length g c =
+    ?
+
+pub returns-in-Some-clause-bytes : goal.returns-in-Some-clause-bytes
+returns-in-Some-clause-bytes g c =
+    ?
+
+pub returns-in-Some-clause-looked : goal.returns-in-Some-clause-looked
+returns-in-Some-clause-looked g c =
+    ?
+
+pub returns-in-Some-clause-sized : goal.returns-in-Some-clause-sized
+returns-in-Some-clause-sized g c =
+    ?
+
+pub returns-in_err-tile-2-clause-looked : goal.returns-in_err-tile-2-clause-looked
+returns-in_err-tile-2-clause-looked g c =
+    ?
+
+pub returns-in_err-tile-2-clause-sized : goal.returns-in_err-tile-2-clause-sized
+returns-in_err-tile-2-clause-sized g c =
+    ?
+
+pub returns-clause-bytes : goal.returns-clause-bytes
+returns-clause-bytes g c =
+    ?
+
+pub returns-clause-looked : goal.returns-clause-looked
+returns-clause-looked g c =
+    ?
+
+pub returns-clause-sized : goal.returns-clause-sized
+returns-clause-sized g c =
+    ?
+
+pub fresh_tile-requires-clause-absent : goal.fresh_tile-requires-clause-absent
+fresh_tile-requires-clause-absent g c κs within =
+    ?
