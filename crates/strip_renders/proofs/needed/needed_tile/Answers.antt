@@ -1,4 +1,19 @@
-use Rattle.std.proofs.Common.{◌≡◌, ◌+◌, ◌++◌, refl, arith}
+use Rattle.std.proofs.Common.{◌≡◌, ℕ, ◌+◌, ◌*◌, ◌++◌, List, Some, None, length, refl, sym, ap, ◌∙◌, subst, arith}
+use Rattle.std.specs.Prelude.{IfSome, slice_get}
+use Rattle.std.proofs.lemmas.Option.{slice_get-get_or}
+use Rattle.pixel_formats.specs.Format.{pixel_bytes}
+use Rattle.model_graphs.specs.Facts.{specs_of}
+use Rattle.model_graphs.specs.Node.{index_of}
+use Rattle.model_graphs.specs.Shapes.{Shape}
+use Rattle.model_states.specs.Cache.{Pair, find_pair, itself, pair_of}
+use Rattle.model_states.proofs.CacheLaws.{all-within}
+use Rattle.model_states.proofs.Indices.{index_of_name}
+use Rattle.node_cache.specs.Stores.{Sized, by_sized, pair_at}
+use Rattle.node_tiles.specs.Stated.{length_at}
+use Rattle.node_tiles.proofs.Places.{ready-inside, shape-at, spec-at}
+use Rattle.strip_renders.specs.Strips.{AreSizedPairs, IsSizedPair}
+use Rattle.strip_renders.proofs.Looking.{absent-same, looked-all, none-from, sized-long}
+use Rattle.strip_renders.proofs.Pairs.{named}
 use Rattle.chain_owners.specs.Owners.{Owns}
 use Rattle.chain_owners.proofs.Ownership.{others-own, others-unchanged, seen-unchanged}
 use Rattle.swap_store.specs.Cause.{HasSwapCause}
@@ -189,11 +204,31 @@ returns-clause-valid g c =
 
 pub look-requires-clause-length : goal.look-requires-clause-length
 look-requires-clause-length g c =
-    ?
+    let meanings = g.K.Op.OpMeaning.meanings in
+    let nodes = c.args.nodes.now in
+    let node = c.args.node in
+    let at = c.args.at in
+    let fact = c.index-nodes-node.result in
+    let inside = ready-inside nodes meanings c.args.held.now node at c.requires.ready in
+    let found : slice_get nodes node ≡ Some fact = slice_get-get_or nodes node fact inside ∙ ap Some (sym c.index-nodes-node.is) in
+    let pair = named nodes node fact at inside c.index-nodes-node.is in
+    let sizes = g.C.PairStore.sizes c.args.cache.now (g.H.ChainMeaning.held c.args.chain.now) in
+    subst (λ (k : ℕ). IfSome (find_pair by_sized sizes (pair_at fact.spec.name at)) (λ (s : Sized). s.length ≡ 4096 * k)) (sym c.pixel_bytes-len.ensures)
+    (sized-long nodes sizes node fact at c.requires.stated.valid.distinct found c.requires.sized)
 
 pub returns-in-Some-clause-length : goal.returns-in-Some-clause-length
 returns-in-Some-clause-length g c =
-    ?
+    let meanings = g.K.Op.OpMeaning.meanings in
+    let nodes = c.args.nodes.now in
+    let node = c.args.node in
+    let at = c.args.at in
+    let fact = c.index-nodes-node.result in
+    let inside = ready-inside nodes meanings c.args.held.now node at c.requires.ready in
+    let found : slice_get nodes node ≡ Some fact = slice_get-get_or nodes node fact inside ∙ ap Some (sym c.index-nodes-node.is) in
+    let pair = named nodes node fact at inside c.index-nodes-node.is in
+    let sizes = g.C.PairStore.sizes c.args.cache.now (g.H.ChainMeaning.held c.args.chain.now) in
+    let long : length c.in-Some.tile ≡ 4096 * c.pixel_bytes-len.result = rw c.in-Some.is at c.in_ok-tile.ensures.found.length in
+    long ∙ ap (λ (k : ℕ). 4096 * k) c.pixel_bytes-len.ensures ∙ ap (λ (s : Shape). 4096 * pixel_bytes s.format) (sym (shape-at nodes node fact found))
 
 pub returns-in-Some-clause-bytes : goal.returns-in-Some-clause-bytes
 returns-in-Some-clause-bytes g c =
@@ -205,7 +240,19 @@ returns-in-Some-clause-looked g c =
 
 pub returns-in-Some-clause-sized : goal.returns-in-Some-clause-sized
 returns-in-Some-clause-sized g c =
-    ?
+    let meanings = g.K.Op.OpMeaning.meanings in
+    let nodes = c.args.nodes.now in
+    let node = c.args.node in
+    let at = c.args.at in
+    let fact = c.index-nodes-node.result in
+    let inside = ready-inside nodes meanings c.args.held.now node at c.requires.ready in
+    let found : slice_get nodes node ≡ Some fact = slice_get-get_or nodes node fact inside ∙ ap Some (sym c.index-nodes-node.is) in
+    let pair = named nodes node fact at inside c.index-nodes-node.is in
+    let sizes = g.C.PairStore.sizes c.args.cache.now (g.H.ChainMeaning.held c.args.chain.now) in
+    let looked : AreSizedPairs nodes (g.C.PairStore.sizes c.look.new.self (g.H.ChainMeaning.held c.look.new.chain)) =
+    subst (λ (list : List Sized). AreSizedPairs nodes list) (sym c.in_ok-tile.ensures.sizes)
+    (looked-all by_sized (IsSizedPair nodes) sizes (pair_at fact.spec.name at) c.requires.sized) in
+    looked
 
 pub returns-in_err-tile-2-clause-looked : goal.returns-in_err-tile-2-clause-looked
 returns-in_err-tile-2-clause-looked g c =
@@ -213,7 +260,19 @@ returns-in_err-tile-2-clause-looked g c =
 
 pub returns-in_err-tile-2-clause-sized : goal.returns-in_err-tile-2-clause-sized
 returns-in_err-tile-2-clause-sized g c =
-    ?
+    let meanings = g.K.Op.OpMeaning.meanings in
+    let nodes = c.args.nodes.now in
+    let node = c.args.node in
+    let at = c.args.at in
+    let fact = c.index-nodes-node.result in
+    let inside = ready-inside nodes meanings c.args.held.now node at c.requires.ready in
+    let found : slice_get nodes node ≡ Some fact = slice_get-get_or nodes node fact inside ∙ ap Some (sym c.index-nodes-node.is) in
+    let pair = named nodes node fact at inside c.index-nodes-node.is in
+    let sizes = g.C.PairStore.sizes c.args.cache.now (g.H.ChainMeaning.held c.args.chain.now) in
+    let looked : AreSizedPairs nodes (g.C.PairStore.sizes c.look.new.self (g.H.ChainMeaning.held c.look.new.chain)) =
+    subst (λ (list : List Sized). AreSizedPairs nodes list) (sym c.in_ok-tile.ensures.sizes)
+    (looked-all by_sized (IsSizedPair nodes) sizes (pair_at fact.spec.name at) c.requires.sized) in
+    subst (λ (list : List Sized). AreSizedPairs nodes list) (sym c.in_err-tile-2.ensures.kept.sizes) looked
 
 pub returns-clause-bytes : goal.returns-clause-bytes
 returns-clause-bytes g c =
@@ -225,8 +284,38 @@ returns-clause-looked g c =
 
 pub returns-clause-sized : goal.returns-clause-sized
 returns-clause-sized g c =
-    ?
+    let meanings = g.K.Op.OpMeaning.meanings in
+    let nodes = c.args.nodes.now in
+    let node = c.args.node in
+    let at = c.args.at in
+    let fact = c.index-nodes-node.result in
+    let inside = ready-inside nodes meanings c.args.held.now node at c.requires.ready in
+    let found : slice_get nodes node ≡ Some fact = slice_get-get_or nodes node fact inside ∙ ap Some (sym c.index-nodes-node.is) in
+    let pair = named nodes node fact at inside c.index-nodes-node.is in
+    let sizes = g.C.PairStore.sizes c.args.cache.now (g.H.ChainMeaning.held c.args.chain.now) in
+    let looked : AreSizedPairs nodes (g.C.PairStore.sizes c.look.new.self (g.H.ChainMeaning.held c.look.new.chain)) =
+    subst (λ (list : List Sized). AreSizedPairs nodes list) (sym c.in_ok-tile.ensures.sizes)
+    (looked-all by_sized (IsSizedPair nodes) sizes (pair_at fact.spec.name at) c.requires.sized) in
+    let index : index_of (specs_of nodes) (pair_of (specs_of nodes) (node, at)).node ≡ node =
+    ap (λ (p : Pair). index_of (specs_of nodes) p.node) pair ∙ index_of_name (specs_of nodes) node fact.spec c.requires.stated.valid.distinct (spec-at nodes node fact found) in
+    subst (λ (list : List Sized). AreSizedPairs nodes list) (sym c.in_ok-tile-2.ensures.kept.sizes)
+    (all-within by_sized (IsSizedPair nodes) (g.C.PairStore.capacity c.look.new.self) _
+    (record { of_nodes = c.requires.of_nodes; length = c.in_ok-tile-2.ensures.length ∙ ap (length_at nodes) (sym index) }, looked))
 
 pub fresh_tile-requires-clause-absent : goal.fresh_tile-requires-clause-absent
 fresh_tile-requires-clause-absent g c κs within =
-    ?
+    let meanings = g.K.Op.OpMeaning.meanings in
+    let nodes = c.args.nodes.now in
+    let node = c.args.node in
+    let at = c.args.at in
+    let fact = c.index-nodes-node.result in
+    let inside = ready-inside nodes meanings c.args.held.now node at c.requires.ready in
+    let found : slice_get nodes node ≡ Some fact = slice_get-get_or nodes node fact inside ∙ ap Some (sym c.index-nodes-node.is) in
+    let pair = named nodes node fact at inside c.index-nodes-node.is in
+    let sizes = g.C.PairStore.sizes c.args.cache.now (g.H.ChainMeaning.held c.args.chain.now) in
+    let pairs = g.C.PairStore.pairs c.args.cache.now in
+    let none : find_pair itself pairs (pair_at fact.spec.name at) ≡ None =
+    none-from c.in_ok-tile.field-0 (find_pair itself pairs (pair_at fact.spec.name at)) c.in_ok-tile.ensures.found.there c.in_default.is in
+    ap (λ (ps : List Pair). find_pair itself ps (pair_of (specs_of nodes) (node, at))) (c.in_ok-tile.ensures.pairs ∙ absent-same itself pairs (pair_at fact.spec.name at) none)
+    ∙ ap (find_pair itself pairs) pair
+    ∙ none
