@@ -80,7 +80,9 @@ where
     ensures cause { IfErr result (HasSwapCause (H.counts chain.old) (H.counts chain.new) ((H.counts chain.old).names + 1)) }
 {
     let name = nodes[node as usize].spec.name;
-    let tile = evaluate(kit, alloc, nodes, inputs, held, sources, chain, purse, node, at)?;
+    let tile = evaluate(
+        kit, alloc, nodes, inputs, held, sources, chain, purse, node, at,
+    )?;
     let share = tile.share(alloc)?;
     cache.keep(chain, name, at, share)?;
     Ok(tile)

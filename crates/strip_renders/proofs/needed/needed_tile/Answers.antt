@@ -1,18 +1,20 @@
-use Rattle.std.proofs.Common.{◌≡◌, ℕ, ◌+◌, ◌*◌, ◌++◌, List, Some, None, length, refl, sym, ap, ◌∙◌, subst, arith}
+use Rattle.std.proofs.Common.{◌≡◌, ℕ, ◌+◌, ◌*◌, ◌++◌, Bool, List, Option, Some, None, length, refl, sym, ap, ◌∙◌, subst, arith}
 use Rattle.std.specs.Prelude.{IfSome, slice_get}
 use Rattle.std.proofs.lemmas.Option.{slice_get-get_or}
 use Rattle.pixel_formats.specs.Format.{pixel_bytes}
 use Rattle.model_graphs.specs.Facts.{specs_of}
 use Rattle.model_graphs.specs.Node.{index_of}
 use Rattle.model_graphs.specs.Shapes.{Shape}
-use Rattle.model_states.specs.Cache.{Pair, find_pair, itself, pair_of}
+use Rattle.model_states.specs.Cache.{Cached, Pair, by_pair, find_pair, itself, pair_bytes, pair_of}
 use Rattle.model_states.proofs.CacheLaws.{all-within}
 use Rattle.model_states.proofs.Indices.{index_of_name}
-use Rattle.node_cache.specs.Stores.{Sized, by_sized, pair_at}
-use Rattle.node_tiles.specs.Stated.{length_at}
+use Rattle.node_cache.specs.Stores.{Finds, Sized, by_sized, pair_at}
+use Rattle.std.specs.Option.{option_map}
+use Rattle.node_tiles.specs.Stated.{length_at, scene_of}
+use Rattle.strip_renders.specs.Looks.{HasSameCache, IsLookedUp, IsMoved}
 use Rattle.node_tiles.proofs.Places.{ready-inside, shape-at, spec-at}
 use Rattle.strip_renders.specs.Strips.{AreSizedPairs, IsSizedPair}
-use Rattle.strip_renders.proofs.Looking.{absent-same, looked-all, none-from, sized-long}
+use Rattle.strip_renders.proofs.Looking.{absent-same, kept-through, looked-all, none-from, none-keyed, right-bytes, same-cached, sized-long}
 use Rattle.strip_renders.proofs.Pairs.{named}
 use Rattle.chain_owners.specs.Owners.{Owns}
 use Rattle.chain_owners.proofs.Ownership.{others-own, others-unchanged, seen-unchanged}
@@ -20,7 +22,7 @@ use Rattle.swap_store.specs.Cause.{HasSwapCause}
 use Rattle.swap_store.proofs.Causes.{cause-more}
 use Rattle.roi_planner.proofs.Widths.{handed-on}
 use Rattle.strip_renders.specs.Moments.{Keeps, moment}
-use Rattle.strip_renders.proofs.Moments.{Turns, cause-kept, keeps-both, keeps-most, keeps-turns, owns-last, owns-turned}
+use Rattle.strip_renders.proofs.Moments.{Turns, cause-kept, keeps-both, keeps-most, keeps-turns, matched-err, owns-last, owns-turned}
 use Rattle.strip_renders.proofs.needed.needed_tile.Goals as goal
 
 pub returns-in_err-tile-clause-keeps : goal.returns-in_err-tile-clause-keeps
@@ -232,11 +234,42 @@ returns-in-Some-clause-length g c =
 
 pub returns-in-Some-clause-bytes : goal.returns-in-Some-clause-bytes
 returns-in-Some-clause-bytes g c =
-    ?
+    λ images known are right.
+    let meanings = g.K.Op.OpMeaning.meanings in
+    let nodes = c.args.nodes.now in
+    let node = c.args.node in
+    let at = c.args.at in
+    let fact = c.index-nodes-node.result in
+    let inside = ready-inside nodes meanings c.args.held.now node at c.requires.ready in
+    let found : slice_get nodes node ≡ Some fact = slice_get-get_or nodes node fact inside ∙ ap Some (sym c.index-nodes-node.is) in
+    let pair = named nodes node fact at inside c.index-nodes-node.is in
+    let sizes = g.C.PairStore.sizes c.args.cache.now (g.H.ChainMeaning.held c.args.chain.now) in
+    let pairs = g.C.PairStore.pairs c.args.cache.now in
+    let finds : Finds pairs (g.C.PairStore.cached c.args.cache.now (g.H.ChainMeaning.held c.args.chain.now)) (pair_at fact.spec.name at) (4096 * c.pixel_bytes-len.result) (Some c.in-Some.tile) =
+    subst (λ (o : Option (List ℕ)). Finds pairs (g.C.PairStore.cached c.args.cache.now (g.H.ChainMeaning.held c.args.chain.now)) (pair_at fact.spec.name at) (4096 * c.pixel_bytes-len.result) o) c.in-Some.is c.in_ok-tile.ensures.found in
+    let bytes : Some c.in-Some.tile ≡ option_map (λ (c : Cached). c.bytes) (find_pair by_pair right.list (pair_at fact.spec.name at)) =
+    subst (λ (o : Option (List Cached)). IfSome o (λ (list : List Cached). Some c.in-Some.tile ≡ option_map (λ (c : Cached). c.bytes) (find_pair by_pair list (pair_at fact.spec.name at)))) right.known finds.bytes in
+    right-bytes meanings (scene_of nodes images) right.list (pair_at fact.spec.name at) c.in-Some.tile right.right bytes
+    ∙ ap (pair_bytes meanings (scene_of nodes images)) (sym pair)
 
 pub returns-in-Some-clause-looked : goal.returns-in-Some-clause-looked
 returns-in-Some-clause-looked g c =
-    ?
+    let old = moment (g.S.SourceTiles.facts c.args.sources.now) (g.S.SourceTiles.images c.args.sources.now (g.H.ChainMeaning.held c.args.chain.now)) (g.S.SourceTiles.names c.args.sources.now) (g.C.PairStore.pairs c.args.cache.now) (g.C.PairStore.sizes c.args.cache.now (g.H.ChainMeaning.held c.args.chain.now)) (g.C.PairStore.cached c.args.cache.now (g.H.ChainMeaning.held c.args.chain.now)) (g.C.PairStore.capacity c.args.cache.now) (g.C.PairStore.names c.args.cache.now) (g.H.ChainMeaning.held c.args.chain.now) (g.H.ChainMeaning.counts c.args.chain.now) (g.H.ChainMeaning.loans c.args.chain.now) in
+    let mid = moment (g.S.SourceTiles.facts c.args.sources.now) (g.S.SourceTiles.images c.args.sources.now (g.H.ChainMeaning.held c.look.new.chain)) (g.S.SourceTiles.names c.args.sources.now) (g.C.PairStore.pairs c.look.new.self) (g.C.PairStore.sizes c.look.new.self (g.H.ChainMeaning.held c.look.new.chain)) (g.C.PairStore.cached c.look.new.self (g.H.ChainMeaning.held c.look.new.chain)) (g.C.PairStore.capacity c.look.new.self) (g.C.PairStore.names c.look.new.self) (g.H.ChainMeaning.held c.look.new.chain) (g.H.ChainMeaning.counts c.look.new.chain) (g.H.ChainMeaning.loans c.look.new.chain) in
+    let meanings = g.K.Op.OpMeaning.meanings in
+    let nodes = c.args.nodes.now in
+    let node = c.args.node in
+    let at = c.args.at in
+    let fact = c.index-nodes-node.result in
+    let inside = ready-inside nodes meanings c.args.held.now node at c.requires.ready in
+    let found : slice_get nodes node ≡ Some fact = slice_get-get_or nodes node fact inside ∙ ap Some (sym c.index-nodes-node.is) in
+    let pair = named nodes node fact at inside c.index-nodes-node.is in
+    let sizes = g.C.PairStore.sizes c.args.cache.now (g.H.ChainMeaning.held c.args.chain.now) in
+    let pairs = g.C.PairStore.pairs c.args.cache.now in
+    let finds : Finds pairs (g.C.PairStore.cached c.args.cache.now (g.H.ChainMeaning.held c.args.chain.now)) (pair_at fact.spec.name at) (4096 * c.pixel_bytes-len.result) (Some c.in-Some.tile) =
+    subst (λ (o : Option (List ℕ)). Finds pairs (g.C.PairStore.cached c.args.cache.now (g.H.ChainMeaning.held c.args.chain.now)) (pair_at fact.spec.name at) (4096 * c.pixel_bytes-len.result) o) c.in-Some.is c.in_ok-tile.ensures.found in
+    subst (λ (p : Pair). IsMoved old mid p c.in-Some.tile) (sym pair)
+    (record { there = sym finds.there; pairs = c.in_ok-tile.ensures.pairs; sizes = c.in_ok-tile.ensures.sizes; cached = c.in_ok-tile.ensures.cached; own = finds.bytes })
 
 pub returns-in-Some-clause-sized : goal.returns-in-Some-clause-sized
 returns-in-Some-clause-sized g c =
@@ -256,7 +289,32 @@ returns-in-Some-clause-sized g c =
 
 pub returns-in_err-tile-2-clause-looked : goal.returns-in_err-tile-2-clause-looked
 returns-in_err-tile-2-clause-looked g c =
-    ?
+    let old = moment (g.S.SourceTiles.facts c.args.sources.now) (g.S.SourceTiles.images c.args.sources.now (g.H.ChainMeaning.held c.args.chain.now)) (g.S.SourceTiles.names c.args.sources.now) (g.C.PairStore.pairs c.args.cache.now) (g.C.PairStore.sizes c.args.cache.now (g.H.ChainMeaning.held c.args.chain.now)) (g.C.PairStore.cached c.args.cache.now (g.H.ChainMeaning.held c.args.chain.now)) (g.C.PairStore.capacity c.args.cache.now) (g.C.PairStore.names c.args.cache.now) (g.H.ChainMeaning.held c.args.chain.now) (g.H.ChainMeaning.counts c.args.chain.now) (g.H.ChainMeaning.loans c.args.chain.now) in
+    let mid = moment (g.S.SourceTiles.facts c.args.sources.now) (g.S.SourceTiles.images c.args.sources.now (g.H.ChainMeaning.held c.look.new.chain)) (g.S.SourceTiles.names c.args.sources.now) (g.C.PairStore.pairs c.look.new.self) (g.C.PairStore.sizes c.look.new.self (g.H.ChainMeaning.held c.look.new.chain)) (g.C.PairStore.cached c.look.new.self (g.H.ChainMeaning.held c.look.new.chain)) (g.C.PairStore.capacity c.look.new.self) (g.C.PairStore.names c.look.new.self) (g.H.ChainMeaning.held c.look.new.chain) (g.H.ChainMeaning.counts c.look.new.chain) (g.H.ChainMeaning.loans c.look.new.chain) in
+    let new = moment (g.S.SourceTiles.facts c.fresh_tile.new.sources) (g.S.SourceTiles.images c.fresh_tile.new.sources (g.H.ChainMeaning.held c.fresh_tile.new.chain)) (g.S.SourceTiles.names c.fresh_tile.new.sources) (g.C.PairStore.pairs c.fresh_tile.new.cache) (g.C.PairStore.sizes c.fresh_tile.new.cache (g.H.ChainMeaning.held c.fresh_tile.new.chain)) (g.C.PairStore.cached c.fresh_tile.new.cache (g.H.ChainMeaning.held c.fresh_tile.new.chain)) (g.C.PairStore.capacity c.fresh_tile.new.cache) (g.C.PairStore.names c.fresh_tile.new.cache) (g.H.ChainMeaning.held c.fresh_tile.new.chain) (g.H.ChainMeaning.counts c.fresh_tile.new.chain) (g.H.ChainMeaning.loans c.fresh_tile.new.chain) in
+    let meanings = g.K.Op.OpMeaning.meanings in
+    let nodes = c.args.nodes.now in
+    let node = c.args.node in
+    let at = c.args.at in
+    let fact = c.index-nodes-node.result in
+    let inside = ready-inside nodes meanings c.args.held.now node at c.requires.ready in
+    let found : slice_get nodes node ≡ Some fact = slice_get-get_or nodes node fact inside ∙ ap Some (sym c.index-nodes-node.is) in
+    let pair = named nodes node fact at inside c.index-nodes-node.is in
+    let sizes = g.C.PairStore.sizes c.args.cache.now (g.H.ChainMeaning.held c.args.chain.now) in
+    let pairs = g.C.PairStore.pairs c.args.cache.now in
+    let none : find_pair itself pairs (pair_at fact.spec.name at) ≡ None =
+    none-from c.in_ok-tile.field-0 (find_pair itself pairs (pair_at fact.spec.name at)) c.in_ok-tile.ensures.found.there c.in_default.is in
+    let same_pairs = c.in_ok-tile.ensures.pairs ∙ absent-same itself pairs (pair_at fact.spec.name at) none in
+    let of_pairs = (g.met.C.PairStore.exposed c.args.cache.now (g.H.ChainMeaning.held c.args.chain.now) c.requires.cache_over).of_pairs in
+    let none_sized : find_pair by_sized sizes (pair_at fact.spec.name at) ≡ None =
+    none-keyed by_sized sizes (pair_at fact.spec.name at) (ap (λ (ps : List Pair). find_pair itself ps (pair_at fact.spec.name at)) of_pairs ∙ none) in
+    let same_sizes = c.in_ok-tile.ensures.sizes ∙ absent-same by_sized sizes (pair_at fact.spec.name at) none_sized in
+    let finds : Finds pairs (g.C.PairStore.cached c.args.cache.now (g.H.ChainMeaning.held c.args.chain.now)) (pair_at fact.spec.name at) (4096 * c.pixel_bytes-len.result) None =
+    subst (λ (o : Option (List ℕ)). Finds pairs (g.C.PairStore.cached c.args.cache.now (g.H.ChainMeaning.held c.args.chain.now)) (pair_at fact.spec.name at) (4096 * c.pixel_bytes-len.result) o) c.in_default.is c.in_ok-tile.ensures.found in
+    let same_bytes = c.in_ok-tile.ensures.cached ∙ same-cached (g.C.PairStore.cached c.args.cache.now (g.H.ChainMeaning.held c.args.chain.now)) (pair_at fact.spec.name at) finds.bytes in
+    let kept = c.in_err-tile-2.ensures.kept in
+    matched-err c.from_residual-in_err-tile-2.result (λ (given : List ℕ × Bool). IsLookedUp old new (pair_of (specs_of nodes) (node, at)) given.0 given.1) (HasSameCache old new) _ c.from_residual-in_err-tile-2.ensures.1
+    (record { pairs = kept.pairs ∙ same_pairs; sizes = kept.sizes ∙ same_sizes; cached = kept.cached ∙ same_bytes })
 
 pub returns-in_err-tile-2-clause-sized : goal.returns-in_err-tile-2-clause-sized
 returns-in_err-tile-2-clause-sized g c =
@@ -276,11 +334,53 @@ returns-in_err-tile-2-clause-sized g c =
 
 pub returns-clause-bytes : goal.returns-clause-bytes
 returns-clause-bytes g c =
-    ?
+    let old = moment (g.S.SourceTiles.facts c.args.sources.now) (g.S.SourceTiles.images c.args.sources.now (g.H.ChainMeaning.held c.args.chain.now)) (g.S.SourceTiles.names c.args.sources.now) (g.C.PairStore.pairs c.args.cache.now) (g.C.PairStore.sizes c.args.cache.now (g.H.ChainMeaning.held c.args.chain.now)) (g.C.PairStore.cached c.args.cache.now (g.H.ChainMeaning.held c.args.chain.now)) (g.C.PairStore.capacity c.args.cache.now) (g.C.PairStore.names c.args.cache.now) (g.H.ChainMeaning.held c.args.chain.now) (g.H.ChainMeaning.counts c.args.chain.now) (g.H.ChainMeaning.loans c.args.chain.now) in
+    let mid = moment (g.S.SourceTiles.facts c.args.sources.now) (g.S.SourceTiles.images c.args.sources.now (g.H.ChainMeaning.held c.look.new.chain)) (g.S.SourceTiles.names c.args.sources.now) (g.C.PairStore.pairs c.look.new.self) (g.C.PairStore.sizes c.look.new.self (g.H.ChainMeaning.held c.look.new.chain)) (g.C.PairStore.cached c.look.new.self (g.H.ChainMeaning.held c.look.new.chain)) (g.C.PairStore.capacity c.look.new.self) (g.C.PairStore.names c.look.new.self) (g.H.ChainMeaning.held c.look.new.chain) (g.H.ChainMeaning.counts c.look.new.chain) (g.H.ChainMeaning.loans c.look.new.chain) in
+    let h0 = g.H.ChainMeaning.held c.args.chain.now in
+    let h1 = g.H.ChainMeaning.held c.look.new.chain in
+    let source = g.S.SourceTiles.names c.args.sources.now in
+    let cached = g.C.PairStore.names c.args.cache.now in
+    let cached1 = g.C.PairStore.names c.look.new.self in
+    let owned : Owns h0 (cached ++ source) = owns-turned h0 source cached c.requires.owned in
+    let turns : Turns 0 old mid = record {
+      others = c.in_ok-tile.ensures.others;
+      one_owner = c.in_ok-tile.ensures.one_owner;
+      other_names = c.in_ok-tile.ensures.other_names;
+      counts = c.in_ok-tile.ensures.counts;
+      loans = c.in_ok-tile.ensures.loans;
+      capacity = c.in_ok-tile.ensures.capacity;
+    } in
+    let images : mid.images ≡ old.images = seen-unchanged h0 h1 cached cached1 c.in_ok-tile.ensures.others source (g.S.SourceTiles.images c.args.sources.now) (g.met.S.SourceTiles.framed c.args.sources.now) owned in
+    let looked : Keeps 0 old mid = keeps-turns 0 old mid turns refl images refl in
+    λ all known are right. c.in_ok-tile-2.ensures.bytes all (images ∙ known) are
 
 pub returns-clause-looked : goal.returns-clause-looked
 returns-clause-looked g c =
-    ?
+    let old = moment (g.S.SourceTiles.facts c.args.sources.now) (g.S.SourceTiles.images c.args.sources.now (g.H.ChainMeaning.held c.args.chain.now)) (g.S.SourceTiles.names c.args.sources.now) (g.C.PairStore.pairs c.args.cache.now) (g.C.PairStore.sizes c.args.cache.now (g.H.ChainMeaning.held c.args.chain.now)) (g.C.PairStore.cached c.args.cache.now (g.H.ChainMeaning.held c.args.chain.now)) (g.C.PairStore.capacity c.args.cache.now) (g.C.PairStore.names c.args.cache.now) (g.H.ChainMeaning.held c.args.chain.now) (g.H.ChainMeaning.counts c.args.chain.now) (g.H.ChainMeaning.loans c.args.chain.now) in
+    let mid = moment (g.S.SourceTiles.facts c.args.sources.now) (g.S.SourceTiles.images c.args.sources.now (g.H.ChainMeaning.held c.look.new.chain)) (g.S.SourceTiles.names c.args.sources.now) (g.C.PairStore.pairs c.look.new.self) (g.C.PairStore.sizes c.look.new.self (g.H.ChainMeaning.held c.look.new.chain)) (g.C.PairStore.cached c.look.new.self (g.H.ChainMeaning.held c.look.new.chain)) (g.C.PairStore.capacity c.look.new.self) (g.C.PairStore.names c.look.new.self) (g.H.ChainMeaning.held c.look.new.chain) (g.H.ChainMeaning.counts c.look.new.chain) (g.H.ChainMeaning.loans c.look.new.chain) in
+    let new = moment (g.S.SourceTiles.facts c.fresh_tile.new.sources) (g.S.SourceTiles.images c.fresh_tile.new.sources (g.H.ChainMeaning.held c.fresh_tile.new.chain)) (g.S.SourceTiles.names c.fresh_tile.new.sources) (g.C.PairStore.pairs c.fresh_tile.new.cache) (g.C.PairStore.sizes c.fresh_tile.new.cache (g.H.ChainMeaning.held c.fresh_tile.new.chain)) (g.C.PairStore.cached c.fresh_tile.new.cache (g.H.ChainMeaning.held c.fresh_tile.new.chain)) (g.C.PairStore.capacity c.fresh_tile.new.cache) (g.C.PairStore.names c.fresh_tile.new.cache) (g.H.ChainMeaning.held c.fresh_tile.new.chain) (g.H.ChainMeaning.counts c.fresh_tile.new.chain) (g.H.ChainMeaning.loans c.fresh_tile.new.chain) in
+    let meanings = g.K.Op.OpMeaning.meanings in
+    let nodes = c.args.nodes.now in
+    let node = c.args.node in
+    let at = c.args.at in
+    let fact = c.index-nodes-node.result in
+    let inside = ready-inside nodes meanings c.args.held.now node at c.requires.ready in
+    let found : slice_get nodes node ≡ Some fact = slice_get-get_or nodes node fact inside ∙ ap Some (sym c.index-nodes-node.is) in
+    let pair = named nodes node fact at inside c.index-nodes-node.is in
+    let sizes = g.C.PairStore.sizes c.args.cache.now (g.H.ChainMeaning.held c.args.chain.now) in
+    let pairs = g.C.PairStore.pairs c.args.cache.now in
+    let none : find_pair itself pairs (pair_at fact.spec.name at) ≡ None =
+    none-from c.in_ok-tile.field-0 (find_pair itself pairs (pair_at fact.spec.name at)) c.in_ok-tile.ensures.found.there c.in_default.is in
+    let same_pairs = c.in_ok-tile.ensures.pairs ∙ absent-same itself pairs (pair_at fact.spec.name at) none in
+    let of_pairs = (g.met.C.PairStore.exposed c.args.cache.now (g.H.ChainMeaning.held c.args.chain.now) c.requires.cache_over).of_pairs in
+    let none_sized : find_pair by_sized sizes (pair_at fact.spec.name at) ≡ None =
+    none-keyed by_sized sizes (pair_at fact.spec.name at) (ap (λ (ps : List Pair). find_pair itself ps (pair_at fact.spec.name at)) of_pairs ∙ none) in
+    let same_sizes = c.in_ok-tile.ensures.sizes ∙ absent-same by_sized sizes (pair_at fact.spec.name at) none_sized in
+    let finds : Finds pairs (g.C.PairStore.cached c.args.cache.now (g.H.ChainMeaning.held c.args.chain.now)) (pair_at fact.spec.name at) (4096 * c.pixel_bytes-len.result) None =
+    subst (λ (o : Option (List ℕ)). Finds pairs (g.C.PairStore.cached c.args.cache.now (g.H.ChainMeaning.held c.args.chain.now)) (pair_at fact.spec.name at) (4096 * c.pixel_bytes-len.result) o) c.in_default.is c.in_ok-tile.ensures.found in
+    let same_bytes = c.in_ok-tile.ensures.cached ∙ same-cached (g.C.PairStore.cached c.args.cache.now (g.H.ChainMeaning.held c.args.chain.now)) (pair_at fact.spec.name at) finds.bytes in
+    kept-through old mid new (pair_of (specs_of nodes) (node, at)) c.in_ok-tile-2.tile (ap (find_pair itself pairs) pair ∙ none) same_pairs same_sizes same_bytes
+    c.in_ok-tile.ensures.capacity c.in_ok-tile-2.ensures.kept
 
 pub returns-clause-sized : goal.returns-clause-sized
 returns-clause-sized g c =
