@@ -71,10 +71,7 @@ impl NodeInputs {
 /// # Errors
 ///
 /// `NoMemory` if memory runs out.
-pub fn all_inputs<Op>(
-    alloc: Global,
-    nodes: &[NodeFact<Op>],
-) -> Result<Vec<NodeInputs>, NoMemory>
+pub fn all_inputs<Op>(alloc: Global, nodes: &[NodeFact<Op>]) -> Result<Vec<NodeInputs>, NoMemory>
     ensures { IfOk result (λ all. all.items ≡ all_inputs nodes.now) }
 {
     let mut all = Vec::with_capacity(alloc, nodes.len())?;

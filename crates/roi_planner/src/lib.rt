@@ -9,8 +9,8 @@ mod refused;
 mod region;
 mod strips;
 
-pub use model_states::{NeedList, Strip};
 pub use inputs::{NodeInputs, all_inputs};
+pub use model_states::{NeedList, Strip};
 pub use need::strip_need;
 pub use planning::{check_widths, plan, strip_rects};
 pub use refused::PlanRefused;
