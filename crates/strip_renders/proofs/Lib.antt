@@ -1,3 +1,6 @@
 pub mod Moments
 pub mod Pairs
 pub mod Looking
+pub mod Looked
+pub mod HeldTiles
+pub mod Needs

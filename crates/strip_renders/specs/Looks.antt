@@ -1,7 +1,7 @@
 -- What a look-up of one needed pair does to a cache.
 use Rattle.std.specs.Prelude.{◌≡◌, ℕ, Bool, true, false, IfSome, List, length, None, Option, Some, is_some}
 use Rattle.std.specs.Option.{option_map}
-use Rattle.model_states.specs.Cache.{Cached, Pair, after_keep, after_look, by_pair, find_pair, itself}
+use Rattle.model_states.specs.Cache.{Cached, Pair, after_keep, after_look, by_pair, find_pair, itself, recent}
 use Rattle.node_cache.specs.Stores.{Sized, by_sized}
 use Rattle.strip_renders.specs.Moments.{Moment}
 
@@ -37,3 +37,8 @@ pub record IsMoved (old new : Moment) (pair : Pair) (tile : List ℕ) : Type 0 w
 abbrev pub IsLookedUp : Moment → Moment → Pair → List ℕ → Bool → Type 0
 IsLookedUp old new pair tile true = IsMoved old new pair tile
 IsLookedUp old new pair tile false = IsKept old new pair tile
+
+-- A pair was looked up, as a list of pairs has it: it is at the front, and it was found where it was there.
+pub record IsRecent (old new : Moment) (pair : Pair) (found : Bool) : Type 0 where
+  pub pairs : new.pairs ≡ recent itself itself old.capacity old.pairs pair
+  pub there : found ≡ is_some (find_pair itself old.pairs pair)

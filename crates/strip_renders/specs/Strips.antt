@@ -1,6 +1,7 @@
 -- What a strip of a render does to a list of cached pairs, and what it holds.
-use Rattle.std.specs.Prelude.{◌≡◌, ℕ, ◌+◌, ◌*◌, ◌≤◌, Bool, true, false, IsSome, List, map, Option, Some, slice_get, slice_index_or}
-use Rattle.std.specs.List.{AllByRecursion}
+use Rattle.std.specs.Prelude.{◌≡◌, ℕ, ◌+◌, ◌*◌, ◌≤◌, Bool, true, false, IsSome, List, length, map, Option, Some, slice_get, slice_index_or}
+use Rattle.std.specs.List.{AllByRecursion, Contains}
+use Rattle.indexmap.specs.IndexMap.{insert_entry}
 use Rattle.plane_rect.specs.Rectangle.{Rectangle}
 use Rattle.plane_rect.specs.Tile.{Tile}
 use Rattle.pixel_formats.specs.Format.{pixel_bytes}
@@ -11,15 +12,15 @@ use Rattle.model_graphs.specs.Meanings.{Meanings}
 use Rattle.model_graphs.specs.Node.{index_of}
 use Rattle.model_states.specs.declared.strip.Strip.{Strip}
 use Rattle.model_states.specs.Cache.{AreRight, Cached, Counted, IsPairOf, Pair, all_looked_up, by_pair, itself, pair_of, uncounted, with_bytes}
-use Rattle.model_states.specs.Need.{Needed, strip_of}
+use Rattle.model_states.specs.Need.{Needed, need}
 use Rattle.node_cache.specs.Stores.{Sized}
-use Rattle.node_tiles.specs.Held.{HeldTiles, held_bytes}
+use Rattle.node_tiles.specs.Held.{HeldTiles, held_bytes, node_tile, same_node_tile}
 use Rattle.node_tiles.specs.Stated.{AreTilesOf, HaveLengths, length_at, scene_of}
 use Rattle.strip_renders.specs.Moments.{Moment}
 
--- the strip is that of some rectangle of some node
+-- the strip is one of those of a request for some node
 abbrev pub IsStripOf : {Op : Type 0} → Meanings Op → List (NodeFact Op) → Strip → Type 0
-IsStripOf meanings facts strip = (node : ℕ) × (rectangle : Rectangle) × (strip ≡ strip_of meanings facts node rectangle)
+IsStripOf meanings facts strip = (node : ℕ) × (request : Rectangle) × Contains (need meanings facts node request) strip
 
 -- the pairs of needed tiles, in their order
 abbrev pub pairs_needed : {Op : Type 0} → List (NodeFact Op) → List Needed → List Pair
@@ -41,6 +42,12 @@ counted list applied reused = record { list = list; applied = applied; reused = 
 pub record HoldsNeed {Op : Type 0} (facts : List (NodeFact Op)) (need : List Needed) (held : HeldTiles) : Type 0 where
   pub each : (k : ℕ) (needed : Needed) → slice_get need k ≡ Some needed → IsSome (held_bytes held needed.0 needed.1)
   pub lengths : HaveLengths facts held
+
+-- One more tile is held, as long as one of its node.
+pub record HoldsMore {Op : Type 0} (facts : List (NodeFact Op)) (needed : Needed) (old new : HeldTiles) : Type 0 where
+  pub bytes : List ℕ
+  pub held : new ≡ insert_entry same_node_tile old (node_tile needed.0 needed.1) bytes
+  pub length : length bytes ≡ length_at facts needed.0
 
 -- Cached pairs are known, and right for the nodes over these images.
 pub record AreKnownRight {Op : Type 0} (meanings : Meanings Op) (facts : List (NodeFact Op)) (images : Buffers) (cached : Option (List Cached)) : Type 0 where

@@ -3,6 +3,7 @@
 #![tactic(auto)]
 
 mod fresh;
+mod holding;
 mod needed;
 mod strip;
 

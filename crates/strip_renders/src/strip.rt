@@ -13,7 +13,7 @@ ghost use Rattle.node_tiles.specs.Stated.{scene_of};
 ghost use Rattle.strip_renders.specs.Moments.{Keeps, moment};
 ghost use Rattle.strip_renders.specs.Strips.{AreKnownRight, AreSizedPairs, HoldsNeed, IsRendered, IsStripOf, counted, pairs_needed};
 
-use crate::needed::needed_tile;
+use crate::holding::hold_needed;
 use chain_owners::ChainMeaning;
 use model_graphs::NodeFact;
 use node_cache::PairStore;
@@ -93,10 +93,9 @@ where
     let mut applied = 0;
     let mut reused = 0;
     for entry in strip.need.as_slice() {
-        let (tile, found) = needed_tile(
-            kit, alloc, nodes, inputs, &tiles, sources, cache, chain, purse, entry.0, entry.1,
+        let found = hold_needed(
+            kit, alloc, nodes, inputs, &mut tiles, sources, cache, chain, purse, entry.0, entry.1,
         )?;
-        tiles.hold(entry.0, entry.1, tile)?;
         if found {
             reused += 1;
         } else {

@@ -5,7 +5,7 @@ use Rattle.model_graphs.specs.Permits.{Spent}
 use Rattle.model_states.specs.Cache.{AreRight, Cached, all_looked_up, itself, uncounted}
 use Rattle.node_tiles.specs.Stated.{scene_of}
 use Rattle.strip_renders.specs.Moments.{Keeps, moment}
-use Rattle.strip_renders.specs.Strips.{AreSizedPairs, HoldsNeed, IsRendered, counted, pairs_needed}
+use Rattle.strip_renders.specs.Strips.{AreKnownRight, AreSizedPairs, HoldsNeed, IsRendered, counted, pairs_needed}
 use Rattle.strip_renders.proofs.strip.render_strip.Given as goal
 
 abbrev pub invariant-loop-entry : goal.invariant-loop-entry
@@ -24,6 +24,9 @@ invariant-loop-entry g l =
           ≡ all_looked_up itself itself (g.C.PairStore.capacity l.fn.cache) (uncounted (g.C.PairStore.pairs l.fn.cache)) (pairs_needed l.nodes need);
       held : HoldsNeed l.nodes need l.tiles;
       permits : Spent (g.K.OpKit.permits l.fn.purse) (g.K.OpKit.permits l.purse) l.applied;
+      right : (images : Buffers) → g.S.SourceTiles.images l.fn.sources (g.H.ChainMeaning.held l.fn.chain) ≡ Some images
+          → AreKnownRight meanings l.nodes images (g.C.PairStore.cached l.fn.cache (g.H.ChainMeaning.held l.fn.chain))
+          → AreKnownRight meanings l.nodes images (g.C.PairStore.cached l.cache (g.H.ChainMeaning.held l.chain));
       bytes : (images : Buffers) (list : List Cached) → g.S.SourceTiles.images l.fn.sources (g.H.ChainMeaning.held l.fn.chain) ≡ Some images
           → g.C.PairStore.cached l.fn.cache (g.H.ChainMeaning.held l.fn.chain) ≡ Some list → AreRight meanings (scene_of l.nodes images) list
           → IsRendered meanings l.nodes images (moment (g.S.SourceTiles.facts l.fn.sources) (g.S.SourceTiles.images l.fn.sources (g.H.ChainMeaning.held l.fn.chain)) (g.S.SourceTiles.names l.fn.sources) (g.C.PairStore.pairs l.fn.cache) (g.C.PairStore.sizes l.fn.cache (g.H.ChainMeaning.held l.fn.chain)) (g.C.PairStore.cached l.fn.cache (g.H.ChainMeaning.held l.fn.chain)) (g.C.PairStore.capacity l.fn.cache) (g.C.PairStore.names l.fn.cache) (g.H.ChainMeaning.held l.fn.chain) (g.H.ChainMeaning.counts l.fn.chain) (g.H.ChainMeaning.loans l.fn.chain)) (moment (g.S.SourceTiles.facts l.sources) (g.S.SourceTiles.images l.sources (g.H.ChainMeaning.held l.chain)) (g.S.SourceTiles.names l.sources) (g.C.PairStore.pairs l.cache) (g.C.PairStore.sizes l.cache (g.H.ChainMeaning.held l.chain)) (g.C.PairStore.cached l.cache (g.H.ChainMeaning.held l.chain)) (g.C.PairStore.capacity l.cache) (g.C.PairStore.names l.cache) (g.H.ChainMeaning.held l.chain) (g.H.ChainMeaning.counts l.chain) (g.H.ChainMeaning.loans l.chain)) list (pairs_needed l.nodes need) l.tiles;
