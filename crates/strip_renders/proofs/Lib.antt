@@ -4,3 +4,4 @@ pub mod Looking
 pub mod Looked
 pub mod HeldTiles
 pub mod Needs
+pub mod Turning

@@ -1,5 +1,5 @@
 -- A pair that is looked for in a list of cached pairs.
-use Rattle.std.proofs.Common.{◌≡◌, ℕ, ◌*◌, Bool, true, false, cond, not, List, [], ◌∷◌, Option, Some, None, filter, refl, sym, ap, ◌∙◌, subst}
+use Rattle.std.proofs.Common.{◌≡◌, ℕ, ◌*◌, Bool, true, false, cond, not, List, [], ◌∷◌, Option, Some, None, refl, ap, ◌∙◌}
 use Rattle.std.specs.Prelude.{IfSome, is_some, slice_get}
 use Rattle.std.specs.List.{AllByRecursion, IsDistinct}
 use Rattle.std.specs.Str.{bytes_eq}
@@ -17,7 +17,7 @@ use Rattle.model_states.specs.Cache.{AreRight, Cached, IsRight, Pair, after_look
 use Rattle.strip_renders.specs.Looks.{IsKept}
 use Rattle.strip_renders.specs.Moments.{Moment}
 use Rattle.model_states.specs.Valid.{node_names}
-use Rattle.model_states.proofs.CacheLaws.{all-filter, all-within, found_has, found_is}
+use Rattle.model_states.proofs.CacheLaws.{all-filter, found_has, found_is}
 use Rattle.model_states.proofs.Indices.{index_of_name}
 use Rattle.node_cache.specs.Stores.{Sized, by_sized, pair_at}
 use Rattle.node_tiles.specs.Stated.{length_at}

@@ -1,22 +1,18 @@
 -- What calls on a source of tiles, and calls on a cache, leave of the other one.
-use Rattle.std.proofs.Common.{◌≡◌, ℕ, ◌+◌, ◌≤◌, ◌++◌, List, length, Option, Result, Ok, Err, refl, sym, ap, ◌∙◌, subst, arith}
+use Rattle.std.proofs.Common.{◌≡◌, ℕ, ◌+◌, ◌≤◌, ◌++◌, List, length, Result, Ok, Err, refl, ap, ◌∙◌, subst, arith}
 use Rattle.std.specs.Prelude.{MatchResult}
 use Rattle.std.specs.Result.{IsErrAnd}
-use Rattle.std.specs.Borrow.{GName}
 use Rattle.chain_owners.specs.Counts.{Counts, Grows}
 use Rattle.chain_owners.specs.Held.{Held, owners_of}
 use Rattle.chain_owners.specs.Owners.{Owns, Respects, times}
-use Rattle.chain_owners.proofs.Ownership.{others-own, owns-fewer, respects-beside, respects-both, times-append}
+use Rattle.chain_owners.proofs.Ownership.{owns-fewer, respects-beside, respects-both, times-append}
 use Rattle.swap_store.specs.Cause.{HasSwapCause}
 use Rattle.swap_store.specs.declared.refusal.SwapRefused.{SwapRefused}
 use Rattle.swap_store.proofs.Causes.{cause-before, cause-more}
-use Rattle.model_graphs.specs.Evaluation.{Buffers}
-use Rattle.model_graphs.specs.Facts.{Facts}
-use Rattle.model_states.specs.Cache.{Cached, Pair}
-use Rattle.node_cache.specs.Stores.{AddsNoOther, HaveOneOwner, Sized}
+use Rattle.node_cache.specs.Stores.{AddsNoOther, HaveOneOwner}
 use Rattle.node_tiles.specs.Reads.{Reads, Seen, seen}
 use Rattle.node_tiles.proofs.Reading.{grows-both}
-use Rattle.strip_renders.specs.Moments.{Keeps, Moment, moment, names_of}
+use Rattle.strip_renders.specs.Moments.{Keeps, Moment, names_of}
 
 -- what a moment has of its source and its chain
 abbrev pub source_of : Moment → Seen

@@ -1,5 +1,5 @@
 -- What is known of the need of a strip of a request.
-use Rattle.std.proofs.Common.{◌≡◌, ℕ, zero, suc, ◌<◌, List, [], ◌∷◌, ◌++◌, map, reverse, take, length, get_or, flat_map, Some, All, Contains, inl, inr, sym, ap, ◌∙◌, subst, arith}
+use Rattle.std.proofs.Common.{◌≡◌, ℕ, zero, suc, ◌<◌, List, [], ◌∷◌, ◌++◌, map, reverse, take, length, get_or, flat_map, Some, inl, inr, subst, arith}
 use Rattle.std.specs.Prelude.{slice_get}
 use Rattle.std.specs.List.{AllByRecursion, IsDistinct}
 use Rattle.std.specs.Str.{bytes_eq}
@@ -13,7 +13,7 @@ use Rattle.model_graphs.specs.Laws.{IsBoxed}
 use Rattle.model_graphs.specs.Meanings.{Meanings}
 use Rattle.model_graphs.specs.Node.{Apply, FromBuffer, Step}
 use Rattle.model_graphs.specs.Shapes.{Shape, Shapes, no_shape}
-use Rattle.model_states.specs.Cache.{IsPairOf, Pair, pair_of}
+use Rattle.model_states.specs.Cache.{IsPairOf, pair_of}
 use Rattle.model_states.specs.declared.strip.Strip.{Strip}
 use Rattle.model_states.specs.Need.{Asked, Needed, asked_by, asked_of, need, needed, needed_of, strip_of, strip_rectangles}
 use Rattle.model_states.specs.Regions.{tiles_of_any}
@@ -76,11 +76,10 @@ module _ {Op : Type 0} (meanings : Meanings Op) (nodes : List (NodeFact Op)) whe
 
   strips-applied : (node : ℕ) (rectangles : List Rectangle) → AllByRecursion (λ (strip : Strip). AllByRecursion IsApplied strip.need) (map (strip_of meanings nodes node) rectangles)
   strips-applied node [] = tt
-  strips-applied node (rectangle ∷ rectangles) =
-      (
-        needed-applied ((node, meet rectangle (get_or shapes node no_shape).box) ∷ []) (reverse (take (suc node) steps)) (first_steps steps (suc node)),
-        strips-applied node rectangles,
-      )
+  strips-applied node (rectangle ∷ rectangles) = (
+    needed-applied ((node, meet rectangle (get_or shapes node no_shape).box) ∷ []) (reverse (take (suc node) steps)) (first_steps steps (suc node)),
+    strips-applied node rectangles,
+  )
 
   abbrev IsNodePair : Needed → Type 0
   IsNodePair n = IsPairOf (specs_of nodes) shapes (pair_of (specs_of nodes) n)
@@ -104,7 +103,7 @@ module _ {Op : Type 0} (meanings : Meanings Op) (nodes : List (NodeFact Op)) whe
   strip-ready buffers strip stated is i n held found holds =
       let serves = of-strip (λ (strip : Strip). ServesItself meanings shapes steps strip.need) strip (λ node request. need_serves meanings buffers nodes node request stated) is in
       let applied = get-here IsApplied strip.need i n
-          (of-strip (λ (strip : Strip). AllByRecursion IsApplied strip.need) strip (λ node request. strips-applied node (strip_rectangles request)) is) found in
+      (of-strip (λ (strip : Strip). AllByRecursion IsApplied strip.need) strip (λ node request. strips-applied node (strip_rectangles request)) is) found in
       record {
         operation = applied.0;
         inputs = applied.1;

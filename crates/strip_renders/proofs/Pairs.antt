@@ -1,5 +1,5 @@
 -- Pairs of needed tiles, and a cache after one was kept.
-use Rattle.std.proofs.Common.{◌≡◌, ℕ, ◌<◌, List, [], length, get_or, Option, Some, None, sym, ap, ◌∙◌}
+use Rattle.std.proofs.Common.{◌≡◌, ℕ, ◌<◌, List, [], length, get_or, Some, None, sym, ap, ◌∙◌}
 use Rattle.std.specs.Prelude.{option_map, slice_get}
 use Rattle.std.specs.Option.{option_map as mapped}
 use Rattle.std.proofs.lemmas.Option.{get_or_from_slice_get, slice_get-get_or, slice_get-map}
@@ -7,9 +7,9 @@ use Rattle.plane_rect.specs.Tile.{Tile}
 use Rattle.model_graphs.specs.declared.node.NodeFact.{NodeFact}
 use Rattle.model_graphs.specs.Facts.{specs_of}
 use Rattle.model_graphs.specs.Node.{Node}
-use Rattle.model_states.specs.Cache.{Cached, Pair, after_keep, find_pair, itself, pair_of}
+use Rattle.model_states.specs.Cache.{Pair, after_keep, find_pair, itself, pair_of}
 use Rattle.model_states.specs.Valid.{node_names}
-use Rattle.node_cache.specs.Stores.{Sized, pair_at}
+use Rattle.node_cache.specs.Stores.{pair_at}
 use Rattle.node_tiles.proofs.Places.{spec-at}
 use Rattle.strip_renders.specs.Looks.{IsKept, sized, with_tile}
 use Rattle.strip_renders.specs.Moments.{Moment}

@@ -1,5 +1,5 @@
 -- What a look-up of one needed pair does to a cache.
-use Rattle.std.specs.Prelude.{◌≡◌, ℕ, Bool, true, false, IfSome, List, length, None, Option, Some, is_some}
+use Rattle.std.specs.Prelude.{◌≡◌, ℕ, Bool, true, false, IfSome, List, length, None, Some, is_some}
 use Rattle.std.specs.Option.{option_map}
 use Rattle.model_states.specs.Cache.{Cached, Pair, after_keep, after_look, by_pair, find_pair, itself, recent}
 use Rattle.node_cache.specs.Stores.{Sized, by_sized}

@@ -1,9 +1,9 @@
 -- What calls of a render leave of a source of tiles, of a cache and of their chain.
-use Rattle.std.specs.Prelude.{◌≡◌, ℕ, ◌≤◌, ◌++◌, List, Option}
+use Rattle.std.specs.Prelude.{◌≡◌, ℕ, ◌++◌, List, Option}
 use Rattle.std.specs.Borrow.{GName}
 use Rattle.chain_owners.specs.Counts.{Counts, Grows}
 use Rattle.chain_owners.specs.Held.{Held}
-use Rattle.chain_owners.specs.Owners.{Owns, Respects}
+use Rattle.chain_owners.specs.Owners.{Respects}
 use Rattle.model_graphs.specs.Evaluation.{Buffers}
 use Rattle.model_graphs.specs.Facts.{Facts}
 use Rattle.model_states.specs.Cache.{Cached, Pair}

@@ -1,19 +1,16 @@
-use Rattle.std.proofs.Common.{◌≡◌, ℕ, ◌+◌, ◌++◌, List, Some, None, length, get_or, refl, sym, ap, ◌∙◌, subst, arith}
-use Rattle.std.specs.Prelude.{option_map, slice_get}
-use Rattle.std.proofs.lemmas.Option.{slice_get-get_or, slice_get-map, get_or_from_slice_get}
-use Rattle.plane_rect.specs.Tile.{Tile}
+use Rattle.std.proofs.Common.{◌≡◌, ◌+◌, ◌++◌, get_or, refl, sym, ap, ◌∙◌, arith}
 use Rattle.chain_owners.specs.Owners.{Owns}
 use Rattle.chain_owners.proofs.Ownership.{others-own, others-unchanged, seen-unchanged}
 use Rattle.model_graphs.specs.declared.node.NodeFact.{NodeFact}
 use Rattle.model_graphs.specs.Facts.{specs_of}
-use Rattle.model_states.specs.Cache.{Cached, Pair, after_keep, find_pair, itself, pair_of}
+use Rattle.model_states.specs.Cache.{Pair, find_pair, itself, pair_of}
 use Rattle.swap_store.specs.Cause.{HasSwapCause}
-use Rattle.node_cache.specs.Stores.{Sized, pair_at}
+use Rattle.node_cache.specs.Stores.{pair_at}
 use Rattle.node_tiles.specs.Reads.{Reads}
 use Rattle.node_tiles.proofs.Places.{ready-inside}
 use Rattle.roi_planner.proofs.Widths.{handed-on}
-use Rattle.strip_renders.specs.Looks.{HasSameCache, IsKept, sized, with_tile}
-use Rattle.strip_renders.specs.Moments.{Keeps, Moment, moment}
+use Rattle.strip_renders.specs.Looks.{HasSameCache, IsKept}
+use Rattle.strip_renders.specs.Moments.{moment}
 use Rattle.strip_renders.proofs.Moments.{Turns, cause-kept, keeps-both, keeps-most, keeps-reads, keeps-turns, matched-err, owns-last, owns-turned, source_of}
 use Rattle.strip_renders.proofs.Pairs.{kept-after, named}
 use Rattle.strip_renders.proofs.fresh.fresh_tile.Goals as goal

@@ -1,9 +1,9 @@
-use Rattle.std.proofs.Common.{◌≡◌, ℕ, ◌+◌, ◌≤◌, Bool, true, false, List, Some, arith}
+use Rattle.std.proofs.Common.{◌≡◌, ℕ, ◌+◌, ◌≤◌, Bool, true, false, arith}
 use Rattle.model_graphs.specs.Facts.{AreImagesOf, specs_of}
 use Rattle.model_states.specs.Cache.{pair_of}
 use Rattle.node_tiles.specs.Stated.{bytes_at}
 use Rattle.strip_renders.specs.Moments.{moment}
-use Rattle.strip_renders.specs.Strips.{AreKnownRight, IsPermitted}
+use Rattle.strip_renders.specs.Strips.{IsPermitted}
 use Rattle.strip_renders.proofs.HeldTiles.{tiles-more}
 use Rattle.strip_renders.proofs.Looked.{list-shown, recent-pairs, right-shown}
 use Rattle.strip_renders.proofs.Moments.{matched-err}
