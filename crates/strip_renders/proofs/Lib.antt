@@ -5,3 +5,4 @@ pub mod Looked
 pub mod HeldTiles
 pub mod Needs
 pub mod Turning
+pub mod Names

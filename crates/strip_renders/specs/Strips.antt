@@ -1,5 +1,5 @@
 -- What a strip of a render does to a list of cached pairs, and what it holds.
-use Rattle.std.specs.Prelude.{◌≡◌, ℕ, ◌+◌, Bool, true, false, IsSome, List, length, map, Option, Some, slice_get}
+use Rattle.std.specs.Prelude.{◌≡◌, ℕ, ◌+◌, ◌-◌, min, Bool, true, false, IsSome, List, length, map, None, Option, Some, slice_get}
 use Rattle.std.specs.List.{AllByRecursion, Contains}
 use Rattle.indexmap.specs.IndexMap.{insert_entry}
 use Rattle.plane_rect.specs.Rectangle.{Rectangle}
@@ -9,7 +9,7 @@ use Rattle.model_graphs.specs.Facts.{specs_of, stated_shapes}
 use Rattle.model_graphs.specs.Meanings.{Meanings}
 use Rattle.model_graphs.specs.Node.{index_of}
 use Rattle.model_states.specs.declared.strip.Strip.{Strip}
-use Rattle.model_states.specs.Cache.{AreRight, Cached, Counted, IsPairOf, Pair, all_looked_up, by_pair, pair_of, uncounted, with_bytes}
+use Rattle.model_states.specs.Cache.{AreRight, Cached, Counted, IsPairOf, Pair, all_looked_up, by_pair, itself, pair_of, uncounted, with_bytes}
 use Rattle.model_states.specs.Need.{Needed, need}
 use Rattle.node_cache.specs.Stores.{Sized}
 use Rattle.node_tiles.specs.Held.{HeldTiles, held_bytes, node_tile, same_node_tile}
@@ -68,3 +68,16 @@ pub record IsRendered {Op : Type 0} (meanings : Meanings Op) (facts : List (Node
 abbrev pub IsPermitted : ℕ → ℕ → Bool → Type 0
 IsPermitted old new true = new ≡ old
 IsPermitted old new false = new + 1 ≡ old
+
+-- as many of so many pairs as a cache of this capacity holds
+abbrev pub most_cached : Option ℕ → ℕ → ℕ
+most_cached None count = count
+most_cached (Some capacity) count = min capacity count
+
+-- The most names that a chain has while pairs are looked up, where each cached name has one owner: those that aren't the
+-- cache's, one for each pair that is cached, and one tile more at work.
+abbrev pub most_names : Moment → List Pair → ℕ
+most_names old pairs =
+    old.counts.names - length old.cache_names
+    + most_cached old.capacity (length old.pairs + (all_looked_up itself itself old.capacity (uncounted old.pairs) pairs).applied)
+    + 1

@@ -9,9 +9,10 @@ ghost use Rattle.model_states.specs.Cache.{AreRight, Cached, all_looked_up, itse
 ghost use Rattle.model_states.specs.Valid.{AreStated};
 ghost use Rattle.swap_store.specs.Cause.{HasSwapCause};
 ghost use Rattle.roi_planner.specs.Inputs.{all_inputs};
+ghost use Rattle.node_cache.specs.Stores.{HaveOneOwner};
 ghost use Rattle.node_tiles.specs.Stated.{scene_of};
 ghost use Rattle.strip_renders.specs.Moments.{Keeps, moment};
-ghost use Rattle.strip_renders.specs.Strips.{AreKnownRight, AreSizedPairs, HoldsNeed, IsRendered, IsStripOf, counted, pairs_needed};
+ghost use Rattle.strip_renders.specs.Strips.{AreKnownRight, AreSizedPairs, HoldsNeed, IsRendered, IsStripOf, counted, most_names, pairs_needed};
 
 use crate::holding::hold_needed;
 use chain_owners::ChainMeaning;
@@ -40,7 +41,8 @@ pub struct StripDone {
 /// # Errors
 ///
 /// `SwapFault` only where the swap's count of I/O errors rose in this call, `SwapFull` only where the
-/// chain's names and one more for each needed tile can fill the swap, and `NoMemory` if memory runs out.
+/// chain's names and one more for each needed tile can fill the swap, and, where each cached name has one
+/// owner, the names of a full cache and one more can too; and `NoMemory` if memory runs out.
 /// The cached pairs are then those of a part of the strip, and right where they were.
 pub fn render_strip<H: ChainMeaning, S: SourceTiles<H>, C: PairStore<H>, K: OpKit + Sync>(
     kit: &K,
@@ -87,6 +89,10 @@ where
     ensures valid { H.is_valid chain.old → H.is_valid chain.new }
     ensures cause { IfErr result (HasSwapCause (H.counts chain.old) (H.counts chain.new)
         ((H.counts chain.old).names + length strip.now.need)) }
+    ensures few_names { HaveOneOwner (H.held chain.old) (C.names cache.old) →
+        IfErr result (HasSwapCause (H.counts chain.old) (H.counts chain.new) (most_names
+        (moment (S.facts sources.old) (S.images sources.old (H.held chain.old)) (S.names sources.old) (C.pairs cache.old) (C.sizes cache.old (H.held chain.old)) (C.cached cache.old (H.held chain.old)) (C.capacity cache.old) (C.names cache.old) (H.held chain.old) (H.counts chain.old) (H.loans chain.old))
+        (pairs_needed nodes.now strip.now.need))) }
 {
     let mut tiles = StripTiles::new(alloc);
     tiles.reserve(strip.need.as_slice().len())?;

@@ -1,13 +1,15 @@
-use Rattle.std.proofs.Common.{◌≡◌, [], ℕ, ◌+◌, ◌≤◌, Bool, List, Option, Some, take, length, refl, sym, ap, ◌∙◌, subst, arith}
+use Rattle.std.proofs.Common.{◌≡◌, [], ℕ, ◌+◌, ◌≤◌, ◌++◌, Bool, List, Option, Some, take, drop, length, refl, sym, ap, ◌∙◌, subst, arith}
 use Rattle.std.specs.Prelude.{slice_get}
-use Rattle.std.proofs.lemmas.List.{take_all}
+use Rattle.std.proofs.lemmas.List.{map-append, take-append-drop, take_all}
+use Rattle.node_cache.specs.Stores.{AreWithin}
+use Rattle.strip_renders.proofs.Names.{few-names}
 use Rattle.model_graphs.specs.Facts.{shapes_of_facts, specs_of}
 use Rattle.model_states.specs.Cache.{Pair, all_looked_up, itself, pair_of, recent, uncounted}
 use Rattle.model_states.specs.Need.{Needed}
 use Rattle.swap_store.specs.Cause.{HasSwapCause}
 use Rattle.roi_planner.proofs.Widths.{handed-on}
 use Rattle.strip_renders.specs.Moments.{Keeps, moment}
-use Rattle.strip_renders.specs.Strips.{HoldsNeed, IsRendered, list_after, pairs_needed}
+use Rattle.strip_renders.specs.Strips.{HoldsNeed, IsRendered, list_after, most_names, pairs_needed}
 use Rattle.strip_renders.proofs.HeldTiles.{need-more}
 use Rattle.strip_renders.proofs.Moments.{cause-kept, keeps-both, keeps-most, matched-err}
 use Rattle.strip_renders.proofs.Needs.{strip-pair, strip-ready}
@@ -91,6 +93,29 @@ returns-in_err-found-clause-cause g c =
     let end = g.H.ChainMeaning.counts c.hold_needed.new.chain in
     handed-on c.from_residual-in_err-found.result refused (HasSwapCause (g.H.ChainMeaning.counts c.args.chain.now) end most) c.from_residual-in_err-found.ensures.1
     (cause-kept c.loop-entry.entry-index ((g.H.ChainMeaning.counts c.loop-entry.chain).names + 1) most first mid end refused keeps (omega (arith, keeps.counts.names, less)) c.in_err-found.ensures.cause)
+
+pub returns-in_err-found-clause-few_names : goal.returns-in_err-found-clause-few_names
+returns-in_err-found-clause-few_names g c = λ one.
+    let first = moment (g.S.SourceTiles.facts c.args.sources.now) (g.S.SourceTiles.images c.args.sources.now (g.H.ChainMeaning.held c.args.chain.now)) (g.S.SourceTiles.names c.args.sources.now) (g.C.PairStore.pairs c.args.cache.now) (g.C.PairStore.sizes c.args.cache.now (g.H.ChainMeaning.held c.args.chain.now)) (g.C.PairStore.cached c.args.cache.now (g.H.ChainMeaning.held c.args.chain.now)) (g.C.PairStore.capacity c.args.cache.now) (g.C.PairStore.names c.args.cache.now) (g.H.ChainMeaning.held c.args.chain.now) (g.H.ChainMeaning.counts c.args.chain.now) (g.H.ChainMeaning.loans c.args.chain.now) in
+    let mid = moment (g.S.SourceTiles.facts c.loop-entry.sources) (g.S.SourceTiles.images c.loop-entry.sources (g.H.ChainMeaning.held c.loop-entry.chain)) (g.S.SourceTiles.names c.loop-entry.sources) (g.C.PairStore.pairs c.loop-entry.cache) (g.C.PairStore.sizes c.loop-entry.cache (g.H.ChainMeaning.held c.loop-entry.chain)) (g.C.PairStore.cached c.loop-entry.cache (g.H.ChainMeaning.held c.loop-entry.chain)) (g.C.PairStore.capacity c.loop-entry.cache) (g.C.PairStore.names c.loop-entry.cache) (g.H.ChainMeaning.held c.loop-entry.chain) (g.H.ChainMeaning.counts c.loop-entry.chain) (g.H.ChainMeaning.loans c.loop-entry.chain) in
+    let keeps : Keeps c.loop-entry.entry-index first mid = c.loop-entry.invariant.keeps in
+    let nodes = c.args.nodes.now in
+    let need = c.args.strip.now.need in
+    let before = pairs_needed nodes (take c.loop-entry.entry-index need) in
+    let after = pairs_needed nodes (drop c.loop-entry.entry-index need) in
+    let parts : before ++ after ≡ pairs_needed nodes need =
+    sym (map-append (pair_of (specs_of nodes)) (take c.loop-entry.entry-index need) (drop c.loop-entry.entry-index need)) ∙ ap (pairs_needed nodes) (take-append-drop c.loop-entry.entry-index need) in
+    let within : AreWithin first.capacity mid.pairs =
+    subst (λ (o : Option ℕ). AreWithin o mid.pairs) keeps.capacity
+    (g.met.C.PairStore.within c.loop-entry.cache (g.H.ChainMeaning.held c.loop-entry.chain) c.loop-entry.invariant.cache_over) in
+    let few : mid.counts.names + 1 ≤ most_names first (pairs_needed nodes need) =
+    subst (λ (pairs : List Pair). mid.counts.names + 1 ≤ most_names first pairs) parts
+    (few-names first mid before after c.loop-entry.applied c.loop-entry.reused c.loop-entry.invariant.pairs (keeps.other_names one) (g.met.C.PairStore.few_names c.loop-entry.cache) within) in
+    let most = most_names first (pairs_needed nodes need) in
+    let refused = c.in_err-found.field-0.0 in
+    let end = g.H.ChainMeaning.counts c.hold_needed.new.chain in
+    handed-on c.from_residual-in_err-found.result refused (HasSwapCause (g.H.ChainMeaning.counts c.args.chain.now) end most) c.from_residual-in_err-found.ensures.1
+    (cause-kept c.loop-entry.entry-index (mid.counts.names + 1) most first mid end refused keeps few c.in_err-found.ensures.cause)
 
 pub loop-entry-preserved : goal.loop-entry-preserved
 loop-entry-preserved g c =
