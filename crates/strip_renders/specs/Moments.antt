@@ -1,0 +1,57 @@
+-- What calls of a render leave of a source of tiles, of a cache and of their chain.
+use Rattle.std.specs.Prelude.{◌≡◌, ℕ, ◌++◌, List, Option}
+use Rattle.std.specs.Borrow.{GName}
+use Rattle.chain_owners.specs.Counts.{Counts, Grows}
+use Rattle.chain_owners.specs.Held.{Held}
+use Rattle.chain_owners.specs.Owners.{Respects}
+use Rattle.model_graphs.specs.Evaluation.{Buffers}
+use Rattle.model_graphs.specs.Facts.{Facts}
+use Rattle.model_states.specs.Cache.{Cached, Pair}
+use Rattle.node_cache.specs.Stores.{AddsNoOther, HaveOneOwner, Sized}
+
+-- What a source of tiles is seen as over a chain, what a cache is seen as over it, and what the chain is seen as.
+pub record Moment : Type 0 where
+  pub facts : Facts
+  pub images : Option Buffers
+  pub source_names : List ℕ
+  pub pairs : List Pair
+  pub sizes : List Sized
+  pub cached : Option (List Cached)
+  pub capacity : Option ℕ
+  pub cache_names : List ℕ
+  pub held : Held
+  pub counts : Counts
+  pub loans : List GName
+
+abbrev pub moment : Facts → Option Buffers → List ℕ → List Pair → List Sized → Option (List Cached) → Option ℕ → List ℕ → Held → Counts → List GName → Moment
+moment facts images source_names pairs sizes cached capacity cache_names held counts loans = record {
+  facts = facts;
+  images = images;
+  source_names = source_names;
+  pairs = pairs;
+  sizes = sizes;
+  cached = cached;
+  capacity = capacity;
+  cache_names = cache_names;
+  held = held;
+  counts = counts;
+  loans = loans;
+}
+
+-- the names of both, each as often as they hold it
+abbrev pub names_of : Moment → List ℕ
+names_of now = now.source_names ++ now.cache_names
+
+-- What is left whatever a render answers: the buffers, their images and the names that the source holds are unchanged,
+-- so are the cache's capacity, the other owners and the loans, and the chain has so many names more at most. Where each
+-- cached name had one owner it has again, and no name more isn't the cache's.
+pub record Keeps (added : ℕ) (old new : Moment) : Type 0 where
+  pub facts : new.facts ≡ old.facts
+  pub images : new.images ≡ old.images
+  pub source_names : new.source_names ≡ old.source_names
+  pub capacity : new.capacity ≡ old.capacity
+  pub others : Respects old.held new.held (names_of old) (names_of new)
+  pub one_owner : HaveOneOwner old.held old.cache_names → HaveOneOwner new.held new.cache_names
+  pub other_names : HaveOneOwner old.held old.cache_names → AddsNoOther old.counts new.counts old.cache_names new.cache_names
+  pub counts : Grows added old.counts new.counts
+  pub loans : new.loans ≡ old.loans
