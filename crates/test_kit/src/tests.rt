@@ -4,7 +4,7 @@ ghost use Rattle.std.specs.Prelude.{◌≡◌, IfOk};
 ghost use Rattle.plane_rect.specs.Rectangle.{InLimits};
 ghost use Rattle.pixel_formats.specs.declared.format.Format.TheVariants.{Y8};
 
-use crate::{BlankTiles, CutKit, CutPurse, CutTo, applied_tile};
+use crate::{BlankTiles, CutKit, CutPurse, CutTo, applied_part, applied_tile};
 use model_graphs::BufferFact;
 use no_memory::NoMemory;
 use op_contracts::{OpKit, SourceTiles, Window, WindowTiles};
@@ -109,5 +109,19 @@ fn source_gives_a_tile_without_a_chain(rt: HostRuntime) -> Result<(), Fail> {
     let mut sources = BlankTiles::new(rt.alloc(), fact);
     let tile = sources.tile(&mut (), name, TileAt::of(0, 0))?;
     assert!(rt; tile.bytes().len() == 6 * 4096);
+    Ok(())
+}
+
+#[test]
+fn kit_cuts_a_part(rt: HostRuntime) -> Result<(), Fail> {
+    let alloc = rt.alloc();
+    let mut purse = CutPurse::new(1);
+    let op = CutTo {
+        rect: rect([62, 2, 4, 1]),
+    };
+    let windows = [sevens_and_nines(alloc)?];
+    let (tile, out) = (TileAt::of(64, 0), rect([64, 2, 2, 1]));
+    let cut = applied_part(&CutKit, alloc, &mut purse, &op, &windows, tile, out)?;
+    assert!(rt; cut.is_some_and(|patch| patch.raw_bytes() == [9, 9].as_slice()));
     Ok(())
 }
