@@ -13,11 +13,11 @@ loop-index-preserved g c =
     elim c.if-not-has_near.branch [
       | then-not-has_near+in_ok-push w ↦
           taken test nodes c.loop-index.names.items (filter test (node_names (specs_of nodes))) c.loop-index.index c.loop-index.invariant
-          c.if-not-has_near.names.items c.fact-item.result c.loop-index-test.true (sym c.fact-item.is)
+          c.if-not-has_near.names.items c.index-nodes-index.result c.loop-index-test.true (sym c.index-nodes-index.is)
           (ap not (sym c.has_near.ensures ∙ w.if-not-has_near.true)) (ap (λ names. names.items) w.names-is ∙ w.in_ok-push.ensures.items)
       | else-not-has_near w ↦
           skipped test nodes c.loop-index.names.items (filter test (node_names (specs_of nodes))) c.loop-index.index c.loop-index.invariant
-          c.if-not-has_near.names.items c.fact-item.result c.loop-index-test.true (sym c.fact-item.is)
+          c.if-not-has_near.names.items c.index-nodes-index.result c.loop-index-test.true (sym c.index-nodes-index.is)
           (ap not (sym c.has_near.ensures ∙ w.if-not-has_near.false)) (ap (λ names. names.items) w.names-is)
     ]
 
