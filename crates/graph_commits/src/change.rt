@@ -1,12 +1,13 @@
 //! Where the images of nodes may differ between two states of which one follows the other.
 
-ghost use Rattle.std.specs.Prelude.{◌≡◌, ◌++◌, IfOk, IsSome, Some, length, map, slice_get, slice_index_or};
-ghost use Rattle.std.specs.List.{list_all};
+ghost use Rattle.std.specs.Prelude.{◌≡◌, ◌+◌, ◌++◌, ℕ, IfOk, IsSome, OnOk, Some, length, map, slice_get, slice_index_or};
+ghost use Rattle.std.specs.List.{enumerate_from};
 ghost use Rattle.plane_rect.specs.Rectangle.{empty};
 ghost use Rattle.model_graphs.specs.Facts.{rectangles_of, root_of, specs_of};
 ghost use Rattle.model_graphs.specs.Node.{index_of};
-ghost use Rattle.model_states.specs.Damage.{damage, damage_list, damage_of_node, damage_passed_on, damages, gone_names, have_same_shapes, inputs_of, invalidated_by, is_unedited, known_damage, new_boxes, same_shape, side_shape};
+ghost use Rattle.model_states.specs.Damage.{damage, damage_list, damage_of_node, damage_passed_on, damages, gone_names, have_same_shapes, inputs_of, is_unedited, new_boxes, same_shape, side_shape};
 ghost use Rattle.model_states.specs.Rectangles.{rectangle_of};
+ghost use Rattle.model_states.specs.Regions.{hull_of};
 ghost use Rattle.model_states.specs.State.{node_of};
 ghost use Rattle.model_states.specs.Valid.{node_names};
 ghost use Rattle.op_contracts.specs.Applying.{bounds_of};
@@ -15,8 +16,9 @@ ghost use Rattle.graph_commits.specs.States.{IsGraphState};
 
 use crate::bodies::{inputs_of, same_body};
 use crate::damage_list::DamageList;
-use crate::regions::{hull_of, rectangle_of};
-use crate::shape::Shape;
+use crate::inputs::Inputs;
+use crate::regions::rectangle_of;
+use crate::shape::{Shape, stated_at};
 use crate::state::GraphState;
 use graph_edits::buffer_of;
 use model_graphs::{Body, Edited, NodeFact, NodeSpec, OpMeaning};
@@ -66,76 +68,88 @@ impl<'a, Op: OpMeaning + Drop> Change<'a, Op> {
     {
         let new = self.new;
         let nodes = new.nodes();
+        let mut inputs = Inputs::new(alloc);
         let mut known = Vec::with_capacity(alloc, nodes.len())?;
         for fact in nodes {
-            let damage = self.damage_of_node(kit, alloc, &known, fact)?;
+            let damage = self.damage_of_node(kit, &known, fact, &mut inputs)?;
             known.push(damage)?;
         }
         Ok(known)
     }
 
-    /// Returns the damage of a node of the new state, where that of the nodes before it is known.
+    /// Returns the damage of a node of the new state, where that of the nodes before it is known. It finds
+    /// the node's inputs.
     fn damage_of_node<K: OpKit<Op = Op>>(
         &self,
         kit: &K,
-        alloc: Global,
         known: &[Rect],
         fact: &NodeFact<Op>,
+        inputs: &mut Inputs,
     ) -> Result<Rect, NoMemory>
         requires state { IsGraphState Op.meanings self.now.new }
         requires at { slice_get self.now.new.nodes (length known.now) ≡ Some fact.now }
         ensures { IfOk result (λ damage. damage
             ≡ damage_of_node Op.same Op.meanings self.now known.now fact.now.spec) }
     {
-        if self.is_unedited(kit, &fact.spec) {
-            return self.damage_passed_on(kit, alloc, known, fact);
+        let same_inputs = self.find_inputs(inputs_of(&fact.spec.body), inputs)?;
+        if self.is_unedited(kit, &fact.spec, known.len(), same_inputs) {
+            return Ok(self.damage_passed_on(kit, known, fact, inputs));
         }
-        Ok(self.old_shape(fact.spec.name).bounds.hull(&fact.bounds))
+        let old = self.old;
+        let before = old.shape_near(fact.spec.name, known.len());
+        Ok(before.bounds.hull(&fact.bounds))
+    }
+
+    /// Finds the new state's nodes of these names, and returns whether they have the boxes and the formats
+    /// that they had.
+    fn find_inputs(&self, names: &[Name], inputs: &mut Inputs) -> Result<bool, NoMemory>
+        ensures positions { OnOk result
+            (inputs.new.positions.items ≡ map (index_of (specs_of self.now.new.nodes)) names.now) }
+        ensures boxes { OnOk result (inputs.new.boxes.items ≡ new_boxes self.now names.now) }
+        ensures same { IfOk result (λ same. same ≡ have_same_shapes self.now names.now) }
+    {
+        inputs.positions.clear();
+        inputs.boxes.clear();
+        let new = self.new;
+        let mut same = true;
+        for name in names {
+            let position = new.index_of(*name);
+            let shape = stated_at(new.nodes(), position);
+            same = same && self.had_shape(*name, position, &shape);
+            inputs.positions.push(position)?;
+            inputs.boxes.push(shape.bounds)?;
+        }
+        Ok(same)
+    }
+
+    /// Returns whether the node of a name had this box and this format. It looks for it first at a
+    /// position where it may be.
+    fn had_shape(&self, name: Name, guess: usize, shape: &Shape) -> bool
+        ensures { result ≡ same_shape (side_shape self.now.old name) shape.now }
+    {
+        let old = self.old;
+        let before = old.shape_near(name, guess);
+        before.bounds == shape.bounds && before.format == shape.format
     }
 
     /// Returns whether the old state has a node of the name of this one of the new state, with its body
-    /// and with its inputs' boxes and formats.
-    fn is_unedited<K: OpKit<Op = Op>>(&self, kit: &K, node: &NodeSpec<Op>) -> bool
+    /// and with its inputs' boxes and formats. It looks for it first at the position that this one has.
+    fn is_unedited<K: OpKit<Op = Op>>(
+        &self,
+        kit: &K,
+        node: &NodeSpec<Op>,
+        position: usize,
+        same_inputs: bool,
+    ) -> bool
+        requires { same_inputs ≡ have_same_shapes self.now (inputs_of node.now.body) }
         ensures { result ≡ is_unedited Op.same self.now node.now
             (node_of (specs_of self.now.old.nodes) node.now.name) }
     {
         let old = self.old;
-        match old.nodes().get(old.index_of(node.name)) {
-            Some(before) => same_body(kit, &before.spec.body, &node.body)
-                && self.have_same_shapes(inputs_of(&node.body)),
+        match old.nodes().get(old.index_near(node.name, position)) {
+            Some(before) => same_body(kit, &before.spec.body, &node.body) && same_inputs,
             None => false,
         }
-    }
-
-    /// Returns whether the nodes of these names have the boxes and the formats that they had.
-    fn have_same_shapes(&self, names: &[Name]) -> bool
-        ensures { result ≡ have_same_shapes self.now names.now }
-    {
-        names.iter().all(|name| self.has_same_shape(*name))
-    }
-
-    /// Returns whether the node of a name has the box and the format that it had.
-    fn has_same_shape(&self, name: Name) -> bool
-        ensures { result ≡ same_shape (side_shape self.now.old name) (side_shape self.now.new name) }
-    {
-        let (old, new) = (self.old_shape(name), self.new_shape(name));
-        old.bounds == new.bounds && old.format == new.format
-    }
-
-    /// Returns the shape of the old state's node of a name.
-    fn old_shape(&self, name: Name) -> Shape
-        ensures { result ≡ side_shape self.now.old name }
-    {
-        let old = self.old;
-        old.shape_of(name)
-    }
-
-    /// Returns the shape of the new state's node of a name.
-    fn new_shape(&self, name: Name) -> Shape
-        ensures { result ≡ side_shape self.now.new name }
-    {
-        let new = self.new;
-        new.shape_of(name)
     }
 
     /// Returns what the damage of a node's inputs invalidates of it, or what the rectangle of a root is of
@@ -143,20 +157,22 @@ impl<'a, Op: OpMeaning + Drop> Change<'a, Op> {
     fn damage_passed_on<K: OpKit<Op = Op>>(
         &self,
         kit: &K,
-        alloc: Global,
         known: &[Rect],
         fact: &NodeFact<Op>,
-    ) -> Result<Rect, NoMemory>
+        inputs: &Inputs,
+    ) -> Rect
         requires state { IsGraphState Op.meanings self.now.new }
         requires at { slice_get self.now.new.nodes (length known.now) ≡ Some fact.now }
-        ensures { IfOk result (λ damage. damage
-            ≡ damage_passed_on Op.meanings self.now known.now fact.now.bounds fact.now.spec.body) }
+        requires positions { inputs.now.positions.items
+            ≡ map (index_of (specs_of self.now.new.nodes)) (inputs_of fact.now.spec.body) }
+        requires boxes { inputs.now.boxes.items ≡ new_boxes self.now (inputs_of fact.now.spec.body) }
+        ensures { result
+            ≡ damage_passed_on Op.meanings self.now known.now fact.now.bounds fact.now.spec.body }
     {
         match &fact.spec.body {
-            Body::Source { buffer } => Ok(self.written(*buffer).meet(&fact.bounds)),
-            Body::Compute { op, inputs } => {
-                let invalid = self.invalidated(kit, alloc, known, op, inputs.as_slice())?;
-                Ok(hull_of(&invalid))
+            Body::Source { buffer } => self.written(*buffer).meet(&fact.bounds),
+            Body::Compute { op, .. } => {
+                invalidated_hull(kit, op, &inputs.boxes, known, &inputs.positions, 0)
             }
         }
     }
@@ -170,53 +186,6 @@ impl<'a, Op: OpMeaning + Drop> Change<'a, Op> {
             Some(source) => rectangle_of(self.edited, source.root.as_bytes()),
             None => rectangle_of(self.edited, &[]),
         }
-    }
-
-    /// Returns what the damage of each input invalidates of an operation's result.
-    fn invalidated<K: OpKit<Op = Op>>(
-        &self,
-        kit: &K,
-        alloc: Global,
-        known: &[Rect],
-        op: &Op,
-        inputs: &[Name],
-    ) -> Result<Vec<Rect>, NoMemory>
-        requires arity { length inputs.now ≡ Op.meanings.input_count op.now }
-        requires bounds { IsSome (bounds_of Op.meanings op.now (new_boxes self.now inputs.now)) }
-        ensures { IfOk result (λ rects. rects.items
-            ≡ invalidated_by Op.meanings op.now (new_boxes self.now inputs.now)
-            (known_damage self.now known.now) inputs.now) }
-    {
-        let boxes = self.new_boxes(alloc, inputs)?;
-        let mut rects = Vec::with_capacity(alloc, inputs.len())?;
-        for (input, name) in inputs.iter().enumerate() {
-            let changed = self.known_damage(known, *name);
-            rects.push(kit.invalidated(op, &boxes, input, changed))?;
-        }
-        Ok(rects)
-    }
-
-    /// Returns the boxes of the new state's nodes of these names.
-    fn new_boxes(&self, alloc: Global, names: &[Name]) -> Result<Vec<Rect>, NoMemory>
-        ensures { IfOk result (λ boxes. boxes.items ≡ new_boxes self.now names.now) }
-    {
-        Ok(
-            names
-                .iter()
-                .map(|name| self.new_shape(*name).bounds)
-                .collect(alloc)?,
-        )
-    }
-
-    /// Returns the damage of the new state's node of a name, among those that are known.
-    fn known_damage(&self, known: &[Rect], name: Name) -> Rect
-        ensures { result ≡ known_damage self.now known.now name }
-    {
-        let new = self.new;
-        known
-            .get(new.index_of(name))
-            .copied()
-            .unwrap_or(Rect::EMPTY)
     }
 
     /// Returns the damage of each node of either state: of the new ones in their order, and then of those
@@ -249,7 +218,8 @@ impl<'a, Op: OpMeaning + Drop> Change<'a, Op> {
         let mut list = Vec::with_capacity(alloc, nodes.len())?;
         for fact in nodes {
             let name = fact.spec.name;
-            list.push((name, self.damage(known, name)))?;
+            let damage = self.damage(known, name, list.len());
+            list.push((name, damage))?;
         }
         Ok(list)
     }
@@ -268,7 +238,7 @@ impl<'a, Op: OpMeaning + Drop> Change<'a, Op> {
         let names = self.gone_names(alloc)?;
         let mut list = listed;
         for name in &names {
-            list.push((*name, self.damage(known, *name)))?;
+            list.push((*name, self.damage(known, *name, known.len())))?;
         }
         Ok(list)
     }
@@ -282,15 +252,42 @@ impl<'a, Op: OpMeaning + Drop> Change<'a, Op> {
     }
 
     /// Returns the damage of the node of a name, where those of the new state's nodes are known: that of a
-    /// node that is gone is its box.
-    fn damage(&self, known: &[Rect], name: Name) -> Rect
+    /// node that is gone is its box. It looks for it first at a position where it may be.
+    fn damage(&self, known: &[Rect], name: Name, guess: usize) -> Rect
         requires { known.now ≡ damages Op.same Op.meanings self.now }
         ensures { result ≡ damage Op.same Op.meanings self.now name }
     {
-        let new = self.new;
-        match known.get(new.index_of(name)) {
+        let (old, new) = (self.old, self.new);
+        match known.get(new.index_near(name, guess)) {
             Some(damage) => *damage,
-            None => self.old_shape(name).bounds,
+            None => old.shape_near(name, guess).bounds,
         }
+    }
+}
+
+/// Returns the hull of what the damages of inputs invalidate of an operation's result: of those at these
+/// positions, the first of which is so many inputs after the first of all.
+fn invalidated_hull<K: OpKit>(
+    kit: &K,
+    op: &K::Op,
+    boxes: &[Rect],
+    known: &[Rect],
+    positions: &[usize],
+    input: usize,
+) -> Rect
+    requires arity { length boxes.now ≡ K.Op.meanings.input_count op.now }
+    requires inputs { input + length positions.now ≡ K.Op.meanings.input_count op.now }
+    requires bounds { IsSome (bounds_of K.Op.meanings op.now boxes.now) }
+    ensures { result ≡ hull_of (map
+        (λ (input : ℕ × ℕ). K.Op.meanings.invalidated op.now boxes.now input.0 (slice_index_or known.now input.1 empty))
+        (enumerate_from input positions.now)) }
+{
+    match positions.split_first() {
+        Some((position, rest)) => {
+            let changed = known.get(*position).copied().unwrap_or(Rect::EMPTY);
+            let invalid = kit.invalidated(op, boxes, input, changed);
+            invalid.hull(&invalidated_hull(kit, op, boxes, known, rest, input + 1))
+        }
+        None => Rect::EMPTY,
     }
 }

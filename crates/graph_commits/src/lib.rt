@@ -8,6 +8,7 @@ mod change;
 mod damage_list;
 mod graph;
 mod history;
+mod inputs;
 pub mod laws;
 mod regions;
 mod shape;

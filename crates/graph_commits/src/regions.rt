@@ -1,22 +1,11 @@
-//! Rectangles of roots and of inputs.
+//! Rectangles of roots.
 
 ghost use Rattle.std.specs.Prelude.{◌≡◌};
 ghost use Rattle.model_graphs.specs.Facts.{rectangles_of};
 ghost use Rattle.model_states.specs.Rectangles.{rectangle_of};
-ghost use Rattle.model_states.specs.Regions.{hull_of};
 
 use model_graphs::Edited;
 use plane_rect::Rect;
-
-/// Returns the hull of all of these.
-pub(crate) fn hull_of(rects: &[Rect]) -> Rect
-    ensures { result ≡ hull_of rects.now }
-{
-    match rects.split_first() {
-        Some((first, rest)) => first.hull(&hull_of(rest)),
-        None => Rect::EMPTY,
-    }
-}
 
 /// Returns the rectangle that was written of the root buffer of a name, without a position where none
 /// was.

@@ -82,11 +82,23 @@ impl<Op: OpMeaning + Drop> GraphState<Op> {
         self.names.index_of(name)
     }
 
-    /// Returns whether a node of a name is there.
-    pub(crate) fn has(&self, name: Name) -> bool
+    /// Returns the position of the node of a name, and the number of nodes where there is none. It looks
+    /// for it first at a position where it may be, which takes less time than a look-up.
+    pub(crate) fn index_near(&self, name: Name, guess: usize) -> usize
+        ensures value { result ≡ index_of (specs_of self.now.nodes) name }
+        ensures bound { result ≤ length self.now.nodes }
+    {
+        match self.nodes().get(guess) {
+            Some(fact) if fact.spec.name == name => guess,
+            _ => self.index_of(name),
+        }
+    }
+
+    /// Returns whether a node of a name is there. It looks for it first at a position where it may be.
+    pub(crate) fn has_near(&self, name: Name, guess: usize) -> bool
         ensures { result ≡ has_node (specs_of self.now.nodes) name }
     {
-        self.index_of(name) < self.nodes().len()
+        self.index_near(name, guess) < self.nodes().len()
     }
 
     /// Returns the names of the nodes of which another state has none, in their order.
@@ -100,9 +112,9 @@ impl<Op: OpMeaning + Drop> GraphState<Op> {
     {
         let nodes = self.nodes();
         let mut names = Vec::new(alloc);
-        for fact in nodes {
+        for (index, fact) in nodes.iter().enumerate() {
             let name = fact.spec.name;
-            if !other.has(name) {
+            if !other.has_near(name, index) {
                 names.push(name)?;
             }
         }
@@ -110,11 +122,11 @@ impl<Op: OpMeaning + Drop> GraphState<Op> {
     }
 
     /// Returns the stated shape of the node of a name, and that of the image without a pixel where there
-    /// is none.
-    pub(crate) fn shape_of(&self, name: Name) -> Shape
+    /// is none. It looks for it first at a position where it may be.
+    pub(crate) fn shape_near(&self, name: Name, guess: usize) -> Shape
         ensures { result ≡ side_shape self.now name }
     {
-        stated_at(self.nodes(), self.index_of(name))
+        stated_at(self.nodes(), self.index_near(name, guess))
     }
 
     /// Returns the state over these buffers after these edits, made one by one.
