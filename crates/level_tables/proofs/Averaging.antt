@@ -63,7 +63,7 @@ pub format-of : (image : Image) (tile : Tile) (found : Option (List ℕ)) → (w
 format-of image tile None = refl
 format-of image tile (Some bytes) = refl
 
-square-is : (above : Tile) → IsInHalf above → IsRectangle (square_below above)
+pub square-is : (above : Tile) → IsInHalf above → IsRectangle (square_below above)
 square-is above half = record {
   columns = omega (arith, half.right);
   rows = omega (arith, half.bottom);

@@ -12,3 +12,4 @@ pub mod Holding
 mod Empty
 pub mod PutTiles
 pub mod SwitchingAll
+pub mod FourMeans

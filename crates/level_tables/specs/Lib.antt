@@ -3,3 +3,4 @@ pub mod Over
 pub mod Steps
 pub mod Found
 pub mod NewTiles
+pub mod Means

@@ -1,17 +1,27 @@
 //! The four tiles that are averaged for one of the next level.
 
-ghost use Rattle.std.specs.Prelude.{◌≡◌, ◌≤◌, ◌*◌, ◌↔◌, IfOk, IsTrue, None};
+ghost use Rattle.std.specs.Prelude.{◌≡◌, ◌+◌, ◌<◌, ◌≤◌, ◌*◌, ◌↔◌, IfOk, IsTrue, None, length};
 ghost use Rattle.pixel_formats.specs.Format.{pixel_bytes};
+ghost use Rattle.pixel_formats.specs.Row.{HasPixels};
 ghost use Rattle.model_images.specs.Level.{halved_image, tile_above as above_of, tile_at_level};
 ghost use Rattle.model_images.specs.Raw.{tile_bytes};
-ghost use Rattle.level_tables.specs.Found.{HasTileLength, HaveTileLength, IsInHalf, image_of_four, square_below, tile_below, with_found};
+ghost use Rattle.level_tables.specs.Found.{HasTileLength, HaveTileLength, IsInHalf, image_of_four, tile_below};
+ghost use Rattle.level_tables.specs.Means.{HasMeans, left_of, mean_in_row, mean_of_found, right_of};
+ghost use Rattle.level_tables.specs.Over.{tile_length};
 
+use crate::tile_bytes::bytes_of;
 use no_memory::NoMemory;
-use patch_abyss::{Patch, halve};
 use pixel_formats::Format;
-use plane_rect::{Rect, TILE_SIDE, TileAt};
+use plane_rect::{TILE_SIDE, TileAt};
+use sample_rows::row_average4;
 use std::alloc::Global;
 use tile_cow::Tile;
+
+/// How many pixels the side of a tile has.
+const SIDE: usize = TILE_SIDE as usize;
+
+/// How many pixels a tile has.
+const TILE_PIXELS: usize = SIDE * SIDE;
 
 /// Half of how far the tiles reach from the origin, to each side, in tiles.
 pub(crate) const HALF_ORIGIN: u32 = 1 << 17;
@@ -52,25 +62,71 @@ impl FourTiles {
         requires lengths { HaveTileLength format self.now }
         ensures { IfOk result (λ tile. tile ≡ tile_bytes (halved_image (image_of_four format at self.now)) at) }
     {
-        let mut patch = Patch::zero(alloc, square_below(at), format)?;
-        lay(&mut patch, tile_below(at, 0, 0), &self.upper_left);
-        lay(&mut patch, tile_below(at, 1, 0), &self.upper_right);
-        lay(&mut patch, tile_below(at, 0, 1), &self.lower_left);
-        lay(&mut patch, tile_below(at, 1, 1), &self.lower_right);
-        let half = halve(alloc, &patch)?;
-        half.tile(alloc, at)
+        let mut bytes = vec![in alloc; 0; TILE_PIXELS * format.pixel_bytes() as usize]?;
+        self.average_rows(format, &mut bytes);
+        let tile = Tile::from_vec(alloc, bytes)?;
+        bytes_of(&tile);
+        Ok(tile)
+    }
+
+    /// Writes the raw bytes of the tile of the next level, row by row.
+    fn average_rows(&self, format: Format, bytes: &mut [u8])
+        requires lengths { HaveTileLength format self.now }
+        requires count { length bytes.old ≡ tile_length format }
+        ensures len { length bytes.new ≡ length bytes.old }
+        ensures rows { HasMeans format self.now 64 bytes.new }
+    {
+        let count = SIDE * format.pixel_bytes() as usize;
+        for row in 0..SIDE {
+            let start = row * count;
+            self.average_row(format, row, &mut bytes[start..start + count]);
+        }
+    }
+
+    /// Writes a row of the tile of the next level: its left half is averaged from one tile, and its right
+    /// half from another.
+    fn average_row(&self, format: Format, row: usize, to: &mut [u8])
+        requires lengths { HaveTileLength format self.now }
+        requires row { row < 64 }
+        requires count { length to.old ≡ 64 * pixel_bytes format }
+        ensures len { length to.new ≡ length to.old }
+        ensures pixels { HasPixels format to.new (mean_in_row format self.now row) }
+    {
+        let (left, right) = self.side_by_side(row);
+        let half = to.len() / 2;
+        average_half(format, left, 2 * row % SIDE, &mut to[..half]);
+        average_half(format, right, 2 * row % SIDE, &mut to[half..]);
+    }
+
+    /// Returns the left and the right tile that are averaged for a row of the tile of the next level.
+    fn side_by_side(&self, row: usize) -> (&Option<Tile>, &Option<Tile>)
+        ensures left { result.0.now ≡ left_of self.now row }
+        ensures right { result.1.now ≡ right_of self.now row }
+    {
+        if row < SIDE / 2 {
+            (&self.upper_left, &self.upper_right)
+        } else {
+            (&self.lower_left, &self.lower_right)
+        }
     }
 }
 
-/// Writes a tile, if there is one, into a patch.
-fn lay(patch: &mut Patch, at: TileAt, found: &Option<Tile>)
-    requires { HasTileLength patch.old.format found.now }
-    ensures image { patch.new ≡ with_found patch.old at found.now }
-    ensures format { patch.new.format ≡ patch.old.format }
+/// Writes the means of a row of a tile and the row below it, pair by pair; zeros where there is no tile.
+fn average_half(format: Format, found: &Option<Tile>, row: usize, to: &mut [u8])
+    requires length { HasTileLength format found.now }
+    requires row { row + 1 < 64 }
+    requires count { length to.old ≡ 32 * pixel_bytes format }
+    ensures len { length to.new ≡ length to.old }
+    ensures pixels { HasPixels format to.new (mean_of_found format found.now row) }
 {
-    if let Some(tile) = found {
-        patch.put_tile(at, tile);
-    }
+    let Some(tile) = found else {
+        to.fill(0);
+        return;
+    };
+    let count = 2 * to.len();
+    let (start, end) = (row * count, (row + 1) * count);
+    let bytes = tile.bytes();
+    row_average4(format, &bytes[start..end], &bytes[end..end + count], to);
 }
 
 /// Returns whether a tile of a level may be above some tile of the plane.
@@ -111,20 +167,5 @@ pub(crate) fn tile_below(at: TileAt, right: u32, lower: u32) -> TileAt
     TileAt::from_indices(
         2 * (at.column() - HALF_ORIGIN) + right,
         2 * (at.row() - HALF_ORIGIN) + lower,
-    )
-}
-
-/// Returns the positions of all four.
-fn square_below(at: TileAt) -> Rect
-    requires { IsInHalf at }
-    ensures { result ≡ square_below at }
-{
-    let first_column = TILE_SIDE * (2 * (at.column() - HALF_ORIGIN));
-    let first_row = TILE_SIDE * (2 * (at.row() - HALF_ORIGIN));
-    Rect::spanning(
-        first_column,
-        first_row,
-        first_column + 2 * TILE_SIDE,
-        first_row + 2 * TILE_SIDE,
     )
 }
