@@ -74,7 +74,7 @@ module _ {Op : Type 0} (meanings : Meanings Op) (facts : Facts) (nodes : List (N
       get_or_from_slice_get (node_names (specs_of nodes)) n fact.spec.name [] (slice_get-map name (specs_of nodes) n ∙ ap (option_map name) (spec-at nodes n fact found)) in
       ap (λ (q : List ℕ). tile_bytes (image_of meanings scene q) tile) named
 
-  own-index : (n : ℕ) (fact : NodeFact Op) → slice_get nodes n ≡ Some fact → index_of (specs_of nodes) fact.spec.name ≡ n
+  pub own-index : (n : ℕ) (fact : NodeFact Op) → slice_get nodes n ≡ Some fact → index_of (specs_of nodes) fact.spec.name ≡ n
   own-index n fact found = index_of_name (specs_of nodes) n fact.spec stated.valid.distinct (spec-at nodes n fact found)
 
   -- nodes of one position have one image
@@ -89,7 +89,7 @@ module _ {Op : Type 0} (meanings : Meanings Op) (facts : Facts) (nodes : List (N
 
   module _ (held : HeldTiles) (tiles_are : AreTilesOf meanings nodes images held) where
     -- a tile of an input is one of its image
-    input-shown : (n : ℕ) (fact : NodeFact Op) (name : List ℕ) (tile : Tile) (bytes : List ℕ) → n ≡ index_of (specs_of nodes) name → slice_get nodes n ≡ Some fact
+    pub input-shown : (n : ℕ) (fact : NodeFact Op) (name : List ℕ) (tile : Tile) (bytes : List ℕ) → n ≡ index_of (specs_of nodes) name → slice_get nodes n ≡ Some fact
         → (body : Body Op) → fact.spec.body ≡ body → IsInputTile facts (Some images) held body n tile bytes → bytes ≡ tile_bytes (image_of meanings scene name) tile
     input-shown n fact name tile bytes index found (Source buffer) is input =
         let own : node_of (specs_of nodes) name ≡ Some fact.spec = ap (λ (k : ℕ). slice_get (specs_of nodes) k) (sym index) ∙ spec-at nodes n fact found in

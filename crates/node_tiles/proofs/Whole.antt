@@ -58,7 +58,8 @@ buffer-long None shape bytes is some long = absurd (cc some)
 buffer-long (Some fact) shape bytes is some long = long ∙ ap (λ (s : Shape). 4096 * pixel_bytes s.format) (sym is)
 
 module _ {Op : Type 0} (meanings : Meanings Op) (facts : Facts) (nodes : List (NodeFact Op)) (stated : AreStated meanings (shapes_of_facts facts) nodes) (held : HeldTiles) (lengths : HaveLengths nodes held) where
-  tile-long : (images : Option Buffers) (n : ℕ) (fact : NodeFact Op) (tile : Tile) (bytes : List ℕ) → slice_get nodes n ≡ Some fact → (body : Body Op) → fact.spec.body ≡ body
+  -- the bytes of an input's tile are as many as those of a tile of its format
+  pub tile-long : (images : Option Buffers) (n : ℕ) (fact : NodeFact Op) (tile : Tile) (bytes : List ℕ) → slice_get nodes n ≡ Some fact → (body : Body Op) → fact.spec.body ≡ body
       → IsInputTile facts images held body n tile bytes → length bytes ≡ 4096 * pixel_bytes fact.format
   tile-long images n fact tile bytes found (Source buffer) is input =
       let fits = subst (λ (body : Body Op). IsSuited meanings (shapes_of_facts facts) (stated_shapes nodes) n (step_of (specs_of nodes) body)) is (suited meanings facts nodes stated n fact found) in

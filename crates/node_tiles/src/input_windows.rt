@@ -23,7 +23,7 @@ use tile_cow::Tile;
 /// # Errors
 ///
 /// `NoMemory` if memory runs out, and those of the sources.
-fn input_tile<H: ChainMeaning, S: SourceTiles<H>, Op>(
+pub fn input_tile<H: ChainMeaning, S: SourceTiles<H>, Op>(
     alloc: Global,
     body: &Body<Op>,
     held: &StripTiles,

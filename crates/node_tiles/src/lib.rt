@@ -7,4 +7,5 @@ mod input_windows;
 mod strip_tiles;
 
 pub use evaluating::evaluate;
+pub use input_windows::input_tile;
 pub use strip_tiles::{NodeTile, StripTiles};

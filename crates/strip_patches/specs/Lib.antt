@@ -1,0 +1,2 @@
+pub mod LevelStrips
+pub mod Nodes

@@ -1,0 +1,9 @@
+//! The patch of a request: strips of a node's image, from tiles, and their levels.
+#![tactic(auto)]
+
+pub mod laws;
+mod level_patch;
+mod patching;
+
+pub use level_patch::LevelPatch;
+pub use patching::strip_patch;

@@ -1,0 +1,66 @@
+//! The patch of a strip, from the tiles that it holds and those of sources.
+
+ghost use Rattle.std.specs.Prelude.{◌≡◌, ℕ, ◌<◌, IfErr, IfOk, Some, length};
+ghost use Rattle.chain_owners.specs.Counts.{Grows};
+ghost use Rattle.model_graphs.specs.Evaluation.{Buffers};
+ghost use Rattle.model_graphs.specs.Facts.{shapes_of_facts};
+ghost use Rattle.model_images.specs.Paint.{cut};
+ghost use Rattle.model_states.specs.Valid.{AreStated};
+ghost use Rattle.plane_rect.specs.Rectangle.{InLimits};
+ghost use Rattle.swap_store.specs.Cause.{HasSwapCause};
+ghost use Rattle.node_tiles.specs.Reads.{Reads, seen};
+ghost use Rattle.node_tiles.specs.Stated.{AreTilesOf, HaveLengths, shape_at};
+ghost use Rattle.strip_patches.specs.Nodes.{HoldsPart, image_at};
+
+use chain_owners::ChainMeaning;
+use model_graphs::NodeFact;
+use node_tiles::{StripTiles, input_tile};
+use op_contracts::{OpMeaning, SourceTiles};
+use patch_abyss::Patch;
+use plane_rect::Rect;
+use std::alloc::Global;
+use swap_store::SwapRefused;
+
+/// Returns the part of the image of the node at a position over a rectangle, zero where the rectangle
+/// reaches outside the node's box. The tiles of an operation's node are those that are held, and those
+/// of a source come from its buffer. Takes time in proportion to the rectangle's pixels.
+///
+/// # Errors
+///
+/// `SwapFault` only where the swap's count of I/O errors rose in this call, `SwapFull` only where the
+/// chain's names can fill the swap, and `NoMemory` if memory runs out.
+pub fn strip_patch<H: ChainMeaning, S: SourceTiles<H>, Op: OpMeaning>(
+    alloc: Global,
+    nodes: &[NodeFact<Op>],
+    held: &StripTiles,
+    sources: &mut S,
+    chain: &mut H,
+    node: u32,
+    rect: Rect,
+) -> Result<Patch, SwapRefused>
+    requires stated { AreStated Op.meanings (shapes_of_facts (S.facts sources.old)) nodes.now }
+    requires node { node < length nodes.now }
+    requires there { HoldsPart nodes.now held.now node rect }
+    requires lengths { HaveLengths nodes.now held.now }
+    requires limits { InLimits rect }
+    requires over { S.is_over sources.old (H.held chain.old) }
+    ensures rect { IfOk result (λ patch. patch.box ≡ rect) }
+    ensures format { IfOk result (λ patch. patch.format ≡ (shape_at nodes.now node).format) }
+    ensures image { (images : Buffers) → S.images sources.old (H.held chain.old) ≡ Some images →
+        AreTilesOf Op.meanings nodes.now images held.now →
+        IfOk result (λ patch. patch ≡ cut (image_at Op.meanings nodes.now images node) rect) }
+    ensures over { S.is_over sources.new (H.held chain.new) }
+    ensures reads { Reads
+        (seen (S.facts sources.old) (S.images sources.old (H.held chain.old)) (S.names sources.old) (H.held chain.old) (H.counts chain.old) (H.loans chain.old))
+        (seen (S.facts sources.new) (S.images sources.new (H.held chain.new)) (S.names sources.new) (H.held chain.new) (H.counts chain.new) (H.loans chain.new)) }
+    ensures cause { IfErr result (HasSwapCause (H.counts chain.old) (H.counts chain.new) (H.counts chain.old).names) }
+    ensures valid { H.is_valid chain.old → H.is_valid chain.new }
+{
+    let fact = &nodes[node as usize];
+    let mut patch = Patch::zero(alloc, rect, fact.format)?;
+    for at in rect.meet(&fact.bounds).tiles() {
+        let tile = input_tile(alloc, &fact.spec.body, held, sources, chain, node, at)?;
+        patch.put_tile(at, &tile);
+    }
+    Ok(patch)
+}
