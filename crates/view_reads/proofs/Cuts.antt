@@ -51,11 +51,14 @@ pub tile-limits : (t : Tile) (part : Rectangle) → IsRectangle part → Include
 tile-limits t part is inside =
     limits-part (tile_square t) part is (λ u v there. ((Inside-meet u v (tile_square t) plane).0 (inside u v there)).0) (square-limits t)
 
+pub meet-is : (r s : Rectangle) → IsRectangle r → IsRectangle (meet r s)
+meet-is r s is =
+    IsRectangle-spanning (max r.first_column s.first_column) (max r.first_row s.first_row) (min (end_column r) (end_column s)) (min (end_row r) (end_row s))
+    (omega (arith, is.columns)) (omega (arith, is.rows))
+
 -- what a rectangle has of a tile is in limits
 pub meet-limits : (r : Rectangle) (t : Tile) (part : Rectangle) → IsRectangle r → part ≡ meet r (tile_rectangle t) → InLimits part
 meet-limits r t part is same =
     tile-limits t part
-    (subst IsRectangle (sym same)
-    (IsRectangle-spanning (max r.first_column (tile_rectangle t).first_column) (max r.first_row (tile_rectangle t).first_row)
-    (min (end_column r) (end_column (tile_rectangle t))) (min (end_row r) (end_row (tile_rectangle t))) (omega (arith, is.columns)) (omega (arith, is.rows))))
+    (subst IsRectangle (sym same) (meet-is r (tile_rectangle t) is))
     (λ u v there. ((Inside-meet u v r (tile_rectangle t)).0 (subst (λ (q : Rectangle). Inside u v q) same there)).1)

@@ -1,2 +1,5 @@
 pub mod Cuts
 pub mod ViewTiles
+pub mod Sources
+pub mod LevelParts
+pub mod Growing
