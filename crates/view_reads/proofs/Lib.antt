@@ -3,3 +3,4 @@ pub mod ViewTiles
 pub mod Sources
 pub mod LevelParts
 pub mod Growing
+pub mod ReadParts

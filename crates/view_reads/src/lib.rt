@@ -2,8 +2,10 @@
 #![tactic(auto)]
 
 mod levels;
+mod policies;
 mod positions;
 mod views;
 
 pub use levels::{level_part, level_tile};
+pub use policies::get;
 pub use views::view_tile;
