@@ -25,14 +25,14 @@ use Rattle.level_tables.proofs.Entries.{same_level_tile-laws, same_level_tile-tr
 
 -- ---- all tiles of levels of an image
 
-above_half : (u v : ℕ) → tile_above (tile_at u v) ≡ tile_at (half u) (half v)
+pub above_half : (u v : ℕ) → tile_above (tile_at u v) ≡ tile_at (half u) (half v)
 above_half u v =
     let column : tile_of u / 2 + tile_origin / 2 ≡ tile_of (half u) = omega arith in
     let row : tile_of v / 2 + tile_origin / 2 ≡ tile_of (half v) = omega arith in
     let joined : (of : ℕ → ℕ → Tile) → of (tile_of u / 2 + tile_origin / 2) (tile_of v / 2 + tile_origin / 2) ≡ of (tile_of (half u)) (tile_of (half v)) = λ of. cc in
     joined (λ column row. record { column = column; row = row })
 
-box-is : (box : Rectangle) (z : ℕ) → IsRectangle box → IsRectangle (level_box box z)
+pub box-is : (box : Rectangle) (z : ℕ) → IsRectangle box → IsRectangle (level_box box z)
 box-is box zero is = is
 box-is box (suc z) is = IsRectangle-halved (level_box box z) (box-is box z is)
 
@@ -161,7 +161,28 @@ keys-none at (e ∷ es) none = (none.0, keys-none at es none.1)
 decides : (a b : LevelTile) → Decides (same_level_tile a b) (a ≡ b)
 decides a b = (same_level_tile-true a b, λ same. let P : LevelTile → Type 0 = λ c. same_level_tile a c ≡ true in subst P same (same_level_tile-laws.refl a))
 
--- where one more can be held, there are fewer than there can be
+-- a tile of a level that is averaged from some tile that was put is one of those that there can be
+among-held : (tiles : LevelTiles) → AreLevelTiles tiles → (top : ℕ) (q : LevelTile) → IsAbove (positions tiles) q → q.level ≤ top
+    → Contains (all_levels (hull_of tiles) top) q
+among-held tiles are top q is low_q =
+    among-levels (hull_of tiles) (hull-is (positions tiles)) top q is.some_level low_q
+    (let P : Tile → Type 0 = λ t. Meets t (level_box (hull_of tiles) q.level) in
+    subst P is.below.2 (meets-level (positions tiles) is.below.0 is.below.1 (are.whole is.below.0 is.below.1) q.level))
+
+-- there are at most as many as there can be
+pub levels-most : (tiles : LevelTiles) → AreLevelTiles tiles → (top : ℕ) → level_count top tiles.levels ≤ level_tiles (hull_of tiles) top
+levels-most tiles are top =
+    let held = low top tiles.levels in
+    let every = all_levels (hull_of tiles) top in
+    let few : length held ≤ length every =
+    length-le_from_is_member same_level_tile-laws held every (low-distinct top tiles.levels are.once)
+    (λ q is. (is_member-Decides decides every q).1 (is-among q ((is_member-Decides decides held q).0 is))) in
+    omega (arith, few, length-low top tiles.levels, length-all_levels (hull_of tiles) top)
+  where
+    is-among : (q : LevelTile) → Contains (low top tiles.levels) q → Contains (all_levels (hull_of tiles) top) q
+    is-among q there = let h = low-held top tiles.levels q there in among-held tiles are top q (are.above q h.0.0 h.0.1) h.1
+
+-- where one more can be held, there are fewer
 pub levels-few : (tiles : LevelTiles) → AreLevelTiles tiles → (at : LevelTile) → IsAbove (positions tiles) at → lookup (same_level_tile at) tiles.levels ≡ None
     → (top : ℕ) → at.level ≤ top → level_count top tiles.levels + 1 ≤ level_tiles (hull_of tiles) top
 levels-few tiles are at above none top low_at =
@@ -176,14 +197,10 @@ levels-few tiles are at above none top low_at =
     (λ q is. (is_member-Decides decides every q).1 (is-among q ((is_member-Decides decides (at ∷ held) q).0 is))) in
     omega (arith, few, length-low top tiles.levels, length-all_levels (hull_of tiles) top)
   where
-    one-among : (q : LevelTile) → IsAbove (positions tiles) q → q.level ≤ top → Contains (all_levels (hull_of tiles) top) q
-    one-among q is low_q =
-        among-levels (hull_of tiles) (hull-is (positions tiles)) top q is.some_level low_q
-        (let P : Tile → Type 0 = λ t. Meets t (level_box (hull_of tiles) q.level) in
-        subst P is.below.2 (meets-level (positions tiles) is.below.0 is.below.1 (are.whole is.below.0 is.below.1) q.level))
-
     is-among : (q : LevelTile) → Contains (at ∷ low top tiles.levels) q → Contains (all_levels (hull_of tiles) top) q
     is-among q there = elim (Contains-cases at (low top tiles.levels) q there) [
-      | inl here ↦ let P : LevelTile → Type 0 = λ a. Contains (all_levels (hull_of tiles) top) a in subst P here (one-among at above low_at)
-      | inr later ↦ let h = low-held top tiles.levels q later in one-among q (are.above q h.0.0 h.0.1) h.1
+      | inl here ↦
+          let P : LevelTile → Type 0 = λ a. Contains (all_levels (hull_of tiles) top) a in
+          subst P here (among-held tiles are top at above low_at)
+      | inr later ↦ let h = low-held top tiles.levels q later in among-held tiles are top q (are.above q h.0.0 h.0.1) h.1
     ]

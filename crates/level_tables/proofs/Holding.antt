@@ -36,6 +36,10 @@ holds-same z tiles held counts counts' over continues few = record {
   names = λ top low. omega (arith, few);
 }
 
+pub holds-none : (z : ℕ) (now : State) → IsOver now.tiles now.held → HoldsMore z now now
+holds-none z now over =
+    holds-same z now.tiles now.held now.counts now.counts over (record { used = refl; capacity = refl; later = omega arith }) (omega arith)
+
 pub holds-both : (z : ℕ) (a b c : State) → HoldsMore z a b → HoldsMore z b c → HoldsMore z a c
 holds-both z a b c first second = record {
   kept = keeps-both a b c first.kept second.kept;

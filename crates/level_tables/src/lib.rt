@@ -13,8 +13,8 @@ mod table;
 mod tile_bytes;
 
 pub use laws::{
-    new_tables_ask_nothing, no_new_tiles_ask_nothing, other_new_tiles_are_unchanged,
-    other_tables_are_unchanged, tables_are_framed,
+    few_levels_are_held, more_tiles_are_held, new_tables_ask_nothing, no_new_tiles_ask_nothing,
+    other_new_tiles_are_unchanged, other_tables_are_unchanged, tables_are_framed,
 };
 pub use level_tile::LevelTile;
 pub use new_tiles::NewTiles;

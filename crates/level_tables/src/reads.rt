@@ -47,8 +47,13 @@ impl LevelTable {
         ensures over { IsOver self.new.tiles (C.held chain.new) }
         ensures others { Respects (C.held chain.old) (C.held chain.new) (names self.old.tiles) (names self.new.tiles) }
         ensures counts { Grows (level_tiles (hull_of self.old.tiles) level) (C.counts chain.old) (C.counts chain.new) }
+        ensures more { HoldsMore level
+            (state self.old.tiles (C.held chain.old) (C.counts chain.old))
+            (state self.new.tiles (C.held chain.new) (C.counts chain.new)) }
         ensures cause { IfErr result (HasSwapCause (C.counts chain.old) (C.counts chain.new)
             ((C.counts chain.old).names + level_tiles (hull_of self.old.tiles) level)) }
+        ensures causes { (top : ℕ) → level ≤ top → IfErr result (HasSwapCause (C.counts chain.old) (C.counts chain.new)
+            (names_with_levels top (state self.old.tiles (C.held chain.old) (C.counts chain.old)))) }
         ensures loans { C.loans chain.new ≡ C.loans chain.old }
         ensures valid { C.is_valid chain.old → C.is_valid chain.new }
     {
@@ -59,7 +64,7 @@ impl LevelTable {
     }
 
     /// Returns how many bytes a tile has.
-    pub(crate) fn tile_len(&self) -> u32
+    pub fn tile_len(&self) -> u32
         ensures value { result ≡ tile_length self.now.tiles.format }
         ensures size { IsTileLength result }
     {

@@ -4,3 +4,6 @@ pub mod Solid
 pub mod PaintedTiles
 pub mod Making
 pub mod Written
+pub mod HullTiles
+pub mod MoreTiles
+pub mod TilesRead

@@ -137,7 +137,7 @@ none-known held put tile none = of (lookup (same_tile tile) put)
     of None = refl
     of (Some name) = ap (option_and_then (λ content. _)) none
 
-held_image-same : (box : Rectangle) (format : Format) (held later : HeldTiles) → ((tile : Tile) → later tile ≡ held tile) → held_image box format later ≡ held_image box format held
+pub held_image-same : (box : Rectangle) (format : Format) (held later : HeldTiles) → ((tile : Tile) → later tile ≡ held tile) → held_image box format later ≡ held_image box format held
 held_image-same box format held later same =
     generated_equal box format (held_pixels format later) (held_pixels format held)
     (λ u v c there known.

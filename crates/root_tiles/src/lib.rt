@@ -7,7 +7,8 @@ mod painting;
 mod reading;
 mod root;
 mod shares;
+mod tiles;
 mod writing;
 
-pub use laws::{new_roots_are_blank, other_roots_are_unchanged};
+pub use laws::{more_root_tiles_are_held, new_roots_are_blank, other_roots_are_unchanged};
 pub use root::Root;

@@ -55,4 +55,9 @@ impl Root {
     {
         self.table.format()
     }
+
+    /// Returns the allocator that its calls take memory from.
+    pub fn allocator(&self) -> Global {
+        self.alloc
+    }
 }

@@ -1,0 +1,33 @@
+-- Reads of views, one after another.
+use Rattle.std.proofs.Common.{◌≡◌, ℕ, ◌+◌, ◌≤◌, Option, refl, sym, ap, subst, ◌∙◌, arith}
+use Rattle.std.specs.Option.{option_map}
+use Rattle.model_images.specs.Image.{Image}
+use Rattle.model_images.specs.Paint.{cut}
+use Rattle.pixel_formats.specs.declared.format.Format.{Format}
+use Rattle.plane_rect.specs.Rectangle.{Includes, Rectangle}
+use Rattle.swap_store.specs.Cause.{HasSwapCause}
+use Rattle.swap_store.specs.declared.refusal.SwapRefused.{SwapRefused}
+use Rattle.swap_store.proofs.Causes.{cause-more}
+use Rattle.root_tiles.specs.Growth.{HoldsMoreTiles, RootState, names_with_root_levels}
+use Rattle.root_tiles.specs.Roots.{RootTiles}
+use Rattle.view_reads.specs.Views.{view_image}
+
+-- a refusal that is excused by the names is so by more
+pub read-cause : (top : ℕ) (a b : RootState) (refused : SwapRefused) → HasSwapCause a.counts b.counts a.counts.names refused
+    → HasSwapCause a.counts b.counts (names_with_root_levels top a) refused
+read-cause top a b refused cause =
+    cause-more a.counts b.counts a.counts.names (names_with_root_levels top a) refused (omega arith) cause
+
+-- what stays after tiles of levels are held
+module _ (z : ℕ) (a b : RootState) (more : HoldsMoreTiles z a b) where
+  pub box-after : b.root.box ≡ a.root.box
+  box-after = ap (λ (r : RootTiles). r.box) more.root
+
+  pub format-after : b.root.tiles.format ≡ a.root.tiles.format
+  format-after = ap (λ (r : RootTiles). r.tiles.format) more.root
+
+  pub inside-after : (extent : Rectangle) → Includes a.root.box extent → Includes b.root.box extent
+  inside-after extent inside = subst (λ (r : Rectangle). Includes r extent) (sym box-after) inside
+
+  pub view-after : (extent : Rectangle) → view_image b.root extent b.held ≡ view_image a.root extent a.held
+  view-after extent = ap (λ (o : Option Image). option_map (λ (image : Image). cut image extent) o) more.image

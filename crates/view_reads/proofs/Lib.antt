@@ -1,0 +1,6 @@
+pub mod Cuts
+pub mod ViewTiles
+pub mod Sources
+pub mod LevelParts
+pub mod Growing
+pub mod ReadParts

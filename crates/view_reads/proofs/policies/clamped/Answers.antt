@@ -1,0 +1,35 @@
+use Rattle.std.proofs.Common.{◌≡◌, ◌+◌, ◌-◌, ◌∙◌, sym}
+use Rattle.plane_rect.specs.Rectangle.{end_column, end_row, spanning}
+use Rattle.view_reads.proofs.ReadParts.{clamp-enough, empty-box-enough, empty-enough, side_end, side_start, some-sides}
+use Rattle.view_reads.proofs.policies.clamped.Goals as goal
+use Rattle.view_reads.proofs.policies.clamped.Goals.{then-is_empty-via-then-is_empty, then-is_empty-via-else-is_empty+then-is_empty-2}
+
+pub returns-then-is_empty : goal.returns-then-is_empty
+returns-then-is_empty c = elim c.then-is_empty.branch [
+  | then-is_empty-via-then-is_empty w ↦ empty-enough c.args.bounds c.args.rect (c.is_empty.ensures.empty.0 w.if-is_empty.true)
+  | then-is_empty-via-else-is_empty+then-is_empty-2 w ↦
+      empty-box-enough c.args.bounds c.args.rect (w.is_empty-else-is_empty.ensures.empty.0 w.if-is_empty-2.true)
+]
+
+pub returns : goal.returns
+returns c =
+    let box = c.args.bounds in
+    let r = c.args.rect in
+    let some = some-sides box (sym c.is_empty-else-is_empty.ensures.value ∙ c.if-is_empty-2.false) in
+    let is : c.spanning.result ≡ spanning (side_start box.first_column (end_column box) r.first_column) (side_start box.first_row (end_row box) r.first_row)
+    (side_end box.first_column (end_column box) (end_column r - 1)) (side_end box.first_row (end_row box) (end_row r - 1)) =
+    rw (
+      c.nearest.ensures.value,
+      c.nearest-2.ensures.value,
+      c.nearest-3.ensures.value,
+      c.nearest-4.ensures.value,
+      c.first_column-first_column.ensures.value,
+      c.end_column-end_column.ensures.value,
+      c.first_row-first_row.ensures.value,
+      c.end_row-end_row.ensures.value,
+      c.first_column.ensures.value,
+      c.first_row.ensures.value,
+      c.end_column.ensures.value,
+      c.end_row.ensures.value,
+    ) at c.spanning.ensures in
+    clamp-enough box r c.spanning.result some.0 some.1 is

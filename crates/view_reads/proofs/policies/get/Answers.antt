@@ -1,0 +1,29 @@
+use Rattle.std.proofs.Common.{◌≡◌, ◌≤◌, subst, arith}
+use Rattle.std.proofs.lemmas.Result.{err_from_is_err_and}
+use Rattle.plane_rect.specs.Rectangle.{Rectangle}
+use Rattle.model_images.specs.Level.{level_box}
+use Rattle.root_tiles.specs.Growth.{root_state}
+use Rattle.root_tiles.proofs.MoreTiles.{cause-plain}
+use Rattle.view_reads.specs.Needed.{IsEnough}
+use Rattle.view_reads.proofs.ReadParts.{needed-limits, read-exact}
+use Rattle.view_reads.proofs.policies.get.Goals as goal
+
+pub level_part-requires-clause-limits : goal.level_part-requires-clause-limits
+level_part-requires-clause-limits g c =
+    let P : Rectangle → Type 0 = λ box. IsEnough c.args.abyss box c.args.rect c.needed-needed.result in
+    needed-limits c.args.abyss c.args.root.now.box c.args.extent c.args.rect c.needed-needed.result c.args.level c.requires.over.limits c.requires.inside c.requires.rectangle
+    (subst P c.level_box.ensures c.needed-needed.ensures)
+
+pub returns-in_err-part-clause-cause : goal.returns-in_err-part-clause-cause
+returns-in_err-part-clause-cause g c =
+    let p = err_from_is_err_and c.from_residual.result c.from_residual.ensures.1 in
+    rw (p.1, p.2) (cause-plain c.args.level
+    (root_state c.args.root.now (g.C.ChainMeaning.held c.args.chain.now) (g.C.ChainMeaning.counts c.args.chain.now))
+    (root_state c.level_part.new.root (g.C.ChainMeaning.held c.level_part.new.chain) (g.C.ChainMeaning.counts c.level_part.new.chain)) _
+    (c.in_err-part.ensures.causes c.args.level (omega arith)))
+
+pub returns-clause-image : goal.returns-clause-image
+returns-clause-image g c =
+    let P : Rectangle → Type 0 = λ box. IsEnough c.args.abyss box c.args.rect c.needed-needed.result in
+    read-exact c.args.root.now c.args.extent (g.C.ChainMeaning.held c.args.chain.now) c.args.level c.args.abyss c.args.rect c.needed-needed.result
+    c.in_ok-part.part c.in_ok-read.read (subst P c.level_box.ensures c.needed-needed.ensures) c.in_ok-part.ensures.image c.in_ok-read.ensures

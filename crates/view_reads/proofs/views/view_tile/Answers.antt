@@ -1,0 +1,51 @@
+use Rattle.std.proofs.Common.{◌≡◌, ℕ, ◌*◌, ◌∙◌, List, length, ap, subst}
+use Rattle.std.proofs.lemmas.Result.{IfOk-weaker}
+use Rattle.std.specs.Prelude.{IfSome}
+use Rattle.level_tables.specs.Over.{IsTileOfLevel}
+use Rattle.model_images.specs.Image.{Image}
+use Rattle.model_images.specs.Raw.{tile_bytes}
+use Rattle.model_images.proofs.ByteLaws.{length-tile_bytes}
+use Rattle.pixel_formats.specs.Format.{pixel_bytes}
+use Rattle.pixel_formats.specs.declared.format.Format.{Format}
+use Rattle.plane_rect.specs.Rectangle.{Includes, Rectangle, meet}
+use Rattle.plane_rect.specs.Tile.{tile_rectangle}
+use Rattle.root_tiles.specs.Roots.{IsPartOf, root_image}
+use Rattle.view_reads.specs.Views.{view_image}
+use Rattle.view_reads.proofs.Cuts.{meet-limits}
+use Rattle.view_reads.proofs.ViewTiles.{tile-inside, tile-part}
+use Rattle.view_reads.proofs.views.view_tile.Goals as goal
+
+pub returns-then-contains-clause-bytes : goal.returns-then-contains-clause-bytes
+returns-then-contains-clause-bytes g c =
+    let root = c.args.root.now in
+    let held = g.C.ChainMeaning.held c.args.chain.now in
+    let is : c.meet.result ≡ meet (tile_rectangle c.args.at) root.box =
+    c.meet.ensures.value ∙ ap (λ (r : Rectangle). meet r c.bounds.result) c.rect-square.ensures.value ∙ ap (λ (r : Rectangle). meet (tile_rectangle c.args.at) r) c.bounds.ensures in
+    let all : Includes c.args.extent (meet (tile_rectangle c.args.at) root.box) =
+    subst (λ (r : Rectangle). Includes c.args.extent r) is (c.contains.ensures.positions.0 c.if-contains.true) in
+    IfOk-weaker c.put_tile.result (IsTileOfLevel (root_image root held) 0 c.args.at) (λ tile. IfSome (view_image root c.args.extent held) (λ image. tile ≡ tile_bytes image c.args.at))
+    (λ tile exact. tile-inside root c.args.extent held c.requires.over c.requires.inside c.requires.rectangle c.args.at tile all exact) c.put_tile.ensures.bytes
+
+pub part-requires-clause-inside : goal.part-requires-clause-inside
+part-requires-clause-inside g c = λ u v there. c.requires.inside u v (c.meet-2.ensures.in_this u v there)
+
+pub part-requires-clause-limits : goal.part-requires-clause-limits
+part-requires-clause-limits g c =
+    meet-limits c.args.extent c.args.at c.meet-2.result c.requires.rectangle
+    (c.meet-2.ensures.value ∙ ap (λ (r : Rectangle). meet c.args.extent r) c.rect-square.ensures.value)
+
+pub returns-clause-bytes : goal.returns-clause-bytes
+returns-clause-bytes g c =
+    let root = c.args.root.now in
+    let held = g.C.ChainMeaning.held c.args.chain.now in
+    let is : c.meet-2.result ≡ meet c.args.extent (tile_rectangle c.args.at) =
+    c.meet-2.ensures.value ∙ ap (λ (r : Rectangle). meet c.args.extent r) c.rect-square.ensures.value in
+    let part : IsPartOf (root_image root held) (meet c.args.extent (tile_rectangle c.args.at)) c.in_ok-part.part =
+    subst (λ (r : Rectangle). IsPartOf (root_image root held) r c.in_ok-part.part) is c.in_ok-part.ensures.image in
+    tile-part root c.args.extent held c.requires.over c.requires.inside c.requires.rectangle c.args.at c.in_ok-part.part c.in_ok-tile.field-0 part c.in_ok-tile.ensures
+
+pub returns-clause-length : goal.returns-clause-length
+returns-clause-length g c =
+    ap (λ (bytes : List ℕ). length bytes) c.in_ok-tile.ensures
+    ∙ length-tile_bytes c.in_ok-part.part c.args.at
+    ∙ ap (λ (f : Format). 4096 * pixel_bytes f) c.in_ok-part.ensures.shape.format

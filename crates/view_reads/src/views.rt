@@ -1,0 +1,49 @@
+//! Tiles of the images of views.
+
+ghost use Rattle.std.specs.Prelude.{◌≡◌, IfErr, IfOk, IfSome, length};
+ghost use Rattle.level_tables.specs.Over.{tile_length};
+ghost use Rattle.model_images.specs.Raw.{tile_bytes};
+ghost use Rattle.plane_rect.specs.Rectangle.{Includes, IsRectangle};
+ghost use Rattle.swap_store.specs.Cause.{HasSwapCause};
+ghost use Rattle.root_tiles.specs.Chains.{IsRead};
+ghost use Rattle.root_tiles.specs.Roots.{IsRootOver};
+ghost use Rattle.view_reads.specs.Views.{view_image};
+
+use chain_contracts::TileChain;
+use plane_rect::{Rect, TileAt};
+use root_tiles::Root;
+use swap_store::SwapRefused;
+use tile_cow::Tile;
+
+/// Returns a tile of the image of a view: the root's own tile, without a copy, where the view contains all that
+/// the tile has of the root, and else a copy that is zero outside the view. The chain's names, their bytes and
+/// their owners are unchanged, whatever it answers.
+///
+/// # Errors
+///
+/// `SwapFault` only where the swap's count of I/O errors rose in this call, `SwapFull` only where the
+/// chain's names can fill the swap, and `NoMemory` if memory runs out.
+pub fn view_tile<C: TileChain>(
+    root: &Root,
+    chain: &mut C,
+    extent: Rect,
+    at: TileAt,
+) -> Result<Tile, SwapRefused>
+    requires over { IsRootOver root.now (C.held chain.old) }
+    requires inside { Includes root.now.box extent }
+    requires rectangle { IsRectangle extent }
+    ensures bytes { IfOk result (λ tile. IfSome (view_image root.now extent (C.held chain.old))
+        (λ image. tile ≡ tile_bytes image at)) }
+    ensures length { IfOk result (λ tile. length tile ≡ tile_length root.now.tiles.format) }
+    ensures cause { IfErr result (HasSwapCause (C.counts chain.old) (C.counts chain.new) (C.counts chain.old).names) }
+    ensures read { IsRead
+        (record { held = C.held chain.old; counts = C.counts chain.old; loans = C.loans chain.old; valid = C.is_valid chain.old })
+        (record { held = C.held chain.new; counts = C.counts chain.new; loans = C.loans chain.new; valid = C.is_valid chain.new }) }
+{
+    let square = at.rect();
+    if extent.contains(&square.meet(&root.bounds())) {
+        return root.put_tile(chain, at);
+    }
+    let part = root.part(chain, extent.meet(&square))?;
+    Ok(part.tile(root.allocator(), at)?)
+}
