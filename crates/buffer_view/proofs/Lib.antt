@@ -1,0 +1,12 @@
+pub mod RootLists
+pub mod Beside
+pub mod Shown
+pub mod Changed
+pub mod Targets
+pub mod Parts
+pub mod Copied
+pub mod Tables
+pub mod Sharing
+pub mod Added
+pub mod Refusals
+pub mod Copies

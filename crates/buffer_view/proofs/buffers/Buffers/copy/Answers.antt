@@ -1,0 +1,191 @@
+use Rattle.std.proofs.Common.{◌≡◌, ℕ, ◌+◌, List, length, None, Some, ap, of_z, subst, sym, to_z, w64, ◌∙◌, arith}
+use Rattle.std.specs.Prelude.{IfSome, slice_get}
+use Rattle.std.specs.Option.{option_map}
+use Rattle.std.proofs.lemmas.Int.{to_z-of_z}
+use Rattle.std.proofs.lemmas.Result.{err_from_is_err_and}
+use Rattle.buffer_layouts.specs.Views.{AreCopyParts}
+use Rattle.chain_owners.specs.Held.{Held}
+use Rattle.model_buffers.specs.BufferEdit.{edit_refused}
+use Rattle.model_buffers.specs.Counts.{moved_count}
+use Rattle.model_buffers.specs.Edits.{written}
+use Rattle.model_buffers.specs.Table.{Table, root_image}
+use Rattle.model_buffers.specs.declared.edit.BufferEdit.TheVariants.{Copy}
+use Rattle.model_graphs.specs.Shapes.{Shape}
+use Rattle.model_images.specs.FromRaw.{byte_count, pixels_from_raw}
+use Rattle.model_images.specs.Paint.{cut}
+use Rattle.model_images.specs.Raw.{raw}
+use Rattle.model_images.specs.TileCounts.{tile_count}
+use Rattle.root_tiles.proofs.ChainReads.{refused-after}
+use Rattle.buffer_view.specs.BufferTables.{AreBuffersOver, BufferTable, images_over, table_of}
+use Rattle.buffer_view.proofs.Copies.{copy-shown, source-can, target-can}
+use Rattle.buffer_view.proofs.Refusals.{exact-none, grows-after, swap-cause}
+use Rattle.buffer_view.proofs.Tables.{is-table, layout-shown}
+use Rattle.buffer_view.proofs.buffers.Buffers.copy.Goals as goal
+
+pub read-requires-clause-inside : goal.read-requires-clause-inside
+read-requires-clause-inside g c =
+    let now = c.args.self.now in
+    let parts = c.in-Ok.parts in
+    let e = Copy c.args.from c.args.to c.args.rect c.args.dx c.args.dy in
+    let x : to_z w64 (of_z w64 c.args.dx) ≡ c.args.dx = to_z-of_z w64 c.args.dx c.ranges.dx in
+    let y : to_z w64 (of_z w64 c.args.dy) ≡ c.args.dy = to_z-of_z w64 c.args.dy c.ranges.dy in
+    let are : AreCopyParts now.layout c.args.from c.args.to c.args.rect c.args.dx c.args.dy parts =
+    subst (λ (b : BufferTable). AreCopyParts b.layout c.args.from c.args.to c.args.rect c.args.dx c.args.dy parts) c.self.view_is (rw (x, y) at c.in-Ok.ensures.parts) in
+    let none : edit_refused now.layout e ≡ None =
+    ap (λ (b : BufferTable). edit_refused b.layout e) (sym c.self.view_is) ∙ (rw (x, y) at c.in-Ok.ensures.carried_out) in
+    source-can now.layout c.requires.table.layout c.args.from c.args.to c.args.rect c.args.dx c.args.dy parts are none c.first_column.ensures.rectangle
+
+pub returns-in_err-bytes-clause-exact : goal.returns-in_err-bytes-clause-exact
+returns-in_err-bytes-clause-exact g c =
+    let now = c.args.self.now in
+    let parts = c.in-Ok.parts in
+    let e = Copy c.args.from c.args.to c.args.rect c.args.dx c.args.dy in
+    let x : to_z w64 (of_z w64 c.args.dx) ≡ c.args.dx = to_z-of_z w64 c.args.dx c.ranges.dx in
+    let y : to_z w64 (of_z w64 c.args.dy) ≡ c.args.dy = to_z-of_z w64 c.args.dy c.ranges.dy in
+    let are : AreCopyParts now.layout c.args.from c.args.to c.args.rect c.args.dx c.args.dy parts =
+    subst (λ (b : BufferTable). AreCopyParts b.layout c.args.from c.args.to c.args.rect c.args.dx c.args.dy parts) c.self.view_is (rw (x, y) at c.in-Ok.ensures.parts) in
+    let none : edit_refused now.layout e ≡ None =
+    ap (λ (b : BufferTable). edit_refused b.layout e) (sym c.self.view_is) ∙ (rw (x, y) at c.in-Ok.ensures.carried_out) in
+    λ cause is. exact-none _ (edit_refused now.layout e) cause none is
+
+pub write-requires-clause-over : goal.write-requires-clause-over
+write-requires-clause-over g c = subst (AreBuffersOver c.args.self.now) (sym c.read.ensures.read.held) c.requires
+
+pub write-requires-clause-inside : goal.write-requires-clause-inside
+write-requires-clause-inside g c =
+    let now = c.args.self.now in
+    let parts = c.in-Ok.parts in
+    let e = Copy c.args.from c.args.to c.args.rect c.args.dx c.args.dy in
+    let x : to_z w64 (of_z w64 c.args.dx) ≡ c.args.dx = to_z-of_z w64 c.args.dx c.ranges.dx in
+    let y : to_z w64 (of_z w64 c.args.dy) ≡ c.args.dy = to_z-of_z w64 c.args.dy c.ranges.dy in
+    let are : AreCopyParts now.layout c.args.from c.args.to c.args.rect c.args.dx c.args.dy parts =
+    subst (λ (b : BufferTable). AreCopyParts b.layout c.args.from c.args.to c.args.rect c.args.dx c.args.dy parts) c.self.view_is (rw (x, y) at c.in-Ok.ensures.parts) in
+    let none : edit_refused now.layout e ≡ None =
+    ap (λ (b : BufferTable). edit_refused b.layout e) (sym c.self.view_is) ∙ (rw (x, y) at c.in-Ok.ensures.carried_out) in
+    let count : (name : List ℕ) (shape : Shape) → slice_get now.layout.roots parts.source.root ≡ Some (name, shape) → length c.deref.result.now ≡ byte_count c.args.rect shape.format =
+    λ name shape there. ap length c.deref.ensures.value ∙ c.in_ok-bytes.ensures.count name shape there in
+    (target-can now.layout c.requires.table.layout c.args.from c.args.to c.args.rect c.args.dx c.args.dy parts are none c.first_column.ensures.rectangle c.deref.result.now count).0
+
+pub write-requires-clause-samples : goal.write-requires-clause-samples
+write-requires-clause-samples g c =
+    let now = c.args.self.now in
+    let parts = c.in-Ok.parts in
+    let e = Copy c.args.from c.args.to c.args.rect c.args.dx c.args.dy in
+    let x : to_z w64 (of_z w64 c.args.dx) ≡ c.args.dx = to_z-of_z w64 c.args.dx c.ranges.dx in
+    let y : to_z w64 (of_z w64 c.args.dy) ≡ c.args.dy = to_z-of_z w64 c.args.dy c.ranges.dy in
+    let are : AreCopyParts now.layout c.args.from c.args.to c.args.rect c.args.dx c.args.dy parts =
+    subst (λ (b : BufferTable). AreCopyParts b.layout c.args.from c.args.to c.args.rect c.args.dx c.args.dy parts) c.self.view_is (rw (x, y) at c.in-Ok.ensures.parts) in
+    let none : edit_refused now.layout e ≡ None =
+    ap (λ (b : BufferTable). edit_refused b.layout e) (sym c.self.view_is) ∙ (rw (x, y) at c.in-Ok.ensures.carried_out) in
+    let count : (name : List ℕ) (shape : Shape) → slice_get now.layout.roots parts.source.root ≡ Some (name, shape) → length c.deref.result.now ≡ byte_count c.args.rect shape.format =
+    λ name shape there. ap length c.deref.ensures.value ∙ c.in_ok-bytes.ensures.count name shape there in
+    (target-can now.layout c.requires.table.layout c.args.from c.args.to c.args.rect c.args.dx c.args.dy parts are none c.first_column.ensures.rectangle c.deref.result.now count).1
+
+pub returns-in_err-write-clause-exact : goal.returns-in_err-write-clause-exact
+returns-in_err-write-clause-exact g c =
+    let now = c.args.self.now in
+    let parts = c.in-Ok.parts in
+    let e = Copy c.args.from c.args.to c.args.rect c.args.dx c.args.dy in
+    let x : to_z w64 (of_z w64 c.args.dx) ≡ c.args.dx = to_z-of_z w64 c.args.dx c.ranges.dx in
+    let y : to_z w64 (of_z w64 c.args.dy) ≡ c.args.dy = to_z-of_z w64 c.args.dy c.ranges.dy in
+    let are : AreCopyParts now.layout c.args.from c.args.to c.args.rect c.args.dx c.args.dy parts =
+    subst (λ (b : BufferTable). AreCopyParts b.layout c.args.from c.args.to c.args.rect c.args.dx c.args.dy parts) c.self.view_is (rw (x, y) at c.in-Ok.ensures.parts) in
+    let none : edit_refused now.layout e ≡ None =
+    ap (λ (b : BufferTable). edit_refused b.layout e) (sym c.self.view_is) ∙ (rw (x, y) at c.in-Ok.ensures.carried_out) in
+    λ cause is. exact-none _ (edit_refused now.layout e) cause none is
+
+pub returns-in_err-write-clause-cause : goal.returns-in_err-write-clause-cause
+returns-in_err-write-clause-cause g c =
+    let now = c.args.self.now in
+    let parts = c.in-Ok.parts in
+    let e = Copy c.args.from c.args.to c.args.rect c.args.dx c.args.dy in
+    let x : to_z w64 (of_z w64 c.args.dx) ≡ c.args.dx = to_z-of_z w64 c.args.dx c.ranges.dx in
+    let y : to_z w64 (of_z w64 c.args.dy) ≡ c.args.dy = to_z-of_z w64 c.args.dy c.ranges.dy in
+    let are : AreCopyParts now.layout c.args.from c.args.to c.args.rect c.args.dx c.args.dy parts =
+    subst (λ (b : BufferTable). AreCopyParts b.layout c.args.from c.args.to c.args.rect c.args.dx c.args.dy parts) c.self.view_is (rw (x, y) at c.in-Ok.ensures.parts) in
+    let none : edit_refused now.layout e ≡ None =
+    ap (λ (b : BufferTable). edit_refused b.layout e) (sym c.self.view_is) ∙ (rw (x, y) at c.in-Ok.ensures.carried_out) in
+    let first = g.C.ChainMeaning.counts c.args.chain.now in
+    let second = g.C.ChainMeaning.counts c.read.new.chain in
+    let last = g.C.ChainMeaning.counts c.write.new.chain in
+    let n = tile_count parts.moved in
+    let p = err_from_is_err_and c.from_residual-in_err-write.result c.from_residual-in_err-write.ensures.1 in
+    rw (p.1, p.2) (swap-cause now.layout e first last (first.names + n) c.in_err-write.field-0.0 (ap (λ (m : ℕ). first.names + m) (sym (ap moved_count are.moved)))
+    (refused-after 0 n n (second.names + n) first second last c.in_err-write.field-0.0 (omega arith) (omega arith) c.read.ensures.read.counts c.in_err-write.ensures.cause))
+
+pub returns-in_err-write-clause-counts : goal.returns-in_err-write-clause-counts
+returns-in_err-write-clause-counts g c =
+    let now = c.args.self.now in
+    let parts = c.in-Ok.parts in
+    let e = Copy c.args.from c.args.to c.args.rect c.args.dx c.args.dy in
+    let x : to_z w64 (of_z w64 c.args.dx) ≡ c.args.dx = to_z-of_z w64 c.args.dx c.ranges.dx in
+    let y : to_z w64 (of_z w64 c.args.dy) ≡ c.args.dy = to_z-of_z w64 c.args.dy c.ranges.dy in
+    let are : AreCopyParts now.layout c.args.from c.args.to c.args.rect c.args.dx c.args.dy parts =
+    subst (λ (b : BufferTable). AreCopyParts b.layout c.args.from c.args.to c.args.rect c.args.dx c.args.dy parts) c.self.view_is (rw (x, y) at c.in-Ok.ensures.parts) in
+    let none : edit_refused now.layout e ≡ None =
+    ap (λ (b : BufferTable). edit_refused b.layout e) (sym c.self.view_is) ∙ (rw (x, y) at c.in-Ok.ensures.carried_out) in
+    grows-after _ (tile_count parts.moved) _ _ _ (ap moved_count are.moved) c.read.ensures.read.counts c.write.ensures.counts
+
+pub returns-clause-table : goal.returns-clause-table
+returns-clause-table g c =
+    let now = c.args.self.now in
+    let parts = c.in-Ok.parts in
+    let e = Copy c.args.from c.args.to c.args.rect c.args.dx c.args.dy in
+    let x : to_z w64 (of_z w64 c.args.dx) ≡ c.args.dx = to_z-of_z w64 c.args.dx c.ranges.dx in
+    let y : to_z w64 (of_z w64 c.args.dy) ≡ c.args.dy = to_z-of_z w64 c.args.dy c.ranges.dy in
+    let are : AreCopyParts now.layout c.args.from c.args.to c.args.rect c.args.dx c.args.dy parts =
+    subst (λ (b : BufferTable). AreCopyParts b.layout c.args.from c.args.to c.args.rect c.args.dx c.args.dy parts) c.self.view_is (rw (x, y) at c.in-Ok.ensures.parts) in
+    let none : edit_refused now.layout e ≡ None =
+    ap (λ (b : BufferTable). edit_refused b.layout e) (sym c.self.view_is) ∙ (rw (x, y) at c.in-Ok.ensures.carried_out) in
+    let first = g.C.ChainMeaning.held c.args.chain.now in
+    let bytes = c.deref.result.now in
+    copy-shown now.layout c.requires.table.layout c.args.from c.args.to c.args.rect c.args.dx c.args.dy parts are none c.first_column.ensures.rectangle first.content (images_over first now.layout.roots now.roots) _ bytes
+    (layout-shown now first c.requires.table) (is-table now first c.requires.table)
+    (λ name shape there.
+    c.in_ok-write.ensures.table name shape there
+    ∙ ap (λ (h : Held). option_map (λ (t : Table). written t name parts.moved (pixels_from_raw parts.moved shape.format bytes)) (table_of now h)) c.read.ensures.read.held)
+    (λ name shape there.
+    subst (λ (bs : List ℕ). IfSome (table_of now first) (λ (t : Table). bs ≡ raw (cut (root_image t name) c.args.rect) c.args.rect)) (sym c.deref.ensures.value)
+    (c.in_ok-bytes.ensures.bytes name shape there))
+
+pub returns-clause-exact : goal.returns-clause-exact
+returns-clause-exact g c =
+    let now = c.args.self.now in
+    let parts = c.in-Ok.parts in
+    let e = Copy c.args.from c.args.to c.args.rect c.args.dx c.args.dy in
+    let x : to_z w64 (of_z w64 c.args.dx) ≡ c.args.dx = to_z-of_z w64 c.args.dx c.ranges.dx in
+    let y : to_z w64 (of_z w64 c.args.dy) ≡ c.args.dy = to_z-of_z w64 c.args.dy c.ranges.dy in
+    let are : AreCopyParts now.layout c.args.from c.args.to c.args.rect c.args.dx c.args.dy parts =
+    subst (λ (b : BufferTable). AreCopyParts b.layout c.args.from c.args.to c.args.rect c.args.dx c.args.dy parts) c.self.view_is (rw (x, y) at c.in-Ok.ensures.parts) in
+    let none : edit_refused now.layout e ≡ None =
+    ap (λ (b : BufferTable). edit_refused b.layout e) (sym c.self.view_is) ∙ (rw (x, y) at c.in-Ok.ensures.carried_out) in
+    λ cause is. exact-none _ (edit_refused now.layout e) cause none is
+
+pub returns-clause-carried_out : goal.returns-clause-carried_out
+returns-clause-carried_out g c =
+    let now = c.args.self.now in
+    let parts = c.in-Ok.parts in
+    let e = Copy c.args.from c.args.to c.args.rect c.args.dx c.args.dy in
+    let x : to_z w64 (of_z w64 c.args.dx) ≡ c.args.dx = to_z-of_z w64 c.args.dx c.ranges.dx in
+    let y : to_z w64 (of_z w64 c.args.dy) ≡ c.args.dy = to_z-of_z w64 c.args.dy c.ranges.dy in
+    let are : AreCopyParts now.layout c.args.from c.args.to c.args.rect c.args.dx c.args.dy parts =
+    subst (λ (b : BufferTable). AreCopyParts b.layout c.args.from c.args.to c.args.rect c.args.dx c.args.dy parts) c.self.view_is (rw (x, y) at c.in-Ok.ensures.parts) in
+    let none : edit_refused now.layout e ≡ None =
+    ap (λ (b : BufferTable). edit_refused b.layout e) (sym c.self.view_is) ∙ (rw (x, y) at c.in-Ok.ensures.carried_out) in
+    none
+
+pub returns-clause-counts : goal.returns-clause-counts
+returns-clause-counts g c =
+    let now = c.args.self.now in
+    let parts = c.in-Ok.parts in
+    let e = Copy c.args.from c.args.to c.args.rect c.args.dx c.args.dy in
+    let x : to_z w64 (of_z w64 c.args.dx) ≡ c.args.dx = to_z-of_z w64 c.args.dx c.ranges.dx in
+    let y : to_z w64 (of_z w64 c.args.dy) ≡ c.args.dy = to_z-of_z w64 c.args.dy c.ranges.dy in
+    let are : AreCopyParts now.layout c.args.from c.args.to c.args.rect c.args.dx c.args.dy parts =
+    subst (λ (b : BufferTable). AreCopyParts b.layout c.args.from c.args.to c.args.rect c.args.dx c.args.dy parts) c.self.view_is (rw (x, y) at c.in-Ok.ensures.parts) in
+    let none : edit_refused now.layout e ≡ None =
+    ap (λ (b : BufferTable). edit_refused b.layout e) (sym c.self.view_is) ∙ (rw (x, y) at c.in-Ok.ensures.carried_out) in
+    grows-after _ (tile_count parts.moved) _ _ _ (ap moved_count are.moved) c.read.ensures.read.counts c.write.ensures.counts
+
+pub returns-clause-valid : goal.returns-clause-valid
+returns-clause-valid g c = λ is. c.write.ensures.valid (c.read.ensures.read.valid is)

@@ -1,0 +1,103 @@
+use Rattle.std.proofs.Common.{◌≡◌, ◌∙◌, List, [], ◌∷◌, ◌++◌, None, ap, sym, subst}
+use Rattle.model_buffers.specs.BufferEdit.{edit_refused}
+use Rattle.model_buffers.specs.declared.edit.BufferEdit.TheVariants.{Create}
+use Rattle.model_buffers.specs.Layout.{TableLayout}
+use Rattle.root_tiles.specs.Roots.{RootTiles}
+use Rattle.buffer_view.specs.BufferTables.{AreBuffersOver, BufferTable, IsBufferTable, buffers_names, table_of}
+use Rattle.buffer_view.proofs.Added.{created-new, names-created, over-created, shown-created, table-created}
+use Rattle.buffer_view.proofs.Refusals.{exact-none, exact-some}
+use Rattle.buffer_view.proofs.buffers.Buffers.create.Goals as goal
+
+pub returns-in-Some-clause-exact : goal.returns-in-Some-clause-exact
+returns-in-Some-clause-exact c =
+    let e = Create c.args.name c.args.format c.args.extent in
+    λ cause is. exact-some (edit_refused c.args.self.now.layout e) c.in-Some.refused cause
+    (ap (λ (b : BufferTable). edit_refused b.layout e) (sym c.self.view_is) ∙ sym (c.create_refused.ensures c.args.format c.args.extent) ∙ c.in-Some.is) is
+
+pub returns-in-Some-clause-cause : goal.returns-in-Some-clause-cause
+returns-in-Some-clause-cause c =
+    let e = Create c.args.name c.args.format c.args.extent in
+    ap (λ (b : BufferTable). edit_refused b.layout e) (sym c.self.view_is) ∙ sym (c.create_refused.ensures c.args.format c.args.extent) ∙ c.in-Some.is
+
+pub returns-in_err-reserve-clause-exact : goal.returns-in_err-reserve-clause-exact
+returns-in_err-reserve-clause-exact c =
+    let e = Create c.args.name c.args.format c.args.extent in
+    λ cause is. exact-none _ (edit_refused c.args.self.now.layout e) cause
+    (ap (λ (b : BufferTable). edit_refused b.layout e) (sym c.self.view_is) ∙ sym (c.create_refused.ensures c.args.format c.args.extent) ∙ c.in_default.is) is
+
+pub returns-in_err-reserve-2-clause-exact : goal.returns-in_err-reserve-2-clause-exact
+returns-in_err-reserve-2-clause-exact c =
+    let e = Create c.args.name c.args.format c.args.extent in
+    λ cause is. exact-none _ (edit_refused c.args.self.now.layout e) cause
+    (ap (λ (b : BufferTable). edit_refused b.layout e) (sym c.self.view_is) ∙ sym (c.create_refused.ensures c.args.format c.args.extent) ∙ c.in_default.is) is
+
+pub create-requires-clause-carried_out : goal.create-requires-clause-carried_out
+create-requires-clause-carried_out c =
+    let e = Create c.args.name c.args.format c.args.extent in
+    ap (λ (l : TableLayout). edit_refused l e) c.reserve.ensures.layout ∙ sym (c.create_refused.ensures c.args.format c.args.extent) ∙ c.in_default.is
+
+pub invariant_of-self-2 : goal.invariant_of-self-2
+invariant_of-self-2 c =
+    let e = Create c.args.name c.args.format c.args.extent in
+    let now = c.args.self.now in
+    let old : BufferTable = record { layout = c.self.inside.layout.layout; roots = c.self.inside.roots.items } in
+    let is : IsBufferTable now = subst IsBufferTable c.self.view_is c.self.invariant in
+    let none : edit_refused now.layout e ≡ None =
+    ap (λ (b : BufferTable). edit_refused b.layout e) (sym c.self.view_is) ∙ sym (c.create_refused.ensures c.args.format c.args.extent) ∙ c.in_default.is in
+    let more = c.push_reserved.ensures.items ∙ ap (λ (rs : List RootTiles). rs ++ c.new.result ∷ []) c.reserve-2.ensures.items in
+    let after = created-new old now c.self.view_is c.args.name c.args.format c.args.extent c.reserve.new.self.layout c.create.new.self.layout c.push_reserved.new.self.items c.new.result
+    c.reserve.ensures.layout c.create.ensures more c.new.ensures in
+    subst IsBufferTable (sym after) (table-created now is c.args.name c.args.format c.args.extent (c.first_column.ensures.rectangle, c.requires) none)
+
+pub returns-clause-table : goal.returns-clause-table
+returns-clause-table c =
+    let e = Create c.args.name c.args.format c.args.extent in
+    let now = c.args.self.now in
+    let old : BufferTable = record { layout = c.self.inside.layout.layout; roots = c.self.inside.roots.items } in
+    let is : IsBufferTable now = subst IsBufferTable c.self.view_is c.self.invariant in
+    let none : edit_refused now.layout e ≡ None =
+    ap (λ (b : BufferTable). edit_refused b.layout e) (sym c.self.view_is) ∙ sym (c.create_refused.ensures c.args.format c.args.extent) ∙ c.in_default.is in
+    let more = c.push_reserved.ensures.items ∙ ap (λ (rs : List RootTiles). rs ++ c.new.result ∷ []) c.reserve-2.ensures.items in
+    let after = created-new old now c.self.view_is c.args.name c.args.format c.args.extent c.reserve.new.self.layout c.create.new.self.layout c.push_reserved.new.self.items c.new.result
+    c.reserve.ensures.layout c.create.ensures more c.new.ensures in
+    λ held. ap (λ (b : BufferTable). table_of b held) after ∙ shown-created now is c.args.name c.args.format c.args.extent (c.first_column.ensures.rectangle, c.requires) none held
+
+pub returns-clause-exact : goal.returns-clause-exact
+returns-clause-exact c =
+    let e = Create c.args.name c.args.format c.args.extent in
+    λ cause is. exact-none _ (edit_refused c.args.self.now.layout e) cause
+    (ap (λ (b : BufferTable). edit_refused b.layout e) (sym c.self.view_is) ∙ sym (c.create_refused.ensures c.args.format c.args.extent) ∙ c.in_default.is) is
+
+pub returns-clause-carried_out : goal.returns-clause-carried_out
+returns-clause-carried_out c =
+    let e = Create c.args.name c.args.format c.args.extent in
+    ap (λ (b : BufferTable). edit_refused b.layout e) (sym c.self.view_is) ∙ sym (c.create_refused.ensures c.args.format c.args.extent) ∙ c.in_default.is
+
+pub returns-clause-over : goal.returns-clause-over
+returns-clause-over c =
+    let e = Create c.args.name c.args.format c.args.extent in
+    let now = c.args.self.now in
+    let old : BufferTable = record { layout = c.self.inside.layout.layout; roots = c.self.inside.roots.items } in
+    let is : IsBufferTable now = subst IsBufferTable c.self.view_is c.self.invariant in
+    let none : edit_refused now.layout e ≡ None =
+    ap (λ (b : BufferTable). edit_refused b.layout e) (sym c.self.view_is) ∙ sym (c.create_refused.ensures c.args.format c.args.extent) ∙ c.in_default.is in
+    let more = c.push_reserved.ensures.items ∙ ap (λ (rs : List RootTiles). rs ++ c.new.result ∷ []) c.reserve-2.ensures.items in
+    let after = created-new old now c.self.view_is c.args.name c.args.format c.args.extent c.reserve.new.self.layout c.create.new.self.layout c.push_reserved.new.self.items c.new.result
+    c.reserve.ensures.layout c.create.ensures more c.new.ensures in
+    λ held over.
+    subst (λ (b : BufferTable). AreBuffersOver b held) (sym after)
+    (over-created now is c.args.name c.args.format c.args.extent (c.first_column.ensures.rectangle, c.requires) none held
+    (c.new_roots_are_blank.ensures.over c.args.extent c.args.format held c.first_column.ensures.rectangle c.requires) over)
+
+pub returns-clause-names : goal.returns-clause-names
+returns-clause-names c =
+    let e = Create c.args.name c.args.format c.args.extent in
+    let now = c.args.self.now in
+    let old : BufferTable = record { layout = c.self.inside.layout.layout; roots = c.self.inside.roots.items } in
+    let is : IsBufferTable now = subst IsBufferTable c.self.view_is c.self.invariant in
+    let none : edit_refused now.layout e ≡ None =
+    ap (λ (b : BufferTable). edit_refused b.layout e) (sym c.self.view_is) ∙ sym (c.create_refused.ensures c.args.format c.args.extent) ∙ c.in_default.is in
+    let more = c.push_reserved.ensures.items ∙ ap (λ (rs : List RootTiles). rs ++ c.new.result ∷ []) c.reserve-2.ensures.items in
+    let after = created-new old now c.self.view_is c.args.name c.args.format c.args.extent c.reserve.new.self.layout c.create.new.self.layout c.push_reserved.new.self.items c.new.result
+    c.reserve.ensures.layout c.create.ensures more c.new.ensures in
+    ap buffers_names after ∙ names-created now is c.args.name c.args.format c.args.extent (c.first_column.ensures.rectangle, c.requires) none

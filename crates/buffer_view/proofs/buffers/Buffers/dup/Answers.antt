@@ -1,0 +1,104 @@
+use Rattle.std.proofs.Common.{rules, ◌≡◌, ◌∙◌, List, length, get_or, None, Some, ap, sym, subst, arith}
+use Rattle.std.specs.Prelude.{vec_len}
+use Rattle.buffer_layouts.specs.Views.{root_view}
+use Rattle.chain_owners.specs.Owners.{Respects}
+use Rattle.model_buffers.specs.BufferEdit.{edit_refused}
+use Rattle.model_buffers.specs.declared.edit.BufferEdit.TheVariants.{Duplicate}
+use Rattle.root_tiles.specs.Roots.{IsRootOver, RootTiles}
+use Rattle.buffer_view.specs.BufferTables.{AreBuffersOver, BufferTable, IsBufferTable, buffers_names, table_of}
+use Rattle.buffer_view.proofs.Added.{duplicated-new, others-duplicated, over-duplicated, shown-duplicated, table-duplicated, target-below}
+use Rattle.buffer_view.proofs.RootLists.{All-at}
+use Rattle.buffer_view.proofs.buffers.Buffers.dup.Goals as goal
+
+pub index-requires : goal.index-requires
+index-requires g c =
+    let now = c.args.self.now in
+    let seen = c.in-Ok.view in
+    let source : root_view now.layout c.args.from ≡ Some seen = ap (λ (b : BufferTable). root_view b.layout c.args.from) (sym c.self.view_is) ∙ c.in-Ok.ensures.source in
+    let below = target-below now c.requires.table c.args.from seen source in
+    let count : length c.self.inside.roots.items ≡ vec_len c.self.inside.roots = search rules in
+    let same : length c.self.inside.roots.items ≡ length now.roots = ap (λ (b : BufferTable). length b.roots) c.self.view_is in
+    omega (arith, below, count, same, c.reserve-2.ensures.len)
+
+pub share-requires : goal.share-requires
+share-requires g c =
+    let now = c.args.self.now in
+    let root = c.index.result.now in
+    let seen = c.in-Ok.view in
+    let source : root_view now.layout c.args.from ≡ Some seen = ap (λ (b : BufferTable). root_view b.layout c.args.from) (sym c.self.view_is) ∙ c.in-Ok.ensures.source in
+    let below = target-below now c.requires.table c.args.from seen source in
+    let here : get_or now.roots seen.root root ≡ root =
+    sym (c.index.ensures ∙ ap (λ (rs : List RootTiles). get_or rs seen.root root) (c.reserve-2.ensures.items ∙ ap (λ (b : BufferTable). b.roots) c.self.view_is)) in
+    All-at (λ (r : RootTiles). IsRootOver r (g.C.ChainMeaning.held c.args.chain.now)) seen.root now.roots root below here c.requires.roots
+
+pub invariant_of-self-2 : goal.invariant_of-self-2
+invariant_of-self-2 g c =
+    let now = c.args.self.now in
+    let root = c.index.result.now in
+    let seen = c.in-Ok.view in
+    let source : root_view now.layout c.args.from ≡ Some seen = ap (λ (b : BufferTable). root_view b.layout c.args.from) (sym c.self.view_is) ∙ c.in-Ok.ensures.source in
+    let below = target-below now c.requires.table c.args.from seen source in
+    let here : get_or now.roots seen.root root ≡ root =
+    sym (c.index.ensures ∙ ap (λ (rs : List RootTiles). get_or rs seen.root root) (c.reserve-2.ensures.items ∙ ap (λ (b : BufferTable). b.roots) c.self.view_is)) in
+    let e = Duplicate c.args.name c.args.from in
+    let old : BufferTable = record { layout = c.self.inside.layout.layout; roots = c.self.inside.roots.items } in
+    let none : edit_refused now.layout e ≡ None = ap (λ (b : BufferTable). edit_refused b.layout e) (sym c.self.view_is) ∙ c.in-Ok.ensures.carried_out in
+    let first = g.C.ChainMeaning.held c.args.chain.now in
+    let last = g.C.ChainMeaning.held c.share.new.chain in
+    let after = duplicated-new old now c.self.view_is c.args.name c.args.from c.reserve.new.self.layout c.duplicate.new.self.layout c.reserve-2.new.self.items
+    c.push_reserved.new.self.items root c.in_ok-shared.shared c.reserve.ensures.layout c.duplicate.ensures c.reserve-2.ensures.items c.push_reserved.ensures.items c.in_ok-shared.ensures.root in
+    subst IsBufferTable (sym after) (table-duplicated now c.args.name c.args.from seen root first last c.requires source none below here c.share.ensures.content c.in_ok-shared.ensures.others c.share.ensures.over)
+
+pub returns-clause-table : goal.returns-clause-table
+returns-clause-table g c =
+    let now = c.args.self.now in
+    let root = c.index.result.now in
+    let seen = c.in-Ok.view in
+    let source : root_view now.layout c.args.from ≡ Some seen = ap (λ (b : BufferTable). root_view b.layout c.args.from) (sym c.self.view_is) ∙ c.in-Ok.ensures.source in
+    let below = target-below now c.requires.table c.args.from seen source in
+    let here : get_or now.roots seen.root root ≡ root =
+    sym (c.index.ensures ∙ ap (λ (rs : List RootTiles). get_or rs seen.root root) (c.reserve-2.ensures.items ∙ ap (λ (b : BufferTable). b.roots) c.self.view_is)) in
+    let e = Duplicate c.args.name c.args.from in
+    let old : BufferTable = record { layout = c.self.inside.layout.layout; roots = c.self.inside.roots.items } in
+    let none : edit_refused now.layout e ≡ None = ap (λ (b : BufferTable). edit_refused b.layout e) (sym c.self.view_is) ∙ c.in-Ok.ensures.carried_out in
+    let first = g.C.ChainMeaning.held c.args.chain.now in
+    let last = g.C.ChainMeaning.held c.share.new.chain in
+    let after = duplicated-new old now c.self.view_is c.args.name c.args.from c.reserve.new.self.layout c.duplicate.new.self.layout c.reserve-2.new.self.items
+    c.push_reserved.new.self.items root c.in_ok-shared.shared c.reserve.ensures.layout c.duplicate.ensures c.reserve-2.ensures.items c.push_reserved.ensures.items c.in_ok-shared.ensures.root in
+    ap (λ (b : BufferTable). table_of b last) after ∙ shown-duplicated now c.args.name c.args.from seen root first last c.requires source none below here c.share.ensures.content c.in_ok-shared.ensures.others c.share.ensures.over
+
+pub returns-clause-over : goal.returns-clause-over
+returns-clause-over g c =
+    let now = c.args.self.now in
+    let root = c.index.result.now in
+    let seen = c.in-Ok.view in
+    let source : root_view now.layout c.args.from ≡ Some seen = ap (λ (b : BufferTable). root_view b.layout c.args.from) (sym c.self.view_is) ∙ c.in-Ok.ensures.source in
+    let below = target-below now c.requires.table c.args.from seen source in
+    let here : get_or now.roots seen.root root ≡ root =
+    sym (c.index.ensures ∙ ap (λ (rs : List RootTiles). get_or rs seen.root root) (c.reserve-2.ensures.items ∙ ap (λ (b : BufferTable). b.roots) c.self.view_is)) in
+    let e = Duplicate c.args.name c.args.from in
+    let old : BufferTable = record { layout = c.self.inside.layout.layout; roots = c.self.inside.roots.items } in
+    let none : edit_refused now.layout e ≡ None = ap (λ (b : BufferTable). edit_refused b.layout e) (sym c.self.view_is) ∙ c.in-Ok.ensures.carried_out in
+    let first = g.C.ChainMeaning.held c.args.chain.now in
+    let last = g.C.ChainMeaning.held c.share.new.chain in
+    let after = duplicated-new old now c.self.view_is c.args.name c.args.from c.reserve.new.self.layout c.duplicate.new.self.layout c.reserve-2.new.self.items
+    c.push_reserved.new.self.items root c.in_ok-shared.shared c.reserve.ensures.layout c.duplicate.ensures c.reserve-2.ensures.items c.push_reserved.ensures.items c.in_ok-shared.ensures.root in
+    subst (λ (b : BufferTable). AreBuffersOver b last) (sym after) (over-duplicated now c.args.name c.args.from seen root first last c.requires source none below here c.share.ensures.content c.in_ok-shared.ensures.others c.share.ensures.over)
+
+pub returns-clause-others : goal.returns-clause-others
+returns-clause-others g c =
+    let now = c.args.self.now in
+    let root = c.index.result.now in
+    let seen = c.in-Ok.view in
+    let source : root_view now.layout c.args.from ≡ Some seen = ap (λ (b : BufferTable). root_view b.layout c.args.from) (sym c.self.view_is) ∙ c.in-Ok.ensures.source in
+    let below = target-below now c.requires.table c.args.from seen source in
+    let here : get_or now.roots seen.root root ≡ root =
+    sym (c.index.ensures ∙ ap (λ (rs : List RootTiles). get_or rs seen.root root) (c.reserve-2.ensures.items ∙ ap (λ (b : BufferTable). b.roots) c.self.view_is)) in
+    let e = Duplicate c.args.name c.args.from in
+    let old : BufferTable = record { layout = c.self.inside.layout.layout; roots = c.self.inside.roots.items } in
+    let none : edit_refused now.layout e ≡ None = ap (λ (b : BufferTable). edit_refused b.layout e) (sym c.self.view_is) ∙ c.in-Ok.ensures.carried_out in
+    let first = g.C.ChainMeaning.held c.args.chain.now in
+    let last = g.C.ChainMeaning.held c.share.new.chain in
+    let after = duplicated-new old now c.self.view_is c.args.name c.args.from c.reserve.new.self.layout c.duplicate.new.self.layout c.reserve-2.new.self.items
+    c.push_reserved.new.self.items root c.in_ok-shared.shared c.reserve.ensures.layout c.duplicate.ensures c.reserve-2.ensures.items c.push_reserved.ensures.items c.in_ok-shared.ensures.root in
+    subst (λ (b : BufferTable). Respects first last (buffers_names now) (buffers_names b)) (sym after) (others-duplicated now c.args.name c.args.from seen root first last c.requires source none below here c.share.ensures.content c.in_ok-shared.ensures.others c.share.ensures.over)

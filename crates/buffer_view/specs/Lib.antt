@@ -1,0 +1,4 @@
+pub mod BufferTables
+pub mod Causes
+pub mod Written
+pub mod Shares

@@ -1,0 +1,17 @@
+//! Tables of named buffers over a chain: each root's image is held by tiles.
+#![tactic(auto)]
+
+mod adding;
+mod buffers;
+mod copying;
+mod duplicating;
+mod edits;
+mod laws;
+mod refused;
+mod shares;
+mod writing;
+mod written;
+
+pub use buffers::Buffers;
+pub use laws::{buffers_are_tables, no_buffers_ask_nothing, other_buffers_are_unchanged};
+pub use refused::BufferRefused;
