@@ -3,7 +3,6 @@ use Rattle.std.proofs.Common.{◌≡◌, ℕ, zero, suc, ◌+◌, ◌*◌, ◌/�
 use Rattle.std.specs.Prelude.{option_map, slice_get, unwrap_or}
 use Rattle.std.specs.Cmp.{IsEquivalence}
 use Rattle.std.specs.List.{AllByRecursion, IsDistinct, flat_map, list_any, range_with_len}
-use Rattle.std.specs.Str.{bytes_eq}
 use Rattle.std.proofs.lemmas.List.{length-map, map-append}
 use Rattle.std.proofs.lemmas.List.FromFn.{length-range_with_len}
 use Rattle.std.proofs.lemmas.Map.Made.{length-le_from_is_member}
@@ -15,7 +14,7 @@ use Rattle.plane_rect.proofs.TileLists.{length-tiles}
 use Rattle.model_graphs.specs.declared.node.Body.{Body}
 use Rattle.model_graphs.specs.declared.node.Body.TheVariants.{Source, Compute}
 use Rattle.model_graphs.specs.declared.node.NodeFact.{NodeFact}
-use Rattle.model_graphs.specs.Facts.{Facts, shapes_of_facts, specs_of, stated_shape, stated_shapes}
+use Rattle.model_graphs.specs.Facts.{Facts, shapes_of_facts, specs_of, stated_shapes}
 use Rattle.model_graphs.specs.Laws.{IsBoxed}
 use Rattle.model_graphs.specs.Meanings.{Meanings}
 use Rattle.model_graphs.specs.Node.{Apply, Node, index_of, step_of}
@@ -24,7 +23,6 @@ use Rattle.model_states.specs.declared.strip.Strip.{Strip}
 use Rattle.model_states.specs.Cache.{IsComputed, IsPairOf, Pair, needed_pairs, pair_of, same_pair}
 use Rattle.model_states.specs.Need.{Needed, need, strip_of, strip_rectangles, tile_line}
 use Rattle.model_states.specs.Regions.{meets}
-use Rattle.model_states.specs.State.{node_of}
 use Rattle.model_states.specs.Valid.{AreStated, input_boxes}
 use Rattle.model_states.proofs.CacheLaws.{same_pair-true}
 use Rattle.model_states.proofs.Indices.{found_name}
@@ -33,7 +31,7 @@ use Rattle.model_states.proofs.NeedLaws.{Decides-same_pair, need_distinct}
 use Rattle.model_states.proofs.Serves.{tiles_have}
 use Rattle.model_states.proofs.Suited.{IsSuited}
 use Rattle.node_cache.specs.Stores.{pair_at}
-use Rattle.node_tiles.proofs.Places.{shape-at, step-at, suited}
+use Rattle.node_tiles.proofs.Places.{shape-at, suited}
 use Rattle.strip_renders.specs.Strips.{pairs_needed}
 
 -- ---- lists

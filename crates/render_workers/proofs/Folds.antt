@@ -1,5 +1,5 @@
 -- Pairs that are looked up after others.
-use Rattle.std.proofs.Common.{◌≡◌, ℕ, ◌+◌, ◌≤◌, List, [], ◌∷◌, ◌++◌, length, min, Option, Some, None, refl, sym, ap, ◌∙◌, subst, append-nil, arith}
+use Rattle.std.proofs.Common.{◌≡◌, ℕ, ◌+◌, ◌≤◌, List, [], ◌∷◌, ◌++◌, length, Option, Some, None, refl, sym, ap, ◌∙◌, append-nil, arith}
 use Rattle.std.proofs.lemmas.List.Sums.{fold-append}
 use Rattle.model_states.specs.Cache.{Counted, Pair, all_looked_up, applied_more, find_pair, itself, looked_up, recent_of, reused_more, uncounted}
 use Rattle.node_cache.specs.Stores.{AreWithin}
@@ -88,7 +88,7 @@ few-listed first mid pairs applied reused is within =
     let whole : (all_looked_up itself itself first.capacity (uncounted first.pairs) (pairs ++ [])).applied ≡ applied =
     ap (λ (ps : List Pair). (all_looked_up itself itself first.capacity (uncounted first.pairs) ps).applied) (append-nil pairs) ∙ ap (λ (c : Counted Pair). c.applied) (sym is) in
     let capped : most_cached first.capacity (length first.pairs + (all_looked_up itself itself first.capacity (uncounted first.pairs) (pairs ++ [])).applied)
-        ≤ length first.pairs + (all_looked_up itself itself first.capacity (uncounted first.pairs) (pairs ++ [])).applied =
+    ≤ length first.pairs + (all_looked_up itself itself first.capacity (uncounted first.pairs) (pairs ++ [])).applied =
     most-few first.capacity (length first.pairs + (all_looked_up itself itself first.capacity (uncounted first.pairs) (pairs ++ [])).applied) in
     omega (arith, few, whole, capped)
   where

@@ -1,5 +1,5 @@
 -- Refusals of a request that are handed on.
-use Rattle.std.proofs.Common.{◌≡◌, ℕ, List, Result, Ok, Err, refl}
+use Rattle.std.proofs.Common.{ℕ, List, Result, Ok, Err, refl}
 use Rattle.std.specs.Prelude.{IfErr}
 use Rattle.model_graphs.specs.declared.node.NodeFact.{NodeFact}
 use Rattle.model_graphs.specs.Meanings.{Meanings}
@@ -8,7 +8,7 @@ use Rattle.swap_store.specs.declared.refusal.SwapRefused.TheVariants as swaps
 use Rattle.strip_renders.specs.Moments.{Moment}
 use Rattle.render_workers.specs.declared.refused.RenderRefused.{RenderRefused}
 use Rattle.render_workers.specs.declared.refused.RenderRefused.TheVariants.{UnknownNode, Rect, Strip, SwapFault, SwapFull, NoMemory}
-use Rattle.render_workers.specs.Refusals.{ChangesNothing, IsRefusedBy, by_swap}
+use Rattle.render_workers.specs.Refusals.{CanBeRendered, ChangesNothing, IsRefusedBy, by_swap}
 use Rattle.render_workers.specs.Requests.{Request}
 
 -- whatever holds of each error holds of one that is handed on
@@ -37,12 +37,12 @@ module _ {Op : Type 0} (meanings : Meanings Op) (nodes : List (NodeFact Op)) (re
   plan-cause UnknownNode is = is
   plan-cause Rect is = is
   plan-cause (Strip needed capacity) is = is
-  plan-cause SwapFault is = absurd is
-  plan-cause (SwapFull needed longest) is = absurd is
+  plan-cause SwapFault is = absurd is.1
+  plan-cause (SwapFull needed longest) is = absurd is.1
   plan-cause NoMemory is = tt
 
-  -- a refusal of the swap is one, by its cause
-  pub swap-cause : (refused : SwapRefused) → cause refused → IsRefusedBy meanings nodes request most cause (by_swap refused)
-  swap-cause swaps.SwapFault is = is
-  swap-cause (swaps.SwapFull needed longest) is = is
-  swap-cause swaps.NoMemory is = tt
+  -- a refusal of the swap is one of a request that can be rendered, by its cause
+  pub swap-cause : CanBeRendered meanings nodes request most → (refused : SwapRefused) → cause refused → IsRefusedBy meanings nodes request most cause (by_swap refused)
+  swap-cause can swaps.SwapFault is = (can, is)
+  swap-cause can (swaps.SwapFull needed longest) is = (can, is)
+  swap-cause can swaps.NoMemory is = tt

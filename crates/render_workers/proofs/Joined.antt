@@ -1,17 +1,16 @@
 -- Parts of a render, one after another.
-use Rattle.std.proofs.Common.{◌≡◌, ℕ, ◌+◌, ◌-◌, ◌≤◌, List, [], ◌++◌, length, append-nil, append_assoc, Option, Some, refl, sym, ap, ◌∙◌, subst, arith, length-append}
+use Rattle.std.proofs.Common.{◌≡◌, ℕ, ◌+◌, ◌≤◌, List, [], ◌++◌, length, append-nil, Option, Some, refl, sym, ap, ◌∙◌, subst, arith, length-append}
 use Rattle.model_graphs.specs.declared.node.NodeFact.{NodeFact}
-use Rattle.model_graphs.specs.Evaluation.{Buffers}
 use Rattle.model_graphs.specs.Meanings.{Meanings}
-use Rattle.model_states.specs.Cache.{AreRight, Cached, Counted, Pair, all_looked_up, by_pair, itself, uncounted, with_bytes}
+use Rattle.model_states.specs.Cache.{AreRight, Counted, Pair, all_looked_up, by_pair, itself, uncounted, with_bytes}
 use Rattle.model_states.proofs.CacheLaws.{counts_add_up}
 use Rattle.swap_store.specs.Cause.{HasSwapCause}
 use Rattle.swap_store.specs.declared.refusal.SwapRefused.{SwapRefused}
 use Rattle.swap_store.specs.declared.refusal.SwapRefused.TheVariants as refusals
-use Rattle.node_cache.specs.Stores.{AddsNoOther, AreWithin, HaveOneOwner}
+use Rattle.node_cache.specs.Stores.{AddsNoOther, AreWithin}
 use Rattle.node_tiles.specs.Reads.{Reads}
 use Rattle.node_tiles.specs.Stated.{scene_of}
-use Rattle.strip_renders.specs.Moments.{Keeps, Moment}
+use Rattle.strip_renders.specs.Moments.{Moment}
 use Rattle.strip_renders.specs.Strips.{AreKnownRight, counted, list_after, most_cached, most_names}
 use Rattle.strip_renders.proofs.Moments.{cause-kept, keeps-both, keeps-most, keeps-reads, source_of}
 use Rattle.strip_renders.proofs.Names.{few-names}
@@ -44,12 +43,12 @@ most-later a b first second rest applied reused capacity is others within =
     let few : length b.pairs ≤ length a.pairs + applied =
     few-listed a b first applied reused is (subst (λ (o : Option ℕ). AreWithin o b.pairs) capacity within) in
     let most : most_cached a.capacity (length b.pairs + (all_looked_up itself itself b.capacity (uncounted b.pairs) second).applied)
-        ≤ most_cached a.capacity (length a.pairs + (all_looked_up itself itself a.capacity (uncounted a.pairs) (first ++ (second ++ rest))).applied) =
+    ≤ most_cached a.capacity (length a.pairs + (all_looked_up itself itself a.capacity (uncounted a.pairs) (first ++ (second ++ rest))).applied) =
     most-more a.capacity (length b.pairs + (all_looked_up itself itself b.capacity (uncounted b.pairs) second).applied)
     (length a.pairs + (all_looked_up itself itself a.capacity (uncounted a.pairs) (first ++ (second ++ rest))).applied)
     (omega (arith, both, split, counted_first, own, few)) in
     let same : most_cached b.capacity (length b.pairs + (all_looked_up itself itself b.capacity (uncounted b.pairs) second).applied)
-        ≡ most_cached a.capacity (length b.pairs + (all_looked_up itself itself b.capacity (uncounted b.pairs) second).applied) =
+    ≡ most_cached a.capacity (length b.pairs + (all_looked_up itself itself b.capacity (uncounted b.pairs) second).applied) =
     ap (λ (o : Option ℕ). most_cached o (length b.pairs + (all_looked_up itself itself b.capacity (uncounted b.pairs) second).applied)) capacity in
     omega (arith, most, same, others.names)
 

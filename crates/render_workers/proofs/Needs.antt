@@ -1,11 +1,11 @@
 -- The strips of a request, one after another.
-use Rattle.std.proofs.Common.{◌≡◌, ℕ, zero, suc, ◌+◌, ◌<◌, List, [], ◌∷◌, ◌++◌, map, take, drop, drop-cons, length, get_or, append-nil, Contains, Some, sym, ap, ◌∙◌, subst, arith}
+use Rattle.std.proofs.Common.{◌≡◌, ℕ, zero, suc, ◌+◌, ◌<◌, List, [], ◌∷◌, ◌++◌, map, take, drop, drop-cons, length, get_or, append-nil, Some, sym, ap, ◌∙◌, subst, arith}
 use Rattle.std.specs.Prelude.{slice_get}
 use Rattle.std.specs.List.{flat_map, range_with_len}
 use Rattle.std.proofs.Math.Seq.{take-suc}
 use Rattle.std.proofs.lemmas.Grind.{flat_map-append}
 use Rattle.std.proofs.lemmas.List.{get_or-map, length-map, map-append, take-append-drop}
-use Rattle.std.proofs.lemmas.Option.{same_Some, slice_get-get_or}
+use Rattle.std.proofs.lemmas.Option.{same_Some}
 use Rattle.plane_rect.specs.Rectangle.{InLimits, Rectangle, meet}
 use Rattle.plane_rect.specs.Tile.{tile_lines, tile_of}
 use Rattle.model_graphs.specs.declared.node.NodeFact.{NodeFact}
@@ -13,7 +13,7 @@ use Rattle.model_graphs.specs.Facts.{specs_of}
 use Rattle.model_graphs.specs.Meanings.{Meanings}
 use Rattle.model_states.specs.declared.strip.Strip.{Strip}
 use Rattle.model_states.specs.Cache.{Pair, needed_pairs, pair_of}
-use Rattle.model_states.specs.Need.{Needed, need, strip_of, strip_rectangles, tile_line}
+use Rattle.model_states.specs.Need.{Needed, strip_of, strip_rectangles, tile_line}
 use Rattle.op_contracts.proofs.Limits.{InLimits-meet}
 use Rattle.strip_renders.specs.Strips.{IsStripOf, pairs_needed}
 

@@ -32,16 +32,24 @@ pub record IsWide {Op : Type 0} (meanings : Meanings Op) (facts : List (NodeFact
   pub needed_is : wide most (strips_needed meanings facts request) ≡ Some needed
   pub capacity_is : capacity ≡ most
 
+-- A request can be rendered where a strip may need so many tiles: the node is there, the rectangle has one of level 0, and
+-- no strip is too wide.
+pub record CanBeRendered {Op : Type 0} (meanings : Meanings Op) (facts : List (NodeFact Op)) (request : Request) (most : ℕ) : Type 0 where
+  pub node : has_node (specs_of facts) request.node ≡ true
+  pub rect : IsSome (scaled request.at_level request.rect)
+  pub narrow : wide most (strips_needed meanings facts request) ≡ None
+
 -- Why a request is refused, where a strip may need so many tiles: no node has the name; or one has, and the rectangle at
--- level 0 is not in limits; or it is, and a strip is too wide; or the swap refuses, by a cause of its own; or memory ran
--- out.
+-- level 0 is not in limits; or it is, and a strip is too wide; or the request can be rendered and the swap refuses, by a
+-- cause of its own; or memory ran out.
 abbrev pub IsRefusedBy : {Op : Type 0} → Meanings Op → List (NodeFact Op) → Request → ℕ → (SwapRefused → Type 0) → RenderRefused → Type 0
 IsRefusedBy meanings facts request most swap UnknownNode = has_node (specs_of facts) request.node ≡ false
 IsRefusedBy meanings facts request most swap Rect =
     (has_node (specs_of facts) request.node ≡ true) × (scaled request.at_level request.rect ≡ None)
 IsRefusedBy meanings facts request most swap (Strip needed capacity) = IsWide meanings facts request most needed capacity
-IsRefusedBy meanings facts request most swap SwapFault = swap swaps.SwapFault
-IsRefusedBy meanings facts request most swap (SwapFull needed longest) = swap (swaps.SwapFull needed longest)
+IsRefusedBy meanings facts request most swap SwapFault = CanBeRendered meanings facts request most × swap swaps.SwapFault
+IsRefusedBy meanings facts request most swap (SwapFull needed longest) =
+    CanBeRendered meanings facts request most × swap (swaps.SwapFull needed longest)
 IsRefusedBy meanings facts request most swap NoMemory = ⊤
 
 -- A request that is refused by its plan changes nothing: neither source, cache and chain, nor the number of permits.

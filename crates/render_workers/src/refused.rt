@@ -60,7 +60,10 @@ impl From<SwapRefused> for RenderRefused {
     fn from(swap: SwapRefused) -> RenderRefused {
         match swap {
             SwapRefused::SwapFault => RenderRefused::SwapFault,
-            SwapRefused::SwapFull { needed, longest } => RenderRefused::SwapFull { needed, longest },
+            SwapRefused::SwapFull { needed, longest } => RenderRefused::SwapFull {
+                needed,
+                longest,
+            },
             SwapRefused::NoMemory => RenderRefused::NoMemory,
         }
     }

@@ -1,4 +1,3 @@
-use Rattle.std.proofs.Common.{◌≡◌}
 use Rattle.model_states.specs.Need.{strip_of}
 use Rattle.strip_renders.specs.Moments.{moment}
 use Rattle.strip_renders.specs.Strips.{pairs_needed}

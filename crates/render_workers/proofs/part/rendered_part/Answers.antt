@@ -1,4 +1,4 @@
-use Rattle.std.proofs.Common.{◌≡◌, ℕ, Option, length, refl, sym, ap, ◌∙◌, subst}
+use Rattle.std.proofs.Common.{◌≡◌, length, refl, sym, ◌∙◌, subst}
 use Rattle.chain_owners.specs.Owners.{Owns}
 use Rattle.chain_owners.proofs.Ownership.{others-own, others-unchanged, seen-unchanged}
 use Rattle.model_graphs.specs.Facts.{Facts, shapes_of_facts}
@@ -10,7 +10,7 @@ use Rattle.strip_renders.specs.Moments.{moment, names_of}
 use Rattle.strip_renders.specs.Strips.{pairs_needed}
 use Rattle.strip_renders.proofs.Moments.{owns-last, source_of}
 use Rattle.strip_renders.proofs.Turning.{owned-kept}
-use Rattle.render_workers.specs.Parts.{IsExcused, Leaves, LooksUp}
+use Rattle.render_workers.specs.Parts.{IsExcused, Leaves}
 use Rattle.render_workers.proofs.Held.{part-held}
 use Rattle.render_workers.proofs.Joined.{excused-reads, leaves-reads, looks-reads}
 use Rattle.render_workers.proofs.part.rendered_part.Goals as goal

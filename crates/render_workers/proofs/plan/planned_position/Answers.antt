@@ -1,4 +1,4 @@
-use Rattle.std.proofs.Common.{◌≡◌, ℕ, ◌<◌, length, sym, subst}
+use Rattle.std.proofs.Common.{ℕ, ◌<◌, length, sym, subst}
 use Rattle.render_workers.proofs.Shown.{node-inside}
 use Rattle.render_workers.proofs.plan.planned_position.Goals as goal
 

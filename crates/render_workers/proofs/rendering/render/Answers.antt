@@ -1,5 +1,4 @@
 use Rattle.std.proofs.Common.{◌≡◌, ℕ, ◌+◌, ◌<◌, List, length, sym, ap, ◌∙◌, subst}
-use Rattle.model_images.specs.Image.{Image}
 use Rattle.model_images.specs.Level.{level}
 use Rattle.model_images.specs.Paint.{cut}
 use Rattle.model_graphs.specs.Facts.{specs_of}
@@ -14,7 +13,7 @@ use Rattle.strip_renders.specs.Moments.{moment}
 use Rattle.strip_renders.specs.Strips.{most_names}
 use Rattle.strip_patches.specs.Nodes.{name_at}
 use Rattle.render_workers.specs.Parts.{IsExcused, LooksUp}
-use Rattle.render_workers.specs.Refusals.{by_swap}
+use Rattle.render_workers.specs.Refusals.{CanBeRendered, by_swap}
 use Rattle.render_workers.specs.Requests.{pairs_requested, request}
 use Rattle.render_workers.proofs.HandedOn.{any-error, plan-cause, swap-cause, unchanged-all, unchanged-swap}
 use Rattle.render_workers.proofs.Shown.{name-found, node-inside}
@@ -58,10 +57,12 @@ returns-in_err-done-clause-cause g c =
     let new = moment (g.S.SourceTiles.facts c.render_planned.new.sources) (g.S.SourceTiles.images c.render_planned.new.sources (g.H.ChainMeaning.held c.render_planned.new.chain)) (g.S.SourceTiles.names c.render_planned.new.sources) (g.C.PairStore.pairs c.render_planned.new.cache) (g.C.PairStore.sizes c.render_planned.new.cache (g.H.ChainMeaning.held c.render_planned.new.chain)) (g.C.PairStore.cached c.render_planned.new.cache (g.H.ChainMeaning.held c.render_planned.new.chain)) (g.C.PairStore.capacity c.render_planned.new.cache) (g.C.PairStore.names c.render_planned.new.cache) (g.H.ChainMeaning.held c.render_planned.new.chain) (g.H.ChainMeaning.counts c.render_planned.new.chain) (g.H.ChainMeaning.loans c.render_planned.new.chain) in
     let zero = at_level_zero c.args.level c.args.rect in
     let refused = c.in_err-done.field-0.0 in
+    let can : CanBeRendered meanings nodes asked c.args.capacity =
+    record { node = c.in_ok-position.ensures.there; rect = c.in_ok-position.ensures.source; narrow = c.in_ok-position.ensures.narrow } in
     let excused : IsExcused (pairs_requested meanings nodes asked) old new refused =
     subst (λ (n : ℕ). IsExcused (needed_pairs (specs_of nodes) (need meanings nodes n zero)) old new refused) c.in_ok-position.ensures.position c.in_err-done.ensures.excused in
     handed-on c.from_residual-in_err-done.result (by_swap refused) _ c.from_residual-in_err-done.ensures.1
-    (swap-cause meanings nodes asked c.args.capacity (HasSwapCause old.counts new.counts (old.counts.names + length (pairs_requested meanings nodes asked))) refused excused.each)
+    (swap-cause meanings nodes asked c.args.capacity (HasSwapCause old.counts new.counts (old.counts.names + length (pairs_requested meanings nodes asked))) can refused excused.each)
 
 pub returns-in_err-done-clause-few_names : goal.returns-in_err-done-clause-few_names
 returns-in_err-done-clause-few_names g c = λ one.
@@ -72,10 +73,12 @@ returns-in_err-done-clause-few_names g c = λ one.
     let new = moment (g.S.SourceTiles.facts c.render_planned.new.sources) (g.S.SourceTiles.images c.render_planned.new.sources (g.H.ChainMeaning.held c.render_planned.new.chain)) (g.S.SourceTiles.names c.render_planned.new.sources) (g.C.PairStore.pairs c.render_planned.new.cache) (g.C.PairStore.sizes c.render_planned.new.cache (g.H.ChainMeaning.held c.render_planned.new.chain)) (g.C.PairStore.cached c.render_planned.new.cache (g.H.ChainMeaning.held c.render_planned.new.chain)) (g.C.PairStore.capacity c.render_planned.new.cache) (g.C.PairStore.names c.render_planned.new.cache) (g.H.ChainMeaning.held c.render_planned.new.chain) (g.H.ChainMeaning.counts c.render_planned.new.chain) (g.H.ChainMeaning.loans c.render_planned.new.chain) in
     let zero = at_level_zero c.args.level c.args.rect in
     let refused = c.in_err-done.field-0.0 in
+    let can : CanBeRendered meanings nodes asked c.args.capacity =
+    record { node = c.in_ok-position.ensures.there; rect = c.in_ok-position.ensures.source; narrow = c.in_ok-position.ensures.narrow } in
     let excused : IsExcused (pairs_requested meanings nodes asked) old new refused =
     subst (λ (n : ℕ). IsExcused (needed_pairs (specs_of nodes) (need meanings nodes n zero)) old new refused) c.in_ok-position.ensures.position c.in_err-done.ensures.excused in
     handed-on c.from_residual-in_err-done.result (by_swap refused) _ c.from_residual-in_err-done.ensures.1
-    (swap-cause meanings nodes asked c.args.capacity (HasSwapCause old.counts new.counts (most_names old (pairs_requested meanings nodes asked))) refused (excused.few one))
+    (swap-cause meanings nodes asked c.args.capacity (HasSwapCause old.counts new.counts (most_names old (pairs_requested meanings nodes asked))) can refused (excused.few one))
 
 pub returns-clause-drawn : goal.returns-clause-drawn
 returns-clause-drawn g c = λ images list known is right.

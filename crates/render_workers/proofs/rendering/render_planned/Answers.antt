@@ -2,7 +2,6 @@ use Rattle.std.proofs.Common.{◌≡◌, ℕ, length, Option, Some, None, unwrap
 use Rattle.std.specs.Prelude.{IfSome}
 use Rattle.std.proofs.lemmas.Option.{same_Some}
 use Rattle.plane_rect.specs.Rectangle.{InLimits, IsRectangle, Rectangle, empty, scaled}
-use Rattle.model_images.specs.Image.{Image}
 use Rattle.model_images.specs.Level.{level}
 use Rattle.model_images.specs.Paint.{cut}
 use Rattle.model_graphs.specs.Facts.{AreImagesOf}

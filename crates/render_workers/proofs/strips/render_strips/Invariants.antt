@@ -1,4 +1,4 @@
-use Rattle.std.proofs.Common.{◌≡◌, ℕ, Some, take}
+use Rattle.std.proofs.Common.{◌≡◌, Some, take}
 use Rattle.model_graphs.specs.Evaluation.{Buffers}
 use Rattle.strip_renders.specs.Moments.{moment}
 use Rattle.strip_renders.specs.Strips.{AreKnownRight}
