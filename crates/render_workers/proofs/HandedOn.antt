@@ -1,0 +1,48 @@
+-- Refusals of a request that are handed on.
+use Rattle.std.proofs.Common.{ℕ, List, Result, Ok, Err, refl}
+use Rattle.std.specs.Prelude.{IfErr}
+use Rattle.model_graphs.specs.declared.node.NodeFact.{NodeFact}
+use Rattle.model_graphs.specs.Meanings.{Meanings}
+use Rattle.swap_store.specs.declared.refusal.SwapRefused.{SwapRefused}
+use Rattle.swap_store.specs.declared.refusal.SwapRefused.TheVariants as swaps
+use Rattle.strip_renders.specs.Moments.{Moment}
+use Rattle.render_workers.specs.declared.refused.RenderRefused.{RenderRefused}
+use Rattle.render_workers.specs.declared.refused.RenderRefused.TheVariants.{UnknownNode, Rect, Strip, SwapFault, SwapFull, NoMemory}
+use Rattle.render_workers.specs.Refusals.{CanBeRendered, ChangesNothing, IsRefusedBy, by_swap}
+use Rattle.render_workers.specs.Requests.{Request}
+
+-- whatever holds of each error holds of one that is handed on
+pub any-error : {T E : Type 0} (r : Result T E) (P : E → Type 0) → ((e : E) → P e) → IfErr r P
+any-error (Ok t) P each = tt
+any-error (Err e) P each = each e
+
+-- where nothing was done, nothing changed
+pub unchanged-all : (now : Moment) (permits : ℕ) (refused : RenderRefused) → ChangesNothing now now permits permits refused
+unchanged-all now permits UnknownNode = (refl, refl)
+unchanged-all now permits Rect = (refl, refl)
+unchanged-all now permits (Strip needed capacity) = (refl, refl)
+unchanged-all now permits SwapFault = tt
+unchanged-all now permits (SwapFull needed longest) = tt
+unchanged-all now permits NoMemory = tt
+
+-- of a swap's refusal nothing is said there
+pub unchanged-swap : (old new : Moment) (before after : ℕ) (refused : SwapRefused) → ChangesNothing old new before after (by_swap refused)
+unchanged-swap old new before after swaps.SwapFault = tt
+unchanged-swap old new before after (swaps.SwapFull needed longest) = tt
+unchanged-swap old new before after swaps.NoMemory = tt
+
+module _ {Op : Type 0} (meanings : Meanings Op) (nodes : List (NodeFact Op)) (request : Request) (most : ℕ) (cause : SwapRefused → Type 0) where
+  -- a refusal of the plan is one of the request
+  pub plan-cause : (refused : RenderRefused) → IsRefusedBy meanings nodes request most (λ swap. ⊥) refused → IsRefusedBy meanings nodes request most cause refused
+  plan-cause UnknownNode is = is
+  plan-cause Rect is = is
+  plan-cause (Strip needed capacity) is = is
+  plan-cause SwapFault is = absurd is.1
+  plan-cause (SwapFull needed longest) is = absurd is.1
+  plan-cause NoMemory is = tt
+
+  -- a refusal of the swap is one of a request that can be rendered, by its cause
+  pub swap-cause : CanBeRendered meanings nodes request most → (refused : SwapRefused) → cause refused → IsRefusedBy meanings nodes request most cause (by_swap refused)
+  swap-cause can swaps.SwapFault is = (can, is)
+  swap-cause can (swaps.SwapFull needed longest) is = (can, is)
+  swap-cause can swaps.NoMemory is = tt

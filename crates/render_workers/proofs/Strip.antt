@@ -1,0 +1,74 @@
+-- What a strip of a render does, in the words of a part of a request.
+use Rattle.std.proofs.Common.{◌≡◌, ℕ, ◌+◌, ◌≤◌, List, [], length, Some, sym, ap, ◌∙◌, subst, arith}
+use Rattle.std.specs.Prelude.{IfErr, Result}
+use Rattle.std.specs.Result.{IsErrAnd}
+use Rattle.std.proofs.lemmas.List.{length-map}
+use Rattle.model_graphs.specs.declared.node.NodeFact.{NodeFact}
+use Rattle.model_graphs.specs.Evaluation.{Buffers}
+use Rattle.model_graphs.specs.Facts.{specs_of}
+use Rattle.model_graphs.specs.Meanings.{Meanings}
+use Rattle.model_graphs.specs.Permits.{Spent}
+use Rattle.model_states.specs.Cache.{AreRight, Cached, Counted, Pair, all_looked_up, itself, pair_of, uncounted}
+use Rattle.model_states.specs.Need.{Needed}
+use Rattle.model_states.proofs.CacheLaws.{counts_add_up}
+use Rattle.swap_store.specs.Cause.{HasSwapCause}
+use Rattle.swap_store.specs.declared.refusal.SwapRefused.{SwapRefused}
+use Rattle.swap_store.specs.declared.refusal.SwapRefused.TheVariants as refusals
+use Rattle.roi_planner.proofs.Widths.{handed-on}
+use Rattle.node_cache.specs.Stores.{HaveOneOwner}
+use Rattle.node_tiles.specs.Held.{HeldTiles}
+use Rattle.node_tiles.specs.Stated.{scene_of}
+use Rattle.strip_renders.specs.Moments.{Keeps, Moment}
+use Rattle.strip_renders.specs.Strips.{AreKnownRight, AreSizedPairs, IsRendered, counted, most_names, pairs_needed}
+use Rattle.strip_renders.proofs.Moments.{keeps-most}
+use Rattle.render_workers.specs.Parts.{IsExcused, Leaves, LooksUp}
+use Rattle.render_workers.proofs.Joined.{excused-no-memory, leaves-more, leaves-none}
+
+-- a refusal for want of memory has a cause at any time
+pub no_memory-excused : {T : Type 0} (r : Result T SwapRefused) (pairs : List Pair) (a b : Moment) → IsErrAnd r (λ e. e ≡ refusals.NoMemory) → IfErr r (IsExcused pairs a b)
+no_memory-excused r pairs a b is = handed-on r refusals.NoMemory (IsExcused pairs a b) is (excused-no-memory pairs a b)
+
+module _ {Op : Type 0} (meanings : Meanings Op) (nodes : List (NodeFact Op)) where
+  -- nothing was done
+  pub leaves-nothing : (pairs : List Pair) (now : Moment) (permits : ℕ) → Leaves meanings nodes pairs now now permits permits
+  leaves-nothing pairs now permits = leaves-more meanings nodes [] pairs now now permits permits (leaves-none meanings nodes now permits)
+
+  module _ (need : List Needed) (a b : Moment) (x y : ℕ) where
+    count : length (pairs_needed nodes need) ≡ length need
+    count = length-map need (pair_of (specs_of nodes))
+
+    pub strip-leaves : Keeps (length need) a b
+        → ((images : Buffers) → a.images ≡ Some images → AreKnownRight meanings nodes images a.cached → AreKnownRight meanings nodes images b.cached)
+        → AreSizedPairs nodes b.sizes → y ≤ x → x ≤ y + length need → Leaves meanings nodes (pairs_needed nodes need) a b x y
+    strip-leaves keeps right sized spent few = record {
+      keeps = keeps-most (length need) (length (pairs_needed nodes need)) a b (omega (arith, count)) keeps;
+      right = right;
+      sized = λ before. sized;
+      spent = spent;
+      few = omega (arith, few, count);
+    }
+
+    module _ (applied reused : ℕ) (pairs : counted b.pairs applied reused ≡ all_looked_up itself itself a.capacity (uncounted a.pairs) (pairs_needed nodes need)) (spent : Spent x y applied) where
+      -- no more permits than pairs
+      pub done-few : (y ≤ x) × (x ≤ y + length need)
+      done-few =
+          let sum : applied + reused ≡ 0 + length (pairs_needed nodes need) =
+          ap (λ (c : Counted Pair). c.applied + c.reused) pairs ∙ counts_add_up itself itself a.capacity (uncounted a.pairs) (pairs_needed nodes need) in
+          (omega (arith, spent), omega (arith, spent, sum, count))
+
+      pub strip-looks : (held : HeldTiles)
+          → ((images : Buffers) (list : List Cached) → a.images ≡ Some images → a.cached ≡ Some list → AreRight meanings (scene_of nodes images) list
+          → IsRendered meanings nodes images a b list (pairs_needed nodes need) held)
+          → LooksUp meanings nodes (pairs_needed nodes need) applied reused a b x y
+      strip-looks held bytes = record {
+        pairs = pairs;
+        permits = spent;
+        cached = λ images list known is right. (bytes images list known is right).cached;
+      }
+
+    pub strip-excused : (refused : SwapRefused) → HasSwapCause a.counts b.counts (a.counts.names + length need) refused
+        → (HaveOneOwner a.held a.cache_names → HasSwapCause a.counts b.counts (most_names a (pairs_needed nodes need)) refused) → IsExcused (pairs_needed nodes need) a b refused
+    strip-excused refused each few = record {
+      each = subst (λ (n : ℕ). HasSwapCause a.counts b.counts (a.counts.names + n) refused) (sym count) each;
+      few = few;
+    }

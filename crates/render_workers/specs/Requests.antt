@@ -1,0 +1,48 @@
+-- Requests for a rectangle of a level of a node.
+use Rattle.std.specs.Prelude.{◌≡◌, ℕ, List, Some}
+use Rattle.plane_rect.specs.Rectangle.{Rectangle}
+use Rattle.model_images.specs.Image.{Image}
+use Rattle.model_images.specs.Level.{level}
+use Rattle.model_images.specs.Paint.{cut}
+use Rattle.model_graphs.specs.declared.node.NodeFact.{NodeFact}
+use Rattle.model_graphs.specs.Evaluation.{Buffers}
+use Rattle.model_graphs.specs.Facts.{specs_of}
+use Rattle.model_graphs.specs.Meanings.{Meanings}
+use Rattle.model_graphs.specs.Node.{index_of}
+use Rattle.model_states.specs.declared.strip.Strip.{Strip}
+use Rattle.model_states.specs.Cache.{Cached, Pair, needed_pairs}
+use Rattle.model_states.specs.Need.{need}
+use Rattle.model_states.specs.State.{image_of}
+use Rattle.model_sessions.specs.Sessions.{at_level_zero}
+use Rattle.node_tiles.specs.Stated.{scene_of}
+use Rattle.strip_renders.specs.Moments.{Moment}
+use Rattle.strip_renders.specs.Strips.{list_after}
+
+-- A rectangle of a level of the node of a name.
+pub record Request : Type 0 where
+  pub node : List ℕ
+  pub at_level : ℕ
+  pub rect : Rectangle
+
+abbrev pub request : List ℕ → ℕ → Rectangle → Request
+request node z rect = record { node = node; at_level = z; rect = rect }
+
+-- what it needs, strip by strip
+abbrev pub strips_needed : {Op : Type 0} → Meanings Op → List (NodeFact Op) → Request → List Strip
+strips_needed meanings facts request =
+    need meanings facts (index_of (specs_of facts) request.node) (at_level_zero request.at_level request.rect)
+
+-- the pairs of all strips, in their order
+abbrev pub pairs_requested : {Op : Type 0} → Meanings Op → List (NodeFact Op) → Request → List Pair
+pairs_requested meanings facts request = needed_pairs (specs_of facts) (strips_needed meanings facts request)
+
+-- what it shows over these images of the buffers: the rectangle of the level of the node's image
+abbrev pub image_requested : {Op : Type 0} → Meanings Op → List (NodeFact Op) → Buffers → Request → Image
+image_requested meanings facts images request =
+    cut (level (image_of meanings (scene_of facts images) request.node) request.at_level) request.rect
+
+-- Over known images, of which the cached list was right: it is the list after the pairs were looked up, and the patch is
+-- what the request shows.
+pub record IsDrawn {Op : Type 0} (meanings : Meanings Op) (facts : List (NodeFact Op)) (images : Buffers) (request : Request) (old new : Moment) (list : List Cached) (patch : Image) : Type 0 where
+  pub cached : new.cached ≡ Some (list_after meanings facts images old.capacity list (pairs_requested meanings facts request))
+  pub patch_is : patch ≡ image_requested meanings facts images request

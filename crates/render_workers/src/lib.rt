@@ -1,0 +1,11 @@
+//! Renders of requests, strip by strip, for whatever kit, source of tiles and store of pairs.
+#![tactic(auto)]
+
+mod part;
+mod plan;
+mod refused;
+mod rendering;
+mod strips;
+
+pub use refused::RenderRefused;
+pub use rendering::{Rendered, render};

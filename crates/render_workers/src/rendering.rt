@@ -1,0 +1,212 @@
+//! Renders of requests.
+
+ghost use Rattle.std.specs.Prelude.{◌≡◌, ℕ, ◌<◌, ◌+◌, ◌≤◌, ◌^◌, ◌++◌, Bool, false, true, IfErr, IfOk, IsErrOf, IsSome, List, MatchResult, None, OnOk, Some, length};
+ghost use Rattle.plane_rect.specs.Rectangle.{IsRectangle, scaled};
+ghost use Rattle.chain_owners.specs.Owners.{Owns};
+ghost use Rattle.model_images.specs.Level.{level as level_of};
+ghost use Rattle.model_images.specs.Paint.{cut};
+ghost use Rattle.model_graphs.specs.Evaluation.{Buffers};
+ghost use Rattle.model_graphs.specs.Facts.{shapes_of_facts, specs_of};
+ghost use Rattle.model_graphs.specs.Node.{index_of};
+ghost use Rattle.model_graphs.specs.Permits.{Spent};
+ghost use Rattle.model_states.specs.Cache.{AreRight, Cached, all_looked_up, itself, needed_pairs, uncounted};
+ghost use Rattle.model_states.specs.Edits.{has_node};
+ghost use Rattle.model_states.specs.Need.{need, wide};
+ghost use Rattle.model_states.specs.Valid.{AreStated};
+ghost use Rattle.model_sessions.specs.Sessions.{at_level_zero};
+ghost use Rattle.swap_store.specs.Cause.{HasSwapCause};
+ghost use Rattle.node_cache.specs.Stores.{HaveOneOwner};
+ghost use Rattle.node_tiles.specs.Stated.{scene_of, shape_at};
+ghost use Rattle.strip_renders.specs.Moments.{Keeps, moment};
+ghost use Rattle.strip_renders.specs.Strips.{AreKnownRight, AreSizedPairs, counted, most_names};
+ghost use Rattle.strip_patches.specs.Nodes.{image_at};
+ghost use Rattle.render_workers.specs.Parts.{IsExcused, Leaves, LooksUp};
+ghost use Rattle.render_workers.specs.Refusals.{ChangesNothing, IsRefusedBy};
+ghost use Rattle.render_workers.specs.Requests.{IsDrawn, pairs_requested, request, strips_needed};
+
+use crate::plan::planned_position;
+use crate::refused::RenderRefused;
+use crate::strips::render_strips;
+use chain_owners::ChainMeaning;
+use model_graphs::NodeFact;
+use node_cache::PairStore;
+use op_contracts::{OpKit, SourceTiles};
+use patch_abyss::Patch;
+use pixel_formats::Format;
+use plane_rect::{Name, Rect};
+use std::alloc::Global;
+use strip_patches::LevelPatch;
+use swap_store::SwapRefused;
+
+/// What a request gives: the rectangle of the level of the node's image, how many of the needed tiles
+/// were evaluated, and how many the cache had.
+#[derive(Drop)]
+pub struct Rendered {
+    pub patch: Patch,
+    pub applied: u64,
+    pub reused: u64,
+}
+
+/// Returns the format of the node at a position, whose box is a rectangle of the plane.
+fn format_of<Op>(nodes: &[NodeFact<Op>], node: u32) -> Format
+    requires { node < length nodes.now }
+    ensures format { result ≡ (shape_at nodes.now node).format }
+    ensures rectangle { IsRectangle (shape_at nodes.now node).box }
+{
+    let fact = &nodes[node as usize];
+    // The box is a rectangle of the plane, as this call says.
+    let _area = fact.bounds.area();
+    fact.format
+}
+
+/// Renders a request that can be: one for a rectangle of a level of the node at a position.
+///
+/// # Errors
+///
+/// As [`render`], of which the swap's and `NoMemory` are left.
+fn render_planned<H: ChainMeaning, S: SourceTiles<H>, C: PairStore<H>, K: OpKit + Sync>(
+    kit: &K,
+    alloc: Global,
+    nodes: &[NodeFact<K::Op>],
+    sources: &mut S,
+    cache: &mut C,
+    chain: &mut H,
+    purse: &mut K::Purse,
+    node: u32,
+    level: u32,
+    rect: Rect,
+) -> Result<Rendered, SwapRefused>
+where
+    K::Op: Sync,
+    K::Permit: Send,
+    requires stated { AreStated K.Op.meanings (shapes_of_facts (S.facts sources.old)) nodes.now }
+    requires node { node < length nodes.now }
+    requires level { level ≤ 8 }
+    requires source { IsSome (scaled level rect) }
+    requires sources_over { S.is_over sources.old (H.held chain.old) }
+    requires cache_over { C.is_over cache.old (H.held chain.old) }
+    requires owned { Owns (H.held chain.old) (S.names sources.old ++ C.names cache.old) }
+    requires sized { AreSizedPairs nodes.now (C.sizes cache.old (H.held chain.old)) }
+    requires permits { 2 ^ 32 ≤ K.permits purse.old }
+    ensures looks { IfOk result (λ done. LooksUp K.Op.meanings nodes.now (needed_pairs (specs_of nodes.now) (need K.Op.meanings nodes.now node (at_level_zero level rect))) done.applied done.reused
+        (moment (S.facts sources.old) (S.images sources.old (H.held chain.old)) (S.names sources.old) (C.pairs cache.old) (C.sizes cache.old (H.held chain.old)) (C.cached cache.old (H.held chain.old)) (C.capacity cache.old) (C.names cache.old) (H.held chain.old) (H.counts chain.old) (H.loans chain.old))
+        (moment (S.facts sources.new) (S.images sources.new (H.held chain.new)) (S.names sources.new) (C.pairs cache.new) (C.sizes cache.new (H.held chain.new)) (C.cached cache.new (H.held chain.new)) (C.capacity cache.new) (C.names cache.new) (H.held chain.new) (H.counts chain.new) (H.loans chain.new))
+        (K.permits purse.old) (K.permits purse.new)) }
+    ensures rect { IfOk result (λ done. done.patch.box ≡ rect) }
+    ensures format { IfOk result (λ done. done.patch.format ≡ (shape_at nodes.now node).format) }
+    ensures image { (images : Buffers) → S.images sources.old (H.held chain.old) ≡ Some images →
+        AreKnownRight K.Op.meanings nodes.now images (C.cached cache.old (H.held chain.old)) →
+        IfOk result (λ done. done.patch ≡ cut (level_of (image_at K.Op.meanings nodes.now images node) level) rect) }
+    ensures leaves { Leaves K.Op.meanings nodes.now (needed_pairs (specs_of nodes.now) (need K.Op.meanings nodes.now node (at_level_zero level rect)))
+        (moment (S.facts sources.old) (S.images sources.old (H.held chain.old)) (S.names sources.old) (C.pairs cache.old) (C.sizes cache.old (H.held chain.old)) (C.cached cache.old (H.held chain.old)) (C.capacity cache.old) (C.names cache.old) (H.held chain.old) (H.counts chain.old) (H.loans chain.old))
+        (moment (S.facts sources.new) (S.images sources.new (H.held chain.new)) (S.names sources.new) (C.pairs cache.new) (C.sizes cache.new (H.held chain.new)) (C.cached cache.new (H.held chain.new)) (C.capacity cache.new) (C.names cache.new) (H.held chain.new) (H.counts chain.new) (H.loans chain.new))
+        (K.permits purse.old) (K.permits purse.new) }
+    ensures sources_over { S.is_over sources.new (H.held chain.new) }
+    ensures cache_over { C.is_over cache.new (H.held chain.new) }
+    ensures valid { H.is_valid chain.old → H.is_valid chain.new }
+    ensures excused { IfErr result (IsExcused (needed_pairs (specs_of nodes.now) (need K.Op.meanings nodes.now node (at_level_zero level rect)))
+        (moment (S.facts sources.old) (S.images sources.old (H.held chain.old)) (S.names sources.old) (C.pairs cache.old) (C.sizes cache.old (H.held chain.old)) (C.cached cache.old (H.held chain.old)) (C.capacity cache.old) (C.names cache.old) (H.held chain.old) (H.counts chain.old) (H.loans chain.old))
+        (moment (S.facts sources.new) (S.images sources.new (H.held chain.new)) (S.names sources.new) (C.pairs cache.new) (C.sizes cache.new (H.held chain.new)) (C.cached cache.new (H.held chain.new)) (C.capacity cache.new) (C.names cache.new) (H.held chain.new) (H.counts chain.new) (H.loans chain.new))) }
+{
+    let source = rect.scaled(level).unwrap();
+    let format = format_of(nodes, node);
+    let mut drawn = LevelPatch::new(alloc, rect, level, format)?;
+    let counts = render_strips(
+        kit, alloc, nodes, sources, cache, chain, purse, &mut drawn, node, source,
+    )?;
+    let patch = drawn.finish(alloc)?;
+    Ok(Rendered {
+        patch,
+        applied: counts.applied,
+        reused: counts.reused,
+    })
+}
+
+/// Renders a rectangle of a level of the node of a name, strip by strip: for each tile that a strip of the
+/// rectangle at level 0 needs, looks its pair up in the cache, and evaluates and keeps the tile where it
+/// isn't there. One permit is spent for each tile that is evaluated. Over images that are known, and where
+/// the cached pairs are right, the patch is that rectangle of the level of the node's image, whatever the
+/// cache had; the cached pairs and both counts are those of the list after these pairs are looked up, also
+/// where no bytes are known. No strip may need more tiles than the capacity, which is tested before
+/// anything is looked up. Takes time in proportion to the needed tiles, to the rectangle at level 0, and to
+/// the inputs times the nodes for each strip.
+///
+/// # Errors
+///
+/// `UnknownNode` exactly where no node has the name; `Rect` exactly where one has, and the rectangle at
+/// level 0 is not in limits; `Strip` exactly where, past these, a strip needs more tiles than the
+/// capacity, with the number of the first such strip. Then nothing has changed. `SwapFault` only where the
+/// swap's count of I/O errors rose in this call, `SwapFull` only where the chain's names and one more for
+/// each needed tile can fill the swap, and, where each cached name has one owner, the names of a full cache
+/// and one more can too; and `NoMemory` if memory runs out. The cached pairs are then those of a part of
+/// the request, and right where they were, and permits may be spent.
+pub fn render<H: ChainMeaning, S: SourceTiles<H>, C: PairStore<H>, K: OpKit + Sync>(
+    kit: &K,
+    alloc: Global,
+    nodes: &[NodeFact<K::Op>],
+    sources: &mut S,
+    cache: &mut C,
+    chain: &mut H,
+    purse: &mut K::Purse,
+    node: Name,
+    level: u32,
+    rect: Rect,
+    capacity: u32,
+) -> Result<Rendered, RenderRefused>
+where
+    K::Op: Sync,
+    K::Permit: Send,
+    requires level { level ≤ 8 }
+    requires stated { AreStated K.Op.meanings (shapes_of_facts (S.facts sources.old)) nodes.now }
+    requires sources_over { S.is_over sources.old (H.held chain.old) }
+    requires cache_over { C.is_over cache.old (H.held chain.old) }
+    requires owned { Owns (H.held chain.old) (S.names sources.old ++ C.names cache.old) }
+    requires sized { AreSizedPairs nodes.now (C.sizes cache.old (H.held chain.old)) }
+    requires permits { 2 ^ 32 ≤ K.permits purse.old }
+    ensures unknown { has_node (specs_of nodes.now) node ≡ false → IsErrOf result RenderRefused.UnknownNode }
+    ensures outside { has_node (specs_of nodes.now) node ≡ true → scaled level rect ≡ None →
+        IsErrOf result RenderRefused.Rect }
+    ensures narrow { OnOk result (wide capacity (strips_needed K.Op.meanings nodes.now (request node level rect)) ≡ None) }
+    ensures unchanged { IfErr result (ChangesNothing
+        (moment (S.facts sources.old) (S.images sources.old (H.held chain.old)) (S.names sources.old) (C.pairs cache.old) (C.sizes cache.old (H.held chain.old)) (C.cached cache.old (H.held chain.old)) (C.capacity cache.old) (C.names cache.old) (H.held chain.old) (H.counts chain.old) (H.loans chain.old))
+        (moment (S.facts sources.new) (S.images sources.new (H.held chain.new)) (S.names sources.new) (C.pairs cache.new) (C.sizes cache.new (H.held chain.new)) (C.cached cache.new (H.held chain.new)) (C.capacity cache.new) (C.names cache.new) (H.held chain.new) (H.counts chain.new) (H.loans chain.new))
+        (K.permits purse.old) (K.permits purse.new)) }
+    ensures pairs { IfOk result (λ done. counted (C.pairs cache.new) done.applied done.reused
+        ≡ all_looked_up itself itself (C.capacity cache.old) (uncounted (C.pairs cache.old))
+        (pairs_requested K.Op.meanings nodes.now (request node level rect))) }
+    ensures rect { IfOk result (λ done. done.patch.box ≡ rect) }
+    ensures format { IfOk result (λ done. done.patch.format ≡ (shape_at nodes.now (index_of (specs_of nodes.now) node)).format) }
+    ensures drawn { (images : Buffers) (list : List Cached) → S.images sources.old (H.held chain.old) ≡ Some images →
+        C.cached cache.old (H.held chain.old) ≡ Some list → AreRight K.Op.meanings (scene_of nodes.now images) list →
+        IfOk result (λ done. IsDrawn K.Op.meanings nodes.now images (request node level rect)
+        (moment (S.facts sources.old) (S.images sources.old (H.held chain.old)) (S.names sources.old) (C.pairs cache.old) (C.sizes cache.old (H.held chain.old)) (C.cached cache.old (H.held chain.old)) (C.capacity cache.old) (C.names cache.old) (H.held chain.old) (H.counts chain.old) (H.loans chain.old))
+        (moment (S.facts sources.new) (S.images sources.new (H.held chain.new)) (S.names sources.new) (C.pairs cache.new) (C.sizes cache.new (H.held chain.new)) (C.cached cache.new (H.held chain.new)) (C.capacity cache.new) (C.names cache.new) (H.held chain.new) (H.counts chain.new) (H.loans chain.new))
+        list done.patch) }
+    ensures right { (images : Buffers) → S.images sources.old (H.held chain.old) ≡ Some images →
+        AreKnownRight K.Op.meanings nodes.now images (C.cached cache.old (H.held chain.old)) →
+        AreKnownRight K.Op.meanings nodes.now images (C.cached cache.new (H.held chain.new)) }
+    ensures sized { AreSizedPairs nodes.now (C.sizes cache.new (H.held chain.new)) }
+    ensures permits { MatchResult result (λ done. Spent (K.permits purse.old) (K.permits purse.new) done.applied)
+        (λ _. (K.permits purse.new ≤ K.permits purse.old)
+        × (K.permits purse.old ≤ K.permits purse.new + length (pairs_requested K.Op.meanings nodes.now (request node level rect)))) }
+    ensures keeps { Keeps (length (pairs_requested K.Op.meanings nodes.now (request node level rect)))
+        (moment (S.facts sources.old) (S.images sources.old (H.held chain.old)) (S.names sources.old) (C.pairs cache.old) (C.sizes cache.old (H.held chain.old)) (C.cached cache.old (H.held chain.old)) (C.capacity cache.old) (C.names cache.old) (H.held chain.old) (H.counts chain.old) (H.loans chain.old))
+        (moment (S.facts sources.new) (S.images sources.new (H.held chain.new)) (S.names sources.new) (C.pairs cache.new) (C.sizes cache.new (H.held chain.new)) (C.cached cache.new (H.held chain.new)) (C.capacity cache.new) (C.names cache.new) (H.held chain.new) (H.counts chain.new) (H.loans chain.new)) }
+    ensures sources_over { S.is_over sources.new (H.held chain.new) }
+    ensures cache_over { C.is_over cache.new (H.held chain.new) }
+    ensures valid { H.is_valid chain.old → H.is_valid chain.new }
+    ensures cause { IfErr result (IsRefusedBy K.Op.meanings nodes.now (request node level rect) capacity
+        (HasSwapCause (H.counts chain.old) (H.counts chain.new)
+        ((H.counts chain.old).names + length (pairs_requested K.Op.meanings nodes.now (request node level rect))))) }
+    ensures few_names { HaveOneOwner (H.held chain.old) (C.names cache.old) →
+        IfErr result (IsRefusedBy K.Op.meanings nodes.now (request node level rect) capacity
+        (HasSwapCause (H.counts chain.old) (H.counts chain.new) (most_names
+        (moment (S.facts sources.old) (S.images sources.old (H.held chain.old)) (S.names sources.old) (C.pairs cache.old) (C.sizes cache.old (H.held chain.old)) (C.cached cache.old (H.held chain.old)) (C.capacity cache.old) (C.names cache.old) (H.held chain.old) (H.counts chain.old) (H.loans chain.old))
+        (pairs_requested K.Op.meanings nodes.now (request node level rect))))) }
+{
+    let position = planned_position(kit, alloc, nodes, node, level, rect, capacity)?;
+    let done = render_planned(
+        kit, alloc, nodes, sources, cache, chain, purse, position, level, rect,
+    )?;
+    Ok(done)
+}
