@@ -1,16 +1,14 @@
 -- Images that are read periodically, by parts that need not be whole.
-use Rattle.std.proofs.Common.{◌≡◌, ℕ, zero, suc, ◌+◌, ◌-◌, ◌*◌, ◌%◌, ◌^◌, ◌<◌, ◌≤◌, List, refl, sym, ap, subst, ◌∙◌, arith}
+use Rattle.std.proofs.Common.{◌≡◌, ℕ, ◌+◌, ◌-◌, ◌*◌, ◌%◌, ◌^◌, ◌<◌, ◌≤◌, List, refl, sym, ap, subst, ◌∙◌, arith}
 use Rattle.std.proofs.Math.Nat.{add-mod-mod}
-use Rattle.plane_rect.specs.Rectangle.{Includes, Inside, IsRectangle, Rectangle, end_column, end_row, spanning}
-use Rattle.plane_rect.proofs.RectangleLaws.{IsRectangle-spanning}
+use Rattle.plane_rect.specs.Rectangle.{Inside, Rectangle, spanning}
 use Rattle.plane_rect.proofs.Rectangles.{rectangle-some}
-use Rattle.pixel_formats.specs.Format.{channels, depth, pixel_bytes}
+use Rattle.pixel_formats.specs.Format.{channels, depth}
 use Rattle.pixel_formats.specs.Row.{sample_at}
-use Rattle.pixel_formats.specs.declared.format.Format.{Format}
 use Rattle.pixel_formats.specs.declared.abyss.Abyss.TheVariants.{Loop}
 use Rattle.model_images.specs.Abyss.{abyss_at, wrapped}
-use Rattle.model_images.specs.FromRaw.{byte_count, image_from_raw, pixels_from_raw}
-use Rattle.model_images.specs.Image.{Image, at, image_from_fn}
+use Rattle.model_images.specs.FromRaw.{image_from_raw, pixels_from_raw}
+use Rattle.model_images.specs.Image.{Image, at}
 use Rattle.model_images.specs.Paint.{cut}
 use Rattle.model_images.specs.Raw.{raw}
 use Rattle.model_images.proofs.Agreeing.{at-cut}

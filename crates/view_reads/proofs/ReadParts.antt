@@ -3,7 +3,6 @@ use Rattle.std.proofs.Common.{◌≡◌, ℕ, zero, suc, ◌+◌, ◌-◌, ◌*�
 use Rattle.std.specs.Prelude.{IfSome}
 use Rattle.std.proofs.lemmas.Bool.Decides.{nat_tests}
 use Rattle.plane_rect.specs.Rectangle.{InLimits, Includes, Inside, IsRectangle, Rectangle, area, empty, end_column, end_row, is_empty, meet, spanning}
-use Rattle.plane_rect.proofs.Moved.{halved-positions}
 use Rattle.plane_rect.proofs.RectangleLaws.{IsRectangle-empty, IsRectangle-spanning}
 use Rattle.plane_rect.proofs.Rectangles.{Inside-meet, Inside-spanning, rectangle-some}
 use Rattle.pixel_formats.specs.declared.abyss.Abyss.{Abyss}

@@ -1,4 +1,4 @@
-use Rattle.std.proofs.Common.{◌≡◌, ◌+◌, ◌-◌, ◌∙◌, sym}
+use Rattle.std.proofs.Common.{◌≡◌, ◌-◌, ◌∙◌, sym}
 use Rattle.pixel_formats.specs.declared.abyss.Abyss.TheVariants.{Clamp}
 use Rattle.plane_rect.specs.Rectangle.{empty, end_column, end_row, spanning}
 use Rattle.view_reads.proofs.ReadParts.{clamp-enough, empty-box-clamp, empty-enough, in-place, side_end, side_start, some-sides}

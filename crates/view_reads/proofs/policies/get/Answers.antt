@@ -1,9 +1,8 @@
-use Rattle.std.proofs.Common.{◌≡◌, ◌≤◌, ◌∙◌, ap, subst, sym, arith}
+use Rattle.std.proofs.Common.{◌∙◌, ap, subst, sym, arith}
 use Rattle.std.proofs.lemmas.Result.{err_from_is_err_and}
 use Rattle.plane_rect.specs.Rectangle.{Rectangle}
 use Rattle.model_images.specs.Abyss.{abyss_at}
 use Rattle.model_images.specs.Image.{Image, image_from_fn}
-use Rattle.model_images.specs.Level.{level_box}
 use Rattle.root_tiles.specs.Growth.{root_state}
 use Rattle.root_tiles.proofs.MoreTiles.{cause-plain}
 use Rattle.view_reads.specs.Needed.{IsEnough}

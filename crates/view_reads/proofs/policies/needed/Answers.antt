@@ -1,7 +1,6 @@
 use Rattle.std.proofs.Common.{◌∙◌, inl, inr, sym, subst}
 use Rattle.pixel_formats.specs.declared.abyss.Abyss.{Abyss}
 use Rattle.plane_rect.specs.Rectangle.{meet}
-use Rattle.view_reads.specs.Needed.{IsEnough}
 use Rattle.view_reads.proofs.ReadParts.{IsPart, black-enough, in-place, none-enough, white-enough}
 use Rattle.view_reads.proofs.policies.needed.Goals as goal
 
