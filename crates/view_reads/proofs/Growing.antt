@@ -1,9 +1,8 @@
 -- Reads of views, one after another.
-use Rattle.std.proofs.Common.{◌≡◌, ℕ, ◌+◌, ◌≤◌, Option, refl, sym, ap, subst, ◌∙◌, arith}
+use Rattle.std.proofs.Common.{◌≡◌, ℕ, Option, sym, ap, subst, arith}
 use Rattle.std.specs.Option.{option_map}
 use Rattle.model_images.specs.Image.{Image}
 use Rattle.model_images.specs.Paint.{cut}
-use Rattle.pixel_formats.specs.declared.format.Format.{Format}
 use Rattle.plane_rect.specs.Rectangle.{Includes, Rectangle}
 use Rattle.swap_store.specs.Cause.{HasSwapCause}
 use Rattle.swap_store.specs.declared.refusal.SwapRefused.{SwapRefused}

@@ -1,7 +1,7 @@
 -- Parts of levels of views, into which tiles are written one after another.
-use Rattle.std.proofs.Common.{◌≡◌, ℕ, zero, suc, ◌+◌, ◌*◌, ◌<◌, ◌⊎◌, inl, inr, List, [], ◌∷◌, Contains, Option, Bool, true, false, cond, refl, sym, ap, subst, ◌∙◌, arith}
+use Rattle.std.proofs.Common.{◌≡◌, ℕ, suc, ◌+◌, ◌<◌, ◌⊎◌, inl, inr, List, [], ◌∷◌, Contains, Bool, true, false, cond, refl, sym, ap, subst, ◌∙◌, arith}
 use Rattle.std.specs.Prelude.{IfSome}
-use Rattle.plane_rect.specs.Rectangle.{Includes, Inside, IsRectangle, Rectangle, meet}
+use Rattle.plane_rect.specs.Rectangle.{Inside, IsRectangle, Rectangle, meet}
 use Rattle.plane_rect.specs.Tile.{Tile, plane, tile_at, tile_square}
 use Rattle.plane_rect.proofs.Lists.{Contains-cases}
 use Rattle.plane_rect.proofs.Rectangles.{Inside-meet}
@@ -11,7 +11,7 @@ use Rattle.pixel_formats.specs.declared.format.Format.{Format}
 use Rattle.chain_owners.specs.Held.{Held}
 use Rattle.model_images.specs.FromRaw.{pixels_from_raw}
 use Rattle.model_images.specs.Image.{Image, IsImage, at, image_from_fn, is_inside}
-use Rattle.model_images.specs.Level.{halved_image, level, level_box, source_of_level, tile_at_level}
+use Rattle.model_images.specs.Level.{halved_image, level, level_box, source_of_level}
 use Rattle.model_images.specs.Paint.{blank, cut, put_raw}
 use Rattle.model_images.specs.Raw.{tile_bytes}
 use Rattle.model_images.proofs.Agreeing.{at-cut}

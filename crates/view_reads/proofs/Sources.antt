@@ -1,5 +1,5 @@
 -- Positions that are averaged for tiles of levels.
-use Rattle.std.proofs.Common.{◌≡◌, ℕ, zero, suc, ◌+◌, ◌-◌, ◌*◌, ◌/◌, ◌<◌, ◌≤◌, ◌↔◌, max, min, refl, sym, ap, subst, ◌∙◌, arith}
+use Rattle.std.proofs.Common.{◌≡◌, ℕ, zero, suc, ◌+◌, ◌-◌, ◌*◌, ◌<◌, ◌≤◌, ◌↔◌, max, min, refl, sym, ap, subst, ◌∙◌, arith}
 use Rattle.std.proofs.lemmas.Nat.{mul-le}
 use Rattle.plane_rect.specs.Rectangle.{InLimits, Inside, IsRectangle, Rectangle, area, end_column, end_row, half, halved, origin, plane_side, spanning}
 use Rattle.plane_rect.specs.Tile.{Tile, plane, tile_at, tile_rectangle, tile_square}

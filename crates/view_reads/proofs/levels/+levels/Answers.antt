@@ -1,9 +1,9 @@
-use Rattle.std.proofs.Common.{◌≡◌, ℕ, suc, ◌-◌, ◌≤◌, ◌*◌, ◌∙◌, ◌∷◌, List, Contains, Option, length, refl, sym, ap, subst, arith}
+use Rattle.std.proofs.Common.{◌≡◌, ℕ, suc, ◌-◌, ◌*◌, ◌∙◌, ◌∷◌, List, Contains, Option, length, refl, sym, ap, subst, arith}
 use Rattle.std.proofs.lemmas.Result.{IfOk-weaker, err_from_is_err_and}
 use Rattle.std.specs.Prelude.{IfSome, replicate}
 use Rattle.level_tables.specs.Over.{IsTileOfLevel, tile_length}
 use Rattle.model_images.specs.Image.{Image}
-use Rattle.model_images.specs.Level.{halved_image, level_box, source_of_level, tile_at_level}
+use Rattle.model_images.specs.Level.{halved_image, level_box, source_of_level}
 use Rattle.model_images.specs.Paint.{blank}
 use Rattle.model_images.specs.Raw.{tile_bytes}
 use Rattle.model_images.proofs.AgreeingLevels.{Inside-source_of_tile}

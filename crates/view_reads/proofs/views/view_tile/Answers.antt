@@ -2,7 +2,6 @@ use Rattle.std.proofs.Common.{◌≡◌, ℕ, ◌*◌, ◌∙◌, List, length, 
 use Rattle.std.proofs.lemmas.Result.{IfOk-weaker}
 use Rattle.std.specs.Prelude.{IfSome}
 use Rattle.level_tables.specs.Over.{IsTileOfLevel}
-use Rattle.model_images.specs.Image.{Image}
 use Rattle.model_images.specs.Raw.{tile_bytes}
 use Rattle.model_images.proofs.ByteLaws.{length-tile_bytes}
 use Rattle.pixel_formats.specs.Format.{pixel_bytes}
