@@ -14,5 +14,8 @@ mod writing;
 mod written;
 
 pub use buffers::Buffers;
-pub use laws::{buffers_are_tables, no_buffers_ask_nothing, other_buffers_are_unchanged};
+pub use laws::{
+    added_buffers_have_causes, buffers_are_tables, no_buffers_ask_nothing,
+    other_buffers_are_unchanged,
+};
 pub use refused::BufferRefused;
