@@ -8,7 +8,8 @@ use Rattle.model_buffers.specs.declared.edit.BufferEdit.{BufferEdit}
 use Rattle.swap_store.specs.Cause.{HasSwapCause}
 use Rattle.swap_store.specs.declared.refusal.SwapRefused.{SwapRefused}
 use Rattle.swap_store.specs.declared.refusal.SwapRefused.TheVariants as swap_refusals
-use Rattle.buffer_view.specs.Causes.{HasEditCause, refusal_of}
+use Rattle.buffer_view.specs.Causes.{HasAddCause, HasEditCause, refusal_of}
+use Rattle.buffer_view.specs.declared.refused.BufferRefused.TheVariants as refusals
 use Rattle.model_buffers.specs.declared.refused.EditRefused.{EditRefused}
 use Rattle.buffer_view.specs.declared.refused.BufferRefused.{BufferRefused}
 use Rattle.buffer_view.specs.declared.refused.BufferRefused.TheVariants.{Edit}
@@ -47,3 +48,10 @@ grows-after most added first second last same a b = record {
   };
   names = omega (arith, a.names, b.names, same);
 }
+
+-- a refusal to add a buffer is one of the edit
+pub added-cause : (layout : TableLayout) (edit : BufferEdit) (old new : Counts) (refused : BufferRefused) → HasAddCause layout edit refused
+    → HasEditCause layout edit old new refused
+added-cause layout edit old new (refusals.Edit cause) is = is
+added-cause layout edit old new (refusals.Swap cause) is = absurd is
+added-cause layout edit old new refusals.NoMemory is = tt

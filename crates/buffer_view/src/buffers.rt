@@ -2,10 +2,12 @@
 
 ghost use Rattle.std.specs.Prelude.{◌≡◌};
 ghost use Rattle.model_buffers.specs.Layout.{facts_of};
+ghost use Rattle.model_graphs.specs.Facts.{fact_of};
 ghost use Rattle.buffer_view.specs.BufferTables.{IsBufferTable, empty_table};
 
 use buffer_layouts::BufferLayout;
 use model_graphs::BufferFact;
+use plane_rect::Name;
 use root_tiles::Root;
 use std::alloc::Global;
 use std::marker::Model;
@@ -54,5 +56,13 @@ impl Buffers {
         ensures table { IsBufferTable self.now }
     {
         self.layout.facts()
+    }
+
+    /// Returns the fact of the buffer of a name, where there is one. Its cost is proportional to the number of
+    /// buffers.
+    pub fn fact(&self, name: Name) -> Option<BufferFact>
+        ensures { result ≡ fact_of (facts_of self.now.layout) name }
+    {
+        self.layout.fact(name)
     }
 }

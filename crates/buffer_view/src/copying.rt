@@ -37,7 +37,7 @@ impl Buffers {
     ///
     /// `UnknownBuffer` where no buffer has one of the names, else `OutOfBounds` where the first lacks a position
     /// of the rectangle, or the second one of the moved rectangle, or that is none of the plane, and else
-    /// `Formats` where the buffers have different formats. Then nothing was tried. Else as [`Buffers::fill`].
+    /// `Formats` where the buffers have different formats. Else as [`Buffers::fill`].
     pub fn copy<C: TileChain>(
         &mut self,
         chain: &mut C,

@@ -26,8 +26,8 @@ impl Buffers {
     /// # Errors
     ///
     /// `UnknownBuffer` where no buffer has the name, else `OutOfBounds` where the buffer lacks a position of the
-    /// rectangle, and else `Formats` where the samples are no pixel of the buffer's format. Then nothing was
-    /// tried. Else `SwapFault` only where the swap's count of I/O errors rose in this call, `SwapFull` only
+    /// rectangle, and else `Formats` where the samples are no pixel of the buffer's format.
+    /// Else `SwapFault` only where the swap's count of I/O errors rose in this call, `SwapFull` only
     /// where the chain's names and as many more as the rectangle meets tiles can fill the swap, and `NoMemory`
     /// if memory runs out.
     pub fn fill<C: TileChain>(
@@ -70,8 +70,7 @@ impl Buffers {
     /// # Errors
     ///
     /// `UnknownBuffer` where no buffer has the name, else `OutOfBounds` where the buffer lacks a position of the
-    /// rectangle, and else `WrongSize` where the bytes are more or fewer than those of the rectangle. Then
-    /// nothing was tried. Else as [`Buffers::fill`].
+    /// rectangle, and else `WrongSize` where the bytes are more or fewer than those of the rectangle. Else as [`Buffers::fill`].
     pub fn put_raw<C: TileChain>(
         &mut self,
         chain: &mut C,

@@ -1,10 +1,15 @@
 //! Laws by which callers speak of tables of buffers.
 
 ghost use Rattle.std.specs.Prelude.{◌≡◌, ℕ, ◌++◌, IfSome, IsSome, List};
+ghost use Rattle.chain_owners.specs.Counts.{Counts};
 ghost use Rattle.chain_owners.specs.Held.{Held};
 ghost use Rattle.chain_owners.specs.Owners.{Owns, Respects};
+ghost use Rattle.model_buffers.specs.Layout.{TableLayout};
+ghost use Rattle.model_buffers.specs.declared.edit.BufferEdit.{BufferEdit};
 ghost use Rattle.model_buffers.specs.Table.{IsTable, layout_of};
 ghost use Rattle.buffer_view.specs.BufferTables.{AreBuffersOver, BufferTable, IsBufferTable, buffers_names, empty_table, table_of};
+ghost use Rattle.buffer_view.specs.Causes.{HasAddCause, HasEditCause};
+ghost use Rattle.buffer_view.specs.declared.refused.BufferRefused.{BufferRefused as Refused};
 
 /// States that no buffers ask nothing of a chain.
 pub fn no_buffers_ask_nothing()
@@ -17,6 +22,12 @@ pub fn buffers_are_tables()
         IfSome (table_of buffers held) (λ table. layout_of table ≡ buffers.layout) }
     ensures table { (buffers : BufferTable) (held : Held) → IsBufferTable buffers → IfSome (table_of buffers held) IsTable }
     ensures known { (buffers : BufferTable) (held : Held) → IsSome held.content → IsSome (table_of buffers held) }
+{}
+
+/// States that what refuses to add a buffer refuses it as an edit.
+pub fn added_buffers_have_causes()
+    ensures { (layout : TableLayout) (edit : BufferEdit) (old new : Counts) (refused : Refused) →
+        HasAddCause layout edit refused → HasEditCause layout edit old new refused }
 {}
 
 /// States that a call on the chain that respects its other owners leaves buffers as they were that it wasn't

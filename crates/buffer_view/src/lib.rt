@@ -9,9 +9,13 @@ mod edits;
 mod laws;
 mod refused;
 mod shares;
+mod sources;
 mod writing;
 mod written;
 
 pub use buffers::Buffers;
-pub use laws::{buffers_are_tables, no_buffers_ask_nothing, other_buffers_are_unchanged};
+pub use laws::{
+    added_buffers_have_causes, buffers_are_tables, no_buffers_ask_nothing,
+    other_buffers_are_unchanged,
+};
 pub use refused::BufferRefused;
