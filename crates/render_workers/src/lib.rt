@@ -1,6 +1,7 @@
 //! Renders of requests, strip by strip, for whatever kit, source of tiles and store of pairs.
 #![tactic(auto)]
 
+pub mod laws;
 mod part;
 mod plan;
 mod refused;
