@@ -65,6 +65,7 @@ impl FrozenBuffer {
 
 /// Gives the tiles of frozen buffers, over whatever chain, of which it holds no name. Each tile is a share
 /// of one that is held.
+#[derive(Clone, Copy)]
 pub struct SceneTiles<'a> {
     buffers: &'a [FrozenBuffer],
 }
