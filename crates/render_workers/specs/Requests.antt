@@ -43,6 +43,6 @@ image_requested meanings facts images request =
 
 -- Over known images, of which the cached list was right: it is the list after the pairs were looked up, and the patch is
 -- what the request shows.
-pub record IsDrawn {Op : Type 0} (meanings : Meanings Op) (facts : List (NodeFact Op)) (images : Buffers) (request : Request) (old new : Moment) (list : List Cached) (patch : Image) : Type 0 where
+pub record IsShown {Op : Type 0} (meanings : Meanings Op) (facts : List (NodeFact Op)) (images : Buffers) (request : Request) (old new : Moment) (list : List Cached) (patch : Image) : Type 0 where
   pub cached : new.cached ≡ Some (list_after meanings facts images old.capacity list (pairs_requested meanings facts request))
   pub patch_is : patch ≡ image_requested meanings facts images request

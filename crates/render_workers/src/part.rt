@@ -177,7 +177,7 @@ pub(crate) fn add_part<H: ChainMeaning, S: SourceTiles<H>, C: PairStore<H>, K: O
     cache: &mut C,
     chain: &mut H,
     purse: &mut K::Purse,
-    drawn: &mut LevelPatch,
+    level_patch: &mut LevelPatch,
     node: u32,
     rect: Rect,
 ) -> Result<LookCounts, SwapRefused>
@@ -189,7 +189,7 @@ where
     requires inputs { inputs.now ≡ all_inputs nodes.now }
     requires strip { IsStripOf K.Op.meanings nodes.now (strip_of K.Op.meanings nodes.now node rect) }
     requires limits { InLimits rect }
-    requires format { drawn.old.patch.format ≡ (shape_at nodes.now node).format }
+    requires format { level_patch.old.patch.format ≡ (shape_at nodes.now node).format }
     requires sources_over { S.is_over sources.old (H.held chain.old) }
     requires cache_over { C.is_over cache.old (H.held chain.old) }
     requires owned { Owns (H.held chain.old) (S.names sources.old ++ C.names cache.old) }
@@ -199,12 +199,12 @@ where
         (moment (S.facts sources.old) (S.images sources.old (H.held chain.old)) (S.names sources.old) (C.pairs cache.old) (C.sizes cache.old (H.held chain.old)) (C.cached cache.old (H.held chain.old)) (C.capacity cache.old) (C.names cache.old) (H.held chain.old) (H.counts chain.old) (H.loans chain.old))
         (moment (S.facts sources.new) (S.images sources.new (H.held chain.new)) (S.names sources.new) (C.pairs cache.new) (C.sizes cache.new (H.held chain.new)) (C.cached cache.new (H.held chain.new)) (C.capacity cache.new) (C.names cache.new) (H.held chain.new) (H.counts chain.new) (H.loans chain.new))
         (K.permits purse.old) (K.permits purse.new)) }
-    ensures request { AreOfOne drawn.old drawn.new }
+    ensures request { AreOfOne level_patch.old level_patch.new }
     ensures image { (images : Buffers) → S.images sources.old (H.held chain.old) ≡ Some images →
         AreKnownRight K.Op.meanings nodes.now images (C.cached cache.old (H.held chain.old)) →
-        (k : ℕ) → HasStrips (image_at K.Op.meanings nodes.now images node) k drawn.old →
-        slice_get (strip_rectangles (source_of drawn.old)) k ≡ Some rect →
-        OnOk result (HasStrips (image_at K.Op.meanings nodes.now images node) (k + 1) drawn.new) }
+        (k : ℕ) → HasStrips (image_at K.Op.meanings nodes.now images node) k level_patch.old →
+        slice_get (strip_rectangles (source_of level_patch.old)) k ≡ Some rect →
+        OnOk result (HasStrips (image_at K.Op.meanings nodes.now images node) (k + 1) level_patch.new) }
     ensures leaves { Leaves K.Op.meanings nodes.now (pairs_needed nodes.now (strip_of K.Op.meanings nodes.now node rect).need)
         (moment (S.facts sources.old) (S.images sources.old (H.held chain.old)) (S.names sources.old) (C.pairs cache.old) (C.sizes cache.old (H.held chain.old)) (C.cached cache.old (H.held chain.old)) (C.capacity cache.old) (C.names cache.old) (H.held chain.old) (H.counts chain.old) (H.loans chain.old))
         (moment (S.facts sources.new) (S.images sources.new (H.held chain.new)) (S.names sources.new) (C.pairs cache.new) (C.sizes cache.new (H.held chain.new)) (C.cached cache.new (H.held chain.new)) (C.capacity cache.new) (C.names cache.new) (H.held chain.new) (H.counts chain.new) (H.loans chain.new))
@@ -219,7 +219,7 @@ where
     let part = rendered_part(
         kit, alloc, nodes, inputs, sources, cache, chain, purse, node, rect,
     )?;
-    drawn.add(alloc, part.patch)?;
+    level_patch.add(alloc, part.patch)?;
     Ok(LookCounts {
         applied: part.applied,
         reused: part.reused,

@@ -22,7 +22,7 @@ ghost use Rattle.strip_renders.specs.Strips.{AreKnownRight, AreSizedPairs, count
 ghost use Rattle.strip_patches.specs.Nodes.{image_at};
 ghost use Rattle.render_workers.specs.Parts.{IsExcused, Leaves, LooksUp};
 ghost use Rattle.render_workers.specs.Refusals.{ChangesNothing, IsRefusedBy};
-ghost use Rattle.render_workers.specs.Requests.{IsDrawn, pairs_requested, request, strips_needed};
+ghost use Rattle.render_workers.specs.Requests.{IsShown, pairs_requested, request, strips_needed};
 
 use crate::plan::planned_position;
 use crate::refused::RenderRefused;
@@ -110,11 +110,20 @@ where
 {
     let source = rect.scaled(level).unwrap();
     let format = format_of(nodes, node);
-    let mut drawn = LevelPatch::new(alloc, rect, level, format)?;
+    let mut level_patch = LevelPatch::new(alloc, rect, level, format)?;
     let counts = render_strips(
-        kit, alloc, nodes, sources, cache, chain, purse, &mut drawn, node, source,
+        kit,
+        alloc,
+        nodes,
+        sources,
+        cache,
+        chain,
+        purse,
+        &mut level_patch,
+        node,
+        source,
     )?;
-    let patch = drawn.finish(alloc)?;
+    let patch = level_patch.finish(alloc)?;
     Ok(Rendered {
         patch,
         applied: counts.applied,
@@ -176,9 +185,9 @@ where
         (pairs_requested K.Op.meanings nodes.now (request node level rect))) }
     ensures rect { IfOk result (λ done. done.patch.box ≡ rect) }
     ensures format { IfOk result (λ done. done.patch.format ≡ (shape_at nodes.now (index_of (specs_of nodes.now) node)).format) }
-    ensures drawn { (images : Buffers) (list : List Cached) → S.images sources.old (H.held chain.old) ≡ Some images →
+    ensures shown { (images : Buffers) (list : List Cached) → S.images sources.old (H.held chain.old) ≡ Some images →
         C.cached cache.old (H.held chain.old) ≡ Some list → AreRight K.Op.meanings (scene_of nodes.now images) list →
-        IfOk result (λ done. IsDrawn K.Op.meanings nodes.now images (request node level rect)
+        IfOk result (λ done. IsShown K.Op.meanings nodes.now images (request node level rect)
         (moment (S.facts sources.old) (S.images sources.old (H.held chain.old)) (S.names sources.old) (C.pairs cache.old) (C.sizes cache.old (H.held chain.old)) (C.cached cache.old (H.held chain.old)) (C.capacity cache.old) (C.names cache.old) (H.held chain.old) (H.counts chain.old) (H.loans chain.old))
         (moment (S.facts sources.new) (S.images sources.new (H.held chain.new)) (S.names sources.new) (C.pairs cache.new) (C.sizes cache.new (H.held chain.new)) (C.cached cache.new (H.held chain.new)) (C.capacity cache.new) (C.names cache.new) (H.held chain.new) (H.counts chain.new) (H.loans chain.new))
         list done.patch) }

@@ -40,7 +40,7 @@ pub(crate) fn render_strips<H: ChainMeaning, S: SourceTiles<H>, C: PairStore<H>,
     cache: &mut C,
     chain: &mut H,
     purse: &mut K::Purse,
-    drawn: &mut LevelPatch,
+    level_patch: &mut LevelPatch,
     node: u32,
     request: Rect,
 ) -> Result<LookCounts, SwapRefused>
@@ -50,8 +50,8 @@ where
     requires stated { AreStated K.Op.meanings (shapes_of_facts (S.facts sources.old)) nodes.now }
     requires node { node < length nodes.now }
     requires limits { InLimits request }
-    requires source { request ≡ source_of drawn.old }
-    requires format { drawn.old.patch.format ≡ (shape_at nodes.now node).format }
+    requires source { request ≡ source_of level_patch.old }
+    requires format { level_patch.old.patch.format ≡ (shape_at nodes.now node).format }
     requires sources_over { S.is_over sources.old (H.held chain.old) }
     requires cache_over { C.is_over cache.old (H.held chain.old) }
     requires owned { Owns (H.held chain.old) (S.names sources.old ++ C.names cache.old) }
@@ -62,11 +62,11 @@ where
         (moment (S.facts sources.old) (S.images sources.old (H.held chain.old)) (S.names sources.old) (C.pairs cache.old) (C.sizes cache.old (H.held chain.old)) (C.cached cache.old (H.held chain.old)) (C.capacity cache.old) (C.names cache.old) (H.held chain.old) (H.counts chain.old) (H.loans chain.old))
         (moment (S.facts sources.new) (S.images sources.new (H.held chain.new)) (S.names sources.new) (C.pairs cache.new) (C.sizes cache.new (H.held chain.new)) (C.cached cache.new (H.held chain.new)) (C.capacity cache.new) (C.names cache.new) (H.held chain.new) (H.counts chain.new) (H.loans chain.new))
         (K.permits purse.old) (K.permits purse.new)) }
-    ensures request { AreOfOne drawn.old drawn.new }
+    ensures request { AreOfOne level_patch.old level_patch.new }
     ensures image { (images : Buffers) → S.images sources.old (H.held chain.old) ≡ Some images →
         AreKnownRight K.Op.meanings nodes.now images (C.cached cache.old (H.held chain.old)) →
-        HasStrips (image_at K.Op.meanings nodes.now images node) 0 drawn.old →
-        OnOk result (HasStrips (image_at K.Op.meanings nodes.now images node) (length (strip_rectangles request)) drawn.new) }
+        HasStrips (image_at K.Op.meanings nodes.now images node) 0 level_patch.old →
+        OnOk result (HasStrips (image_at K.Op.meanings nodes.now images node) (length (strip_rectangles request)) level_patch.new) }
     ensures leaves { Leaves K.Op.meanings nodes.now (needed_pairs (specs_of nodes.now) (need K.Op.meanings nodes.now node request))
         (moment (S.facts sources.old) (S.images sources.old (H.held chain.old)) (S.names sources.old) (C.pairs cache.old) (C.sizes cache.old (H.held chain.old)) (C.cached cache.old (H.held chain.old)) (C.capacity cache.old) (C.names cache.old) (H.held chain.old) (H.counts chain.old) (H.loans chain.old))
         (moment (S.facts sources.new) (S.images sources.new (H.held chain.new)) (S.names sources.new) (C.pairs cache.new) (C.sizes cache.new (H.held chain.new)) (C.cached cache.new (H.held chain.new)) (C.capacity cache.new) (C.names cache.new) (H.held chain.new) (H.counts chain.new) (H.loans chain.new))
@@ -84,7 +84,17 @@ where
     let mut reused = 0;
     for rect in &rects {
         let counts = add_part(
-            kit, alloc, nodes, &inputs, sources, cache, chain, purse, drawn, node, *rect,
+            kit,
+            alloc,
+            nodes,
+            &inputs,
+            sources,
+            cache,
+            chain,
+            purse,
+            level_patch,
+            node,
+            *rect,
         )?;
         applied += counts.applied;
         reused += counts.reused;

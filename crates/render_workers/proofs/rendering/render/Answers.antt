@@ -80,8 +80,8 @@ returns-in_err-done-clause-few_names g c = λ one.
     handed-on c.from_residual-in_err-done.result (by_swap refused) _ c.from_residual-in_err-done.ensures.1
     (swap-cause meanings nodes asked c.args.capacity (HasSwapCause old.counts new.counts (most_names old (pairs_requested meanings nodes asked))) can refused (excused.few one))
 
-pub returns-clause-drawn : goal.returns-clause-drawn
-returns-clause-drawn g c = λ images list known is right.
+pub returns-clause-shown : goal.returns-clause-shown
+returns-clause-shown g c = λ images list known is right.
     let meanings = g.K.Op.OpMeaning.meanings in
     let nodes = c.args.nodes.now in
     let asked = request c.args.node c.args.level c.args.rect in

@@ -35,13 +35,13 @@ returns-clause-image g c = λ images known right.
     let shape : shape_at nodes c.args.node ≡ shape_of_image image = shape-shown meanings facts nodes c.requires.stated c.args.node fact.0 fact.1 images shown in
     let box : IsRectangle image.box = subst (λ (s : Shape). IsRectangle s.box) shape c.format_of-format.ensures.rectangle in
     let format : image.format ≡ c.format_of-format.result = sym (c.format_of-format.ensures.format ∙ ap (λ (s : Shape). s.format) shape) in
-    let one : AreOfOne c.in_ok-drawn.drawn c.render_strips.new.drawn = c.in_ok-counts.ensures.request in
-    let has = c.in_ok-counts.ensures.image images known right (c.in_ok-drawn.ensures.none image box format) in
-    let source : source_of c.render_strips.new.drawn ≡ c.unwrap-source.result =
-    sym (source-kept c.in_ok-drawn.drawn c.render_strips.new.drawn one)
-    ∙ ap (λ (z : ℕ). unwrap_or (scaled z c.in_ok-drawn.drawn.rect) empty) c.in_ok-drawn.ensures.level
-    ∙ ap (λ (r : Rectangle). unwrap_or (scaled c.args.level r) empty) c.in_ok-drawn.ensures.rect
+    let one : AreOfOne c.in_ok-level_patch.level_patch c.render_strips.new.level_patch = c.in_ok-counts.ensures.request in
+    let has = c.in_ok-counts.ensures.image images known right (c.in_ok-level_patch.ensures.none image box format) in
+    let source : source_of c.render_strips.new.level_patch ≡ c.unwrap-source.result =
+    sym (source-kept c.in_ok-level_patch.level_patch c.render_strips.new.level_patch one)
+    ∙ ap (λ (z : ℕ). unwrap_or (scaled z c.in_ok-level_patch.level_patch.rect) empty) c.in_ok-level_patch.ensures.level
+    ∙ ap (λ (r : Rectangle). unwrap_or (scaled c.args.level r) empty) c.in_ok-level_patch.ensures.rect
     ∙ ap (λ (o : Option Rectangle). unwrap_or o empty) (sym c.scaled.ensures.value ∙ c.unwrap-source.ensures) in
-    c.in_ok-patch.ensures.image image (subst (λ (s : Rectangle). HasStrips image (length (strip_rectangles s)) c.render_strips.new.drawn) (sym source) has)
-    ∙ ap (λ (z : ℕ). cut (level image z) c.render_strips.new.drawn.rect) (one.at_level ∙ c.in_ok-drawn.ensures.level)
-    ∙ ap (cut (level image c.args.level)) (one.rect ∙ c.in_ok-drawn.ensures.rect)
+    c.in_ok-patch.ensures.image image (subst (λ (s : Rectangle). HasStrips image (length (strip_rectangles s)) c.render_strips.new.level_patch) (sym source) has)
+    ∙ ap (λ (z : ℕ). cut (level image z) c.render_strips.new.level_patch.rect) (one.at_level ∙ c.in_ok-level_patch.ensures.level)
+    ∙ ap (cut (level image c.args.level)) (one.rect ∙ c.in_ok-level_patch.ensures.rect)

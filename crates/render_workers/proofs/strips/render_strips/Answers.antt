@@ -199,7 +199,7 @@ loop-rect-preserved g c =
     let counts = c.in_ok-counts.counts in
     let does = c.in_ok-counts.ensures in
     let more : pairs_of meanings nodes node (take (i + 1) items) ≡ done ++ mine = pairs-more meanings nodes node items i r c.loop-rect-test.true c.rect-item.is in
-    let source : source_of c.loop-rect.drawn ≡ c.args.request = sym (c.requires.source ∙ source-kept c.args.drawn.now c.loop-rect.drawn invariant.request) in
+    let source : source_of c.loop-rect.level_patch ≡ c.args.request = sym (c.requires.source ∙ source-kept c.args.level_patch.now c.loop-rect.level_patch invariant.request) in
     record {
       looks = subst (λ (pairs : List Pair). LooksUp meanings nodes pairs (applied + counts.applied) (reused + counts.reused) first next before after) (sym more)
           (looks-both meanings nodes done mine applied reused counts.applied counts.reused first now next before mid after invariant.leaves invariant.looks does.looks);
@@ -208,7 +208,7 @@ loop-rect-preserved g c =
       sources_over = does.sources_over;
       cache_over = does.cache_over;
       valid = λ valid. does.valid (invariant.valid valid);
-      request = of-one c.args.drawn.now c.loop-rect.drawn c.add_part.new.drawn invariant.request does.request;
+      request = of-one c.args.level_patch.now c.loop-rect.level_patch c.add_part.new.level_patch invariant.request does.request;
       image = λ images known right has.
           does.image images (invariant.leaves.keeps.images ∙ known) (invariant.leaves.right images known right) i (invariant.image images known right has)
           (subst (λ (s : Rectangle). slice_get (strip_rectangles s) i ≡ Some r) (sym source) (item-found items c.args.request r i same c.loop-rect-test.true c.rect-item.is));
@@ -219,5 +219,5 @@ returns-clause-image g c = λ images known right has.
     let items = c.deref-rect-items.result.now in
     let same : items ≡ strip_rectangles c.args.request = c.deref-rect-items.ensures.value ∙ c.in_ok-rects.ensures in
     let all : c.loop-rect.rect-index ≡ length (strip_rectangles c.args.request) = omega (arith, c.loop-rect-test.false, c.loop-rect.auto.rect-index-end, ap length same) in
-    subst (λ (k : ℕ). HasStrips (image_at g.K.Op.OpMeaning.meanings c.args.nodes.now images c.args.node) k c.loop-rect.drawn) all
+    subst (λ (k : ℕ). HasStrips (image_at g.K.Op.OpMeaning.meanings c.args.nodes.now images c.args.node) k c.loop-rect.level_patch) all
     (c.loop-rect.invariant.image images known right has)

@@ -20,8 +20,8 @@ invariant-loop-rect g l =
       sources_over : g.S.SourceTiles.is_over l.sources (g.H.ChainMeaning.held l.chain);
       cache_over : g.C.PairStore.is_over l.cache (g.H.ChainMeaning.held l.chain);
       valid : g.H.ChainMeaning.is_valid l.fn.chain → g.H.ChainMeaning.is_valid l.chain;
-      request : AreOfOne l.fn.drawn l.drawn;
+      request : AreOfOne l.fn.level_patch l.level_patch;
       image : (images : Buffers) → g.S.SourceTiles.images l.fn.sources (g.H.ChainMeaning.held l.fn.chain) ≡ Some images
           → AreKnownRight meanings l.nodes images (g.C.PairStore.cached l.fn.cache (g.H.ChainMeaning.held l.fn.chain))
-          → HasStrips (image_at meanings l.nodes images l.node) 0 l.fn.drawn → HasStrips (image_at meanings l.nodes images l.node) l.rect-index l.drawn;
+          → HasStrips (image_at meanings l.nodes images l.node) 0 l.fn.level_patch → HasStrips (image_at meanings l.nodes images l.node) l.rect-index l.level_patch;
     }
