@@ -6,7 +6,7 @@ ghost use Rattle.test_roots.specs.Gray.{IsGray};
 
 use chain_handlers::TileChain;
 use pixel_formats::Format;
-use plane_rect::Rect;
+use plane_rect::{Rect, TileAt};
 use root_tiles::{Root, new_roots_are_blank, other_roots_are_unchanged};
 use std::alloc::Global;
 use std::process::Abort;
@@ -82,6 +82,45 @@ pub fn check<C: TileChain>(
     let part = root.part(chain, rect)?;
     assert!(rt; part.raw_bytes() == wanted);
     Ok(())
+}
+
+/// Checks the first bytes of the tile at the origin as it was put, and that its next byte is 0.
+pub fn check_put<C: TileChain>(
+    rt: &impl Abort,
+    root: &Root,
+    chain: &mut C,
+    wanted: &[u8],
+) -> Result<(), Fail>
+    requires { IsGray root.now (C.held chain.old) }
+    ensures { IsGray root.now (C.held chain.new) }
+{
+    let tile = root.put_tile(chain, TileAt::of(0, 0))?;
+    check_bytes(rt, tile.bytes(), wanted);
+    Ok(())
+}
+
+/// Checks the first bytes of the tile at the origin of a level, and that its next byte is 0.
+pub fn check_level<C: TileChain>(
+    rt: &impl Abort,
+    root: &mut Root,
+    chain: &mut C,
+    level: u32,
+    wanted: &[u8],
+) -> Result<(), Fail>
+    requires { IsGray root.old (C.held chain.old) }
+    ensures { IsGray root.new (C.held chain.new) }
+{
+    assert!(rt; level <= 8);
+    let tile = root.tile(chain, level, TileAt::of(0, 0))?;
+    check_bytes(rt, tile.bytes(), wanted);
+    Ok(())
+}
+
+/// Checks the first bytes of a tile, and that the next one is 0.
+pub fn check_bytes(rt: &impl Abort, bytes: &[u8], wanted: &[u8]) {
+    assert!(rt; wanted.len() < bytes.len());
+    assert!(rt; &bytes[..wanted.len()] == wanted);
+    assert!(rt; bytes[wanted.len()] == 0);
 }
 
 /// Shares a root, and gives the other one up.

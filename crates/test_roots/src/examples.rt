@@ -1,6 +1,6 @@
 //! Small examples, whose results are worked out by hand.
 
-use crate::calls::{check, fill, new_root, put, share_and_release};
+use crate::calls::{check, check_level, check_put, fill, new_root, put, share_and_release};
 use chain_handlers::TileChain;
 use std::alloc::Global;
 use std::process::Abort;
@@ -39,6 +39,28 @@ pub fn share_and_write<C: TileChain>(
     check(rt, &root, chain, [126, 0, 4, 1], &[9, 1, 2, 9])?;
     put(rt, &mut root, chain, [0, 0, 0, 0], &[])?;
     check(rt, &root, chain, [198, 0, 2, 1], &[9, 9])?;
+    root.release(chain);
+    Ok(())
+}
+
+/// Reads tiles of levels: each pixel is the mean of four, which are 10, 20, 30 and 40, and 30, 40, 50 and 64, and
+/// then 25 and 46 beside two zeros. A tile that is held is averaged again once one below it is written.
+pub fn read_levels<C: TileChain>(
+    rt: &impl Abort,
+    chain: &mut C,
+    alloc: Global,
+) -> Result<(), Fail> {
+    let mut root = new_root(chain, alloc, [0, 0, 130, 2]);
+    check_put(rt, &root, chain, &[])?;
+    check_level(rt, &mut root, chain, 1, &[])?;
+    put(rt, &mut root, chain, [0, 0, 4, 1], &[10, 20, 30, 40])?;
+    put(rt, &mut root, chain, [0, 1, 4, 1], &[30, 40, 50, 64])?;
+    check_put(rt, &root, chain, &[10, 20, 30, 40])?;
+    check_level(rt, &mut root, chain, 0, &[10, 20, 30, 40])?;
+    check_level(rt, &mut root, chain, 2, &[18])?;
+    check_level(rt, &mut root, chain, 1, &[25, 46])?;
+    put(rt, &mut root, chain, [0, 0, 1, 1], &[14])?;
+    check_level(rt, &mut root, chain, 1, &[26, 46])?;
     root.release(chain);
     Ok(())
 }

@@ -7,3 +7,7 @@ mod calls;
 mod examples;
 #[cfg(test)]
 mod tests;
+#[cfg(test)]
+mod view_examples;
+#[cfg(test)]
+mod views;

@@ -1,6 +1,7 @@
 //! Expected values are worked out by hand from the doc comments.
 
-use crate::examples::{share_and_write, write_over_borders};
+use crate::examples::{read_levels, share_and_write, write_over_borders};
+use crate::view_examples::{read_around_view, read_view};
 use chain_handlers::Chain;
 use outside_io::{SureSwap, SwapDisk};
 use std::alloc::Global;
@@ -29,4 +30,29 @@ fn share_over<D: SwapDisk>(rt: &impl Abort, alloc: Global, disk: &mut D) -> Resu
 fn a_shared_root_that_is_released_leaves_the_other(rt: HostRuntime) -> Result<(), Fail> {
     let mut disk = SureSwap::new(rt.alloc(), 16)?;
     share_over(&rt, rt.alloc(), &mut disk)
+}
+
+/// Reads over a chain of one tile in memory.
+fn read_over<D: SwapDisk>(rt: &impl Abort, alloc: Global, disk: &mut D) -> Result<(), Fail> {
+    let mut chain = Chain::new(alloc, disk, 256, 1)?;
+    read_levels(rt, &mut chain, alloc)
+}
+
+#[test]
+fn tiles_of_levels_are_means(rt: HostRuntime) -> Result<(), Fail> {
+    let mut disk = SureSwap::new(rt.alloc(), 256)?;
+    read_over(&rt, rt.alloc(), &mut disk)
+}
+
+/// Reads views over a chain of one tile in memory.
+fn read_views_over<D: SwapDisk>(rt: &impl Abort, alloc: Global, disk: &mut D) -> Result<(), Fail> {
+    let mut chain = Chain::new(alloc, disk, 256, 1)?;
+    read_view(rt, &mut chain, alloc)?;
+    read_around_view(rt, &mut chain, alloc)
+}
+
+#[test]
+fn views_have_levels_and_surroundings_of_their_own(rt: HostRuntime) -> Result<(), Fail> {
+    let mut disk = SureSwap::new(rt.alloc(), 256)?;
+    read_views_over(&rt, rt.alloc(), &mut disk)
 }

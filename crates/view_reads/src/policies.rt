@@ -22,10 +22,10 @@ use root_tiles::Root;
 use std::alloc::Global;
 use swap_store::SwapRefused;
 
-/// Returns a rectangle of a level of a view's own image, under a policy outside the level. It reads only that
-/// part of the level which the policy gives there. The images are unchanged,
-/// whatever it answers. Takes time in proportion to the rectangle and to these positions, and reads four tiles for
-/// each tile of a level that it makes.
+/// Returns a rectangle of a level of a view's own image, under a policy outside the level. It reads only the
+/// part of the level that the policy gives there; under `Loop` that is all of the columns, unless those of the
+/// rectangle are in one period, and so of the rows. The images are unchanged, whatever it answers. Takes time in
+/// proportion to the rectangle and to that part, and reads four tiles for each tile of a level that it makes.
 ///
 /// # Errors
 ///
