@@ -2,9 +2,9 @@ use Rattle.std.proofs.Common.{◌≡◌, ◌∙◌, List, [], ◌∷◌, ◌++�
 use Rattle.model_buffers.specs.BufferEdit.{edit_refused}
 use Rattle.model_buffers.specs.declared.edit.BufferEdit.TheVariants.{Create}
 use Rattle.model_buffers.specs.Layout.{TableLayout}
-use Rattle.root_tiles.specs.Roots.{RootTiles}
+use Rattle.root_tiles.specs.Roots.{RootTiles, empty_root}
 use Rattle.buffer_view.specs.BufferTables.{AreBuffersOver, BufferTable, IsBufferTable, buffers_names, table_of}
-use Rattle.buffer_view.proofs.Added.{created-new, names-created, over-created, shown-created, table-created}
+use Rattle.buffer_view.proofs.Added.{created-new, held_as, names-created, over-created, shown-created, table-created, with_new}
 use Rattle.buffer_view.proofs.Refusals.{exact-none, exact-some}
 use Rattle.buffer_view.proofs.buffers.Buffers.create.Goals as goal
 
@@ -36,68 +36,41 @@ create-requires-clause-carried_out c =
     let e = Create c.args.name c.args.format c.args.extent in
     ap (λ (l : TableLayout). edit_refused l e) c.reserve.ensures.layout ∙ sym (c.create_refused.ensures c.args.format c.args.extent) ∙ c.in_default.is
 
-pub invariant_of-self-2 : goal.invariant_of-self-2
-invariant_of-self-2 c =
-    let e = Create c.args.name c.args.format c.args.extent in
-    let now = c.args.self.now in
+is : (c : goal.After-push_reserved) → IsBufferTable c.args.self.now
+is c = subst IsBufferTable c.self.view_is c.self.invariant
+
+none : (c : goal.After-push_reserved) → edit_refused c.args.self.now.layout (Create c.args.name c.args.format c.args.extent) ≡ None
+none c =
+    ap (λ (b : BufferTable). edit_refused b.layout (Create c.args.name c.args.format c.args.extent)) (sym c.self.view_is)
+    ∙ sym (c.create_refused.ensures c.args.format c.args.extent) ∙ c.in_default.is
+
+-- the table with the new buffer
+after : (c : goal.After-push_reserved) → held_as c.create.new.self.layout c.push_reserved.new.self.items
+    ≡ with_new c.args.self.now (empty_root c.args.extent c.args.format) c.args.name c.args.extent
+after c =
     let old : BufferTable = record { layout = c.self.inside.layout.layout; roots = c.self.inside.roots.items } in
-    let is : IsBufferTable now = subst IsBufferTable c.self.view_is c.self.invariant in
-    let none : edit_refused now.layout e ≡ None =
-    ap (λ (b : BufferTable). edit_refused b.layout e) (sym c.self.view_is) ∙ sym (c.create_refused.ensures c.args.format c.args.extent) ∙ c.in_default.is in
     let more = c.push_reserved.ensures.items ∙ ap (λ (rs : List RootTiles). rs ++ c.new.result ∷ []) c.reserve-2.ensures.items in
-    let after = created-new old now c.self.view_is c.args.name c.args.format c.args.extent c.reserve.new.self.layout c.create.new.self.layout c.push_reserved.new.self.items c.new.result
-    c.reserve.ensures.layout c.create.ensures more c.new.ensures in
-    subst IsBufferTable (sym after) (table-created now is c.args.name c.args.format c.args.extent (c.first_column.ensures.rectangle, c.requires) none)
+    created-new old c.args.self.now c.self.view_is c.args.name c.args.format c.args.extent c.reserve.new.self.layout c.create.new.self.layout c.push_reserved.new.self.items c.new.result
+    c.reserve.ensures.layout c.create.ensures more c.new.ensures
+
+pub invariant_of-self-2 : goal.invariant_of-self-2
+invariant_of-self-2 c = subst IsBufferTable (sym (after c)) (table-created c.args.self.now (is c) c.args.name c.args.format c.args.extent (c.first_column.ensures.rectangle, c.requires) (none c))
 
 pub returns-clause-table : goal.returns-clause-table
-returns-clause-table c =
-    let e = Create c.args.name c.args.format c.args.extent in
-    let now = c.args.self.now in
-    let old : BufferTable = record { layout = c.self.inside.layout.layout; roots = c.self.inside.roots.items } in
-    let is : IsBufferTable now = subst IsBufferTable c.self.view_is c.self.invariant in
-    let none : edit_refused now.layout e ≡ None =
-    ap (λ (b : BufferTable). edit_refused b.layout e) (sym c.self.view_is) ∙ sym (c.create_refused.ensures c.args.format c.args.extent) ∙ c.in_default.is in
-    let more = c.push_reserved.ensures.items ∙ ap (λ (rs : List RootTiles). rs ++ c.new.result ∷ []) c.reserve-2.ensures.items in
-    let after = created-new old now c.self.view_is c.args.name c.args.format c.args.extent c.reserve.new.self.layout c.create.new.self.layout c.push_reserved.new.self.items c.new.result
-    c.reserve.ensures.layout c.create.ensures more c.new.ensures in
-    λ held. ap (λ (b : BufferTable). table_of b held) after ∙ shown-created now is c.args.name c.args.format c.args.extent (c.first_column.ensures.rectangle, c.requires) none held
+returns-clause-table c = λ held. ap (λ (b : BufferTable). table_of b held) (after c) ∙ shown-created c.args.self.now (is c) c.args.name c.args.format c.args.extent (c.first_column.ensures.rectangle, c.requires) (none c) held
 
 pub returns-clause-exact : goal.returns-clause-exact
 returns-clause-exact c =
-    let e = Create c.args.name c.args.format c.args.extent in
-    λ cause is. exact-none _ (edit_refused c.args.self.now.layout e) cause
-    (ap (λ (b : BufferTable). edit_refused b.layout e) (sym c.self.view_is) ∙ sym (c.create_refused.ensures c.args.format c.args.extent) ∙ c.in_default.is) is
+    λ cause given. exact-none _ (edit_refused c.args.self.now.layout (Create c.args.name c.args.format c.args.extent)) cause (none c) given
 
 pub returns-clause-carried_out : goal.returns-clause-carried_out
-returns-clause-carried_out c =
-    let e = Create c.args.name c.args.format c.args.extent in
-    ap (λ (b : BufferTable). edit_refused b.layout e) (sym c.self.view_is) ∙ sym (c.create_refused.ensures c.args.format c.args.extent) ∙ c.in_default.is
+returns-clause-carried_out c = none c
 
 pub returns-clause-over : goal.returns-clause-over
-returns-clause-over c =
-    let e = Create c.args.name c.args.format c.args.extent in
-    let now = c.args.self.now in
-    let old : BufferTable = record { layout = c.self.inside.layout.layout; roots = c.self.inside.roots.items } in
-    let is : IsBufferTable now = subst IsBufferTable c.self.view_is c.self.invariant in
-    let none : edit_refused now.layout e ≡ None =
-    ap (λ (b : BufferTable). edit_refused b.layout e) (sym c.self.view_is) ∙ sym (c.create_refused.ensures c.args.format c.args.extent) ∙ c.in_default.is in
-    let more = c.push_reserved.ensures.items ∙ ap (λ (rs : List RootTiles). rs ++ c.new.result ∷ []) c.reserve-2.ensures.items in
-    let after = created-new old now c.self.view_is c.args.name c.args.format c.args.extent c.reserve.new.self.layout c.create.new.self.layout c.push_reserved.new.self.items c.new.result
-    c.reserve.ensures.layout c.create.ensures more c.new.ensures in
-    λ held over.
-    subst (λ (b : BufferTable). AreBuffersOver b held) (sym after)
-    (over-created now is c.args.name c.args.format c.args.extent (c.first_column.ensures.rectangle, c.requires) none held
+returns-clause-over c = λ held over.
+    subst (λ (b : BufferTable). AreBuffersOver b held) (sym (after c))
+    (over-created c.args.self.now (is c) c.args.name c.args.format c.args.extent (c.first_column.ensures.rectangle, c.requires) (none c) held
     (c.new_roots_are_blank.ensures.over c.args.extent c.args.format held c.first_column.ensures.rectangle c.requires) over)
 
 pub returns-clause-names : goal.returns-clause-names
-returns-clause-names c =
-    let e = Create c.args.name c.args.format c.args.extent in
-    let now = c.args.self.now in
-    let old : BufferTable = record { layout = c.self.inside.layout.layout; roots = c.self.inside.roots.items } in
-    let is : IsBufferTable now = subst IsBufferTable c.self.view_is c.self.invariant in
-    let none : edit_refused now.layout e ≡ None =
-    ap (λ (b : BufferTable). edit_refused b.layout e) (sym c.self.view_is) ∙ sym (c.create_refused.ensures c.args.format c.args.extent) ∙ c.in_default.is in
-    let more = c.push_reserved.ensures.items ∙ ap (λ (rs : List RootTiles). rs ++ c.new.result ∷ []) c.reserve-2.ensures.items in
-    let after = created-new old now c.self.view_is c.args.name c.args.format c.args.extent c.reserve.new.self.layout c.create.new.self.layout c.push_reserved.new.self.items c.new.result
-    c.reserve.ensures.layout c.create.ensures more c.new.ensures in
-    ap buffers_names after ∙ names-created now is c.args.name c.args.format c.args.extent (c.first_column.ensures.rectangle, c.requires) none
+returns-clause-names c = ap buffers_names (after c) ∙ names-created c.args.self.now (is c) c.args.name c.args.format c.args.extent (c.first_column.ensures.rectangle, c.requires) (none c)

@@ -1,13 +1,14 @@
-use Rattle.std.proofs.Common.{rules, ◌≡◌, ◌∙◌, List, length, get_or, None, Some, ap, sym, subst, arith}
+use Rattle.std.proofs.Common.{◌<◌, ◌≡◌, ◌++◌, ◌∷◌, ◌∙◌, [], rules, List, length, get_or, None, Some, ap, sym, subst, arith}
 use Rattle.std.specs.Prelude.{vec_len}
 use Rattle.buffer_layouts.specs.Views.{root_view}
 use Rattle.chain_owners.specs.Owners.{Respects}
-use Rattle.model_buffers.specs.BufferEdit.{edit_refused}
+use Rattle.model_buffers.specs.BufferEdit.{edit_refused, layout_with}
 use Rattle.model_buffers.specs.declared.edit.BufferEdit.TheVariants.{Duplicate}
 use Rattle.root_tiles.specs.Roots.{IsRootOver, RootTiles}
 use Rattle.buffer_view.specs.BufferTables.{AreBuffersOver, BufferTable, IsBufferTable, buffers_names, table_of}
-use Rattle.buffer_view.proofs.Added.{duplicated-new, others-duplicated, over-duplicated, shown-duplicated, table-duplicated, target-below}
+use Rattle.buffer_view.proofs.Added.{duplicated-new, held_as, others-duplicated, over-duplicated, shown-duplicated, table-duplicated, target-below}
 use Rattle.buffer_view.proofs.RootLists.{All-at}
+use Rattle.buffer_view.proofs.buffers.Buffers.dup.Given
 use Rattle.buffer_view.proofs.buffers.Buffers.dup.Goals as goal
 
 pub index-requires : goal.index-requires
@@ -31,74 +32,50 @@ share-requires g c =
     sym (c.index.ensures ∙ ap (λ (rs : List RootTiles). get_or rs seen.root root) (c.reserve-2.ensures.items ∙ ap (λ (b : BufferTable). b.roots) c.self.view_is)) in
     All-at (λ (r : RootTiles). IsRootOver r (g.C.ChainMeaning.held c.args.chain.now)) seen.root now.roots root below here c.requires.roots
 
+-- the buffer is seen in the table as it was
+source : (g : Given.Over) (c : goal.After-push_reserved g) → root_view c.args.self.now.layout c.args.from ≡ Some c.in-Ok.view
+source g c = ap (λ (b : BufferTable). root_view b.layout c.args.from) (sym c.self.view_is) ∙ c.in-Ok.ensures.source
+
+none : (g : Given.Over) (c : goal.After-push_reserved g) → edit_refused c.args.self.now.layout (Duplicate c.args.name c.args.from) ≡ None
+none g c = ap (λ (b : BufferTable). edit_refused b.layout (Duplicate c.args.name c.args.from)) (sym c.self.view_is) ∙ c.in-Ok.ensures.carried_out
+
+below : (g : Given.Over) (c : goal.After-push_reserved g) → c.in-Ok.view.root < length c.args.self.now.roots
+below g c = target-below c.args.self.now c.requires.table c.args.from c.in-Ok.view (source g c)
+
+-- its root is there
+here : (g : Given.Over) (c : goal.After-push_reserved g) → get_or c.args.self.now.roots c.in-Ok.view.root c.index.result.now ≡ c.index.result.now
+here g c =
+    sym (c.index.ensures ∙ ap (λ (rs : List RootTiles). get_or rs c.in-Ok.view.root c.index.result.now) (c.reserve-2.ensures.items ∙ ap (λ (b : BufferTable). b.roots) c.self.view_is))
+
+-- the table with the duplicate
+after : (g : Given.Over) (c : goal.After-push_reserved g) → held_as c.duplicate.new.self.layout c.push_reserved.new.self.items
+    ≡ held_as (layout_with c.args.self.now.layout (Duplicate c.args.name c.args.from)) (c.args.self.now.roots ++ c.index.result.now ∷ [])
+after g c =
+    let old : BufferTable = record { layout = c.self.inside.layout.layout; roots = c.self.inside.roots.items } in
+    duplicated-new old c.args.self.now c.self.view_is c.args.name c.args.from c.reserve.new.self.layout c.duplicate.new.self.layout c.reserve-2.new.self.items
+    c.push_reserved.new.self.items c.index.result.now c.in_ok-shared.shared c.reserve.ensures.layout c.duplicate.ensures c.reserve-2.ensures.items c.push_reserved.ensures.items
+    c.in_ok-shared.ensures.root
+
 pub invariant_of-self-2 : goal.invariant_of-self-2
 invariant_of-self-2 g c =
-    let now = c.args.self.now in
-    let root = c.index.result.now in
-    let seen = c.in-Ok.view in
-    let source : root_view now.layout c.args.from ≡ Some seen = ap (λ (b : BufferTable). root_view b.layout c.args.from) (sym c.self.view_is) ∙ c.in-Ok.ensures.source in
-    let below = target-below now c.requires.table c.args.from seen source in
-    let here : get_or now.roots seen.root root ≡ root =
-    sym (c.index.ensures ∙ ap (λ (rs : List RootTiles). get_or rs seen.root root) (c.reserve-2.ensures.items ∙ ap (λ (b : BufferTable). b.roots) c.self.view_is)) in
-    let e = Duplicate c.args.name c.args.from in
-    let old : BufferTable = record { layout = c.self.inside.layout.layout; roots = c.self.inside.roots.items } in
-    let none : edit_refused now.layout e ≡ None = ap (λ (b : BufferTable). edit_refused b.layout e) (sym c.self.view_is) ∙ c.in-Ok.ensures.carried_out in
-    let first = g.C.ChainMeaning.held c.args.chain.now in
-    let last = g.C.ChainMeaning.held c.share.new.chain in
-    let after = duplicated-new old now c.self.view_is c.args.name c.args.from c.reserve.new.self.layout c.duplicate.new.self.layout c.reserve-2.new.self.items
-    c.push_reserved.new.self.items root c.in_ok-shared.shared c.reserve.ensures.layout c.duplicate.ensures c.reserve-2.ensures.items c.push_reserved.ensures.items c.in_ok-shared.ensures.root in
-    subst IsBufferTable (sym after) (table-duplicated now c.args.name c.args.from seen root first last c.requires source none below here c.share.ensures.content c.in_ok-shared.ensures.others c.share.ensures.over)
+    subst IsBufferTable (sym (after g c))
+    (table-duplicated c.args.self.now c.args.name c.args.from c.in-Ok.view c.index.result.now (g.C.ChainMeaning.held c.args.chain.now) (g.C.ChainMeaning.held c.share.new.chain)
+    c.requires (source g c) (none g c) (below g c) (here g c) c.share.ensures.content c.in_ok-shared.ensures.others c.share.ensures.over)
 
 pub returns-clause-table : goal.returns-clause-table
 returns-clause-table g c =
-    let now = c.args.self.now in
-    let root = c.index.result.now in
-    let seen = c.in-Ok.view in
-    let source : root_view now.layout c.args.from ≡ Some seen = ap (λ (b : BufferTable). root_view b.layout c.args.from) (sym c.self.view_is) ∙ c.in-Ok.ensures.source in
-    let below = target-below now c.requires.table c.args.from seen source in
-    let here : get_or now.roots seen.root root ≡ root =
-    sym (c.index.ensures ∙ ap (λ (rs : List RootTiles). get_or rs seen.root root) (c.reserve-2.ensures.items ∙ ap (λ (b : BufferTable). b.roots) c.self.view_is)) in
-    let e = Duplicate c.args.name c.args.from in
-    let old : BufferTable = record { layout = c.self.inside.layout.layout; roots = c.self.inside.roots.items } in
-    let none : edit_refused now.layout e ≡ None = ap (λ (b : BufferTable). edit_refused b.layout e) (sym c.self.view_is) ∙ c.in-Ok.ensures.carried_out in
-    let first = g.C.ChainMeaning.held c.args.chain.now in
-    let last = g.C.ChainMeaning.held c.share.new.chain in
-    let after = duplicated-new old now c.self.view_is c.args.name c.args.from c.reserve.new.self.layout c.duplicate.new.self.layout c.reserve-2.new.self.items
-    c.push_reserved.new.self.items root c.in_ok-shared.shared c.reserve.ensures.layout c.duplicate.ensures c.reserve-2.ensures.items c.push_reserved.ensures.items c.in_ok-shared.ensures.root in
-    ap (λ (b : BufferTable). table_of b last) after ∙ shown-duplicated now c.args.name c.args.from seen root first last c.requires source none below here c.share.ensures.content c.in_ok-shared.ensures.others c.share.ensures.over
+    ap (λ (b : BufferTable). table_of b (g.C.ChainMeaning.held c.share.new.chain)) (after g c)
+    ∙ shown-duplicated c.args.self.now c.args.name c.args.from c.in-Ok.view c.index.result.now (g.C.ChainMeaning.held c.args.chain.now) (g.C.ChainMeaning.held c.share.new.chain)
+    c.requires (source g c) (none g c) (below g c) (here g c) c.share.ensures.content c.in_ok-shared.ensures.others c.share.ensures.over
 
 pub returns-clause-over : goal.returns-clause-over
 returns-clause-over g c =
-    let now = c.args.self.now in
-    let root = c.index.result.now in
-    let seen = c.in-Ok.view in
-    let source : root_view now.layout c.args.from ≡ Some seen = ap (λ (b : BufferTable). root_view b.layout c.args.from) (sym c.self.view_is) ∙ c.in-Ok.ensures.source in
-    let below = target-below now c.requires.table c.args.from seen source in
-    let here : get_or now.roots seen.root root ≡ root =
-    sym (c.index.ensures ∙ ap (λ (rs : List RootTiles). get_or rs seen.root root) (c.reserve-2.ensures.items ∙ ap (λ (b : BufferTable). b.roots) c.self.view_is)) in
-    let e = Duplicate c.args.name c.args.from in
-    let old : BufferTable = record { layout = c.self.inside.layout.layout; roots = c.self.inside.roots.items } in
-    let none : edit_refused now.layout e ≡ None = ap (λ (b : BufferTable). edit_refused b.layout e) (sym c.self.view_is) ∙ c.in-Ok.ensures.carried_out in
-    let first = g.C.ChainMeaning.held c.args.chain.now in
-    let last = g.C.ChainMeaning.held c.share.new.chain in
-    let after = duplicated-new old now c.self.view_is c.args.name c.args.from c.reserve.new.self.layout c.duplicate.new.self.layout c.reserve-2.new.self.items
-    c.push_reserved.new.self.items root c.in_ok-shared.shared c.reserve.ensures.layout c.duplicate.ensures c.reserve-2.ensures.items c.push_reserved.ensures.items c.in_ok-shared.ensures.root in
-    subst (λ (b : BufferTable). AreBuffersOver b last) (sym after) (over-duplicated now c.args.name c.args.from seen root first last c.requires source none below here c.share.ensures.content c.in_ok-shared.ensures.others c.share.ensures.over)
+    subst (λ (b : BufferTable). AreBuffersOver b (g.C.ChainMeaning.held c.share.new.chain)) (sym (after g c))
+    (over-duplicated c.args.self.now c.args.name c.args.from c.in-Ok.view c.index.result.now (g.C.ChainMeaning.held c.args.chain.now) (g.C.ChainMeaning.held c.share.new.chain)
+    c.requires (source g c) (none g c) (below g c) (here g c) c.share.ensures.content c.in_ok-shared.ensures.others c.share.ensures.over)
 
 pub returns-clause-others : goal.returns-clause-others
 returns-clause-others g c =
-    let now = c.args.self.now in
-    let root = c.index.result.now in
-    let seen = c.in-Ok.view in
-    let source : root_view now.layout c.args.from ≡ Some seen = ap (λ (b : BufferTable). root_view b.layout c.args.from) (sym c.self.view_is) ∙ c.in-Ok.ensures.source in
-    let below = target-below now c.requires.table c.args.from seen source in
-    let here : get_or now.roots seen.root root ≡ root =
-    sym (c.index.ensures ∙ ap (λ (rs : List RootTiles). get_or rs seen.root root) (c.reserve-2.ensures.items ∙ ap (λ (b : BufferTable). b.roots) c.self.view_is)) in
-    let e = Duplicate c.args.name c.args.from in
-    let old : BufferTable = record { layout = c.self.inside.layout.layout; roots = c.self.inside.roots.items } in
-    let none : edit_refused now.layout e ≡ None = ap (λ (b : BufferTable). edit_refused b.layout e) (sym c.self.view_is) ∙ c.in-Ok.ensures.carried_out in
-    let first = g.C.ChainMeaning.held c.args.chain.now in
-    let last = g.C.ChainMeaning.held c.share.new.chain in
-    let after = duplicated-new old now c.self.view_is c.args.name c.args.from c.reserve.new.self.layout c.duplicate.new.self.layout c.reserve-2.new.self.items
-    c.push_reserved.new.self.items root c.in_ok-shared.shared c.reserve.ensures.layout c.duplicate.ensures c.reserve-2.ensures.items c.push_reserved.ensures.items c.in_ok-shared.ensures.root in
-    subst (λ (b : BufferTable). Respects first last (buffers_names now) (buffers_names b)) (sym after) (others-duplicated now c.args.name c.args.from seen root first last c.requires source none below here c.share.ensures.content c.in_ok-shared.ensures.others c.share.ensures.over)
+    subst (λ (b : BufferTable). Respects (g.C.ChainMeaning.held c.args.chain.now) (g.C.ChainMeaning.held c.share.new.chain) (buffers_names c.args.self.now) (buffers_names b)) (sym (after g c))
+    (others-duplicated c.args.self.now c.args.name c.args.from c.in-Ok.view c.index.result.now (g.C.ChainMeaning.held c.args.chain.now) (g.C.ChainMeaning.held c.share.new.chain)
+    c.requires (source g c) (none g c) (below g c) (here g c) c.share.ensures.content c.in_ok-shared.ensures.others c.share.ensures.over)

@@ -1,0 +1,63 @@
+//! Small examples, whose results are worked out by hand.
+
+use crate::calls::{check, fill, fill_refused, name, one_buffer, part, rect};
+use buffer_view::BufferRefused;
+use chain_handlers::{SwapRefused, TileChain};
+use std::alloc::Global;
+use std::process::Abort;
+use std::test::Fail;
+
+/// Duplicates a buffer, and writes to either one: the other is as it was.
+pub fn write_to_duplicates<C: TileChain>(
+    rt: &impl Abort,
+    chain: &mut C,
+    alloc: Global,
+) -> Result<(), Fail> {
+    let mut buffers = one_buffer(chain, alloc, "a", [0, 0, 100, 1])?;
+    fill(&mut buffers, chain, "a", [0, 0, 2, 1], 7)?;
+    buffers.dup(chain, name("b")?, name("a")?)?;
+    fill(&mut buffers, chain, "b", [0, 0, 1, 1], 8)?;
+    check(rt, &mut buffers, chain, "a", 0, 7)?;
+    check(rt, &mut buffers, chain, "b", 0, 8)?;
+    fill(&mut buffers, chain, "a", [1, 0, 1, 1], 9)?;
+    check(rt, &mut buffers, chain, "a", 1, 9)?;
+    check(rt, &mut buffers, chain, "b", 1, 7)?;
+    buffers.release(chain);
+    Ok(())
+}
+
+/// Makes a part that reaches past its parent, whose own samples alone it shows, puts bytes into the part, and
+/// copies a rectangle of it onto itself.
+pub fn write_to_parts<C: TileChain>(
+    rt: &impl Abort,
+    chain: &mut C,
+    alloc: Global,
+) -> Result<(), Fail> {
+    let mut buffers = one_buffer(chain, alloc, "a", [0, 0, 8, 1])?;
+    fill(&mut buffers, chain, "a", [0, 0, 8, 1], 5)?;
+    part(&mut buffers, "p", "a", [2, 0, 20, 1])?;
+    check(rt, &mut buffers, chain, "p", 1, 0)?;
+    check(rt, &mut buffers, chain, "p", 7, 5)?;
+    check(rt, &mut buffers, chain, "p", 8, 0)?;
+    buffers.put_raw(chain, name("p")?, rect([2, 0, 3, 1]), &[1, 2, 3])?;
+    check(rt, &mut buffers, chain, "a", 3, 2)?;
+    buffers.copy(chain, name("p")?, name("a")?, rect([2, 0, 3, 1]), 1, 0)?;
+    check(rt, &mut buffers, chain, "p", 3, 1)?;
+    check(rt, &mut buffers, chain, "p", 5, 3)?;
+    buffers.release(chain);
+    Ok(())
+}
+
+/// Fills over a disk whose first write fails: all is as it was, and the call is made again.
+pub fn fill_again<C: TileChain>(rt: &impl Abort, chain: &mut C, alloc: Global) -> Result<(), Fail> {
+    let failed = BufferRefused::Swap(SwapRefused::SwapFault);
+    let mut buffers = one_buffer(chain, alloc, "a", [0, 0, 130, 1])?;
+    fill(&mut buffers, chain, "a", [0, 0, 1, 1], 5)?;
+    fill_refused(rt, &mut buffers, chain, "a", [0, 0, 130, 1], &[9], failed)?;
+    check(rt, &mut buffers, chain, "a", 0, 5)?;
+    check(rt, &mut buffers, chain, "a", 1, 0)?;
+    fill(&mut buffers, chain, "a", [0, 0, 130, 1], 9)?;
+    check(rt, &mut buffers, chain, "a", 1, 9)?;
+    buffers.release(chain);
+    Ok(())
+}

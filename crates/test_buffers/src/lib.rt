@@ -1,0 +1,11 @@
+//! Tables of buffers: small examples over chains.
+#![tactic(auto)]
+
+#[cfg(test)]
+mod calls;
+#[cfg(test)]
+mod examples;
+#[cfg(test)]
+mod refusals;
+#[cfg(test)]
+mod tests;

@@ -1,0 +1,72 @@
+//! Refused edits, each cause before those that come later.
+
+use crate::calls::{fill_refused, name, one_buffer, rect};
+use buffer_layouts::EditRefused;
+use buffer_view::{BufferRefused, Buffers};
+use chain_handlers::TileChain;
+use pixel_formats::Format;
+use plane_rect::Name;
+use std::alloc::Global;
+use std::process::Abort;
+use std::test::Fail;
+
+/// The words of as many buffers as a table may have are made of a letter and of these.
+const DIGITS: [u8; 8] = *b"01234567";
+
+/// Adds a buffer for each of 64 names.
+fn fill_table(buffers: &mut Buffers) -> Result<(), Fail> {
+    for high in DIGITS {
+        for low in DIGITS {
+            let name = Name::parse(&[b'n', high, low]).ok_or("a name")?;
+            buffers.create(name, Format::Y8, rect([0, 0, 1, 1]))?;
+        }
+    }
+    Ok(())
+}
+
+/// Adds buffers to a table of 64: a taken name is reported before the number, and an unknown parent before
+/// the name.
+pub fn add_too_many(rt: &impl Abort, alloc: Global) -> Result<(), Fail> {
+    let mut buffers = Buffers::new(alloc);
+    fill_table(&mut buffers)?;
+    let extent = rect([0, 0, 1, 1]);
+    let answer = buffers.create(name("n00")?, Format::Y8, extent);
+    assert_eq!(rt; answer, Err(BufferRefused::Edit(EditRefused::NameTaken)));
+    let answer = buffers.create(name("m")?, Format::Y8, extent);
+    assert_eq!(rt;
+        answer,
+        Err(BufferRefused::Edit(EditRefused::TooManyBuffers))
+    );
+    let answer = buffers.sub(name("n00")?, name("m")?, extent);
+    assert_eq!(rt;
+        answer,
+        Err(BufferRefused::Edit(EditRefused::UnknownBuffer))
+    );
+    assert_eq!(rt; buffers.facts().len(), 64);
+    Ok(())
+}
+
+/// Writes to a buffer where that is refused.
+pub fn write_refused<C: TileChain>(
+    rt: &impl Abort,
+    chain: &mut C,
+    alloc: Global,
+) -> Result<(), Fail> {
+    let mut buffers = one_buffer(chain, alloc, "a", [0, 0, 4, 1])?;
+    let unknown = BufferRefused::Edit(EditRefused::UnknownBuffer);
+    fill_refused(rt, &mut buffers, chain, "b", [0, 0, 9, 1], &[], unknown)?;
+    let outside = BufferRefused::Edit(EditRefused::OutOfBounds);
+    fill_refused(rt, &mut buffers, chain, "a", [0, 0, 9, 1], &[], outside)?;
+    let formats = BufferRefused::Edit(EditRefused::Formats);
+    fill_refused(rt, &mut buffers, chain, "a", [0, 0, 4, 1], &[256], formats)?;
+    let answer = buffers.put_raw(chain, name("a")?, rect([0, 0, 4, 1]), &[1, 2, 3]);
+    let size = EditRefused::WrongSize {
+        found: 3,
+        wanted: 4,
+    };
+    assert_eq!(rt; answer, Err(BufferRefused::Edit(size)));
+    let answer = buffers.copy(chain, name("a")?, name("a")?, rect([0, 0, 4, 1]), 1, 0);
+    assert_eq!(rt; answer, Err(outside));
+    buffers.release(chain);
+    Ok(())
+}
