@@ -16,10 +16,11 @@ use Rattle.model_images.specs.Image.{Image}
 use Rattle.model_images.specs.Paint.{painted}
 use Rattle.plane_rect.specs.Rectangle.{Rectangle}
 use Rattle.root_tiles.specs.Roots.{IsRootOver, RootTiles, root_image, root_names, root_shape}
+use Rattle.buffer_view.specs.BufferLaws.{IsSameOver, images-same}
 use Rattle.buffer_view.specs.BufferTables.{AreBuffersOver, BufferTable, IsBufferTable, buffers_names, image_over, images_over, names_of_roots, table_of}
 use Rattle.buffer_view.proofs.RootLists.{All-set, All-without, names-set, names-without, set-same, shapes-set, without}
-use Rattle.buffer_view.proofs.Beside.{IsSameOver, images-beside, roots-beside}
-use Rattle.buffer_view.proofs.Shown.{images-same, known-both}
+use Rattle.buffer_view.proofs.Beside.{images-beside, roots-beside}
+use Rattle.buffer_view.proofs.Shown.{known-both}
 
 -- ---- an entry of a list by its number
 

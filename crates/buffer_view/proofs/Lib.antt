@@ -10,3 +10,4 @@ pub mod Sharing
 pub mod Added
 pub mod Refusals
 pub mod Copies
+pub mod Reading

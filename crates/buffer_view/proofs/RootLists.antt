@@ -8,6 +8,7 @@ use Rattle.chain_owners.specs.Owners.{times}
 use Rattle.chain_owners.proofs.Ownership.{times-append}
 use Rattle.model_graphs.specs.Shapes.{Shape}
 use Rattle.root_tiles.specs.Roots.{RootTiles, root_names, root_shape}
+use Rattle.buffer_view.specs.BufferLaws.{All-first, All-rest}
 use Rattle.buffer_view.specs.BufferTables.{names_of_roots}
 
 -- ---- lists without one of their elements
@@ -18,22 +19,16 @@ without zero (x ∷ xs) = xs
 without (suc n) (x ∷ xs) = x ∷ without n xs
 
 module _ {X : Type 0} (P : X → Type 0) where
-  pub All-first : (x : X) (xs : List X) → All P (x ∷ xs) → P x
-  All-first x xs all = all 0 x (omega arith)
-
-  pub All-rest : (x : X) (xs : List X) → All P (x ∷ xs) → All P xs
-  All-rest x xs all = λ k d below. all (suc k) d (omega (arith, below))
-
   pub All-without : (n : ℕ) (xs : List X) → All P xs → All P (without n xs)
   All-without n [] all = all
-  All-without zero (x ∷ xs) all = All-rest x xs all
-  All-without (suc n) (x ∷ xs) all = All-cons P x (without n xs) (All-first x xs all) (All-without n xs (All-rest x xs all))
+  All-without zero (x ∷ xs) all = All-rest P x xs all
+  All-without (suc n) (x ∷ xs) all = All-cons P x (without n xs) (All-first P x xs all) (All-without n xs (All-rest P x xs all))
 
   pub All-set : (n : ℕ) (xs : List X) (y : X) → All P (without n xs) → P y → All P (set xs n y)
   All-set n [] y all new = All-nil P
   All-set zero (x ∷ xs) y all new = All-cons P y xs new all
   All-set (suc n) (x ∷ xs) y all new =
-      All-cons P x (set xs n y) (All-first x (without n xs) all) (All-set n xs y (All-rest x (without n xs) all) new)
+      All-cons P x (set xs n y) (All-first P x (without n xs) all) (All-set n xs y (All-rest P x (without n xs) all) new)
 
   pub All-at : (n : ℕ) (xs : List X) (x : X) → n < length xs → get_or xs n x ≡ x → All P xs → P x
   All-at n xs x below is all = subst P is (all n x below)

@@ -10,10 +10,11 @@ use Rattle.chain_owners.proofs.Ownership.{others-own, owns-fewer, respects-besid
 use Rattle.root_tiles.specs.Chains.{ChainState}
 use Rattle.root_tiles.specs.Roots.{IsRootOver, RootTiles, root_names}
 use Rattle.root_tiles.proofs.ChainReads.{grows-both, grows-same}
+use Rattle.buffer_view.specs.BufferLaws.{All-first, All-rest}
 use Rattle.buffer_view.specs.BufferTables.{AreBuffersOver, BufferTable, names_of_roots}
 use Rattle.buffer_view.specs.Shares.{Shares}
 use Rattle.buffer_view.proofs.Beside.{roots-beside}
-use Rattle.buffer_view.proofs.RootLists.{All-first, All-rest, All-set, All-without, names-append, names-without, set-same, without}
+use Rattle.buffer_view.proofs.RootLists.{All-set, All-without, names-append, names-without, set-same, without}
 
 -- one of some roots is shared
 module _ (roots : List RootTiles) (n : ℕ) (root : RootTiles) (old new : Held) (below : n < length roots) (here : get_or roots n root ≡ root)

@@ -1,5 +1,5 @@
 -- What tables of buffers show over chains.
-use Rattle.std.proofs.Common.{◌≡◌, ℕ, List, [], ◌∷◌, ◌++◌, All, map, Option, Some, None, is_some, true≢false, refl, sym, ap, ◌∙◌}
+use Rattle.std.proofs.Common.{◌≡◌, ℕ, List, [], ◌∷◌, ◌++◌, map, Option, Some, None, is_some, true≢false, refl, sym, ap, ◌∙◌}
 use Rattle.std.specs.Option.{option_map}
 use Rattle.chain_owners.specs.Held.{Held}
 use Rattle.chain_owners.specs.Values.{Named}
@@ -7,9 +7,9 @@ use Rattle.model_buffers.specs.Table.{Table}
 use Rattle.model_graphs.specs.Shapes.{Shape}
 use Rattle.model_images.specs.Image.{Image}
 use Rattle.root_tiles.specs.Roots.{RootTiles, root_shape}
+use Rattle.buffer_view.specs.BufferLaws.{known-same}
 use Rattle.buffer_view.specs.BufferTables.{BufferTable, image_over, images_over, table_of}
-use Rattle.buffer_view.proofs.RootLists.{All-first, All-rest, entry_shape}
-use Rattle.buffer_view.proofs.Beside.{IsSameOver}
+use Rattle.buffer_view.proofs.RootLists.{entry_shape}
 
 -- ---- what is known where the bytes of a chain are exposed
 
@@ -22,22 +22,7 @@ known-both None (Some y) a c b d g h same first then = absurd (true≢false (sym
 known-both (Some x) None a c b d g h same first then = absurd (true≢false same)
 known-both (Some x) (Some y) a c b d g h same first then = let is : a ≡ g c = cc in ap Some (then is)
 
-pub known-same : {X Y W : Type 0} (o : Option X) (p : Option Y) (b d : W) → is_some o ≡ is_some p → b ≡ d
-    → option_map (λ (x : X). b) o ≡ option_map (λ (y : Y). d) p
-known-same None None b d same is = refl
-known-same None (Some y) b d same is = absurd (true≢false (sym same))
-known-same (Some x) None b d same is = absurd (true≢false same)
-known-same (Some x) (Some y) b d same is = ap Some is
-
 -- ---- images by their names
-
-pub images-same : (old new : Held) (entries : List (List ℕ × Shape)) (roots : List RootTiles) → All (IsSameOver old new) roots
-    → images_over new entries roots ≡ images_over old entries roots
-images-same old new [] roots all = refl
-images-same old new (entry ∷ entries) [] all = refl
-images-same old new (entry ∷ entries) (root ∷ roots) all =
-    ap (λ (image : Image). (entry.0, image) ∷ images_over new entries roots) (All-first (IsSameOver old new) root roots all)
-    ∙ ap (λ (rest : List (List ℕ × Image)). (entry.0, image_over old root) ∷ rest) (images-same old new entries roots (All-rest (IsSameOver old new) root roots all))
 
 pub images-added : (held : Held) (entries : List (List ℕ × Shape)) (roots : List RootTiles) (name : List ℕ) (shape : Shape) (root : RootTiles)
     → map root_shape roots ≡ map entry_shape entries

@@ -6,9 +6,11 @@ use Rattle.chain_owners.specs.Owners.{Owns}
 use Rattle.level_tables.specs.LevelTiles.{bytes_in}
 use Rattle.model_buffers.specs.Layout.{IsLayout, TableLayout}
 use Rattle.model_buffers.specs.Table.{Table}
+use Rattle.model_graphs.specs.Evaluation.{Buffers}
 use Rattle.model_graphs.specs.Shapes.{Shape}
 use Rattle.model_images.specs.Image.{Image}
 use Rattle.model_images.specs.Tiles.{held_image}
+use Rattle.model_sessions.specs.Tables.{table_images}
 use Rattle.root_tiles.specs.Roots.{IsRootOver, RootTiles, root_names, root_shape}
 
 -- a layout, and the tiles of its roots in their order
@@ -39,6 +41,10 @@ images_over held (entry ∷ entries) (root ∷ roots) = (entry.0, image_over hel
 abbrev pub table_of : BufferTable → Held → Option Table
 table_of buffers held =
     option_map (λ _. record { roots = images_over held buffers.layout.roots buffers.roots; buffers = buffers.layout.buffers }) held.content
+
+-- the images of the buffers, by their names
+abbrev pub buffer_images : BufferTable → Held → Option Buffers
+buffer_images buffers held = option_map table_images (table_of buffers held)
 
 -- the names of a chain that roots hold, each as often as it is held
 abbrev pub names_of_roots : List RootTiles → List ℕ

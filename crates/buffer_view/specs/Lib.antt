@@ -1,4 +1,5 @@
 pub mod BufferTables
+pub mod BufferLaws
 pub mod Causes
 pub mod Written
 pub mod Shares

@@ -9,6 +9,7 @@ mod edits;
 mod laws;
 mod refused;
 mod shares;
+mod sources;
 mod writing;
 mod written;
 

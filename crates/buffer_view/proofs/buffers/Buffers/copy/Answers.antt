@@ -16,10 +16,11 @@ use Rattle.model_images.specs.Paint.{cut}
 use Rattle.model_images.specs.Raw.{raw}
 use Rattle.model_images.specs.TileCounts.{tile_count}
 use Rattle.root_tiles.proofs.ChainReads.{refused-after}
+use Rattle.buffer_view.specs.BufferLaws.{layout-shown}
 use Rattle.buffer_view.specs.BufferTables.{AreBuffersOver, BufferTable, images_over, table_of}
 use Rattle.buffer_view.proofs.Copies.{copy-shown, source-can, target-can}
 use Rattle.buffer_view.proofs.Refusals.{exact-none, grows-after, swap-cause}
-use Rattle.buffer_view.proofs.Tables.{is-table, layout-shown}
+use Rattle.buffer_view.proofs.Tables.{is-table}
 use Rattle.buffer_view.proofs.buffers.Buffers.copy.Goals as goal
 
 pub read-requires-clause-inside : goal.read-requires-clause-inside

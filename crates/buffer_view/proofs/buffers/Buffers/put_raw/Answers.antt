@@ -2,8 +2,8 @@ use Rattle.std.proofs.Common.{◌≡◌, ◌∙◌, None, Some, ap, sym}
 use Rattle.buffer_layouts.specs.Views.{root_view}
 use Rattle.model_buffers.specs.BufferEdit.{edit_refused}
 use Rattle.model_buffers.specs.declared.edit.BufferEdit.TheVariants.{Put}
+use Rattle.buffer_view.specs.BufferLaws.{layout-shown}
 use Rattle.buffer_view.specs.BufferTables.{BufferTable, images_over}
-use Rattle.buffer_view.proofs.Tables.{layout-shown}
 use Rattle.buffer_view.proofs.Targets.{put-can, put-shown}
 use Rattle.buffer_view.proofs.buffers.Buffers.put_raw.Goals as goal
 

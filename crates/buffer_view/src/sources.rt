@@ -1,0 +1,64 @@
+//! Buffers as a source of tiles.
+
+ghost use Rattle.std.specs.Prelude.{IfErr, IfOk, IsSome};
+ghost use Rattle.model_buffers.specs.Layout.{facts_of};
+ghost use Rattle.model_graphs.specs.Facts.{fact_of};
+ghost use Rattle.op_contracts.specs.Sources.{HasBufferLength, IsTileOf};
+ghost use Rattle.root_tiles.specs.Chains.{IsRead};
+ghost use Rattle.swap_store.specs.Cause.{HasSwapCause};
+ghost use Rattle.buffer_view.specs.BufferLaws.{buffers_exposed, buffers_framed, buffers_framed_condition};
+ghost use Rattle.buffer_view.specs.BufferTables.{AreBuffersOver, buffer_images, buffers_names};
+
+use crate::buffers::Buffers;
+use chain_contracts::TileChain;
+use op_contracts::SourceTiles;
+use plane_rect::{Name, TileAt};
+use swap_store::SwapRefused;
+use tile_cow::Tile;
+use view_reads::view_tile;
+
+impl Buffers {
+    /// Returns the 64 by 64 pixels of a tile of a buffer, zero outside the buffer's box.
+    fn buffer_tile<C: TileChain>(
+        &self,
+        chain: &mut C,
+        buffer: Name,
+        at: TileAt,
+    ) -> Result<Tile, SwapRefused>
+        requires over { AreBuffersOver self.now (C.held chain.old) }
+        requires known { IsSome (fact_of (facts_of self.now.layout) buffer) }
+        ensures bytes { IfOk result (IsTileOf (buffer_images self.now (C.held chain.old)) buffer at) }
+        ensures length { IfOk result (HasBufferLength (facts_of self.now.layout) buffer) }
+        ensures cause { IfErr result (HasSwapCause (C.counts chain.old) (C.counts chain.new) (C.counts chain.old).names) }
+        ensures read { IsRead
+            (record { held = C.held chain.old; counts = C.counts chain.old; loans = C.loans chain.old; valid = C.is_valid chain.old })
+            (record { held = C.held chain.new; counts = C.counts chain.new; loans = C.loans chain.new; valid = C.is_valid chain.new }) }
+    {
+        let view = self.layout.view(buffer).unwrap();
+        // `first_column` is called for its clause that the extent is a rectangle of the plane.
+        let _ = view.extent.first_column();
+        view_tile(&self.roots[view.root], chain, view.extent, at)
+    }
+}
+
+impl<C: TileChain> SourceTiles<C> for Buffers {
+    ghost facts = { λ buffers. facts_of buffers.layout };
+
+    ghost images = { λ buffers held. buffer_images buffers held };
+
+    ghost names = { λ buffers. buffers_names buffers };
+
+    ghost is_over = { λ buffers held. AreBuffersOver buffers held };
+
+    fn tile(&mut self, chain: &mut C, buffer: Name, at: TileAt) -> Result<Tile, SwapRefused> {
+        self.buffer_tile(chain, buffer, at)
+    }
+
+    ghost framed = { λ buffers. buffers_framed buffers };
+
+    ghost framed_condition = { λ buffers. buffers_framed_condition buffers };
+
+    ghost owned = { λ buffers held over. over.owned };
+
+    ghost exposed = { λ buffers held. buffers_exposed buffers held };
+}
