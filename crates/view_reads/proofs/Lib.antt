@@ -4,3 +4,4 @@ pub mod Sources
 pub mod LevelParts
 pub mod Growing
 pub mod ReadParts
+pub mod LoopParts

@@ -1,36 +1,68 @@
 -- Parts of images by which alone rectangles can be read under a policy.
-use Rattle.std.proofs.Common.{◌≡◌, ℕ, zero, suc, ◌+◌, ◌-◌, ◌<◌, ◌≤◌, false, max, min, refl, sym, ap, subst, ◌∙◌, arith}
+use Rattle.std.proofs.Common.{◌≡◌, ℕ, zero, suc, ◌+◌, ◌-◌, ◌*◌, ◌<◌, ◌≤◌, false, max, min, refl, sym, ap, subst, ◌∙◌, arith}
 use Rattle.std.specs.Prelude.{IfSome}
 use Rattle.std.proofs.lemmas.Bool.Decides.{nat_tests}
-use Rattle.plane_rect.specs.Rectangle.{InLimits, Includes, Inside, IsRectangle, Rectangle, empty, end_column, end_row, is_empty, meet, spanning}
+use Rattle.plane_rect.specs.Rectangle.{InLimits, Includes, Inside, IsRectangle, Rectangle, area, empty, end_column, end_row, is_empty, meet, spanning}
 use Rattle.plane_rect.proofs.Moved.{halved-positions}
 use Rattle.plane_rect.proofs.RectangleLaws.{IsRectangle-empty, IsRectangle-spanning}
 use Rattle.plane_rect.proofs.Rectangles.{Inside-meet, Inside-spanning, rectangle-some}
 use Rattle.pixel_formats.specs.declared.abyss.Abyss.{Abyss}
 use Rattle.pixel_formats.specs.declared.abyss.Abyss.TheVariants.{Black, Clamp, Loop, None, White}
 use Rattle.pixel_formats.specs.declared.format.Format.{Format}
-use Rattle.model_images.specs.Abyss.{abyss_at, nearest, outside_at, wrapped}
+use Rattle.model_images.specs.Abyss.{abyss_at, nearest, outside_at}
 use Rattle.model_images.specs.Image.{Image, IsImage, at, image_from_fn}
 use Rattle.model_images.specs.Level.{level, level_box}
 use Rattle.model_images.specs.Paint.{cut}
-use Rattle.model_images.proofs.Agreeing.{at-cut, cut-wider}
+use Rattle.model_images.proofs.Agreeing.{at-cut}
 use Rattle.model_images.proofs.AgreeingLevels.{level-box}
 use Rattle.model_images.proofs.Laws.{generated_equal, image_from_fn-at}
 use Rattle.model_images.proofs.LevelLaws.{InLimits-halved, level-format}
-use Rattle.model_images.proofs.PolicyLaws.{abyss_at-inside, abyss_at-outside, clamp-empty, clamp-everywhere, clamp-position, loop-everywhere}
+use Rattle.model_images.proofs.PolicyLaws.{abyss_at-inside, abyss_at-outside, clamp-empty, clamp-everywhere, clamp-position, loop-empty}
 use Rattle.model_images.proofs.Positions.{by_positions}
 use Rattle.chain_owners.specs.Held.{Held}
 use Rattle.level_tables.proofs.Counting.{box-is}
 use Rattle.root_tiles.specs.Roots.{RootTiles}
-use Rattle.view_reads.specs.Needed.{IsEnough}
+use Rattle.view_reads.specs.Needed.{IsEnough, moved}
+use Rattle.view_reads.specs.declared.policies.Source.{Source}
 use Rattle.view_reads.specs.Views.{view_image}
 use Rattle.view_reads.proofs.Cuts.{limits-part}
 use Rattle.view_reads.proofs.ViewTiles.{IsView, both-known, view-known}
 
+-- a part of a box has, for each image over the box, the samples that a policy gives in a rectangle
+pub record IsPart (policy : Abyss) (box r part : Rectangle) : Type 0 where
+  pub rectangle : IsRectangle box → IsRectangle part
+  pub inside : Includes box part
+  pub samples : (image : Image) (u v c : ℕ) → image.box ≡ box → Inside u v r → abyss_at (cut image part) policy u v c ≡ abyss_at image policy u v c
+
+-- a part where it is
+moved-own : (image : Image) (box : Rectangle) → moved (cut image box) box ≡ cut image box
+moved-own image box =
+    generated_equal box image.format (λ u v. at (cut image box) (u - box.first_column + box.first_column) (v - box.first_row + box.first_row)) (at image)
+    (λ u v c there few.
+    let column : u - box.first_column + box.first_column ≡ u = omega (arith, there.column) in
+    let row : v - box.first_row + box.first_row ≡ v = omega (arith, there.row) in
+    ap (λ (m : ℕ). at (cut image box) m (v - box.first_row + box.first_row) c) column
+    ∙ ap (λ (n : ℕ). at (cut image box) u n c) row
+    ∙ at-cut image box u v c there)
+
+pub in-place : (policy : Abyss) (box r part : Rectangle) (source : Source) → source.part ≡ part → source.placed ≡ part → IsPart policy box r part
+    → IsEnough policy box r source
+in-place policy box r part source from to is = record {
+  rectangle = λ is_box. subst IsRectangle (sym from) (is.rectangle is_box);
+  inside = subst (λ (q : Rectangle). Includes box q) (sym from) is.inside;
+  width = ap (λ (q : Rectangle). q.width) to ∙ sym (ap (λ (q : Rectangle). q.width) from);
+  height = ap (λ (q : Rectangle). q.height) to ∙ sym (ap (λ (q : Rectangle). q.height) from);
+  samples = λ image u v c over there few.
+      ap (λ (q : Rectangle). abyss_at (moved (cut image q) source.placed) policy u v c) from
+      ∙ ap (λ (q : Rectangle). abyss_at (moved (cut image part) q) policy u v c) to
+      ∙ ap (λ (i : Image). abyss_at i policy u v c) (moved-own image part)
+      ∙ is.samples image u v c over there;
+}
+
 -- ---- what needs the common positions alone
 
 meet-enough : (policy : Abyss) (box r : Rectangle)
-    → ((image : Image) (part : Rectangle) (u v c : ℕ) → outside_at (cut image part) policy u v c ≡ outside_at image policy u v c) → IsEnough policy box r (meet r box)
+    → ((image : Image) (part : Rectangle) (u v c : ℕ) → outside_at (cut image part) policy u v c ≡ outside_at image policy u v c) → IsPart policy box r (meet r box)
 meet-enough policy box r same = record {
   rectangle = λ is.
       IsRectangle-spanning (max r.first_column box.first_column) (max r.first_row box.first_row) (min (end_column r) (end_column box)) (min (end_row r) (end_row box))
@@ -48,31 +80,14 @@ meet-enough policy box r same = record {
       ∙ sym (abyss_at-outside image policy u v c (λ in_image. out (subst (λ (b : Rectangle). Inside u v b) over in_image))));
 }
 
-pub none-enough : (box r : Rectangle) → IsEnough None box r (meet r box)
+pub none-enough : (box r : Rectangle) → IsPart None box r (meet r box)
 none-enough box r = meet-enough None box r (λ image part u v c. refl)
 
-pub black-enough : (box r : Rectangle) → IsEnough Black box r (meet r box)
+pub black-enough : (box r : Rectangle) → IsPart Black box r (meet r box)
 black-enough box r = meet-enough Black box r (λ image part u v c. refl)
 
-pub white-enough : (box r : Rectangle) → IsEnough White box r (meet r box)
+pub white-enough : (box r : Rectangle) → IsPart White box r (meet r box)
 white-enough box r = meet-enough White box r (λ image part u v c. refl)
-
--- ---- the whole box
-
-pub loop-enough : (box r : Rectangle) → IsEnough Loop box r box
-loop-enough box r = record {
-  rectangle = λ is. is;
-  inside = λ u v there. there;
-  samples = λ image u v c over there. whole image u v c over;
-}
-  where
-    whole : (image : Image) (u v c : ℕ) → image.box ≡ box → abyss_at (cut image box) Loop u v c ≡ abyss_at image Loop u v c
-    whole image u v c over =
-        subst (λ (b : Rectangle). abyss_at (cut image b) Loop u v c ≡ abyss_at image Loop u v c) over
-        (loop-everywhere (cut image image.box) u v c
-        ∙ (cut-wider image image.box (λ m n there. there)).samples
-        (wrapped image.box.first_column image.box.width u) (wrapped image.box.first_row image.box.height v) c
-        ∙ sym (loop-everywhere image u v c))
 
 -- ---- the nearest positions
 
@@ -143,8 +158,8 @@ module _ (box r part : Rectangle) (wide : 0 < box.width) (high : 0 < box.height)
       same_side : (start len n : ℕ) → nearest start (start + len - start) n ≡ nearest start len n
       same_side start len n = ap (λ (m : ℕ). nearest start m n) (omega arith)
 
-  pub clamp-enough : IsEnough Clamp box r part
-  clamp-enough = subst (IsEnough Clamp box r) (sym is) (record {
+  pub clamp-enough : IsPart Clamp box r part
+  clamp-enough = subst (IsPart Clamp box r) (sym is) (record {
     rectangle = λ is_box. IsRectangle-spanning first_column first_row end_of_columns end_of_rows
         (omega (arith, wide, is_box.columns)) (omega (arith, high, is_box.rows));
     inside = inside-spanned;
@@ -155,8 +170,8 @@ no-inside : (u v : ℕ) → ¬ Inside u v empty
 no-inside u v there = omega (arith, there.column)
 
 -- nothing is read of a box of no position
-pub empty-box-enough : (box r : Rectangle) → box ≡ empty → IsEnough Clamp box r empty
-empty-box-enough box r none = record {
+pub empty-box-clamp : (box r : Rectangle) → box ≡ empty → IsPart Clamp box r empty
+empty-box-clamp box r none = record {
   rectangle = λ is. IsRectangle-empty;
   inside = λ u v there. absurd (no-inside u v there);
   samples = λ image u v c over there.
@@ -164,9 +179,18 @@ empty-box-enough box r none = record {
       ∙ sym (clamp-empty image (λ m n in_image. no-inside m n (subst (λ (b : Rectangle). Inside m n b) (over ∙ none) in_image)) u v c);
 }
 
+pub empty-box-loop : (box r : Rectangle) → box ≡ empty → IsPart Loop box r empty
+empty-box-loop box r none = record {
+  rectangle = λ is. IsRectangle-empty;
+  inside = λ u v there. absurd (no-inside u v there);
+  samples = λ image u v c over there.
+      loop-empty (cut image empty) no-inside u v c
+      ∙ sym (loop-empty image (λ m n in_image. no-inside m n (subst (λ (b : Rectangle). Inside m n b) (over ∙ none) in_image)) u v c);
+}
+
 -- nothing is read for a rectangle of no position
-pub empty-enough : (box r : Rectangle) → r ≡ empty → IsEnough Clamp box r empty
-empty-enough box r none = record {
+pub empty-enough : (policy : Abyss) (box r : Rectangle) → r ≡ empty → IsPart policy box r empty
+empty-enough policy box r none = record {
   rectangle = λ is. IsRectangle-empty;
   inside = λ u v there. absurd (no-inside u v there);
   samples = λ image u v c over there. absurd (no-inside u v (subst (λ (b : Rectangle). Inside u v b) none there));
@@ -178,25 +202,31 @@ limits-level : (box : Rectangle) (z : ℕ) → IsRectangle box → InLimits box 
 limits-level box zero is limits = limits
 limits-level box (suc z) is limits = InLimits-halved (level_box box z) (box-is box z is) (limits-level box z is limits)
 
-pub needed-limits : (policy : Abyss) (whole extent r part : Rectangle) (z : ℕ) → InLimits whole → Includes whole extent → IsRectangle extent
-    → IsEnough policy (level_box extent z) r part → InLimits part
-needed-limits policy whole extent r part z limits inside is enough =
-    limits-part (level_box extent z) part (enough.rectangle (box-is extent z is)) enough.inside
+pub needed-limits : (policy : Abyss) (whole extent r : Rectangle) (source : Source) (z : ℕ) → InLimits whole → Includes whole extent → IsRectangle extent
+    → IsEnough policy (level_box extent z) r source → InLimits source.part
+needed-limits policy whole extent r source z limits inside is enough =
+    limits-part (level_box extent z) source.part (enough.rectangle (box-is extent z is)) enough.inside
     (limits-level extent z is (limits-part whole extent is inside limits))
 
-pub read-exact : (root : RootTiles) (extent : Rectangle) (held : Held) (z : ℕ) (policy : Abyss) (r needed : Rectangle) (part patch : Image)
-    → IsEnough policy (level_box extent z) r needed → IfSome (view_image root extent held) (λ known. part ≡ cut (level known z) needed)
-    → patch ≡ image_from_fn r part.format (abyss_at part policy)
+-- so is where it is put
+pub placed-limits : (part placed : Rectangle) → placed.width ≡ part.width → placed.height ≡ part.height → InLimits part → InLimits placed
+placed-limits part placed wide high limits =
+    let same : area placed ≡ area part = ap (λ (n : ℕ). n * placed.height) wide ∙ ap (λ (n : ℕ). part.width * n) high in
+    (omega (arith, wide, limits), omega (arith, high, limits), omega (arith, same, limits))
+
+pub read-exact : (root : RootTiles) (extent : Rectangle) (held : Held) (z : ℕ) (policy : Abyss) (r : Rectangle) (source : Source) (part patch : Image)
+    → IsEnough policy (level_box extent z) r source → IfSome (view_image root extent held) (λ known. part ≡ cut (level known z) source.part)
+    → patch ≡ image_from_fn r (moved part source.placed).format (abyss_at (moved part source.placed) policy)
     → IfSome (view_image root extent held) (λ known. patch ≡ image_from_fn r known.format (abyss_at (level known z) policy))
-read-exact root extent held z policy r needed part patch enough exact is =
-    both-known (view_image root extent held) (IsView extent root.tiles.format) (λ known. part ≡ cut (level known z) needed)
+read-exact root extent held z policy r source part patch enough exact is =
+    both-known (view_image root extent held) (IsView extent root.tiles.format) (λ known. part ≡ cut (level known z) source.part)
     (λ known. patch ≡ image_from_fn r known.format (abyss_at (level known z) policy))
     (λ known view same.
     is
-    ∙ ap (λ (i : Image). image_from_fn r i.format (abyss_at i policy)) same
-    ∙ ap (λ (f : Format). image_from_fn r f (abyss_at (cut (level known z) needed) policy)) (level-format known z)
-    ∙ generated_equal r known.format (abyss_at (cut (level known z) needed) policy) (abyss_at (level known z) policy)
-    (λ u v c there few. enough.samples (level known z) u v c (level-box known z ∙ ap (λ (b : Rectangle). level_box b z) view.box) there))
+    ∙ ap (λ (i : Image). image_from_fn r i.format (abyss_at (moved i source.placed) policy)) same
+    ∙ generated_equal r (level known z).format (abyss_at (moved (cut (level known z) source.part) source.placed) policy) (abyss_at (level known z) policy)
+    (λ u v c there few. enough.samples (level known z) u v c (level-box known z ∙ ap (λ (b : Rectangle). level_box b z) view.box) there few)
+    ∙ ap (λ (f : Format). image_from_fn r f (abyss_at (level known z) policy)) (level-format known z))
     (view-known root extent held) exact
 
 -- a part is what any policy gives over its own box

@@ -2,14 +2,14 @@
 
 ghost use Rattle.std.specs.Prelude.{◌≡◌, ℕ, ◌+◌, ◌-◌, ◌<◌, ◌≤◌, IfErr, IfOk, max, min};
 ghost use Rattle.level_tables.specs.Over.{max_level};
-ghost use Rattle.model_images.specs.Abyss.{abyss_at};
+ghost use Rattle.model_images.specs.Abyss.{abyss_at, wrapped};
 ghost use Rattle.model_images.specs.Image.{image_from_fn};
 ghost use Rattle.model_images.specs.TileCounts.{level_tiles};
-ghost use Rattle.plane_rect.specs.Rectangle.{InLimits, Includes, IsRectangle};
+ghost use Rattle.plane_rect.specs.Rectangle.{InLimits, Includes, IsRectangle, Within, plane_side};
 ghost use Rattle.swap_store.specs.Cause.{HasSwapCause};
 ghost use Rattle.root_tiles.specs.Growth.{HoldsMoreTiles, root_state};
 ghost use Rattle.root_tiles.specs.Roots.{HasShape, IsRootOver, part_shape};
-ghost use Rattle.view_reads.specs.Needed.{IsEnough};
+ghost use Rattle.view_reads.specs.Needed.{IsEnough, IsLoopSide, moved};
 ghost use Rattle.view_reads.specs.Views.{IsReadOfLevel, view_image};
 
 use crate::levels::level_part;
@@ -22,8 +22,8 @@ use root_tiles::Root;
 use std::alloc::Global;
 use swap_store::SwapRefused;
 
-/// Returns a rectangle of a level of a view's own image, under a policy outside the level. It reads only those
-/// positions of the level that the policy gives there, or all of them under `Loop`. The images are unchanged,
+/// Returns a rectangle of a level of a view's own image, under a policy outside the level. It reads only that
+/// part of the level which the policy gives there. The images are unchanged,
 /// whatever it answers. Takes time in proportion to the rectangle and to these positions, and reads four tiles for
 /// each tile of a level that it makes.
 ///
@@ -55,10 +55,22 @@ pub fn get<C: TileChain>(
     ensures loans { C.loans chain.new ≡ C.loans chain.old }
     ensures valid { C.is_valid chain.old → C.is_valid chain.new }
 {
-    let needed = needed(abyss, level_box(extent, level), rect);
-    let part = level_part(root, chain, extent, level, needed)?;
-    let read = under_policy(root.allocator(), part, abyss, rect)?;
+    let source = needed(abyss, level_box(extent, level), rect);
+    let part = level_part(root, chain, extent, level, source.part)?;
+    let placed = put_at(part, source.placed);
+    let read = under_policy(root.allocator(), placed, abyss, rect)?;
     Ok(read)
+}
+
+/// Returns a part with its pixels in their order at another rectangle of its size, without a copy.
+fn put_at(part: Patch, placed: Rect) -> Patch
+    requires width { placed.width ≡ part.box.width }
+    requires height { placed.height ≡ part.box.height }
+    requires limits { InLimits placed }
+    ensures { result ≡ moved part placed }
+{
+    let format = part.format();
+    Patch::from_vec(placed, format, part.into_raw())
 }
 
 /// Returns the samples of a rectangle under a policy outside a part.
@@ -72,32 +84,49 @@ fn under_policy(alloc: Global, part: Patch, abyss: Abyss, rect: Rect) -> Result<
     fetch(alloc, &part, abyss, rect)
 }
 
+/// A part of a box, and the rectangle of its size at which its pixels are looked at.
+#[derive(Clone, Copy)]
+pub(crate) struct Source {
+    pub part: Rect,
+    pub placed: Rect,
+}
+
+impl Source {
+    /// Returns a part that stays where it is.
+    fn in_place(part: Rect) -> Source
+        ensures part { result.part ≡ part }
+        ensures placed { result.placed ≡ part }
+    {
+        Source { part, placed: part }
+    }
+}
+
 /// Returns a part of a box by which alone a rectangle can be read under a policy.
-fn needed(abyss: Abyss, bounds: Rect, rect: Rect) -> Rect
+fn needed(abyss: Abyss, bounds: Rect, rect: Rect) -> Source
     ensures { IsEnough abyss bounds rect result }
 {
     match abyss {
-        Abyss::None | Abyss::Black | Abyss::White => rect.meet(&bounds),
+        Abyss::None | Abyss::Black | Abyss::White => Source::in_place(rect.meet(&bounds)),
         Abyss::Clamp => clamped(bounds, rect),
-        Abyss::Loop => bounds,
+        Abyss::Loop => looped(bounds, rect),
     }
 }
 
 /// Returns the smallest rectangle of the positions of a box that are nearest to those of a rectangle.
-fn clamped(bounds: Rect, rect: Rect) -> Rect
+fn clamped(bounds: Rect, rect: Rect) -> Source
     ensures { IsEnough Abyss.Clamp bounds rect result }
 {
     if rect.is_empty() || bounds.is_empty() {
-        return Rect::EMPTY;
+        return Source::in_place(Rect::EMPTY);
     }
     let (first_column, end_column) = (bounds.first_column(), bounds.end_column());
     let (first_row, end_row) = (bounds.first_row(), bounds.end_row());
-    Rect::spanning(
+    Source::in_place(Rect::spanning(
         nearest(first_column, end_column, rect.first_column()),
         nearest(first_row, end_row, rect.first_row()),
         nearest(first_column, end_column, rect.end_column() - 1) + 1,
         nearest(first_row, end_row, rect.end_row() - 1) + 1,
-    )
+    ))
 }
 
 /// Returns the number from a start to before an end that is nearest to another.
@@ -107,4 +136,101 @@ fn nearest(start: u32, end: u32, n: u32) -> u32
     ensures below { result < end }
 {
     n.min(end - 1).max(start)
+}
+
+/// Returns the columns and the rows of a box of which a rectangle has a period in one piece, put at the rectangle,
+/// and else all of them.
+fn looped(bounds: Rect, rect: Rect) -> Source
+    ensures { IsEnough Abyss.Loop bounds rect result }
+{
+    if rect.is_empty() || bounds.is_empty() {
+        return Source::in_place(Rect::EMPTY);
+    }
+    let (columns, rows) = (loop_columns(&bounds, &rect), loop_rows(&bounds, &rect));
+    Source {
+        part: Rect::spanning(
+            columns.from,
+            rows.from,
+            columns.from + columns.count,
+            rows.from + rows.count,
+        ),
+        placed: Rect::spanning(
+            columns.to,
+            rows.to,
+            columns.to + columns.count,
+            rows.to + rows.count,
+        ),
+    }
+}
+
+/// So many columns or rows from one on, put at others from another on.
+#[derive(Clone, Copy)]
+pub(crate) struct Side {
+    pub from: u32,
+    pub to: u32,
+    pub count: u32,
+}
+
+/// Returns the columns of a box that a rectangle reads periodically.
+fn loop_columns(bounds: &Rect, rect: &Rect) -> Side
+    requires some { 0 < bounds.now.width }
+    requires few { 0 < rect.now.width }
+    ensures { IsLoopSide bounds.now.first_column bounds.now.width rect.now.first_column rect.now.width result }
+{
+    loop_side(
+        bounds.first_column(),
+        bounds.end_column() - bounds.first_column(),
+        rect.first_column(),
+        rect.end_column() - rect.first_column(),
+    )
+}
+
+/// Returns the rows of a box that a rectangle reads periodically.
+fn loop_rows(bounds: &Rect, rect: &Rect) -> Side
+    requires some { 0 < bounds.now.height }
+    requires few { 0 < rect.now.height }
+    ensures { IsLoopSide bounds.now.first_row bounds.now.height rect.now.first_row rect.now.height result }
+{
+    loop_side(
+        bounds.first_row(),
+        bounds.end_row() - bounds.first_row(),
+        rect.first_row(),
+        rect.end_row() - rect.first_row(),
+    )
+}
+
+/// Returns the part of `len` columns or rows from `start` on that `count` of them from `first` on read
+/// periodically: all of them, unless the others are in one period.
+fn loop_side(start: u32, len: u32, first: u32, count: u32) -> Side
+    requires some { 0 < len }
+    requires few { 0 < count }
+    requires plane { start + len ≤ plane_side }
+    requires other_plane { first + count ≤ plane_side }
+    ensures { IsLoopSide start len first count result }
+{
+    let from = wrapped(start, len, first);
+    if from + count <= start + len {
+        return Side {
+            from,
+            to: first,
+            count,
+        };
+    }
+    Side {
+        from: start,
+        to: start,
+        count: len,
+    }
+}
+
+/// Returns, of the `len` numbers from `start` on, the one that is a whole multiple of `len` away from a number.
+fn wrapped(start: u32, len: u32, number: u32) -> u32
+    requires some { 0 < len }
+    requires plane { start + len ≤ plane_side }
+    ensures value { result ≡ wrapped start len number }
+    ensures within { Within start len result }
+{
+    let (first, period) = (u64::from(start), u64::from(len));
+    let shifted = u64::from(number) + first * period - first;
+    start + (shifted % period) as u32
 }

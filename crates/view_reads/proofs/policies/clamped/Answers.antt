@@ -1,15 +1,18 @@
 use Rattle.std.proofs.Common.{◌≡◌, ◌+◌, ◌-◌, ◌∙◌, sym}
-use Rattle.plane_rect.specs.Rectangle.{end_column, end_row, spanning}
-use Rattle.view_reads.proofs.ReadParts.{clamp-enough, empty-box-enough, empty-enough, side_end, side_start, some-sides}
+use Rattle.pixel_formats.specs.declared.abyss.Abyss.TheVariants.{Clamp}
+use Rattle.plane_rect.specs.Rectangle.{empty, end_column, end_row, spanning}
+use Rattle.view_reads.proofs.ReadParts.{clamp-enough, empty-box-clamp, empty-enough, in-place, side_end, side_start, some-sides}
 use Rattle.view_reads.proofs.policies.clamped.Goals as goal
 use Rattle.view_reads.proofs.policies.clamped.Goals.{then-is_empty-via-then-is_empty, then-is_empty-via-else-is_empty+then-is_empty-2}
 
 pub returns-then-is_empty : goal.returns-then-is_empty
-returns-then-is_empty c = elim c.then-is_empty.branch [
-  | then-is_empty-via-then-is_empty w ↦ empty-enough c.args.bounds c.args.rect (c.is_empty.ensures.empty.0 w.if-is_empty.true)
-  | then-is_empty-via-else-is_empty+then-is_empty-2 w ↦
-      empty-box-enough c.args.bounds c.args.rect (w.is_empty-else-is_empty.ensures.empty.0 w.if-is_empty-2.true)
-]
+returns-then-is_empty c =
+    in-place Clamp c.args.bounds c.args.rect empty c.in_place.result c.in_place.ensures.part c.in_place.ensures.placed
+    (elim c.then-is_empty.branch [
+      | then-is_empty-via-then-is_empty w ↦ empty-enough Clamp c.args.bounds c.args.rect (c.is_empty.ensures.empty.0 w.if-is_empty.true)
+      | then-is_empty-via-else-is_empty+then-is_empty-2 w ↦
+          empty-box-clamp c.args.bounds c.args.rect (w.is_empty-else-is_empty.ensures.empty.0 w.if-is_empty-2.true)
+    ])
 
 pub returns : goal.returns
 returns c =
@@ -32,4 +35,5 @@ returns c =
       c.end_column.ensures.value,
       c.end_row.ensures.value,
     ) at c.spanning.ensures in
-    clamp-enough box r c.spanning.result some.0 some.1 is
+    in-place Clamp box r c.spanning.result c.in_place-2.result c.in_place-2.ensures.part c.in_place-2.ensures.placed
+    (clamp-enough box r c.spanning.result some.0 some.1 is)
