@@ -11,3 +11,5 @@ pub mod Added
 pub mod Refusals
 pub mod Copies
 pub mod Reading
+pub mod RootReads
+pub mod FrozenParts

@@ -3,3 +3,5 @@ pub mod BufferLaws
 pub mod Causes
 pub mod Written
 pub mod Shares
+pub mod Reads
+pub mod Freezing
