@@ -1,6 +1,6 @@
 //! Calls on buffers of gray pixels, by words and rectangles of four numbers.
 
-ghost use Rattle.std.specs.Prelude.{◌≡◌, IfOk};
+ghost use Rattle.std.specs.Prelude.{◌≡◌, ◌≤◌, IfOk};
 ghost use Rattle.chain_owners.specs.Held.{Held};
 ghost use Rattle.plane_rect.specs.Rectangle.{InLimits};
 ghost use Rattle.buffer_view.specs.BufferTables.{AreBuffersOver};
@@ -8,7 +8,7 @@ ghost use Rattle.buffer_view.specs.BufferTables.{AreBuffersOver};
 use buffer_view::{BufferRefused, Buffers, no_buffers_ask_nothing};
 use chain_handlers::TileChain;
 use op_contracts::SourceTiles;
-use pixel_formats::Format;
+use pixel_formats::{Abyss, Format};
 use plane_rect::{Name, Rect, TileAt};
 use std::alloc::Global;
 use std::process::Abort;
@@ -110,5 +110,25 @@ pub fn check<C: TileChain>(
     assert!(rt; buffers.fact(name).is_some());
     let tile = buffers.tile(chain, name, TileAt::of(0, 0))?;
     assert_eq!(rt; tile.bytes().get(index).copied(), Some(wanted));
+    Ok(())
+}
+
+/// Checks the bytes of a rectangle of a level of a buffer, read under a policy.
+pub fn check_level<C: TileChain>(
+    rt: &impl Abort,
+    buffers: &mut Buffers,
+    chain: &mut C,
+    word: &str,
+    level: u32,
+    abyss: Abyss,
+    fields: [i64; 4],
+    wanted: &[u8],
+) -> Result<(), Fail>
+    requires over { AreBuffersOver buffers.old (C.held chain.old) }
+    requires level { level ≤ 8 }
+    ensures { AreBuffersOver buffers.new (C.held chain.new) }
+{
+    let patch = buffers.get(chain, name(word)?, level, abyss, rect(fields))?;
+    assert_eq!(rt; patch.raw_bytes(), wanted);
     Ok(())
 }

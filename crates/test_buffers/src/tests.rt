@@ -1,6 +1,6 @@
 //! Expected values are worked out by hand from the doc comments.
 
-use crate::examples::{fill_again, write_to_duplicates, write_to_parts};
+use crate::examples::{fill_again, freeze_parts, read_levels, write_to_duplicates, write_to_parts};
 use crate::refusals::{add_too_many, write_refused};
 use chain_handlers::Chain;
 use outside_io::{MemSwap, SureSwap, SwapDisk};
@@ -45,4 +45,17 @@ fn the_first_cause_is_reported(rt: HostRuntime) -> Result<(), Fail> {
     let mut disk = SureSwap::new(rt.alloc(), 16)?;
     add_too_many(&rt, rt.alloc())?;
     refuse_over(&rt, rt.alloc(), &mut disk)
+}
+
+/// Reads levels and freezes parts over a chain of one tile in memory.
+fn read_over<D: SwapDisk>(rt: &impl Abort, alloc: Global, disk: &mut D) -> Result<(), Fail> {
+    let mut chain = Chain::new(alloc, disk, 16, 1)?;
+    read_levels(rt, &mut chain, alloc)?;
+    freeze_parts(rt, &mut chain, alloc)
+}
+
+#[test]
+fn levels_are_read_and_parts_frozen(rt: HostRuntime) -> Result<(), Fail> {
+    let mut disk = SureSwap::new(rt.alloc(), 16)?;
+    read_over(&rt, rt.alloc(), &mut disk)
 }
