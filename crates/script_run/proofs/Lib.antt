@@ -1,4 +1,3 @@
-mod Leaving
 mod Statuses
 mod Rasters
 mod Loads

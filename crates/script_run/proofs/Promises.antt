@@ -16,7 +16,7 @@ use Rattle.model_runs.specs.declared.ending.End.TheVariants as ends
 use Rattle.run_texts.specs.Events.{Event, Outcome, Puts, Refusal, Writes}
 use Rattle.run_texts.specs.World.{World, LeavesSome, after, after_all}
 use Rattle.run_texts.proofs.Leaving.{some_weaker}
-use Rattle.script_run.specs.Causes.{Counts, HasCause}
+use Rattle.run_events.specs.Causes.{Counts, HasCause}
 use Rattle.script_run.proofs.Statuses.{may_tear_at}
 use Rattle.script_run.proofs.Unwatched.{plan_unwatched}
 

@@ -1,5 +1,4 @@
 pub mod Loading
-pub mod Causes
 pub use Rattle.outside_io.specs.Files
 pub use Rattle.outside_io.specs.Faults
 pub use Rattle.run_texts.specs.World

@@ -14,17 +14,18 @@ ghost use Rattle.model_runs.specs.declared.stage.Stage.TheVariants as stages;
 ghost use Rattle.script_read.specs.IsScript.{IsScript};
 ghost use Rattle.script_read.specs.Limits.{IsInLimits};
 ghost use Rattle.script_read.specs.declared.command.Line.{Line as LineData};
-ghost use Rattle.script_run.specs.Causes.{HasCause};
+ghost use Rattle.run_events.specs.Causes.{HasCause};
 ghost use Rattle.script_run.specs.Loading.{loads, loads_bytes, loads_found, render_events, renders};
 ghost use Rattle.run_texts.specs.Events.{Puts, Writes, events_alone, refusal};
 ghost use Rattle.run_texts.specs.Texts.{render_text as text_of_render};
 
 use crate::images::inverted;
 use model_runs::End;
-use outside_io::{Shelf, ShelfAnswer, Sink, SinkAnswer};
+use outside_io::{Shelf, ShelfAnswer, Sink};
 use patch_abyss::Patch;
 use plane_rect::Rect;
-use run_texts::{Cause, refusal_text, render_text};
+use run_events::{put_text, refuse, write_file};
+use run_texts::{Cause, render_text};
 use script_read::{Command, FileName, Line};
 use std::alloc::Global;
 
@@ -194,7 +195,7 @@ fn render<F: Shelf, O: Sink>(
 {
     let part = image.part(alloc, *rect)?;
     let bytes = part.raw_bytes();
-    write(bytes, file, shelf)?;
+    write_file(bytes, file, shelf)?;
     report_render(alloc, line, bytes.len(), out)
 }
 
@@ -206,47 +207,5 @@ fn report_render<O: Sink>(alloc: Global, line: u32, bytes: usize, out: &mut O) -
         (record { reads = reads; writes = writes; puts = O.faults out.old }) (record { reads = reads; writes = writes; puts = O.faults out.new }) }
 {
     let text = render_text(alloc, line, FIRST_COMMIT, bytes)?;
-    put(&text, out)
-}
-
-/// Makes a file hold these bytes.
-fn write<F: Shelf>(bytes: &[u8], file: &FileName, shelf: &mut F) -> Result<(), End>
-    ensures leaves { (text : Option (List ℕ)) → Leaves (events_alone (Writes file.now bytes.now ∷ [])) result
-        (record { files = F.files shelf.old; text = text }) (record { files = F.files shelf.new; text = text }) }
-    ensures cause { (puts : ℕ) → HasCause result
-        (record { reads = F.read_faults shelf.old; writes = F.write_faults shelf.old; puts = puts })
-        (record { reads = F.read_faults shelf.new; writes = F.write_faults shelf.new; puts = puts }) }
-{
-    match shelf.write(file.as_str(), bytes) {
-        Ok(()) => Ok(()),
-        Err(ShelfAnswer::Failed) => Err(End::WriteFault),
-        Err(ShelfAnswer::NoMemory) => Err(End::NoMemory),
-        Err(ShelfAnswer::Absent | ShelfAnswer::TooLong { .. }) => unreachable!(),
-    }
-}
-
-/// Ends a run at a line that is refused, and puts its text.
-pub fn refuse<O: Sink>(alloc: Global, line: u32, cause: Cause, out: &mut O) -> Result<(), End>
-    ensures leaves { (files : Option Files) → Leaves (refusal line cause) result
-        (record { files = files; text = O.written out.old }) (record { files = files; text = O.written out.new }) }
-    ensures cause { (reads writes : ℕ) → HasCause result
-        (record { reads = reads; writes = writes; puts = O.faults out.old }) (record { reads = reads; writes = writes; puts = O.faults out.new }) }
-{
-    let text = refusal_text(alloc, line, cause)?;
-    put(&text, out)?;
-    Err(End::Refused)
-}
-
-/// Puts a text.
-fn put<O: Sink>(text: &str, out: &mut O) -> Result<(), End>
-    ensures leaves { (files : Option Files) → Leaves (events_alone (Puts text.now ∷ [])) result
-        (record { files = files; text = O.written out.old }) (record { files = files; text = O.written out.new }) }
-    ensures cause { (reads writes : ℕ) → HasCause result
-        (record { reads = reads; writes = writes; puts = O.faults out.old }) (record { reads = reads; writes = writes; puts = O.faults out.new }) }
-{
-    match out.put(text.as_bytes()) {
-        Ok(()) => Ok(()),
-        Err(SinkAnswer::Failed) => Err(End::OutputFault),
-        Err(SinkAnswer::NoMemory) => Err(End::NoMemory),
-    }
+    put_text(&text, out)
 }

@@ -11,14 +11,15 @@ ghost use Rattle.model_runs.specs.Ending.{Leaves, end_status};
 ghost use Rattle.model_runs.specs.Ran.{NoneFalls, Ran};
 ghost use Rattle.model_runs.specs.Run.{by_grammar, lines_of_file};
 ghost use Rattle.model_runs.specs.State.{Numbers};
-ghost use Rattle.script_run.specs.Causes.{HasCause};
+ghost use Rattle.run_events.specs.Causes.{HasCause};
 
 use crate::built::first_unbuilt;
-use crate::carry_out::{carry_out, refuse};
+use crate::carry_out::carry_out;
 use crate::words::script_of;
 use model_runs::{End, status_of};
 use outside_io::{Gate, Shelf, ShelfAnswer, Sink, SwapDisk};
 use pixel_formats::limits::MAX_SCRIPT_BYTES;
+use run_events::refuse;
 use run_texts::Cause;
 use script_read::{Line, ScriptAnswer, ScriptCause, read_script};
 use std::alloc::Global;

@@ -4,7 +4,7 @@ use Rattle.std.proofs.lemmas.List.Elements.{All-drop}
 use Rattle.script_read.specs.Limits.{IsInLimits}
 use Rattle.script_read.specs.declared.command.Line.{Line}
 use Rattle.script_run.proofs.Carrying.{carries_out_load, carries_out_none, script_limits}
-use Rattle.script_run.proofs.Leaving.{Leaves-same_outcome, nothing_left, exposed_any, exposed_same}
+use Rattle.run_events.proofs.Leaving.{Leaves-same_outcome, nothing_left, exposed_any, exposed_same}
 use Rattle.script_run.proofs.carry_out.carry_out.Goals as goal
 
 pub returns-in_default-clause-leaves : goal.returns-in_default-clause-leaves

@@ -2,7 +2,7 @@ use Rattle.std.proofs.Common.{◌≡◌, Some, ap}
 use Rattle.outside_io.specs.Files.{file}
 use Rattle.script_run.specs.Loading.{loads_bytes, loads_found}
 use Rattle.script_run.proofs.Loads.{absent, too_long}
-use Rattle.script_run.proofs.Leaving.{Leaves-same_files, nothing_done, nothing_read, exposed_outcome, exposed_any}
+use Rattle.run_events.proofs.Leaving.{Leaves-same_files, nothing_done, nothing_read, exposed_outcome, exposed_any}
 use Rattle.script_run.proofs.carry_out.load.Goals as goal
 
 pub returns-in-Err-TooLong-clause-leaves : goal.returns-in-Err-TooLong-clause-leaves

@@ -7,7 +7,7 @@ use Rattle.model_images.specs.Paint.{inverted_image}
 use Rattle.run_texts.specs.Events.{refusal}
 use Rattle.run_texts.specs.declared.cause.Cause.TheVariants.{WrongSize}
 use Rattle.script_run.specs.Loading.{renders}
-use Rattle.script_run.proofs.Leaving.{Leaves-same_end, Leaves-same_outcome, nothing_done-end}
+use Rattle.run_events.proofs.Leaving.{Leaves-same_end, Leaves-same_outcome, nothing_done-end}
 use Rattle.script_run.proofs.carry_out.load_bytes.Goals as goal
 
 pub returns-then-bytes-area-clause-leaves : goal.returns-then-bytes-area-clause-leaves

@@ -2,7 +2,7 @@ use Rattle.std.proofs.Common.{◌≡◌, ◌<◌, ◌+◌, [], ◌∷◌, drop, 
 use Rattle.std.proofs.lemmas.List.{drop_more, drop_all}
 use Rattle.script_read.specs.declared.command.Line.{Line}
 use Rattle.script_run.specs.Loading.{render_events, renders}
-use Rattle.script_run.proofs.Leaving.{Leaves-then, Leaves-first, Leaves-same_end, HasCause-same_end, HasCause-then, nothing_left, none_falls, falls_then}
+use Rattle.run_events.proofs.Leaving.{Leaves-then, Leaves-first, Leaves-same_end, HasCause-same_end, HasCause-then, nothing_left, none_falls, falls_then}
 use Rattle.script_run.proofs.carry_out.render_all.Goals as goal
 
 pub loop-line-preserved : goal.loop-line-preserved

@@ -2,7 +2,7 @@ use Rattle.std.proofs.Common.{drop, Result}
 use Rattle.run_texts.specs.World.{World}
 use Rattle.model_runs.specs.declared.ending.End.{End}
 use Rattle.model_runs.specs.Ending.{Leaves}
-use Rattle.script_run.specs.Causes.{NoneFell}
+use Rattle.run_events.specs.Causes.{NoneFell}
 use Rattle.script_run.specs.Loading.{renders}
 use Rattle.script_run.proofs.carry_out.render_all.Given as goal
 

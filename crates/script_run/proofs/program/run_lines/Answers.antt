@@ -2,7 +2,7 @@ use Rattle.std.proofs.Common.{[], ap, sym}
 use Rattle.model_runs.specs.Built.{built_ending, unless_unbuilt}
 use Rattle.model_runs.specs.Run.{plan_of_lines}
 use Rattle.model_runs.specs.Words.{default_options}
-use Rattle.script_run.proofs.Leaving.{Leaves-same_outcome, exposed_any, exposed_same}
+use Rattle.run_events.proofs.Leaving.{Leaves-same_outcome, exposed_any, exposed_same}
 use Rattle.script_run.proofs.program.run_lines.Goals as goal
 
 pub returns-in-None-clause-leaves : goal.returns-in-None-clause-leaves

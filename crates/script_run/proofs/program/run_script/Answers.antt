@@ -2,7 +2,7 @@ use Rattle.std.proofs.Common.{[]}
 use Rattle.outside_io.specs.Files.{file}
 use Rattle.model_runs.specs.Built.{plan_of_read}
 use Rattle.model_runs.specs.Run.{lines_of_file}
-use Rattle.script_run.proofs.Leaving.{Leaves-same_files, nothing_done, nothing_read, exposed_outcome, exposed_any}
+use Rattle.run_events.proofs.Leaving.{Leaves-same_files, nothing_done, nothing_read, exposed_outcome, exposed_any}
 use Rattle.script_run.proofs.Loads.{script_too_long, script_absent}
 use Rattle.script_run.proofs.program.run_script.Goals as goal
 

@@ -1,7 +1,7 @@
 use Rattle.std.proofs.Common.{[], ap}
 use Rattle.model_runs.specs.Built.{plan_of_read}
 use Rattle.model_runs.specs.Run.{by_grammar}
-use Rattle.script_run.proofs.Leaving.{Leaves-same_outcome, nothing_done, exposed_any}
+use Rattle.run_events.proofs.Leaving.{Leaves-same_outcome, nothing_done, exposed_any}
 use Rattle.script_run.proofs.program.run_text.Goals as goal
 
 pub returns-in-Err-Refused-clause-leaves : goal.returns-in-Err-Refused-clause-leaves

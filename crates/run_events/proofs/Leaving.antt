@@ -8,7 +8,7 @@ use Rattle.run_texts.specs.Events.{Event, Writes, Puts, Outcome, Refusal, events
 use Rattle.run_texts.specs.World.{World, after_all, LeavesSome}
 use Rattle.run_texts.proofs.Leaving.{none_yet, all_came, after_all-append, some_after, some_of_first}
 use Rattle.model_runs.specs.Ending.{Leaves, MayTear}
-use Rattle.script_run.specs.Causes.{Counts, HasCause, NoneFell}
+use Rattle.run_events.specs.Causes.{Counts, HasCause, NoneFell}
 
 -- a part whose events have all come, and then the rest
 pub Leaves-then : (events : List Event) (rest : Outcome) (result : Result (Unit {0}) End) (old mid new : World) →

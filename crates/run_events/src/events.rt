@@ -1,0 +1,55 @@
+//! Files that are written and texts that are put.
+
+ghost use Rattle.std.specs.Prelude.{◌≡◌, [], ◌∷◌, List, Option, ℕ};
+ghost use Rattle.outside_io.specs.Files.{Files};
+ghost use Rattle.model_runs.specs.Ending.{Leaves};
+ghost use Rattle.run_texts.specs.Events.{Puts, Writes, events_alone, refusal};
+ghost use Rattle.run_events.specs.Causes.{HasCause};
+
+use model_runs::End;
+use outside_io::{Shelf, ShelfAnswer, Sink, SinkAnswer};
+use run_texts::{Cause, refusal_text};
+use script_read::FileName;
+use std::alloc::Global;
+
+/// Makes a file hold these bytes.
+pub fn write_file<F: Shelf>(bytes: &[u8], file: &FileName, shelf: &mut F) -> Result<(), End>
+    ensures leaves { (text : Option (List ℕ)) → Leaves (events_alone (Writes file.now bytes.now ∷ [])) result
+        (record { files = F.files shelf.old; text = text }) (record { files = F.files shelf.new; text = text }) }
+    ensures cause { (puts : ℕ) → HasCause result
+        (record { reads = F.read_faults shelf.old; writes = F.write_faults shelf.old; puts = puts })
+        (record { reads = F.read_faults shelf.new; writes = F.write_faults shelf.new; puts = puts }) }
+{
+    match shelf.write(file.as_str(), bytes) {
+        Ok(()) => Ok(()),
+        Err(ShelfAnswer::Failed) => Err(End::WriteFault),
+        Err(ShelfAnswer::NoMemory) => Err(End::NoMemory),
+        Err(ShelfAnswer::Absent | ShelfAnswer::TooLong { .. }) => unreachable!(),
+    }
+}
+
+/// Ends a run at a line that is refused, and puts its text.
+pub fn refuse<O: Sink>(alloc: Global, line: u32, cause: Cause, out: &mut O) -> Result<(), End>
+    ensures leaves { (files : Option Files) → Leaves (refusal line cause) result
+        (record { files = files; text = O.written out.old }) (record { files = files; text = O.written out.new }) }
+    ensures cause { (reads writes : ℕ) → HasCause result
+        (record { reads = reads; writes = writes; puts = O.faults out.old }) (record { reads = reads; writes = writes; puts = O.faults out.new }) }
+{
+    let text = refusal_text(alloc, line, cause)?;
+    put_text(&text, out)?;
+    Err(End::Refused)
+}
+
+/// Puts a text.
+pub fn put_text<O: Sink>(text: &str, out: &mut O) -> Result<(), End>
+    ensures leaves { (files : Option Files) → Leaves (events_alone (Puts text.now ∷ [])) result
+        (record { files = files; text = O.written out.old }) (record { files = files; text = O.written out.new }) }
+    ensures cause { (reads writes : ℕ) → HasCause result
+        (record { reads = reads; writes = writes; puts = O.faults out.old }) (record { reads = reads; writes = writes; puts = O.faults out.new }) }
+{
+    match out.put(text.as_bytes()) {
+        Ok(()) => Ok(()),
+        Err(SinkAnswer::Failed) => Err(End::OutputFault),
+        Err(SinkAnswer::NoMemory) => Err(End::NoMemory),
+    }
+}
