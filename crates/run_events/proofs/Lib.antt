@@ -1,1 +1,5 @@
 pub mod Leaving
+pub mod Texts
+pub mod Carrying
+pub mod Lines
+pub mod Faults

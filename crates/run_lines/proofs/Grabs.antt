@@ -1,0 +1,109 @@
+-- Lines that write a file of a buffer.
+use Rattle.std.proofs.Common.{◌≡◌, ◌≢◌, ℕ, ◌+◌, ◌*◌, Bool, true, false, IsTrue, cond, List, [], ◌∷◌, length, Option, Some, None, Result, Ok, Err, IsSomeAnd, IfSome, is_some, refl, sym, ap, ◌∙◌, subst, arith}
+use Rattle.std.specs.Option.{option_map}
+use Rattle.std.specs.FinMap.{get-insert}
+use Rattle.std.specs.FinMap as map
+use Rattle.std.specs.Str.{bytes_eq}
+use Rattle.buffer_view.specs.BufferTables.{BufferTable, table_of}
+use Rattle.buffer_view.specs.Reads.{HasReadCause, IsReadOfBuffer, box_of_root, part_of_buffer}
+use Rattle.buffer_view.specs.declared.refused.BufferRefused.{BufferRefused}
+use Rattle.buffer_view.specs.declared.refused.BufferRefused.TheVariants as buffer_refusals
+use Rattle.chain_owners.specs.Counts.{Counts, Grows}
+use Rattle.chain_owners.specs.Held.{Held}
+use Rattle.model_buffers.proofs.ShapeLaws.{buffer_shape-is}
+use Rattle.model_buffers.specs.Layout.{TableLayout, View, buffer_shape, find, root_shape, seen_shape, view_shape}
+use Rattle.model_buffers.specs.Table.{Table, image_of, layout_of}
+use Rattle.model_graphs.specs.Shapes.{Shape}
+use Rattle.model_images.proofs.ByteLaws.{length-raw_with, raw-image_from_fn}
+use Rattle.model_images.proofs.LevelLaws.{level-format}
+use Rattle.model_images.specs.Abyss.{abyss_at, raw_with}
+use Rattle.model_images.specs.Image.{Image, image_from_fn}
+use Rattle.model_images.specs.Level.{level}
+use Rattle.model_images.specs.Raw.{raw}
+use Rattle.model_images.specs.TileCounts.{level_tiles}
+use Rattle.model_runs.specs.Effects.{grabs, grabs_view, writes}
+use Rattle.model_runs.specs.State.{Effect, RunState, refuses, workspace_of}
+use Rattle.model_runs.specs.declared.ending.End.{End}
+use Rattle.model_runs.specs.declared.ending.End.TheVariants as ends
+use Rattle.outside_io.specs.Files.{Files, file, filed}
+use Rattle.pixel_formats.specs.Format.{pixel_bytes}
+use Rattle.pixel_formats.specs.declared.abyss.Abyss.{Abyss}
+use Rattle.plane_rect.specs.Rectangle.{Rectangle, area}
+use Rattle.root_tiles.specs.Roots.{HasShape}
+use Rattle.run_events.specs.Carried.{Exceeds}
+use Rattle.run_lines.proofs.Edits.{full_exceeds}
+use Rattle.run_lines.specs.Buffers.{AreAlike, Holds}
+use Rattle.run_texts.specs.Events.{Event}
+use Rattle.run_texts.specs.Texts.{grab_text}
+use Rattle.run_texts.specs.declared.cause.Cause.TheVariants as causes
+
+-- ---- files
+
+-- files that were alike, with a file of the same length
+pub filed_alike : (a b : Files) (name planned bytes : List ℕ) → AreAlike a b → length planned ≡ length bytes → AreAlike (filed a name planned) (filed b name bytes)
+filed_alike a b name planned bytes alike same = λ q. lookups q
+  where
+    lookups : (q : List ℕ) → option_map length (file (filed a name planned) q) ≡ option_map length (file (filed b name bytes) q)
+    lookups q = rw (get-insert map.nat_list_cmp_total a name planned q, get-insert map.nat_list_cmp_total b name bytes q) (by (eq_by_cmp (slice_cmp nat_cmp) q name))
+      where
+        by : (c : Bool) → option_map length (cond c (Some planned) (file a q)) ≡ option_map length (cond c (Some bytes) (file b q))
+        by true = ap Some same
+        by false = alike q
+
+module _ (exposed : Bool) (line : ℕ) (state : RunState) (files : Files) (buffers : BufferTable) (held : Held) (shelf : Option Files) (name : List ℕ) (z : ℕ) (policy : Abyss) (r : Rectangle) (target : List ℕ)
+    (holds : Holds exposed state files buffers held shelf) where
+  abbrev working : Table
+  working = (workspace_of state).working
+
+  abbrev pub planned : List ℕ
+  planned = raw_with (level (image_of working name) z) policy r
+
+  abbrev pub grabbed : Effect
+  grabbed = grabs line state name z policy r target
+
+  view_found : find working.buffers name ≡ find buffers.layout.buffers name
+  view_found = ap (λ (layout : TableLayout). find layout.buffers name) holds.layout
+
+  pub grab_unknown : find buffers.layout.buffers name ≡ None → grabbed ≡ refuses line state causes.UnknownBuffer
+  grab_unknown none = ap (grabs_view line state name z policy r target) (view_found ∙ none)
+
+  tiles_by : (view : Option View) → find buffers.layout.buffers name ≡ view → view ≢ None → grabbed.tiles ≡ level_tiles (box_of_root buffers.layout name) z
+  tiles_by None found some = absurd (some refl)
+  tiles_by (Some view) found some =
+      ap (λ (o : Option View). (grabs_view line state name z policy r target o).tiles) (view_found ∙ found)
+      ∙ ap (λ (layout : TableLayout). level_tiles (root_shape layout view.root).box z) holds.layout
+      ∙ sym (ap (λ (o : Option View). level_tiles (option_map_or (λ (view : View). (root_shape buffers.layout view.root).box) o empty) z) found)
+
+  -- the tiles of a grab whose buffer is there
+  pub grab_tiles : find buffers.layout.buffers name ≢ None → grabbed.tiles ≡ level_tiles (box_of_root buffers.layout name) z
+  grab_tiles some = tiles_by (find buffers.layout.buffers name) refl some
+
+  given_by : (view : Option View) → find buffers.layout.buffers name ≡ view → view ≢ None →
+      (grabbed.events ≡ writes target planned (grab_text line (length planned))) × (grabbed.refused ≡ None) × (grabbed.next ≡ state)
+  given_by None found some = absurd (some refl)
+  given_by (Some view) found some =
+      let gives : grabbed ≡ grabs_view line state name z policy r target (Some view) = ap (grabs_view line state name z policy r target) (view_found ∙ found) in
+      (ap (λ (e : Effect). e.events) gives, ap (λ (e : Effect). e.refused) gives, ap (λ (e : Effect). e.next) gives)
+
+  pub grab_given : find buffers.layout.buffers name ≢ None →
+      (grabbed.events ≡ writes target planned (grab_text line (length planned))) × (grabbed.refused ≡ None) × (grabbed.next ≡ state)
+  grab_given some = given_by (find buffers.layout.buffers name) refl some
+
+  image_format : (image_of working name).format ≡ (buffer_shape buffers.layout name).format
+  image_format = ap (λ (shape : Shape). shape.format) (sym (buffer_shape-is working name) ∙ ap (λ (layout : TableLayout). buffer_shape layout name) holds.layout)
+
+  -- the bytes that were read have the length of those that are to be written
+  pub grab_length : (patch : Image) (bytes : List ℕ) → HasShape (part_of_buffer buffers.layout name r) patch → length bytes ≡ area patch.box * pixel_bytes patch.format → length planned ≡ length bytes
+  grab_length patch bytes shape count =
+      length-raw_with (level (image_of working name) z) policy r
+      ∙ ap (λ format. area r * pixel_bytes format) (level-format (image_of working name) z ∙ image_format)
+      ∙ sym (count ∙ ap (λ box. area box * pixel_bytes patch.format) shape.box ∙ ap (λ format. area r * pixel_bytes format) shape.format)
+
+  -- and are these where the chain exposes its bytes
+  pub grab_bytes : (patch : Image) → IsTrue exposed → HasShape (part_of_buffer buffers.layout name r) patch → IsReadOfBuffer (table_of buffers held) name z policy r patch → raw patch patch.box ≡ planned
+  grab_bytes patch e shape read =
+      let image = image_of working name in
+      let is : patch ≡ image_from_fn r image.format (abyss_at (level image z) policy) =
+      subst (λ (o : Option Table). IsReadOfBuffer o name z policy r patch) (holds.table e) read in
+      ap (λ box. raw patch box) shape.box ∙ ap (λ (p : Image). raw p r) (is ∙ ap (λ format. image_from_fn r format (abyss_at (level image z) policy)) (sym (level-format image z)))
+      ∙ raw-image_from_fn (level image z) policy r

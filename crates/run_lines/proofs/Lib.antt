@@ -1,0 +1,5 @@
+mod Edits
+mod Loads
+mod Grabs
+mod Grabbing
+mod Going

@@ -1,0 +1,187 @@
+-- Lines that load a file into a buffer.
+use Rattle.std.proofs.Common.{◌≡◌, ◌≢◌, ℕ, ◌<◌, ◌==◌, Bool, true, false, IsTrue, cond, List, length, Option, Some, None, Result, Ok, Err, IsSomeAnd, MatchResult, is_some, inl, inr, refl, sym, ap, ◌∙◌, subst, arith}
+use Rattle.std.specs.Option.{option_map}
+use Rattle.std.proofs.lemmas.Bool.Decides.{nat_tests}
+use Rattle.buffer_view.specs.BufferTables.{BufferTable, table_of}
+use Rattle.buffer_view.specs.Causes.{HasEditCause}
+use Rattle.buffer_view.specs.declared.refused.BufferRefused.{BufferRefused}
+use Rattle.buffer_view.specs.declared.refused.BufferRefused.TheVariants as buffer_refusals
+use Rattle.chain_owners.specs.Counts.{Counts}
+use Rattle.chain_owners.specs.Held.{Held}
+use Rattle.model_buffers.proofs.FactLaws.{fact-found}
+use Rattle.model_buffers.specs.BufferEdit.{Refusal, edit_refused, if_known, layout_with, put_refused, unless}
+use Rattle.model_buffers.specs.Edits.{edited_table, table_with, unless_refused}
+use Rattle.model_buffers.specs.Layout.{TableLayout, View, fact_in, facts_of, find, view_shape}
+use Rattle.model_buffers.specs.Table.{Table, layout_of}
+use Rattle.model_buffers.specs.declared.edit.BufferEdit.{BufferEdit}
+use Rattle.model_buffers.specs.declared.edit.BufferEdit.TheVariants.{Put}
+use Rattle.model_buffers.specs.declared.refused.EditRefused.{EditRefused}
+use Rattle.model_buffers.specs.declared.refused.EditRefused.TheVariants.{OutOfBounds, WrongSize}
+use Rattle.model_graphs.specs.Facts.{fact_of}
+use Rattle.model_graphs.specs.Shapes.{Shape}
+use Rattle.model_graphs.specs.declared.buffer.BufferFact.{BufferFact}
+use Rattle.model_images.specs.FromRaw.{byte_count}
+use Rattle.model_runs.specs.Effects.{cause_of_edit, edit_gives, edits, load_into, loads}
+use Rattle.model_runs.specs.State.{Effect, RunState, refuses, workspace_of}
+use Rattle.outside_io.specs.Files.{Files, file}
+use Rattle.plane_rect.specs.Rectangle.{Rectangle, includes}
+use Rattle.run_lines.specs.Buffers.{AreAlike, Holds}
+use Rattle.run_lines.specs.Edited.{BuffersOver, IsEdited}
+use Rattle.run_lines.specs.Rasters.{IsNoRaster}
+use Rattle.run_texts.specs.declared.cause.Cause.{Cause}
+use Rattle.run_texts.specs.declared.cause.Cause.TheVariants as causes
+
+-- ---- files of the same length
+
+-- a file that is there, in files that are alike
+pub there_alike : (a b : Option (List ℕ)) (bytes : List ℕ) → option_map length a ≡ option_map length b → b ≡ Some bytes → (planned : List ℕ) × (a ≡ Some planned) × (length planned ≡ length bytes)
+there_alike (Some planned) b bytes same is = (planned, refl, (let there : option_map length b ≡ Some (length bytes) = ap (option_map length) is in cc))
+there_alike None b bytes same is = absurd (let there : option_map length b ≡ Some (length bytes) = ap (option_map length) is in cc)
+
+pub absent_alike : (a b : Option (List ℕ)) → option_map length a ≡ option_map length b → b ≡ None → a ≡ None
+absent_alike None b same is = refl
+absent_alike (Some planned) b same is = absurd (let none : option_map length b ≡ None = ap (option_map length) is in cc)
+
+-- ---- rasters of the same length
+
+abbrev put_refusal : TableLayout → List ℕ → Rectangle → ℕ → Refusal
+put_refusal layout name r count =
+    if_known (find layout.buffers name) (λ view.
+    let shape = view_shape layout view in
+    let wanted = byte_count r shape.format in
+    unless (includes shape.box r) OutOfBounds (unless (count == wanted) (WrongSize count wanted) None))
+
+module _ (name : List ℕ) (r : Rectangle) (a b : List ℕ) (same : length a ≡ length b) where
+  refusals_alike : (layout : TableLayout) → edit_refused layout (Put name r a) ≡ edit_refused layout (Put name r b)
+  refusals_alike layout = ap (put_refusal layout name r) same
+
+  causes_alike : (layout : TableLayout) (old new : Counts) (refused : BufferRefused) → HasEditCause layout (Put name r a) old new refused → HasEditCause layout (Put name r b) old new refused
+  causes_alike layout old new (buffer_refusals.Edit cause) is = sym (refusals_alike layout) ∙ is
+  causes_alike layout old new (buffer_refusals.Swap refused) is = is
+  causes_alike layout old new buffer_refusals.NoMemory is = tt
+
+  -- without their bytes, tables are as unknown as before
+  tables_alike : {X : Type 0} (content : Option X) (f g : Table → Table) (t : X → Table) → is_some content ≡ false → option_map f (option_map t content) ≡ option_map g (option_map t content)
+  tables_alike None f g t none = refl
+  tables_alike (Some x) f g t none = absurd (cc)
+
+  -- what is done by raw bytes is done by others of the same length, and the same where the chain exposes its bytes
+  pub put_alike : (exposed : Bool) (edited : Result (Unit {0}) BufferRefused) (old new : BuffersOver) → (IsTrue exposed → a ≡ b) → is_some old.held.content ≡ exposed →
+      IsEdited (Put name r a) edited old new → IsEdited (Put name r b) edited old new
+  put_alike true edited old new equal content is = subst (λ (bytes : List ℕ). IsEdited (Put name r bytes) edited old new) (equal tt) is
+  put_alike false (Ok done) old new equal content is = record {
+    layout = is.layout;
+    table = is.table ∙ tables_alike old.held.content (λ table. table_with table (Put name r a)) (λ table. table_with table (Put name r b)) _ content;
+    exact = λ cause e. is.exact cause (refusals_alike old.buffers.layout ∙ e);
+    cause = tt;
+    carried_out = sym (refusals_alike old.buffers.layout) ∙ is.carried_out;
+    over = is.over;
+    content = is.content;
+    counts = is.counts;
+  }
+  put_alike false (Err refused) old new equal content is = record {
+    layout = is.layout;
+    table = is.table;
+    exact = λ cause e. is.exact cause (refusals_alike old.buffers.layout ∙ e);
+    cause = causes_alike old.buffers.layout old.counts new.counts refused is.cause;
+    carried_out = tt;
+    over = is.over;
+    content = is.content;
+    counts = is.counts;
+  }
+
+-- ---- refusals before a byte is put
+
+module _ (exposed : Bool) (line : ℕ) (state : RunState) (files : Files) (buffers : BufferTable) (held : Held) (shelf : Option Files) (name : List ℕ) (r : Rectangle)
+    (holds : Holds exposed state files buffers held shelf) where
+  abbrev working : Table
+  working = (workspace_of state).working
+
+  pub view_found : find working.buffers name ≡ find buffers.layout.buffers name
+  view_found = ap (λ (layout : TableLayout). find layout.buffers name) holds.layout
+
+  -- a fact of the buffers, and the view of the state
+  view_of : (view : Option View) (fact : BufferFact) → find buffers.layout.buffers name ≡ view → fact_of (facts_of buffers.layout) name ≡ Some fact →
+      (v : View) × (find working.buffers name ≡ Some v) × (fact ≡ fact_in buffers.layout name v)
+  view_of None fact found is = absurd (let none : fact_of (facts_of buffers.layout) name ≡ None = fact-found buffers.layout name ∙ ap (option_map (fact_in buffers.layout name)) found in cc)
+  view_of (Some v) fact found is = (v, view_found ∙ found, (let there : fact_of (facts_of buffers.layout) name ≡ Some (fact_in buffers.layout name v) = fact-found buffers.layout name ∙ ap (option_map (fact_in buffers.layout name)) found in cc))
+
+  no_view : (view : Option View) → find buffers.layout.buffers name ≡ view → fact_of (facts_of buffers.layout) name ≡ None → find working.buffers name ≡ None
+  no_view None found none = view_found ∙ found
+  no_view (Some v) found none = absurd (let there : fact_of (facts_of buffers.layout) name ≡ Some (fact_in buffers.layout name v) = fact-found buffers.layout name ∙ ap (option_map (fact_in buffers.layout name)) found in cc)
+
+  into_unknown : (found : Option (List ℕ)) → load_into line state name r found None ≡ refuses line state causes.UnknownBuffer
+  into_unknown None = refl
+  into_unknown (Some bytes) = refl
+
+  pub load_unknown : (source : List ℕ) → fact_of (facts_of buffers.layout) name ≡ None → loads line state name r (file files source) ≡ refuses line state causes.UnknownBuffer
+  load_unknown source none = ap (load_into line state name r (file files source)) (no_view (find buffers.layout.buffers name) refl none) ∙ into_unknown (file files source)
+
+  -- why a raster is refused at a buffer that is there
+  refused_there : (bytes : List ℕ) (v : View) → find working.buffers name ≡ Some v → (refusal : Refusal) → put_refused (view_shape (layout_of working) v) r bytes ≡ refusal →
+      loads line state name r (Some bytes) ≡ edit_gives line state (Put name r bytes) (unless_refused refusal (table_with working (Put name r bytes)))
+  refused_there bytes v there refusal is =
+      ap (load_into line state name r (Some bytes)) there
+      ∙ ap (λ (o : Option View). edit_gives line state (Put name r bytes) (unless_refused (if_known o (λ view. put_refused (view_shape (layout_of working) view) r bytes)) (table_with working (Put name r bytes)))) there
+      ∙ ap (λ (o : Refusal). edit_gives line state (Put name r bytes) (unless_refused o (table_with working (Put name r bytes)))) is
+
+  shape_there : (v : View) → view_shape (layout_of working) v ≡ view_shape buffers.layout v
+  shape_there v = ap (λ (layout : TableLayout). view_shape layout v) holds.layout
+
+  out_of_bounds : (found : Option (List ℕ)) (v : View) → find working.buffers name ≡ Some v → includes v.extent r ≡ false → loads line state name r found ≡ refuses line state causes.OutOfBounds
+  out_of_bounds None v there out =
+      ap (load_into line state name r None) there ∙ ap (λ b. refuses line state (cond b causes.Absent causes.OutOfBounds)) out
+  out_of_bounds (Some bytes) v there out =
+      let shape = view_shape (layout_of working) v in
+      let wanted = byte_count r shape.format in
+      refused_there bytes v there (Some OutOfBounds) (ap (λ b. unless b OutOfBounds (unless (length bytes == wanted) (WrongSize (length bytes) wanted) None)) out)
+
+  pub load_out_of_bounds : (source : List ℕ) (fact : BufferFact) → fact_of (facts_of buffers.layout) name ≡ Some fact → includes fact.bounds r ≡ false →
+      loads line state name r (file files source) ≡ refuses line state causes.OutOfBounds
+  load_out_of_bounds source fact is out =
+      let there = view_of (find buffers.layout.buffers name) fact refl is in
+      out_of_bounds (file files source) there.0 there.1.0 (ap (λ (f : BufferFact). includes f.bounds r) (sym there.1.1) ∙ out)
+
+  -- a raster that is not there, or is too long
+  missing : (found : Option (List ℕ)) (fact : BufferFact) (cause : Cause) (actual : Option (List ℕ)) → fact_of (facts_of buffers.layout) name ≡ Some fact → includes fact.bounds r ≡ true →
+      option_map length found ≡ option_map length actual → IsNoRaster actual (byte_count r fact.format) cause → loads line state name r found ≡ refuses line state cause
+  missing found fact cause actual is inside same (inl none) =
+      let there = view_of (find buffers.layout.buffers name) fact refl is in
+      let within : includes there.0.extent r ≡ true = ap (λ (f : BufferFact). includes f.bounds r) (sym there.1.1) ∙ inside in
+      ap (loads line state name r) (absent_alike found actual same none.1)
+      ∙ ap (load_into line state name r None) there.1.0 ∙ ap (λ b. refuses line state (cond b causes.Absent causes.OutOfBounds)) within ∙ ap (refuses line state) (sym none.0)
+  missing found fact cause actual is inside same (inr (wrong, long)) =
+      let there = view_of (find buffers.layout.buffers name) fact refl is in
+      let planned = there_alike found actual long.0 same long.1.0 in
+      let bytes = planned.0 in
+      let shape = view_shape (layout_of working) there.0 in
+      let wanted = byte_count r shape.format in
+      let within : includes shape.box r ≡ true = ap (λ (f : BufferFact). includes f.bounds r) (sym there.1.1) ∙ inside in
+      let format : byte_count r shape.format ≡ byte_count r fact.format = ap (λ (s : Shape). byte_count r s.format) (shape_there there.0) ∙ ap (λ (f : BufferFact). byte_count r f.format) (sym there.1.1) in
+      let more : byte_count r fact.format < length long.0 = long.1.1 in
+      let other : (length bytes == wanted) ≡ false = grind (arith, nat_tests, format, planned.1.1, more) in
+      ap (loads line state name r) planned.1.0
+      ∙ refused_there bytes there.0 there.1.0 (Some (WrongSize (length bytes) wanted))
+      (ap (λ b. unless b OutOfBounds (unless (length bytes == wanted) (WrongSize (length bytes) wanted) None)) within
+      ∙ ap (λ b. unless b (WrongSize (length bytes) wanted) None) other)
+      ∙ ap (refuses line state) (sym wrong)
+
+  pub load_missing : (source : List ℕ) (fact : BufferFact) (cause : Cause) (actual : Files) → fact_of (facts_of buffers.layout) name ≡ Some fact → includes fact.bounds r ≡ true → shelf ≡ Some actual →
+      IsNoRaster (file actual source) (byte_count r fact.format) cause → loads line state name r (file files source) ≡ refuses line state cause
+  load_missing source fact cause actual is inside shown none =
+      missing (file files source) fact cause (file actual source) is inside ((subst (λ (o : Option Files). IsSomeAnd o (AreAlike files)) shown holds.alike) source) none
+
+  -- a raster that was read
+  pub load_read : (source bytes : List ℕ) (fact : BufferFact) (actual : Files) → fact_of (facts_of buffers.layout) name ≡ Some fact → shelf ≡ Some actual → file actual source ≡ Some bytes →
+      (planned : List ℕ) × (file files source ≡ Some planned) × (length bytes ≡ length planned) × (IsTrue exposed → bytes ≡ planned)
+      × (loads line state name r (file files source) ≡ edits line state (Put name r planned))
+  load_read source bytes fact actual is shown read =
+      let there = view_of (find buffers.layout.buffers name) fact refl is in
+      let planned = there_alike (file files source) (file actual source) bytes ((subst (λ (o : Option Files). IsSomeAnd o (AreAlike files)) shown holds.alike) source) read in
+      (
+        planned.0,
+        planned.1.0,
+        sym planned.1.1,
+        (λ e. let same : actual ≡ files = (let both = holds.same e in cc) in let found : file files source ≡ Some bytes = ap (λ (f : Files). file f source) (sym same) ∙ read in let other = planned.1.0 in cc),
+        ap (loads line state name r) planned.1.0 ∙ ap (load_into line state name r (Some planned.0)) there.1.0,
+      )
