@@ -1,9 +1,8 @@
 -- Means of squares from the sums of their columns.
-use Rattle.std.proofs.Common.{◌≡◌, ℕ, zero, suc, ◌+◌, ◌*◌, ◌/◌, ◌%◌, ◌<◌, ◌≤◌, List, get_or, take, map, sum, refl, sym, ap, ◌∙◌, inl, inr, subst, arith, w8, Fits}
+use Rattle.std.proofs.Common.{◌≡◌, ℕ, zero, suc, ◌+◌, ◌*◌, ◌/◌, ◌%◌, ◌<◌, ◌≤◌, List, get_or, map, sum, refl, sym, ap, ◌∙◌, inl, inr, subst, arith, w8, Fits}
 use Rattle.std.specs.List.{range_with_len}
 use Rattle.std.proofs.lemmas.Bool.{cases_lt}
 use Rattle.std.proofs.lemmas.Nat.{div-add-mod', div-mul-add, div_below, mod-mul-add, mod_below, mul-add-lt}
-use Rattle.std.proofs.lemmas.List.{get_or-take, get_or_past, length-take}
 use Rattle.std.proofs.lemmas.List.Sums.{sum_by-cons}
 use Rattle.pixel_formats.specs.declared.format.Format.{Format}
 use Rattle.pixel_formats.specs.Format.{channels, depth}
@@ -94,7 +93,7 @@ sums_small w (suc p) reach limit sums columns made small clear i = elim (cases_l
         is,
         here,
         sum_of-below (reach + 1) limit (λ k. columns ((i / n + k) * n + i % n))
-        (λ k lt. small ((i / n + k) * n + i % n) (sample_within n w reach (i / n) (i % n) k column channel (omega arith))),
+            (λ k lt. small ((i / n + k) * n + i % n) (sample_within n w reach (i / n) (i % n) k column channel (omega arith))),
       )
   | inr past ↦ omega (arith, clear i past)
 ]

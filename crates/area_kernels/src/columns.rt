@@ -48,12 +48,7 @@ pub(crate) trait ColumnSums<L: Lanes> {
 
 /// Adds a row of `count` samples, from number `coming` on, to the sums of columns. Up to fifteen
 /// sums after them are overwritten.
-fn add_row<L: Lanes, C: ColumnSums<L>>(
-    samples: &[u8],
-    coming: usize,
-    columns: &mut C,
-    count: usize,
-)
+fn add_row<L: Lanes, C: ColumnSums<L>>(samples: &[u8], coming: usize, columns: &mut C, count: usize)
     requires samples { L.depth * (coming + count + 16) ≤ length samples.now }
     requires few { count ≤ 768 }
     ensures { (i : ℕ) → i < count → C.sum columns.new i

@@ -69,7 +69,12 @@ fn next_columns<L: Lanes, C: ColumnSums<L>>(
 }
 
 /// Writes the means of the squares of all rows.
-fn mean_rows<L: Lanes, C: ColumnSums<L> + Drop>(area: Area, channels: usize, patch: &[u8], dst: &mut [u8])
+fn mean_rows<L: Lanes, C: ColumnSums<L> + Drop>(
+    area: Area,
+    channels: usize,
+    patch: &[u8],
+    dst: &mut [u8],
+)
     requires channels { channels ≤ 4 }
     requires read { L.depth * (read_samples area channels + 16) ≤ length patch.now }
     requires written { L.depth * written_samples area channels ≤ length dst.old }
@@ -93,7 +98,12 @@ fn mean_rows<L: Lanes, C: ColumnSums<L> + Drop>(area: Area, channels: usize, pat
 }
 
 /// Writes the means of the squares of a part.
-fn mean_part<L: Lanes, C: ColumnSums<L> + Drop>(format: Format, area: Area, patch: &[u8], dst: &mut [u8])
+fn mean_part<L: Lanes, C: ColumnSums<L> + Drop>(
+    format: Format,
+    area: Area,
+    patch: &[u8],
+    dst: &mut [u8],
+)
     requires depth { depth format ≡ L.depth }
     requires read { depth format * (read_samples area (channels format) + 16) ≤ length patch.now }
     requires written { length dst.old ≡ depth format * written_samples area (channels format) }

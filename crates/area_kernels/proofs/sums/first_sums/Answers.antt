@@ -1,4 +1,4 @@
-use Rattle.std.proofs.Common.{◌≡◌, ℕ, ◌+◌, ◌*◌, ◌<◌, slice_index, ◌∙◌, arith}
+use Rattle.std.proofs.Common.{◌+◌, ◌*◌, ◌<◌, slice_index, ◌∙◌, arith}
 use Rattle.std.proofs.lemmas.Nat.{mul-add-lt}
 use Rattle.area_kernels.proofs.SumLaws.{sum-next}
 use Rattle.area_kernels.proofs.sums.first_sums.Goals as goal

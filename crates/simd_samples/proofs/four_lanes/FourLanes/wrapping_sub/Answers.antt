@@ -1,4 +1,4 @@
-use Rattle.std.proofs.Common.{◌+◌, ◌-◌, ◌%◌, ◌∙◌, sym, arith}
+use Rattle.std.proofs.Common.{◌+◌, ◌-◌, ◌%◌, ◌∙◌, sym}
 use Rattle.std.proofs.lemmas.Simd.{length-zip2}
 use Rattle.simd_samples.proofs.four_lanes.FourLanes.wrapping_sub.Goals as goal
 
