@@ -94,9 +94,6 @@ slid_fits w m sum coming leaving new few enters leaves room is =
     ap (λ n. (n + (w - leaving)) % w) whole ∙ ap (λ n. n % w) moved ∙ mod-mul-add 1 w new (omega arith)
 
 module _ (d stride side first w m : ℕ) (samples : List ℕ) (old new : ℕ → ℕ) (below : (i : ℕ) → sample_at d samples i ≤ m) (room : 130 * m < w) where
-  column : ℕ → ℕ → ℕ
-  column i j = sample_at d samples ((first + j) * stride + i)
-
   -- a row more in each sum
   pub HoldsColumns-added : (row next : ℕ) → row ≡ first + side → next ≡ suc side → side < 129 → HoldsColumns d stride side first samples old
       → ((i : ℕ) → i < stride → new i ≡ added w (old i) (sample_at d samples (row * stride + i)))
