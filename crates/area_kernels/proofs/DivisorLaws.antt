@@ -1,61 +1,54 @@
 -- Division by a multiplication with the reciprocal.
-use Rattle.std.proofs.Common.{◌≡◌, ℕ, ◌+◌, ◌-◌, ◌*◌, ◌/◌, ◌%◌, ◌<◌, ◌≤◌, List, sym, ap, ◌∙◌, subst, inl, inr, arith}
-use Rattle.std.proofs.Math.Nat.{mul-le-mul_left, mul-le-mul_right}
-use Rattle.std.proofs.lemmas.Nat.{div-add-mod', div_below, le-div, mod_below}
+use Rattle.std.proofs.Common.{◌≡◌, ℕ, ◌+◌, ◌-◌, ◌*◌, ◌/◌, ◌%◌, ◌^◌, ◌<◌, ◌≤◌, List, sym, ap, ◌∙◌, subst, inl, inr, arith}
+use Rattle.std.proofs.Math.Nat.{div-div-eq-div-mul, mul-le-mul_left, mul-le-mul_right}
+use Rattle.std.proofs.lemmas.Nat.{div-add-mod', div-mul-add, div_below, le-div, mod_below}
 use Rattle.std.proofs.lemmas.Bool.{cases_lt}
 use Rattle.pixel_formats.specs.Sample.{sample_at}
 
--- a quotient by 2^46 from its bounds
-between : (a q : ℕ) → q * 70368744177664 ≤ a → a < q * 70368744177664 + 70368744177664 → a / 70368744177664 ≡ q
-between a q low high = omega arith
-
 -- where the reciprocal is too large by less than it makes up for
-exact : (q t n factor excess : ℕ) → t < n → factor * n ≡ 70368744177664 + excess → (q + 1) * excess < factor
-    → ((q * n + t) * factor) / 70368744177664 ≡ q
-exact q t n factor excess rest whole small =
-    let whole_q : q * (factor * n) ≡ q * (70368744177664 + excess) = ap (λ m. q * m) whole in
+exact : (q t n factor excess power : ℕ) → t < n → factor * n ≡ power + excess → (q + 1) * excess < factor
+    → ((q * n + t) * factor) / power ≡ q
+exact q t n factor excess power rest whole small =
+    let whole_q : q * (factor * n) ≡ q * (power + excess) = ap (λ m. q * m) whole in
     let next : t + 1 ≤ n = omega arith in
     let rest_f : (t + 1) * factor ≤ n * factor = mul-le-mul_right factor next in
-    between ((q * n + t) * factor) q (omega arith) (omega arith)
+    let split : (q * n + t) * factor ≡ q * power + (q * excess + t * factor) = omega (arith, whole_q) in
+    ap (λ m. m / power) split ∙ div-mul-add q power (q * excess + t * factor) (omega (arith, rest_f, whole, small))
 
-module _ (n factor : ℕ) (some : 0 < n) (few : n ≤ 16641) (reciprocal : factor ≡ 70368744177664 / n + 1) where
-  large : 2147483648 < factor
-  large =
-      let least : 2147483648 ≤ 70368744177664 / n = le-div 2147483648 70368744177664 n some (omega arith) in
-      omega arith
+module _ (n factor power : ℕ) (some : 0 < n) (large : 65536 * (n * n) ≤ power) (reciprocal : factor ≡ power / n + 1) where
+  large_factor : 65536 * n < factor
+  large_factor = omega (arith, le-div (65536 * n) power n some (omega (arith, large)))
 
   -- by how much the reciprocal is too large
   abbrev excess : ℕ
-  excess = n - 70368744177664 % n
+  excess = n - power % n
 
-  whole : factor * n ≡ 70368744177664 + excess
+  whole : factor * n ≡ power + excess
   whole =
-      let parts = div-add-mod' 70368744177664 n in
-      let rest = mod_below 70368744177664 n some in
+      let parts = div-add-mod' power n in
+      let rest = mod_below power n some in
       omega (arith, parts, rest, ap (λ m. m * n) reciprocal)
 
-  quotient : (v : ℕ) → v < 2000000000 → (v * factor) / 70368744177664 ≡ v / n
+  quotient : (v : ℕ) → v < 65536 * n → (v * factor) / power ≡ v / n
   quotient v small =
       let parts : v / n * n + v % n ≡ v = div-add-mod' v n in
       let few_excess : excess ≤ n = omega arith in
       let near : (v / n + 1) * excess ≤ (v / n + 1) * n = mul-le-mul_left (v / n + 1) few_excess in
-      ap (λ m. (m * factor) / 70368744177664) (sym parts)
-      ∙ exact (v / n) (v % n) n factor excess (mod_below v n some) whole (omega (arith, near, parts, large))
+      let few : v / n < 65536 = div_below v n 65536 some small in
+      let most : (v / n + 1) * n ≤ 65536 * n = mul-le-mul_right n (omega arith) in
+      ap (λ m. (m * factor) / power) (sym parts)
+      ∙ exact (v / n) (v % n) n factor excess power (mod_below v n some) whole (omega (arith, near, most, large_factor))
 
-  module _ (offset max_sample sum : ℕ) (half : offset ≡ n / 2 * factor) (shallow : max_sample ≤ 65535) (small : sum ≤ n * max_sample) where
+  module _ (max_sample sum : ℕ) (shallow : max_sample ≤ 65535) (small : sum ≤ n * max_sample) where
     sum_few : sum ≤ n * 65535
     sum_few = omega (arith, small, mul-le-mul_left n shallow)
 
-    joined : sum * factor + offset ≡ (sum + n / 2) * factor
-    joined = omega (arith, half)
+    pub sum-fits : n ≤ 16641 → sum + n / 2 < 2147483648
+    sum-fits few = omega (arith, sum_few)
 
-    pub product-fits : sum * factor + offset < 18446744073709551616
-    product-fits =
-        let few_sums : sum + n / 2 ≤ 65536 * n = omega (arith, sum_few) in
-        omega (arith, joined, mul-le-mul_right factor few_sums, whole)
-
-    pub mean-exact : (sum * factor + offset) / 70368744177664 ≡ (sum + n / 2) / n
-    mean-exact = ap (λ m. m / 70368744177664) joined ∙ quotient (sum + n / 2) (omega (arith, sum_few))
+    pub mean-exact : (shift : ℕ) → power ≡ 2147483648 * 2 ^ shift → (sum + n / 2) * factor / 2147483648 / 2 ^ shift ≡ (sum + n / 2) / n
+    mean-exact shift is =
+        div-div-eq-div-mul ((sum + n / 2) * factor) 2147483648 (2 ^ shift) ∙ ap (λ p. (sum + n / 2) * factor / p) (sym is) ∙ quotient (sum + n / 2) (omega (arith, sum_few))
 
     pub mean-below : (sum + n / 2) / n ≤ max_sample
     mean-below =

@@ -1,9 +1,8 @@
 -- Means of squares from the sums of their columns.
-use Rattle.std.proofs.Common.{◌≡◌, ℕ, zero, suc, ◌+◌, ◌*◌, ◌/◌, ◌%◌, ◌<◌, ◌≤◌, List, get_or, take, map, sum, refl, sym, ap, ◌∙◌, inl, inr, subst, arith, w8, Fits}
+use Rattle.std.proofs.Common.{◌≡◌, ℕ, zero, suc, ◌+◌, ◌*◌, ◌/◌, ◌%◌, ◌<◌, ◌≤◌, List, get_or, map, sum, refl, sym, ap, ◌∙◌, inl, inr, subst, arith, w8, Fits}
 use Rattle.std.specs.List.{range_with_len}
 use Rattle.std.proofs.lemmas.Bool.{cases_lt}
 use Rattle.std.proofs.lemmas.Nat.{div-add-mod', div-mul-add, div_below, mod-mul-add, mod_below, mul-add-lt}
-use Rattle.std.proofs.lemmas.List.{get_or-take, get_or_past, length-take}
 use Rattle.std.proofs.lemmas.List.Sums.{sum_by-cons}
 use Rattle.pixel_formats.specs.declared.format.Format.{Format}
 use Rattle.pixel_formats.specs.Format.{channels, depth}
@@ -14,7 +13,7 @@ use Rattle.area_kernels.specs.Parts.{HoldsPart, square_samples}
 use Rattle.area_kernels.specs.Sequences.{mean_sum, sum_of}
 use Rattle.area_kernels.proofs.CopiedSamples.{row_within}
 use Rattle.area_kernels.proofs.PartLaws.{HoldsPart-from, sample-held, within_row}
-use Rattle.area_kernels.proofs.SumLaws.{sample-below, sum_of-below, sum_of-same, sum_of-slid}
+use Rattle.area_kernels.proofs.SumLaws.{sample-below, sample_within, sum_of-below, sum_of-same, sum_of-slid}
 
 -- ---- sums of sums
 
@@ -77,51 +76,55 @@ sum_of_square radius f u v c =
 -- ---- rows of means
 
 -- sums of squares are below the sum of as many largest samples
-pub sums_small : (w n m limit : ℕ) (sums columns : List ℕ)
-    → ((x c : ℕ) → x < w → c < n → get_or sums (x * n + c) 0 ≡ sum_of m (λ k. get_or columns ((x + k) * n + c) 0))
-    → ((i : ℕ) → get_or columns i 0 ≤ limit) → ((i : ℕ) → w * n ≤ i → get_or sums i 0 ≡ 0) → (i : ℕ) → get_or sums i 0 ≤ m * limit
-sums_small w zero m limit sums columns made small clear i = omega (arith, clear i (omega arith))
-sums_small w (suc p) m limit sums columns made small clear i = elim (cases_lt i (w * suc p)) [
+pub sums_small : (w n reach limit : ℕ) (sums : List ℕ) (columns : ℕ → ℕ)
+    → ((x c : ℕ) → x < w → c < n → get_or sums (x * n + c) 0 ≡ sum_of (reach + 1) (λ k. columns ((x + k) * n + c)))
+    → ((i : ℕ) → i < (w + reach) * n → columns i ≤ limit) → ((i : ℕ) → w * n ≤ i → get_or sums i 0 ≡ 0) → (i : ℕ) → get_or sums i 0 ≤ (reach + 1) * limit
+sums_small w zero reach limit sums columns made small clear i = omega (arith, clear i (omega arith))
+sums_small w (suc p) reach limit sums columns made small clear i = elim (cases_lt i (w * suc p)) [
   | inl within ↦
       let n = suc p in
       let at : i / n * n + i % n ≡ i = div-add-mod' i n in
-      let is = made (i / n) (i % n) (div_below i n w (omega arith) within) (mod_below i n (omega arith)) in
+      let column = div_below i n w (omega arith) within in
+      let channel = mod_below i n (omega arith) in
+      let is = made (i / n) (i % n) column channel in
       let here : get_or sums (i / n * n + i % n) 0 ≡ get_or sums i 0 = ap (λ k. get_or sums k 0) at in
-      omega (arith, is, here, sum_of-below m limit (λ k. get_or columns ((i / n + k) * n + i % n) 0) (λ k _. small ((i / n + k) * n + i % n)))
+      omega (
+        arith,
+        is,
+        here,
+        sum_of-below (reach + 1) limit (λ k. columns ((i / n + k) * n + i % n))
+            (λ k lt. small ((i / n + k) * n + i % n) (sample_within n w reach (i / n) (i % n) k column channel (omega arith))),
+      )
   | inr past ↦ omega (arith, clear i past)
 ]
 
 -- the sums of columns are below the sum of as many largest samples
-pub columns_small : (d stride side y : ℕ) (patch columns : List ℕ) → ((k : ℕ) → Fits w8 (get_or patch k 0)) → HoldsColumns d stride side y patch columns
-    → (i : ℕ) → get_or (take stride columns) i 0 ≤ side * max_sample_of d
-columns_small d stride side y patch columns fits held i = elim (cases_lt i stride) [
-  | inl within ↦
-      omega (
-        arith,
-        get_or-take stride columns i 0 within,
-        held.columns i within,
-        sum_of-below side (max_sample_of d) (λ j. sample_at d patch ((y + j) * stride + i)) (λ j _. sample-below d patch fits ((y + j) * stride + i)),
-      )
-  | inr past ↦ omega (arith, get_or_past (take stride columns) i 0 (omega (arith, length-take stride columns)))
-]
+pub columns_small : (d stride side y : ℕ) (patch : List ℕ) (columns : ℕ → ℕ) → ((k : ℕ) → Fits w8 (get_or patch k 0)) → HoldsColumns d stride side y patch columns
+    → (i : ℕ) → i < stride → columns i ≤ side * max_sample_of d
+columns_small d stride side y patch columns fits held i within =
+    omega (
+      arith,
+      held.columns i within,
+      sum_of-below side (max_sample_of d) (λ j. sample_at d patch ((y + j) * stride + i)) (λ j _. sample-below d patch fits ((y + j) * stride + i)),
+    )
 
 -- the mean at a position of a row
 abbrev pub mean_at : (d w r n : ℕ) (patch : List ℕ) (x y c : ℕ) → ℕ
 mean_at d w r n patch x y c =
     mean_sum ((2 * r + 1) * (2 * r + 1)) (sum_of (2 * r + 1) (λ i. sum_of (2 * r + 1) (λ j. sample_at d patch ((y + j) * ((w + 2 * r) * n) + ((x + i) * n + c)))))
 
-module _ (d w r n y stride divisor : ℕ) (patch columns means : List ℕ) (is_stride : stride ≡ (w + 2 * r) * n) (is_count : divisor ≡ (2 * r + 1) * (2 * r + 1))
+module _ (d w r n y stride divisor : ℕ) (patch : List ℕ) (columns : ℕ → ℕ) (means : List ℕ) (is_stride : stride ≡ (w + 2 * r) * n) (is_count : divisor ≡ (2 * r + 1) * (2 * r + 1))
     (held : HoldsColumns d stride (2 * r + 1) y patch columns) where
   pub mean_of_columns : (x c : ℕ) → x < w → c < n
-      → sample_at d means (x * n + c) ≡ mean_sum divisor (sum_of (2 * r + 1) (λ i. get_or (take stride columns) ((x + i) * n + c) 0))
+      → sample_at d means (x * n + c) ≡ mean_sum divisor (sum_of (2 * r + 1) (λ i. columns ((x + i) * n + c)))
       → sample_at d means (x * n + c) ≡ mean_at d w r n patch x y c
   mean_of_columns x c column channel made =
       let m = 2 * r + 1 in
-      let same : sum_of m (λ i. get_or (take stride columns) ((x + i) * n + c) 0) ≡ sum_of m (λ i. sum_of m (λ j. sample_at d patch ((y + j) * stride + ((x + i) * n + c)))) =
-      sum_of-same m (λ i. get_or (take stride columns) ((x + i) * n + c) 0) (λ i. sum_of m (λ j. sample_at d patch ((y + j) * stride + ((x + i) * n + c))))
+      let same : sum_of m (λ i. columns ((x + i) * n + c)) ≡ sum_of m (λ i. sum_of m (λ j. sample_at d patch ((y + j) * stride + ((x + i) * n + c)))) =
+      sum_of-same m (λ i. columns ((x + i) * n + c)) (λ i. sum_of m (λ j. sample_at d patch ((y + j) * stride + ((x + i) * n + c))))
       (λ i lt.
       let inside : (x + i) * n + c < stride = omega (arith, within_row n w r stride x c i is_stride column channel (omega arith)) in
-      get_or-take stride columns ((x + i) * n + c) 0 inside ∙ held.columns ((x + i) * n + c) inside) in
+      held.columns ((x + i) * n + c) inside) in
       made ∙ (λ t. mean_sum (is_count t) (same t))
       ∙ (λ t. mean_sum (m * m) (sum_of m (λ i. sum_of m (λ j. sample_at d patch ((y + j) * is_stride t + ((x + i) * n + c))))))
 

@@ -1,10 +1,8 @@
 -- Sums of the first numbers of a sequence, and of columns of samples.
-use Rattle.std.proofs.Common.{◌≡◌, ℕ, zero, suc, ◌+◌, ◌-◌, ◌*◌, ◌%◌, ◌^◌, ◌<◌, ◌≤◌, List, length, get_or, set, refl, sym, ap, ◌∙◌, subst, inl, inr, arith, w8, Fits}
+use Rattle.std.proofs.Common.{◌≡◌, ℕ, zero, suc, ◌+◌, ◌-◌, ◌*◌, ◌%◌, ◌<◌, ◌≤◌, List, get_or, refl, sym, ap, ◌∙◌, subst, inl, inr, arith, w8, Fits}
 use Rattle.std.proofs.lemmas.Bool.{cases_lt}
-use Rattle.std.proofs.lemmas.Nat.{same_from_place}
-use Rattle.std.proofs.lemmas.List.{get_or-set_other}
-use Rattle.std.proofs.lemmas.Grind.{get_or-set_at}
-use Rattle.area_kernels.proofs.CopiedSamples.{row_within}
+use Rattle.std.proofs.lemmas.Nat.{mod-mul-add, mul-add-lt}
+use Rattle.std.proofs.Math.Nat.{mod-eq_of_lt, mul-le-mul_right}
 use Rattle.pixel_formats.specs.Sample.{max_sample_of, sample_at}
 use Rattle.area_kernels.specs.Columns.{HoldsColumns}
 use Rattle.area_kernels.specs.Sequences.{sum_of}
@@ -38,155 +36,161 @@ few_levels (suc zero) le = omega arith
 few_levels (suc (suc zero)) le = omega arith
 few_levels (suc (suc (suc d))) le = absurd (omega arith)
 
--- ---- numbers of a row that are changed sixteen at a time
+-- ---- numbers that are changed sixteen at a time
 
--- the first n of a row have become what change gives for their numbers and themselves, and the others are unchanged
-pub record ChangedBelow (change : ℕ → ℕ → ℕ) (n : ℕ) (old new : List ℕ) : Type 0 where
-  pub changed : (i : ℕ) → i < n → get_or new i 0 ≡ change i (get_or old i 0)
-  pub rest : (i : ℕ) → n ≤ i → get_or new i 0 ≡ get_or old i 0
+-- the first n have become what change gives for their numbers and themselves, and the others are unchanged
+pub record ChangedBelow (change : ℕ → ℕ → ℕ) (n : ℕ) (old new : ℕ → ℕ) : Type 0 where
+  pub changed : (i : ℕ) → i < n → new i ≡ change i (old i)
+  pub rest : (i : ℕ) → n ≤ i → new i ≡ old i
 
-pub ChangedBelow-none : (change : ℕ → ℕ → ℕ) (old : List ℕ) → ChangedBelow change 0 old old
+pub ChangedBelow-none : (change : ℕ → ℕ → ℕ) (old : ℕ → ℕ) → ChangedBelow change 0 old old
 ChangedBelow-none change old = record { changed = λ i lt. absurd (omega arith); rest = λ i le. refl }
 
-pub ChangedBelow-more : (change : ℕ → ℕ → ℕ) (n m : ℕ) (old new newer : List ℕ) → m ≡ n + 16 → ChangedBelow change n old new
-    → ((j : ℕ) → j < 16 → get_or newer (n + j) 0 ≡ change (n + j) (get_or new (n + j) 0))
-    → ((i : ℕ) → i < n → get_or newer i 0 ≡ get_or new i 0) → ((i : ℕ) → n + 16 ≤ i → get_or newer i 0 ≡ get_or new i 0)
+pub ChangedBelow-more : (change : ℕ → ℕ → ℕ) (n m : ℕ) (old new newer : ℕ → ℕ) → m ≡ n + 16 → ChangedBelow change n old new
+    → ((j : ℕ) → j < 16 → newer (n + j) ≡ change (n + j) (new (n + j)))
+    → ((i : ℕ) → i < n → newer i ≡ new i) → ((i : ℕ) → n + 16 ≤ i → newer i ≡ new i)
     → ChangedBelow change m old newer
 ChangedBelow-more change n m old new newer is h here before after = record {
   changed = λ i lt. elim (cases_lt i n) [
     | inl below ↦ before i below ∙ h.changed i below
     | inr past ↦
         let at : n + (i - n) ≡ i = omega arith in
-        ap (λ k. get_or newer k 0) (sym at) ∙ here (i - n) (omega arith)
-        ∙ (λ t. change (at t) (get_or new (at t) 0)) ∙ ap (change i) (h.rest i past)
+        ap newer (sym at) ∙ here (i - n) (omega arith)
+        ∙ (λ t. change (at t) (new (at t))) ∙ ap (change i) (h.rest i past)
   ];
   rest = λ i le. after i (omega arith) ∙ h.rest i (omega arith);
 }
 
--- ---- sums of columns
+-- ---- sums of columns, in numbers below w
 
-abbrev pub added : ℕ → ℕ → ℕ
-added sum coming = (sum + coming) % 2 ^ 32
+abbrev pub added : ℕ → ℕ → ℕ → ℕ
+added w sum coming = (sum + coming) % w
 
-abbrev pub slid : ℕ → ℕ → ℕ → ℕ
-slid sum coming leaving = ((sum + coming) % 2 ^ 32 + (2 ^ 32 - leaving)) % 2 ^ 32
+abbrev pub slid : ℕ → ℕ → ℕ → ℕ → ℕ
+slid w sum coming leaving = ((sum + coming) % w + (w - leaving)) % w
 
 -- the numbers of samples that are counted from a block's first one
-pub added_here : (s : ℕ → ℕ) (from at : ℕ) (old new : List ℕ) → ((j : ℕ) → j < 16 → get_or new (at + j) 0 ≡ added (get_or old (at + j) 0) (s (from + at + j)))
-    → (j : ℕ) → j < 16 → get_or new (at + j) 0 ≡ added (get_or old (at + j) 0) (s (from + (at + j)))
-added_here s from at old new made j lt =
+pub added_here : (w : ℕ) (s lane : ℕ → ℕ) (from at : ℕ) (old new : ℕ → ℕ) → ((j : ℕ) → j < 16 → lane j ≡ s (from + at + j))
+    → ((j : ℕ) → j < 16 → new (at + j) ≡ added w (old (at + j)) (lane j))
+    → (j : ℕ) → j < 16 → new (at + j) ≡ added w (old (at + j)) (s (from + (at + j)))
+added_here w s lane from at old new loaded made j lt =
     let coming : from + at + j ≡ from + (at + j) = omega arith in
-    made j lt ∙ ap (λ k. added (get_or old (at + j) 0) (s k)) coming
+    made j lt ∙ ap (added w (old (at + j))) (loaded j lt ∙ ap s coming)
 
-pub slid_here : (s : ℕ → ℕ) (from out at : ℕ) (old new : List ℕ) → ((j : ℕ) → j < 16 → get_or new (at + j) 0 ≡ slid (get_or old (at + j) 0) (s (from + at + j)) (s (out + at + j)))
-    → (j : ℕ) → j < 16 → get_or new (at + j) 0 ≡ slid (get_or old (at + j) 0) (s (from + (at + j))) (s (out + (at + j)))
-slid_here s from out at old new made j lt =
+pub slid_here : (w : ℕ) (s lane last : ℕ → ℕ) (from out at : ℕ) (old new : ℕ → ℕ) → ((j : ℕ) → j < 16 → lane j ≡ s (from + at + j)) → ((j : ℕ) → j < 16 → last j ≡ s (out + at + j))
+    → ((j : ℕ) → j < 16 → new (at + j) ≡ slid w (old (at + j)) (lane j) (last j))
+    → (j : ℕ) → j < 16 → new (at + j) ≡ slid w (old (at + j)) (s (from + (at + j))) (s (out + (at + j)))
+slid_here w s lane last from out at old new loaded loaded_last made j lt =
     let coming : from + at + j ≡ from + (at + j) = omega arith in
     let leaving : out + at + j ≡ out + (at + j) = omega arith in
-    made j lt ∙ (λ t. slid (get_or old (at + j) 0) (s (coming t)) (s (leaving t)))
+    let enters = loaded j lt ∙ ap s coming in
+    let leaves = loaded_last j lt ∙ ap s leaving in
+    made j lt ∙ (λ t. slid w (old (at + j)) (enters t) (leaves t))
 
-pub added_fits : (sum coming : ℕ) → sum ≤ 8454015 → coming ≤ 65535 → added sum coming ≡ sum + coming
-added_fits sum coming few small = omega arith
+slid_fits : (w m sum coming leaving new : ℕ) → sum ≤ 129 * m → coming ≤ m → leaving ≤ m → 130 * m < w → new + leaving ≡ sum + coming → slid w sum coming leaving ≡ new
+slid_fits w m sum coming leaving new few enters leaves room is =
+    let whole : (sum + coming) % w ≡ sum + coming = mod-eq_of_lt (omega arith) in
+    let moved : sum + coming + (w - leaving) ≡ 1 * w + new = omega arith in
+    ap (λ n. (n + (w - leaving)) % w) whole ∙ ap (λ n. n % w) moved ∙ mod-mul-add 1 w new (omega arith)
 
-pub slid_fits : (sum coming leaving new : ℕ) → sum ≤ 8454015 → coming ≤ 65535 → new + leaving ≡ sum + coming → slid sum coming leaving ≡ new
-slid_fits sum coming leaving new few small is = omega arith
-
-module _ (d stride side first : ℕ) (samples old new : List ℕ) (fits : (k : ℕ) → Fits w8 (get_or samples k 0)) (shallow : d ≤ 2) where
-  sample-small : (i : ℕ) → sample_at d samples i ≤ 65535
-  sample-small i = omega (arith, sample-below d samples fits i, few_levels d shallow)
-
+module _ (d stride side first w m : ℕ) (samples : List ℕ) (old new : ℕ → ℕ) (below : (i : ℕ) → sample_at d samples i ≤ m) (room : 130 * m < w) where
   -- a row more in each sum
   pub HoldsColumns-added : (row next : ℕ) → row ≡ first + side → next ≡ suc side → side < 129 → HoldsColumns d stride side first samples old
-      → ((i : ℕ) → i < stride → get_or new i 0 ≡ added (get_or old i 0) (sample_at d samples (row * stride + i)))
+      → ((i : ℕ) → i < stride → new i ≡ added w (old i) (sample_at d samples (row * stride + i)))
       → HoldsColumns d stride next first samples new
   HoldsColumns-added row next is more few held made = record {
     columns = λ i lt.
         let f : ℕ → ℕ = λ j. sample_at d samples ((first + j) * stride + i) in
-        let small : sum_of side f ≤ side * 65535 = sum_of-below side 65535 f (λ k _. sample-small ((first + k) * stride + i)) in
-        made i lt ∙ (λ t. added (held.columns i lt t) (sample_at d samples (is t * stride + i)))
-        ∙ added_fits (sum_of side f) (f side) (omega arith) (sample-small ((first + side) * stride + i)) ∙ ap (λ n. sum_of n f) (sym more);
+        let small : sum_of side f ≤ side * m = sum_of-below side m f (λ k _. below ((first + k) * stride + i)) in
+        let few_rows : side * m ≤ 128 * m = mul-le-mul_right m (omega arith) in
+        let fits : (sum_of side f + f side) % w ≡ sum_of side f + f side = mod-eq_of_lt (omega (arith, small, few_rows, below ((first + side) * stride + i), room)) in
+        made i lt ∙ (λ t. added w (held.columns i lt t) (sample_at d samples (is t * stride + i)))
+        ∙ fits ∙ ap (λ n. sum_of n f) (sym more);
   }
 
   -- the row after the last in each sum, without the first
   pub HoldsColumns-slid : side ≤ 129 → HoldsColumns d stride side first samples old
-      → ((i : ℕ) → i < stride → get_or new i 0 ≡ slid (get_or old i 0) (sample_at d samples ((first + side) * stride + i)) (sample_at d samples (first * stride + i)))
+      → ((i : ℕ) → i < stride → new i ≡ slid w (old i) (sample_at d samples ((first + side) * stride + i)) (sample_at d samples (first * stride + i)))
       → HoldsColumns d stride side (first + 1) samples new
   HoldsColumns-slid few held made = record {
     columns = λ i lt.
         let f : ℕ → ℕ = λ j. sample_at d samples ((first + j) * stride + i) in
-        let small : sum_of side f ≤ side * 65535 = sum_of-below side 65535 f (λ k _. sample-small ((first + k) * stride + i)) in
+        let small : sum_of side f ≤ side * m = sum_of-below side m f (λ k _. below ((first + k) * stride + i)) in
+        let few_rows : side * m ≤ 129 * m = mul-le-mul_right m few in
         let leaving : sample_at d samples (first * stride + i) ≡ f 0 = ap (λ n. sample_at d samples (n * stride + i)) (omega arith) in
-        made i lt ∙ (λ t. slid (held.columns i lt t) (f side) (leaving t))
-        ∙ slid_fits (sum_of side f) (f side) (f 0) (sum_of side (λ k. f (k + 1))) (omega arith) (sample-small ((first + side) * stride + i)) (sum_of-slid side f)
+        made i lt ∙ (λ t. slid w (held.columns i lt t) (f side) (leaving t))
+        ∙ slid_fits w m (sum_of side f) (f side) (f 0) (sum_of side (λ k. f (k + 1))) (omega (arith, small, few_rows))
+        (below ((first + side) * stride + i)) (below ((first + 0) * stride + i)) room (sum_of-slid side f)
         ∙ sum_of-same side (λ k. f (k + 1)) (λ j. sample_at d samples ((first + 1 + j) * stride + i))
         (λ k _. ap (λ n. sample_at d samples (n * stride + i)) (omega arith));
   }
 
-pub HoldsColumns-none : (d stride first : ℕ) (samples sums : List ℕ) → ((i : ℕ) → i < stride → get_or sums i 0 ≡ 0) → HoldsColumns d stride 0 first samples sums
-HoldsColumns-none d stride first samples sums zeros = record { columns = zeros }
+pub HoldsColumns-none : (d stride first : ℕ) (samples : List ℕ) (sums : ℕ → ℕ) → ((i : ℕ) → sums i ≡ 0) → HoldsColumns d stride 0 first samples sums
+HoldsColumns-none d stride first samples sums zeros = record { columns = λ i lt. zeros i }
 
 -- ---- sums that slide along a row
 
-module _ (row : List ℕ) (n c x reach sum coming leaving : ℕ) (is : sum ≡ sum_of reach (λ k. get_or row ((x + k) * n + c) 0))
-    (enters : coming ≡ (x + reach) * n + c) (leaves : leaving ≡ x * n + c) where
-  abbrev number : ℕ → ℕ
-  number k = get_or row ((x + k) * n + c) 0
+-- the number of a sample of a pixel among those that are summed
+pub sample_within : (n w reach x c k : ℕ) → x < w → c < n → k ≤ reach → (x + k) * n + c < (w + reach) * n
+sample_within n w reach x c k column channel few = omega (arith, mul-add-lt x n c w column channel, mul-le-mul_right n few)
 
-  last : get_or row coming 0 ≡ number reach
-  last = ap (λ i. get_or row i 0) enters
+-- with the number after the last
+pub sum-next : (number : ℕ → ℕ) (m sum coming : ℕ) → m ≤ 128 → ((k : ℕ) → k ≤ m → number k ≤ 8454015) → sum ≡ sum_of m number → coming ≡ number m
+    → (sum + coming) % 4294967296 ≡ sum_of (m + 1) number
+sum-next number m sum coming few small is enters =
+    let next : suc m ≡ m + 1 = omega arith in
+    let so_far : sum_of m number ≤ m * 8454015 = sum_of-below m 8454015 number (λ k lt. small k (omega arith)) in
+    let whole : (sum + coming) % 4294967296 ≡ sum_of (suc m) number = omega (arith, is, enters, so_far, small m (omega arith)) in
+    whole ∙ ap (λ m. sum_of m number) next
 
-  pub sum-whole : sum + get_or row coming 0 ≡ sum_of (reach + 1) number
-  sum-whole =
-      let next : suc reach ≡ reach + 1 = omega arith in
-      let whole : sum + get_or row coming 0 ≡ sum_of (suc reach) number = omega (arith, is, last) in
-      whole ∙ ap (λ m. sum_of m number) next
+-- without the first number
+pub sum-slid : (s : ℕ → ℕ) (n c x reach whole leaving : ℕ) → reach ≤ 128 → ((k : ℕ) → k ≤ reach → s ((x + k) * n + c) ≤ 8454015)
+    → whole ≡ sum_of (reach + 1) (λ k. s ((x + k) * n + c)) → leaving ≡ s (x * n + c)
+    → (whole + (4294967296 - leaving)) % 4294967296 ≡ sum_of reach (λ k. s ((x + 1 + k) * n + c))
+sum-slid s n c x reach whole leaving few small is leaves =
+    let number : ℕ → ℕ = λ k. s ((x + k) * n + c) in
+    let next : suc reach ≡ reach + 1 = omega arith in
+    let all : whole ≡ sum_of reach number + number reach = is ∙ ap (λ m. sum_of m number) (sym next) in
+    let first : leaving ≡ number 0 = leaves ∙ ap (λ y. s (y * n + c)) (omega arith) in
+    let same : sum_of reach (λ k. number (k + 1)) ≡ sum_of reach (λ k. s ((x + 1 + k) * n + c)) =
+    sum_of-same reach (λ k. number (k + 1)) (λ k. s ((x + 1 + k) * n + c)) (λ k _. ap (λ y. s (y * n + c)) (omega arith)) in
+    let least : sum_of reach (λ k. number (k + 1)) ≤ reach * 8454015 = sum_of-below reach 8454015 (λ k. number (k + 1)) (λ k lt. small (k + 1) (omega arith)) in
+    let slid_sum : (whole + (4294967296 - leaving)) % 4294967296 ≡ sum_of reach (λ k. number (k + 1)) =
+    omega (arith, all, first, least, small 0 (omega arith), sum_of-slid reach number) in
+    slid_sum ∙ same
 
-  pub sum-slid : sum_of reach (λ k. get_or row ((x + 1 + k) * n + c) 0) + get_or row leaving 0 ≡ sum + get_or row coming 0
-  sum-slid =
-      let first : get_or row leaving 0 ≡ number 0 = ap (λ i. get_or row i 0) (leaves ∙ ap (λ y. y * n + c) (omega arith)) in
-      let same : sum_of reach (λ k. number (k + 1)) ≡ sum_of reach (λ k. get_or row ((x + 1 + k) * n + c) 0) =
-      sum_of-same reach (λ k. number (k + 1)) (λ k. get_or row ((x + 1 + k) * n + c) 0) (λ k _. ap (λ y. get_or row (y * n + c) 0) (omega arith)) in
-      omega (arith, is, last, first, same, sum_of-slid reach number)
+-- the sums of the first x pixels were written, and the numbers after those of all are zeros, but for four
+pub record SumsBelow (s : ℕ → ℕ) (n reach width x : ℕ) (sums : List ℕ) : Type 0 where
+  pub made : (p c : ℕ) → p < x → c < n → get_or sums (p * n + c) 0 ≡ sum_of (reach + 1) (λ k. s ((p + k) * n + c))
+  pub clear : (i : ℕ) → width * n + 4 ≤ i → get_or sums i 0 ≡ 0
 
--- the sums of a channel of the first x pixels were written, and all other numbers are unchanged
-pub record SumsBelow (row : List ℕ) (n c reach width x : ℕ) (old sums : List ℕ) : Type 0 where
-  pub made : (p : ℕ) → p < x → get_or sums (p * n + c) 0 ≡ sum_of (reach + 1) (λ k. get_or row ((p + k) * n + c) 0)
-  pub others : (p k : ℕ) → k < n → (k ≡ c → ⊥) → get_or sums (p * n + k) 0 ≡ get_or old (p * n + k) 0
-  pub after : (i : ℕ) → width * n ≤ i → get_or sums i 0 ≡ get_or old i 0
+module _ (s : ℕ → ℕ) (n reach width : ℕ) (old new : List ℕ) where
+  pub SumsBelow-more : (x : ℕ) → n ≤ 4 → x < width
+      → ((c : ℕ) → c < n → get_or new (x * n + c) 0 ≡ sum_of (reach + 1) (λ k. s ((x + k) * n + c)))
+      → ((i : ℕ) → i < x * n → get_or new i 0 ≡ get_or old i 0) → ((i : ℕ) → x * n + 4 ≤ i → get_or new i 0 ≡ get_or old i 0)
+      → SumsBelow s n reach width x old → SumsBelow s n reach width (x + 1) new
+  SumsBelow-more x few within here before after h = record {
+    made = λ p c lt channel. elim (cases_lt p x) [
+      | inl earlier ↦ before (p * n + c) (omega (arith, mul-add-lt p n c x earlier channel)) ∙ h.made p c earlier channel
+      | inr past ↦
+          let at : x ≡ p = omega arith in
+          subst (λ y. get_or new (y * n + c) 0 ≡ sum_of (reach + 1) (λ k. s ((y + k) * n + c))) at (here c channel)
+    ];
+    clear = λ i far.
+        let le : x * n ≤ width * n = mul-le-mul_right n (omega arith) in
+        after i (omega arith) ∙ h.clear i far;
+  }
 
-pub SumsBelow-none : (row : List ℕ) (n c reach width : ℕ) (old : List ℕ) → SumsBelow row n c reach width 0 old old
-SumsBelow-none row n c reach width old = record { made = λ p lt. absurd (omega arith); others = λ p k lt other. refl; after = λ i le. refl }
+  -- the four numbers after those of all pixels were made zeros
+  pub SumsBelow-made : ((i : ℕ) → i < width * n → get_or new i 0 ≡ get_or old i 0) → SumsBelow s n reach width width old
+      → (p c : ℕ) → p < width → c < n → get_or new (p * n + c) 0 ≡ sum_of (reach + 1) (λ k. s ((p + k) * n + c))
+  SumsBelow-made before h p c lt channel = before (p * n + c) (omega (arith, mul-add-lt p n c width lt channel)) ∙ h.made p c lt channel
 
-pub SumsBelow-more : (row : List ℕ) (n c reach width x at sum : ℕ) (old sums : List ℕ) → c < n → x < width → width * n ≤ length sums → at ≡ x * n + c
-    → sum ≡ sum_of (reach + 1) (λ k. get_or row ((x + k) * n + c) 0) → SumsBelow row n c reach width x old sums → SumsBelow row n c reach width (x + 1) old (set sums at sum)
-SumsBelow-more row n c reach width x at sum old sums channel within long there is h = record {
-  made = λ p lt. elim (cases_lt p x) [
-    | inl before ↦
-        get_or-set_other sums at (p * n + c) sum 0 (λ e. absurd (omega (arith, row_within p x n before))) ∙ h.made p before
-    | inr past ↦
-        let here : x ≡ p = omega arith in
-        get_or-set_at sums at (p * n + c) sum 0 (omega (arith, ap (λ m. m * n) here)) (omega (arith, row_within x width n within)) ∙ is
-        ∙ ap (λ y. sum_of (reach + 1) (λ k. get_or row ((y + k) * n + c) 0)) here
-  ];
-  others = λ p k lt other.
-      get_or-set_other sums at (p * n + k) sum 0 (λ e. other ((same_from_place p k x c n lt channel (e ∙ there)).1)) ∙ h.others p k lt other;
-  after = λ i le.
-      get_or-set_other sums at i sum 0 (λ e. absurd (omega (arith, row_within x width n within))) ∙ h.after i le;
-}
-
--- the sums of the channels before a number were written
-pub record SumsOf (row : List ℕ) (n reach width number : ℕ) (old sums : List ℕ) : Type 0 where
-  pub made : (x c : ℕ) → x < width → c < number → get_or sums (x * n + c) 0 ≡ sum_of (reach + 1) (λ k. get_or row ((x + k) * n + c) 0)
-  pub after : (i : ℕ) → width * n ≤ i → get_or sums i 0 ≡ get_or old i 0
-
-pub SumsOf-more : (row : List ℕ) (n reach width c : ℕ) (old sums newer : List ℕ) → c < n → SumsOf row n reach width c old sums → SumsBelow row n c reach width width sums newer
-    → SumsOf row n reach width (c + 1) old newer
-SumsOf-more row n reach width c old sums newer channel h more = record {
-  made = λ x k within lt. elim (cases_lt k c) [
-    | inl before ↦ more.others x k (omega arith) (λ e. absurd (omega arith)) ∙ h.made x k within before
-    | inr past ↦
-        let here : c ≡ k = omega arith in
-        subst (λ m. get_or newer (x * n + m) 0 ≡ sum_of (reach + 1) (λ i. get_or row ((x + i) * n + m) 0)) here (more.made x within)
-  ];
-  after = λ i le. more.after i le ∙ h.after i le;
-}
+  pub SumsBelow-clear : ((j : ℕ) → j < 4 → get_or new (width * n + j) 0 ≡ 0) → ((i : ℕ) → width * n + 4 ≤ i → get_or new i 0 ≡ get_or old i 0)
+      → SumsBelow s n reach width width old → (i : ℕ) → width * n ≤ i → get_or new i 0 ≡ 0
+  SumsBelow-clear zeros after h i le = elim (cases_lt i (width * n + 4)) [
+    | inl near ↦
+        let at : width * n + (i - width * n) ≡ i = omega arith in
+        ap (λ k. get_or new k 0) (sym at) ∙ zeros (i - width * n) (omega arith)
+    | inr far ↦ after i far ∙ h.clear i far
+  ]

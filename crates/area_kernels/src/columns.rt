@@ -1,117 +1,119 @@
 //! Sums of columns of samples, which slide from row to row.
 
-ghost use Rattle.std.specs.Prelude.{◌≡◌, ℕ, ◌+◌, ◌-◌, ◌*◌, ◌%◌, ◌^◌, ◌<◌, ◌≤◌, length, slice_index};
+ghost use Rattle.std.specs.Prelude.{◌≡◌, ℕ, ◌+◌, ◌-◌, ◌*◌, ◌%◌, ◌<◌, ◌≤◌, length, slice_index};
 ghost use Rattle.area_kernels.specs.Columns.{HoldsColumns};
-ghost use Rattle.pixel_formats.specs.Sample.{sample_at};
+ghost use Rattle.pixel_formats.specs.Sample.{max_sample_of, sample_at};
 
-use simd_samples::{Lanes, WideLanes, load_at};
+use simd_samples::{FourLanes, Lanes, load_at};
 
-/// Adds sixteen samples to sums, from number `at` on, modulo 2^32. All others are unchanged.
-#[inline(always)]
-fn add_block<L: Lanes>(samples: &[u8], coming: usize, sums: &mut [u32], at: usize)
-    requires coming { L.depth * (coming + 16) ≤ length samples.now }
-    requires sums { at + 16 ≤ length sums.old }
-    ensures here { (j : ℕ) → j < 16 → slice_index sums.new (at + j)
-        ≡ (slice_index sums.old (at + j) + sample_at L.depth samples.now (coming + j)) % 2 ^ 32 }
-    ensures before { (i : ℕ) → i < at → slice_index sums.new i ≡ slice_index sums.old i }
-    ensures after { (i : ℕ) → at + 16 ≤ i → slice_index sums.new i ≡ slice_index sums.old i }
-{
-    let added = load_at::<L>(samples, coming).widen();
-    WideLanes::load_at(sums, at)
-        .wrapping_add(added)
-        .store_at(sums, at);
-}
+/// How many sums there are: those of the samples of the longest row that is read, of 192 pixels of
+/// four channels, and sixteen more.
+pub(crate) const COLUMNS: usize = 4 * 192 + 16;
 
-/// Adds sixteen samples to sums, from number `at` on, and takes sixteen others away, modulo 2^32.
-/// All others are unchanged.
-#[inline(always)]
-fn slide_block<L: Lanes>(samples: &[u8], coming: usize, leaving: usize, sums: &mut [u32], at: usize)
-    requires coming { L.depth * (coming + 16) ≤ length samples.now }
-    requires leaving { L.depth * (leaving + 16) ≤ length samples.now }
-    requires sums { at + 16 ≤ length sums.old }
-    ensures here { (j : ℕ) → j < 16 → slice_index sums.new (at + j)
-        ≡ ((slice_index sums.old (at + j) + sample_at L.depth samples.now (coming + j)) % 2 ^ 32
-        + (2 ^ 32 - sample_at L.depth samples.now (leaving + j))) % 2 ^ 32 }
-    ensures before { (i : ℕ) → i < at → slice_index sums.new i ≡ slice_index sums.old i }
-    ensures after { (i : ℕ) → at + 16 ≤ i → slice_index sums.new i ≡ slice_index sums.old i }
-{
-    let added = load_at::<L>(samples, coming).widen();
-    let taken = load_at::<L>(samples, leaving).widen();
-    WideLanes::load_at(sums, at)
-        .wrapping_add(added)
-        .wrapping_sub(taken)
-        .store_at(sums, at);
+/// Sums of columns of samples, in numbers that have room for the sums of 130 samples.
+pub(crate) trait ColumnSums<L: Lanes> {
+    /// Each sum.
+    ghost sum: { Self → ℕ → ℕ };
+
+    /// One more than the largest number.
+    ghost limit: { ℕ };
+
+    /// Returns sums that are 0.
+    fn zeros() -> Self
+        ensures { (i : ℕ) → sum result i ≡ 0 };
+
+    /// Adds sixteen samples to sums, from number `at` on. All others are unchanged.
+    fn add(&mut self, at: usize, coming: L)
+        requires { at + 16 ≤ COLUMNS }
+        ensures here { (j : ℕ) → j < 16 → sum self.new (at + j) ≡ (sum self.old (at + j) + L.lane coming j) % limit }
+        ensures before { (i : ℕ) → i < at → sum self.new i ≡ sum self.old i }
+        ensures after { (i : ℕ) → at + 16 ≤ i → sum self.new i ≡ sum self.old i };
+
+    /// Adds sixteen samples to sums, from number `at` on, and takes sixteen others away. All others
+    /// are unchanged.
+    fn slide(&mut self, at: usize, coming: L, leaving: L)
+        requires { at + 16 ≤ COLUMNS }
+        ensures here { (j : ℕ) → j < 16 → sum self.new (at + j)
+            ≡ ((sum self.old (at + j) + L.lane coming j) % limit + (limit - L.lane leaving j)) % limit }
+        ensures before { (i : ℕ) → i < at → sum self.new i ≡ sum self.old i }
+        ensures after { (i : ℕ) → at + 16 ≤ i → sum self.new i ≡ sum self.old i };
+
+    /// Returns four sums, from number `at` on.
+    fn four(&self, at: usize) -> FourLanes
+        requires { at + 4 ≤ COLUMNS }
+        ensures { (j : ℕ) → j < 4 → slice_index result j ≡ sum self.now (at + j) };
+
+    ghost room: { 130 * max_sample_of L.depth < limit };
 }
 
 /// Adds a row of `count` samples, from number `coming` on, to the sums of columns. Up to fifteen
 /// sums after them are overwritten.
-fn add_row<L: Lanes>(samples: &[u8], coming: usize, sums: &mut [u32], count: usize)
+fn add_row<L: Lanes, C: ColumnSums<L>>(samples: &[u8], coming: usize, columns: &mut C, count: usize)
     requires samples { L.depth * (coming + count + 16) ≤ length samples.now }
-    requires sums { count + 16 ≤ length sums.old }
-    ensures { (i : ℕ) → i < count → slice_index sums.new i
-        ≡ (slice_index sums.old i + sample_at L.depth samples.now (coming + i)) % 2 ^ 32 }
+    requires few { count ≤ 768 }
+    ensures { (i : ℕ) → i < count → C.sum columns.new i
+        ≡ (C.sum columns.old i + sample_at L.depth samples.now (coming + i)) % C.limit }
 {
     for block in 0..count.div_ceil(16) {
-        add_block::<L>(samples, coming + 16 * block, sums, 16 * block);
+        let at = 16 * block;
+        columns.add(at, load_at(samples, coming + at));
     }
 }
 
 /// Adds a row of `count` samples to the sums of columns and takes another away, of which the numbers
 /// of the first samples are given. Up to fifteen sums after them are overwritten.
-fn slide_row<L: Lanes>(
+fn slide_row<L: Lanes, C: ColumnSums<L>>(
     samples: &[u8],
     coming: usize,
     leaving: usize,
-    sums: &mut [u32],
+    columns: &mut C,
     count: usize,
 )
     requires coming { L.depth * (coming + count + 16) ≤ length samples.now }
     requires leaving { L.depth * (leaving + count + 16) ≤ length samples.now }
-    requires sums { count + 16 ≤ length sums.old }
-    ensures { (i : ℕ) → i < count → slice_index sums.new i
-        ≡ ((slice_index sums.old i + sample_at L.depth samples.now (coming + i)) % 2 ^ 32
-        + (2 ^ 32 - sample_at L.depth samples.now (leaving + i))) % 2 ^ 32 }
+    requires few { count ≤ 768 }
+    ensures { (i : ℕ) → i < count → C.sum columns.new i
+        ≡ ((C.sum columns.old i + sample_at L.depth samples.now (coming + i)) % C.limit
+        + (C.limit - sample_at L.depth samples.now (leaving + i))) % C.limit }
 {
     for block in 0..count.div_ceil(16) {
         let at = 16 * block;
-        slide_block::<L>(samples, coming + at, leaving + at, sums, at);
+        let added = load_at(samples, coming + at);
+        let taken = load_at(samples, leaving + at);
+        columns.slide(at, added, taken);
     }
 }
 
-/// Puts the sums of the columns of the first `side` rows in place of zeros.
-pub(crate) fn sum_rows<L: Lanes>(samples: &[u8], stride: usize, side: usize, sums: &mut [u32])
+/// Returns the sums of the columns of the first `side` rows.
+pub(crate) fn sum_rows<L: Lanes, C: ColumnSums<L>>(samples: &[u8], stride: usize, side: usize) -> C
     requires few { side ≤ 129 }
+    requires narrow { stride ≤ 768 }
     requires samples { L.depth * (side * stride + 16) ≤ length samples.now }
-    requires sums { stride + 16 ≤ length sums.old }
-    requires zeros { (i : ℕ) → i < stride → slice_index sums.old i ≡ 0 }
-    ensures { HoldsColumns L.depth stride side 0 samples.now sums.new }
+    ensures { HoldsColumns L.depth stride side 0 samples.now (C.sum result) }
 {
+    let mut columns = C::zeros();
     for row in 0..side {
-        add_row::<L>(samples, row * stride, sums, stride);
+        add_row(samples, row * stride, &mut columns, stride);
     }
+    columns
 }
 
 /// Makes the sums of the columns of `side` rows from row number `first` on those from the row after
 /// it on.
-pub(crate) fn slide_rows<L: Lanes>(
+pub(crate) fn slide_rows<L: Lanes, C: ColumnSums<L>>(
     samples: &[u8],
     stride: usize,
     side: usize,
     first: usize,
-    sums: &mut [u32],
+    columns: &mut C,
 )
     requires few { side ≤ 129 }
     requires early { first ≤ 64 }
+    requires narrow { stride ≤ 768 }
     requires samples { L.depth * ((first + side + 1) * stride + 16) ≤ length samples.now }
-    requires sums { stride + 16 ≤ length sums.old }
-    requires columns { HoldsColumns L.depth stride side first samples.now sums.old }
-    ensures { HoldsColumns L.depth stride side (first + 1) samples.now sums.new }
+    requires columns { HoldsColumns L.depth stride side first samples.now (C.sum columns.old) }
+    ensures { HoldsColumns L.depth stride side (first + 1) samples.now (C.sum columns.new) }
 {
-    slide_row::<L>(
-        samples,
-        (first + side) * stride,
-        first * stride,
-        sums,
-        stride,
-    );
+    let (coming, leaving) = ((first + side) * stride, first * stride);
+    slide_row(samples, coming, leaving, columns, stride);
 }

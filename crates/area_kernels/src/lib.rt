@@ -2,6 +2,7 @@
 #![tactic(auto)]
 
 mod area;
+mod column_numbers;
 mod columns;
 mod divisor;
 mod extremes;

@@ -9,15 +9,13 @@ ghost use Rattle.pixel_formats.specs.Format.{channels, depth};
 ghost use Rattle.pixel_formats.specs.Sample.{max_sample_of, sample_at};
 
 use crate::area::Area;
-use crate::columns::{slide_rows, sum_rows};
+use crate::column_numbers::{LongSums, ShortSums};
+use crate::columns::{ColumnSums, slide_rows, sum_rows};
 use crate::divisor::Divisor;
 use crate::rows::copy_samples;
 use crate::sums::sum_row;
 use pixel_formats::Format;
 use simd_samples::{ByteLanes, Lanes, WordLanes};
-
-/// The samples of the longest row that is read, of 192 pixels of four channels, and sixteen more.
-const COLUMNS: usize = 4 * 192 + 16;
 
 /// The samples of the longest row that is written, of 64 pixels of four channels, and sixteen more.
 const SUMS: usize = 4 * 64 + 16;
@@ -27,45 +25,56 @@ const MEAN_BYTES: usize = 2 * SUMS;
 
 /// Writes the means of the squares of a row, of which the sums of columns are given. The sums after
 /// the row are zeros before and after.
-fn mean_row<L: Lanes>(
+fn mean_row<L: Lanes, C: ColumnSums<L>>(
     area: Area,
     channels: usize,
     divisor: &Divisor,
-    columns: &[u32],
+    columns: &C,
     sums: &mut [u32],
     means: &mut [u8],
 )
     requires channels { channels ≤ 4 }
     requires count { divisor.now.count ≡ (2 * area.radius + 1) * (2 * area.radius + 1) }
-    requires columns { grown area.radius area.width * channels ≤ length columns.now }
-    requires small { (i : ℕ) → slice_index columns.now i ≤ (2 * area.radius + 1) * max_sample_of L.depth }
+    requires small { (i : ℕ) → i < grown area.radius area.width * channels
+        → C.sum columns.now i ≤ (2 * area.radius + 1) * max_sample_of L.depth }
     requires sums { area.width * channels + 16 ≤ length sums.old }
     requires means { L.depth * (area.width * channels + 16) ≤ length means.old }
     requires clear { (i : ℕ) → area.width * channels ≤ i → slice_index sums.old i ≡ 0 }
     ensures made { (x c : ℕ) → x < area.width → c < channels → sample_at L.depth means.new (x * channels + c)
-        ≡ mean_sum divisor.now.count (sum_of (2 * area.radius + 1) (λ i. slice_index columns.now ((x + i) * channels + c))) }
+        ≡ mean_sum divisor.now.count (sum_of (2 * area.radius + 1) (λ i. C.sum columns.now ((x + i) * channels + c))) }
     ensures clear { (i : ℕ) → area.width * channels ≤ i → slice_index sums.new i ≡ 0 }
 {
-    sum_row(columns, channels, 2 * area.radius, area.width, sums);
+    sum_row::<L, C>(columns, channels, 2 * area.radius, area.width, sums);
     divisor.divide::<L>(sums, means, area.width * channels);
 }
 
 /// Makes the sums of columns those of the rows from the next one on, where the result has a row
 /// there.
-fn next_columns<L: Lanes>(patch: &[u8], stride: usize, area: Area, row: usize, columns: &mut [u32])
+fn next_columns<L: Lanes, C: ColumnSums<L>>(
+    patch: &[u8],
+    stride: usize,
+    area: Area,
+    row: usize,
+    columns: &mut C,
+)
     requires row { row < area.height }
+    requires narrow { stride ≤ 768 }
     requires patch { L.depth * ((area.height + 2 * area.radius) * stride + 16) ≤ length patch.now }
-    requires room { stride + 16 ≤ length columns.old }
-    requires columns { HoldsColumns L.depth stride (2 * area.radius + 1) row patch.now columns.old }
-    ensures { row + 1 < area.height → HoldsColumns L.depth stride (2 * area.radius + 1) (row + 1) patch.now columns.new }
+    requires columns { HoldsColumns L.depth stride (2 * area.radius + 1) row patch.now (C.sum columns.old) }
+    ensures { row + 1 < area.height → HoldsColumns L.depth stride (2 * area.radius + 1) (row + 1) patch.now (C.sum columns.new) }
 {
     if row + 1 < area.height {
-        slide_rows::<L>(patch, stride, area.side(), row, columns);
+        slide_rows::<L, C>(patch, stride, area.side(), row, columns);
     }
 }
 
 /// Writes the means of the squares of all rows.
-fn mean_rows<L: Lanes>(area: Area, channels: usize, patch: &[u8], dst: &mut [u8])
+fn mean_rows<L: Lanes, C: ColumnSums<L> + Drop>(
+    area: Area,
+    channels: usize,
+    patch: &[u8],
+    dst: &mut [u8],
+)
     requires channels { channels ≤ 4 }
     requires read { L.depth * (read_samples area channels + 16) ≤ length patch.now }
     requires written { L.depth * written_samples area channels ≤ length dst.old }
@@ -77,27 +86,24 @@ fn mean_rows<L: Lanes>(area: Area, channels: usize, patch: &[u8], dst: &mut [u8]
     let side = area.side();
     let stride = area.stride(channels);
     let count = area.width * channels;
-    let divisor = Divisor::new((side * side) as u64);
-    let mut columns = [0; COLUMNS];
+    let divisor = Divisor::new((side * side) as u32);
     let mut sums = [0; SUMS];
     let mut means = [0; MEAN_BYTES];
-    sum_rows::<L>(patch, stride, side, &mut columns);
+    let mut columns = sum_rows::<L, C>(patch, stride, side);
     for y in 0..area.height {
-        mean_row::<L>(
-            area,
-            channels,
-            &divisor,
-            &columns[..stride],
-            &mut sums,
-            &mut means,
-        );
+        mean_row::<L, C>(area, channels, &divisor, &columns, &mut sums, &mut means);
         copy_samples::<L>(&means, 0, dst, y * count, count);
-        next_columns::<L>(patch, stride, area, y, &mut columns);
+        next_columns::<L, C>(patch, stride, area, y, &mut columns);
     }
 }
 
 /// Writes the means of the squares of a part.
-fn mean_part<L: Lanes>(format: Format, area: Area, patch: &[u8], dst: &mut [u8])
+fn mean_part<L: Lanes, C: ColumnSums<L> + Drop>(
+    format: Format,
+    area: Area,
+    patch: &[u8],
+    dst: &mut [u8],
+)
     requires depth { depth format ≡ L.depth }
     requires read { depth format * (read_samples area (channels format) + 16) ≤ length patch.now }
     requires written { length dst.old ≡ depth format * written_samples area (channels format) }
@@ -106,7 +112,7 @@ fn mean_part<L: Lanes>(format: Format, area: Area, patch: &[u8], dst: &mut [u8])
         → HoldsPart format area.width area.height dst.new
         (λ s t c. mean_of (window_side area.radius * window_side area.radius) (square_samples area.radius f s t c)) u v }
 {
-    mean_rows::<L>(area, format.channels() as usize, patch, dst);
+    mean_rows::<L, C>(area, format.channels() as usize, patch, dst);
 }
 
 /// Writes the mean of the square around each position, rounded to the nearest, in each channel. The
@@ -122,7 +128,7 @@ pub fn area_mean(format: Format, area: Area, patch: &[u8], dst: &mut [u8])
         (λ s t c. mean_of (window_side area.radius * window_side area.radius) (square_samples area.radius f s t c)) u v }
 {
     match format.depth() {
-        1 => mean_part::<ByteLanes>(format, area, patch, dst),
-        _ => mean_part::<WordLanes>(format, area, patch, dst),
+        1 => mean_part::<ByteLanes, ShortSums>(format, area, patch, dst),
+        _ => mean_part::<WordLanes, LongSums>(format, area, patch, dst),
     }
 }

@@ -41,13 +41,13 @@ pub(crate) fn grown_part(
     let near = near_part(radius, &window.bounds, out);
     let part = window.part(alloc, near)?;
     if is_all_near(radius, out, &near) {
-        return padded_bytes(alloc, &part);
+        return padded_bytes(part);
     }
     let counted = counted_part(radius, out, &part.rect());
-    let moved = moved_patch(alloc, &part, counted)?;
+    let moved = moved_patch(part, counted);
     let grown = Rect::spanning(0, 0, out.w + 2 * radius, out.h + 2 * radius);
     let read = fetch(alloc, &moved, abyss, grown)?;
-    padded_bytes(alloc, &read)
+    padded_bytes(read)
 }
 
 /// Returns the positions of a box that are in a part grown by a radius.
@@ -96,32 +96,29 @@ fn counted_part(radius: u32, out: &Rect, part: &Rect) -> Rect
     )
 }
 
-/// Returns the patch of the same raw bytes over another rectangle of as many columns and rows.
-///
-/// # Errors
-///
-/// `NoMemory` if memory runs out.
-fn moved_patch(alloc: Global, patch: &Patch, rect: Rect) -> Result<Patch, NoMemory>
-    requires width { rect.width ≡ patch.now.box.width }
-    requires height { rect.height ≡ patch.now.box.height }
-    ensures { IfOk result (λ moved. moved ≡ image_from_raw rect patch.now.format (raw patch.now patch.now.box)) }
+/// Returns the patch of the same raw bytes over another rectangle of as many columns and rows,
+/// without a copy.
+fn moved_patch(patch: Patch, rect: Rect) -> Patch
+    requires width { rect.width ≡ patch.box.width }
+    requires height { rect.height ≡ patch.box.height }
+    ensures { result ≡ image_from_raw rect patch.format (raw patch patch.box) }
 {
     prove!(patch.rect().in_limits());
-    let bytes = Vec::from_slice(alloc, patch.raw_bytes())?;
-    Ok(Patch::from_vec(rect, patch.format(), bytes))
+    let format = patch.format();
+    Patch::from_vec(rect, format, patch.into_raw())
 }
 
 /// Returns the raw bytes of a patch, and after them as many zeros as sixteen samples have at most.
+/// Most allocators make room for the zeros without a copy.
 ///
 /// # Errors
 ///
 /// `NoMemory` if memory runs out.
-fn padded_bytes(alloc: Global, patch: &Patch) -> Result<Vec<u8>, NoMemory>
-    ensures { IfOk result (λ bytes. bytes.items ≡ raw patch.now patch.now.box ++ replicate 32 0) }
+fn padded_bytes(patch: Patch) -> Result<Vec<u8>, NoMemory>
+    ensures { IfOk result (λ bytes. bytes.items ≡ raw patch patch.box ++ replicate 32 0) }
 {
-    let raw = patch.raw_bytes();
-    let mut bytes = Vec::with_capacity(alloc, raw.len() + 32)?;
-    bytes.extend_from_slice(raw)?;
+    let mut bytes = patch.into_raw();
+    bytes.reserve_exact(32)?;
     bytes.extend_from_slice(&[0; 32])?;
     Ok(bytes)
 }

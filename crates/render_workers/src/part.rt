@@ -22,7 +22,7 @@ use node_cache::PairStore;
 use op_contracts::{OpKit, SourceTiles};
 use patch_abyss::Patch;
 use plane_rect::Rect;
-use roi_planner::{NodeInputs, strip_need};
+use roi_planner::{NodeInputs, strip_of};
 use std::alloc::Global;
 use strip_patches::{LevelPatch, strip_patch};
 use strip_renders::{StripDone, render_strip};
@@ -93,7 +93,7 @@ where
         (moment (S.facts sources.old) (S.images sources.old (H.held chain.old)) (S.names sources.old) (C.pairs cache.old) (C.sizes cache.old (H.held chain.old)) (C.cached cache.old (H.held chain.old)) (C.capacity cache.old) (C.names cache.old) (H.held chain.old) (H.counts chain.old) (H.loans chain.old))
         (moment (S.facts sources.new) (S.images sources.new (H.held chain.new)) (S.names sources.new) (C.pairs cache.new) (C.sizes cache.new (H.held chain.new)) (C.cached cache.new (H.held chain.new)) (C.capacity cache.new) (C.names cache.new) (H.held chain.new) (H.counts chain.new) (H.loans chain.new))) }
 {
-    let strip = strip_need(kit, alloc, nodes, node, rect)?;
+    let strip = strip_of(kit, alloc, nodes, inputs, node, rect)?;
     let done = render_strip(
         kit, alloc, nodes, inputs, sources, cache, chain, purse, &strip,
     )?;

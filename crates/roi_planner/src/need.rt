@@ -42,9 +42,13 @@ pub fn strip_need<K: OpKit>(
     Ok(strip_of(kit, alloc, nodes, &inputs, node, rect)?)
 }
 
-/// Returns what is needed for a rectangle of the node at a position, where the inputs of all nodes are
-/// known.
-pub(crate) fn strip_of<K: OpKit>(
+/// Returns what [`strip_need`] returns, where the inputs of all nodes are known. Takes time in
+/// proportion to the needed tiles and to the nodes.
+///
+/// # Errors
+///
+/// `NoMemory` if memory runs out.
+pub fn strip_of<K: OpKit>(
     kit: &K,
     alloc: Global,
     nodes: &[NodeFact<K::Op>],
@@ -55,7 +59,8 @@ pub(crate) fn strip_of<K: OpKit>(
     requires node { node < length nodes.now }
     requires stated { AreStatedOverSome K.Op.meanings nodes.now }
     requires inputs { inputs.now ≡ all_inputs nodes.now }
-    ensures { IfOk result (λ strip. strip ≡ strip_of K.Op.meanings nodes.now node rect) }
+    ensures strip { IfOk result (λ strip. strip ≡ strip_of K.Op.meanings nodes.now node rect) }
+    ensures few { IfOk result (λ strip. length strip.need < 2 ^ 32) }
 {
     let index = node as usize;
     let mut regions = no_regions(alloc, nodes.len())?;

@@ -37,8 +37,8 @@ fit_bytes v p = Each1-from_get_or (Fits w8) v 0 (λ i lt. record { fits = p.belo
 pub fit_words : (v : List ℕ) → AreLanes 65536 v → Each1 (Fits w16) v
 fit_words v p = Each1-from_get_or (Fits w16) v 0 (λ i lt. record { fits = p.below i })
 
-pub fit_longs : (v : List ℕ) → AreLanes 262144 v → Each1 (Fits w32) v
-fit_longs v p = Each1-from_get_or (Fits w32) v 0 (λ i lt. record { fits = omega (arith, p.below i) })
+pub fit_longs : (v : List ℕ) → AreLanes 4294967296 v → Each1 (Fits w32) v
+fit_longs v p = Each1-from_get_or (Fits w32) v 0 (λ i lt. record { fits = p.below i })
 
 -- ---- scaled samples
 
@@ -126,10 +126,10 @@ AreLanes-cast bound v some long small =
     let value : ℕ → ℕ = λ j. get_or v j 0 in
     (Makes-cast bound v value some (Makes-from_lanes bound v value some long (λ j lt. refl) small)).0
 
--- what is computed of two vectors of numbers of 32 bits, lane by lane
-pub AreLanes-wrapped : (f : ℕ → ℕ → ℕ) → ((a b : ℕ) → f a b < 4294967296) → (xs ys : List ℕ) → length xs ≡ 16 → length ys ≡ 16 → AreLanes 4294967296 (zip2 f xs ys)
-AreLanes-wrapped f small xs ys p q =
-    (Makes-from_two (zip2 f) f (λ a b xs ys. refl) refl 4294967296 (λ j. f (get_or xs j 0) (get_or ys j 0)) (omega arith) xs ys p q (λ j lt. (refl, small _ _))).0
+-- what is computed of two vectors of numbers below a bound, lane by lane
+pub AreLanes-wrapped : (bound : ℕ) (f : ℕ → ℕ → ℕ) → 0 < bound → ((a b : ℕ) → f a b < bound) → (xs ys : List ℕ) → length xs ≡ 16 → length ys ≡ 16 → AreLanes bound (zip2 f xs ys)
+AreLanes-wrapped bound f some small xs ys p q =
+    (Makes-from_two (zip2 f) f (λ a b xs ys. refl) refl bound (λ j. f (get_or xs j 0) (get_or ys j 0)) some xs ys p q (λ j lt. (refl, small _ _))).0
 
 -- ---- means of samples below m, which are computed in lanes below w
 

@@ -1,5 +1,5 @@
 -- Vectors that are read from a row and written to one.
-use Rattle.std.proofs.Common.{◌≡◌, ℕ, ◌+◌, ◌*◌, ◌<◌, ◌≤◌, List, [], ◌∷◌, length, get_or, refl, sym, ap, ◌∙◌, arith, w8, w32, Fits}
+use Rattle.std.proofs.Common.{◌≡◌, ℕ, ◌+◌, ◌*◌, ◌<◌, ◌≤◌, List, [], ◌∷◌, length, get_or, refl, sym, ap, ◌∙◌, arith, w8, Fits}
 use Rattle.std.proofs.lemmas.Simd.{Each1-from_get_or, below_from_Fits, chunk-fits, length-chunk, get_or-chunk, get_or-put_chunk_at, get_or-put_chunk_above, get_or_wider, get_or_narrower}
 use lib.Lanes.{Each1, chunk, put_chunk, number_l, digits_l}
 use Rattle.simd_samples.specs.Lanes.{Hold, AreLanes}
@@ -13,12 +13,12 @@ chunk-at i n k m row e lt = get_or-chunk i n row k 0 lt ∙ ap (λ p. get_or row
 put_chunk-at : (k m : ℕ) (row v : List ℕ) → m ≡ k → k < length v → length v ≤ length row → get_or (put_chunk 0 row v) m 0 ≡ get_or v k 0
 put_chunk-at k m row v e lt room = ap (λ p. get_or (put_chunk 0 row v) p 0) (omega arith) ∙ get_or-put_chunk_at 0 row v k 0 lt (omega arith)
 
--- ---- numbers of 32 bits
+-- ---- numbers below a bound
 
-pub Makes-load_of_longs : (from : ℕ) (row : List ℕ) → from + 16 ≤ length row → ((k : ℕ) → Fits w32 (get_or row k 0)) → Makes 4294967296 (chunk from 16 row) (λ j. get_or row (from + j) 0)
-Makes-load_of_longs from row room fits =
-    Makes-from_lanes 4294967296 (chunk from 16 row) (λ j. get_or row (from + j) 0) (omega arith) (length-chunk from 16 row room)
-    (λ j lt. get_or-chunk from 16 row j 0 lt) (λ j lt. (fits (from + j)).fits)
+pub Makes-load_of_numbers : (bound from : ℕ) (row : List ℕ) → 0 < bound → from + 16 ≤ length row → ((k : ℕ) → get_or row k 0 < bound) → Makes bound (chunk from 16 row) (λ j. get_or row (from + j) 0)
+Makes-load_of_numbers bound from row some room below =
+    Makes-from_lanes bound (chunk from 16 row) (λ j. get_or row (from + j) 0) some (length-chunk from 16 row room)
+    (λ j lt. get_or-chunk from 16 row j 0 lt) (λ j lt. below (from + j))
 
 -- ---- samples of one byte
 

@@ -1,12 +1,12 @@
 -- Vectors that are multiplied by one number, in lanes below w.
-use Rattle.std.proofs.Common.{◌≡◌, ℕ, ◌+◌, ◌*◌, ◌/◌, ◌%◌, ◌^◌, ◌<◌, ◌≤◌, List, length, get_or, map, replicate, min, refl, sym, ap, ◌∙◌, subst, inl, inr, arith}
+use Rattle.std.proofs.Common.{◌≡◌, ℕ, ◌+◌, ◌*◌, ◌/◌, ◌%◌, ◌^◌, ◌<◌, ◌≤◌, List, length, get_or, map, replicate, min, refl, ap, ◌∙◌, inl, inr, arith}
 use Rattle.std.proofs.Math.Nat.{mod-eq_of_lt, div-le_self, div-lt_iff_lt-mul, mul-le-mul}
 use Rattle.std.proofs.lemmas.Bool.{cases_lt}
 use Rattle.std.proofs.lemmas.List.{get_or_past}
 use lib.Lanes.{zip2}
 use Rattle.simd_samples.specs.Lanes.{AreLanes}
 use Rattle.simd_samples.proofs.Arithmetic.{below_le, over, plus, same, shifted, splat_at, times}
-use Rattle.simd_samples.proofs.Pointwise.{Makes, Makes-from_four, Makes-from_lanes}
+use Rattle.simd_samples.proofs.Pointwise.{Makes, Makes-from_four, Makes-from_lanes, Makes-from_two}
 use Rattle.simd_samples.proofs.Saturation.{Makes-minimum, min_of_longs, where_below}
 
 -- the products and sums of a vector
@@ -32,17 +32,63 @@ Makes-scaled w bound shift xs factor offset some some_part wide long small =
       (div-lt_iff_lt-mul some_part).1 (small j lt),
     ))
 
--- numbers of 32 bits, scaled in lanes of 64 bits, by parts of 2^46
-abbrev pub scaled_longs : List ℕ → ℕ → ℕ → List ℕ
-scaled_longs xs factor offset = zip2 shifted (multiplied 18446744073709551616 xs (replicate 16 factor) (replicate 16 offset)) (replicate 16 46)
+-- ---- numbers of 32 bits with an offset, scaled in lanes of 64 bits, by parts of 2^31
 
-pub Makes-scaled_longs : (xs numbers : List ℕ) (factor offset : ℕ) → xs ≡ numbers → length xs ≡ 16
-    → ((j : ℕ) → j < 16 → get_or numbers j 0 * factor + offset < 18446744073709551616)
-    → Makes 262144 (scaled_longs xs factor offset) (λ j. (get_or numbers j 0 * factor + offset) / 70368744177664)
-Makes-scaled_longs xs numbers factor offset same long small =
-    let P : List ℕ → Type 0 = λ l. Makes 262144 (scaled_longs xs factor offset) (λ j. (get_or l j 0 * factor + offset) / 70368744177664) in
-    let Q : List ℕ → Type 0 = λ l. (j : ℕ) → j < 16 → get_or l j 0 * factor + offset < 18446744073709551616 in
-    subst P same (Makes-scaled 18446744073709551616 262144 46 xs factor offset (omega arith) (omega arith) (omega arith) long (subst Q (sym same) small))
+-- the upper halves of the products of twice the numbers
+abbrev pub upper_halves : List ℕ → List ℕ → List ℕ → List ℕ → List ℕ
+upper_halves xs ys zs ws =
+    zip2 shifted (zip2 (times 18446744073709551616) (map same (zip2 (plus 4294967296) (zip2 (plus 4294967296) xs ys) (zip2 (plus 4294967296) xs ys))) zs) ws
+
+abbrev pub upper_half : ℕ → ℕ → ℕ → ℕ → ℕ
+upper_half a b c d = shifted (times 18446744073709551616 (plus 4294967296 (plus 4294967296 a b) (plus 4294967296 a b)) c) d
+
+module _ (a offset factor : ℕ) (small : a + offset < 2147483648) (few : factor < 4294967296) where
+  product : (a + offset) * factor ≤ 2147483647 * 4294967295
+  product = mul-le-mul {n₁ = a + offset} {m₁ = factor} {n₂ = 2147483647} {m₂ = 4294967295} (omega arith) (omega arith)
+
+  halved : (a + offset + (a + offset)) * factor / 4294967296 ≡ (a + offset) * factor / 2147483648
+  halved = omega arith
+
+  one_half : upper_half a offset factor 32 ≡ (a + offset) * factor / 2147483648
+  one_half =
+      let sum : (a + offset) % 4294967296 ≡ a + offset = mod-eq_of_lt (omega arith) in
+      let twice : (a + offset + (a + offset)) % 4294967296 ≡ a + offset + (a + offset) = mod-eq_of_lt (omega arith) in
+      let whole : (a + offset + (a + offset)) * factor % 18446744073709551616 ≡ (a + offset + (a + offset)) * factor = mod-eq_of_lt (omega (arith, product)) in
+      (λ t. (sum t + sum t) % 4294967296 * factor % 18446744073709551616 / 4294967296)
+      ∙ ap (λ n. n * factor % 18446744073709551616 / 4294967296) twice ∙ ap (λ n. n / 4294967296) whole ∙ halved
+
+  half_below : (a + offset) * factor / 2147483648 < 4294967296
+  half_below = omega (arith, product)
+
+abbrev pub scaled_longs : List ℕ → ℕ → ℕ → List ℕ
+scaled_longs xs offset factor = upper_halves xs (replicate 16 offset) (replicate 16 factor) (replicate 16 32)
+
+module _ (xs numbers : List ℕ) (offset factor : ℕ) (same_numbers : xs ≡ numbers) (long : length xs ≡ 16) (few : factor < 4294967296)
+    (small : (j : ℕ) → j < 16 → get_or numbers j 0 + offset < 2147483648) where
+  small_lane : (j : ℕ) → j < 16 → get_or xs j 0 + offset < 2147483648
+  small_lane j lt = omega (arith, small j lt, ap (λ l. get_or l j 0) same_numbers)
+
+  pub Makes-scaled_longs : Makes 4294967296 (scaled_longs xs offset factor) (λ j. (get_or xs j 0 + offset) * factor / 2147483648)
+  Makes-scaled_longs =
+      Makes-from_four upper_halves upper_half (λ a b c d xs ys zs ws. refl) refl 4294967296 _ (omega arith)
+      xs (replicate 16 offset) (replicate 16 factor) (replicate 16 32) long refl refl refl
+      (λ j lt. (
+        three_splats (upper_half (get_or xs j 0)) j offset factor 32 lt ∙ one_half (get_or xs j 0) offset factor (small_lane j lt) few,
+        half_below (get_or xs j 0) offset factor (small_lane j lt) few,
+      ))
+
+  pub Makes-shifted_longs : (shift : ℕ) → Makes 4294967296 (zip2 shifted (map same (scaled_longs xs offset factor)) (replicate 16 shift)) (λ j. (get_or numbers j 0 + offset) * factor / 2147483648 / 2 ^ shift)
+  Makes-shifted_longs shift =
+      let v = scaled_longs xs offset factor in
+      Makes-from_two (λ xs ys. zip2 shifted (map same xs) ys) shifted (λ a b xs ys. refl) refl 4294967296 _ (omega arith)
+      v (replicate 16 shift) Makes-scaled_longs.0.long refl
+      (λ j lt.
+      let is : get_or v j 0 / 2 ^ get_or (replicate 16 shift) j 0 ≡ (get_or numbers j 0 + offset) * factor / 2147483648 / 2 ^ shift =
+      ap (λ k. get_or v j 0 / 2 ^ k) (splat_at shift j lt) ∙ ap (λ n. n / 2 ^ shift) (Makes-scaled_longs.1 j lt)
+      ∙ ap (λ l. (get_or l j 0 + offset) * factor / 2147483648 / 2 ^ shift) same_numbers in
+      let most : (get_or numbers j 0 + offset) * factor / 2147483648 / 2 ^ shift ≤ (get_or numbers j 0 + offset) * factor / 2147483648 =
+      div-le_self ((get_or numbers j 0 + offset) * factor / 2147483648) (2 ^ shift) in
+      (is, omega (arith, most, half_below (get_or numbers j 0) offset factor (small j lt) few)))
 
 -- ---- a division in lanes of 64 bits, of samples that are at most m
 

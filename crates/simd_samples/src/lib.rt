@@ -3,8 +3,10 @@
 
 mod byte_lanes;
 mod depths;
+mod four_lanes;
 mod lanes;
 mod positions;
+mod short_lanes;
 mod shuffles;
 mod vectors;
 mod wide_lanes;
@@ -12,7 +14,9 @@ mod word_lanes;
 
 pub use byte_lanes::ByteLanes;
 pub use depths::Rescale;
+pub use four_lanes::FourLanes;
 pub use lanes::Lanes;
+pub use short_lanes::ShortLanes;
 pub use shuffles::{ShuffleOfThree, ShuffleOfTwo};
 pub use vectors::{
     load_at, load_four, load_three, load_two, store_at, store_four, store_three, store_two,

@@ -68,17 +68,22 @@ impl WideLanes {
             lanes: self.lanes - other.lanes,
         }
     }
-    /// Multiplies each number by a factor, adds an offset and divides by 2^46, as the mean of many
-    /// samples is had by the reciprocal of their number.
+
+    /// Adds an offset to each number, multiplies by a factor and divides by 2^31 and by a power of
+    /// two, as the mean of many samples is had by the reciprocal of their number.
     #[inline(always)]
-    pub fn scale(self, factor: u64, offset: u64) -> Self
-        requires { (j : ℕ) → j < 16 → slice_index self j * factor + offset < 2 ^ 64 }
-        ensures { Hold (slice_index result) (λ j. (slice_index self j * factor + offset) / 2 ^ 46) }
+    pub fn scale(self, offset: u32, factor: u32, shift: u32) -> Self
+        requires shift { shift < 32 }
+        requires small { (j : ℕ) → j < 16 → slice_index self j + offset < 2 ^ 31 }
+        ensures { Hold (slice_index result) (λ j. (slice_index self j + offset) * factor / 2 ^ 31 / 2 ^ shift) }
     {
-        let products = self.lanes.cast::<u64>() * u64x16::splat(factor);
-        let scaled = (products + u64x16::splat(offset)) >> u64x16::splat(46);
+        // Twice the number, so that the quotient by 2^31 is the product's upper half.
+        let raised = self.lanes + u32x16::splat(offset);
+        let doubled = (raised + raised).cast::<u64>();
+        let products = doubled * u64x16::splat(u64::from(factor));
+        let halves = (products >> u64x16::splat(32)).cast::<u32>();
         WideLanes {
-            lanes: scaled.cast::<u32>(),
+            lanes: halves >> u32x16::splat(shift),
         }
     }
 }

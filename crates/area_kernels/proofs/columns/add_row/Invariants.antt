@@ -4,4 +4,5 @@ use Rattle.area_kernels.proofs.SumLaws.{ChangedBelow, added}
 use Rattle.area_kernels.proofs.columns.add_row.Given as goal
 
 abbrev pub invariant-loop-block : goal.invariant-loop-block
-invariant-loop-block g l = ChangedBelow (λ i sum. added sum (sample_at g.L.Lanes.depth l.samples (l.coming + i))) (16 * l.block) l.fn.sums l.sums
+invariant-loop-block g l =
+    ChangedBelow (λ i sum. added g.C.ColumnSums.limit sum (sample_at g.L.Lanes.depth l.samples (l.coming + i))) (16 * l.block) (g.C.ColumnSums.sum l.fn.columns) (g.C.ColumnSums.sum l.columns)

@@ -5,20 +5,17 @@ use Rattle.area_kernels.proofs.CopiedSamples.{bytes_of_row}
 use Rattle.area_kernels.proofs.MeanLaws.{columns_small, mean_of_columns, mean_rows_more}
 use Rattle.area_kernels.proofs.means.mean_rows.Goals as goal
 
-pub sum_rows-requires-clause-zeros : goal.sum_rows-requires-clause-zeros
-sum_rows-requires-clause-zeros g c i lt = get_or-zeros 784 i
-
 pub loop-y-init : goal.loop-y-init
 loop-y-init g c = record {
-  columns = λ some. subst (λ (m : ℕ). HoldsColumns g.L.Lanes.depth c.stride-stride.result m 0 c.args.patch.now c.sum_rows.new.sums) c.side-side.ensures c.sum_rows.ensures;
+  columns = λ some. subst (λ (m : ℕ). HoldsColumns g.L.Lanes.depth c.stride-stride.result m 0 c.args.patch.now (g.C.ColumnSums.sum c.sum_rows-columns.result)) c.side-side.ensures c.sum_rows-columns.ensures;
   clear = λ i le. get_or-zeros 272 i;
   made = λ x y k column row channel. absurd (omega arith);
 }
 
 pub mean_row-requires-clause-small : goal.mean_row-requires-clause-small
-mean_row-requires-clause-small g c =
-    columns_small g.L.Lanes.depth c.stride-stride.result (2 * c.args.area.radius + 1) c.loop-y.y c.args.patch.now c.loop-y.columns c.type_inv.patch
-    (c.loop-y.invariant.columns c.loop-y-test.true)
+mean_row-requires-clause-small g c i within =
+    columns_small g.L.Lanes.depth c.stride-stride.result (2 * c.args.area.radius + 1) c.loop-y.y c.args.patch.now (g.C.ColumnSums.sum c.loop-y.columns) c.type_inv.patch
+    (c.loop-y.invariant.columns c.loop-y-test.true) i (omega (arith, c.stride-stride.ensures, within))
 
 pub copy_samples-requires-clause-written : goal.copy_samples-requires-clause-written
 copy_samples-requires-clause-written g c =
@@ -40,7 +37,7 @@ loop-y-preserved g c =
       clear = c.mean_row.ensures.clear;
       made = mean_rows_more d area.width area.radius n y c.args.patch.now c.loop-y.dst c.copy_samples.new.to c.mean_row.new.means c.loop-y.invariant.made
           (λ x k column channel.
-          mean_of_columns d area.width area.radius n y stride divisor c.args.patch.now c.loop-y.columns c.mean_row.new.means c.stride-stride.ensures is_count
+          mean_of_columns d area.width area.radius n y stride divisor c.args.patch.now (g.C.ColumnSums.sum c.loop-y.columns) c.mean_row.new.means c.stride-stride.ensures is_count
           (c.loop-y.invariant.columns c.loop-y-test.true) x k column channel (c.mean_row.ensures.made x k column channel))
           c.copy_samples.ensures.here c.copy_samples.ensures.before;
     }

@@ -10,7 +10,7 @@ invariant-loop-y g l =
     let n = l.channels in
     let w = l.area.width in
     record {
-      columns : l.y < l.area.height → HoldsColumns d l.stride (2 * l.area.radius + 1) l.y l.patch l.columns;
+      columns : l.y < l.area.height → HoldsColumns d l.stride (2 * l.area.radius + 1) l.y l.patch (g.C.ColumnSums.sum l.columns);
       clear : (i : ℕ) → w * n ≤ i → slice_index l.sums i ≡ 0;
       made : (x y c : ℕ) → x < w → y < l.y → c < n → sample_at d l.dst (y * (w * n) + (x * n + c)) ≡ mean_at d w l.area.radius n l.patch x y c;
     }

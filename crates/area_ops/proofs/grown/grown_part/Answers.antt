@@ -19,8 +19,8 @@ counted_part-counted-requires-clause-part c =
     part-near c.args.radius window.bounds c.args.out.now c.requires.near c.rect.result
     (c.rect.ensures.value ∙ ap (λ (i : Image). i.box) c.in_ok-part.ensures ∙ near)
 
-pub moved_patch-requires-clause-width : goal.moved_patch-requires-clause-width
-moved_patch-requires-clause-width c =
+pub moved_patch-moved-requires-clause-width : goal.moved_patch-moved-requires-clause-width
+moved_patch-moved-requires-clause-width c =
     let window = c.args.window.now in
     let near : c.near_part-near.result ≡ near_part c.args.radius window.bounds c.args.out.now =
     c.near_part-near.ensures ∙ ap (λ (w : Window). near_part c.args.radius w.bounds c.args.out.now) c.window.view_is in
@@ -29,8 +29,8 @@ moved_patch-requires-clause-width c =
     (c.rect.ensures.value ∙ ap (λ (i : Image). i.box) c.in_ok-part.ensures ∙ near)
     ∙ ap (λ (r : Rectangle). r.width) c.rect.ensures.value
 
-pub moved_patch-requires-clause-height : goal.moved_patch-requires-clause-height
-moved_patch-requires-clause-height c =
+pub moved_patch-moved-requires-clause-height : goal.moved_patch-moved-requires-clause-height
+moved_patch-moved-requires-clause-height c =
     let window = c.args.window.now in
     let near : c.near_part-near.result ≡ near_part c.args.radius window.bounds c.args.out.now =
     c.near_part-near.ensures ∙ ap (λ (w : Window). near_part c.args.radius w.bounds c.args.out.now) c.window.view_is in
@@ -68,11 +68,11 @@ returns c =
     let grown : c.spanning-grown.result ≡ spanning 0 0 (out.width + 2 * radius) (out.height + 2 * radius) =
     c.spanning-grown.ensures ∙ ap (λ (r : Rectangle). spanning 0 0 (r.width + 2 * radius) (r.height + 2 * radius)) c.out.view_is in
     let part = c.in_ok-part.part in
-    let moved = c.in_ok-moved.moved in
+    let moved = c.moved_patch-moved.result in
     let is_part : part ≡ cut (window_image window) (near_part radius window.bounds out) =
     c.in_ok-part.ensures ∙ ap (cut (window_image window)) near in
     let is_moved : moved ≡ image_from_raw (counted_part radius out part.box) part.format (raw part part.box) =
-    c.in_ok-moved.ensures
+    c.moved_patch-moved.ensures
     ∙ ap (λ (r : Rectangle). image_from_raw r part.format (raw part part.box)) (c.counted_part-counted.ensures ∙ ap (counted_part radius out) c.rect.ensures.value) in
     grown-made radius (window_image window) c.args.abyss out c.requires.policy c.requires.near part moved c.in_ok-read.read c.padded_bytes-2.result
     is_part is_moved (c.in_ok-read.ensures ∙ ap (λ (r : Rectangle). image_from_fn r moved.format (abyss_at moved c.args.abyss)) grown) c.padded_bytes-2.ensures

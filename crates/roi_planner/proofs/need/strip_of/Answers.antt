@@ -1,15 +1,16 @@
-use Rattle.std.proofs.Common.{◌≡◌, ◌∷◌, [], suc, ◌+◌, List, ap, sym, ◌∙◌, subst, arith}
+use Rattle.std.proofs.Common.{◌≡◌, ◌∷◌, [], suc, ◌+◌, ◌<◌, ◌^◌, List, length, ap, sym, ◌∙◌, subst, arith}
 use Rattle.plane_rect.specs.Rectangle.{Rectangle, meet}
 use Rattle.model_graphs.specs.declared.node.NodeFact.{NodeFact}
 use Rattle.model_states.specs.Need.{Asked, Needed}
 use Rattle.model_states.specs.declared.strip.Strip.{Strip}
 use Rattle.roi_planner.specs.Asked.{AreAsked}
 use Rattle.roi_planner.specs.Inputs.{box_at}
+use Rattle.roi_planner.proofs.NeedCounts.{strip_few}
 use Rattle.roi_planner.proofs.StatedLaws.{box_at-is}
 use Rattle.roi_planner.proofs.need.strip_of.Goals as goal
 
-pub returns : goal.returns
-returns g c =
+pub returns-clause-strip : goal.returns-clause-strip
+returns-clause-strip g c =
     let meanings = g.K.Op.OpMeaning.meanings in
     let facts = c.args.nodes.now in
     let node = c.args.node in
@@ -25,3 +26,8 @@ returns g c =
     let list = rw next at (c.in_ok-list.ensures asked are) in
     let of : List Needed → Strip = λ need. record { rect = rect; need = need } in
     ap of (c.new-need.ensures ∙ list)
+
+pub returns-clause-few : goal.returns-clause-few
+returns-clause-few g c =
+    subst (λ (strip : Strip). length strip.need < 2 ^ 32) (sym (returns-clause-strip g c))
+    (strip_few g.K.Op.OpMeaning.meanings g.K.Op.OpMeaning.boxed c.args.nodes.now c.args.node c.args.rect c.requires.stated)

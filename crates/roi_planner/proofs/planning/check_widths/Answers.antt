@@ -1,28 +1,21 @@
-use Rattle.std.proofs.Common.{◌≡◌, ◌<◌, ◌^◌, length, sym, ◌∙◌, subst, refl}
+use Rattle.std.proofs.Common.{◌≡◌, length, sym, ◌∙◌, subst, refl}
 use Rattle.model_states.specs.Need.{need, strip_of}
-use Rattle.model_states.specs.declared.strip.Strip.{Strip as StripData}
 use Rattle.roi_planner.specs.declared.refused.PlanRefused.TheVariants.{Strip}
 use Rattle.roi_planner.specs.Refusals.{AreRefused}
-use Rattle.roi_planner.proofs.NeedCounts.{strip_few}
 use Rattle.roi_planner.proofs.Widths.{handed-on, wide-here, wide-later}
 use Rattle.roi_planner.proofs.planning.check_widths.Goals as goal
-
-pub check_strip-requires : goal.check_strip-requires
-check_strip-requires g c =
-    subst (λ (strip : StripData). length strip.need < 2 ^ 32) (sym c.in_ok-strip.ensures)
-    (strip_few g.K.Op.OpMeaning.meanings g.K.Op.OpMeaning.boxed c.args.nodes.now c.args.node c.rect-item.result c.requires.stated)
 
 pub loop-rect-preserved : goal.loop-rect-preserved
 loop-rect-preserved g c =
     sym (wide-later (strip_of g.K.Op.OpMeaning.meanings c.args.nodes.now c.args.node) c.deref-rect-items.result.now c.loop-rect.rect-index c.rect-item.result
-    c.loop-rect-test.true c.rect-item.is c.args.capacity c.in_ok-strip.strip c.in_ok-strip.ensures c.in_ok-check_strip.ensures.narrow)
+    c.loop-rect-test.true c.rect-item.is c.args.capacity c.in_ok-strip.strip c.in_ok-strip.ensures.strip c.in_ok-check_strip.ensures.narrow)
     ∙ c.loop-rect.invariant
 
 pub returns-in_err-check_strip-clause-refused : goal.returns-in_err-check_strip-clause-refused
 returns-in_err-check_strip-clause-refused g c =
     let found = sym c.loop-rect.invariant
     ∙ wide-here (strip_of g.K.Op.OpMeaning.meanings c.args.nodes.now c.args.node) c.deref-rect-items.result.now c.loop-rect.rect-index c.rect-item.result
-    c.loop-rect-test.true c.rect-item.is c.args.capacity c.in_ok-strip.strip c.in_ok-strip.ensures c.in_err-check_strip.ensures.wide in
+    c.loop-rect-test.true c.rect-item.is c.args.capacity c.in_ok-strip.strip c.in_ok-strip.ensures.strip c.in_err-check_strip.ensures.wide in
     let refused : c.in_err-check_strip.field-0.0 ≡ Strip (length c.in_ok-strip.strip.need) c.args.capacity = c.in_err-check_strip.ensures.refused in
     let all = need g.K.Op.OpMeaning.meanings c.args.nodes.now c.args.node c.args.rect in
     handed-on c.from_residual-in_err-check_strip.result c.in_err-check_strip.field-0.0 (AreRefused c.args.capacity all) c.from_residual-in_err-check_strip.ensures.1

@@ -1,8 +1,9 @@
-use Rattle.simd_samples.proofs.Moves.{Makes-load_of_longs}
+use Rattle.std.proofs.Common.{arith}
+use Rattle.simd_samples.proofs.Moves.{Makes-load_of_numbers}
 use Rattle.simd_samples.proofs.wide_lanes.WideLanes.load_at.Goals as goal
 
 pub invariant_of-result : goal.invariant_of-result
-invariant_of-result c = (Makes-load_of_longs c.args.from c.args.src.now c.requires c.type_inv.src).0
+invariant_of-result c = (Makes-load_of_numbers 4294967296 c.args.from c.args.src.now (omega arith) c.requires (λ k. (c.type_inv.src k).fits)).0
 
 pub returns : goal.returns
-returns c = (Makes-load_of_longs c.args.from c.args.src.now c.requires c.type_inv.src).1
+returns c = (Makes-load_of_numbers 4294967296 c.args.from c.args.src.now (omega arith) c.requires (λ k. (c.type_inv.src k).fits)).1

@@ -4,4 +4,4 @@ use Rattle.simd_samples.proofs.wide_lanes.WideLanes.wrapping_add.Goals as goal
 
 pub invariant_of-result : goal.invariant_of-result
 invariant_of-result c =
-    AreLanes-wrapped (λ a b. (a + b) % 4294967296) (λ a b. omega arith) c.self.inside.lanes c.other.inside.lanes c.self.invariant.long c.other.invariant.long
+    AreLanes-wrapped 4294967296 (λ a b. (a + b) % 4294967296) (omega arith) (λ a b. omega arith) c.self.inside.lanes c.other.inside.lanes c.self.invariant.long c.other.invariant.long

@@ -1,0 +1,89 @@
+//! Four numbers of 32 bits, as kernels sum the channels of pixels.
+
+ghost use Rattle.std.specs.Prelude.{◌≡◌, ℕ, ◌+◌, ◌-◌, ◌%◌, ◌^◌, ◌<◌, ◌≤◌, length, slice_index};
+
+use std::marker::Model;
+use std::simd::prelude::*;
+
+/// Four numbers of 32 bits. A clause sees them as their list, whose number 0 is in the leftmost lane.
+#[derive(Clone, Copy)]
+pub struct FourLanes {
+    lanes: u32x4,
+}
+
+impl Model for FourLanes {
+    ghost use Rattle.std.specs.Prelude.{◌≡◌, ℕ, List, length};
+
+    ghost Value = { List ℕ };
+
+    ghost view = { λ four. four.lanes };
+
+    ghost inverse = { λ numbers. record { lanes = numbers } };
+
+    ghost invariant = { λ four. length four.lanes ≡ 4 };
+}
+
+impl FourLanes {
+    /// Returns four zeros.
+    #[inline(always)]
+    pub fn zeros() -> Self
+        ensures { (j : ℕ) → j < 4 → slice_index result j ≡ 0 }
+    {
+        FourLanes {
+            lanes: u32x4::splat(0),
+        }
+    }
+
+    /// Reads four numbers, from number `from` of a row on.
+    #[inline(always)]
+    pub fn load_at(src: &[u32], from: usize) -> Self
+        requires { from + 4 ≤ length src.now }
+        ensures { (j : ℕ) → j < 4 → slice_index result j ≡ slice_index src.now (from + j) }
+    {
+        FourLanes {
+            lanes: u32x4::from_slice(&src[from..]),
+        }
+    }
+
+    /// Reads four numbers of 16 bits, from number `from` of a row on.
+    #[inline(always)]
+    pub fn load_short_at(src: &[u16], from: usize) -> Self
+        requires { from + 4 ≤ length src.now }
+        ensures { (j : ℕ) → j < 4 → slice_index result j ≡ slice_index src.now (from + j) }
+    {
+        FourLanes {
+            lanes: u16x4::from_slice(&src[from..]).cast::<u32>(),
+        }
+    }
+
+    /// Writes four numbers, from number `from` of a row on. All others are unchanged.
+    #[inline(always)]
+    pub fn store_at(self, dst: &mut [u32], from: usize)
+        requires { from + 4 ≤ length dst.old }
+        ensures here { (j : ℕ) → j < 4 → slice_index dst.new (from + j) ≡ slice_index self j }
+        ensures before { (i : ℕ) → i < from → slice_index dst.new i ≡ slice_index dst.old i }
+        ensures after { (i : ℕ) → from + 4 ≤ i → slice_index dst.new i ≡ slice_index dst.old i }
+    {
+        self.lanes.copy_to_slice(&mut dst[from..]);
+    }
+
+    /// Adds in each lane, modulo 2^32.
+    #[inline(always)]
+    pub fn wrapping_add(self, other: Self) -> Self
+        ensures { (j : ℕ) → j < 4 → slice_index result j ≡ (slice_index self j + slice_index other j) % 2 ^ 32 }
+    {
+        FourLanes {
+            lanes: self.lanes + other.lanes,
+        }
+    }
+
+    /// Subtracts in each lane, modulo 2^32.
+    #[inline(always)]
+    pub fn wrapping_sub(self, other: Self) -> Self
+        ensures { (j : ℕ) → j < 4 → slice_index result j ≡ (slice_index self j + (2 ^ 32 - slice_index other j)) % 2 ^ 32 }
+    {
+        FourLanes {
+            lanes: self.lanes - other.lanes,
+        }
+    }
+}
