@@ -1,6 +1,8 @@
 //! Buffers as a source of tiles.
 
-ghost use Rattle.std.specs.Prelude.{IfErr, IfOk, IsSome};
+ghost use Rattle.std.specs.Prelude.{◌≡◌, IfErr, IfOk, IsSome};
+ghost use Rattle.chain_owners.specs.Counts.{Grows};
+ghost use Rattle.chain_owners.specs.Owners.{Respects};
 ghost use Rattle.model_buffers.specs.Layout.{facts_of};
 ghost use Rattle.model_graphs.specs.Facts.{fact_of};
 ghost use Rattle.op_contracts.specs.Sources.{HasBufferLength, IsTileOf};
@@ -61,4 +63,52 @@ impl<C: TileChain> SourceTiles<C> for Buffers {
     ghost owned = { λ buffers held over. over.owned };
 
     ghost exposed = { λ buffers held. buffers_exposed buffers held };
+}
+
+/// Gives the tiles of buffers that are borrowed, so that who reads them leaves them as they are.
+#[derive(Clone, Copy)]
+pub struct BufferTiles<'a> {
+    buffers: &'a Buffers,
+}
+
+impl<'a> BufferTiles<'a> {
+    /// Returns the source of these buffers.
+    pub fn new(buffers: &'a Buffers) -> BufferTiles<'a>
+        ensures { result.buffers.now ≡ buffers.now }
+    {
+        BufferTiles { buffers }
+    }
+}
+
+impl<C: TileChain> SourceTiles<C> for BufferTiles<'_> {
+    ghost facts = { λ source. facts_of source.buffers.now.layout };
+
+    ghost images = { λ source held. buffer_images source.buffers.now held };
+
+    ghost names = { λ source. buffers_names source.buffers.now };
+
+    ghost is_over = { λ source held. AreBuffersOver source.buffers.now held };
+
+    fn tile(&mut self, chain: &mut C, buffer: Name, at: TileAt) -> Result<Tile, SwapRefused>
+        requires over { AreBuffersOver self.old.buffers.now (C.held chain.old) }
+        requires known { IsSome (fact_of (facts_of self.old.buffers.now.layout) buffer) }
+        ensures bytes { IfOk result (IsTileOf (buffer_images self.old.buffers.now (C.held chain.old)) buffer at) }
+        ensures length { IfOk result (HasBufferLength (facts_of self.old.buffers.now.layout) buffer) }
+        ensures cause { IfErr result (HasSwapCause (C.counts chain.old) (C.counts chain.new) (C.counts chain.old).names) }
+        ensures unchanged { self.new ≡ self.old }
+        ensures held { C.held chain.new ≡ C.held chain.old }
+        ensures counts { Grows 0 (C.counts chain.old) (C.counts chain.new) }
+        ensures valid { C.is_valid chain.old → C.is_valid chain.new }
+        ensures loans { C.loans chain.new ≡ C.loans chain.old }
+    {
+        self.buffers.buffer_tile(chain, buffer, at)
+    }
+
+    ghost framed = { λ source. buffers_framed source.buffers.now };
+
+    ghost framed_condition = { λ source. buffers_framed_condition source.buffers.now };
+
+    ghost owned = { λ source held over. over.owned };
+
+    ghost exposed = { λ source held. buffers_exposed source.buffers.now held };
 }

@@ -1,0 +1,5 @@
+pub mod Parts
+pub mod Seen
+pub mod Steps
+pub mod Refusals
+pub mod Rendering
