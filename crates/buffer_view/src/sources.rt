@@ -1,8 +1,6 @@
 //! Buffers as a source of tiles.
 
 ghost use Rattle.std.specs.Prelude.{◌≡◌, IfErr, IfOk, IsSome};
-ghost use Rattle.chain_owners.specs.Counts.{Grows};
-ghost use Rattle.chain_owners.specs.Owners.{Respects};
 ghost use Rattle.model_buffers.specs.Layout.{facts_of};
 ghost use Rattle.model_graphs.specs.Facts.{fact_of};
 ghost use Rattle.op_contracts.specs.Sources.{HasBufferLength, IsTileOf};
@@ -89,18 +87,7 @@ impl<C: TileChain> SourceTiles<C> for BufferTiles<'_> {
 
     ghost is_over = { λ source held. AreBuffersOver source.buffers.now held };
 
-    fn tile(&mut self, chain: &mut C, buffer: Name, at: TileAt) -> Result<Tile, SwapRefused>
-        requires over { AreBuffersOver self.old.buffers.now (C.held chain.old) }
-        requires known { IsSome (fact_of (facts_of self.old.buffers.now.layout) buffer) }
-        ensures bytes { IfOk result (IsTileOf (buffer_images self.old.buffers.now (C.held chain.old)) buffer at) }
-        ensures length { IfOk result (HasBufferLength (facts_of self.old.buffers.now.layout) buffer) }
-        ensures cause { IfErr result (HasSwapCause (C.counts chain.old) (C.counts chain.new) (C.counts chain.old).names) }
-        ensures unchanged { self.new ≡ self.old }
-        ensures held { C.held chain.new ≡ C.held chain.old }
-        ensures counts { Grows 0 (C.counts chain.old) (C.counts chain.new) }
-        ensures valid { C.is_valid chain.old → C.is_valid chain.new }
-        ensures loans { C.loans chain.new ≡ C.loans chain.old }
-    {
+    fn tile(&mut self, chain: &mut C, buffer: Name, at: TileAt) -> Result<Tile, SwapRefused> {
         self.buffers.buffer_tile(chain, buffer, at)
     }
 
