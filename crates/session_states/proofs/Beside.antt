@@ -6,7 +6,7 @@ use Rattle.chain_owners.specs.Owners.{Owns, Respects, times}
 use Rattle.chain_owners.proofs.Ownership.{others-own, owns-fewer, times-append}
 use Rattle.buffer_view.specs.BufferTables.{AreBuffersOver, BufferTable, buffers_names, table_of}
 use Rattle.buffer_view.proofs.Tables.{over-beside, table-beside}
-use Rattle.session_states.specs.OverChains.{AreAllOver, names_of_all}
+use Rattle.session_states.specs.OverChains.{AreAllOver, AreAllSame, names_of_all}
 
 -- ---- lists
 
@@ -22,10 +22,6 @@ module _ (P : BufferTable → Type 0) where
   pub all-second : (a b : List BufferTable) → AllByRecursion P (a ++ b) → AllByRecursion P b
   all-second [] b all = all
   all-second (x ∷ a) b all = all-second a b all.1
-
--- each table shows over one chain what it shows over another
-abbrev pub AreAllSame : Held → Held → List BufferTable → Type 0
-AreAllSame old new buffers = AllByRecursion (λ (b : BufferTable). table_of b new ≡ table_of b old) buffers
 
 -- ---- a call
 

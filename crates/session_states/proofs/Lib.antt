@@ -1,3 +1,6 @@
 pub mod Names
 pub mod Beside
 pub mod Seen
+pub mod Edited
+pub mod Shared
+pub mod Released

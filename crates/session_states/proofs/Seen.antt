@@ -3,9 +3,9 @@ use Rattle.std.proofs.Common.{◌≡◌, List, [], ◌∷◌, ◌++◌, Option, 
 use Rattle.chain_owners.specs.Held.{Held}
 use Rattle.model_buffers.specs.Table.{Table}
 use Rattle.buffer_view.specs.BufferTables.{BufferTable, table_of}
-use Rattle.session_states.specs.OverChains.{tables_of}
+use Rattle.session_states.specs.OverChains.{AreAllSame, tables_of}
 use Rattle.session_states.specs.Versions.{Versions, all_versions, committed_versions}
-use Rattle.session_states.proofs.Beside.{AreAllSame, all-first, all-second}
+use Rattle.session_states.proofs.Beside.{all-first, all-second}
 
 abbrev seen : Held → List BufferTable → List (Option Table)
 seen held buffers = map (λ (b : BufferTable). table_of b held) buffers

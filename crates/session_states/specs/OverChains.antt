@@ -38,6 +38,10 @@ pub record AreVersionsOver (versions : Versions BufferTable) (held : Held) : Typ
 abbrev pub tables_of : Versions BufferTable → Held → Versions (Option Table)
 tables_of versions held = map_versions (λ (b : BufferTable). table_of b held) versions
 
+-- each of some buffers shows over one chain what it shows over another
+abbrev pub AreAllSame : Held → Held → List BufferTable → Type 0
+AreAllSame old new buffers = AllByRecursion (λ (b : BufferTable). table_of b new ≡ table_of b old) buffers
+
 -- ---- what calls leave
 
 -- What a call leaves of a chain: its other owners are respected, it has so many names more at most, and its loans are

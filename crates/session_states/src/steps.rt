@@ -5,7 +5,7 @@ ghost use Rattle.std.specs.VecDeque.{deque_capacity};
 ghost use Rattle.chain_owners.specs.Owners.{Owns};
 ghost use Rattle.pixel_formats.specs.Limits.{max_undoable};
 ghost use Rattle.buffer_view.specs.BufferTables.{AreBuffersOver, BufferTable, buffers_names};
-ghost use Rattle.session_states.specs.OverChains.{AreAllOver, AreVersionsOver, Leaves, names_of_all, tables_of, versions_names};
+ghost use Rattle.session_states.specs.OverChains.{AreAllOver, AreAllSame, AreVersionsOver, Leaves, names_of_all, tables_of, versions_names};
 ghost use Rattle.session_states.specs.Versions.{after_commit, after_redo, after_undo};
 
 use crate::versions::{BufferVersions, MAX_UNDOABLE};
@@ -38,7 +38,8 @@ impl BufferVersions {
             (record { held = C.held chain.old; counts = C.counts chain.old; loans = C.loans chain.old; valid = C.is_valid chain.old })
             (record { held = C.held chain.new; counts = C.counts chain.new; loans = C.loans chain.new; valid = C.is_valid chain.new })) }
     {
-        self.working.snapshot(chain)
+        let shared = self.working.snapshot(chain)?;
+        Ok(shared)
     }
 
     /// Returns buffers that are equal to those of the first state that can be undone to, and owners of the same
@@ -64,7 +65,8 @@ impl BufferVersions {
             (record { held = C.held chain.old; counts = C.counts chain.old; loans = C.loans chain.old; valid = C.is_valid chain.old })
             (record { held = C.held chain.new; counts = C.counts chain.new; loans = C.loans chain.new; valid = C.is_valid chain.new })) }
     {
-        self.undoable[0].snapshot(chain)
+        let shared = self.undoable[0].snapshot(chain)?;
+        Ok(shared)
     }
 
     /// Returns buffers that are equal to those of the first state that can be redone to, and owners of the same
@@ -90,7 +92,8 @@ impl BufferVersions {
             (record { held = C.held chain.old; counts = C.counts chain.old; loans = C.loans chain.old; valid = C.is_valid chain.old })
             (record { held = C.held chain.new; counts = C.counts chain.new; loans = C.loans chain.new; valid = C.is_valid chain.new })) }
     {
-        self.redoable[0].snapshot(chain)
+        let shared = self.redoable[0].snapshot(chain)?;
+        Ok(shared)
     }
 
     /// Commits the buffers that are edited, of which `shared` are equal ones: they become those of the last
@@ -108,7 +111,7 @@ impl BufferVersions {
             (record { held = C.held chain.new; counts = C.counts chain.new; loans = C.loans chain.new; valid = C.is_valid chain.new }) }
     {
         let left = mem::replace(&mut self.latest, shared);
-        self.undoable.push_front(left).unwrap();
+        self.undoable.push_front_reserved(left);
         release_past(&mut self.undoable, chain);
         release_all(&mut self.redoable, chain);
     }
@@ -130,7 +133,7 @@ impl BufferVersions {
     {
         let first = self.undoable.pop_front().unwrap();
         let left = mem::replace(&mut self.latest, first);
-        self.redoable.push_front(left).unwrap();
+        self.redoable.push_front_reserved(left);
         let edited = mem::replace(&mut self.working, shared);
         edited.release(chain);
     }
@@ -152,7 +155,7 @@ impl BufferVersions {
     {
         let first = self.redoable.pop_front().unwrap();
         let left = mem::replace(&mut self.latest, first);
-        self.undoable.push_front(left).unwrap();
+        self.undoable.push_front_reserved(left);
         let edited = mem::replace(&mut self.working, shared);
         edited.release(chain);
     }
@@ -166,6 +169,8 @@ fn release_past<C: TileChain>(states: &mut VecDeque<Buffers>, chain: &mut C)
     requires few { length states.old.items ≤ max_undoable + 1 }
     ensures items { states.new.items ≡ take max_undoable states.old.items }
     ensures capacity { deque_capacity states.new ≡ deque_capacity states.old }
+    ensures over { AreAllOver states.new.items (C.held chain.new) }
+    ensures same { AreAllSame (C.held chain.old) (C.held chain.new) states.new.items }
     ensures left { Leaves 0 (names_of_all states.old.items) (names_of_all states.new.items)
         (record { held = C.held chain.old; counts = C.counts chain.old; loans = C.loans chain.old; valid = C.is_valid chain.old })
         (record { held = C.held chain.new; counts = C.counts chain.new; loans = C.loans chain.new; valid = C.is_valid chain.new }) }
@@ -185,6 +190,7 @@ fn release_last<C: TileChain>(states: &mut VecDeque<Buffers>, chain: &mut C)
     ensures capacity { deque_capacity states.new ≡ deque_capacity states.old }
     ensures over { AreAllOver states.new.items (C.held chain.new) }
     ensures owned { Owns (C.held chain.new) (names_of_all states.new.items) }
+    ensures same { AreAllSame (C.held chain.old) (C.held chain.new) states.new.items }
     ensures left { Leaves 0 (names_of_all states.old.items) (names_of_all states.new.items)
         (record { held = C.held chain.old; counts = C.counts chain.old; loans = C.loans chain.old; valid = C.is_valid chain.old })
         (record { held = C.held chain.new; counts = C.counts chain.new; loans = C.loans chain.new; valid = C.is_valid chain.new }) }
