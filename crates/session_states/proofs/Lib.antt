@@ -4,3 +4,4 @@ pub mod Seen
 pub mod Edited
 pub mod Shared
 pub mod Released
+pub mod Returned

@@ -1,18 +1,21 @@
-use Rattle.std.proofs.Common.{rules, ◌≡◌, ◌<◌, ◌≤◌, ◌+◌, ◌-◌, ◌++◌, ◌∷◌, [], IfOk, List, MatchResult, OnOk, Some, length, slice_get, take, ℕ, ◌*◌, ◌/◌, ◌%◌, Bool, true, false, nat_eq, nat_lt, slice_index_or, slice_set, bit_and, bit_or, Fits, w8, w32, w64, Bor, MutBor}
-use Rattle.std.specs.VecDeque.{deque_capacity}
-use Rattle.chain_owners.specs.Owners.{Owns}
-use Rattle.pixel_formats.specs.Limits.{max_undoable}
-use Rattle.buffer_view.specs.BufferTables.{AreBuffersOver, BufferTable, buffers_names}
-use Rattle.session_states.specs.OverChains.{AreAllOver, AreAllSame, AreVersionsOver, Leaves, names_of_all, tables_of, versions_names}
-use Rattle.session_states.specs.Versions.{after_commit, after_redo, after_undo}
+use Rattle.std.proofs.Common.{rules, ◌≡◌, ℕ, ◌+◌, ◌<◌, ◌≤◌, List, [], ◌∷◌, ◌++◌, length, take, get_or, refl, sym, ap, ap₂, subst, ◌∙◌, arith, Option, Some}
+use Rattle.std.specs.Option.{option_to_list}
+use Rattle.chain_owners.specs.Owners.{times}
+use Rattle.chain_owners.proofs.Ownership.{times-append}
+use Rattle.root_tiles.specs.Chains.{ChainState}
+use Rattle.buffer_view.specs.BufferTables.{AreBuffersOver, BufferTable, buffers_names, table_of}
+use Rattle.session_states.specs.OverChains.{AreVersionsOver, Leaves, names_of_all, tables_of, versions_names}
+use Rattle.session_states.specs.Versions.{Versions, after_commit, after_redo, after_undo, all_versions, committed_versions}
+use Rattle.std.proofs.lemmas.List.{take_all}
+use Rattle.session_states.specs.OverChains.{AreAllSame}
+use Rattle.session_states.proofs.Beside.{same-itself}
 use Rattle.session_states.proofs.steps.release_past.Goals as goal
 
--- src/steps.rt:179:9
-pub returns-then-len-le-MAX_UNDOABLE-clause-items :
-    goal.returns-then-len-le-MAX_UNDOABLE-clause-items
-returns-then-len-le-MAX_UNDOABLE-clause-items g c = ?
+pub returns-then-len-le-MAX_UNDOABLE-clause-items : goal.returns-then-len-le-MAX_UNDOABLE-clause-items
+returns-then-len-le-MAX_UNDOABLE-clause-items g c =
+    let count : length c.args.states.now.items ≡ c.len.result = search rules in
+    sym (take_all 64 c.args.states.now.items (omega (arith, count, c.if-len-le-MAX_UNDOABLE.true)))
 
--- src/steps.rt:179:9
-pub returns-then-len-le-MAX_UNDOABLE-clause-same :
-    goal.returns-then-len-le-MAX_UNDOABLE-clause-same
-returns-then-len-le-MAX_UNDOABLE-clause-same g c = ?
+pub returns-then-len-le-MAX_UNDOABLE-clause-same : goal.returns-then-len-le-MAX_UNDOABLE-clause-same
+returns-then-len-le-MAX_UNDOABLE-clause-same g c =
+    same-itself (g.C.ChainMeaning.held c.args.chain.now) c.args.states.now.items
