@@ -14,11 +14,7 @@ use plane_rect::{Name, Rect};
 
 /// Takes the pairs out whose tile meets the rectangle that is given for their node. Takes no memory, and time in
 /// proportion to the tiles of the rectangles or to the pairs for each, whichever are fewer.
-pub(crate) fn void_all<C: TileChain>(
-    cache: &mut NodeCache,
-    chain: &mut C,
-    damages: &[(Name, Rect)],
-)
+pub(crate) fn void_all<C: TileChain>(cache: &mut NodeCache, chain: &mut C, damages: &[(Name, Rect)])
     requires { IsNodeCache cache.old.names.entries cache.old.names.cap cache.old.capacity (C.held chain.old) }
     ensures pairs { pairs_in cache.new.names.entries ≡ all_voided itself (pairs_in cache.old.names.entries) damages.now }
     ensures sizes { sizes_in cache.new.names.entries (C.held chain.new)
