@@ -58,15 +58,15 @@ module _ {Op : Type 0} (same : Op → Op → Bool) (meanings : Meanings Op) (hel
 abbrev pub IsSame : Held → Held → BufferTable → Type 0
 IsSame old new b = table_of b new ≡ table_of b old
 
-module _ {Op : Type 0} (old new : Held) where
-  pub table-again : (buffers : BufferTable) (table : Table) → IsSame old new buffers → AreOfTable buffers old table → AreOfTable buffers new table
-  table-again buffers table same of = record {
-    layout = of.layout;
-    images = subst (λ (o : Option Table). IfSome o (λ (known : Table). known ≡ table)) (sym same) of.images;
-  }
+pub table-again : (old new : Held) (buffers : BufferTable) (table : Table) → IsSame old new buffers → AreOfTable buffers old table → AreOfTable buffers new table
+table-again old new buffers table same of = record {
+  layout = of.layout;
+  images = subst (λ (o : Option Table). IfSome o (λ (known : Table). known ≡ table)) (sym same) of.images;
+}
 
+module _ {Op : Type 0} (old new : Held) where
   pub state-again : (side : Side Op) (buffers : BufferTable) (state : State Table Op) → IsSame old new buffers → AreOfState side buffers old state → AreOfState side buffers new state
-  state-again side buffers state same of = record { facts = of.facts; nodes = of.nodes; table = table-again buffers state.table same of.table }
+  state-again side buffers state same of = record { facts = of.facts; nodes = of.nodes; table = table-again old new buffers state.table same of.table }
 
   module _ (same : Op → Op → Bool) (meanings : Meanings Op) where
     pub before-again : (latest : Side Op) (steps : Steps Op) (buffers : List BufferTable) (states : List (Committed Table Op)) → AllByRecursion (IsSame old new) buffers

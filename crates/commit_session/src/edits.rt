@@ -1,6 +1,7 @@
 //! Edits and reads of what is edited.
 
 ghost use Rattle.std.specs.Prelude.{◌≡◌, ◌≤◌, ◌++◌, ◌∷◌, [], Err, IfErr, IfOk, List, None, OnErr, OnOk, Option, Some};
+ghost use Rattle.chain_owners.specs.Held.{Held};
 ghost use Rattle.level_tables.specs.Over.{max_level};
 ghost use Rattle.model_buffers.specs.BufferEdit.{IsProperEdit, edit_refused};
 ghost use Rattle.model_buffers.specs.Counts.{tiles_added};
@@ -81,6 +82,10 @@ impl<Op: OpMeaning + Drop> SessionState<Op> {
     pub fn note(&mut self, edit: NodeEdit<Op>) -> Result<(), SessionRefused>
         ensures noted { OnOk result (self.new ≡ record self.old { pending = self.old.pending ++ edit ∷ [] }) }
         ensures unchanged { OnErr result (self.new ≡ self.old) }
+        ensures session { (held : Held) (session : Session Table Op) → IsSessionOf Op.same Op.meanings self.old held session →
+            OnOk result (IsSessionOf Op.same Op.meanings self.new held
+            (record session { history = after_step Op.meanings session.history (EditNode edit) })) }
+        ensures over { (held : Held) → IsOver Op.same Op.meanings self.old held → IsOver Op.same Op.meanings self.new held }
     {
         self.pending.push(edit)?;
         Ok(())

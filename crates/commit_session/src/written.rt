@@ -1,12 +1,11 @@
 //! The rectangles of roots that were written since the last state.
 
-ghost use Rattle.std.specs.Prelude.{◌≡◌, ℕ, ◌<◌, List, Ok, vec_capacity, vec_len};
+ghost use Rattle.std.specs.Prelude.{◌≡◌, ◌<◌, Ok, vec_capacity, vec_len};
 ghost use Rattle.std.specs.Option.{option_and_then};
 ghost use Rattle.model_buffers.specs.BufferEdit.{on_root, written_by};
 ghost use Rattle.model_buffers.specs.Layout.{TableLayout};
 ghost use Rattle.model_graphs.specs.Facts.{rectangles_of};
 ghost use Rattle.model_states.specs.Rectangles.{with_written};
-ghost use Rattle.plane_rect.specs.Rectangle.{Rectangle};
 ghost use Rattle.commit_session.specs.Steps.{after_writing};
 
 use buffer_view::Buffers;
@@ -14,11 +13,18 @@ use model_buffers::BufferEdit;
 use model_graphs::Edited;
 use plane_rect::{Name, Rect};
 
+/// A rectangle of a buffer that an edit writes.
+#[derive(Clone, Copy)]
+struct Target {
+    buffer: Name,
+    rect: Rect,
+}
+
 /// Returns the buffer that an edit writes to, and where; None for one that adds a buffer, and where the copied
 /// rectangle can't be moved.
-fn target_of(edit: &BufferEdit) -> Option<(Name, Rect)>
+fn target_of(edit: &BufferEdit) -> Option<Target>
     ensures { (layout : TableLayout) → written_by layout edit.now
-        ≡ option_and_then (λ (target : (List ℕ × Rectangle)). on_root layout target.0 (Ok target.1)) result }
+        ≡ option_and_then (λ target. on_root layout target.buffer (Ok target.rect)) result }
 {
     match edit {
         BufferEdit::Create {
@@ -41,7 +47,10 @@ fn target_of(edit: &BufferEdit) -> Option<(Name, Rect)>
             name,
             rect,
             bytes: _,
-        } => Some((*name, *rect)),
+        } => Some(Target {
+            buffer: *name,
+            rect: *rect,
+        }),
         BufferEdit::Copy {
             from: _,
             to,
@@ -49,7 +58,10 @@ fn target_of(edit: &BufferEdit) -> Option<(Name, Rect)>
             dx,
             dy,
         } => match rect.shift(*dx, *dy) {
-            Ok(moved) => Some((*to, moved)),
+            Ok(moved) => Some(Target {
+                buffer: *to,
+                rect: moved,
+            }),
             Err(_) => None,
         },
     }
@@ -62,11 +74,11 @@ pub(crate) fn note_written(written: &mut Vec<Edited>, buffers: &Buffers, edit: &
     ensures { rectangles_of written.new.items
         ≡ after_writing (rectangles_of written.old.items) (written_by buffers.now.layout edit.now) }
 {
-    let Some((name, rect)) = target_of(edit) else {
+    let Some(target) = target_of(edit) else {
         return;
     };
-    if let Some(fact) = buffers.fact(name) {
-        add_written(written, fact.root, rect);
+    if let Some(fact) = buffers.fact(target.buffer) {
+        add_written(written, fact.root, target.rect);
     }
 }
 
@@ -76,10 +88,10 @@ fn add_written(written: &mut Vec<Edited>, root: Name, rect: Rect)
     requires { vec_len written.old < vec_capacity written.old }
     ensures { rectangles_of written.new.items ≡ with_written (rectangles_of written.old.items) root rect }
 {
-    match written.iter().position(|entry| entry.root == root) {
+    match written.iter().position(|entry| root == entry.root) {
         Some(index) => {
-            let grown = written[index].rect.hull(&rect);
-            written[index].rect = grown;
+            let entry = &mut written[index];
+            entry.rect = entry.rect.hull(&rect);
         }
         None => written.push_reserved(Edited { root, rect }),
     }
