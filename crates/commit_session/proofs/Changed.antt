@@ -1,5 +1,6 @@
 -- Sessions of which the buffers that are edited were handed to a call.
-use Rattle.std.proofs.Common.{◌≡◌, ℕ, ◌≤◌, Bool, List, [], ◌∷◌, ◌++◌, refl, sym, ap, subst, ◌∙◌, Option, Some, None, arith}
+use Rattle.std.proofs.Common.{◌≡◌, ℕ, ◌≤◌, Bool, List, [], ◌∷◌, ◌++◌, refl, sym, ap, subst, ◌∙◌, Option, Some, None, Result, Ok, Err, arith}
+use Rattle.std.specs.Result.{OnErr}
 use Rattle.std.specs.Map.{values_of}
 use Rattle.std.specs.Prelude.{IfSome}
 use Rattle.std.specs.Option.{option_map}
@@ -9,7 +10,8 @@ use Rattle.chain_owners.proofs.Ownership.{owns-fewer, respects-same, times-appen
 use Rattle.root_tiles.specs.Chains.{ChainState}
 use Rattle.root_tiles.proofs.ChainReads.{grows-same}
 use Rattle.model_buffers.specs.declared.edit.BufferEdit.{BufferEdit}
-use Rattle.model_buffers.specs.BufferEdit.{IsProperEdit, edit_refused, written_by}
+use Rattle.model_buffers.specs.BufferEdit.{IsProperEdit, edit_refused, layout_with, written_by}
+use Rattle.model_buffers.specs.declared.edit.BufferEdit.TheVariants.{Copy, Create, Duplicate, Fill, Put, Sub}
 use Rattle.model_buffers.specs.Layout.{TableLayout}
 use Rattle.model_buffers.specs.Table.{Table, layout_of}
 use Rattle.model_graphs.specs.declared.node.NodeEdit.{NodeEdit}
@@ -170,3 +172,27 @@ module _ {Op : Type 0} (same : Op → Op → Bool) (meanings : Meanings Op) wher
     is = session-first capacity held;
     valid = first_session same meanings laws boxed apart capacity;
   }
+
+-- ---- what edits write
+
+-- an edit writes the same by the layout that it makes
+pub written-still : (layout : TableLayout) (edit : BufferEdit) → written_by (layout_with layout edit) edit ≡ written_by layout edit
+written-still layout (Create name format extent) = refl
+written-still layout (Sub name parent r) = refl
+written-still layout (Duplicate name from) = refl
+written-still layout (Fill name r samples) = refl
+written-still layout (Put name r bytes) = refl
+written-still layout (Copy from to r dx dy) = refl
+
+pub noted-is : (edit : BufferEdit) (before after : BufferTable) (shown : BufferTable) (old new : Held) (written noted : Rectangles) → IsEdited edit before after old new → shown ≡ after
+    → noted ≡ after_writing written (written_by shown.layout edit) → noted ≡ after_writing written (written_by before.layout edit)
+noted-is edit before after shown old new written noted made same is =
+    is ∙ ap (λ (b : BufferTable). after_writing written (written_by b.layout edit)) same
+    ∙ ap (λ (l : TableLayout). after_writing written (written_by l edit)) made.layout
+    ∙ ap (after_writing written) (written-still before.layout edit)
+
+-- ---- answers by their cases
+
+pub on-err : {T E : Type 0} (r : Result T E) (P : Type 0) → P → OnErr r P
+on-err (Ok x) P p = tt
+on-err (Err e) P p = p

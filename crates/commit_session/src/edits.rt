@@ -1,6 +1,6 @@
 //! Edits and reads of what is edited.
 
-ghost use Rattle.std.specs.Prelude.{◌≡◌, ◌≤◌, ◌++◌, ◌∷◌, [], Err, IfErr, IfOk, List, None, OnErr, OnOk, Option, Some};
+ghost use Rattle.std.specs.Prelude.{◌≡◌, ◌≢◌, ◌≤◌, ◌++◌, ◌∷◌, [], Err, IfErr, IfOk, List, None, OnErr, OnOk, Option, Some};
 ghost use Rattle.chain_owners.specs.Held.{Held};
 ghost use Rattle.level_tables.specs.Over.{max_level};
 ghost use Rattle.model_buffers.specs.BufferEdit.{IsProperEdit, edit_refused};
@@ -23,7 +23,7 @@ ghost use Rattle.commit_session.specs.Parts.{session_names};
 ghost use Rattle.commit_session.specs.Refusals.{IsRefusedAs, by_buffers};
 ghost use Rattle.commit_session.specs.Seen.{IsOver, IsSessionOf};
 ghost use Rattle.commit_session.specs.Steps.{HasSameStates, IsEditedBy};
-ghost use Rattle.commit_session.specs.declared.refused.SessionRefused.TheVariants.{Buffer};
+ghost use Rattle.commit_session.specs.declared.refused.SessionRefused.TheVariants.{Buffer, NoMemory};
 
 use crate::refused::SessionRefused;
 use crate::state::SessionState;
@@ -60,7 +60,7 @@ impl<Op: OpMeaning + Drop> SessionState<Op> {
         ensures same { (session : Session Table Op) → IsSessionOf Op.same Op.meanings self.old (C.held chain.old) session →
             OnErr result (IsSessionOf Op.same Op.meanings self.new (C.held chain.new) session) }
         ensures exact { (cause : Cause) → edit_refused self.old.versions.working.layout edit.now ≡ Some cause →
-            result ≡ Err (Buffer (Edit cause)) }
+            result ≢ Err NoMemory → result ≡ Err (Buffer (Edit cause)) }
         ensures cause { IfErr result (IsRefusedAs by_buffers
             (HasEditCause self.old.versions.working.layout edit.now (C.counts chain.old) (C.counts chain.new))) }
         ensures over { IsOver Op.same Op.meanings self.new (C.held chain.new) }

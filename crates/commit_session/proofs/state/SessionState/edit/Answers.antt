@@ -14,7 +14,7 @@ use Rattle.commit_session.specs.Seen.{IsOver, IsSessionOf}
 use Rattle.model_buffers.specs.Counts.{tiles_added}
 use Rattle.model_images.specs.TileCounts.{level_tiles}
 use Rattle.buffer_view.specs.Reads.{box_of_root}
-use Rattle.commit_session.proofs.Changed.{edited-now, final, final-left, leaves-nothing, over-edited, over-shown, shown-again, versions-over}
+use Rattle.commit_session.proofs.Changed.{edited-now, noted-is, on-err, final, final-left, leaves-nothing, over-edited, over-shown, shown-again, versions-over}
 use Rattle.commit_session.proofs.state.SessionState.edit.Given
 use Rattle.commit_session.proofs.state.SessionState.edit.Goals as goal
 
@@ -82,7 +82,10 @@ returns-clause-over g c =
     let now : Parts g.row.Op.Denot = c.args.self.now in
     let is : v ≡ now =
     ap (λ (es : List Edited). let p : Parts g.row.Op.Denot = record v { written = rectangles_of es } in p) c.reserve.ensures.items ∙ c.self.view_is in
-    ?
+    let written : Rectangles = rectangles_of c.note_written.new.written.items in
+    let noted =
+    noted-is c.args.edit.now v.versions.working c.edit.new.self.working c.working.result.now s0.held s1.held v.written written c.in_ok-edit.ensures.edited c.working.ensures c.note_written.ensures in
+    over-edited g.Op.OpMeaning.same g.Op.OpMeaning.meanings v now is s0 s1 c.requires.over (tiles_added c.args.edit.now) c.edit.new.self c.edit.ensures.states c.edit.ensures.left c.edit.ensures.tables c.edit.ensures.over (laws g) g.Op.OpMeaning.boxed g.Op.OpMeaning.distinguished.apart c.args.edit.now written c.requires.proper c.in_ok-edit.ensures.edited noted
 
 pub returns-in_err-edit-clause-left : goal.returns-in_err-edit-clause-left
 returns-in_err-edit-clause-left g c =
@@ -142,7 +145,10 @@ returns-clause-session g c =
     let now : Parts g.row.Op.Denot = c.args.self.now in
     let is : v ≡ now =
     ap (λ (es : List Edited). let p : Parts g.row.Op.Denot = record v { written = rectangles_of es } in p) c.reserve.ensures.items ∙ c.self.view_is in
-    ?
+    let written : Rectangles = rectangles_of c.note_written.new.written.items in
+    let noted =
+    noted-is c.args.edit.now v.versions.working c.edit.new.self.working c.working.result.now s0.held s1.held v.written written c.in_ok-edit.ensures.edited c.working.ensures c.note_written.ensures in
+    λ session of. edited-now g.Op.OpMeaning.same g.Op.OpMeaning.meanings v now is s0 s1 c.requires.over (tiles_added c.args.edit.now) c.edit.new.self c.edit.ensures.states c.edit.ensures.left c.edit.ensures.tables c.edit.ensures.over c.args.edit.now written c.in_ok-edit.ensures.edited noted session of
 
 pub returns-in_err-edit-clause-same : goal.returns-in_err-edit-clause-same
 returns-in_err-edit-clause-same g c =
@@ -162,4 +168,4 @@ returns-in_err-edit-clause-same g c =
     let now : Parts g.row.Op.Denot = c.args.self.now in
     let is : v ≡ now =
     ap (λ (es : List Edited). let p : Parts g.row.Op.Denot = record v { written = rectangles_of es } in p) c.reserve.ensures.items ∙ c.self.view_is in
-    ?
+    λ session of. on-err _ _ (shown-again g.Op.OpMeaning.same g.Op.OpMeaning.meanings v now is s0 s1 c.requires.over (tiles_added c.args.edit.now) c.edit.new.self c.edit.ensures.states c.edit.ensures.left c.edit.ensures.tables c.edit.ensures.over c.in_err-edit.ensures.unchanged session of)
