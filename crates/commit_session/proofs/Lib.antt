@@ -1,5 +1,4 @@
 pub mod Held
-pub mod Commits
 pub mod Cached
 pub mod Working
 pub mod Changed

@@ -2,4 +2,3 @@ pub mod Parts
 pub mod Seen
 pub mod Steps
 pub mod Refusals
-pub mod Rendering

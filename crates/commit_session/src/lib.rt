@@ -1,12 +1,9 @@
-//! Sessions of edits, commits and renders over one chain of tiles.
+//! What a session holds over one chain of tiles, how it is edited and read, and the sessions of the definitions that it is.
 #![tactic(auto)]
 
 mod edits;
 mod refused;
-mod renders;
 mod state;
-mod steps;
-mod voids;
 mod written;
 
 pub use refused::SessionRefused;

@@ -9,7 +9,7 @@ ghost use Rattle.commit_session.specs.Parts.{new_parts, working_facts};
 ghost use Rattle.commit_session.specs.Seen.{IsOver, IsSessionOf};
 
 use graph_commits::Graph;
-use model_graphs::{BufferFact, Edited, NodeEdit, OpMeaning};
+use model_graphs::{BufferFact, Edited, NodeEdit, NodeFact, OpMeaning};
 use no_memory::NoMemory;
 use node_cache::NodeCache;
 use plane_rect::Name;
@@ -107,10 +107,7 @@ impl<Op: OpMeaning + Drop> SessionState<Op> {
     pub fn has_node(&self, name: Name) -> bool
         ensures { result ≡ has_node (specs_of self.now.graph.latest.nodes) name }
     {
-        self.graph.nodes().iter().any(|fact| {
-            let fact = &fact.spec;
-            fact.name == name
-        })
+        is_named(self.graph.nodes(), name)
     }
 
     /// Returns how many tiles the renders that were not refused evaluated and found.
@@ -120,4 +117,11 @@ impl<Op: OpMeaning + Drop> SessionState<Op> {
     {
         self.counts
     }
+}
+
+/// Returns whether a node of these has a name.
+fn is_named<Op>(nodes: &[NodeFact<Op>], name: Name) -> bool
+    ensures { result ≡ has_node (specs_of nodes.now) name }
+{
+    nodes.iter().position(|node| node.spec.name == name).is_some()
 }
