@@ -1,7 +1,7 @@
 -- Cached tiles that a call on the chain wasn't handed.
 use Rattle.std.proofs.Common.{◌≡◌, ℕ, List, ◌++◌, arith}
 use Rattle.std.specs.Map.{values_of}
-use Rattle.chain_owners.specs.Owners.{Owns, Unchanged, times}
+use Rattle.chain_owners.specs.Owners.{Owns}
 use Rattle.chain_owners.proofs.Ownership.{others-own, others-unchanged, owns-fewer, times-append}
 use Rattle.root_tiles.specs.Chains.{ChainState}
 use Rattle.node_cache.specs.NodeLaws.{node_framed, node_framed_condition, node_framed_sizes}

@@ -1,5 +1,5 @@
 -- Sessions of which the buffers that are edited were handed to a call.
-use Rattle.std.proofs.Common.{◌≡◌, ℕ, ◌≤◌, Bool, List, [], ◌∷◌, ◌++◌, refl, sym, ap, subst, ◌∙◌, Option, Some, None, Result, Ok, Err, arith}
+use Rattle.std.proofs.Common.{◌≡◌, ℕ, Bool, List, [], ◌∷◌, ◌++◌, refl, sym, ap, subst, ◌∙◌, Option, Some, None, Result, Ok, Err, arith}
 use Rattle.std.specs.Result.{OnErr}
 use Rattle.std.specs.Map.{values_of}
 use Rattle.std.specs.Prelude.{IfSome}
@@ -13,7 +13,7 @@ use Rattle.model_buffers.specs.declared.edit.BufferEdit.{BufferEdit}
 use Rattle.model_buffers.specs.BufferEdit.{IsProperEdit, edit_refused, layout_with, written_by}
 use Rattle.model_buffers.specs.declared.edit.BufferEdit.TheVariants.{Copy, Create, Duplicate, Fill, Put, Sub}
 use Rattle.model_buffers.specs.Layout.{TableLayout}
-use Rattle.model_buffers.specs.Table.{Table, layout_of}
+use Rattle.model_buffers.specs.Table.{Table}
 use Rattle.model_graphs.specs.declared.node.NodeEdit.{NodeEdit}
 use Rattle.model_graphs.specs.Laws.{Distinguishes, IsBoxed, KeepsLaws}
 use Rattle.model_graphs.specs.Meanings.{Meanings}
@@ -25,7 +25,6 @@ use Rattle.node_cache.specs.NodeNames.{IsNodeCache, cached_in}
 use Rattle.buffer_view.specs.BufferTables.{BufferTable, empty_table, table_of}
 use Rattle.session_states.specs.OverChains.{AreShownAgain, AreVersionsOver, IsEdited, Leaves, tables_of, versions_names}
 use Rattle.session_states.specs.Versions.{Versions, new_versions}
-use Rattle.session_states.proofs.Names.{leaves-beside}
 use Rattle.commit_session.specs.Parts.{Parts, new_parts, session_names}
 use Rattle.commit_session.specs.Seen.{IsOver, IsSessionOf}
 use Rattle.commit_session.specs.Steps.{after_writing}

@@ -1,5 +1,5 @@
 -- States of the definitions that are held over another chain.
-use Rattle.std.proofs.Common.{◌≡◌, ℕ, zero, suc, Bool, List, [], ◌∷◌, take, map, refl, sym, ap, subst, ◌∙◌, Option}
+use Rattle.std.proofs.Common.{◌≡◌, Bool, List, [], ◌∷◌, sym, subst, Option}
 use Rattle.std.specs.Prelude.{IfSome}
 use Rattle.std.specs.List.{AllByRecursion}
 use Rattle.chain_owners.specs.Held.{Held}

@@ -1,14 +1,14 @@
 -- Edits and reads of what is edited, as the definitions have them.
-use Rattle.std.proofs.Common.{◌≡◌, ℕ, Bool, true, false, cond, List, [], ◌∷◌, ◌++◌, map, refl, sym, ap, subst, ◌∙◌, Option, Some, None}
-use Rattle.std.specs.Prelude.{◌==◌, IfSome}
+use Rattle.std.proofs.Common.{◌≡◌, ℕ, Bool, cond, List, [], ◌∷◌, ◌++◌, map, refl, sym, ap, subst, ◌∙◌, Option, Some, None}
+use Rattle.std.specs.Prelude.{IfSome}
 use Rattle.std.specs.List.{AllByRecursion}
 use Rattle.std.specs.Option.{option_map}
 use Rattle.std.proofs.lemmas.Bool.{eq-eqb}
 use Rattle.plane_rect.specs.Rectangle.{Rectangle}
 use Rattle.chain_owners.specs.Held.{Held}
 use Rattle.model_buffers.specs.declared.edit.BufferEdit.{BufferEdit}
-use Rattle.model_buffers.specs.BufferEdit.{IsProperEdit, Refusal, edit_refused, layout_with, written_by}
-use Rattle.model_buffers.specs.Edits.{edited_table, table_with, unless_refused}
+use Rattle.model_buffers.specs.BufferEdit.{Refusal, edit_refused, layout_with, written_by}
+use Rattle.model_buffers.specs.Edits.{table_with, unless_refused}
 use Rattle.model_buffers.specs.Layout.{TableLayout}
 use Rattle.model_buffers.specs.Table.{Table, layout_of}
 use Rattle.model_buffers.proofs.ShapeLaws.{layout-with}
@@ -21,8 +21,8 @@ use Rattle.model_states.specs.Rectangles.{Rectangles}
 use Rattle.model_states.specs.Retained.{Retained}
 use Rattle.model_states.specs.State.{State}
 use Rattle.model_states.specs.Workspace.{Workspace}
-use Rattle.model_sessions.specs.Sessions.{IsSession, Make, Session, after_action, with_history, with_state}
-use Rattle.model_sessions.specs.Steps.{EditBuffer, EditNode, HistoryEdit, IsProper, after_edit, after_step, with_edit, with_working, with_workspace}
+use Rattle.model_sessions.specs.Sessions.{IsSession, Make, Session, with_state}
+use Rattle.model_sessions.specs.Steps.{EditBuffer, EditNode, HistoryEdit, IsProper, after_edit, after_step, with_edit, with_working}
 use Rattle.model_sessions.proofs.Actions.{action_keeps}
 use Rattle.node_cache.specs.NodeNames.{Entries, cached_in, sizes_in}
 use Rattle.buffer_view.specs.BufferTables.{BufferTable, table_of}

@@ -1,5 +1,5 @@
 -- Sessions of the definitions that are held over a chain.
-use Rattle.std.specs.Prelude.{◌≡◌, ℕ, ⊤, Bool, List, [], ◌∷◌, IfSome, map}
+use Rattle.std.specs.Prelude.{◌≡◌, ⊤, Bool, List, [], ◌∷◌, IfSome, map}
 use Rattle.chain_owners.specs.Held.{Held}
 use Rattle.chain_owners.specs.Owners.{Owns}
 use Rattle.model_buffers.specs.Table.{Table, layout_of}

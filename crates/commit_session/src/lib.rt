@@ -1,4 +1,4 @@
-//! What a session holds over one chain of tiles, how it is edited and read, and the sessions of the definitions that it is.
+//! What a session holds over one chain of tiles, how it is edited and read, and what the definitions say of it.
 #![tactic(auto)]
 
 mod edits;

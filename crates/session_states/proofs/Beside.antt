@@ -4,7 +4,7 @@ use Rattle.std.specs.List.{AllByRecursion}
 use Rattle.chain_owners.specs.Held.{Held}
 use Rattle.chain_owners.specs.Owners.{Owns, Respects, times}
 use Rattle.chain_owners.proofs.Ownership.{others-own, owns-fewer, times-append}
-use Rattle.buffer_view.specs.BufferTables.{AreBuffersOver, BufferTable, buffers_names, table_of}
+use Rattle.buffer_view.specs.BufferTables.{BufferTable, buffers_names}
 use Rattle.buffer_view.proofs.Tables.{over-beside, table-beside}
 use Rattle.session_states.specs.OverChains.{AreAllOver, AreAllSame, names_of_all}
 

@@ -1,6 +1,6 @@
 -- Versions of buffers of which those that are edited were handed to a call.
-use Rattle.std.proofs.Common.{◌≡◌, ℕ, List, ◌∷◌, ◌++◌, sym, ap, subst, ◌∙◌, Option}
-use Rattle.chain_owners.specs.Owners.{Owns, Respects}
+use Rattle.std.proofs.Common.{◌≡◌, ℕ, List, ◌++◌, sym, ap, subst, ◌∙◌, Option}
+use Rattle.chain_owners.specs.Owners.{Owns}
 use Rattle.chain_owners.proofs.Ownership.{times-append}
 use Rattle.model_buffers.specs.Table.{Table}
 use Rattle.root_tiles.specs.Chains.{ChainState}

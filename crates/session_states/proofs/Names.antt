@@ -1,6 +1,5 @@
 -- The names of several tables of buffers.
-use Rattle.std.proofs.Common.{◌≡◌, ℕ, ◌+◌, ◌≤◌, List, [], ◌∷◌, ◌++◌, ◌∙◌, arith}
-use Rattle.chain_owners.specs.Counts.{Counts, Grows}
+use Rattle.std.proofs.Common.{◌≡◌, ℕ, ◌+◌, List, [], ◌∷◌, ◌++◌, ◌∙◌, arith}
 use Rattle.chain_owners.specs.Owners.{times}
 use Rattle.chain_owners.proofs.Ownership.{respects-beside, respects-both, times-append}
 use Rattle.root_tiles.specs.Chains.{ChainState}

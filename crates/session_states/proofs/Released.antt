@@ -1,9 +1,8 @@
 -- Versions of buffers of which some were released.
-use Rattle.std.proofs.Common.{◌≡◌, ℕ, ◌+◌, List, [], ◌∷◌, ◌++◌, take, refl, sym, ap, subst, ◌∙◌, arith}
-use Rattle.std.specs.List.{AllByRecursion}
+use Rattle.std.proofs.Common.{◌≡◌, ℕ, ◌+◌, List, [], ◌∷◌, ◌++◌, take, sym, ap, subst, ◌∙◌, arith}
 use Rattle.pixel_formats.specs.Limits.{max_undoable}
 use Rattle.chain_owners.specs.Held.{Held}
-use Rattle.chain_owners.specs.Owners.{Owns, Respects, times}
+use Rattle.chain_owners.specs.Owners.{Owns, times}
 use Rattle.chain_owners.proofs.Ownership.{owns-fewer, times-append}
 use Rattle.root_tiles.specs.Chains.{ChainState}
 use Rattle.buffer_view.specs.BufferTables.{AreBuffersOver, BufferTable, buffers_names, table_of}

@@ -1,5 +1,5 @@
 -- Undos and redos of versions of buffers, step by step.
-use Rattle.std.proofs.Common.{◌≡◌, ℕ, ◌<◌, List, [], ◌∷◌, ◌++◌, length, take, drop, get_or, refl, sym, ap, subst, ◌∙◌, arith, Option, Some, Result, Ok, Err, IfOk}
+use Rattle.std.proofs.Common.{◌≡◌, ◌<◌, List, [], ◌∷◌, ◌++◌, length, take, drop, get_or, refl, sym, ap, subst, ◌∙◌, arith, Option, Some, Result, Ok, Err, IfOk}
 use Rattle.std.specs.Result.{IsErr, MatchResult, OnErr}
 use Rattle.std.specs.Prelude.{slice_get}
 use Rattle.std.specs.Option.{option_to_list}

@@ -1,5 +1,5 @@
 -- What versions of buffers show.
-use Rattle.std.proofs.Common.{◌≡◌, List, [], ◌∷◌, ◌++◌, Option, map, refl, ap, ◌∙◌}
+use Rattle.std.proofs.Common.{◌≡◌, List, [], ◌∷◌, Option, map, refl, ap, ◌∙◌}
 use Rattle.chain_owners.specs.Held.{Held}
 use Rattle.model_buffers.specs.Table.{Table}
 use Rattle.buffer_view.specs.BufferTables.{BufferTable, table_of}

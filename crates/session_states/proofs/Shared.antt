@@ -1,8 +1,7 @@
 -- Buffers that are shared among versions of them.
-use Rattle.std.proofs.Common.{◌≡◌, ℕ, ◌+◌, List, [], ◌∷◌, ◌++◌, refl, sym, ap, subst, ◌∙◌, arith}
+use Rattle.std.proofs.Common.{◌≡◌, ℕ, ◌+◌, List, ◌∷◌, ◌++◌, sym, ap, subst, ◌∙◌, arith}
 use Rattle.std.specs.List.{AllByRecursion}
-use Rattle.chain_owners.specs.Held.{Held}
-use Rattle.chain_owners.specs.Owners.{Owns, Respects, times}
+use Rattle.chain_owners.specs.Owners.{Owns, times}
 use Rattle.chain_owners.proofs.Ownership.{owns-fewer, times-append}
 use Rattle.root_tiles.specs.Chains.{ChainState}
 use Rattle.buffer_view.specs.BufferTables.{AreBuffersOver, BufferTable, buffers_names, table_of}

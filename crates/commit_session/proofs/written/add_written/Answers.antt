@@ -1,14 +1,12 @@
-use Rattle.std.proofs.Common.{◌≡◌, ℕ, ◌<◌, List, [], ◌∷◌, ◌++◌, Option, Some, None, get_or, length, refl, sym, ap, ◌∙◌, rules, tests}
+use Rattle.std.proofs.Common.{refl, sym, ap, ◌∙◌, rules, tests}
 use Rattle.std.proofs.Math.ListN.{set}
-use Rattle.std.specs.List.{position}
 use Rattle.std.specs.Str.{bytes_eq}
 use Rattle.std.proofs.lemmas.Iterator.{YieldsList-from_slice}
 use Rattle.std.proofs.lemmas.Iterator.Search.{position_from_yields_List}
 use Rattle.std.proofs.lemmas.List.Quantifiers.{position-Some}
-use Rattle.plane_rect.specs.Rectangle.{Rectangle, hull}
+use Rattle.plane_rect.specs.Rectangle.{Rectangle}
 use Rattle.model_graphs.specs.declared.buffer.Edited.{Edited}
 use Rattle.model_graphs.specs.Facts.{rectangles_of}
-use Rattle.model_states.specs.Rectangles.{with_written}
 use Rattle.commit_session.proofs.Hulls.{grown, none-passes, push-written, set-written}
 use Rattle.commit_session.proofs.written.add_written.Goals as goal
 

@@ -1,6 +1,5 @@
-use Rattle.std.proofs.Common.{◌≡◌, ℕ, List, Option, Some, None, sym, ap, ◌∙◌, rules}
+use Rattle.std.proofs.Common.{◌≡◌, None, sym, ap, ◌∙◌, rules}
 use Rattle.model_graphs.specs.Facts.{rectangles_of}
-use Rattle.model_graphs.specs.declared.buffer.BufferFact.{BufferFact}
 use Rattle.std.specs.Option.{option_map}
 use Rattle.commit_session.specs.Steps.{after_writing}
 use Rattle.commit_session.proofs.Hulls.{pair_of, written-is}

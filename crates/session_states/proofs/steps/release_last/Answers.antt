@@ -1,10 +1,8 @@
-use Rattle.std.proofs.Common.{◌≡◌, ℕ, List, [], ◌∷◌, ◌++◌, length, take, get_or, refl, sym, ap, ap₂, subst, ◌∙◌, arith, Option, Some}
+use Rattle.std.proofs.Common.{◌≡◌, [], ◌∷◌, ◌++◌, ap, ◌∙◌, Option}
 use Rattle.std.specs.Option.{option_to_list}
-use Rattle.chain_owners.specs.Owners.{times}
 use Rattle.root_tiles.specs.Chains.{ChainState}
-use Rattle.buffer_view.specs.BufferTables.{AreBuffersOver, BufferTable, buffers_names, table_of}
-use Rattle.session_states.specs.OverChains.{AreVersionsOver, Leaves, names_of_all, tables_of, versions_names}
-use Rattle.session_states.specs.Versions.{Versions, all_versions, committed_versions}
+use Rattle.buffer_view.specs.BufferTables.{BufferTable, buffers_names}
+use Rattle.session_states.specs.OverChains.{Leaves}
 use Rattle.session_states.proofs.Released.{last-first, last-left, last-over, last-owned, last-same}
 use Rattle.session_states.proofs.steps.release_last.Goals as goal
 

@@ -1,13 +1,5 @@
-use Rattle.std.proofs.Common.{rules, ◌≡◌, ℕ, ◌+◌, ◌<◌, ◌≤◌, List, [], ◌∷◌, ◌++◌, length, take, get_or, refl, sym, ap, ap₂, subst, ◌∙◌, arith, Option, Some}
-use Rattle.std.specs.Option.{option_to_list}
-use Rattle.chain_owners.specs.Owners.{times}
-use Rattle.chain_owners.proofs.Ownership.{times-append}
-use Rattle.root_tiles.specs.Chains.{ChainState}
-use Rattle.buffer_view.specs.BufferTables.{AreBuffersOver, BufferTable, buffers_names, table_of}
-use Rattle.session_states.specs.OverChains.{AreVersionsOver, Leaves, names_of_all, tables_of, versions_names}
-use Rattle.session_states.specs.Versions.{Versions, after_commit, after_redo, after_undo, all_versions, committed_versions}
+use Rattle.std.proofs.Common.{rules, ◌≡◌, length, sym, arith}
 use Rattle.std.proofs.lemmas.List.{take_all}
-use Rattle.session_states.specs.OverChains.{AreAllSame}
 use Rattle.session_states.proofs.Beside.{same-itself}
 use Rattle.session_states.proofs.steps.release_past.Goals as goal
 

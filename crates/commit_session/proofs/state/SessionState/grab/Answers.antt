@@ -1,22 +1,16 @@
-use Rattle.std.proofs.Common.{rules, ◌≡◌, ℕ, ◌≤◌, List, [], ◌∷◌, ◌++◌, refl, sym, ap, subst, ◌∙◌, arith}
-use Rattle.chain_owners.specs.Held.{Held}
+use Rattle.std.proofs.Common.{◌≡◌, ℕ, sym, ap, subst, ◌∙◌}
 use Rattle.root_tiles.specs.Chains.{ChainState}
-use Rattle.model_graphs.specs.declared.node.NodeEdit.{NodeEdit}
-use Rattle.model_graphs.specs.declared.buffer.Edited.{Edited}
 use Rattle.model_graphs.specs.Facts.{rectangles_of}
-use Rattle.model_graphs.specs.Laws.{Distinguishes, IsBoxed, KeepsLaws}
-use Rattle.model_states.specs.Rectangles.{Rectangles}
-use Rattle.session_states.specs.OverChains.{AreShownAgain, AreVersionsOver, Leaves, tables_of, versions_names}
+use Rattle.model_graphs.specs.Laws.{KeepsLaws}
+use Rattle.session_states.specs.OverChains.{AreShownAgain, AreVersionsOver, Leaves, tables_of}
 use Rattle.session_states.specs.Versions.{Versions}
 use Rattle.buffer_view.specs.BufferTables.{BufferTable, table_of}
-use Rattle.commit_session.specs.Parts.{Parts, new_parts, session_names}
-use Rattle.commit_session.specs.Seen.{IsOver, IsSessionOf}
-use Rattle.model_buffers.specs.Counts.{tiles_added}
+use Rattle.commit_session.specs.Parts.{Parts, session_names}
 use Rattle.model_images.specs.TileCounts.{level_tiles}
 use Rattle.buffer_view.specs.Reads.{box_of_root}
 use Rattle.std.proofs.Common.{Option}
 use Rattle.model_buffers.specs.Table.{Table}
-use Rattle.commit_session.proofs.Changed.{edited-now, noted-is, on-err, final, final-left, leaves-nothing, over-edited, over-shown, shown-again, versions-over}
+use Rattle.commit_session.proofs.Changed.{final, final-left, over-shown, shown-again, versions-over}
 use Rattle.commit_session.proofs.state.SessionState.grab.Given
 use Rattle.commit_session.proofs.state.SessionState.grab.Goals as goal
 

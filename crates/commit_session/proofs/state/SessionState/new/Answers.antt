@@ -1,16 +1,11 @@
-use Rattle.std.proofs.Common.{rules, ◌≡◌, ℕ, ◌≤◌, List, [], ◌∷◌, ◌++◌, refl, sym, ap, subst, ◌∙◌, arith}
-use Rattle.chain_owners.specs.Held.{Held}
-use Rattle.root_tiles.specs.Chains.{ChainState}
-use Rattle.model_graphs.specs.declared.node.NodeEdit.{NodeEdit}
-use Rattle.model_graphs.specs.declared.buffer.Edited.{Edited}
+use Rattle.std.proofs.Common.{◌≡◌, ℕ, [], sym, ap, subst, ◌∙◌}
 use Rattle.model_graphs.specs.Facts.{rectangles_of}
-use Rattle.model_graphs.specs.Laws.{Distinguishes, IsBoxed, KeepsLaws}
-use Rattle.model_states.specs.Rectangles.{Rectangles}
+use Rattle.model_graphs.specs.Laws.{KeepsLaws}
 use Rattle.model_sessions.specs.Sessions.{new_session}
-use Rattle.session_states.specs.OverChains.{AreShownAgain, AreVersionsOver, Leaves, versions_names}
+use Rattle.session_states.specs.OverChains.{AreVersionsOver}
 use Rattle.session_states.specs.Versions.{Versions}
-use Rattle.buffer_view.specs.BufferTables.{BufferTable, empty_table}
-use Rattle.commit_session.specs.Parts.{Parts, new_parts, session_names}
+use Rattle.buffer_view.specs.BufferTables.{BufferTable}
+use Rattle.commit_session.specs.Parts.{Parts, new_parts}
 use Rattle.commit_session.specs.Seen.{IsOver, IsSessionOf}
 use Rattle.chain_owners.specs.Held.{nothing_held}
 use Rattle.node_cache.specs.NodeNames.{Entries, IsNodeCache}

@@ -1,11 +1,11 @@
-use Rattle.std.proofs.Common.{rules, ◌≡◌, ℕ, ◌+◌, ◌<◌, ◌≤◌, List, [], ◌∷◌, ◌++◌, length, take, drop, refl, sym, ap, subst, ◌∙◌, arith}
+use Rattle.std.proofs.Common.{◌≡◌, List, [], ◌∷◌, ◌++◌, length, take, sym, ap, subst, ◌∙◌, arith}
 use Rattle.std.proofs.lemmas.List.{length-take}
 use Rattle.pixel_formats.specs.Limits.{max_undoable}
-use Rattle.chain_owners.specs.Owners.{Owns, times}
+use Rattle.chain_owners.specs.Owners.{Owns}
 use Rattle.root_tiles.specs.Chains.{ChainState}
-use Rattle.buffer_view.specs.BufferTables.{AreBuffersOver, BufferTable, buffers_names, table_of}
+use Rattle.buffer_view.specs.BufferTables.{BufferTable, buffers_names}
 use Rattle.session_states.specs.OverChains.{AreAllOver, AreAllSame, AreVersionsOver, Leaves, names_of_all, tables_of, versions_names}
-use Rattle.session_states.specs.Versions.{Versions, after_commit, all_versions}
+use Rattle.session_states.specs.Versions.{Versions, after_commit}
 use Rattle.session_states.proofs.Released.{committed-left, committed-over, committed-tables, past-over, past-owned, redo-handed, redo-owned}
 use Rattle.session_states.proofs.Returned.{committed-is, four, pushed-is}
 use Rattle.session_states.proofs.versions.BufferVersions.commit.Goals as goal

@@ -1,10 +1,8 @@
-use Rattle.std.proofs.Common.{◌≡◌, ℕ, List, [], ◌∷◌, ◌++◌, length, take, get_or, refl, sym, ap, ap₂, subst, ◌∙◌, arith, Option, Some}
-use Rattle.std.specs.Option.{option_to_list}
-use Rattle.chain_owners.specs.Owners.{times}
+use Rattle.std.proofs.Common.{ap, subst}
 use Rattle.root_tiles.specs.Chains.{ChainState}
-use Rattle.buffer_view.specs.BufferTables.{AreBuffersOver, BufferTable, buffers_names, table_of}
-use Rattle.session_states.specs.OverChains.{AreVersionsOver, Leaves, names_of_all, tables_of, versions_names}
-use Rattle.session_states.specs.Versions.{Versions, all_versions, committed_versions}
+use Rattle.buffer_view.specs.BufferTables.{BufferTable, buffers_names}
+use Rattle.session_states.specs.OverChains.{Leaves, versions_names}
+use Rattle.session_states.specs.Versions.{Versions}
 use Rattle.model_images.specs.TileCounts.{level_tiles}
 use Rattle.buffer_view.specs.Reads.{box_of_root}
 use Rattle.session_states.proofs.Edited.{edited-left, edited-over, read-tables, with_working}

@@ -1,11 +1,10 @@
-use Rattle.std.proofs.Common.{rules, ◌≡◌, ℕ, ◌+◌, ◌<◌, ◌≤◌, List, [], ◌∷◌, ◌++◌, length, take, drop, get_or, refl, sym, ap, ap₂, subst, ◌∙◌, arith, Option, Some}
-use Rattle.std.specs.Option.{option_to_list}
-use Rattle.chain_owners.specs.Owners.{Owns, times}
+use Rattle.std.proofs.Common.{◌≡◌, ℕ, ◌+◌, ◌<◌, List, [], ◌∷◌, ◌++◌, length, drop, sym, ap, subst, ◌∙◌, arith}
+use Rattle.chain_owners.specs.Owners.{times}
 use Rattle.chain_owners.proofs.Ownership.{times-append}
 use Rattle.root_tiles.specs.Chains.{ChainState}
-use Rattle.buffer_view.specs.BufferTables.{AreBuffersOver, BufferTable, buffers_names, table_of}
-use Rattle.session_states.specs.OverChains.{AreVersionsOver, Leaves, names_of_all, tables_of, versions_names}
-use Rattle.session_states.specs.Versions.{Versions, after_commit, after_redo, after_undo, all_versions, committed_versions}
+use Rattle.buffer_view.specs.BufferTables.{BufferTable, buffers_names}
+use Rattle.session_states.specs.OverChains.{Leaves, versions_names}
+use Rattle.session_states.specs.Versions.{Versions, all_versions}
 use Rattle.session_states.proofs.Returned.{err-match, list-first}
 use Rattle.session_states.proofs.Shared.{shared-first, shared-left, shared-over, shared-owned, shared-tables}
 use Rattle.session_states.proofs.versions.BufferVersions.share_redoable.Goals as goal

@@ -1,11 +1,8 @@
-use Rattle.std.proofs.Common.{rules, ◌≡◌, ℕ, ◌+◌, ◌<◌, ◌≤◌, List, [], ◌∷◌, ◌++◌, length, take, get_or, refl, sym, ap, ap₂, subst, ◌∙◌, arith, Option, Some}
-use Rattle.std.specs.Option.{option_to_list}
-use Rattle.chain_owners.specs.Owners.{times}
-use Rattle.chain_owners.proofs.Ownership.{times-append}
+use Rattle.std.proofs.Common.{◌≡◌, ℕ, List, [], ◌∷◌, ◌++◌, sym, ap, subst, ◌∙◌}
 use Rattle.root_tiles.specs.Chains.{ChainState}
-use Rattle.buffer_view.specs.BufferTables.{AreBuffersOver, BufferTable, buffers_names, table_of}
-use Rattle.session_states.specs.OverChains.{AreVersionsOver, Leaves, names_of_all, tables_of, versions_names}
-use Rattle.session_states.specs.Versions.{Versions, after_commit, after_redo, after_undo, all_versions, committed_versions}
+use Rattle.buffer_view.specs.BufferTables.{BufferTable, buffers_names}
+use Rattle.session_states.specs.OverChains.{AreVersionsOver, Leaves, tables_of, versions_names}
+use Rattle.session_states.specs.Versions.{Versions, after_undo}
 use Rattle.session_states.proofs.Released.{undo-over, undo-counts, released-left, released-over, released-tables}
 use Rattle.session_states.proofs.Returned.{four, leaves-of, undoable-is, taken-first, undone-is}
 use Rattle.session_states.proofs.versions.BufferVersions.undo.Goals as goal
