@@ -123,5 +123,8 @@ impl<Op: OpMeaning + Drop> SessionState<Op> {
 fn is_named<Op>(nodes: &[NodeFact<Op>], name: Name) -> bool
     ensures { result ≡ has_node (specs_of nodes.now) name }
 {
-    nodes.iter().position(|node| node.spec.name == name).is_some()
+    nodes
+        .iter()
+        .position(|node| node.spec.name == name)
+        .is_some()
 }
