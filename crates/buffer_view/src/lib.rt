@@ -21,3 +21,4 @@ pub use laws::{
     other_buffers_are_unchanged,
 };
 pub use refused::BufferRefused;
+pub use sources::BufferTiles;

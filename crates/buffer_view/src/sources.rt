@@ -1,6 +1,6 @@
 //! Buffers as a source of tiles.
 
-ghost use Rattle.std.specs.Prelude.{IfErr, IfOk, IsSome};
+ghost use Rattle.std.specs.Prelude.{◌≡◌, IfErr, IfOk, IsSome};
 ghost use Rattle.model_buffers.specs.Layout.{facts_of};
 ghost use Rattle.model_graphs.specs.Facts.{fact_of};
 ghost use Rattle.op_contracts.specs.Sources.{HasBufferLength, IsTileOf};
@@ -61,4 +61,41 @@ impl<C: TileChain> SourceTiles<C> for Buffers {
     ghost owned = { λ buffers held over. over.owned };
 
     ghost exposed = { λ buffers held. buffers_exposed buffers held };
+}
+
+/// Gives the tiles of buffers that are borrowed, so that who reads them leaves them as they are.
+#[derive(Clone, Copy)]
+pub struct BufferTiles<'a> {
+    buffers: &'a Buffers,
+}
+
+impl<'a> BufferTiles<'a> {
+    /// Returns the source of these buffers.
+    pub fn new(buffers: &'a Buffers) -> BufferTiles<'a>
+        ensures { result.buffers.now ≡ buffers.now }
+    {
+        BufferTiles { buffers }
+    }
+}
+
+impl<C: TileChain> SourceTiles<C> for BufferTiles<'_> {
+    ghost facts = { λ source. facts_of source.buffers.now.layout };
+
+    ghost images = { λ source held. buffer_images source.buffers.now held };
+
+    ghost names = { λ source. buffers_names source.buffers.now };
+
+    ghost is_over = { λ source held. AreBuffersOver source.buffers.now held };
+
+    fn tile(&mut self, chain: &mut C, buffer: Name, at: TileAt) -> Result<Tile, SwapRefused> {
+        self.buffers.buffer_tile(chain, buffer, at)
+    }
+
+    ghost framed = { λ source. buffers_framed source.buffers.now };
+
+    ghost framed_condition = { λ source. buffers_framed_condition source.buffers.now };
+
+    ghost owned = { λ source held over. over.owned };
+
+    ghost exposed = { λ source held. buffers_exposed source.buffers.now held };
 }

@@ -1,0 +1,6 @@
+pub mod Held
+pub mod Cached
+pub mod Working
+pub mod Changed
+pub mod Same
+pub mod Hulls

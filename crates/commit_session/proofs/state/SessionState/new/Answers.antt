@@ -1,0 +1,85 @@
+use Rattle.std.proofs.Common.{◌≡◌, ℕ, [], sym, ap, subst, ◌∙◌}
+use Rattle.model_graphs.specs.Facts.{rectangles_of}
+use Rattle.model_graphs.specs.Laws.{KeepsLaws}
+use Rattle.model_sessions.specs.Sessions.{new_session}
+use Rattle.session_states.specs.OverChains.{AreVersionsOver}
+use Rattle.session_states.specs.Versions.{Versions}
+use Rattle.buffer_view.specs.BufferTables.{BufferTable}
+use Rattle.commit_session.specs.Parts.{Parts, new_parts}
+use Rattle.commit_session.specs.Seen.{IsOver, IsSessionOf}
+use Rattle.chain_owners.specs.Held.{nothing_held}
+use Rattle.node_cache.specs.NodeNames.{Entries, IsNodeCache}
+use Rattle.commit_session.proofs.Changed.{over-first, session-first}
+use Rattle.commit_session.proofs.Same.{parts-same}
+use Rattle.commit_session.proofs.state.SessionState.new.Given
+use Rattle.commit_session.proofs.state.SessionState.new.Goals as goal
+
+laws : (g : Given.Over) → KeepsLaws g.Op.OpMeaning.meanings
+laws g = record { local = g.Op.OpMeaning.local; dual = g.Op.OpMeaning.dual }
+
+pub returns-clause-parts : goal.returns-clause-parts
+returns-clause-parts g c =
+    let cap : c.in_ok-cache.cache.names.cap ≡ c.args.capacity =
+    (c.in_ok-cache.ensures.over nothing_held).same ∙ c.in_ok-cache.ensures.capacity in
+    let final : Parts g.row.Op.Denot = record {
+      versions = c.in_ok-versions.versions;
+      pending = c.new-3.result.items;
+      written = rectangles_of c.new-4.result.items;
+      graph = c.new-5.result;
+      entries = c.in_ok-cache.cache.names.entries;
+      most = c.in_ok-cache.cache.names.cap;
+      capacity = c.in_ok-cache.cache.capacity;
+      applied = 0;
+      reused = 0;
+    } in
+    let is : final ≡ new_parts c.args.capacity =
+    parts-same c.in_ok-versions.versions _ c.new-3.result.items _ (rectangles_of c.new-4.result.items) _ c.new-5.result _ c.in_ok-cache.cache.names.entries _ c.in_ok-cache.cache.names.cap _ c.in_ok-cache.cache.capacity _
+    c.in_ok-versions.ensures.versions c.new-3.ensures.items (ap rectangles_of c.new-4.ensures.items) c.new-5.ensures c.in_ok-cache.ensures.empty cap c.in_ok-cache.ensures.capacity in
+    is
+
+pub returns-clause-over : goal.returns-clause-over
+returns-clause-over g c =
+    let cap : c.in_ok-cache.cache.names.cap ≡ c.args.capacity =
+    (c.in_ok-cache.ensures.over nothing_held).same ∙ c.in_ok-cache.ensures.capacity in
+    let final : Parts g.row.Op.Denot = record {
+      versions = c.in_ok-versions.versions;
+      pending = c.new-3.result.items;
+      written = rectangles_of c.new-4.result.items;
+      graph = c.new-5.result;
+      entries = c.in_ok-cache.cache.names.entries;
+      most = c.in_ok-cache.cache.names.cap;
+      capacity = c.in_ok-cache.cache.capacity;
+      applied = 0;
+      reused = 0;
+    } in
+    let is : final ≡ new_parts c.args.capacity =
+    parts-same c.in_ok-versions.versions _ c.new-3.result.items _ (rectangles_of c.new-4.result.items) _ c.new-5.result _ c.in_ok-cache.cache.names.entries _ c.in_ok-cache.cache.names.cap _ c.in_ok-cache.cache.capacity _
+    c.in_ok-versions.ensures.versions c.new-3.ensures.items (ap rectangles_of c.new-4.ensures.items) c.new-5.ensures c.in_ok-cache.ensures.empty cap c.in_ok-cache.ensures.capacity in
+    λ held.
+    let cache : IsNodeCache [] c.args.capacity c.args.capacity held =
+    subst (λ (n : ℕ). IsNodeCache [] c.args.capacity n held) c.in_ok-cache.ensures.capacity
+    (subst (λ (n : ℕ). IsNodeCache [] n c.in_ok-cache.cache.capacity held) cap
+    (subst (λ (es : Entries). IsNodeCache es c.in_ok-cache.cache.names.cap c.in_ok-cache.cache.capacity held) c.in_ok-cache.ensures.empty (c.in_ok-cache.ensures.over held))) in
+    subst (λ (p : Parts g.row.Op.Denot). IsOver g.Op.OpMeaning.same g.Op.OpMeaning.meanings p held) (sym is)
+    (over-first g.Op.OpMeaning.same g.Op.OpMeaning.meanings (laws g) g.Op.OpMeaning.boxed g.Op.OpMeaning.distinguished.apart c.args.capacity held cache
+    (subst (λ (v : Versions BufferTable). AreVersionsOver v held) c.in_ok-versions.ensures.versions (c.in_ok-versions.ensures.over held)))
+
+pub returns-clause-session : goal.returns-clause-session
+returns-clause-session g c =
+    let cap : c.in_ok-cache.cache.names.cap ≡ c.args.capacity =
+    (c.in_ok-cache.ensures.over nothing_held).same ∙ c.in_ok-cache.ensures.capacity in
+    let final : Parts g.row.Op.Denot = record {
+      versions = c.in_ok-versions.versions;
+      pending = c.new-3.result.items;
+      written = rectangles_of c.new-4.result.items;
+      graph = c.new-5.result;
+      entries = c.in_ok-cache.cache.names.entries;
+      most = c.in_ok-cache.cache.names.cap;
+      capacity = c.in_ok-cache.cache.capacity;
+      applied = 0;
+      reused = 0;
+    } in
+    let is : final ≡ new_parts c.args.capacity =
+    parts-same c.in_ok-versions.versions _ c.new-3.result.items _ (rectangles_of c.new-4.result.items) _ c.new-5.result _ c.in_ok-cache.cache.names.entries _ c.in_ok-cache.cache.names.cap _ c.in_ok-cache.cache.capacity _
+    c.in_ok-versions.ensures.versions c.new-3.ensures.items (ap rectangles_of c.new-4.ensures.items) c.new-5.ensures c.in_ok-cache.ensures.empty cap c.in_ok-cache.ensures.capacity in
+    λ held. subst (λ (p : Parts g.row.Op.Denot). IsSessionOf g.Op.OpMeaning.same g.Op.OpMeaning.meanings p held new_session) (sym is) (session-first g.Op.OpMeaning.same g.Op.OpMeaning.meanings c.args.capacity held)

@@ -1,0 +1,64 @@
+-- Versions of buffers whose tiles are in one chain.
+use Rattle.std.specs.Prelude.{◌≡◌, ℕ, List, [], ◌∷◌, ◌++◌, None, Option}
+use Rattle.std.specs.List.{AllByRecursion}
+use Rattle.std.specs.Option.{option_map}
+use Rattle.chain_owners.specs.Counts.{Grows}
+use Rattle.chain_owners.specs.Held.{Held}
+use Rattle.chain_owners.specs.Owners.{Owns, Respects}
+use Rattle.model_buffers.specs.declared.edit.BufferEdit.{BufferEdit}
+use Rattle.model_buffers.specs.BufferEdit.{edit_refused, layout_with}
+use Rattle.model_buffers.specs.Edits.{table_with}
+use Rattle.model_buffers.specs.Table.{Table}
+use Rattle.root_tiles.specs.Chains.{ChainState}
+use Rattle.buffer_view.specs.BufferTables.{AreBuffersOver, BufferTable, buffers_names, table_of}
+use Rattle.session_states.specs.Versions.{Versions, all_versions, map_versions}
+
+-- ---- names
+
+-- the names that buffers hold, each as often as it is held
+abbrev pub names_of_all : List BufferTable → List ℕ
+names_of_all [] = []
+names_of_all (buffers ∷ rest) = buffers_names buffers ++ names_of_all rest
+
+abbrev pub versions_names : Versions BufferTable → List ℕ
+versions_names versions = names_of_all (all_versions versions)
+
+-- ---- what is asked, and what is seen
+
+-- what each of some buffers asks of a chain
+abbrev pub AreAllOver : List BufferTable → Held → Type 0
+AreAllOver buffers held = AllByRecursion (λ (b : BufferTable). AreBuffersOver b held) buffers
+
+-- What versions of buffers ask of a chain: that it owns all their names, and what each asks.
+pub record AreVersionsOver (versions : Versions BufferTable) (held : Held) : Type 0 where
+  pub owned : Owns held (versions_names versions)
+  pub over : AreAllOver (all_versions versions) held
+
+-- the tables of their images, where the chain exposes its bytes
+abbrev pub tables_of : Versions BufferTable → Held → Versions (Option Table)
+tables_of versions held = map_versions (λ (b : BufferTable). table_of b held) versions
+
+-- each of some buffers shows over one chain what it shows over another
+abbrev pub AreAllSame : Held → Held → List BufferTable → Type 0
+AreAllSame old new buffers = AllByRecursion (λ (b : BufferTable). table_of b new ≡ table_of b old) buffers
+
+-- ---- what calls leave
+
+-- What a call leaves of a chain: its other owners are respected, it has so many names more at most, and its loans are
+-- unchanged.
+pub record Leaves (added : ℕ) (before after : List ℕ) (old new : ChainState) : Type 0 where
+  pub others : Respects old.held new.held before after
+  pub counts : Grows added old.counts new.counts
+  pub loans : new.loans ≡ old.loans
+  pub valid : old.valid → new.valid
+
+-- An edit was carried out on buffers.
+pub record IsEdited (edit : BufferEdit) (before after : BufferTable) (old new : Held) : Type 0 where
+  pub carried_out : edit_refused before.layout edit ≡ None
+  pub layout : after.layout ≡ layout_with before.layout edit
+  pub table : table_of after new ≡ option_map (λ table. table_with table edit) (table_of before old)
+
+-- Buffers show what they showed.
+pub record AreShownAgain (before after : BufferTable) (old new : Held) : Type 0 where
+  pub layout : after.layout ≡ before.layout
+  pub table : table_of after new ≡ table_of before old
