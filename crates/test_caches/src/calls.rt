@@ -1,0 +1,158 @@
+//! Calls on a cache whose tiles all have four bytes, four times the same.
+
+ghost use Rattle.std.specs.Prelude.{◌≡◌, ◌≤◌, IfOk, length};
+ghost use Rattle.node_cache.specs.HandTiles.{IsHandCache, hand_size};
+ghost use Rattle.node_cache.specs.NodeNames.{IsNodeCache, sizes_in};
+ghost use Rattle.test_caches.specs.Lengths.{HaveLength};
+ghost use Rattle.std.specs.Prelude.{map};
+
+use chain_handlers::{SwapRefused, TileChain};
+use chain_owners::ChainMeaning;
+use no_memory::NoMemory;
+use node_cache::{HandCache, NodeCache, PairStore};
+use plane_rect::{Name, Rect, TileAt};
+use std::alloc::Global;
+use std::process::Abort;
+use tile_cow::Tile;
+
+/// A node by its word, and one of its tiles by the column and the row from the origin.
+pub type Spot = (&'static str, i8, i8);
+
+/// A node and one of its tiles.
+type Pair = (Name, TileAt);
+
+/// Returns the name that a word is.
+pub fn name(rt: &impl Abort, word: &str) -> Name {
+    Name::parse(word.as_bytes()).expect(rt, "a name")
+}
+
+/// Returns the node and the tile of a spot.
+fn pair(rt: &impl Abort, spot: Spot) -> Pair {
+    let at = TileAt::of(i32::from(spot.1) * 64, i32::from(spot.2) * 64);
+    (name(rt, spot.0), at)
+}
+
+/// Returns the rectangle of four fields, or the one without a position where they are none.
+pub fn rect(fields: [i64; 4]) -> Rect {
+    let [x, y, w, h] = fields;
+    Rect::new(x, y, w, h).unwrap_or(Rect::EMPTY)
+}
+
+/// Returns a cache over a chain, without a pair.
+pub fn node_cache<C: TileChain>(
+    _chain: &C,
+    alloc: Global,
+    capacity: u32,
+) -> Result<NodeCache, NoMemory>
+    requires { 1 ≤ capacity }
+    ensures over { IfOk result (λ cache. IsNodeCache cache.names.entries cache.names.cap cache.capacity (C.held _chain.now)) }
+    ensures lengths { IfOk result (λ cache. HaveLength 4 (sizes_in cache.names.entries (C.held _chain.now))) }
+{
+    let cache = NodeCache::new(alloc, capacity)?;
+    Ok(cache)
+}
+
+/// Returns a cache in memory, without a pair.
+pub fn hand_cache(alloc: Global, capacity: u32) -> Result<HandCache, NoMemory>
+    requires { 1 ≤ capacity }
+    ensures over { IfOk result (λ cache. IsHandCache cache.tiles.entries cache.tiles.cap) }
+    ensures lengths { IfOk result (λ cache. HaveLength 4 (map hand_size cache.tiles.entries)) }
+{
+    let cache = HandCache::new(alloc, capacity)?;
+    Ok(cache)
+}
+
+/// Returns a tile of four times this byte.
+fn four(alloc: Global, byte: u8) -> Result<Tile, NoMemory>
+    ensures { IfOk result (λ tile. length tile ≡ 4) }
+{
+    let tile = Tile::from_vec(alloc, vec![in alloc; byte; 4]?)?;
+    Ok(tile)
+}
+
+/// Looks for the pair of a spot. Returns the first byte of its tile, where it is there.
+pub fn look<H: ChainMeaning, C: PairStore<H>>(
+    rt: &impl Abort,
+    cache: &mut C,
+    chain: &mut H,
+    spot: Spot,
+) -> Result<Option<u8>, SwapRefused>
+    requires over { C.is_over cache.old (H.held chain.old) }
+    requires lengths { HaveLength 4 (C.sizes cache.old (H.held chain.old)) }
+    ensures over { C.is_over cache.new (H.held chain.new) }
+    ensures lengths { HaveLength 4 (C.sizes cache.new (H.held chain.new)) }
+{
+    let (node, at) = pair(rt, spot);
+    let found = cache.look(chain, node, at, 4)?;
+    Ok(found.and_then(|tile| tile.bytes().first().copied()))
+}
+
+/// Keeps a tile of four times a byte for the pair of a spot that isn't there. Returns whether it wasn't.
+pub fn keep<H: ChainMeaning, C: PairStore<H>>(
+    rt: &impl Abort,
+    cache: &mut C,
+    chain: &mut H,
+    alloc: Global,
+    spot: Spot,
+    byte: u8,
+) -> Result<bool, SwapRefused>
+    requires over { C.is_over cache.old (H.held chain.old) }
+    requires lengths { HaveLength 4 (C.sizes cache.old (H.held chain.old)) }
+    ensures over { C.is_over cache.new (H.held chain.new) }
+    ensures lengths { HaveLength 4 (C.sizes cache.new (H.held chain.new)) }
+{
+    let (node, at) = pair(rt, spot);
+    let tile = four(alloc, byte)?;
+    let found = cache.look(chain, node, at, 4)?;
+    if found.is_some() {
+        return Ok(false);
+    }
+    cache.keep(chain, node, at, tile)?;
+    Ok(true)
+}
+
+/// Takes the pairs of a node out whose tiles meet a rectangle.
+pub fn void<H: ChainMeaning, C: PairStore<H>>(
+    cache: &mut C,
+    chain: &mut H,
+    node: Name,
+    fields: [i64; 4],
+)
+    requires over { C.is_over cache.old (H.held chain.old) }
+    requires lengths { HaveLength 4 (C.sizes cache.old (H.held chain.old)) }
+    ensures over { C.is_over cache.new (H.held chain.new) }
+    ensures lengths { HaveLength 4 (C.sizes cache.new (H.held chain.new)) }
+{
+    cache.void(chain, node, rect(fields));
+}
+
+/// Checks the pairs and their order, the most recent first.
+pub fn check_order<H: ChainMeaning, C: PairStore<H>>(
+    rt: &impl Abort,
+    cache: &C,
+    _chain: &H,
+    wanted: &[Spot],
+) {
+    let order = cache.order().expect(rt, "memory");
+    assert!(rt; order.len() == wanted.len());
+    for (found, spot) in order.iter().zip(wanted) {
+        assert!(rt; *found == pair(rt, *spot));
+    }
+}
+
+/// Checks the first byte of the tile of a spot, None where the pair isn't there.
+pub fn check<H: ChainMeaning, C: PairStore<H>>(
+    rt: &impl Abort,
+    cache: &mut C,
+    chain: &mut H,
+    spot: Spot,
+    wanted: Option<u8>,
+)
+    requires over { C.is_over cache.old (H.held chain.old) }
+    requires lengths { HaveLength 4 (C.sizes cache.old (H.held chain.old)) }
+    ensures over { C.is_over cache.new (H.held chain.new) }
+    ensures lengths { HaveLength 4 (C.sizes cache.new (H.held chain.new)) }
+{
+    let found = look(rt, cache, chain, spot).expect(rt, "a look");
+    assert_eq!(rt; found, wanted);
+}
