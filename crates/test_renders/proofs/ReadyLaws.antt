@@ -1,0 +1,35 @@
+-- What stays ready over calls.
+use Rattle.std.proofs.Common.{ℕ, ◌+◌, List, [], ◌++◌, inl, inr, arith}
+use Rattle.chain_owners.specs.Held.{Held}
+use Rattle.chain_owners.specs.Owners.{Owns, Respects}
+use Rattle.chain_owners.proofs.Ownership.{others-own, owns-fewer, times-append}
+use Rattle.model_graphs.specs.declared.node.NodeFact.{NodeFact}
+use Rattle.model_states.proofs.CacheLaws.{all-filter}
+use Rattle.node_cache.specs.Stores.{Sized, by_sized}
+use Rattle.plane_rect.specs.Rectangle.{Rectangle}
+use Rattle.model_states.specs.Cache.{voided}
+use Rattle.strip_renders.proofs.Moments.{owns-turned}
+use Rattle.strip_renders.specs.Strips.{AreSizedPairs, IsSizedPair}
+
+-- the chain owns what is held after a call, where it owned what was held before it
+pub owned-on : (old new : Held) (before after : List ℕ) → Respects old new before after → Owns old before → Owns new after
+owned-on old new before after others owns = record {
+  counted = λ q. elim (owns.counted q) [
+    | inl stopped ↦ inl (others.stopped q stopped)
+    | inr enough ↦ elim (others.others q) [ inl stopped ↦ inl stopped | inr same ↦ inr (omega (arith, enough, same)) ]
+  ];
+}
+
+-- the same of names that a value which isn't handed holds before them
+pub owned-after : (old new : Held) (first before after : List ℕ) → Respects old new before after → Owns old (first ++ before) → Owns new (first ++ after)
+owned-after old new first before after others owns =
+    owns-turned new after first (others-own old new before after others first (owns-turned old first before owns))
+
+-- and of no name more
+pub owned-alone : (held : Held) (names : List ℕ) → Owns held names → Owns held (names ++ [])
+owned-alone held names owns = owns-fewer held names (names ++ []) (λ q. omega (arith, times-append names [] q)) owns
+
+-- what a void leaves is sized as it was
+pub sized-voided : {Op : Type 0} (nodes : List (NodeFact Op)) (sizes : List Sized) (node : List ℕ) (rectangle : Rectangle)
+    → AreSizedPairs nodes sizes → AreSizedPairs nodes (voided by_sized sizes node rectangle)
+sized-voided nodes sizes node rectangle sized = all-filter by_sized (IsSizedPair nodes) _ sizes sized

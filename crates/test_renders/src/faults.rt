@@ -1,0 +1,84 @@
+//! Renders over disks of which one call fails.
+
+ghost use Rattle.std.specs.Prelude.{◌≤◌};
+ghost use Rattle.model_buffers.specs.Layout.{facts_of};
+ghost use Rattle.model_operations.specs.Meanings.{int_meanings};
+ghost use Rattle.buffer_view.specs.BufferTables.{AreBuffersOver, buffers_names};
+ghost use Rattle.test_renders.specs.Ready.{AreOver, AreReady};
+
+use crate::canvas::Canvas;
+use crate::checks::over;
+use crate::plain::bytes;
+use crate::renders::Request;
+use crate::small_graphs::{Fields, name, node, one_buffer, put, rect, request, source};
+use buffer_view::Buffers;
+use chain_contracts::TileChain;
+use int_ops::IntOp;
+use node_cache::PairStore;
+use patch_abyss::Patch;
+use pixel_formats::Format;
+use render_workers::RenderRefused;
+use std::alloc::Global;
+use std::process::Abort;
+
+/// The box of the buffer, of two tiles.
+const BOX: Fields = [0, 0, 128, 64];
+
+/// Writes the buffer, and again where the disk refuses it.
+fn put_again<C: TileChain>(rt: &impl Abort, buffers: &mut Buffers, chain: &mut C, raw: &[u8])
+    requires { AreBuffersOver buffers.old (C.held chain.old) }
+    ensures { AreBuffersOver buffers.new (C.held chain.new) }
+{
+    let a = name(rt, "a");
+    if buffers.put_raw(chain, a, rect(BOX), raw).is_err() {
+        put(rt, buffers, chain, "a", BOX, raw);
+    }
+}
+
+/// Renders a request, and again where the disk refuses it. Returns the patch, and whether it did.
+fn show_again<C: TileChain, P: PairStore<C>>(
+    rt: &impl Abort,
+    canvas: &mut Canvas<Buffers, P>,
+    chain: &mut C,
+    request: &Request,
+) -> (Patch, bool)
+    requires level { request.now.level ≤ 8 }
+    requires over { AreOver (AreBuffersOver canvas.old.sources (C.held chain.old)) (P.is_over canvas.old.cache (C.held chain.old))
+        (buffers_names canvas.old.sources) (P.names canvas.old.cache) (C.held chain.old) }
+    requires ready { AreReady int_meanings (facts_of canvas.old.sources.layout) canvas.old.graph.latest.nodes
+        (P.sizes canvas.old.cache (C.held chain.old)) }
+    ensures over { AreOver (AreBuffersOver canvas.new.sources (C.held chain.new)) (P.is_over canvas.new.cache (C.held chain.new))
+        (buffers_names canvas.new.sources) (P.names canvas.new.cache) (C.held chain.new) }
+    ensures ready { AreReady int_meanings (facts_of canvas.new.sources.layout) canvas.new.graph.latest.nodes
+        (P.sizes canvas.new.cache (C.held chain.new)) }
+{
+    let first = canvas.shown(chain, request);
+    if let Ok(shown) = first {
+        return (shown.0.patch, false);
+    }
+    assert!(rt; first.err() == Some(RenderRefused::SwapFault));
+    let second = canvas
+        .shown(chain, request)
+        .expect(rt, "one call that fails");
+    (second.0.patch, true)
+}
+
+/// Inverts a buffer twice over a disk of which one call fails, and shows the buffer so. Returns whether the disk
+/// refused a render.
+pub fn invert_twice<C: TileChain>(rt: &impl Abort, chain: &mut C, alloc: Global) -> bool {
+    let raw = bytes(rt, alloc, 4, 128 * 64);
+    let mut buffers = one_buffer(rt, chain, alloc, "a", Format::Y8, BOX);
+    put_again(rt, &mut buffers, chain, &raw);
+    let edits = [
+        source(rt, "s", "a"),
+        node(rt, alloc, "i", IntOp::Invert, &["s"]),
+        node(rt, alloc, "j", IntOp::Invert, &["i"]),
+    ];
+    let mut canvas = over(rt, alloc, chain, buffers, &edits, 4);
+    let all = request(rt, "j", 0, BOX);
+    let (first, refused) = show_again(rt, &mut canvas, chain, &all);
+    assert!(rt; first.raw_bytes() == raw.as_slice());
+    let (second, refused_later) = show_again(rt, &mut canvas, chain, &all);
+    assert!(rt; second.raw_bytes() == raw.as_slice());
+    refused || refused_later
+}
