@@ -1,5 +1,5 @@
 -- What is built today of runs. Later work shortens this until it is gone.
-use Rattle.std.specs.Prelude.{ℕ, ◌==◌, Bool, true, false, not, ◌&&◌, max, if◌then◌else◌, List, [], ◌∷◌, Option, Some, None, Result, Ok, Err}
+use Rattle.std.specs.Prelude.{ℕ, ◌==◌, Bool, true, false, not, ◌&&◌, ◌||◌, max, is_none, is_some, if◌then◌else◌, List, [], ◌∷◌, Option, Some, None, Result, Ok, Err}
 use Rattle.std.specs.Str.{bytes_eq}
 use Rattle.plane_rect.specs.Rectangle.{same_rectangle}
 use Rattle.pixel_formats.specs.declared.format.Format.TheVariants.{Y8}
@@ -119,6 +119,11 @@ unless_unbuilt lines (Some unbuilt) (Some other) = Err (record { line = max unbu
 abbrev pub built_lines : Result (List Line) Refusal → Result (List Line) Refusal
 built_lines (Ok lines) = unless_unbuilt lines (first_unbuilt stages.Empty lines) (first_other lines)
 built_lines (Err refused) = Err refused
+
+-- No line is carried out of such a script, or none that uses the swap: it is refused first, or of the form above.
+abbrev pub needs_no_swap : Result (List Line) Refusal → Bool
+needs_no_swap (Ok lines) = is_none (first_unbuilt stages.Empty lines) || is_some (first_other lines)
+needs_no_swap (Err refused) = true
 
 -- ---- the end
 
