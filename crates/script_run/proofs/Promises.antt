@@ -2,6 +2,7 @@
 use Rattle.std.proofs.Common.{◌≡◌, ℕ, ◌+◌, ◌*◌, ◌<◌, ◌≤◌, ◌⊎◌, Bool, IsTrue, ◌||◌, List, [], min, Option, Some, None, Result, Ok, Err, IfSome, IsSomeAnd, inl, inr, refl, sym, ap, ◌∙◌, subst, arith}
 use Rattle.chain_owners.specs.Counts.{Counts}
 use Rattle.chain_handlers.specs.OwnedTiles.{counts_over}
+use Rattle.outside_io.specs.Faults.{Rose}
 use Rattle.outside_io.specs.Files.{Files, file}
 use Rattle.model_runs.specs.Built.{BuiltRun, built_ending, built_lines, built_plan, needs_no_swap, options_with, plan_of_read}
 use Rattle.model_runs.specs.Ending.{IsRefusal, IsWhole, MayTear, SaysRefused, end_status, status_of}
@@ -21,7 +22,7 @@ use Rattle.run_texts.specs.World.{World}
 use Rattle.script_read.specs.declared.command.Line.{Line}
 use Rattle.script_run.proofs.Statuses.{may_tear_at}
 use Rattle.script_run.proofs.Unwatched.{plan_unwatched}
-use Rattle.script_run.specs.Carried.{CarriesOutRead}
+use Rattle.script_run.specs.Carried.{CarriesOutRead, EndsWithoutSwap}
 
 -- ---- statuses
 
@@ -80,15 +81,15 @@ faults_at moment = record { reads = moment.reads; writes = moment.writes; swaps 
 
 -- a run that has no reason to end early comes to its end
 complete_by : (refused : Option Refusal) (ended : Result (Unit {0}) End) (old new : Moment) → SaysRefused ended refused → HasFaults ended old new →
-    (ended ≡ Err ends.SwapFull → ⊥) → NoneRose (faults_at old) (faults_at new) → (status_of ended ≡ 7) ⊎ (status_of ended ≡ end_status refused)
-complete_by refused (Ok done) old new says faults room none = inr (ap end_status (sym says))
-complete_by refused (Err ends.Refused) old new says faults room none = inr (sym (status_at_refusal refused says))
-complete_by refused (Err ends.ReadFault) old new says faults room none = absurd (none.reads (faults.read refl))
-complete_by refused (Err ends.WriteFault) old new says faults room none = absurd (none.writes (faults.write refl))
-complete_by refused (Err ends.SwapFault) old new says faults room none = absurd (none.swaps (faults.swap refl))
-complete_by refused (Err ends.OutputFault) old new says faults room none = absurd (none.puts (faults.put refl))
-complete_by refused (Err ends.NoMemory) old new says faults room none = inl refl
-complete_by refused (Err ends.SwapFull) old new says faults room none = absurd (room refl)
+    (ended ≡ Err ends.SwapFault → ⊥) → (ended ≡ Err ends.SwapFull → ⊥) → ¬ Rose old.reads new.reads → ¬ Rose old.writes new.writes → ¬ Rose old.puts new.puts → (status_of ended ≡ 7) ⊎ (status_of ended ≡ end_status refused)
+complete_by refused (Ok done) old new says faults fault room reads writes puts = inr (ap end_status (sym says))
+complete_by refused (Err ends.Refused) old new says faults fault room reads writes puts = inr (sym (status_at_refusal refused says))
+complete_by refused (Err ends.ReadFault) old new says faults fault room reads writes puts = absurd (reads (faults.read refl))
+complete_by refused (Err ends.WriteFault) old new says faults fault room reads writes puts = absurd (writes (faults.write refl))
+complete_by refused (Err ends.SwapFault) old new says faults fault room reads writes puts = absurd (fault refl)
+complete_by refused (Err ends.OutputFault) old new says faults fault room reads writes puts = absurd (puts (faults.put refl))
+complete_by refused (Err ends.NoMemory) old new says faults fault room reads writes puts = inl refl
+complete_by refused (Err ends.SwapFull) old new says faults fault room reads writes puts = absurd (room refl)
 
 -- ---- a full swap
 
@@ -125,7 +126,7 @@ ran_by exposed plan ended resident blocks size faults old new unwatched options 
   prefix = λ exposes. some_weaker (MayTear ended) _ (may_tear_at ended) plan.outcome.events (world_at old) (world_at new) (carried.prefix exposes);
   texts_prefix = carried.texts_prefix;
   full = λ at_full. not_enough (full_by ended at_full);
-  complete = λ none suffices. complete_by plan.outcome.refused ended old new carried.refused has (λ is. not_enough is suffices) none;
+  complete = λ none suffices. complete_by plan.outcome.refused ended old new carried.refused has (λ is. none.swaps (has.swap is)) (λ is. not_enough is suffices) none.reads none.writes none.puts;
 }
   where
     not_enough : ended ≡ Err ends.SwapFull → ¬ SufficesFor plan size (bytes_put old.text new.text)
@@ -144,9 +145,29 @@ ran_named found run swapped (Some given) ended status size faults old new named 
     let read = lines_of_file (file given run.script) in
     let options = options_with run.resident run.swap_blocks in
     let begin : (let w : World = record { files = Some given; text = old.text } in w) ≡ world_at old = ap (λ (f : Option Files). (let w : World = record { files = f; text = old.text } in w)) (sym files) in
-    rw (named, is, begin)
-    ([], ran_by (swapped || needs_no_swap read) (plan_of_read [] given options read) ended run.resident run.swap_blocks size faults old new
-    (plan_unwatched given options read) (options_of [] given options (built_lines read)) chain carried has)
+    rw (named, is, begin) (
+      [],
+      ran_by (swapped || needs_no_swap read) (plan_of_read [] given options read) ended run.resident run.swap_blocks size faults old new
+          (plan_unwatched given options read) (options_of [] given options (built_lines read)) chain carried has,
+    )
+
+-- a run that needs no swap comes to its end whatever the swap is
+pub complete_named : (found : Option BuiltRun) (run : BuiltRun) (swapped : Bool) (exposed : Option Files) (ended : Result (Unit {0}) End) (status : ℕ) (Same : Type 0) (old new : Moment) →
+    found ≡ Some run → status ≡ status_of ended →
+    IfSome exposed (λ files. CarriesOutRead swapped files (options_with run.resident run.swap_blocks) (lines_of_file (file files run.script)) ended old new) → HasFaults ended old new →
+    IfSome exposed (λ files. IsTrue (needs_no_swap (lines_of_file (file files run.script))) → Same × EndsWithoutSwap ended) →
+    ¬ Rose old.reads new.reads → ¬ Rose old.writes new.writes → ¬ Rose old.puts new.puts →
+    IfSome found (λ run. IfSome exposed (λ files. IsTrue (needs_no_swap (lines_of_file (file files run.script))) → (status ≡ 7) ⊎ (status ≡ end_status (built_plan [] files run).outcome.refused)))
+complete_named found run swapped None ended status Same old new named is carried has unswapped reads writes puts = rw named tt
+complete_named found run swapped (Some files) ended status Same old new named is carried has unswapped reads writes puts =
+    rw (named, is)
+    (λ none. complete_by (built_plan [] files run).outcome.refused ended old new carried.refused has (unswapped none).1.fault (unswapped none).1.room reads writes puts)
+
+pub unswapped_named : (found : Option BuiltRun) (run : BuiltRun) (exposed : Option Files) (ended : Result (Unit {0}) End) (Same : Type 0) → found ≡ Some run →
+    IfSome exposed (λ files. IsTrue (needs_no_swap (lines_of_file (file files run.script))) → Same × EndsWithoutSwap ended) →
+    IfSome found (λ run. IfSome exposed (λ files. IsTrue (needs_no_swap (lines_of_file (file files run.script))) → Same))
+unswapped_named found run None ended Same named unswapped = rw named tt
+unswapped_named found run (Some files) ended Same named unswapped = rw named (λ none. (unswapped none).0)
 
 -- no count of a run falls
 pub none_falls_by : (ended : Result (Unit {0}) End) (old new : Moment) → HasFaults ended old new → NoneFalls (faults_at old) (faults_at new)

@@ -1,11 +1,11 @@
 -- What a run leaves of a script that was read.
-use Rattle.std.proofs.Common.{◌≡◌, ◌≢◌, ℕ, ◌≤◌, Bool, true, false, ◌||◌, cond, List, [], length, Option, Some, None, Result, Ok, Err, IfSome, is_none, is_some, max, refl, sym, ap, ◌∙◌, subst, arith}
+use Rattle.std.proofs.Common.{◌≡◌, ◌≢◌, ℕ, ◌≤◌, Bool, true, false, ◌||◌, cond, List, [], length, Option, Some, None, Result, Ok, Err, IfSome, IsTrue, is_none, is_some, max, refl, sym, ap, ◌∙◌, subst, arith}
 use Rattle.std.specs.Prelude.{nat_lt}
 use Rattle.std.proofs.lemmas.Bool.Decides.{nat_tests}
 use Rattle.chain_owners.specs.Counts.{Counts}
 use Rattle.outside_io.specs.Files.{Files, file}
 use Rattle.pixel_formats.specs.Limits.{max_script_bytes}
-use Rattle.model_runs.specs.Built.{built_ending, first_other, first_unbuilt, plan_of_read, unless_unbuilt}
+use Rattle.model_runs.specs.Built.{built_ending, first_other, first_unbuilt, needs_no_swap, plan_of_read, unless_unbuilt}
 use Rattle.model_runs.specs.Ending.{Leaves}
 use Rattle.model_runs.specs.Ran.{bytes_put}
 use Rattle.model_runs.specs.Run.{by_grammar, effects, lines_of_file, outcome_from, outcome_of_effects, plan_of_lines}
@@ -107,8 +107,27 @@ text_carried exposed options name bytes result old mid text reads more writes la
     (λ files. CarriesOutRead exposed files options (by_grammar (script_of bytes)) result (record { files = mid; text = text; reads = more; writes = later; puts = puts; chain = chain }) new)
     (λ files. CarriesOutRead exposed files options (lines_of_file (file files name)) result (record { files = old; text = text; reads = reads; writes = writes; puts = puts; chain = chain }) new)
     (λ files is left.
-        subst (λ (read : Result (List Line) Refusal). CarriesOutRead exposed files options read result (record { files = old; text = text; reads = reads; writes = writes; puts = puts; chain = chain }) new)
-        (sym (lines_of_text (file files name) bytes is fits))
-        (carried_after_read _ _ _ result old mid text reads more writes later puts chain new same left))
+    subst (λ (read : Result (List Line) Refusal). CarriesOutRead exposed files options read result (record { files = old; text = text; reads = reads; writes = writes; puts = puts; chain = chain }) new)
+    (sym (lines_of_text (file files name) bytes is fits))
+    (carried_after_read _ _ _ result old mid text reads more writes later puts chain new same left))
     known
     (subst (λ (o : Option Files). IfSome o (λ files. CarriesOutRead exposed files options (by_grammar (script_of bytes)) result (record { files = mid; text = text; reads = more; writes = later; puts = puts; chain = chain }) new)) same carried)
+
+-- ---- scripts that need no swap
+
+pub any_known : (found : Option Files) (P : Files → Type 0) → ((files : Files) → P files) → IfSome found P
+any_known None P all = tt
+any_known (Some files) P all = all files
+
+-- lines of buffers that aren't of the form need it
+pub buffers_need_it : (lines : List Line) (unbuilt : ℕ) → first_unbuilt stages.Empty lines ≡ Some unbuilt → first_other lines ≡ None → IsTrue (needs_no_swap (Ok lines)) → ⊥
+buffers_need_it lines unbuilt form buffers none =
+    let need : needs_no_swap (Ok lines) ≡ false = ap (λ (o : Option ℕ). is_none o || is_some (first_other lines)) form ∙ ap (λ (o : Option ℕ). false || is_some o) buffers in
+    cc
+
+-- what is left of a text that was read, where its lines need no swap
+pub text_unswapped : (found : Option Files) (name bytes : List ℕ) (P : Type 0) → IfSome found (λ files. file files name ≡ Some bytes) → length bytes ≤ max_script_bytes →
+    (IsTrue (needs_no_swap (by_grammar (script_of bytes))) → P) → IfSome found (λ files. IsTrue (needs_no_swap (lines_of_file (file files name))) → P)
+text_unswapped None name bytes P known fits left = tt
+text_unswapped (Some files) name bytes P known fits left =
+    λ none. left (subst (λ (read : Result (List Line) Refusal). IsTrue (needs_no_swap read)) (lines_of_text (file files name) bytes known fits) none)

@@ -1,6 +1,6 @@
 //! The call that the program makes.
 
-ghost use Rattle.std.specs.Prelude.{◌≡◌, ◌↔◌, ◌≤◌, ◌||◌, [], is_some, map, min, string_bytes, None, Ok, Some, IfSome, IsTrue};
+ghost use Rattle.std.specs.Prelude.{◌≡◌, ◌↔◌, ◌≤◌, ◌⊎◌, ◌||◌, [], is_some, map, min, string_bytes, None, Ok, Some, IfSome, IsTrue};
 ghost use Rattle.chain_handlers.specs.OwnedTiles.{counts_over};
 ghost use Rattle.outside_io.specs.FileName.{is_file_name};
 ghost use Rattle.outside_io.specs.Files.{file};
@@ -8,11 +8,12 @@ ghost use Rattle.outside_io.specs.Faults.{Rose};
 ghost use Rattle.script_read.specs.IsScript.{IsScript};
 ghost use Rattle.script_read.specs.Script.{script_of};
 ghost use Rattle.model_runs.specs.Built.{built_plan, built_request as built_by, needs_no_swap, options_with};
+ghost use Rattle.model_runs.specs.Ending.{end_status};
 ghost use Rattle.model_runs.specs.Ran.{NoneFalls, Ran};
 ghost use Rattle.model_runs.specs.Run.{by_grammar, lines_of_file};
 ghost use Rattle.model_runs.specs.State.{Numbers};
 ghost use Rattle.run_events.specs.Moments.{HasFaults};
-ghost use Rattle.script_run.specs.Carried.{CarriesOutRead};
+ghost use Rattle.script_run.specs.Carried.{CarriesOutRead, EndsWithoutSwap};
 ghost use Rattle.script_run.specs.Meant.{AreChainLimits};
 
 use crate::built::{first_other, first_unbuilt};
@@ -55,6 +56,17 @@ pub fn run<F: Shelf, D: SwapDisk, O: Sink, G: Gate + Sync>(
         (record { reads = F.read_faults shelf.new; writes = F.write_faults shelf.new; swaps = D.faults swap.new; puts = O.faults out.new })
         result)) }
 
+    // A script that needs no swap leaves it unchanged, and comes to its end or to the refused line whatever the swap is,
+    // where no count of the shelf and the sink rose, unless memory runs out.
+    ensures unswapped { IfSome (built_by (map string_bytes words.now)) (λ run. IfSome (F.files shelf.old)
+        (λ files. IsTrue (needs_no_swap (lines_of_file (file files run.script))) → swap.new ≡ swap.old)) }
+    ensures complete { ¬ Rose (F.read_faults shelf.old) (F.read_faults shelf.new)
+        → ¬ Rose (F.write_faults shelf.old) (F.write_faults shelf.new)
+        → ¬ Rose (O.faults out.old) (O.faults out.new)
+        → IfSome (built_by (map string_bytes words.now)) (λ run. IfSome (F.files shelf.old)
+        (λ files. IsTrue (needs_no_swap (lines_of_file (file files run.script))) →
+        (result ≡ 7) ⊎ (result ≡ end_status (built_plan [] files run).outcome.refused))) }
+
     // An I/O error comes only where its count rose.
     ensures read_fault { result ≡ 3 → Rose (F.read_faults shelf.old) (F.read_faults shelf.new) }
     ensures write_fault { result ≡ 4 → Rose (F.write_faults shelf.old) (F.write_faults shelf.new) }
@@ -88,6 +100,8 @@ fn run_script<F: Shelf, D: SwapDisk, O: Sink>(
         CarriesOutRead (is_some (D.blocks swap.old)) files (options_with limits.resident limits.blocks) (lines_of_file (file files script.now)) result
         (record { files = F.files shelf.old; text = O.written out.old; reads = F.read_faults shelf.old; writes = F.write_faults shelf.old; puts = O.faults out.old; chain = counts_over (D.faults swap.old) (min limits.blocks (D.block_count swap.old)) limits.resident })
         (record { files = F.files shelf.new; text = O.written out.new; reads = F.read_faults shelf.new; writes = F.write_faults shelf.new; puts = O.faults out.new; chain = counts_over (D.faults swap.new) (min limits.blocks (D.block_count swap.old)) limits.resident })) }
+    ensures unswapped { IfSome (F.files shelf.old) (λ files. IsTrue (needs_no_swap (lines_of_file (file files script.now))) →
+        (swap.new ≡ swap.old) × EndsWithoutSwap result) }
     ensures faults { HasFaults result
         (record { files = F.files shelf.old; text = O.written out.old; reads = F.read_faults shelf.old; writes = F.write_faults shelf.old; puts = O.faults out.old; chain = counts_over (D.faults swap.old) (min limits.blocks (D.block_count swap.old)) limits.resident })
         (record { files = F.files shelf.new; text = O.written out.new; reads = F.read_faults shelf.new; writes = F.write_faults shelf.new; puts = O.faults out.new; chain = counts_over (D.faults swap.new) (min limits.blocks (D.block_count swap.old)) limits.resident }) }
@@ -115,6 +129,7 @@ fn run_text<F: Shelf, D: SwapDisk, O: Sink>(
         CarriesOutRead (is_some (D.blocks swap.old)) files (options_with limits.resident limits.blocks) (by_grammar (script_of text.now)) result
         (record { files = F.files shelf.old; text = O.written out.old; reads = F.read_faults shelf.old; writes = F.write_faults shelf.old; puts = O.faults out.old; chain = counts_over (D.faults swap.old) (min limits.blocks (D.block_count swap.old)) limits.resident })
         (record { files = F.files shelf.new; text = O.written out.new; reads = F.read_faults shelf.new; writes = F.write_faults shelf.new; puts = O.faults out.new; chain = counts_over (D.faults swap.new) (min limits.blocks (D.block_count swap.old)) limits.resident })) }
+    ensures unswapped { IsTrue (needs_no_swap (by_grammar (script_of text.now))) → (swap.new ≡ swap.old) × EndsWithoutSwap result }
     ensures faults { HasFaults result
         (record { files = F.files shelf.old; text = O.written out.old; reads = F.read_faults shelf.old; writes = F.write_faults shelf.old; puts = O.faults out.old; chain = counts_over (D.faults swap.old) (min limits.blocks (D.block_count swap.old)) limits.resident })
         (record { files = F.files shelf.new; text = O.written out.new; reads = F.read_faults shelf.new; writes = F.write_faults shelf.new; puts = O.faults out.new; chain = counts_over (D.faults swap.new) (min limits.blocks (D.block_count swap.old)) limits.resident }) }
@@ -143,6 +158,7 @@ fn run_commands<F: Shelf, D: SwapDisk, O: Sink>(
         CarriesOutRead (is_some (D.blocks swap.old)) files (options_with limits.resident limits.blocks) (Ok lines.now) result
         (record { files = F.files shelf.old; text = O.written out.old; reads = F.read_faults shelf.old; writes = F.write_faults shelf.old; puts = O.faults out.old; chain = counts_over (D.faults swap.old) (min limits.blocks (D.block_count swap.old)) limits.resident })
         (record { files = F.files shelf.new; text = O.written out.new; reads = F.read_faults shelf.new; writes = F.write_faults shelf.new; puts = O.faults out.new; chain = counts_over (D.faults swap.new) (min limits.blocks (D.block_count swap.old)) limits.resident })) }
+    ensures unswapped { IsTrue (needs_no_swap (Ok lines.now)) → (swap.new ≡ swap.old) × EndsWithoutSwap result }
     ensures faults { HasFaults result
         (record { files = F.files shelf.old; text = O.written out.old; reads = F.read_faults shelf.old; writes = F.write_faults shelf.old; puts = O.faults out.old; chain = counts_over (D.faults swap.old) (min limits.blocks (D.block_count swap.old)) limits.resident })
         (record { files = F.files shelf.new; text = O.written out.new; reads = F.read_faults shelf.new; writes = F.write_faults shelf.new; puts = O.faults out.new; chain = counts_over (D.faults swap.new) (min limits.blocks (D.block_count swap.old)) limits.resident }) }
@@ -154,5 +170,10 @@ fn run_commands<F: Shelf, D: SwapDisk, O: Sink>(
         return run_lines::carry_out(alloc, lines, limits, shelf, swap, out);
     };
     let line = unbuilt.max(other);
-    refuse(alloc, line, Cause::Grammar(ScriptCause::UnknownCommand), out)
+    refuse(
+        alloc,
+        line,
+        Cause::Grammar(ScriptCause::UnknownCommand),
+        out,
+    )
 }

@@ -7,7 +7,7 @@ use Rattle.run_events.proofs.Faults.{faults_by_cause}
 use Rattle.run_events.proofs.Leaving.{Leaves-same_outcome, exposed_any, exposed_same}
 use Rattle.script_run.proofs.Buffers.{are_lines_of_buffers}
 use Rattle.script_run.proofs.Carrying.{script_limits}
-use Rattle.script_run.proofs.Reading.{buffers_carried, form_outcome, moment, read_carried, unbuilt_outcome}
+use Rattle.script_run.proofs.Reading.{buffers_carried, buffers_need_it, form_outcome, moment, read_carried, unbuilt_outcome}
 use Rattle.script_run.proofs.program.run_commands.Goals as goal
 
 pub returns-in_default-clause-carried : goal.returns-in_default-clause-carried
@@ -46,3 +46,15 @@ returns-clause-carried g c =
 
 pub returns-clause-faults : goal.returns-clause-faults
 returns-clause-faults g c = faults_by_cause _ _ _ refl (c.refuse.ensures.cause _ _)
+
+pub returns-in_default-clause-unswapped : goal.returns-in_default-clause-unswapped
+returns-in_default-clause-unswapped g c = λ none. (refl, record { fault = c.carry_out.ensures.cause.swap; room = c.carry_out.ensures.cause.room })
+
+pub returns-in_default-first_other-clause-unswapped : goal.returns-in_default-first_other-clause-unswapped
+returns-in_default-first_other-clause-unswapped g c =
+    let form : first_unbuilt stages.Empty c.args.lines.now ≡ Some c.in-Some.unbuilt = cc (c.first_unbuilt.ensures, c.in-Some.is) in
+    let buffers : first_other c.args.lines.now ≡ None = cc (c.first_other.ensures, c.in_default-first_other.is) in
+    λ none. absurd (buffers_need_it c.args.lines.now c.in-Some.unbuilt form buffers none)
+
+pub returns-clause-unswapped : goal.returns-clause-unswapped
+returns-clause-unswapped g c = λ none. (refl, record { fault = (c.refuse.ensures.cause 0 0).swap; room = (c.refuse.ensures.cause 0 0).room })

@@ -1,11 +1,11 @@
-use Rattle.std.proofs.Common.{[], min}
+use Rattle.std.proofs.Common.{[], min, refl}
 use Rattle.chain_handlers.specs.OwnedTiles.{counts_over}
 use Rattle.outside_io.specs.Files.{file}
 use Rattle.model_runs.specs.Built.{options_with, plan_of_read}
 use Rattle.model_runs.specs.Run.{lines_of_file}
 use Rattle.run_events.proofs.Leaving.{Leaves-same_files, nothing_done, nothing_read, exposed_outcome, exposed_any}
 use Rattle.script_run.proofs.Loads.{script_too_long, script_absent}
-use Rattle.script_run.proofs.Reading.{moment, read_carried, text_carried}
+use Rattle.script_run.proofs.Reading.{any_known, moment, read_carried, text_carried, text_unswapped}
 use Rattle.script_run.proofs.program.run_script.Goals as goal
 
 pub returns-in-Err-TooLong-clause-carried : goal.returns-in-Err-TooLong-clause-carried
@@ -46,3 +46,24 @@ returns-in-Ok-clause-carried g c =
     (moment (g.F.Shelf.files c.run_text.new.shelf) (g.O.Sink.written c.run_text.new.out) (g.F.Shelf.read_faults c.run_text.new.shelf) (g.F.Shelf.write_faults c.run_text.new.shelf) (g.O.Sink.faults c.run_text.new.out)
     (counts_over (g.D.SwapDisk.faults c.run_text.new.swap) (min c.args.limits.blocks (g.D.SwapDisk.block_count c.args.swap.now)) c.args.limits.resident))
     c.in-Ok.ensures.files c.in-Ok.ensures.gives c.in-Ok.ensures.within left
+
+pub returns-in-Err-TooLong-clause-unswapped : goal.returns-in-Err-TooLong-clause-unswapped
+returns-in-Err-TooLong-clause-unswapped g c =
+    any_known (g.F.Shelf.files c.args.shelf.now) _ (λ files none. (refl, record { fault = (c.refuse.ensures.cause 0 0).swap; room = (c.refuse.ensures.cause 0 0).room }))
+
+pub returns-in-Err-Absent-clause-unswapped : goal.returns-in-Err-Absent-clause-unswapped
+returns-in-Err-Absent-clause-unswapped g c =
+    any_known (g.F.Shelf.files c.args.shelf.now) _ (λ files none. (refl, record { fault = (c.refuse-in-Err-Absent.ensures.cause 0 0).swap; room = (c.refuse-in-Err-Absent.ensures.cause 0 0).room }))
+
+pub returns-in-Err-Failed-clause-unswapped : goal.returns-in-Err-Failed-clause-unswapped
+returns-in-Err-Failed-clause-unswapped g c =
+    any_known (g.F.Shelf.files c.args.shelf.now) _ (λ files none. (refl, record { fault = λ e. cc; room = λ e. cc }))
+
+pub returns-in-Err-NoMemory-clause-unswapped : goal.returns-in-Err-NoMemory-clause-unswapped
+returns-in-Err-NoMemory-clause-unswapped g c =
+    any_known (g.F.Shelf.files c.args.shelf.now) _ (λ files none. (refl, record { fault = λ e. cc; room = λ e. cc }))
+
+pub returns-in-Ok-clause-unswapped : goal.returns-in-Ok-clause-unswapped
+returns-in-Ok-clause-unswapped g c =
+    text_unswapped (g.F.Shelf.files c.args.shelf.now) c.args.script.now c.in-Ok.text.items _ c.in-Ok.ensures.gives c.in-Ok.ensures.within
+    (rw c.deref.ensures.value at c.run_text.ensures.unswapped)

@@ -1,8 +1,10 @@
-use Rattle.std.proofs.Common.{[], min, refl, ap}
+use Rattle.std.proofs.Common.{[], min, IsTrue, List, Result, refl, ap, subst}
 use Rattle.chain_handlers.specs.OwnedTiles.{counts_over}
-use Rattle.model_runs.specs.Built.{options_with, plan_of_read}
+use Rattle.model_runs.specs.Built.{needs_no_swap, options_with}
 use Rattle.model_runs.specs.Run.{by_grammar}
+use Rattle.script_read.specs.Script as grammar
 use Rattle.script_read.specs.Script.{script_of}
+use Rattle.script_read.specs.declared.command.Line.{Line}
 use Rattle.run_events.proofs.Faults.{faults_by_cause}
 use Rattle.run_events.proofs.Leaving.{Leaves-same_outcome, nothing_done, exposed_any}
 use Rattle.script_run.proofs.Reading.{moment, read_carried, refused_outcome}
@@ -28,3 +30,15 @@ returns-in-Err-NoMemory-clause-carried g c =
 
 pub returns-in-Err-Refused-clause-faults : goal.returns-in-Err-Refused-clause-faults
 returns-in-Err-Refused-clause-faults g c = faults_by_cause _ _ _ refl (c.refuse.ensures.cause _ _)
+
+pub returns-in-Err-Refused-clause-unswapped : goal.returns-in-Err-Refused-clause-unswapped
+returns-in-Err-Refused-clause-unswapped g c = λ none. (refl, record { fault = (c.refuse.ensures.cause 0 0).swap; room = (c.refuse.ensures.cause 0 0).room })
+
+pub returns-in-Err-NoMemory-clause-unswapped : goal.returns-in-Err-NoMemory-clause-unswapped
+returns-in-Err-NoMemory-clause-unswapped g c = λ none. (refl, record { fault = λ e. cc; room = λ e. cc })
+
+pub returns-in-Ok-clause-unswapped : goal.returns-in-Ok-clause-unswapped
+returns-in-Ok-clause-unswapped g c =
+    let read = c.in-Ok.ensures.reads in
+    let left = rw c.deref.ensures.value at c.run_commands.ensures.unswapped in
+    λ none. left (subst (λ (r : Result (List Line) grammar.Refusal). IsTrue (needs_no_swap (by_grammar r))) read none)
