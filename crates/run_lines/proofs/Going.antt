@@ -1,5 +1,6 @@
 -- Lines that are carried out one after another.
 use Rattle.std.proofs.Common.{◌≡◌, ◌≢◌, ℕ, Bool, List, [], ◌∷◌, Option, Some, None, Result, Ok, Err, IfOk, refl, sym, ap, ◌∙◌, subst}
+use Rattle.std.specs.Result.{IsErrAnd}
 use Rattle.buffer_view.specs.BufferTables.{BufferTable}
 use Rattle.chain_owners.specs.Held.{Held}
 use Rattle.model_runs.specs.Effects.{effect}
@@ -82,3 +83,9 @@ module _ (exposed : Bool) (capacity : ℕ) (state : RunState) (files : Files) (a
   pub reached_all : (now : Moment) (buffers : BufferTable) (held : Held) → Reached exposed capacity state files all [] first now buffers held →
       CarriesOutLines exposed capacity state files all (Ok tt) first now
   reached_all now buffers held reached = reached.on (Ok tt) now (no_lines exposed capacity reached.there reached.found now)
+
+-- one end for another that is the same
+pub lines_same_end : (exposed : Bool) (capacity : ℕ) (state : RunState) (files : Files) (lines : List Line) (end : End) (result : Result (Unit {0}) End) (old new : Moment) → IsErrAnd result (λ other. other ≡ end) →
+    CarriesOutLines exposed capacity state files lines (Err end) old new → CarriesOutLines exposed capacity state files lines result old new
+lines_same_end exposed capacity state files lines end (Ok done) old new same carried = absurd same
+lines_same_end exposed capacity state files lines end (Err other) old new same carried = subst (λ (e : End). CarriesOutLines exposed capacity state files lines (Err e) old new) (sym same) carried

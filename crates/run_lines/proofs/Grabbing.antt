@@ -29,7 +29,7 @@ use Rattle.root_tiles.specs.Roots.{HasShape}
 use Rattle.run_events.proofs.Carrying.{carried_alike, carried_by_leaves, nothing_carried}
 use Rattle.run_events.specs.Carried.{CarriesOut, Exceeds, outcome_of_line}
 use Rattle.run_events.specs.Moments.{Moment, world_at}
-use Rattle.run_lines.proofs.Edits.{full_exceeds}
+use Rattle.run_lines.proofs.EditLines.{full_exceeds}
 use Rattle.run_lines.proofs.Grabs.{filed_alike, grab_bytes, grab_given, grab_length, grab_tiles, grab_unknown, grabbed, planned}
 use Rattle.run_lines.specs.Buffers.{AreAlike, Holds}
 use Rattle.run_lines.specs.Stops.{Did, IsDone, IsEnded, stop_of}
@@ -46,11 +46,11 @@ outcome_by : (done : Effect) (events : List Event) → done.events ≡ events �
 outcome_by done events is none = cc
 
 -- files that were alike, after a file of the same length was written to both
-alike_after : (files : Files) (shelf now : Option Files) (target planned bytes : List ℕ) → IsSomeAnd shelf (AreAlike files) → length planned ≡ length bytes →
-    now ≡ option_map (λ f. filed f target bytes) shelf → IsSomeAnd now (AreAlike (filed files target planned))
-alike_after files None now target planned bytes alike same is = absurd alike
-alike_after files (Some shelf) now target planned bytes alike same is =
-    subst (λ (o : Option Files). IsSomeAnd o (AreAlike (filed files target planned))) (sym is) (filed_alike files shelf target planned bytes alike same)
+alike_after : (files : Files) (shelf now : Option Files) (target wanted bytes : List ℕ) → IsSomeAnd shelf (AreAlike files) → length wanted ≡ length bytes →
+    now ≡ option_map (λ f. filed f target bytes) shelf → IsSomeAnd now (AreAlike (filed files target wanted))
+alike_after files None now target wanted bytes alike same is = absurd alike
+alike_after files (Some shelf) now target wanted bytes alike same is =
+    subst (λ (o : Option Files). IsSomeAnd o (AreAlike (filed files target wanted))) (sym is) (filed_alike files shelf target wanted bytes alike same)
 
 module _ (exposed : Bool) (line : ℕ) (state : RunState) (files : Files) (buffers later : BufferTable) (held after_held : Held) (name : List ℕ) (z : ℕ) (policy : Abyss) (r : Rectangle) (target : List ℕ) (before after : Moment)
     (holds : Holds exposed state files buffers held before.files) where
@@ -80,7 +80,7 @@ module _ (exposed : Bool) (line : ℕ) (state : RunState) (files : Files) (buffe
         let events : List Event = writes target wanted (grab_text line (length wanted)) in
         let other : List Event = writes target bytes (grab_text line (length bytes)) in
         let given = has_events there in
-        subst (λ (o : Outcome). CarriesOut exposed o done.tiles result before after) (sym (outcome_by done events given.0 given.1.0))
+        subst (λ (o : Outcome). CarriesOut exposed o done.tiles result before after) (sym (outcome_by done events given.0 given.1))
         (carried_alike exposed events other done.tiles result before after
         (λ e. ap (λ (b : List ℕ). writes target b (grab_text line (length b))) (as_planned e))
         (ap (λ n. grab_text line n ++ []) (sym as_long))
@@ -97,9 +97,9 @@ module _ (exposed : Bool) (line : ℕ) (state : RunState) (files : Files) (buffe
         record {
           carried = subst (λ (r : Result (Unit {0}) End). CarriesOut exposed (outcome_of_line done) done.tiles r before after) ok carried;
           next = record {
-            layout = ap (λ (s : RunState). layout_of (workspace_of s).working) given.1.1 ∙ holds.layout ∙ sym layout;
+            layout = ap (λ (s : RunState). layout_of (workspace_of s).working) given.2 ∙ holds.layout ∙ sym layout;
             content = content ∙ holds.content;
-            table = λ e. table ∙ holds.table e ∙ ap (λ (s : RunState). Some (workspace_of s).working) (sym given.1.1);
+            table = λ e. table ∙ holds.table e ∙ ap (λ (s : RunState). Some (workspace_of s).working) (sym given.2);
             alike = subst (λ (f : Files). IsSomeAnd after.files (AreAlike f)) (sym then) (alike_after files before.files after.files target wanted bytes holds.alike as_long now);
             same = λ e. now ∙ ap (option_map (λ f. filed f target bytes)) (holds.same e) ∙ ap (λ (b : List ℕ). Some (filed files target b)) (as_planned e) ∙ ap Some (sym then);
           };
@@ -110,7 +110,7 @@ module _ (exposed : Bool) (line : ℕ) (state : RunState) (files : Files) (buffe
     grab_ended end err =
         let of_end = subst (λ (r : Result (Unit {0}) End). Leaves (events_alone (writes target bytes (grab_text line (length bytes)))) r (world_at before) (world_at after)) err leaves in
         record {
-          end = none_refused end of_end.refused;
+          other = none_refused end of_end.refused;
           carried = subst (λ (r : Result (Unit {0}) End). CarriesOut exposed (outcome_of_line done) done.tiles r before after) err carried;
         }
       where
@@ -127,7 +127,7 @@ module _ (exposed : Bool) (line : ℕ) (state : RunState) (files : Files) (buffe
 
   module _ (files_same : after.files ≡ before.files) (text_same : after.text ≡ before.text) where
     ended : (end : End) → end ≢ ends.Refused → (end ≡ ends.SwapFull → Exceeds before.chain (before.chain.names + done.tiles)) → IsEnded exposed done end before after
-    ended end other full = record { end = other; carried = nothing_carried exposed (outcome_of_line done) done.tiles end before after other files_same text_same full }
+    ended end other full = record { other = other; carried = nothing_carried exposed (outcome_of_line done) done.tiles end before after other files_same text_same full }
 
     unknown : (refused : EditRefused) → refused ≡ UnknownBuffer → find buffers.layout.buffers name ≡ None →
         Did exposed line state files done (Err (stop_of (buffer_refusals.Edit refused))) before after later after_held

@@ -1,9 +1,8 @@
 -- Lines that write a file of a buffer.
 use Rattle.std.proofs.Common.{◌≡◌, ◌≢◌, ℕ, ◌+◌, ◌*◌, Bool, true, false, IsTrue, cond, List, [], ◌∷◌, length, Option, Some, None, Result, Ok, Err, IsSomeAnd, IfSome, is_some, refl, sym, ap, ◌∙◌, subst, arith}
-use Rattle.std.specs.Option.{option_map}
+use Rattle.std.specs.Option.{option_map, option_map_or}
 use Rattle.std.specs.FinMap.{get-insert}
-use Rattle.std.specs.FinMap as map
-use Rattle.std.specs.Str.{bytes_eq}
+use Rattle.std.proofs.lemmas.Cmp.{nat_list_cmp_total}
 use Rattle.buffer_view.specs.BufferTables.{BufferTable, table_of}
 use Rattle.buffer_view.specs.Reads.{HasReadCause, IsReadOfBuffer, box_of_root, part_of_buffer}
 use Rattle.buffer_view.specs.declared.refused.BufferRefused.{BufferRefused}
@@ -28,10 +27,10 @@ use Rattle.model_runs.specs.declared.ending.End.TheVariants as ends
 use Rattle.outside_io.specs.Files.{Files, file, filed}
 use Rattle.pixel_formats.specs.Format.{pixel_bytes}
 use Rattle.pixel_formats.specs.declared.abyss.Abyss.{Abyss}
-use Rattle.plane_rect.specs.Rectangle.{Rectangle, area}
+use Rattle.plane_rect.specs.Rectangle.{Rectangle, area, empty}
 use Rattle.root_tiles.specs.Roots.{HasShape}
 use Rattle.run_events.specs.Carried.{Exceeds}
-use Rattle.run_lines.proofs.Edits.{full_exceeds}
+use Rattle.run_lines.proofs.EditLines.{full_exceeds}
 use Rattle.run_lines.specs.Buffers.{AreAlike, Holds}
 use Rattle.run_texts.specs.Events.{Event}
 use Rattle.run_texts.specs.Texts.{grab_text}
@@ -44,7 +43,7 @@ pub filed_alike : (a b : Files) (name planned bytes : List ℕ) → AreAlike a b
 filed_alike a b name planned bytes alike same = λ q. lookups q
   where
     lookups : (q : List ℕ) → option_map length (file (filed a name planned) q) ≡ option_map length (file (filed b name bytes) q)
-    lookups q = rw (get-insert map.nat_list_cmp_total a name planned q, get-insert map.nat_list_cmp_total b name bytes q) (by (eq_by_cmp (slice_cmp nat_cmp) q name))
+    lookups q = rw (get-insert nat_list_cmp_total a name planned q, get-insert nat_list_cmp_total b name bytes q) (by _)
       where
         by : (c : Bool) → option_map length (cond c (Some planned) (file a q)) ≡ option_map length (cond c (Some bytes) (file b q))
         by true = ap Some same

@@ -1,5 +1,7 @@
-mod Edits
+mod EditLines
 mod Loads
 mod Grabs
 mod Grabbing
 mod Going
+mod Stopping
+mod Starting

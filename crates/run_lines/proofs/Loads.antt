@@ -1,5 +1,5 @@
 -- Lines that load a file into a buffer.
-use Rattle.std.proofs.Common.{◌≡◌, ◌≢◌, ℕ, ◌<◌, ◌==◌, Bool, true, false, IsTrue, cond, List, length, Option, Some, None, Result, Ok, Err, IsSomeAnd, MatchResult, is_some, inl, inr, refl, sym, ap, ◌∙◌, subst, arith}
+use Rattle.std.proofs.Common.{◌≡◌, ◌≢◌, ℕ, ◌<◌, ◌==◌, Bool, true, false, IsTrue, cond, List, length, Option, Some, None, Result, Ok, Err, IsSomeAnd, IfSome, MatchResult, ◌⊎◌, is_some, inl, inr, refl, sym, ap, ◌∙◌, subst, arith}
 use Rattle.std.specs.Option.{option_map}
 use Rattle.std.proofs.lemmas.Bool.Decides.{nat_tests}
 use Rattle.buffer_view.specs.BufferTables.{BufferTable, table_of}
@@ -27,7 +27,15 @@ use Rattle.outside_io.specs.Files.{Files, file}
 use Rattle.plane_rect.specs.Rectangle.{Rectangle, includes}
 use Rattle.run_lines.specs.Buffers.{AreAlike, Holds}
 use Rattle.run_lines.specs.Edited.{BuffersOver, IsEdited}
-use Rattle.run_lines.specs.Rasters.{IsNoRaster}
+use Rattle.run_events.proofs.Carrying.{nothing_carried}
+use Rattle.run_events.specs.Moments.{Moment}
+use Rattle.run_lines.proofs.EditLines.{at_chain, edit_done, edit_stopped}
+use Rattle.run_lines.specs.Rasters.{IsNoRaster, IsRaster}
+use Rattle.run_lines.specs.Stops.{Did, IsDone, IsEnded, stop_of}
+use Rattle.run_lines.specs.declared.stop.Stop.{Stop}
+use Rattle.run_lines.specs.declared.stop.Stop.TheVariants as stops
+use Rattle.model_runs.specs.declared.ending.End.{End}
+use Rattle.model_runs.specs.declared.ending.End.TheVariants as ends
 use Rattle.run_texts.specs.declared.cause.Cause.{Cause}
 use Rattle.run_texts.specs.declared.cause.Cause.TheVariants as causes
 
@@ -68,7 +76,7 @@ module _ (name : List ℕ) (r : Rectangle) (a b : List ℕ) (same : length a ≡
   -- what is done by raw bytes is done by others of the same length, and the same where the chain exposes its bytes
   pub put_alike : (exposed : Bool) (edited : Result (Unit {0}) BufferRefused) (old new : BuffersOver) → (IsTrue exposed → a ≡ b) → is_some old.held.content ≡ exposed →
       IsEdited (Put name r a) edited old new → IsEdited (Put name r b) edited old new
-  put_alike true edited old new equal content is = subst (λ (bytes : List ℕ). IsEdited (Put name r bytes) edited old new) (equal tt) is
+  put_alike true edited old new equal content is = subst (λ (bytes : List ℕ). IsEdited (Put name r bytes) edited old new) (equal refl) is
   put_alike false (Ok done) old new equal content is = record {
     layout = is.layout;
     table = is.table ∙ tables_alike old.held.content (λ table. table_with table (Put name r a)) (λ table. table_with table (Put name r b)) _ content;
@@ -140,28 +148,28 @@ module _ (exposed : Bool) (line : ℕ) (state : RunState) (files : Files) (buffe
       loads line state name r (file files source) ≡ refuses line state causes.OutOfBounds
   load_out_of_bounds source fact is out =
       let there = view_of (find buffers.layout.buffers name) fact refl is in
-      out_of_bounds (file files source) there.0 there.1.0 (ap (λ (f : BufferFact). includes f.bounds r) (sym there.1.1) ∙ out)
+      out_of_bounds (file files source) there.0 there.1 (ap (λ (f : BufferFact). includes f.bounds r) (sym there.2) ∙ out)
 
   -- a raster that is not there, or is too long
   missing : (found : Option (List ℕ)) (fact : BufferFact) (cause : Cause) (actual : Option (List ℕ)) → fact_of (facts_of buffers.layout) name ≡ Some fact → includes fact.bounds r ≡ true →
       option_map length found ≡ option_map length actual → IsNoRaster actual (byte_count r fact.format) cause → loads line state name r found ≡ refuses line state cause
   missing found fact cause actual is inside same (inl none) =
       let there = view_of (find buffers.layout.buffers name) fact refl is in
-      let within : includes there.0.extent r ≡ true = ap (λ (f : BufferFact). includes f.bounds r) (sym there.1.1) ∙ inside in
+      let within : includes there.0.extent r ≡ true = ap (λ (f : BufferFact). includes f.bounds r) (sym there.2) ∙ inside in
       ap (loads line state name r) (absent_alike found actual same none.1)
-      ∙ ap (load_into line state name r None) there.1.0 ∙ ap (λ b. refuses line state (cond b causes.Absent causes.OutOfBounds)) within ∙ ap (refuses line state) (sym none.0)
+      ∙ ap (load_into line state name r None) there.1 ∙ ap (λ b. refuses line state (cond b causes.Absent causes.OutOfBounds)) within ∙ ap (refuses line state) (sym none.0)
   missing found fact cause actual is inside same (inr (wrong, long)) =
       let there = view_of (find buffers.layout.buffers name) fact refl is in
-      let planned = there_alike found actual long.0 same long.1.0 in
+      let planned = there_alike found actual long.0 same long.1 in
       let bytes = planned.0 in
       let shape = view_shape (layout_of working) there.0 in
       let wanted = byte_count r shape.format in
-      let within : includes shape.box r ≡ true = ap (λ (f : BufferFact). includes f.bounds r) (sym there.1.1) ∙ inside in
-      let format : byte_count r shape.format ≡ byte_count r fact.format = ap (λ (s : Shape). byte_count r s.format) (shape_there there.0) ∙ ap (λ (f : BufferFact). byte_count r f.format) (sym there.1.1) in
-      let more : byte_count r fact.format < length long.0 = long.1.1 in
-      let other : (length bytes == wanted) ≡ false = grind (arith, nat_tests, format, planned.1.1, more) in
-      ap (loads line state name r) planned.1.0
-      ∙ refused_there bytes there.0 there.1.0 (Some (WrongSize (length bytes) wanted))
+      let within : includes shape.box r ≡ true = ap (λ (f : BufferFact). includes f.bounds r) (sym there.2) ∙ inside in
+      let format : byte_count r shape.format ≡ byte_count r fact.format = ap (λ (s : Shape). byte_count r s.format) (shape_there there.0) ∙ ap (λ (f : BufferFact). byte_count r f.format) (sym there.2) in
+      let more : byte_count r fact.format < length long.0 = long.2 in
+      let other : (length bytes == wanted) ≡ false = grind (arith, nat_tests, format, planned.2, more) in
+      ap (loads line state name r) planned.1
+      ∙ refused_there bytes there.0 there.1 (Some (WrongSize (length bytes) wanted))
       (ap (λ b. unless b OutOfBounds (unless (length bytes == wanted) (WrongSize (length bytes) wanted) None)) within
       ∙ ap (λ b. unless b (WrongSize (length bytes) wanted) None) other)
       ∙ ap (refuses line state) (sym wrong)
@@ -180,8 +188,71 @@ module _ (exposed : Bool) (line : ℕ) (state : RunState) (files : Files) (buffe
       let planned = there_alike (file files source) (file actual source) bytes ((subst (λ (o : Option Files). IsSomeAnd o (AreAlike files)) shown holds.alike) source) read in
       (
         planned.0,
-        planned.1.0,
-        sym planned.1.1,
-        (λ e. let same : actual ≡ files = (let both = holds.same e in cc) in let found : file files source ≡ Some bytes = ap (λ (f : Files). file f source) (sym same) ∙ read in let other = planned.1.0 in cc),
-        ap (loads line state name r) planned.1.0 ∙ ap (load_into line state name r (Some planned.0)) there.1.0,
+        planned.1,
+        sym planned.2,
+        (λ e. let same : actual ≡ files = (let both = holds.same e in cc) in let found : file files source ≡ Some bytes = ap (λ (f : Files). file f source) (sym same) ∙ read in let other = planned.1 in cc),
+        ap (loads line state name r) planned.1 ∙ ap (load_into line state name r (Some planned.0)) there.1,
       )
+
+  -- ---- what the line leaves
+
+  -- a raster that was not read
+  pub load_not_read : (source : List ℕ) (stop : Stop) (fact : BufferFact) (before after : Moment) (later : BufferTable) (after_held : Held) → fact_of (facts_of buffers.layout) name ≡ Some fact → includes fact.bounds r ≡ true →
+      IfSome shelf (λ actual. IsRaster (file actual source) (byte_count r fact.format) (Err stop)) → after.files ≡ before.files → after.text ≡ before.text →
+      Did exposed line state files (loads line state name r (file files source)) (Err stop) before after later after_held
+  load_not_read source stop fact before after later after_held is inside raster same_files same_text = by shelf refl stop raster holds.alike
+    where
+      ended : (end : End) → (end ≡ ends.ReadFault) ⊎ (end ≡ ends.NoMemory) → IsEnded exposed (loads line state name r (file files source)) end before after
+      ended end (inl read) = record { other = λ e. cc; carried = nothing_carried exposed _ _ end before after (λ e. cc) same_files same_text (λ e. absurd (cc)) }
+      ended end (inr memory) = record { other = λ e. cc; carried = nothing_carried exposed _ _ end before after (λ e. cc) same_files same_text (λ e. absurd (cc)) }
+
+      by : (o : Option Files) → shelf ≡ o → (stop : Stop) → IfSome o (λ actual. IsRaster (file actual source) (byte_count r fact.format) (Err stop)) → IsSomeAnd shelf (AreAlike files) →
+          Did exposed line state files (loads line state name r (file files source)) (Err stop) before after later after_held
+      by None shown stop raster alike = absurd (subst (λ (o : Option Files). IsSomeAnd o (AreAlike files)) shown alike)
+      by (Some actual) shown (stops.Refused cause) raster alike = record { effect = load_missing source fact cause actual is inside shown raster; files = same_files; text = same_text }
+      by (Some actual) shown (stops.Ended end) raster alike = ended end raster
+
+-- ---- a raster that was read
+
+module _ (exposed : Bool) (line : ℕ) (state : RunState) (files : Files) (old new : BuffersOver) (shelf : Option Files) (name : List ℕ) (r : Rectangle) (source bytes : List ℕ) (fact : BufferFact)
+    (text : Option (List ℕ)) (reads writes puts more_reads more_writes more_puts : ℕ) (now : Option Files) (same_files : now ≡ shelf) (holds : Holds exposed state files old.buffers old.held shelf)
+    (is : fact_of (facts_of old.buffers.layout) name ≡ Some fact) (read : IfSome shelf (λ actual. file actual source ≡ Some bytes)) where
+  abbrev before : Moment
+  before = at_chain shelf text reads writes puts old.counts
+
+  abbrev after_at : Option Files → Moment
+  after_at files_then = at_chain files_then text more_reads more_writes more_puts new.counts
+
+  abbrev after : Moment
+  after = after_at now
+
+  -- the raster that is planned
+  record Planned : Type 0 where
+    raster : List ℕ
+    long : length bytes ≡ length raster
+    same : IsTrue exposed → bytes ≡ raster
+    effect : loads line state name r (file files source) ≡ edits line state (Put name r raster)
+
+  there : (o : Option Files) → shelf ≡ o → IfSome o (λ actual. file actual source ≡ Some bytes) → IsSomeAnd shelf (AreAlike files) → Planned
+  there None shown read alike = absurd (subst (λ (o : Option Files). IsSomeAnd o (AreAlike files)) shown alike)
+  there (Some actual) shown read alike =
+      let planned = load_read exposed line state files old.buffers old.held shelf name r holds source bytes fact actual is shown read in
+      record { raster = planned.0; long = planned.2; same = planned.3; effect = planned.4 }
+
+  abbrev plan : Planned
+  plan = there shelf refl read holds.alike
+
+  pub load_done : IsEdited (Put name r bytes) (Ok tt) old new → IsDone exposed files (loads line state name r (file files source)) before after new.buffers new.held
+  load_done edited =
+      let alike = put_alike name r bytes plan.raster plan.long exposed (Ok tt) old new plan.same holds.content edited in
+      subst (λ (o : Option Files). IsDone exposed files (loads line state name r (file files source)) before (after_at o) new.buffers new.held) (sym same_files)
+      (subst (λ (done : Effect). IsDone exposed files done before (after_at shelf) new.buffers new.held) (sym plan.effect)
+      (edit_done exposed line state files (Put name r plan.raster) old new shelf text reads writes puts more_reads more_writes more_puts holds alike))
+
+  pub load_stopped : (refused : BufferRefused) → IsEdited (Put name r bytes) (Err refused) old new →
+      Did exposed line state files (loads line state name r (file files source)) (Err (stop_of refused)) before after new.buffers new.held
+  load_stopped refused edited =
+      let alike = put_alike name r bytes plan.raster plan.long exposed (Err refused) old new plan.same holds.content edited in
+      subst (λ (o : Option Files). Did exposed line state files (loads line state name r (file files source)) (Err (stop_of refused)) before (after_at o) new.buffers new.held) (sym same_files)
+      (subst (λ (done : Effect). Did exposed line state files done (Err (stop_of refused)) before (after_at shelf) new.buffers new.held) (sym plan.effect)
+      (edit_stopped exposed line state files (Put name r plan.raster) old new shelf text reads writes puts more_reads more_writes more_puts holds refused alike))

@@ -43,14 +43,14 @@ pub record IsDone (exposed : Bool) (files : Files) (effect : Effect) (old new : 
   pub names : Grows effect.tiles old.chain new.chain
 
 -- the line is refused for this cause, and nothing came out of it yet
-pub record IsRefused (line : ℕ) (state : RunState) (effect : Effect) (cause : Cause) (old new : Moment) : Type 0 where
-  pub effect : effect ≡ refuses line state cause
+pub record IsRefused (line : ℕ) (state : RunState) (done : Effect) (cause : Cause) (old new : Moment) : Type 0 where
+  pub effect : done ≡ refuses line state cause
   pub files : new.files ≡ old.files
   pub text : new.text ≡ old.text
 
 -- the run ends at the line, which isn't refused
 pub record IsEnded (exposed : Bool) (effect : Effect) (end : End) (old new : Moment) : Type 0 where
-  pub end : end ≢ ends.Refused
+  pub other : end ≢ ends.Refused
   pub carried : CarriesOut exposed (outcome_of_line effect) effect.tiles (Err end) old new
 
 -- What a command of a line did that is to have this effect on a state and files.

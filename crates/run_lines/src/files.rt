@@ -1,6 +1,6 @@
 //! Lines that read a file into a buffer, or write a file of one.
 
-ghost use Rattle.std.specs.Prelude.{◌≡◌, ℕ, Bool, IfSome, IsTrue, List, Option, length};
+ghost use Rattle.std.specs.Prelude.{◌≡◌, [], ◌∷◌, ℕ, Bool, IfSome, IsTrue, List, Option, length};
 ghost use Rattle.buffer_view.specs.BufferTables.{AreBuffersOver, buffers_names};
 ghost use Rattle.chain_owners.specs.Counts.{Counts};
 ghost use Rattle.chain_owners.specs.Owners.{Respects};
@@ -13,7 +13,7 @@ ghost use Rattle.run_lines.specs.Buffers.{Holds, is_grab, is_load};
 ghost use Rattle.run_events.specs.Moments.{HasFaults};
 ghost use Rattle.run_lines.specs.Rasters.{IsRaster};
 ghost use Rattle.run_lines.specs.Stops.{Did, end_of};
-ghost use Rattle.run_texts.specs.Events.{events_alone};
+ghost use Rattle.run_texts.specs.Events.{Puts, events_alone};
 ghost use Rattle.run_texts.specs.Texts.{grab_text as text_of_grab};
 ghost use Rattle.script_read.specs.Limits.{IsInLimits};
 
@@ -140,6 +140,16 @@ fn write_grab<F: Shelf, O: Sink>(
         (record { reads = F.read_faults shelf.new; writes = F.write_faults shelf.new; puts = O.faults out.new }) }
 {
     write_file(bytes, file, shelf)?;
-    let text = grab_text(alloc, line, bytes.len())?;
+    report_grab(alloc, line, bytes.len(), out)
+}
+
+/// Puts the text of a grab line whose file of so many bytes is written.
+fn report_grab<O: Sink>(alloc: Global, line: u32, bytes: usize, out: &mut O) -> Result<(), End>
+    ensures leaves { (files : Option Files) → Leaves (events_alone (Puts (text_of_grab line bytes) ∷ [])) result
+        (record { files = files; text = O.written out.old }) (record { files = files; text = O.written out.new }) }
+    ensures cause { (reads writes : ℕ) → HasCause result
+        (record { reads = reads; writes = writes; puts = O.faults out.old }) (record { reads = reads; writes = writes; puts = O.faults out.new }) }
+{
+    let text = grab_text(alloc, line, bytes)?;
     put_text(&text, out)
 }

@@ -129,8 +129,8 @@ fn carry_out_command<C: TileChain, F: Shelf, O: Sink>(
     match &line.command {
         Command::Load { .. } => load(line, buffers, chain, shelf),
         Command::Grab { .. } => grab(alloc, line, buffers, chain, shelf, out),
-        command => {
-            edit(command, buffers, chain)?;
+        _ => {
+            edit(&line.command, buffers, chain)?;
             Ok(())
         }
     }

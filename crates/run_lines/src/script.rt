@@ -55,6 +55,6 @@ pub fn carry_out<F: Shelf, D: SwapDisk, O: Sink>(
     let mut chain = OwnedTiles::over(memory, Lent { disk: swap });
     let mut buffers = Buffers::new(alloc);
     let result = carry_out_lines(alloc, lines, &mut buffers, &mut chain, shelf, out);
-    chain.end();
+    let Lent { disk: _back } = chain.end();
     result
 }

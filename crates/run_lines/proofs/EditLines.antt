@@ -1,12 +1,12 @@
 -- Lines that edit buffers.
-use Rattle.std.proofs.Common.{◌≡◌, ◌≢◌, ℕ, ◌+◌, ◌*◌, ◌<◌, ◌≤◌, Bool, IsTrue, List, [], ◌∷◌, length, Option, Some, None, Result, Ok, Err, IfErr, IfOk, IsSomeAnd, MatchResult, is_some, refl, sym, ap, ◌∙◌, subst, arith}
+use Rattle.std.proofs.Common.{◌≡◌, ◌≢◌, ℕ, ◌+◌, ◌*◌, ◌<◌, ◌≤◌, Bool, true, IsTrue, List, [], ◌∷◌, length, Option, Some, None, Result, Ok, Err, IfErr, IfOk, IsSomeAnd, MatchResult, is_some, refl, sym, ap, ◌∙◌, subst, arith}
 use Rattle.std.specs.Option.{option_map}
-use Rattle.buffer_view.specs.BufferTables.{BufferTable, table_of}
-use Rattle.buffer_view.specs.Causes.{HasEditCause}
+use Rattle.buffer_view.specs.BufferTables.{AreBuffersOver, BufferTable, table_of}
+use Rattle.buffer_view.specs.Causes.{HasAddCause, HasEditCause}
 use Rattle.buffer_view.specs.declared.refused.BufferRefused.{BufferRefused}
 use Rattle.buffer_view.specs.declared.refused.BufferRefused.TheVariants as buffer_refusals
 use Rattle.chain_owners.specs.Counts.{Counts, Grows, IsFullOver}
-use Rattle.model_buffers.proofs.ExactLaws.{table-after}
+use Rattle.chain_owners.specs.Held.{Held}
 use Rattle.model_buffers.proofs.ShapeLaws.{layout-with}
 use Rattle.model_buffers.specs.BufferEdit.{Refusal, edit_refused, layout_with, written_by}
 use Rattle.model_buffers.specs.Counts.{tiles_added}
@@ -16,7 +16,7 @@ use Rattle.model_buffers.specs.Table.{Table, layout_of}
 use Rattle.model_buffers.specs.declared.edit.BufferEdit.{BufferEdit}
 use Rattle.model_buffers.specs.declared.refused.EditRefused.{EditRefused}
 use Rattle.model_operations.specs.declared.operation.IntOp.{IntOp}
-use Rattle.model_runs.specs.Effects.{cause_of_edit, edit_gives, edits}
+use Rattle.model_runs.specs.Effects.{cause_of_edit, edit_gives, edits, effect}
 use Rattle.model_runs.specs.State.{Effect, RunState, in_workspace, refuses, workspace_of}
 use Rattle.model_runs.specs.declared.ending.End.{End}
 use Rattle.model_runs.specs.declared.ending.End.TheVariants as ends
@@ -27,10 +27,14 @@ use Rattle.outside_io.specs.Files.{Files}
 use Rattle.plane_rect.specs.Rectangle.{Rectangle}
 use Rattle.outside_io.specs.Faults.{Rose}
 use Rattle.run_events.proofs.Carrying.{nothing_carried}
+use Rattle.run_events.proofs.Faults.{continues_same}
 use Rattle.run_events.proofs.Texts.{put_none}
 use Rattle.run_events.specs.Carried.{Exceeds, outcome_of_line}
 use Rattle.run_events.specs.Moments.{HasFaults, Moment}
-use Rattle.run_lines.specs.Buffers.{Holds}
+use Rattle.run_lines.specs.Buffers.{Holds, edit_of}
+use Rattle.script_read.specs.declared.command.Command.{Command}
+use Rattle.script_read.specs.declared.command.Command.TheVariants as commands
+use Rattle.model_buffers.specs.declared.edit.BufferEdit.TheVariants as edit_variants
 use Rattle.run_lines.specs.Edited.{BuffersOver, IsEdited}
 use Rattle.run_lines.specs.Stops.{Did, IsDone, IsEnded, end_of, end_of_swap, stop_of}
 use Rattle.run_lines.specs.declared.stop.Stop.{Stop}
@@ -43,6 +47,38 @@ use Rattle.swap_store.specs.declared.refusal.SwapRefused.TheVariants as swap_ref
 working-with : (workspace : Workspace Table IntOp Rectangles) (table : Table) (o : Option (List ℕ × Rectangle)) → (with_working workspace table o).working ≡ table
 working-with workspace table None = refl
 working-with workspace table (Some written) = refl
+
+-- ---- edits of the layout alone
+
+pub the_edit : (a b : BufferEdit) → (let o : Option BufferEdit = Some a in o ≡ Some b) → a ≡ b
+the_edit a b e = cc
+
+add_causes : (layout : TableLayout) (edit : BufferEdit) (counts : Counts) (refused : BufferRefused) → HasAddCause layout edit refused → HasEditCause layout edit counts counts refused
+add_causes layout edit counts (buffer_refusals.Edit cause) is = is
+add_causes layout edit counts (buffer_refusals.Swap refused) is = absurd is
+add_causes layout edit counts buffer_refusals.NoMemory is = tt
+
+add_cause : (layout : TableLayout) (edit : BufferEdit) (counts : Counts) (edited : Result (Unit {0}) BufferRefused) → IfErr edited (HasAddCause layout edit) → IfErr edited (HasEditCause layout edit counts counts)
+add_cause layout edit counts (Ok done) is = tt
+add_cause layout edit counts (Err refused) is = add_causes layout edit counts refused is
+
+-- an edit that touches no tile
+pub added_edit : (edit : BufferEdit) (edited : Result (Unit {0}) BufferRefused) (old new : BufferTable) (held : Held) (counts : Counts) →
+    MatchResult edited (λ _. new.layout ≡ layout_with old.layout edit) (λ _. new.layout ≡ old.layout) →
+    MatchResult edited (λ _. table_of new held ≡ option_map (λ table. table_with table edit) (table_of old held)) (λ _. table_of new held ≡ table_of old held) →
+    ((cause : EditRefused) → edit_refused old.layout edit ≡ Some cause → edited ≡ Err (buffer_refusals.Edit cause)) →
+    IfErr edited (HasAddCause old.layout edit) → IfOk edited (λ _. edit_refused old.layout edit ≡ None) → AreBuffersOver new held →
+    IsEdited edit edited (record { buffers = old; held = held; counts = counts }) (record { buffers = new; held = held; counts = counts })
+added_edit edit edited old new held counts layout table exact cause carried_out over = record {
+  layout = layout;
+  table = table;
+  exact = exact;
+  cause = add_cause old.layout edit counts edited cause;
+  carried_out = carried_out;
+  over = over;
+  content = refl;
+  counts = record { continues = continues_same counts counts refl; names = omega arith };
+}
 
 -- ---- full swaps
 
@@ -60,13 +96,13 @@ full_exceeds counts tiles needed longest full = exceeds_by counts counts.used ti
 abbrev pub at_chain : Option Files → Option (List ℕ) → ℕ → ℕ → ℕ → Counts → Moment
 at_chain files text reads writes puts counts = record { files = files; text = text; reads = reads; writes = writes; puts = puts; chain = counts }
 
-module _ (exposed : Bool) (line : ℕ) (state : RunState) (files : Files) (edit : BufferEdit) (old new : BuffersOver) (shelf : Option Files) (text : Option (List ℕ)) (reads writes puts : ℕ)
+module _ (exposed : Bool) (line : ℕ) (state : RunState) (files : Files) (edit : BufferEdit) (old new : BuffersOver) (shelf : Option Files) (text : Option (List ℕ)) (reads writes puts more_reads more_writes more_puts : ℕ)
     (holds : Holds exposed state files old.buffers old.held shelf) where
   abbrev before : Moment
   before = at_chain shelf text reads writes puts old.counts
 
   abbrev after : Moment
-  after = at_chain shelf text reads writes puts new.counts
+  after = at_chain shelf text more_reads more_writes more_puts new.counts
 
   abbrev working : Table
   working = (workspace_of state).working
@@ -75,7 +111,7 @@ module _ (exposed : Bool) (line : ℕ) (state : RunState) (files : Files) (edit 
   same_refusal = ap (λ (layout : TableLayout). edit_refused layout edit) holds.layout
 
   gives_table : edit_refused old.buffers.layout edit ≡ None → edits line state edit ≡ edit_gives line state edit (Ok (table_with working edit))
-  gives_table none = ap (edit_gives line state edit) (table-after working edit (same_refusal ∙ none))
+  gives_table none = ap (λ (r : Refusal). edit_gives line state edit (unless_refused r (table_with working edit))) (same_refusal ∙ none)
 
   gives_refusal : (cause : EditRefused) → edit_refused old.buffers.layout edit ≡ Some cause → edits line state edit ≡ refuses line state (cause_of_edit cause)
   gives_refusal cause some = ap (λ (r : Refusal). edit_gives line state edit (unless_refused r (table_with working edit))) (same_refusal ∙ some)
@@ -108,7 +144,7 @@ module _ (exposed : Bool) (line : ℕ) (state : RunState) (files : Files) (edit 
   tiles_of_edit (Some cause) e refused is = absurd (let other = is.exact cause e in cc)
 
   ended : (done : Effect) (end : End) → end ≢ ends.Refused → (end ≡ ends.SwapFull → Exceeds old.counts (old.counts.names + done.tiles)) → IsEnded exposed done end before after
-  ended done end other full = record { end = other; carried = nothing_carried exposed (outcome_of_line done) done.tiles end before after other refl refl full }
+  ended done end other full = record { other = other; carried = nothing_carried exposed (outcome_of_line done) done.tiles end before after other refl refl full }
 
   -- an edit that is refused
   pub edit_stopped : (refused : BufferRefused) → IsEdited edit (Err refused) old new →
@@ -158,3 +194,28 @@ module _ (edit : BufferEdit) (old new : BuffersOver) (shelf : Option Files) (tex
   stopped_faults (buffer_refusals.Swap (swap_refusals.SwapFull needed longest)) is = no_fault ends.SwapFull (λ e. cc) (λ e. cc) (λ e. cc) (λ e. absurd (cc)) is.counts
   stopped_faults (buffer_refusals.Swap swap_refusals.NoMemory) is = no_fault ends.NoMemory (λ e. cc) (λ e. cc) (λ e. cc) (λ e. absurd (cc)) is.counts
   stopped_faults buffer_refusals.NoMemory is = no_fault ends.NoMemory (λ e. cc) (λ e. cc) (λ e. cc) (λ e. absurd (cc)) is.counts
+
+-- ---- commands
+
+pub some_edit : (o : Option BufferEdit) → is_some o ≡ true → (edit : BufferEdit) × (o ≡ Some edit)
+some_edit None some = absurd (cc)
+some_edit (Some edit) some = (edit, refl)
+
+-- the effect of a command that is an edit
+pub edit_effect : (capacity : ℕ) (state : RunState) (files : Files) (line : ℕ) (command : Command) (edit : BufferEdit) → edit_of command ≡ Some edit →
+    edits line state edit ≡ effect capacity state files line command
+edit_effect capacity state files line (commands.Buffer name format r) edit is = ap (edits line state) (sym (the_edit (edit_variants.Create name format r) edit is))
+edit_effect capacity state files line (commands.Sub name parent r) edit is = ap (edits line state) (sym (the_edit (edit_variants.Sub name parent r) edit is))
+edit_effect capacity state files line (commands.Dup name from) edit is = ap (edits line state) (sym (the_edit (edit_variants.Duplicate name from) edit is))
+edit_effect capacity state files line (commands.Fill name r samples) edit is = ap (edits line state) (sym (the_edit (edit_variants.Fill name r samples) edit is))
+edit_effect capacity state files line (commands.Copy from to r dx dy) edit is = ap (edits line state) (sym (the_edit (edit_variants.Copy from to r dx dy) edit is))
+edit_effect capacity state files line (commands.Load name r source) edit is = absurd (cc)
+edit_effect capacity state files line (commands.Node name op inputs) edit is = absurd (cc)
+edit_effect capacity state files line (commands.Drop name) edit is = absurd (cc)
+edit_effect capacity state files line commands.Commit edit is = absurd (cc)
+edit_effect capacity state files line commands.Undo edit is = absurd (cc)
+edit_effect capacity state files line commands.Redo edit is = absurd (cc)
+edit_effect capacity state files line (commands.Render name z r target) edit is = absurd (cc)
+edit_effect capacity state files line (commands.Grab name z policy r target) edit is = absurd (cc)
+edit_effect capacity state files line (commands.Watch name r viewers frames prefix) edit is = absurd (cc)
+edit_effect capacity state files line commands.EndWatch edit is = absurd (cc)
