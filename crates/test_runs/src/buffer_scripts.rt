@@ -41,7 +41,7 @@ pub const CARRIED_OUT: [BufferRun; 7] = [
         b"grab 3 bytes 4\n",
         b"\x03\x04\x00\xff",
     ),
-    // The last file of a name is what is left, also where the lines before it are of another form.
+    // A file that a line wrote is what a later line loads.
     (
         b"buffer a Y8 0 0 2 2\nload a 0 0 2 2 in.raw\ngrab a 0 NONE 0 0 2 2 o\nload a 0 0 2 2 o\ngrab a 0 NONE 1 0 1 2 o\n",
         b"grab 3 bytes 4\ngrab 5 bytes 2\n",
@@ -69,21 +69,47 @@ pub const GRABS: [(&[u8], &[u8]); 12] = [
     (b"grab a 2 WHITE 0 0 2 1 o", b"\x1c\xff"),
 ];
 
-/// Scripts beside the text of the line that is refused: of a wrong size, absent, outside the buffer before absent, of no
-/// buffer before absent, and of a part that doesn't have the position.
+/// Scripts beside the text of the line that is refused: of a wrong size, absent, outside the buffer before absent, of
+/// no buffer before absent, of a part that doesn't have the position, of two samples for one, of a name that is taken.
 pub const REFUSED: [(&[u8], &[u8]); 8] = [
-    (b"buffer a YA8 0 0 2 2\nload a 0 0 2 2 in.raw\n", b"line 2: WrongSize\n"),
-    (b"buffer a Y8 0 0 2 2\nload a 0 0 2 1 in.raw\n", b"line 2: WrongSize\n"),
-    (b"buffer a YA8 0 0 2 2\nload a 0 0 2 2 no.raw\n", b"line 2: Absent\n"),
-    (b"buffer a YA8 0 0 2 2\nload a 0 0 3 2 no.raw\n", b"line 2: OutOfBounds\n"),
-    (b"buffer a YA8 0 0 2 2\nload b 0 0 3 2 no.raw\n", b"line 2: UnknownBuffer\n"),
-    (b"buffer a Y8 0 0 4 1\nsub s a 1 0 3 1\nfill s 0 0 1 1 9\n", b"line 3: OutOfBounds\n"),
-    (b"buffer a Y8 0 0 1 1\nfill a 0 0 1 1 1 2\n", b"line 2: Formats\n"),
-    (b"buffer a Y8 0 0 1 1\n\nbuffer a Y8 0 0 1 1\n", b"line 3: NameTaken\n"),
+    (
+        b"buffer a YA8 0 0 2 2\nload a 0 0 2 2 in.raw\n",
+        b"line 2: WrongSize\n",
+    ),
+    (
+        b"buffer a Y8 0 0 2 2\nload a 0 0 2 1 in.raw\n",
+        b"line 2: WrongSize\n",
+    ),
+    (
+        b"buffer a YA8 0 0 2 2\nload a 0 0 2 2 no.raw\n",
+        b"line 2: Absent\n",
+    ),
+    (
+        b"buffer a YA8 0 0 2 2\nload a 0 0 3 2 no.raw\n",
+        b"line 2: OutOfBounds\n",
+    ),
+    (
+        b"buffer a YA8 0 0 2 2\nload b 0 0 3 2 no.raw\n",
+        b"line 2: UnknownBuffer\n",
+    ),
+    (
+        b"buffer a Y8 0 0 4 1\nsub s a 1 0 3 1\nfill s 0 0 1 1 9\n",
+        b"line 3: OutOfBounds\n",
+    ),
+    (
+        b"buffer a Y8 0 0 1 1\nfill a 0 0 1 1 1 2\n",
+        b"line 2: Formats\n",
+    ),
+    (
+        b"buffer a Y8 0 0 1 1\n\nbuffer a Y8 0 0 1 1\n",
+        b"line 3: NameTaken\n",
+    ),
 ];
 
 /// A buffer of two tiles of 1 and of 2, and its first rows in four files.
-pub const FOUR_GRABS: &[u8] = b"buffer a Y8 0 0 128 64\nfill a 0 0 64 64 1\nfill a 64 0 64 64 2\ngrab a 0 NONE 62 0 4 1 g1\ngrab a 0 NONE 62 0 4 1 g2\ngrab a 0 NONE 62 0 4 1 g3\ngrab a 0 NONE 62 0 4 1 g4\n";
+pub const FOUR_GRABS: &[u8] =
+    b"buffer a Y8 0 0 128 64\nfill a 0 0 64 64 1\nfill a 64 0 64 64 2\ngrab a 0 NONE 62 0 4 1 g1\ngrab a 0 NONE 62 0 4 1 g2\ngrab a 0 NONE 62 0 4 1 g3\ngrab a 0 NONE 62 0 4 1 g4\n";
 
 /// A buffer of four tiles, each of a block.
-pub const FOUR_TILES: &[u8] = b"buffer a Y8 0 0 256 64\nfill a 0 0 64 64 1\nfill a 64 0 64 64 2\nfill a 128 0 64 64 3\nfill a 192 0 64 64 4\n";
+pub const FOUR_TILES: &[u8] =
+    b"buffer a Y8 0 0 256 64\nfill a 0 0 64 64 1\nfill a 64 0 64 64 2\nfill a 128 0 64 64 3\nfill a 192 0 64 64 4\n";

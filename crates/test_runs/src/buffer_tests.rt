@@ -1,8 +1,6 @@
 //! Runs of scripts of buffers. What each must leave was worked out by hand.
 
-use crate::buffer_scripts::{
-    CARRIED_OUT, FOUR_GRABS, FOUR_TILES, GRABS, RASTER_OF_FOUR, REFUSED,
-};
+use crate::buffer_scripts::{CARRIED_OUT, FOUR_GRABS, FOUR_TILES, GRABS, RASTER_OF_FOUR, REFUSED};
 use crate::cases::{Failing, NONE_FAILS, run_line, run_script};
 use std::test::Fail;
 
