@@ -1,5 +1,5 @@
 -- Lines that edit buffers.
-use Rattle.std.proofs.Common.{◌≡◌, ◌≢◌, ℕ, ◌+◌, ◌*◌, ◌<◌, ◌≤◌, Bool, true, IsTrue, List, [], ◌∷◌, length, Option, Some, None, Result, Ok, Err, IfErr, IfOk, IsSomeAnd, MatchResult, is_some, refl, sym, ap, ◌∙◌, subst, arith}
+use Rattle.std.proofs.Common.{◌≡◌, ◌≢◌, ℕ, ◌+◌, ◌*◌, ◌<◌, Bool, true, List, Option, Some, None, Result, Ok, Err, IfErr, IfOk, IsSomeAnd, MatchResult, is_some, refl, sym, ap, ◌∙◌, subst, arith}
 use Rattle.std.specs.Option.{option_map}
 use Rattle.buffer_view.specs.BufferTables.{AreBuffersOver, BufferTable, table_of}
 use Rattle.buffer_view.specs.Causes.{HasAddCause, HasEditCause}
@@ -10,7 +10,7 @@ use Rattle.chain_owners.specs.Held.{Held}
 use Rattle.model_buffers.proofs.ShapeLaws.{layout-with}
 use Rattle.model_buffers.specs.BufferEdit.{Refusal, edit_refused, layout_with, written_by}
 use Rattle.model_buffers.specs.Counts.{tiles_added}
-use Rattle.model_buffers.specs.Edits.{Edited, edited_table, table_with, unless_refused}
+use Rattle.model_buffers.specs.Edits.{table_with, unless_refused}
 use Rattle.model_buffers.specs.Layout.{TableLayout}
 use Rattle.model_buffers.specs.Table.{Table, layout_of}
 use Rattle.model_buffers.specs.declared.edit.BufferEdit.{BufferEdit}
@@ -36,9 +36,7 @@ use Rattle.script_read.specs.declared.command.Command.{Command}
 use Rattle.script_read.specs.declared.command.Command.TheVariants as commands
 use Rattle.model_buffers.specs.declared.edit.BufferEdit.TheVariants as edit_variants
 use Rattle.run_lines.specs.Edited.{BuffersOver, IsEdited}
-use Rattle.run_lines.specs.Stops.{Did, IsDone, IsEnded, end_of, end_of_swap, stop_of}
-use Rattle.run_lines.specs.declared.stop.Stop.{Stop}
-use Rattle.run_lines.specs.declared.stop.Stop.TheVariants as stops
+use Rattle.run_lines.specs.Stops.{Did, IsDone, IsEnded, end_of, stop_of}
 use Rattle.swap_store.specs.declared.refusal.SwapRefused.{SwapRefused}
 use Rattle.swap_store.specs.declared.refusal.SwapRefused.TheVariants as swap_refusals
 

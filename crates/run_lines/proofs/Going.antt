@@ -1,12 +1,12 @@
 -- Lines that are carried out one after another.
-use Rattle.std.proofs.Common.{◌≡◌, ◌≢◌, ℕ, Bool, List, [], ◌∷◌, Option, Some, None, Result, Ok, Err, IfOk, refl, sym, ap, ◌∙◌, subst}
+use Rattle.std.proofs.Common.{◌≡◌, ◌≢◌, ℕ, Bool, List, [], ◌∷◌, Result, Ok, Err, IfOk, sym, subst}
 use Rattle.std.specs.Result.{IsErrAnd}
 use Rattle.buffer_view.specs.BufferTables.{BufferTable}
 use Rattle.chain_owners.specs.Held.{Held}
 use Rattle.model_runs.specs.Effects.{effect}
 use Rattle.model_runs.specs.Ending.{Leaves}
 use Rattle.model_runs.specs.Run.{files_after_all}
-use Rattle.model_runs.specs.State.{Effect, RunState, refuses}
+use Rattle.model_runs.specs.State.{Effect, RunState}
 use Rattle.model_runs.specs.declared.ending.End.{End}
 use Rattle.model_runs.specs.declared.ending.End.TheVariants as ends
 use Rattle.outside_io.specs.Files.{Files}

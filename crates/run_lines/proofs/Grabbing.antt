@@ -1,11 +1,11 @@
 -- What lines leave that write a file of a buffer.
-use Rattle.std.proofs.Common.{◌≡◌, ◌≢◌, ℕ, ◌+◌, ◌*◌, Bool, true, false, IsTrue, List, [], ◌∷◌, ◌++◌, length, Option, Some, None, Result, Ok, Err, IsSomeAnd, is_some, refl, sym, ap, ◌∙◌, subst, arith}
+use Rattle.std.proofs.Common.{◌≡◌, ◌≢◌, ℕ, ◌+◌, ◌*◌, Bool, IsTrue, List, [], ◌++◌, length, Option, Some, None, Result, Ok, Err, IsSomeAnd, is_some, sym, ap, ◌∙◌, subst}
 use Rattle.std.specs.Option.{option_map}
 use Rattle.buffer_view.specs.BufferTables.{BufferTable, table_of}
 use Rattle.buffer_view.specs.Reads.{HasReadCause, IsReadOfBuffer, box_of_root, part_of_buffer}
 use Rattle.buffer_view.specs.declared.refused.BufferRefused.{BufferRefused}
 use Rattle.buffer_view.specs.declared.refused.BufferRefused.TheVariants as buffer_refusals
-use Rattle.chain_owners.specs.Counts.{Counts, Grows}
+use Rattle.chain_owners.specs.Counts.{Grows}
 use Rattle.chain_owners.specs.Held.{Held}
 use Rattle.model_buffers.specs.Layout.{find}
 use Rattle.model_buffers.specs.Table.{layout_of}
@@ -16,7 +16,6 @@ use Rattle.model_images.specs.Raw.{raw}
 use Rattle.model_images.specs.TileCounts.{level_tiles}
 use Rattle.model_runs.specs.Effects.{cause_of_edit, writes}
 use Rattle.model_runs.specs.Ending.{Leaves, SaysRefused}
-use Rattle.model_runs.specs.Ran.{texts_in}
 use Rattle.model_runs.specs.Run.{files_after_all}
 use Rattle.model_runs.specs.State.{Effect, RunState, refuses, workspace_of}
 use Rattle.model_runs.specs.declared.ending.End.{End}
@@ -33,12 +32,9 @@ use Rattle.run_lines.proofs.EditLines.{full_exceeds}
 use Rattle.run_lines.proofs.Grabs.{filed_alike, grab_bytes, grab_given, grab_length, grab_tiles, grab_unknown, grabbed, planned}
 use Rattle.run_lines.specs.Buffers.{AreAlike, Holds}
 use Rattle.run_lines.specs.Stops.{Did, IsDone, IsEnded, stop_of}
-use Rattle.run_texts.specs.Events.{Event, Outcome, Refusal, events_alone}
+use Rattle.run_texts.specs.Events.{Event, Outcome, events_alone}
 use Rattle.run_texts.specs.Texts.{grab_text}
 use Rattle.run_texts.specs.World.{World}
-use Rattle.run_texts.specs.declared.cause.Cause.{Cause}
-use Rattle.run_texts.specs.declared.cause.Cause.TheVariants as causes
-use Rattle.swap_store.specs.declared.refusal.SwapRefused.{SwapRefused}
 use Rattle.swap_store.specs.declared.refusal.SwapRefused.TheVariants as swap_refusals
 
 -- the outcome of a line that is known

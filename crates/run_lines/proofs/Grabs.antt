@@ -1,17 +1,14 @@
 -- Lines that write a file of a buffer.
-use Rattle.std.proofs.Common.{◌≡◌, ◌≢◌, ℕ, ◌+◌, ◌*◌, Bool, true, false, IsTrue, cond, List, [], ◌∷◌, length, Option, Some, None, Result, Ok, Err, IsSomeAnd, IfSome, is_some, refl, sym, ap, ◌∙◌, subst, arith}
+use Rattle.std.proofs.Common.{◌≡◌, ◌≢◌, ℕ, ◌*◌, Bool, true, false, IsTrue, cond, List, length, Option, Some, None, refl, sym, ap, ◌∙◌, subst}
 use Rattle.std.specs.Option.{option_map, option_map_or}
 use Rattle.std.specs.FinMap.{get-insert}
 use Rattle.std.proofs.lemmas.Cmp.{nat_list_cmp_total}
 use Rattle.buffer_view.specs.BufferTables.{BufferTable, table_of}
-use Rattle.buffer_view.specs.Reads.{HasReadCause, IsReadOfBuffer, box_of_root, part_of_buffer}
-use Rattle.buffer_view.specs.declared.refused.BufferRefused.{BufferRefused}
-use Rattle.buffer_view.specs.declared.refused.BufferRefused.TheVariants as buffer_refusals
-use Rattle.chain_owners.specs.Counts.{Counts, Grows}
+use Rattle.buffer_view.specs.Reads.{IsReadOfBuffer, box_of_root, part_of_buffer}
 use Rattle.chain_owners.specs.Held.{Held}
 use Rattle.model_buffers.proofs.ShapeLaws.{buffer_shape-is}
-use Rattle.model_buffers.specs.Layout.{TableLayout, View, buffer_shape, find, root_shape, seen_shape, view_shape}
-use Rattle.model_buffers.specs.Table.{Table, image_of, layout_of}
+use Rattle.model_buffers.specs.Layout.{TableLayout, View, buffer_shape, find, root_shape}
+use Rattle.model_buffers.specs.Table.{Table, image_of}
 use Rattle.model_graphs.specs.Shapes.{Shape}
 use Rattle.model_images.proofs.ByteLaws.{length-raw_with, raw-image_from_fn}
 use Rattle.model_images.proofs.LevelLaws.{level-format}
@@ -22,17 +19,12 @@ use Rattle.model_images.specs.Raw.{raw}
 use Rattle.model_images.specs.TileCounts.{level_tiles}
 use Rattle.model_runs.specs.Effects.{grabs, grabs_view, writes}
 use Rattle.model_runs.specs.State.{Effect, RunState, refuses, workspace_of}
-use Rattle.model_runs.specs.declared.ending.End.{End}
-use Rattle.model_runs.specs.declared.ending.End.TheVariants as ends
 use Rattle.outside_io.specs.Files.{Files, file, filed}
 use Rattle.pixel_formats.specs.Format.{pixel_bytes}
 use Rattle.pixel_formats.specs.declared.abyss.Abyss.{Abyss}
 use Rattle.plane_rect.specs.Rectangle.{Rectangle, area, empty}
 use Rattle.root_tiles.specs.Roots.{HasShape}
-use Rattle.run_events.specs.Carried.{Exceeds}
-use Rattle.run_lines.proofs.EditLines.{full_exceeds}
 use Rattle.run_lines.specs.Buffers.{AreAlike, Holds}
-use Rattle.run_texts.specs.Events.{Event}
 use Rattle.run_texts.specs.Texts.{grab_text}
 use Rattle.run_texts.specs.declared.cause.Cause.TheVariants as causes
 

@@ -1,27 +1,25 @@
 -- Lines that load a file into a buffer.
-use Rattle.std.proofs.Common.{◌≡◌, ◌≢◌, ℕ, ◌<◌, ◌==◌, Bool, true, false, IsTrue, cond, List, length, Option, Some, None, Result, Ok, Err, IsSomeAnd, IfSome, MatchResult, ◌⊎◌, is_some, inl, inr, refl, sym, ap, ◌∙◌, subst, arith}
+use Rattle.std.proofs.Common.{◌≡◌, ℕ, ◌<◌, ◌==◌, Bool, true, false, IsTrue, cond, List, length, Option, Some, None, Result, Ok, Err, IsSomeAnd, IfSome, ◌⊎◌, is_some, inl, inr, refl, sym, ap, ◌∙◌, subst, arith}
 use Rattle.std.specs.Option.{option_map}
 use Rattle.std.proofs.lemmas.Bool.Decides.{nat_tests}
-use Rattle.buffer_view.specs.BufferTables.{BufferTable, table_of}
+use Rattle.buffer_view.specs.BufferTables.{BufferTable}
 use Rattle.buffer_view.specs.Causes.{HasEditCause}
 use Rattle.buffer_view.specs.declared.refused.BufferRefused.{BufferRefused}
 use Rattle.buffer_view.specs.declared.refused.BufferRefused.TheVariants as buffer_refusals
 use Rattle.chain_owners.specs.Counts.{Counts}
 use Rattle.chain_owners.specs.Held.{Held}
 use Rattle.model_buffers.proofs.FactLaws.{fact-found}
-use Rattle.model_buffers.specs.BufferEdit.{Refusal, edit_refused, if_known, layout_with, put_refused, unless}
-use Rattle.model_buffers.specs.Edits.{edited_table, table_with, unless_refused}
+use Rattle.model_buffers.specs.BufferEdit.{Refusal, edit_refused, if_known, put_refused, unless}
+use Rattle.model_buffers.specs.Edits.{table_with, unless_refused}
 use Rattle.model_buffers.specs.Layout.{TableLayout, View, fact_in, facts_of, find, view_shape}
 use Rattle.model_buffers.specs.Table.{Table, layout_of}
-use Rattle.model_buffers.specs.declared.edit.BufferEdit.{BufferEdit}
 use Rattle.model_buffers.specs.declared.edit.BufferEdit.TheVariants.{Put}
-use Rattle.model_buffers.specs.declared.refused.EditRefused.{EditRefused}
 use Rattle.model_buffers.specs.declared.refused.EditRefused.TheVariants.{OutOfBounds, WrongSize}
 use Rattle.model_graphs.specs.Facts.{fact_of}
 use Rattle.model_graphs.specs.Shapes.{Shape}
 use Rattle.model_graphs.specs.declared.buffer.BufferFact.{BufferFact}
 use Rattle.model_images.specs.FromRaw.{byte_count}
-use Rattle.model_runs.specs.Effects.{cause_of_edit, edit_gives, edits, load_into, loads}
+use Rattle.model_runs.specs.Effects.{edit_gives, edits, load_into, loads}
 use Rattle.model_runs.specs.State.{Effect, RunState, refuses, workspace_of}
 use Rattle.outside_io.specs.Files.{Files, file}
 use Rattle.plane_rect.specs.Rectangle.{Rectangle, includes}
@@ -185,8 +183,7 @@ module _ (exposed : Bool) (line : ℕ) (state : RunState) (files : Files) (buffe
       × (loads line state name r (file files source) ≡ edits line state (Put name r planned))
   load_read source bytes fact actual is shown read =
       let there = view_of (find buffers.layout.buffers name) fact refl is in
-      let planned = there_alike (file files source) (file actual source) bytes ((subst (λ (o : Option Files). IsSomeAnd o (AreAlike files)) shown holds.alike) source) read in
-      (
+      let planned = there_alike (file files source) (file actual source) bytes ((subst (λ (o : Option Files). IsSomeAnd o (AreAlike files)) shown holds.alike) source) read in (
         planned.0,
         planned.1,
         sym planned.2,

@@ -1,8 +1,8 @@
 -- Runs of lines from their start on.
-use Rattle.std.proofs.Common.{◌≡◌, ◌≢◌, ℕ, Bool, true, false, IsTrue, List, [], Option, Some, None, Result, Ok, Err, IfSome, IsSomeAnd, is_some, refl, sym, subst}
+use Rattle.std.proofs.Common.{◌≡◌, ℕ, Bool, IsTrue, List, [], Option, Some, None, Result, IfSome, is_some, min, refl, subst}
 use Rattle.std.specs.Result.{IsErrAnd}
-use Rattle.buffer_view.specs.BufferTables.{empty_table, table_of}
-use Rattle.chain_handlers.specs.OwnedTiles.{nothing_over}
+use Rattle.buffer_view.specs.BufferTables.{BufferTable, empty_table, table_of}
+use Rattle.chain_handlers.specs.OwnedTiles.{counts_over, nothing_over}
 use Rattle.chain_owners.specs.Counts.{Counts}
 use Rattle.chain_owners.specs.Held.{Held}
 use Rattle.model_buffers.specs.Table.{no_buffers}
@@ -47,6 +47,12 @@ memory_lines exposed capacity state files lines result old new same files_same t
     lines_same_end exposed capacity state files lines ends.NoMemory result old new same
     (nothing_carried exposed _ _ ends.NoMemory old new (λ e. cc) files_same text_same (λ e. absurd (cc)))
 
+pub memory_begins : (exposed : Bool) (capacity : ℕ) (shelf : Option Files) (lines : List Line) (result : Result (Unit {0}) End) (old new : Moment) → IsErrAnd result (λ end. end ≡ ends.NoMemory) →
+    new.files ≡ old.files → new.text ≡ old.text → IfSome shelf (λ files. CarriesOutLines exposed capacity (first_state []) files lines result old new)
+memory_begins exposed capacity shelf lines result old new same files_same text_same =
+    where_exposed shelf (λ files. CarriesOutLines exposed capacity (first_state []) files lines result old new)
+    (λ files shown. memory_lines exposed capacity (first_state []) files lines result old new same files_same text_same)
+
 -- the counts of the chain afterwards don't matter
 pub lines_rechained : (exposed : Bool) (capacity : ℕ) (state : RunState) (files : Files) (lines : List Line) (result : Result (Unit {0}) End) (old new : Moment) (counts : Counts) →
     CarriesOutLines exposed capacity state files lines result old new → CarriesOutLines exposed capacity state files lines result old (record new { chain = counts })
@@ -58,3 +64,17 @@ lines_rechained exposed capacity state files lines result old new counts carried
   texts_prefix = carried.texts_prefix;
   full = carried.full;
 }
+
+-- the same where a run begins
+pub run_begins : (blocks : Option Blocks) (files : Files) (buffers : BufferTable) (held : Held) (shelf : Option Files) → buffers ≡ empty_table → held ≡ nothing_over blocks → shelf ≡ Some files →
+    Holds (is_some blocks) (first_state []) files buffers held shelf
+run_begins blocks files buffers held shelf none nothing shown = rw (none, nothing, shown) (begins blocks files)
+
+pub lines_from : (exposed : Bool) (capacity : ℕ) (state : RunState) (files : Files) (lines : List Line) (result : Result (Unit {0}) End) (old new : Moment) (first counts : Counts) → old.chain ≡ first →
+    CarriesOutLines exposed capacity state files lines result old new → CarriesOutLines exposed capacity state files lines result (record old { chain = first }) (record new { chain = counts })
+lines_from exposed capacity state files lines result old new first counts is carried =
+    subst (λ (c : Counts). CarriesOutLines exposed capacity state files lines result (record old { chain = c }) (record new { chain = counts })) is
+    (lines_rechained exposed capacity state files lines result old new counts carried)
+
+pub over_counts : (faults used capacity blocks size resident : ℕ) → used ≡ min blocks size → capacity ≡ resident → counts_over faults used capacity ≡ counts_over faults (min blocks size) resident
+over_counts faults used capacity blocks size resident is as_many = rw (is, as_many) refl

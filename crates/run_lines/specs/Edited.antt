@@ -1,5 +1,5 @@
 -- What an edit of buffers over a chain did.
-use Rattle.std.specs.Prelude.{◌≡◌, Option, Some, None, Result, Err, IfOk, IfErr, MatchResult, is_some}
+use Rattle.std.specs.Prelude.{◌≡◌, Some, None, Result, Err, IfOk, IfErr, MatchResult, is_some}
 use Rattle.std.specs.Option.{option_map}
 use Rattle.buffer_view.specs.BufferTables.{AreBuffersOver, BufferTable, table_of}
 use Rattle.buffer_view.specs.Causes.{HasEditCause}

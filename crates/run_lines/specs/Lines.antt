@@ -1,5 +1,5 @@
 -- Lines of buffers.
-use Rattle.std.specs.Prelude.{Bool, IsTrue, All, List, is_some, ◌||◌}
+use Rattle.std.specs.Prelude.{Bool, IsTrue, is_some, ◌||◌}
 use Rattle.script_read.specs.declared.command.Command.{Command}
 use Rattle.script_read.specs.declared.command.Line.{Line}
 use Rattle.script_read.specs.Limits.{IsInLimits}

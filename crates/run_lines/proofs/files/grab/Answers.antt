@@ -1,4 +1,4 @@
-use Rattle.std.proofs.Common.{◌≡◌, ◌≢◌, Option, None, Result, Ok, Err, refl}
+use Rattle.std.proofs.Common.{◌≢◌, None, refl}
 use Rattle.model_buffers.specs.Layout.{find}
 use Rattle.run_events.specs.Moments.{Moment}
 use Rattle.run_lines.proofs.Grabbing.{grab_done, grab_ended, grab_stopped}

@@ -1,4 +1,4 @@
-use Rattle.std.proofs.Common.{◌≡◌, ◌*◌, List, ℕ, Option, Some, Result, Ok, Err, IfSome, refl, sym, ap, ◌∙◌, subst}
+use Rattle.std.proofs.Common.{◌≡◌, ◌*◌, List, ℕ, Some, Result, Ok, Err, IfSome, refl, sym, ◌∙◌, subst}
 use Rattle.model_buffers.specs.declared.edit.BufferEdit.TheVariants.{Put}
 use Rattle.model_images.specs.FromRaw.{byte_count}
 use Rattle.outside_io.specs.Files.{Files, file}

@@ -1,4 +1,4 @@
-use Rattle.std.proofs.Common.{rules, ◌≡◌, Result, Ok, Err, refl, subst}
+use Rattle.std.proofs.Common.{rules, Result, Err, refl, subst}
 use Rattle.model_runs.specs.State.{Effect}
 use Rattle.run_lines.proofs.EditLines.{done_faults, edit_done, edit_effect, edit_stopped, some_edit, stopped_faults}
 use Rattle.run_lines.proofs.Stopping.{same_stop, same_stop_faults}

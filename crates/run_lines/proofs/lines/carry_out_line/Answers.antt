@@ -1,4 +1,4 @@
-use Rattle.std.proofs.Common.{◌≡◌, Err, refl}
+use Rattle.std.proofs.Common.{refl}
 use Rattle.run_events.proofs.Faults.{faults_by_cause, faults_then}
 use Rattle.run_events.specs.Moments.{Moment}
 use Rattle.run_lines.proofs.Going.{refusal_does}

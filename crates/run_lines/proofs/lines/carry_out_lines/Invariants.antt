@@ -1,4 +1,4 @@
-use Rattle.std.proofs.Common.{◌≡◌, ℕ, Bool, drop, Result, Ok}
+use Rattle.std.proofs.Common.{◌≡◌, ℕ, Bool, drop, Ok}
 use Rattle.buffer_view.specs.BufferTables.{AreBuffersOver, buffers_names}
 use Rattle.chain_owners.specs.Owners.{Respects}
 use Rattle.model_runs.specs.State.{RunState}
