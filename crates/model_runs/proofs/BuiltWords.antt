@@ -1,47 +1,35 @@
 -- The words that are built are requests.
-use Rattle.std.proofs.Common.{◌≡◌, ℕ, Bool, true, false, not, ◌&&◌, cond, List, [], ◌∷◌, refl, ap, Option, Some, None}
-use Rattle.std.specs.Prelude.{codes, length, nat_le, position, ◌==◌, ◌||◌}
-use Rattle.std.specs.List.{list_all}
-use Rattle.std.specs.Str.{bytes_eq}
-use Rattle.outside_io.specs.FileName.{is_file_name, is_name_byte}
-use Rattle.model_runs.specs.Built.{built_script}
-use Rattle.model_runs.specs.Words.{RunScript, Script, default_options, request_of, run_request, settings_of, split_at, split_word, split_words}
+use Rattle.std.proofs.Common.{◌≡◌, ◌==◌, ◌&&◌, Bool, true, false, cond, List, ℕ, Option, Some, None, refl, ap, ◌∙◌, arith}
+use Rattle.std.proofs.lemmas.Bool.Decides.{nat_tests}
+use Rattle.model_runs.specs.Built.{BuiltRun, built_request, built_run, has_built_options, options_with}
+use Rattle.model_runs.specs.Words.{MakeJob, Options, Request, RunScript, default_options, request_of}
+use Rattle.script_words.specs.Numbers.{◌>>=◌}
 
-both : (a b : Bool) → (a && b) ≡ true → (a ≡ true) × (b ≡ true)
-both true true e = (refl, refl)
-both true false e = absurd (cc)
-both false b e = absurd (cc)
+abbrev with_numbers : Options → ℕ → ℕ → Options
+with_numbers options workers cache = record { workers = workers; resident = options.resident; cache = cache; swap_blocks = options.swap_blocks }
 
-no_dash : (dot dash rest : Bool) → (not (dot || dash) && rest) ≡ true → dash ≡ false
-no_dash dot false rest e = refl
-no_dash true true rest e = absurd (cc)
-no_dash false true rest e = absurd (cc)
+-- options that are built, by the two that words may give
+options_built : (options : Options) → has_built_options options ≡ true → options ≡ options_with options.resident options.swap_blocks
+options_built options e =
+    let workers : options.workers ≡ 4 = grind (arith, nat_tests, e) in
+    let cache : options.cache ≡ 16384 = grind (arith, nat_tests, e) in
+    ap (λ (n : ℕ). with_numbers options n options.cache) workers ∙ ap (λ (n : ℕ). with_numbers options 4 n) cache
 
--- a file name is one word
-name_unsplit : (script : List ℕ) → is_file_name script ≡ true → split_word script ≡ script ∷ []
-name_unsplit [] e = absurd (cc)
-name_unsplit (byte ∷ bytes) e =
-    ap (λ b. cond b (split_at (byte ∷ bytes) (position (λ b. b == 61) (byte ∷ bytes))) ((byte ∷ bytes) ∷ []))
-    (no_dash (byte == 46) (byte == 45) (nat_le (length bytes) 63)
-    (both (not (byte == 46 || byte == 45) && nat_le (length bytes) 63) (list_all is_name_byte (byte ∷ bytes)) e).0)
+run_built : (script : List ℕ) (options : Options) (test : Bool) (run : BuiltRun) → has_built_options options ≡ test →
+    (let o : Option BuiltRun = cond test (Some (record { script = script; resident = options.resident; swap_blocks = options.swap_blocks })) None in o ≡ Some run) →
+    RunScript script options ≡ RunScript run.script (options_with run.resident run.swap_blocks)
+run_built script options true run passed e =
+    let same = options_built options passed in
+    let is : (let r : BuiltRun = record { script = script; resident = options.resident; swap_blocks = options.swap_blocks } in r) ≡ run = cc in
+    ap (RunScript script) same ∙ ap (λ (r : BuiltRun). RunScript r.script (options_with r.resident r.swap_blocks)) is
+run_built script options false run passed e = absurd (cc)
 
-name_settings : (script : List ℕ) → is_file_name script ≡ true → settings_of (split_words (script ∷ [])) ≡ Some (Script script ∷ [])
-name_settings script e =
-    let words : split_words (script ∷ []) ≡ script ∷ [] = rw (name_unsplit script e) refl in
-    rw (words, e) refl
+asked : (request : Option Request) (run : BuiltRun) → (request >>= built_run) ≡ Some run →
+    request ≡ Some (RunScript run.script (options_with run.resident run.swap_blocks))
+asked None run e = absurd (cc)
+asked (Some (MakeJob number)) run e = absurd (cc)
+asked (Some (RunScript script options)) run e = ap Some (run_built script options (has_built_options options) run refl e)
 
-name_requests : (script : List ℕ) → is_file_name script ≡ true → run_request (script ∷ []) ≡ Some (RunScript script default_options)
-name_requests script e = rw (name_settings script e) refl
-
-passed : (test : Bool) (script found : List ℕ) → (let o : Option (List ℕ) = cond test (Some script) None in o ≡ Some found) → (test ≡ true) × (script ≡ found)
-passed true script found e = (refl, cc)
-passed false script found e = absurd (cc)
-
-pub requested : (words : List (List ℕ)) (script : List ℕ) → built_script words ≡ Some script → request_of words ≡ Some (RunScript script default_options)
-requested [] script e = absurd (cc)
-requested (command ∷ []) script e = absurd (cc)
-requested (command ∷ name ∷ word ∷ more) script e = absurd (cc)
-requested (command ∷ name ∷ []) script e =
-    let is = passed (bytes_eq command (codes "run") && is_file_name name) name script e in
-    let tests = both (bytes_eq command (codes "run")) (is_file_name name) is.0 in
-    rw (tests.0, name_requests name tests.1, is.1) refl
+pub requested : (words : List (List ℕ)) (run : BuiltRun) → built_request words ≡ Some run →
+    request_of words ≡ Some (RunScript run.script (options_with run.resident run.swap_blocks))
+requested words run e = asked (request_of words) run e

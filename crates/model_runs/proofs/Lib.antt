@@ -2,3 +2,4 @@ mod CacheSizes
 mod FrameNumbers
 mod Loading
 mod BuiltWords
+pub mod OptionRanges

@@ -1,9 +1,8 @@
 -- What is built today of runs. Later work shortens this until it is gone.
-use Rattle.std.specs.Prelude.{ℕ, ◌==◌, Bool, not, ◌&&◌, if◌then◌else◌, List, [], ◌∷◌, codes, Option, Some, None, Result, Ok, Err}
+use Rattle.std.specs.Prelude.{ℕ, ◌==◌, Bool, true, false, not, ◌&&◌, ◌||◌, max, is_none, is_some, if◌then◌else◌, List, [], ◌∷◌, Option, Some, None, Result, Ok, Err}
 use Rattle.std.specs.Str.{bytes_eq}
 use Rattle.plane_rect.specs.Rectangle.{same_rectangle}
 use Rattle.pixel_formats.specs.declared.format.Format.TheVariants.{Y8}
-use Rattle.outside_io.specs.FileName.{is_file_name}
 use Rattle.outside_io.specs.Files.{Files, file}
 use Rattle.run_texts.specs.Events.{Refusal}
 use Rattle.run_texts.specs.declared.cause.Cause.TheVariants.{Grammar}
@@ -13,26 +12,45 @@ use Rattle.script_read.specs.declared.command.Command.TheVariants as commands
 use Rattle.script_read.specs.declared.command.Line.{Line}
 use Rattle.script_read.specs.declared.command.OpWords.{OpWords}
 use Rattle.script_read.specs.declared.command.OpWords.TheVariants as words
+use Rattle.script_words.specs.Numbers.{◌>>=◌}
 use Rattle.model_runs.specs.Run.{Ending, Plan, lines_of_file, plan_of_lines}
 use Rattle.model_runs.specs.State.{Numbers}
-use Rattle.model_runs.specs.Words.{default_options}
+use Rattle.model_runs.specs.Words.{MakeJob, Options, Request, RunScript, default_options, request_of}
 use Rattle.model_runs.specs.declared.stage.Stage.{Stage}
 use Rattle.model_runs.specs.declared.stage.Stage.TheVariants as stages
 
 -- ---- words
 
--- Of the words `run SCRIPT` alone, without options; None where they aren't that.
-abbrev pub built_script : List (List ℕ) → Option (List ℕ)
-built_script [] = None
-built_script (command ∷ []) = None
-built_script (command ∷ script ∷ []) = if bytes_eq command (codes "run") && is_file_name script then Some script else None
-built_script (command ∷ script ∷ word ∷ more) = None
+-- A run that is built: its script, how many tiles of a chain may be resident, and how many blocks of the swap may be
+-- used.
+pub record BuiltRun : Type 0 where
+  pub script : List ℕ
+  pub resident : ℕ
+  pub swap_blocks : ℕ
 
--- ---- lines
+-- the default options, but for these two
+abbrev pub options_with : ℕ → ℕ → Options
+options_with resident blocks = record default_options { resident = resident; swap_blocks = blocks }
 
 -- a value, where a test passes
 abbrev pub if_passed : {A : Type 0} → Bool → A → Option A
 if_passed test value = if test then Some value else None
+
+-- Other numbers of workers and of cached tiles than the default ones aren't built.
+abbrev pub has_built_options : Options → Bool
+has_built_options options = options.workers == default_options.workers && options.cache == default_options.cache
+
+-- the run of a request, None where it isn't built: made jobs aren't
+abbrev pub built_run : Request → Option BuiltRun
+built_run (RunScript script options) =
+    if_passed (has_built_options options) (record { script = script; resident = options.resident; swap_blocks = options.swap_blocks })
+built_run (MakeJob number) = None
+
+-- The run that words ask for; None where they ask for none that is built.
+abbrev pub built_request : List (List ℕ) → Option BuiltRun
+built_request words = request_of words >>= built_run
+
+-- ---- lines
 
 -- the stage after a node that is to be the source of a buffer
 abbrev pub sourced : List ℕ → List ℕ → OpWords → List (List ℕ) → Option Stage
@@ -75,15 +93,37 @@ abbrev pub first_unbuilt : Stage → List Line → Option ℕ
 first_unbuilt stage [] = None
 first_unbuilt stage (line ∷ lines) = unless_built line.number (next_stage stage line.command) (λ next. first_unbuilt next lines)
 
--- lines, or the first of them that isn't built
-abbrev pub unless_unbuilt : List Line → Option ℕ → Result (List Line) Refusal
-unless_unbuilt lines None = Ok lines
-unless_unbuilt lines (Some line) = Err (record { line = line; cause = Grammar UnknownCommand })
+-- Besides, scripts all of whose commands are of buffers: they make, change or read buffers.
+abbrev pub is_of_buffers : Command → Bool
+is_of_buffers (commands.Buffer name format rect) = true
+is_of_buffers (commands.Sub name parent rect) = true
+is_of_buffers (commands.Dup name from) = true
+is_of_buffers (commands.Load name rect source) = true
+is_of_buffers (commands.Fill name rect samples) = true
+is_of_buffers (commands.Copy from to rect dx dy) = true
+is_of_buffers (commands.Grab name level policy rect target) = true
+is_of_buffers command = false
+
+-- the number of the first line whose command isn't of buffers
+abbrev pub first_other : List Line → Option ℕ
+first_other [] = None
+first_other (line ∷ lines) = if is_of_buffers line.command then first_other lines else Some line.number
+
+-- lines, or the first of them at which they are neither of the form above nor of buffers
+abbrev pub unless_unbuilt : List Line → Option ℕ → Option ℕ → Result (List Line) Refusal
+unless_unbuilt lines None other = Ok lines
+unless_unbuilt lines (Some unbuilt) None = Ok lines
+unless_unbuilt lines (Some unbuilt) (Some other) = Err (record { line = max unbuilt other; cause = Grammar UnknownCommand })
 
 -- A script of which a line isn't built is refused at the first such line before any line is carried out.
 abbrev pub built_lines : Result (List Line) Refusal → Result (List Line) Refusal
-built_lines (Ok lines) = unless_unbuilt lines (first_unbuilt stages.Empty lines)
+built_lines (Ok lines) = unless_unbuilt lines (first_unbuilt stages.Empty lines) (first_other lines)
 built_lines (Err refused) = Err refused
+
+-- No line is carried out of such a script, or none that uses the swap: it is refused first, or of the form above.
+abbrev pub needs_no_swap : Result (List Line) Refusal → Bool
+needs_no_swap (Ok lines) = is_none (first_unbuilt stages.Empty lines) || is_some (first_other lines)
+needs_no_swap (Err refused) = true
 
 -- ---- the end
 
@@ -94,9 +134,10 @@ built_ending state files = []
 -- ---- runs
 
 -- What a run is to do today of what was read of a script.
-abbrev pub plan_of_read : Numbers → Files → Result (List Line) Refusal → Plan
-plan_of_read numbers files read = plan_of_lines built_ending default_options numbers files (built_lines read)
+abbrev pub plan_of_read : Numbers → Files → Options → Result (List Line) Refusal → Plan
+plan_of_read numbers files options read = plan_of_lines built_ending options numbers files (built_lines read)
 
 -- What a run of a script is to do today.
-abbrev pub built_plan : Numbers → Files → List ℕ → Plan
-built_plan numbers files script = plan_of_read numbers files (lines_of_file (file files script))
+abbrev pub built_plan : Numbers → Files → BuiltRun → Plan
+built_plan numbers files run =
+    plan_of_read numbers files (options_with run.resident run.swap_blocks) (lines_of_file (file files run.script))

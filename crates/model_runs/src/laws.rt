@@ -1,11 +1,11 @@
 //! What holds of runs.
 
 ghost use Rattle.std.specs.Prelude.{◌≡◌, ◌<◌, ◌≤◌, ℕ, List, Some, length, slice_index_or};
-ghost use Rattle.model_runs.specs.Built.{built_script};
-ghost use Rattle.model_runs.specs.Words.{RunScript, default_options, request_of};
+ghost use Rattle.model_runs.specs.Built.{BuiltRun, built_request, options_with};
+ghost use Rattle.model_runs.specs.Words.{Options, RunScript, request_of};
 ghost use Rattle.outside_io.specs.Files.{Files};
 ghost use Rattle.script_read.specs.declared.command.Line.{Line};
-ghost use Rattle.model_runs.specs.Laws.{AllFit};
+ghost use Rattle.model_runs.specs.Laws.{AllFit, AreInRange};
 ghost use Rattle.model_runs.specs.Run.{effects_of, events_in};
 ghost use Rattle.model_runs.specs.State.{Numbers, Watched};
 ghost use Rattle.model_runs.specs.Watching.{AreViewersNumbers};
@@ -25,8 +25,15 @@ pub fn frames_show_commits_of_the_watch()
         AreViewersNumbers watched numbers → i < length numbers → slice_index_or numbers i 0 ≤ watched.ended }
 {}
 
-/// The words that are built ask for a run of their script with the default options.
+/// The words that are built ask for a run of their script with the default options, but for the resident tiles and the
+/// blocks of the swap.
 pub fn built_words_are_requests()
-    ensures { (words : List (List ℕ)) (script : List ℕ) → built_script words ≡ Some script →
-        request_of words ≡ Some (RunScript script default_options) }
+    ensures { (words : List (List ℕ)) (run : BuiltRun) → built_request words ≡ Some run →
+        request_of words ≡ Some (RunScript run.script (options_with run.resident run.swap_blocks)) }
+{}
+
+/// The options that words ask for are in their ranges.
+pub fn options_are_in_range()
+    ensures { (words : List (List ℕ)) (script : List ℕ) (options : Options) →
+        request_of words ≡ Some (RunScript script options) → AreInRange options }
 {}

@@ -6,4 +6,6 @@ mod Committed
 mod Fitting
 mod Unwatched
 mod Carrying
+mod Buffers
+mod Reading
 mod Promises

@@ -6,6 +6,7 @@ use Rattle.pixel_formats.specs.Limits.{max_script_bytes}
 use Rattle.outside_io.specs.Files.{Files}
 use Rattle.model_runs.specs.Built.{plan_of_read}
 use Rattle.model_runs.specs.Run.{lines_of_file}
+use Rattle.model_runs.specs.Words.{Options}
 use Rattle.run_texts.specs.Events.{refusal}
 use Rattle.run_texts.specs.declared.cause.Cause.TheVariants as causes
 use Rattle.script_read.specs.declared.command.Line.{Line}
@@ -20,11 +21,11 @@ too_long line r found lines long =
 pub absent : (line : ℕ) (r : Rectangle) (found : Option (List ℕ)) (lines : List Line) → found ≡ None → loads_found line r found lines ≡ refusal line causes.Absent
 absent line r found lines none = rw none refl
 
-pub script_too_long : (files : Files) (found : Option (List ℕ)) → (text : List ℕ) × (found ≡ Some text) × (max_script_bytes < length text) →
-    (plan_of_read [] files (lines_of_file found)).outcome ≡ refusal 0 causes.TooLong
-script_too_long files found long =
+pub script_too_long : (files : Files) (options : Options) (found : Option (List ℕ)) → (text : List ℕ) × (found ≡ Some text) × (max_script_bytes < length text) →
+    (plan_of_read [] files options (lines_of_file found)).outcome ≡ refusal 0 causes.TooLong
+script_too_long files options found long =
     let over : ltb max_script_bytes (length long.0) ≡ true = grind (arith, nat_tests) in
     rw long.1 (simp over)
 
-pub script_absent : (files : Files) (found : Option (List ℕ)) → found ≡ None → (plan_of_read [] files (lines_of_file found)).outcome ≡ refusal 0 causes.Absent
-script_absent files found none = rw none refl
+pub script_absent : (files : Files) (options : Options) (found : Option (List ℕ)) → found ≡ None → (plan_of_read [] files options (lines_of_file found)).outcome ≡ refusal 0 causes.Absent
+script_absent files options found none = rw none refl

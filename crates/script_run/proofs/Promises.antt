@@ -1,47 +1,50 @@
 -- What a run promises, by what it leaves and why it ends.
-use Rattle.std.proofs.Common.{◌≡◌, ℕ, ◌+◌, ◌⊎◌, List, [], ◌∷◌, ◌++◌, drop, length, take, append_assoc, Option, Some, None, Result, Ok, Err, IfSome, inl, inr, refl, sym, ap, ◌∙◌, subst}
-use Rattle.std.specs.Prelude.{⊤}
-use Rattle.std.specs.Option.{option_map}
-use Rattle.std.proofs.lemmas.List.{append-nil, take-append-drop}
-use Rattle.std.proofs.Math.Seq.{take-append_seam, take-append-add}
+use Rattle.std.proofs.Common.{◌≡◌, ℕ, ◌+◌, ◌*◌, ◌<◌, ◌≤◌, ◌⊎◌, Bool, IsTrue, ◌||◌, List, [], min, Option, Some, None, Result, Ok, Err, IfSome, IsSomeAnd, inl, inr, refl, sym, ap, ◌∙◌, subst, arith}
+use Rattle.chain_owners.specs.Counts.{Counts}
+use Rattle.chain_handlers.specs.OwnedTiles.{counts_over}
+use Rattle.outside_io.specs.Faults.{Rose}
 use Rattle.outside_io.specs.Files.{Files, file}
-use Rattle.model_runs.specs.Built.{built_plan, plan_of_read}
-use Rattle.model_runs.specs.Ending.{IsRefusal, IsWhole, Leaves, MayTear, end_status, status_of}
-use Rattle.model_runs.specs.Ran.{Faults, NoneRose, Ran, texts_in}
-use Rattle.model_runs.specs.Run.{Plan, lines_of_file, watched_in}
+use Rattle.model_runs.specs.Built.{BuiltRun, built_ending, built_lines, built_plan, needs_no_swap, options_with, plan_of_read}
+use Rattle.model_runs.specs.Ending.{IsRefusal, IsWhole, MayTear, SaysRefused, end_status, status_of}
+use Rattle.model_runs.specs.Ran.{Faults, NoneFalls, NoneRose, Ran, SufficesFor, bytes_put}
+use Rattle.model_runs.specs.Run.{Plan, applied_in, lines_of_file, plan_of_lines, watched_in}
 use Rattle.model_runs.specs.State.{Numbers, Watched}
+use Rattle.model_runs.specs.Swap.{effects_to_stop}
 use Rattle.model_runs.specs.Watching.{AreNumbers}
+use Rattle.model_runs.specs.Words.{Options}
 use Rattle.model_runs.specs.declared.ending.End.{End}
 use Rattle.model_runs.specs.declared.ending.End.TheVariants as ends
-use Rattle.run_texts.specs.Events.{Event, Outcome, Puts, Refusal, Writes}
-use Rattle.run_texts.specs.World.{World, LeavesSome, after, after_all}
-use Rattle.run_events.proofs.Texts.{text_after, text_prefix}
+use Rattle.run_events.specs.Carried.{CarriesOut, Exceeds, tiles_to_stop}
+use Rattle.run_events.specs.Moments.{HasFaults, Moment, world_at}
 use Rattle.run_texts.proofs.Leaving.{some_weaker}
-use Rattle.run_events.specs.Causes.{Counts, HasCause}
+use Rattle.run_texts.specs.Events.{Refusal}
+use Rattle.run_texts.specs.World.{World}
+use Rattle.script_read.specs.declared.command.Line.{Line}
 use Rattle.script_run.proofs.Statuses.{may_tear_at}
 use Rattle.script_run.proofs.Unwatched.{plan_unwatched}
+use Rattle.script_run.specs.Carried.{CarriesOutRead, EndsWithoutSwap}
 
 -- ---- statuses
 
-done_by : (outcome : Outcome) (ended : Result (Unit {0}) End) (old new : World) → Leaves outcome ended old new → status_of ended ≡ 0 → outcome.refused ≡ None
-done_by outcome (Ok done) old new leaves e = leaves.refused
-done_by outcome (Err ends.Refused) old new leaves e = absurd (cc)
-done_by outcome (Err ends.ReadFault) old new leaves e = absurd (cc)
-done_by outcome (Err ends.WriteFault) old new leaves e = absurd (cc)
-done_by outcome (Err ends.SwapFault) old new leaves e = absurd (cc)
-done_by outcome (Err ends.OutputFault) old new leaves e = absurd (cc)
-done_by outcome (Err ends.NoMemory) old new leaves e = absurd (cc)
-done_by outcome (Err ends.SwapFull) old new leaves e = absurd (cc)
+done_by : (refused : Option Refusal) (ended : Result (Unit {0}) End) → SaysRefused ended refused → status_of ended ≡ 0 → refused ≡ None
+done_by refused (Ok done) says e = says
+done_by refused (Err ends.Refused) says e = absurd (cc)
+done_by refused (Err ends.ReadFault) says e = absurd (cc)
+done_by refused (Err ends.WriteFault) says e = absurd (cc)
+done_by refused (Err ends.SwapFault) says e = absurd (cc)
+done_by refused (Err ends.OutputFault) says e = absurd (cc)
+done_by refused (Err ends.NoMemory) says e = absurd (cc)
+done_by refused (Err ends.SwapFull) says e = absurd (cc)
 
-refused_by : (outcome : Outcome) (ended : Result (Unit {0}) End) (old new : World) → Leaves outcome ended old new → status_of ended ≡ 2 → IsRefusal outcome.refused
-refused_by outcome (Err ends.Refused) old new leaves e = leaves.refused
-refused_by outcome (Ok done) old new leaves e = absurd (cc)
-refused_by outcome (Err ends.ReadFault) old new leaves e = absurd (cc)
-refused_by outcome (Err ends.WriteFault) old new leaves e = absurd (cc)
-refused_by outcome (Err ends.SwapFault) old new leaves e = absurd (cc)
-refused_by outcome (Err ends.OutputFault) old new leaves e = absurd (cc)
-refused_by outcome (Err ends.NoMemory) old new leaves e = absurd (cc)
-refused_by outcome (Err ends.SwapFull) old new leaves e = absurd (cc)
+refused_by : (refused : Option Refusal) (ended : Result (Unit {0}) End) → SaysRefused ended refused → status_of ended ≡ 2 → IsRefusal refused
+refused_by refused (Err ends.Refused) says e = says
+refused_by refused (Ok done) says e = absurd (cc)
+refused_by refused (Err ends.ReadFault) says e = absurd (cc)
+refused_by refused (Err ends.WriteFault) says e = absurd (cc)
+refused_by refused (Err ends.SwapFault) says e = absurd (cc)
+refused_by refused (Err ends.OutputFault) says e = absurd (cc)
+refused_by refused (Err ends.NoMemory) says e = absurd (cc)
+refused_by refused (Err ends.SwapFull) says e = absurd (cc)
 
 whole_by : (ended : Result (Unit {0}) End) → (status_of ended ≡ 0) ⊎ (status_of ended ≡ 2) → IsWhole ended
 whole_by (Ok done) e = tt
@@ -59,58 +62,155 @@ whole_by (Err ends.NoMemory) (inr e) = cc
 whole_by (Err ends.SwapFull) (inl e) = cc
 whole_by (Err ends.SwapFull) (inr e) = cc
 
-abbrev counts_of : Faults → Counts
-counts_of faults = record { reads = faults.reads; writes = faults.writes; puts = faults.puts }
-
-never_full : (ended : Result (Unit {0}) End) (old new : Counts) → HasCause ended old new → status_of ended ≡ 8 → ⊥
-never_full (Err ends.SwapFull) old new cause e = cause.room refl
-never_full (Ok done) old new cause e = cc
-never_full (Err ends.Refused) old new cause e = cc
-never_full (Err ends.ReadFault) old new cause e = cc
-never_full (Err ends.WriteFault) old new cause e = cc
-never_full (Err ends.SwapFault) old new cause e = cc
-never_full (Err ends.OutputFault) old new cause e = cc
-never_full (Err ends.NoMemory) old new cause e = cc
+full_by : (ended : Result (Unit {0}) End) → status_of ended ≡ 8 → ended ≡ Err ends.SwapFull
+full_by (Err ends.SwapFull) e = refl
+full_by (Ok done) e = cc
+full_by (Err ends.Refused) e = cc
+full_by (Err ends.ReadFault) e = cc
+full_by (Err ends.WriteFault) e = cc
+full_by (Err ends.SwapFault) e = cc
+full_by (Err ends.OutputFault) e = cc
+full_by (Err ends.NoMemory) e = cc
 
 status_at_refusal : (refused : Option Refusal) → IsRefusal refused → end_status refused ≡ 2
 status_at_refusal None is = absurd is
 status_at_refusal (Some refusal) is = refl
 
-complete_by : (outcome : Outcome) (ended : Result (Unit {0}) End) (old new : World) (before after : Faults) → Leaves outcome ended old new →
-    HasCause ended (counts_of before) (counts_of after) → NoneRose before after → (status_of ended ≡ 7) ⊎ (status_of ended ≡ end_status outcome.refused)
-complete_by outcome (Ok done) old new before after leaves cause none = inr (ap end_status (sym leaves.refused))
-complete_by outcome (Err ends.Refused) old new before after leaves cause none = inr (sym (status_at_refusal outcome.refused leaves.refused))
-complete_by outcome (Err ends.ReadFault) old new before after leaves cause none = absurd (none.reads (cause.read refl))
-complete_by outcome (Err ends.WriteFault) old new before after leaves cause none = absurd (none.writes (cause.write refl))
-complete_by outcome (Err ends.SwapFault) old new before after leaves cause none = absurd (cause.swap refl)
-complete_by outcome (Err ends.OutputFault) old new before after leaves cause none = absurd (none.puts (cause.put refl))
-complete_by outcome (Err ends.NoMemory) old new before after leaves cause none = inl refl
-complete_by outcome (Err ends.SwapFull) old new before after leaves cause none = absurd (cause.room refl)
+abbrev faults_at : Moment → Faults
+faults_at moment = record { reads = moment.reads; writes = moment.writes; swaps = moment.chain.faults; puts = moment.puts }
+
+-- a run that has no reason to end early comes to its end
+complete_by : (refused : Option Refusal) (ended : Result (Unit {0}) End) (old new : Moment) → SaysRefused ended refused → HasFaults ended old new →
+    (ended ≡ Err ends.SwapFault → ⊥) → (ended ≡ Err ends.SwapFull → ⊥) → ¬ Rose old.reads new.reads → ¬ Rose old.writes new.writes → ¬ Rose old.puts new.puts → (status_of ended ≡ 7) ⊎ (status_of ended ≡ end_status refused)
+complete_by refused (Ok done) old new says faults fault room reads writes puts = inr (ap end_status (sym says))
+complete_by refused (Err ends.Refused) old new says faults fault room reads writes puts = inr (sym (status_at_refusal refused says))
+complete_by refused (Err ends.ReadFault) old new says faults fault room reads writes puts = absurd (reads (faults.read refl))
+complete_by refused (Err ends.WriteFault) old new says faults fault room reads writes puts = absurd (writes (faults.write refl))
+complete_by refused (Err ends.SwapFault) old new says faults fault room reads writes puts = absurd (fault refl)
+complete_by refused (Err ends.OutputFault) old new says faults fault room reads writes puts = absurd (puts (faults.put refl))
+complete_by refused (Err ends.NoMemory) old new says faults fault room reads writes puts = inl refl
+complete_by refused (Err ends.SwapFull) old new says faults fault room reads writes puts = absurd (room refl)
+
+-- ---- a full swap
+
+-- more tiles than there is space for are not all of a run's tiles where the swap suffices
+exceeds_not : (blocks resident tiles applied cached : ℕ) (plan_blocks plan_resident : ℕ) → plan_blocks ≡ blocks → plan_resident ≡ resident →
+    (resident < 0 + tiles) × (blocks < 32 * (0 + tiles + 1)) →
+    (32 * (tiles + min cached applied + 1 + 1) ≤ plan_blocks) ⊎ (tiles + min cached applied + 1 ≤ plan_resident) → ⊥
+exceeds_not blocks resident tiles applied cached plan_blocks plan_resident b r past (inl room) = omega (arith, past.0, past.1, room)
+exceeds_not blocks resident tiles applied cached plan_blocks plan_resident b r past (inr few) = omega (arith, past.0, past.1, few)
+
+never_suffices : (plan : Plan) (faults resident blocks size : ℕ) (put : Option (List ℕ)) → plan.options ≡ options_with resident blocks →
+    Exceeds (counts_over faults (min blocks size) resident) (0 + tiles_to_stop put plan.effects) → ¬ SufficesFor plan size put
+never_suffices plan faults resident blocks size put is past =
+    let b : min plan.options.swap_blocks size ≡ min blocks size = ap (λ (o : Options). min o.swap_blocks size) is in
+    let r : plan.options.resident ≡ resident = ap (λ (o : Options). o.resident) is in
+    λ suffices. exceeds_not (min blocks size) resident (tiles_to_stop put plan.effects) (applied_in (effects_to_stop put plan.effects)) plan.options.cache
+    (min plan.options.swap_blocks size) plan.options.resident b r past suffices
+
+options_of : (numbers : Numbers) (files : Files) (options : Options) (built : Result (List Line) Refusal) → (plan_of_lines built_ending options numbers files built).options ≡ options
+options_of numbers files options (Ok lines) = refl
+options_of numbers files options (Err refused) = refl
 
 -- ---- a run
 
-ran_by : (plan : Plan) (ended : Result (Unit {0}) End) (size : ℕ) (old new : World) (before after : Faults) → watched_in plan.effects ≡ [] →
-    Leaves plan.outcome ended old new → HasCause ended (counts_of before) (counts_of after) → Ran ⊤ plan [] size old new before after (status_of ended)
-ran_by plan ended size old new before after unwatched leaves cause =
-    record {
-      meets = subst (λ (watched : List Watched). AreNumbers watched []) (sym unwatched) refl;
-      done = done_by plan.outcome ended old new leaves;
-      refused = refused_by plan.outcome ended old new leaves;
-      whole = λ exposes at_end. leaves.whole (whole_by ended at_end);
-      texts = λ at_end. ap (λ (w : World). w.text) (leaves.whole (whole_by ended at_end)) ∙ text_after plan.outcome.events old;
-      prefix = λ exposes. some_weaker (MayTear ended) _ (may_tear_at ended) plan.outcome.events old new leaves.some;
-      texts_prefix = text_prefix (MayTear ended) plan.outcome.events old new leaves.some;
-      full = λ at_full. absurd (never_full ended (counts_of before) (counts_of after) cause at_full);
-      complete = λ none suffices. complete_by plan.outcome ended old new before after leaves cause none;
-    }
+ran_by : (exposed : Bool) (plan : Plan) (ended : Result (Unit {0}) End) (resident blocks size : ℕ) (faults : ℕ) (old new : Moment) → watched_in plan.effects ≡ [] → plan.options ≡ options_with resident blocks →
+    old.chain ≡ counts_over faults (min blocks size) resident → CarriesOut exposed plan.outcome (tiles_to_stop (bytes_put old.text new.text) plan.effects) ended old new → HasFaults ended old new →
+    Ran (IsTrue exposed) plan [] size (world_at old) (world_at new) (faults_at old) (faults_at new) (status_of ended)
+ran_by exposed plan ended resident blocks size faults old new unwatched options chain carried has = record {
+  meets = subst (λ (watched : List Watched). AreNumbers watched []) (sym unwatched) refl;
+  done = done_by plan.outcome.refused ended carried.refused;
+  refused = refused_by plan.outcome.refused ended carried.refused;
+  whole = λ exposes at_end. carried.whole exposes (whole_by ended at_end);
+  texts = λ at_end. carried.texts (whole_by ended at_end);
+  prefix = λ exposes. some_weaker (MayTear ended) _ (may_tear_at ended) plan.outcome.events (world_at old) (world_at new) (carried.prefix exposes);
+  texts_prefix = carried.texts_prefix;
+  full = λ at_full. not_enough (full_by ended at_full);
+  complete = λ none suffices. complete_by plan.outcome.refused ended old new carried.refused has (λ is. none.swaps (has.swap is)) (λ is. not_enough is suffices) none.reads none.writes none.puts;
+}
+  where
+    not_enough : ended ≡ Err ends.SwapFull → ¬ SufficesFor plan size (bytes_put old.text new.text)
+    not_enough is =
+        never_suffices plan faults resident blocks size (bytes_put old.text new.text) options
+        (subst (λ (counts : Counts). Exceeds counts (counts.names + tiles_to_stop (bytes_put old.text new.text) plan.effects)) chain (carried.full is))
 
--- the promise of a run whose words name a script
-pub ran_named : (found : Option (List ℕ)) (script : List ℕ) (exposed : Option Files) (ended : Result (Unit {0}) End) (status size : ℕ) (text : Option (List ℕ)) (new : World) (before after : Faults) →
-    found ≡ Some script → status ≡ status_of ended →
-    IfSome exposed (λ files. Leaves (plan_of_read [] files (lines_of_file (file files script))).outcome ended (record { files = exposed; text = text }) new) →
-    HasCause ended (counts_of before) (counts_of after) →
-    IfSome found (λ script. IfSome exposed (λ files. (numbers : Numbers) × Ran ⊤ (built_plan numbers files script) numbers size (record { files = Some files; text = text }) new before after status))
-ran_named found script None ended status size text new before after named is leaves cause = rw named tt
-ran_named found script (Some files) ended status size text new before after named is leaves cause =
-    let plan = plan_of_read [] files (lines_of_file (file files script)) in
-    rw (named, is) ([], ran_by plan ended size (record { files = Some files; text = text }) new before after (plan_unwatched files (lines_of_file (file files script))) leaves cause)
+-- the promise of a run that words ask for
+pub ran_named : (found : Option BuiltRun) (run : BuiltRun) (swapped : Bool) (exposed : Option Files) (ended : Result (Unit {0}) End) (status size faults : ℕ) (old new : Moment) →
+    found ≡ Some run → status ≡ status_of ended → old.files ≡ exposed → old.chain ≡ counts_over faults (min run.swap_blocks size) run.resident →
+    IfSome exposed (λ files. CarriesOutRead swapped files (options_with run.resident run.swap_blocks) (lines_of_file (file files run.script)) ended old new) → HasFaults ended old new →
+    IfSome found (λ run. IfSome exposed (λ files. (numbers : Numbers) × Ran (IsTrue (swapped || needs_no_swap (lines_of_file (file files run.script)))) (built_plan numbers files run) numbers size
+    (record { files = Some files; text = old.text }) (world_at new) (faults_at old) (faults_at new) status))
+ran_named found run swapped None ended status size faults old new named is files chain carried has = rw named tt
+ran_named found run swapped (Some given) ended status size faults old new named is files chain carried has =
+    let read = lines_of_file (file given run.script) in
+    let options = options_with run.resident run.swap_blocks in
+    let begin : (let w : World = record { files = Some given; text = old.text } in w) ≡ world_at old = ap (λ (f : Option Files). (let w : World = record { files = f; text = old.text } in w)) (sym files) in
+    rw (named, is, begin) (
+      [],
+      ran_by (swapped || needs_no_swap read) (plan_of_read [] given options read) ended run.resident run.swap_blocks size faults old new
+          (plan_unwatched given options read) (options_of [] given options (built_lines read)) chain carried has,
+    )
+
+-- a run that needs no swap comes to its end whatever the swap is
+pub complete_named : (found : Option BuiltRun) (run : BuiltRun) (swapped : Bool) (exposed : Option Files) (ended : Result (Unit {0}) End) (status : ℕ) (Same : Type 0) (old new : Moment) →
+    found ≡ Some run → status ≡ status_of ended →
+    IfSome exposed (λ files. CarriesOutRead swapped files (options_with run.resident run.swap_blocks) (lines_of_file (file files run.script)) ended old new) → HasFaults ended old new →
+    IfSome exposed (λ files. IsTrue (needs_no_swap (lines_of_file (file files run.script))) → Same × EndsWithoutSwap ended) →
+    ¬ Rose old.reads new.reads → ¬ Rose old.writes new.writes → ¬ Rose old.puts new.puts →
+    IfSome found (λ run. IfSome exposed (λ files. IsTrue (needs_no_swap (lines_of_file (file files run.script))) → (status ≡ 7) ⊎ (status ≡ end_status (built_plan [] files run).outcome.refused)))
+complete_named found run swapped None ended status Same old new named is carried has unswapped reads writes puts = rw named tt
+complete_named found run swapped (Some files) ended status Same old new named is carried has unswapped reads writes puts =
+    rw (named, is)
+    (λ none. complete_by (built_plan [] files run).outcome.refused ended old new carried.refused has (unswapped none).1.fault (unswapped none).1.room reads writes puts)
+
+pub unswapped_named : (found : Option BuiltRun) (run : BuiltRun) (exposed : Option Files) (ended : Result (Unit {0}) End) (Same : Type 0) → found ≡ Some run →
+    IfSome exposed (λ files. IsTrue (needs_no_swap (lines_of_file (file files run.script))) → Same × EndsWithoutSwap ended) →
+    IfSome found (λ run. IfSome exposed (λ files. IsTrue (needs_no_swap (lines_of_file (file files run.script))) → Same))
+unswapped_named found run None ended Same named unswapped = rw named tt
+unswapped_named found run (Some files) ended Same named unswapped = rw named (λ none. (unswapped none).0)
+
+-- no count of a run falls
+pub none_falls_by : (ended : Result (Unit {0}) End) (old new : Moment) → HasFaults ended old new → NoneFalls (faults_at old) (faults_at new)
+none_falls_by ended old new has = record { reads = has.reads; writes = has.writes; swaps = has.chain.later; puts = has.puts }
+
+-- ---- causes of statuses
+
+pub read_at : (ended : Result (Unit {0}) End) → status_of ended ≡ 3 → ended ≡ Err ends.ReadFault
+read_at (Err ends.ReadFault) e = refl
+read_at (Ok done) e = cc
+read_at (Err ends.Refused) e = cc
+read_at (Err ends.WriteFault) e = cc
+read_at (Err ends.SwapFault) e = cc
+read_at (Err ends.OutputFault) e = cc
+read_at (Err ends.NoMemory) e = cc
+read_at (Err ends.SwapFull) e = cc
+
+pub write_at : (ended : Result (Unit {0}) End) → status_of ended ≡ 4 → ended ≡ Err ends.WriteFault
+write_at (Err ends.WriteFault) e = refl
+write_at (Ok done) e = cc
+write_at (Err ends.Refused) e = cc
+write_at (Err ends.ReadFault) e = cc
+write_at (Err ends.SwapFault) e = cc
+write_at (Err ends.OutputFault) e = cc
+write_at (Err ends.NoMemory) e = cc
+write_at (Err ends.SwapFull) e = cc
+
+pub swap_at : (ended : Result (Unit {0}) End) → status_of ended ≡ 5 → ended ≡ Err ends.SwapFault
+swap_at (Err ends.SwapFault) e = refl
+swap_at (Ok done) e = cc
+swap_at (Err ends.Refused) e = cc
+swap_at (Err ends.ReadFault) e = cc
+swap_at (Err ends.WriteFault) e = cc
+swap_at (Err ends.OutputFault) e = cc
+swap_at (Err ends.NoMemory) e = cc
+swap_at (Err ends.SwapFull) e = cc
+
+pub put_at : (ended : Result (Unit {0}) End) → status_of ended ≡ 6 → ended ≡ Err ends.OutputFault
+put_at (Err ends.OutputFault) e = refl
+put_at (Ok done) e = cc
+put_at (Err ends.Refused) e = cc
+put_at (Err ends.ReadFault) e = cc
+put_at (Err ends.WriteFault) e = cc
+put_at (Err ends.SwapFault) e = cc
+put_at (Err ends.NoMemory) e = cc
+put_at (Err ends.SwapFull) e = cc

@@ -1,5 +1,6 @@
 -- No line that is built ends a watch.
-use Rattle.std.proofs.Common.{◌≡◌, ℕ, Bool, true, false, cond, List, [], ◌∷◌, Option, Some, None, Result, Ok, Err, is_none, refl, ap, ◌∙◌}
+use Rattle.std.proofs.Common.{◌≡◌, ◌≢◌, ℕ, Bool, true, false, cond, List, [], ◌∷◌, Option, Some, None, Result, Ok, Err, is_none, refl, sym, ap, ◌∙◌}
+use Rattle.std.specs.Prelude.{⊤}
 use Rattle.std.specs.List.{cons_option}
 use Rattle.outside_io.specs.Files.{Files, file}
 use Rattle.plane_rect.specs.Rectangle.{Rectangle}
@@ -16,10 +17,10 @@ use Rattle.model_states.specs.Need.{wide}
 use Rattle.model_states.specs.declared.refused.StateRefused.{StateRefused}
 use Rattle.model_sessions.specs.Sessions.{render_need}
 use Rattle.model_sessions.specs.Tables.{table_shapes}
-use Rattle.model_runs.specs.Built.{built_ending, first_unbuilt, next_stage, plan_of_read, unless_built, unless_unbuilt}
+use Rattle.model_runs.specs.Built.{built_ending, first_other, first_unbuilt, is_of_buffers, next_stage, plan_of_read, unless_built, unless_unbuilt}
 use Rattle.model_runs.specs.Effects.{edit_gives, effect, grabs_view, load_into, opens, renders, renders_known, step_gives}
 use Rattle.model_runs.specs.Run.{and_on, effects, files_after_all, plan_of_lines, watched_in}
-use Rattle.model_runs.specs.Words.{default_options}
+use Rattle.model_runs.specs.Words.{Options}
 use Rattle.model_runs.specs.State.{Effect, RunState, first_state, leaves, refuses, scene_in, workspace_of}
 use Rattle.model_runs.specs.declared.stage.Stage.{Stage}
 use Rattle.model_runs.specs.declared.stage.Stage.TheVariants as stages
@@ -66,35 +67,35 @@ not_ended (stages.Sourced name) next built = cc
 not_ended (stages.Inverted name) next built = cc
 not_ended (stages.Committed name) next built = cc
 
--- a command that is built
-quiet : (capacity : ℕ) (state : RunState) (files : Files) (line : ℕ) (stage : Stage) (command : Command) (next : Stage) → next_stage stage command ≡ Some next →
+-- a command that ends no watch
+quiet : (capacity : ℕ) (state : RunState) (files : Files) (line : ℕ) (command : Command) → command ≢ commands.EndWatch →
     IsQuiet (effect capacity state files line command)
-quiet capacity state files line stage (commands.Buffer name format r) next built =
+quiet capacity state files line (commands.Buffer name format r) other =
     edit_quiet line state (Create name format r) (edited_table (workspace_of state).working (Create name format r))
-quiet capacity state files line stage (commands.Load name r source) next built =
+quiet capacity state files line (commands.Load name r source) other =
     load_quiet line state name r (file files source) (find (workspace_of state).working.buffers name)
-quiet capacity state files line stage (commands.Node name op inputs) next built = refl
-quiet capacity state files line stage commands.Commit next built = step_quiet line state (committed int_meanings table_shapes state.session.history)
-quiet capacity state files line stage (commands.Render name z r target) next built =
+quiet capacity state files line (commands.Node name op inputs) other = refl
+quiet capacity state files line commands.Commit other = step_quiet line state (committed int_meanings table_shapes state.session.history)
+quiet capacity state files line (commands.Render name z r target) other =
     either (has_node (scene_in state).nodes name) (renders_known capacity line state name z r target) (refuses line state UnknownNode)
     (either (is_none (wide capacity (render_need int_meanings (scene_in state) name z r))) (renders capacity line state name z r target) (refuses line state Strip) refl refl)
     refl
-quiet capacity state files line stage (commands.Sub name parent r) next built =
+quiet capacity state files line (commands.Sub name parent r) other =
     edit_quiet line state (Sub name parent r) (edited_table (workspace_of state).working (Sub name parent r))
-quiet capacity state files line stage (commands.Dup name from) next built =
+quiet capacity state files line (commands.Dup name from) other =
     edit_quiet line state (Duplicate name from) (edited_table (workspace_of state).working (Duplicate name from))
-quiet capacity state files line stage (commands.Fill name r samples) next built =
+quiet capacity state files line (commands.Fill name r samples) other =
     edit_quiet line state (Fill name r samples) (edited_table (workspace_of state).working (Fill name r samples))
-quiet capacity state files line stage (commands.Copy from to r dx dy) next built =
+quiet capacity state files line (commands.Copy from to r dx dy) other =
     edit_quiet line state (Copy from to r dx dy) (edited_table (workspace_of state).working (Copy from to r dx dy))
-quiet capacity state files line stage (commands.Drop name) next built = refl
-quiet capacity state files line stage commands.Undo next built = step_quiet line state (undone state.session.history)
-quiet capacity state files line stage commands.Redo next built = step_quiet line state (redone state.session.history)
-quiet capacity state files line stage (commands.Grab name z policy r target) next built =
+quiet capacity state files line (commands.Drop name) other = refl
+quiet capacity state files line commands.Undo other = step_quiet line state (undone state.session.history)
+quiet capacity state files line commands.Redo other = step_quiet line state (redone state.session.history)
+quiet capacity state files line (commands.Grab name z policy r target) other =
     grab_quiet line state name z policy r target (find (workspace_of state).working.buffers name)
-quiet capacity state files line stage (commands.Watch name r viewers frames prefix) next built =
+quiet capacity state files line (commands.Watch name r viewers frames prefix) other =
     either (has_node (scene_in state).nodes name) (leaves line (opens line state name r viewers frames prefix)) (refuses line state UnknownNode) refl refl
-quiet capacity state files line stage commands.EndWatch next built = absurd (not_ended stage next built)
+quiet capacity state files line commands.EndWatch other = absurd (other refl)
 
 -- an effect before others
 before : (files : Files) (rest : RunState → Files → List Effect) (effect : Effect) → IsQuiet effect → watched_in (rest effect.next (files_after_all effect.events files)) ≡ [] →
@@ -108,33 +109,45 @@ before files rest effect quiet none = by (is_none effect.refused)
     by true = ap (λ w. cons_option w (watched_in tail)) quiet ∙ none
     by false = ap (λ w. cons_option w []) quiet
 
-pub unwatched : (capacity : ℕ) (state : RunState) (files : Files) (stage : Stage) (lines : List Line) → first_unbuilt stage lines ≡ None →
-    watched_in (effects capacity state files lines) ≡ []
-unwatched capacity state files stage [] built = refl
-unwatched capacity state files stage (line ∷ lines) built =
-    of (next_stage stage line.command) refl built (λ state files stage built. unwatched capacity state files stage lines built)
+-- no line ends a watch
+abbrev NoneEnds : List Line → Type 0
+NoneEnds [] = ⊤
+NoneEnds (line ∷ lines) = (line.command ≢ commands.EndWatch) × NoneEnds lines
+
+unwatched : (capacity : ℕ) (state : RunState) (files : Files) (lines : List Line) → NoneEnds lines → watched_in (effects capacity state files lines) ≡ []
+unwatched capacity state files [] none = refl
+unwatched capacity state files (line ∷ lines) none =
+    let done = effect capacity state files line.number line.command in
+    before files (λ next later. effects capacity next later lines) done (quiet capacity state files line.number line.command none.0)
+    (unwatched capacity done.next (files_after_all done.events files) lines none.1)
+
+-- ---- lines that are built
+
+form_ends : (stage : Stage) (lines : List Line) → first_unbuilt stage lines ≡ None → NoneEnds lines
+form_ends stage [] built = tt
+form_ends stage (line ∷ lines) built = of (next_stage stage line.command) refl built (λ next rest. form_ends next lines rest)
   where
-    done : Effect
-    done = effect capacity state files line.number line.command
-
-    rest : RunState → Files → List Effect
-    rest next later = effects capacity next later lines
-
     of : (o : Option Stage) → next_stage stage line.command ≡ o → unless_built line.number o (λ next. first_unbuilt next lines) ≡ None →
-        ((state : RunState) (files : Files) (stage : Stage) → first_unbuilt stage lines ≡ None → watched_in (effects capacity state files lines) ≡ []) →
-        watched_in (and_on files rest done) ≡ []
+        ((next : Stage) → first_unbuilt next lines ≡ None → NoneEnds lines) → NoneEnds (line ∷ lines)
     of None e built follow = absurd (cc)
-    of (Some next) e built follow =
-        before files rest done (quiet capacity state files line.number stage line.command next e)
-        (follow done.next (files_after_all done.events files) next built)
+    of (Some next) e built follow = ((λ end. not_ended stage next (ap (next_stage stage) (sym end) ∙ e)), follow next built)
+
+buffers_end : (lines : List Line) → first_other lines ≡ None → NoneEnds lines
+buffers_end [] none = tt
+buffers_end (line ∷ lines) none = by (is_of_buffers line.command) refl none (buffers_end lines)
+  where
+    by : (b : Bool) → is_of_buffers line.command ≡ b → cond b (first_other lines) (Some line.number) ≡ None → (first_other lines ≡ None → NoneEnds lines) → NoneEnds (line ∷ lines)
+    by true is none follow = ((λ end. let no : is_of_buffers line.command ≡ false = ap is_of_buffers end in cc), follow none)
+    by false is none follow = absurd (cc)
 
 -- ---- plans
 
-plan_of_built : (files : Files) (lines : List Line) (o : Option ℕ) → first_unbuilt stages.Empty lines ≡ o →
-    watched_in (plan_of_lines built_ending default_options [] files (unless_unbuilt lines o)).effects ≡ []
-plan_of_built files lines None built = unwatched default_options.cache (first_state []) files stages.Empty lines built
-plan_of_built files lines (Some line) built = refl
+plan_of_built : (files : Files) (options : Options) (lines : List Line) (unbuilt other : Option ℕ) → first_unbuilt stages.Empty lines ≡ unbuilt → first_other lines ≡ other →
+    watched_in (plan_of_lines built_ending options [] files (unless_unbuilt lines unbuilt other)).effects ≡ []
+plan_of_built files options lines None other form buffers = unwatched options.cache (first_state []) files lines (form_ends stages.Empty lines form)
+plan_of_built files options lines (Some line) None form buffers = unwatched options.cache (first_state []) files lines (buffers_end lines buffers)
+plan_of_built files options lines (Some line) (Some other) form buffers = refl
 
-pub plan_unwatched : (files : Files) (read : Result (List Line) Refusal) → watched_in (plan_of_read [] files read).effects ≡ []
-plan_unwatched files (Ok lines) = plan_of_built files lines (first_unbuilt stages.Empty lines) refl
-plan_unwatched files (Err refused) = refl
+pub plan_unwatched : (files : Files) (options : Options) (read : Result (List Line) Refusal) → watched_in (plan_of_read [] files options read).effects ≡ []
+plan_unwatched files options (Ok lines) = plan_of_built files options lines (first_unbuilt stages.Empty lines) (first_other lines) refl refl
+plan_unwatched files options (Err refused) = refl

@@ -1,4 +1,6 @@
 pub mod Loading
+pub mod Carried
+pub mod Meant
 pub use Rattle.outside_io.specs.Files
 pub use Rattle.outside_io.specs.Faults
 pub use Rattle.run_texts.specs.World

@@ -1,15 +1,16 @@
-//! What is built of the commands of scripts.
+//! What is built of scripts: those of one form, which load, invert and render, and those of buffers.
 
 ghost use Rattle.std.specs.Prelude.{◌≡◌};
-ghost use Rattle.model_runs.specs.Built.{first_unbuilt, inverted, next_stage, sourced};
+ghost use Rattle.model_runs.specs.Built.{first_other, first_unbuilt, inverted, next_stage, sourced};
 ghost use Rattle.model_runs.specs.declared.stage.Stage.TheVariants as stages;
 
 use model_runs::Stage;
 use pixel_formats::Format;
 use plane_rect::Name;
+use run_lines::is_of_buffers;
 use script_read::{Command, Line, Names, OpWords};
 
-/// Returns the number of the first line that isn't built, and None where all are.
+/// Returns the number of the first line that isn't of the form, and None where all are.
 pub fn first_unbuilt(lines: &[Line]) -> Option<u32>
     ensures { result ≡ first_unbuilt stages.Empty lines.now }
 {
@@ -19,6 +20,18 @@ pub fn first_unbuilt(lines: &[Line]) -> Option<u32>
             return Some(line.number);
         };
         stage = next;
+    }
+    None
+}
+
+/// Returns the number of the first line whose command isn't of buffers, and None where all are.
+pub fn first_other(lines: &[Line]) -> Option<u32>
+    ensures { result ≡ first_other lines.now }
+{
+    for other in lines {
+        if !is_of_buffers(&other.command) {
+            return Some(other.number);
+        }
     }
     None
 }

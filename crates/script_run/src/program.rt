@@ -1,25 +1,29 @@
 //! The call that the program makes.
 
-ghost use Rattle.std.specs.Prelude.{◌≡◌, ◌≢◌, ◌↔◌, ◌≤◌, ◌⊎◌, ⊤, [], map, string_bytes, Some, None, Ok, IfSome, IsTrue};
+ghost use Rattle.std.specs.Prelude.{◌≡◌, ◌↔◌, ◌≤◌, ◌⊎◌, ◌||◌, [], is_some, map, min, string_bytes, None, Ok, Some, IfSome, IsTrue};
+ghost use Rattle.chain_handlers.specs.OwnedTiles.{counts_over};
 ghost use Rattle.outside_io.specs.FileName.{is_file_name};
 ghost use Rattle.outside_io.specs.Files.{file};
 ghost use Rattle.outside_io.specs.Faults.{Rose};
 ghost use Rattle.script_read.specs.IsScript.{IsScript};
 ghost use Rattle.script_read.specs.Script.{script_of};
-ghost use Rattle.model_runs.specs.Built.{built_plan, built_script, plan_of_read};
-ghost use Rattle.model_runs.specs.Ending.{Leaves, end_status};
+ghost use Rattle.model_runs.specs.Built.{built_plan, built_request as built_by, needs_no_swap, options_with};
+ghost use Rattle.model_runs.specs.Ending.{end_status};
 ghost use Rattle.model_runs.specs.Ran.{NoneFalls, Ran};
 ghost use Rattle.model_runs.specs.Run.{by_grammar, lines_of_file};
 ghost use Rattle.model_runs.specs.State.{Numbers};
-ghost use Rattle.run_events.specs.Causes.{HasCause};
+ghost use Rattle.run_events.specs.Moments.{HasFaults};
+ghost use Rattle.script_run.specs.Carried.{CarriesOutRead, EndsWithoutSwap};
+ghost use Rattle.script_run.specs.Meant.{AreChainLimits};
 
-use crate::built::first_unbuilt;
+use crate::built::{first_other, first_unbuilt};
 use crate::carry_out::carry_out;
-use crate::words::script_of;
+use crate::words::built_request;
 use model_runs::{End, status_of};
 use outside_io::{Gate, Shelf, ShelfAnswer, Sink, SwapDisk};
 use pixel_formats::limits::MAX_SCRIPT_BYTES;
 use run_events::refuse;
+use run_lines::ChainLimits;
 use run_texts::Cause;
 use script_read::{Line, ScriptAnswer, ScriptCause, read_script};
 use std::alloc::Global;
@@ -36,62 +40,74 @@ pub fn run<F: Shelf, D: SwapDisk, O: Sink, G: Gate + Sync>(
     out: &mut O,
     gate: &G,
 ) -> u8
-    // 1 comes exactly where the words are not in the grammar of what is built, and then nothing is touched.
-    ensures words { (result ≡ 1) ↔ (built_script (map string_bytes words.now) ≡ None) }
+    // 1 comes exactly where the words ask for no run that is built, and then nothing is touched.
+    ensures words { (result ≡ 1) ↔ (built_by (map string_bytes words.now) ≡ None) }
     ensures shelf_unchanged { result ≡ 1 → shelf.new ≡ shelf.old }
+    ensures swap_unchanged { result ≡ 1 → swap.new ≡ swap.old }
     ensures sink_unchanged { result ≡ 1 → out.new ≡ out.old }
 
-    // What a run of the script leaves, by its status. The swap isn't used, and so all is known whether or not it
-    // exposes its blocks.
-    ensures ran { IfSome (built_script (map string_bytes words.now)) (λ script. IfSome (F.files shelf.old)
-        (λ files. (numbers : Numbers) × Ran ⊤ (built_plan numbers files script) numbers (D.block_count swap.old)
+    // What a run of the script leaves, by its status. Its files are known where the swap exposes its blocks, or isn't
+    // used.
+    ensures ran { IfSome (built_by (map string_bytes words.now)) (λ run. IfSome (F.files shelf.old)
+        (λ files. (numbers : Numbers) × Ran (IsTrue (is_some (D.blocks swap.old) || needs_no_swap (lines_of_file (file files run.script))))
+        (built_plan numbers files run) numbers (D.block_count swap.old)
         (record { files = Some files; text = O.written out.old }) (record { files = F.files shelf.new; text = O.written out.new })
         (record { reads = F.read_faults shelf.old; writes = F.write_faults shelf.old; swaps = D.faults swap.old; puts = O.faults out.old })
         (record { reads = F.read_faults shelf.new; writes = F.write_faults shelf.new; swaps = D.faults swap.new; puts = O.faults out.new })
         result)) }
 
-    // Where no count of the shelf and the sink rose, the run comes to its end or to the refused line, unless memory runs
-    // out, whatever the swap is.
+    // A script that needs no swap leaves it unchanged, and comes to its end or to the refused line whatever the swap is,
+    // where no count of the shelf and the sink rose, unless memory runs out.
+    ensures unswapped { IfSome (built_by (map string_bytes words.now)) (λ run. IfSome (F.files shelf.old)
+        (λ files. IsTrue (needs_no_swap (lines_of_file (file files run.script))) → swap.new ≡ swap.old)) }
     ensures complete { ¬ Rose (F.read_faults shelf.old) (F.read_faults shelf.new)
         → ¬ Rose (F.write_faults shelf.old) (F.write_faults shelf.new)
         → ¬ Rose (O.faults out.old) (O.faults out.new)
-        → IfSome (built_script (map string_bytes words.now)) (λ script. IfSome (F.files shelf.old)
-        (λ files. (result ≡ 7) ⊎ (result ≡ end_status (built_plan [] files script).outcome.refused))) }
+        → IfSome (built_by (map string_bytes words.now)) (λ run. IfSome (F.files shelf.old)
+        (λ files. IsTrue (needs_no_swap (lines_of_file (file files run.script))) →
+        (result ≡ 7) ⊎ (result ≡ end_status (built_plan [] files run).outcome.refused))) }
 
-    // An I/O error comes only where its count rose. Swap I/O errors and a full swap don't come.
+    // An I/O error comes only where its count rose.
     ensures read_fault { result ≡ 3 → Rose (F.read_faults shelf.old) (F.read_faults shelf.new) }
     ensures write_fault { result ≡ 4 → Rose (F.write_faults shelf.old) (F.write_faults shelf.new) }
+    ensures swap_fault { result ≡ 5 → Rose (D.faults swap.old) (D.faults swap.new) }
     ensures output_fault { result ≡ 6 → Rose (O.faults out.old) (O.faults out.new) }
-    ensures known { (result ≤ 7) × (result ≢ 5) }
+    ensures known { result ≤ 8 }
 
-    // No count falls, and the swap is unchanged.
+    // No count falls.
     ensures counts { NoneFalls
         (record { reads = F.read_faults shelf.old; writes = F.write_faults shelf.old; swaps = D.faults swap.old; puts = O.faults out.old })
         (record { reads = F.read_faults shelf.new; writes = F.write_faults shelf.new; swaps = D.faults swap.new; puts = O.faults out.new }) }
-    ensures swap { swap.new ≡ swap.old }
 {
-    match script_of(words) {
-        Some(script) => status_of(run_script(alloc, script, shelf, out)),
+    match built_request(words) {
+        Some(run) => status_of(run_script(alloc, run.script, run.limits, shelf, swap, out)),
         None => WRONG_WORDS,
     }
 }
 
 /// Reads a script and carries it out.
-fn run_script<F: Shelf, O: Sink>(
+fn run_script<F: Shelf, D: SwapDisk, O: Sink>(
     alloc: Global,
     script: &str,
+    limits: ChainLimits,
     shelf: &mut F,
+    swap: &mut D,
     out: &mut O,
 ) -> Result<(), End>
-    requires { IsTrue (is_file_name script.now) }
-    ensures leaves { IfSome (F.files shelf.old) (λ files. Leaves (plan_of_read [] files (lines_of_file (file files script.now))).outcome result
-        (record { files = F.files shelf.old; text = O.written out.old }) (record { files = F.files shelf.new; text = O.written out.new })) }
-    ensures cause { HasCause result
-        (record { reads = F.read_faults shelf.old; writes = F.write_faults shelf.old; puts = O.faults out.old })
-        (record { reads = F.read_faults shelf.new; writes = F.write_faults shelf.new; puts = O.faults out.new }) }
+    requires name { IsTrue (is_file_name script.now) }
+    requires limits { AreChainLimits limits }
+    ensures carried { IfSome (F.files shelf.old) (λ files.
+        CarriesOutRead (is_some (D.blocks swap.old)) files (options_with limits.resident limits.blocks) (lines_of_file (file files script.now)) result
+        (record { files = F.files shelf.old; text = O.written out.old; reads = F.read_faults shelf.old; writes = F.write_faults shelf.old; puts = O.faults out.old; chain = counts_over (D.faults swap.old) (min limits.blocks (D.block_count swap.old)) limits.resident })
+        (record { files = F.files shelf.new; text = O.written out.new; reads = F.read_faults shelf.new; writes = F.write_faults shelf.new; puts = O.faults out.new; chain = counts_over (D.faults swap.new) (min limits.blocks (D.block_count swap.old)) limits.resident })) }
+    ensures unswapped { IfSome (F.files shelf.old) (λ files. IsTrue (needs_no_swap (lines_of_file (file files script.now))) →
+        (swap.new ≡ swap.old) × EndsWithoutSwap result) }
+    ensures faults { HasFaults result
+        (record { files = F.files shelf.old; text = O.written out.old; reads = F.read_faults shelf.old; writes = F.write_faults shelf.old; puts = O.faults out.old; chain = counts_over (D.faults swap.old) (min limits.blocks (D.block_count swap.old)) limits.resident })
+        (record { files = F.files shelf.new; text = O.written out.new; reads = F.read_faults shelf.new; writes = F.write_faults shelf.new; puts = O.faults out.new; chain = counts_over (D.faults swap.new) (min limits.blocks (D.block_count swap.old)) limits.resident }) }
 {
     match shelf.read(script, MAX_SCRIPT_BYTES) {
-        Ok(text) => run_text(alloc, &text, shelf, out),
+        Ok(text) => run_text(alloc, &text, limits, shelf, swap, out),
         Err(ShelfAnswer::TooLong { .. }) => refuse(alloc, 0, Cause::TooLong, out),
         Err(ShelfAnswer::Absent) => refuse(alloc, 0, Cause::Absent, out),
         Err(ShelfAnswer::Failed) => Err(End::ReadFault),
@@ -100,20 +116,26 @@ fn run_script<F: Shelf, O: Sink>(
 }
 
 /// Carries out the text of a script.
-fn run_text<F: Shelf, O: Sink>(
+fn run_text<F: Shelf, D: SwapDisk, O: Sink>(
     alloc: Global,
     text: &[u8],
+    limits: ChainLimits,
     shelf: &mut F,
+    swap: &mut D,
     out: &mut O,
 ) -> Result<(), End>
-    ensures leaves { IfSome (F.files shelf.old) (λ files. Leaves (plan_of_read [] files (by_grammar (script_of text.now))).outcome result
-        (record { files = F.files shelf.old; text = O.written out.old }) (record { files = F.files shelf.new; text = O.written out.new })) }
-    ensures cause { HasCause result
-        (record { reads = F.read_faults shelf.old; writes = F.write_faults shelf.old; puts = O.faults out.old })
-        (record { reads = F.read_faults shelf.new; writes = F.write_faults shelf.new; puts = O.faults out.new }) }
+    requires { AreChainLimits limits }
+    ensures carried { IfSome (F.files shelf.old) (λ files.
+        CarriesOutRead (is_some (D.blocks swap.old)) files (options_with limits.resident limits.blocks) (by_grammar (script_of text.now)) result
+        (record { files = F.files shelf.old; text = O.written out.old; reads = F.read_faults shelf.old; writes = F.write_faults shelf.old; puts = O.faults out.old; chain = counts_over (D.faults swap.old) (min limits.blocks (D.block_count swap.old)) limits.resident })
+        (record { files = F.files shelf.new; text = O.written out.new; reads = F.read_faults shelf.new; writes = F.write_faults shelf.new; puts = O.faults out.new; chain = counts_over (D.faults swap.new) (min limits.blocks (D.block_count swap.old)) limits.resident })) }
+    ensures unswapped { IsTrue (needs_no_swap (by_grammar (script_of text.now))) → (swap.new ≡ swap.old) × EndsWithoutSwap result }
+    ensures faults { HasFaults result
+        (record { files = F.files shelf.old; text = O.written out.old; reads = F.read_faults shelf.old; writes = F.write_faults shelf.old; puts = O.faults out.old; chain = counts_over (D.faults swap.old) (min limits.blocks (D.block_count swap.old)) limits.resident })
+        (record { files = F.files shelf.new; text = O.written out.new; reads = F.read_faults shelf.new; writes = F.write_faults shelf.new; puts = O.faults out.new; chain = counts_over (D.faults swap.new) (min limits.blocks (D.block_count swap.old)) limits.resident }) }
 {
     match read_script(alloc, text) {
-        Ok(lines) => run_lines(alloc, &lines, shelf, out),
+        Ok(lines) => run_commands(alloc, &lines, limits, shelf, swap, out),
         Err(ScriptAnswer::Refused { line, cause }) => {
             refuse(alloc, line, Cause::Grammar(cause), out)
         }
@@ -122,26 +144,36 @@ fn run_text<F: Shelf, O: Sink>(
 }
 
 /// Carries out the lines of a script, unless one isn't built.
-fn run_lines<F: Shelf, O: Sink>(
+fn run_commands<F: Shelf, D: SwapDisk, O: Sink>(
     alloc: Global,
     lines: &[Line],
+    limits: ChainLimits,
     shelf: &mut F,
+    swap: &mut D,
     out: &mut O,
 ) -> Result<(), End>
-    requires { IsScript lines.now }
-    ensures leaves { IfSome (F.files shelf.old) (λ files. Leaves (plan_of_read [] files (Ok lines.now)).outcome result
-        (record { files = F.files shelf.old; text = O.written out.old }) (record { files = F.files shelf.new; text = O.written out.new })) }
-    ensures cause { HasCause result
-        (record { reads = F.read_faults shelf.old; writes = F.write_faults shelf.old; puts = O.faults out.old })
-        (record { reads = F.read_faults shelf.new; writes = F.write_faults shelf.new; puts = O.faults out.new }) }
+    requires script { IsScript lines.now }
+    requires limits { AreChainLimits limits }
+    ensures carried { IfSome (F.files shelf.old) (λ files.
+        CarriesOutRead (is_some (D.blocks swap.old)) files (options_with limits.resident limits.blocks) (Ok lines.now) result
+        (record { files = F.files shelf.old; text = O.written out.old; reads = F.read_faults shelf.old; writes = F.write_faults shelf.old; puts = O.faults out.old; chain = counts_over (D.faults swap.old) (min limits.blocks (D.block_count swap.old)) limits.resident })
+        (record { files = F.files shelf.new; text = O.written out.new; reads = F.read_faults shelf.new; writes = F.write_faults shelf.new; puts = O.faults out.new; chain = counts_over (D.faults swap.new) (min limits.blocks (D.block_count swap.old)) limits.resident })) }
+    ensures unswapped { IsTrue (needs_no_swap (Ok lines.now)) → (swap.new ≡ swap.old) × EndsWithoutSwap result }
+    ensures faults { HasFaults result
+        (record { files = F.files shelf.old; text = O.written out.old; reads = F.read_faults shelf.old; writes = F.write_faults shelf.old; puts = O.faults out.old; chain = counts_over (D.faults swap.old) (min limits.blocks (D.block_count swap.old)) limits.resident })
+        (record { files = F.files shelf.new; text = O.written out.new; reads = F.read_faults shelf.new; writes = F.write_faults shelf.new; puts = O.faults out.new; chain = counts_over (D.faults swap.new) (min limits.blocks (D.block_count swap.old)) limits.resident }) }
 {
-    match first_unbuilt(lines) {
-        None => carry_out(alloc, lines, shelf, out),
-        Some(line) => refuse(
-            alloc,
-            line,
-            Cause::Grammar(ScriptCause::UnknownCommand),
-            out,
-        ),
-    }
+    let Some(unbuilt) = first_unbuilt(lines) else {
+        return carry_out(alloc, lines, shelf, out);
+    };
+    let Some(other) = first_other(lines) else {
+        return run_lines::carry_out(alloc, lines, limits, shelf, swap, out);
+    };
+    let line = unbuilt.max(other);
+    refuse(
+        alloc,
+        line,
+        Cause::Grammar(ScriptCause::UnknownCommand),
+        out,
+    )
 }

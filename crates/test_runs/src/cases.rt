@@ -1,9 +1,12 @@
-//! Runs over a shelf and a sink in memory.
+//! Runs over a shelf, a swap and a sink in memory.
 
-use outside_io::{MemShelf, MemSink, OpenGate, SureSwap};
+use outside_io::{MemShelf, MemSink, MemSwap, OpenGate};
 use script_run::run;
 use std::alloc::{AllocError, Global};
 use std::test::Fail;
+
+/// How many blocks the swap has.
+const SWAP_BLOCKS: u32 = 64;
 
 /// The number of the call of each kind that fails, counted from 1; at 0 none fails.
 #[derive(Clone, Copy)]
@@ -11,12 +14,16 @@ pub struct Failing {
     pub read: u64,
     pub write: u64,
     pub put: u64,
+    pub swap_read: u64,
+    pub swap_write: u64,
 }
 
 pub const NONE_FAILS: Failing = Failing {
     read: 0,
     write: 0,
     put: 0,
+    swap_read: 0,
+    swap_write: 0,
 };
 
 /// What a run left.
@@ -34,11 +41,30 @@ pub fn run_script(
     raster: &[u8],
     failing: Failing,
 ) -> Result<Ended, Fail> {
+    run_line(alloc, "run script.txt", script, raster, failing)
+}
+
+/// Runs the words of a line over a folder with this script as `script.txt`, and this raster as `in.raw`.
+pub fn run_line(
+    alloc: Global,
+    line: &str,
+    script: &[u8],
+    raster: &[u8],
+    failing: Failing,
+) -> Result<Ended, Fail> {
     let mut files = Vec::new(alloc);
     files.push(("script.txt".to_string(alloc)?, script.to_vec(alloc)?))?;
     files.push(("in.raw".to_string(alloc)?, raster.to_vec(alloc)?))?;
-    let words = vec![in alloc; "run".to_string(alloc)?, "script.txt".to_string(alloc)?]?;
-    run_words(alloc, &words, files, failing)
+    run_words(alloc, &words_of(alloc, line)?, files, failing)
+}
+
+/// Returns the words of a line.
+pub fn words_of(alloc: Global, line: &str) -> Result<Vec<String>, AllocError> {
+    let mut words = Vec::new(alloc);
+    for word in line.split_whitespace() {
+        words.push(word.to_string(alloc)?)?;
+    }
+    Ok(words)
 }
 
 /// Runs these words over a folder with these files.
@@ -52,7 +78,9 @@ pub fn run_words(
     let writes = chosen(alloc, failing.write)?;
     let mut shelf = MemShelf::new(alloc, files, reads, writes);
     let mut sink = MemSink::new(alloc, chosen(alloc, failing.put)?);
-    let mut swap = SureSwap::new(alloc, 1)?;
+    let swap_reads = chosen(alloc, failing.swap_read)?;
+    let swap_writes = chosen(alloc, failing.swap_write)?;
+    let mut swap = MemSwap::new(alloc, SWAP_BLOCKS, swap_reads, swap_writes)?;
     let status = run(alloc, words, &mut shelf, &mut swap, &mut sink, &OpenGate);
     let text = sink.bytes().to_vec(alloc)?;
     Ok(Ended {

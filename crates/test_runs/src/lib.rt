@@ -2,6 +2,10 @@
 #![tactic(auto)]
 
 #[cfg(test)]
+mod buffer_scripts;
+#[cfg(test)]
+mod buffer_tests;
+#[cfg(test)]
 mod cases;
 #[cfg(test)]
 mod scripts;

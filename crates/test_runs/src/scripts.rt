@@ -36,14 +36,17 @@ pub const GRAMMAR: [(&[u8], &[u8]); 19] = [
     (b"\nwatch i 0 0 1 1 1 1 w\ncommit\n", b"line 2: Order\n"),
 ];
 
-/// Scripts of the grammar beside the texts of the first line that breaks the form.
-pub const FORM: [(&[u8], &[u8]); 7] = [
+/// Scripts of the grammar that are neither of the form nor of buffers, beside the texts of the first line that is neither.
+pub const UNBUILT: [(&[u8], &[u8]); 7] = [
     (b"undo", b"line 1: UnknownCommand\n"),
     (b"# undone\n\nundo\n", b"line 3: UnknownCommand\n"),
-    (b"buffer a RGBA8 0 0 2 2\n", b"line 1: UnknownCommand\n"),
     (
-        b"buffer a Y8 0 0 2 2\nload a 0 0 2 1 in.raw\n",
-        b"line 2: UnknownCommand\n",
+        b"buffer a RGBA8 0 0 2 2\nfill a 0 0 2 2 1 1 1 1\ngrab a 0 NONE 0 0 2 2 out.raw\ncommit\n",
+        b"line 4: UnknownCommand\n",
+    ),
+    (
+        b"buffer a Y8 0 0 2 2\nload a 0 0 2 1 in.raw\nnode s source a\n",
+        b"line 3: UnknownCommand\n",
     ),
     (
         b"buffer a Y8 0 0 2 2\nload a 0 0 2 2 in.raw\nnode s source a\nnode s invert s\n",

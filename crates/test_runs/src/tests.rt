@@ -1,7 +1,7 @@
 //! The examples. What each must leave was worked out by hand.
 
-use crate::cases::{Failing, NONE_FAILS, run_script, run_words};
-use crate::scripts::{COMMENTED, FORM, GRAMMAR, REGIONS, SCRIPT};
+use crate::cases::{Failing, NONE_FAILS, run_script, run_words, words_of};
+use crate::scripts::{COMMENTED, GRAMMAR, REGIONS, SCRIPT, UNBUILT};
 use std::test::Fail;
 
 const RASTER: &[u8] = b"\x00\x40\x80\xff";
@@ -65,11 +65,12 @@ fn the_first_line_that_breaks_the_grammar_is_refused(rt: HostRuntime) -> Result<
 }
 
 #[test]
-fn the_first_line_that_breaks_the_form_is_refused(rt: HostRuntime) -> Result<(), Fail> {
-    for (script, text) in FORM {
+fn the_first_line_that_isnt_built_is_refused(rt: HostRuntime) -> Result<(), Fail> {
+    for (script, text) in UNBUILT {
         let ended = run_script(rt.alloc(), script, RASTER, NONE_FAILS)?;
         assert_eq!(rt; ended.text.as_slice(), text);
         assert_eq!(rt; ended.status, 2);
+        assert_eq!(rt; ended.shelf.get("out.raw"), None);
     }
     Ok(())
 }
@@ -112,11 +113,17 @@ fn other_words_have_status_1(rt: HostRuntime) -> Result<(), Fail> {
         "RUN script.txt",
         "run ../script.txt",
         "run -script",
+        "run script.txt --resident 0",
+        "run script.txt --resident 32769",
+        "run script.txt --resident=1 --resident 1",
+        "run script.txt --resident 00000001",
+        "run script.txt --swap-blocks 1048577",
+        "run script.txt --swap-blocks",
+        "run script.txt --workers 2",
+        "run script.txt --cache 5",
+        "make 1",
     ] {
-        let mut words = Vec::new(rt.alloc());
-        for word in line.split_whitespace() {
-            words.push(word.to_string(rt.alloc())?)?;
-        }
+        let words = words_of(rt.alloc(), line)?;
         let ended = run_words(rt.alloc(), &words, Vec::new(rt.alloc()), NONE_FAILS)?;
         assert_eq!(rt; ended.status, 1, "{line}");
         assert_eq!(rt; ended.text.is_empty(), true, "{line}");
@@ -132,7 +139,13 @@ fn a_fault_of_the_outside_ends_the_run(rt: HostRuntime) -> Result<(), Fail> {
         (1, 0, 0, 3, b"", None),
         (2, 0, 0, 3, b"", None),
     ] {
-        let ended = run_script(rt.alloc(), SCRIPT, RASTER, Failing { read, write, put })?;
+        let failing = Failing {
+            read,
+            write,
+            put,
+            ..NONE_FAILS
+        };
+        let ended = run_script(rt.alloc(), SCRIPT, RASTER, failing)?;
         assert_eq!(rt; ended.status, status);
         assert_eq!(rt; ended.text.as_slice(), text);
         assert_eq!(rt; ended.shelf.get("out.raw"), output);

@@ -1,29 +1,35 @@
 //! The program: `tilegraph run SCRIPT`, in the folder of the script and its files.
 #![tactic(auto)]
 
-use outside_io::{FolderShelf, OpenGate, StdSink, SureSwap};
+use outside_io::{FileSwap, FolderShelf, OpenGate, StdSink};
 use script_run::run;
+use std::io::ErrorKind;
 use std::process::ExitCode;
 use std::{env, io};
+
+/// The status of words that are no text, and so no command line.
+const WRONG_WORDS: u8 = 1;
 
 /// The status of a program that could not begin for running out of memory.
 const NO_MEMORY: u8 = 7;
 
-/// No line swaps a tile out yet, so one block is enough.
-const SWAP_BLOCKS: u32 = 1;
+/// How many blocks the swap has: 4 GiB, of which a run uses what its tiles need.
+const SWAP_BLOCKS: u32 = 1 << 20;
 
 fn main(rt: HostRuntime) -> ExitCode {
-    ExitCode::from(status(rt).unwrap_or(NO_MEMORY))
+    match status(rt) {
+        Ok(status) => ExitCode::from(status),
+        Err(error) if error.kind() == ErrorKind::InvalidData => ExitCode::from(WRONG_WORDS),
+        Err(_) => ExitCode::from(NO_MEMORY),
+    }
 }
 
-/// Runs the words of the command line over the current folder and standard output.
+/// Runs the words of the command line over the current folder, a swap file in it and standard output.
 fn status(rt: HostRuntime) -> io::Result<u8> {
     let alloc = rt.alloc();
     let words: Vec<String> = env::args(&rt)?.skip(1).collect(alloc)?;
-    let Ok(mut swap) = SureSwap::new(alloc, SWAP_BLOCKS) else {
-        return Ok(NO_MEMORY);
-    };
     let mut shelf = FolderShelf::new(rt.clone()?);
+    let mut swap = FileSwap::new(rt.clone()?, SWAP_BLOCKS);
     let mut sink = StdSink::new(rt);
     Ok(run(alloc, &words, &mut shelf, &mut swap, &mut sink, &OpenGate))
 }

@@ -1,0 +1,133 @@
+-- What a run leaves of a script that was read.
+use Rattle.std.proofs.Common.{◌≡◌, ◌≢◌, ℕ, ◌≤◌, Bool, true, false, ◌||◌, cond, List, [], length, Option, Some, None, Result, Ok, Err, IfSome, IsTrue, is_none, is_some, max, refl, sym, ap, ◌∙◌, subst, arith}
+use Rattle.std.specs.Prelude.{nat_lt}
+use Rattle.std.proofs.lemmas.Bool.Decides.{nat_tests}
+use Rattle.chain_owners.specs.Counts.{Counts}
+use Rattle.outside_io.specs.Files.{Files, file}
+use Rattle.pixel_formats.specs.Limits.{max_script_bytes}
+use Rattle.model_runs.specs.Built.{built_ending, first_other, first_unbuilt, needs_no_swap, plan_of_read, unless_unbuilt}
+use Rattle.model_runs.specs.Ending.{Leaves}
+use Rattle.model_runs.specs.Ran.{bytes_put}
+use Rattle.model_runs.specs.Run.{by_grammar, effects, lines_of_file, outcome_from, outcome_of_effects, plan_of_lines}
+use Rattle.model_runs.specs.State.{first_state}
+use Rattle.model_runs.specs.Words.{Options, default_options}
+use Rattle.model_runs.specs.declared.ending.End.{End}
+use Rattle.model_runs.specs.declared.ending.End.TheVariants as ends
+use Rattle.model_runs.specs.declared.stage.Stage.TheVariants as stages
+use Rattle.run_events.proofs.Carrying.{carried_by_leaves}
+use Rattle.run_events.specs.Carried.{CarriesOut, CarriesOutLines, tiles_to_stop}
+use Rattle.run_events.specs.Moments.{Moment, world_at}
+use Rattle.run_texts.specs.Events.{Outcome, Refusal, refusal}
+use Rattle.run_texts.specs.declared.cause.Cause.TheVariants.{Grammar, TooLong}
+use Rattle.script_fields.specs.declared.cause.ScriptCause.{ScriptCause}
+use Rattle.script_fields.specs.declared.cause.ScriptCause.TheVariants.{UnknownCommand}
+use Rattle.script_read.specs.Script as grammar
+use Rattle.script_read.specs.Script.{script_of}
+use Rattle.script_read.specs.declared.command.Line.{Line}
+use Rattle.script_run.specs.Carried.{CarriesOutRead}
+
+abbrev pub moment : Option Files → Option (List ℕ) → ℕ → ℕ → ℕ → Counts → Moment
+moment files text reads writes puts chain = record { files = files; text = text; reads = reads; writes = writes; puts = puts; chain = chain }
+
+-- what leaves all files and texts is carried out, however the swap is
+pub read_carried : (found : Option Files) (exposed : Bool) (options : Options) (read : Files → Result (List Line) Refusal) (result : Result (Unit {0}) End) (old new : Moment) → result ≢ Err ends.SwapFull →
+    IfSome found (λ files. Leaves (plan_of_read [] files options (read files)).outcome result (world_at old) (world_at new)) →
+    IfSome found (λ files. CarriesOutRead exposed files options (read files) result old new)
+read_carried None exposed options read result old new room leaves = tt
+read_carried (Some files) exposed options read result old new room leaves = carried_by_leaves _ _ _ result old new room leaves
+
+-- ---- lines
+
+-- what was read are lines, whose first of either kind are these
+abbrev CarriesOutBuilt : Bool → Files → Options → List Line → Option ℕ → Option ℕ → Result (Unit {0}) End → Moment → Moment → Type 0
+CarriesOutBuilt exposed files options lines unbuilt other result old new =
+    let plan = plan_of_lines built_ending options [] files (unless_unbuilt lines unbuilt other) in
+    CarriesOut (exposed || (is_none unbuilt || is_some other)) plan.outcome (tiles_to_stop (bytes_put old.text new.text) plan.effects) result old new
+
+unless_false : (exposed : Bool) (outcome : Outcome) (tiles : ℕ) (result : Result (Unit {0}) End) (old new : Moment) → CarriesOut exposed outcome tiles result old new → CarriesOut (exposed || false) outcome tiles result old new
+unless_false true outcome tiles result old new carried = carried
+unless_false false outcome tiles result old new carried = carried
+
+-- lines of buffers that aren't of the form
+pub buffers_carried : (found : Option Files) (exposed : Bool) (options : Options) (lines : List Line) (unbuilt : ℕ) (result : Result (Unit {0}) End) (old new : Moment) →
+    first_unbuilt stages.Empty lines ≡ Some unbuilt → first_other lines ≡ None →
+    IfSome found (λ files. CarriesOutLines exposed options.cache (first_state []) files lines result old new) →
+    IfSome found (λ files. CarriesOutRead exposed files options (Ok lines) result old new)
+buffers_carried None exposed options lines unbuilt result old new form buffers carried = tt
+buffers_carried (Some files) exposed options lines unbuilt result old new form buffers carried =
+    let all = effects options.cache (first_state []) files lines in
+    subst (λ (o : Option ℕ). CarriesOutBuilt exposed files options lines o (first_other lines) result old new) (sym form)
+    (subst (λ (o : Option ℕ). CarriesOutBuilt exposed files options lines (Some unbuilt) o result old new) (sym buffers)
+    (unless_false exposed (outcome_of_effects built_ending (first_state []) files all) (tiles_to_stop (bytes_put old.text new.text) all) result old new carried))
+
+-- the outcome of lines of the form
+pub form_outcome : (files : Files) (options : Options) (lines : List Line) → first_unbuilt stages.Empty lines ≡ None →
+    (plan_of_read [] files options (Ok lines)).outcome ≡ outcome_from built_ending options.cache (first_state []) files lines
+form_outcome files options lines form = ap (λ (o : Option ℕ). (plan_of_lines built_ending options [] files (unless_unbuilt lines o (first_other lines))).outcome) form
+
+-- the outcome of lines that are neither
+pub unbuilt_outcome : (files : Files) (options : Options) (lines : List Line) (unbuilt other line : ℕ) → first_unbuilt stages.Empty lines ≡ Some unbuilt → first_other lines ≡ Some other → line ≡ max unbuilt other →
+    (plan_of_read [] files options (Ok lines)).outcome ≡ refusal line (Grammar UnknownCommand)
+unbuilt_outcome files options lines unbuilt other line form buffers at =
+    ap (λ (o : Option ℕ). (plan_of_lines built_ending options [] files (unless_unbuilt lines o (first_other lines))).outcome) form
+    ∙ ap (λ (o : Option ℕ). (plan_of_lines built_ending options [] files (unless_unbuilt lines (Some unbuilt) o)).outcome) buffers
+    ∙ ap (λ (n : ℕ). refusal n (Grammar UnknownCommand)) (sym at)
+
+-- ---- a text
+
+-- the outcome of a text that the grammar refuses
+pub refused_outcome : (files : Files) (options : Options) (read : Result (List Line) grammar.Refusal) (line : ℕ) (cause : ScriptCause) → read ≡ Err (line, cause) →
+    (plan_of_read [] files options (by_grammar read)).outcome ≡ refusal line (Grammar cause)
+refused_outcome files options read line cause is = ap (λ r. (plan_of_read [] files options (by_grammar r)).outcome) is
+
+-- what is left after a read of the shelf, which changes no file
+carried_after_read : (exposed : Bool) (outcome : Outcome) (tiles : ℕ) (result : Result (Unit {0}) End) (old mid : Option Files) (text : Option (List ℕ)) (reads more writes later puts : ℕ) (chain : Counts) (new : Moment) → mid ≡ old →
+    CarriesOut exposed outcome tiles result (record { files = mid; text = text; reads = more; writes = later; puts = puts; chain = chain }) new →
+    CarriesOut exposed outcome tiles result (record { files = old; text = text; reads = reads; writes = writes; puts = puts; chain = chain }) new
+carried_after_read exposed outcome tiles result old mid text reads more writes later puts chain new same carried =
+    let there = subst (λ (f : Option Files). CarriesOut exposed outcome tiles result (record { files = f; text = text; reads = more; writes = later; puts = puts; chain = chain }) new) same carried in
+    record { refused = there.refused; whole = there.whole; texts = there.texts; prefix = there.prefix; texts_prefix = there.texts_prefix; full = there.full }
+
+lines_of_text : (found : Option (List ℕ)) (text : List ℕ) → found ≡ Some text → length text ≤ max_script_bytes → lines_of_file found ≡ by_grammar (script_of text)
+lines_of_text found text is fits =
+    let short : nat_lt max_script_bytes (length text) ≡ false = grind (arith, nat_tests, fits) in
+    ap lines_of_file is ∙ ap (λ (b : Bool). cond b (Err (record { line = 0; cause = TooLong })) (by_grammar (script_of text))) short
+
+both_known : (found : Option Files) (P Q R : Files → Type 0) → ((files : Files) → P files → Q files → R files) → IfSome found P → IfSome found Q → IfSome found R
+both_known None P Q R all one other = tt
+both_known (Some files) P Q R all one other = all files one other
+
+-- a script whose text was read
+pub text_carried : (exposed : Bool) (options : Options) (name bytes : List ℕ) (result : Result (Unit {0}) End) (old mid : Option Files) (text : Option (List ℕ)) (reads more writes later puts : ℕ) (chain : Counts) (new : Moment) → mid ≡ old →
+    IfSome old (λ files. file files name ≡ Some bytes) → length bytes ≤ max_script_bytes →
+    IfSome mid (λ files. CarriesOutRead exposed files options (by_grammar (script_of bytes)) result (record { files = mid; text = text; reads = more; writes = later; puts = puts; chain = chain }) new) →
+    IfSome old (λ files. CarriesOutRead exposed files options (lines_of_file (file files name)) result (record { files = old; text = text; reads = reads; writes = writes; puts = puts; chain = chain }) new)
+text_carried exposed options name bytes result old mid text reads more writes later puts chain new same known fits carried =
+    both_known old (λ files. file files name ≡ Some bytes)
+    (λ files. CarriesOutRead exposed files options (by_grammar (script_of bytes)) result (record { files = mid; text = text; reads = more; writes = later; puts = puts; chain = chain }) new)
+    (λ files. CarriesOutRead exposed files options (lines_of_file (file files name)) result (record { files = old; text = text; reads = reads; writes = writes; puts = puts; chain = chain }) new)
+    (λ files is left.
+    subst (λ (read : Result (List Line) Refusal). CarriesOutRead exposed files options read result (record { files = old; text = text; reads = reads; writes = writes; puts = puts; chain = chain }) new)
+    (sym (lines_of_text (file files name) bytes is fits))
+    (carried_after_read _ _ _ result old mid text reads more writes later puts chain new same left))
+    known
+    (subst (λ (o : Option Files). IfSome o (λ files. CarriesOutRead exposed files options (by_grammar (script_of bytes)) result (record { files = mid; text = text; reads = more; writes = later; puts = puts; chain = chain }) new)) same carried)
+
+-- ---- scripts that need no swap
+
+pub any_known : (found : Option Files) (P : Files → Type 0) → ((files : Files) → P files) → IfSome found P
+any_known None P all = tt
+any_known (Some files) P all = all files
+
+-- lines of buffers that aren't of the form need it
+pub buffers_need_it : (lines : List Line) (unbuilt : ℕ) → first_unbuilt stages.Empty lines ≡ Some unbuilt → first_other lines ≡ None → IsTrue (needs_no_swap (Ok lines)) → ⊥
+buffers_need_it lines unbuilt form buffers none =
+    let need : needs_no_swap (Ok lines) ≡ false = ap (λ (o : Option ℕ). is_none o || is_some (first_other lines)) form ∙ ap (λ (o : Option ℕ). false || is_some o) buffers in
+    cc
+
+-- what is left of a text that was read, where its lines need no swap
+pub text_unswapped : (found : Option Files) (name bytes : List ℕ) (P : Type 0) → IfSome found (λ files. file files name ≡ Some bytes) → length bytes ≤ max_script_bytes →
+    (IsTrue (needs_no_swap (by_grammar (script_of bytes))) → P) → IfSome found (λ files. IsTrue (needs_no_swap (lines_of_file (file files name))) → P)
+text_unswapped None name bytes P known fits left = tt
+text_unswapped (Some files) name bytes P known fits left =
+    λ none. left (subst (λ (read : Result (List Line) Refusal). IsTrue (needs_no_swap read)) (lines_of_text (file files name) bytes known fits) none)
