@@ -3,12 +3,13 @@
 ghost use Rattle.std.specs.Prelude.{◌≡◌, ℕ, All, Bool, IsTrue};
 ghost use Rattle.buffer_view.specs.BufferTables.{AreBuffersOver, buffers_names};
 ghost use Rattle.chain_owners.specs.Owners.{Respects};
+ghost use Rattle.model_runs.specs.Built.{is_of_buffers as of_buffers};
 ghost use Rattle.model_runs.specs.Effects.{effect};
 ghost use Rattle.model_runs.specs.State.{RunState};
 ghost use Rattle.outside_io.specs.Files.{Files};
 ghost use Rattle.run_lines.specs.Buffers.{Holds};
 ghost use Rattle.run_events.specs.Carried.{CarriesOutLines};
-ghost use Rattle.run_lines.specs.Lines.{IsLineOfBuffers, is_of_buffers as of_buffers};
+ghost use Rattle.run_lines.specs.Lines.{IsLineOfBuffers};
 ghost use Rattle.run_events.specs.Moments.{HasFaults};
 ghost use Rattle.run_lines.specs.Stops.{Did, Does, end_of};
 

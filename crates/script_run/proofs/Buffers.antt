@@ -3,28 +3,8 @@ use Rattle.std.proofs.Common.{◌≡◌, ℕ, Bool, true, false, cond, List, [],
 use Rattle.std.proofs.lemmas.List.Elements.{All-cons, All-head, All-nil, All-tail}
 use Rattle.model_runs.specs.Built.{first_other, is_of_buffers}
 use Rattle.run_lines.specs.Lines.{IsLineOfBuffers}
-use Rattle.run_lines.specs.Lines as lines
 use Rattle.script_read.specs.Limits.{IsInLimits}
-use Rattle.script_read.specs.declared.command.Command.{Command}
-use Rattle.script_read.specs.declared.command.Command.TheVariants as commands
 use Rattle.script_read.specs.declared.command.Line.{Line}
-
-pub of_buffers_same : (command : Command) → lines.is_of_buffers command ≡ is_of_buffers command
-of_buffers_same (commands.Buffer name format rect) = refl
-of_buffers_same (commands.Sub name parent rect) = refl
-of_buffers_same (commands.Dup name from) = refl
-of_buffers_same (commands.Load name rect source) = refl
-of_buffers_same (commands.Fill name rect samples) = refl
-of_buffers_same (commands.Copy from to rect dx dy) = refl
-of_buffers_same (commands.Grab name level policy rect target) = refl
-of_buffers_same (commands.Node name op inputs) = refl
-of_buffers_same (commands.Drop name) = refl
-of_buffers_same commands.Commit = refl
-of_buffers_same commands.Undo = refl
-of_buffers_same commands.Redo = refl
-of_buffers_same (commands.Render name level rect target) = refl
-of_buffers_same (commands.Watch name rect viewers frames prefix) = refl
-of_buffers_same commands.EndWatch = refl
 
 -- the lines where none is another
 pub are_lines_of_buffers : (list : List Line) → first_other list ≡ None → All (λ (line : Line). IsInLimits line.command) list → All IsLineOfBuffers list
@@ -36,5 +16,5 @@ are_lines_of_buffers (line ∷ list) none limits =
   where
     by : (b : Bool) → is_of_buffers line.command ≡ b → cond b (first_other list) (Some line.number) ≡ None → (first_other list ≡ None → All IsLineOfBuffers list) → IsInLimits line.command → All IsLineOfBuffers (line ∷ list)
     by true is none rest first =
-        All-cons IsLineOfBuffers line list (record { command = of_buffers_same line.command ∙ is; limits = first }) (rest none)
+        All-cons IsLineOfBuffers line list (record { command = is; limits = first }) (rest none)
     by false is none rest first = absurd (cc)
