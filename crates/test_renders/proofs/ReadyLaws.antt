@@ -1,5 +1,5 @@
 -- What stays ready over calls.
-use Rattle.std.proofs.Common.{ℕ, ◌+◌, List, [], ◌++◌, take, Some, inl, inr, arith}
+use Rattle.std.proofs.Common.{ℕ, List, [], ◌++◌, take, Some, inl, inr, arith}
 use Rattle.chain_owners.specs.Held.{Held}
 use Rattle.chain_owners.specs.Owners.{Owns, Respects}
 use Rattle.chain_owners.proofs.Ownership.{others-own, owns-fewer, times-append}
