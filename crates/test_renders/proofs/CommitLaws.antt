@@ -1,14 +1,13 @@
 -- Commits of no edits leave the nodes.
-use Rattle.std.proofs.Common.{◌≡◌, ℕ, Bool, true, false, cond, List, [], Option, Some, None, Result, Ok, Err, refl, sym, ap, ◌∙◌}
+use Rattle.std.proofs.Common.{◌≡◌, Bool, true, false, cond, List, [], Option, Some, None, Result, Ok, Err, sym, ap, ◌∙◌}
 use Rattle.model_graphs.specs.Facts.{Facts, shapes_of_facts, specs_of}
 use Rattle.model_graphs.specs.Meanings.{Meanings}
-use Rattle.model_graphs.specs.Node.{Node}
 use Rattle.model_graphs.specs.declared.node.NodeFact.{NodeFact}
 use Rattle.model_states.specs.Commits.{Graph, commit_nodes, commit_side, committed, side_of}
-use Rattle.model_states.specs.Edits.{edited, steps_refused, unless_refused, walked}
+use Rattle.model_states.specs.Edits.{unless_refused}
 use Rattle.model_states.specs.Rectangles.{Rectangles}
-use Rattle.model_states.specs.Retained.{Stepped, last_number, unless_last}
-use Rattle.model_states.specs.Valid.{AreStated, stated, steps_of}
+use Rattle.model_states.specs.Retained.{Stepped}
+use Rattle.model_states.specs.Valid.{AreStated, stated}
 use Rattle.model_states.specs.declared.refused.StateRefused.{StateRefused}
 use Rattle.model_states.proofs.Stated.{stated_only}
 

@@ -1,15 +1,18 @@
 -- What stays ready over calls.
-use Rattle.std.proofs.Common.{ℕ, ◌+◌, List, [], ◌++◌, inl, inr, arith}
+use Rattle.std.proofs.Common.{ℕ, List, [], ◌++◌, take, Some, inl, inr, arith}
 use Rattle.chain_owners.specs.Held.{Held}
 use Rattle.chain_owners.specs.Owners.{Owns, Respects}
 use Rattle.chain_owners.proofs.Ownership.{others-own, owns-fewer, times-append}
 use Rattle.model_graphs.specs.declared.node.NodeFact.{NodeFact}
-use Rattle.model_states.proofs.CacheLaws.{all-filter}
+use Rattle.model_graphs.specs.Facts.{Facts}
+use Rattle.model_graphs.specs.Meanings.{Meanings}
+use Rattle.model_states.proofs.CacheLaws.{all-filter, all-within}
 use Rattle.node_cache.specs.Stores.{Sized, by_sized}
 use Rattle.plane_rect.specs.Rectangle.{Rectangle}
 use Rattle.model_states.specs.Cache.{voided}
 use Rattle.strip_renders.proofs.Moments.{owns-turned}
 use Rattle.strip_renders.specs.Strips.{AreSizedPairs, IsSizedPair}
+use Rattle.test_renders.specs.Ready.{AreReady}
 
 -- the chain owns what is held after a call, where it owned what was held before it
 pub owned-on : (old new : Held) (before after : List ℕ) → Respects old new before after → Owns old before → Owns new after
@@ -33,3 +36,11 @@ owned-alone held names owns = owns-fewer held names (names ++ []) (λ q. omega (
 pub sized-voided : {Op : Type 0} (nodes : List (NodeFact Op)) (sizes : List Sized) (node : List ℕ) (rectangle : Rectangle)
     → AreSizedPairs nodes sizes → AreSizedPairs nodes (voided by_sized sizes node rectangle)
 sized-voided nodes sizes node rectangle sized = all-filter by_sized (IsSizedPair nodes) _ sizes sized
+
+-- what a trim leaves is as ready as it was
+pub ready-taken : {Op : Type 0} (meanings : Meanings Op) (facts : Facts) (nodes : List (NodeFact Op)) (sizes : List Sized) (count : ℕ)
+    → AreReady meanings facts nodes sizes → AreReady meanings facts nodes (take count sizes)
+ready-taken meanings facts nodes sizes count ready = record {
+  stated = ready.stated;
+  sized = all-within by_sized (IsSizedPair nodes) (Some count) sizes ready.sized;
+}
