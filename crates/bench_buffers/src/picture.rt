@@ -12,10 +12,8 @@ pub fn picture(alloc: Global, columns: u8) -> Result<Vec<u8>, AllocError> {
 /// Returns so many bytes, which repeat after 251.
 pub fn noise(alloc: Global, len: usize) -> Result<Vec<u8>, AllocError> {
     let mut bytes = vec![in alloc; 0u8; len]?;
-    let mut next = 0u8;
-    for byte in &mut bytes {
-        *byte = next.wrapping_mul(37);
-        next = (next + 1) % 251;
+    for (index, byte) in bytes.iter_mut().enumerate() {
+        *byte = ((index % 251) as u8).wrapping_mul(37);
     }
     Ok(bytes)
 }

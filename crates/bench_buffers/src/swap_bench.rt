@@ -27,7 +27,7 @@ pub fn time_blocks<R: Clock + Print + Eprint + Alloc<A = Global>, D: SwapDisk>(
     report: Report,
     disk: &mut D,
 ) -> Result<()> {
-    let mut block = noise(rt.alloc(), 4_096)?;
+    let mut block = vec![in rt.alloc(); 7; 4_096]?;
     let start = Instant::now(rt)?;
     let found = write_blocks(disk, &block)?;
     report.print(rt, "blocks written", &Times::since(rt, start)?, found)?;

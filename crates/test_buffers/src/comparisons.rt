@@ -161,9 +161,9 @@ pub fn compare_moves<C: TileChain>(
     let from = [10, 10, 80, 70];
     let mut plain = Plain::noise(alloc, [0, 0], [100, 90])?;
     let mut buffers = buffer_of(chain, alloc, &plain)?;
-    for [dx, dy] in MOVES {
-        plain = plain.moved(alloc, from, [dx, dy])?;
-        copy_to_itself(&mut buffers, chain, from, [dx, dy])?;
+    for by in MOVES {
+        plain = plain.moved(alloc, from, by)?;
+        copy_to_itself(&mut buffers, chain, from, by)?;
         check_level(
             rt,
             &mut buffers,

@@ -21,10 +21,8 @@ impl Plain {
         [width, height]: [u8; 2],
     ) -> Result<Plain, AllocError> {
         let mut bytes = vec![in alloc; 0u8; usize::from(width) * usize::from(height)]?;
-        let mut next = 0u8;
-        for byte in &mut bytes {
-            *byte = next.wrapping_mul(37);
-            next = (next + 1) % 251;
+        for (index, byte) in bytes.iter_mut().enumerate() {
+            *byte = ((index % 251) as u8).wrapping_mul(37);
         }
         Ok(Plain {
             left,
@@ -46,9 +44,9 @@ impl Plain {
     }
 
     /// Returns the index of a position's byte, or None outside.
-    pub fn index(&self, [x, y]: [i32; 2]) -> Option<usize> {
-        let column = u8::try_from(x.wrapping_sub(i32::from(self.left))).ok()?;
-        let row = u8::try_from(y.wrapping_sub(i32::from(self.top))).ok()?;
+    pub fn index(&self, [x, y]: [i64; 2]) -> Option<usize> {
+        let column = u8::try_from(x.wrapping_sub(i64::from(self.left))).ok()?;
+        let row = u8::try_from(y.wrapping_sub(i64::from(self.top))).ok()?;
         if column < self.width && row < self.height {
             return Some(usize::from(row) * usize::from(self.width) + usize::from(column));
         }
@@ -56,13 +54,13 @@ impl Plain {
     }
 
     /// Returns the sample of a position, 0 outside.
-    pub fn at(&self, position: [i32; 2]) -> u8 {
+    pub fn at(&self, position: [i64; 2]) -> u8 {
         let byte = self.index(position).and_then(|index| self.bytes.get(index));
         byte.copied().unwrap_or(0)
     }
 
     /// Returns the sample of a position under a policy.
-    fn under(&self, abyss: Abyss, [x, y]: [i32; 2]) -> u8 {
+    fn under(&self, abyss: Abyss, [x, y]: [i64; 2]) -> u8 {
         match abyss {
             Abyss::None | Abyss::Black => self.at([x, y]),
             Abyss::White if self.index([x, y]).is_none() => 255,
@@ -80,12 +78,12 @@ impl Plain {
 
     /// Returns the bytes of the rectangle and of three pixels on each side of it, under a policy.
     pub fn around(&self, alloc: Global, abyss: Abyss) -> Result<Vec<u8>, AllocError> {
-        let columns = i32::from(self.width) + 6;
-        let count = columns * (i32::from(self.height) + 6);
+        let columns = u32::from(self.width) + 6;
+        let rows = u32::from(self.height) + 6;
         let mut bytes = Vec::new(alloc);
-        for index in 0..count {
-            let x = i32::from(self.left) - 3 + index % columns;
-            let y = i32::from(self.top) - 3 + index / columns;
+        for index in 0..columns * rows {
+            let x = i64::from(self.left) - 3 + i64::from(index % columns);
+            let y = i64::from(self.top) - 3 + i64::from(index / columns);
             bytes.push(self.under(abyss, [x, y]))?;
         }
         Ok(bytes)
@@ -95,11 +93,11 @@ impl Plain {
     pub fn halved(&self, alloc: Global) -> Result<Plain, AllocError> {
         let (left, width) = half_span(self.left, self.width);
         let (top, height) = half_span(self.top, self.height);
-        let columns = i32::from(width.max(1));
+        let columns = u32::from(width.max(1));
         let mut bytes = Vec::new(alloc);
-        for index in 0..i32::from(width) * i32::from(height) {
-            let x = 2 * (i32::from(left) + index % columns);
-            let y = 2 * (i32::from(top) + index / columns);
+        for index in 0..u32::from(width) * u32::from(height) {
+            let x = 2 * (i64::from(left) + i64::from(index % columns));
+            let y = 2 * (i64::from(top) + i64::from(index / columns));
             bytes.push(self.mean_of_four(x, y))?;
         }
         Ok(Plain {
@@ -119,11 +117,11 @@ impl Plain {
         [dx, dy]: [i8; 2],
     ) -> Result<Plain, AllocError> {
         let mut bytes = Vec::from_slice(alloc, &self.bytes)?;
-        let columns = i32::from(width.max(1));
-        for index in 0..i32::from(width) * i32::from(height) {
-            let x = i32::from(left) + index % columns;
-            let y = i32::from(top) + index / columns;
-            let target = self.index([x + i32::from(dx), y + i32::from(dy)]);
+        let columns = u32::from(width.max(1));
+        for index in 0..u32::from(width) * u32::from(height) {
+            let x = i64::from(left) + i64::from(index % columns);
+            let y = i64::from(top) + i64::from(index / columns);
+            let target = self.index([x + i64::from(dx), y + i64::from(dy)]);
             if let Some(byte) = target.and_then(|target| bytes.get_mut(target)) {
                 *byte = self.at([x, y]);
             }
@@ -132,7 +130,7 @@ impl Plain {
     }
 
     /// Returns the mean of the samples of a position, of its right neighbor and of the two below them.
-    fn mean_of_four(&self, x: i32, y: i32) -> u8 {
+    fn mean_of_four(&self, x: i64, y: i64) -> u8 {
         let right = x.saturating_add(1);
         let lower = y.saturating_add(1);
         let upper_sum = u16::from(self.at([x, y])) + u16::from(self.at([right, y]));
@@ -142,15 +140,15 @@ impl Plain {
 }
 
 /// Returns the number that is nearest to a coordinate, of so many from the first on.
-fn nearest(first: i16, len: u8, coordinate: i32) -> i32 {
-    let last = i32::from(first) + i32::from(len) - 1;
-    coordinate.min(last).max(i32::from(first))
+fn nearest(first: i16, len: u8, coordinate: i64) -> i64 {
+    let last = i64::from(first) + i64::from(len) - 1;
+    coordinate.min(last).max(i64::from(first))
 }
 
 /// Returns the number that is a whole multiple of `len` away from a coordinate, of so many from the first on.
-fn wrapped(first: i16, len: u8, coordinate: i32) -> i32 {
-    let moved = i64::from(coordinate) - i64::from(first);
-    i32::from(first) + moved.rem_euclid(i64::from(len.max(1))) as i32
+fn wrapped(first: i16, len: u8, coordinate: i64) -> i64 {
+    let moved = coordinate.wrapping_sub(i64::from(first));
+    i64::from(first) + moved.rem_euclid(i64::from(len.max(1)))
 }
 
 /// Returns the first of the halves of so many numbers from the first on, rounded down, and how many there are.
