@@ -1,4 +1,4 @@
-//! Buffers of four bytes a pixel, and the calls on them that are timed.
+//! Buffers, and the calls on them that are timed.
 
 ghost use Rattle.std.specs.Prelude.{IfOk};
 ghost use Rattle.chain_owners.specs.Held.{Held};
@@ -58,22 +58,27 @@ pub fn rect(x: u16, y: u16, width: u16, height: u16) -> Rect
 }
 
 /// Adds a buffer of zeros.
-pub fn create(buffers: &mut Buffers, word: &str, extent: Rect) -> Result<()>
+pub fn create(buffers: &mut Buffers, word: &str, format: Format, extent: Rect) -> Result<()>
     requires { InLimits extent }
     ensures { (held : Held) → AreBuffersOver buffers.old held → AreBuffersOver buffers.new held }
 {
-    buffers.create(name(word)?, Format::RGBA8, extent)?;
+    buffers.create(name(word)?, format, extent)?;
     Ok(())
 }
 
 /// Returns a table of one buffer of zeros, named `a`.
-pub fn one_buffer<C: TileChain>(chain: &C, alloc: Global, extent: Rect) -> Result<Buffers>
+pub fn one_buffer<C: TileChain>(
+    chain: &C,
+    alloc: Global,
+    format: Format,
+    extent: Rect,
+) -> Result<Buffers>
     requires { InLimits extent }
     ensures { IfOk result (λ buffers. AreBuffersOver buffers (C.held chain.now)) }
 {
     no_buffers_ask_nothing();
     let mut buffers = Buffers::new(alloc);
-    create(&mut buffers, "a", extent)?;
+    create(&mut buffers, "a", format, extent)?;
     Ok(buffers)
 }
 

@@ -1,9 +1,9 @@
 //! Times of buffers over a chain, beside plain copies, plain averages and plain blocks of as many bytes.
 //!
-//! The words on its command line are `resident` or `swap`, and a number of columns of tiles, up to 128.
-//! `resident` has an image of half as many rows of tiles, all of them in memory; `swap` has two images of as
-//! many rows, of which an eighth is in memory and the rest in a file. Without words it runs both with few
-//! columns. It prints the sum of what each call read, which is the same at each run; times go to standard error.
+//! The words on its command line are `resident` or `swap`, and a number of columns of tiles, up to 128; there are
+//! half as many rows. `resident` has an image of RGBA8 with all its tiles in memory; `swap` has two of RGBA16, of
+//! which a quarter of the tiles is in memory and the rest in a file. Without words it runs both with few columns.
+//! It prints the sum of what each call read, which is the same at each run; times go to standard error.
 #![tactic(auto)]
 
 mod calls;

@@ -12,6 +12,7 @@ use anyhow::Result;
 use buffer_view::Buffers;
 use chain_handlers::{Chain, TileChain};
 use outside_io::SureSwap;
+use pixel_formats::Format;
 use std::alloc::Global;
 use std::rt::Clock;
 
@@ -43,7 +44,7 @@ fn time_image<R: Clock + Print + Eprint + Alloc<A = Global>, C: TileChain>(
     columns: u8,
 ) -> Result<()> {
     let extent = rect(0, 0, 64 * u16::from(columns), 32 * u16::from(columns));
-    let mut buffers = one_buffer(chain, rt.alloc(), extent)?;
+    let mut buffers = one_buffer(chain, rt.alloc(), Format::RGBA8, extent)?;
     let first = report.at("blank image");
     time_puts(rt, first, &mut buffers, chain, extent, bytes, 1)?;
     let whole = report.at("whole image");

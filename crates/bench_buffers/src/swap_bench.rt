@@ -1,4 +1,4 @@
-//! Times of two buffers of which an eighth of the tiles is in memory and the rest on a disk, and of the blocks of
+//! Times of two buffers of which a quarter of the tiles is in memory and the rest on a disk, and of the blocks of
 //! such a disk.
 
 ghost use Rattle.std.specs.Prelude.{◌≤◌, ◌^◌};
@@ -10,11 +10,13 @@ use crate::swap_loops::{get_bands, put_bands, read_blocks, write_blocks};
 use anyhow::Result;
 use chain_handlers::{Chain, TileChain};
 use outside_io::SwapDisk;
+use pixel_formats::Format;
 use std::alloc::Global;
 use std::rt::Clock;
 use std::time::Instant;
 
-/// Returns how many blocks two images of so many columns and as many rows of tiles have.
+/// Returns how many blocks the tiles of two images have, of so many columns and half as many rows of tiles of
+/// RGBA16, each of eight blocks.
 pub fn block_count(columns: u8) -> u32
     ensures { result ≤ 2 ^ 20 }
 {
@@ -57,11 +59,10 @@ fn time_two<R: Clock + Print + Eprint + Alloc<A = Global>, C: TileChain>(
     chain: &mut C,
     columns: u8,
 ) -> Result<()> {
-    let side = 64 * u16::from(columns);
-    let extent = rect(0, 0, side, side);
-    let mut buffers = one_buffer(chain, rt.alloc(), extent)?;
-    create(&mut buffers, "b", extent)?;
-    let band = noise(rt.alloc(), usize::from(columns) * 16_384)?;
+    let extent = rect(0, 0, 64 * u16::from(columns), 32 * u16::from(columns));
+    let mut buffers = one_buffer(chain, rt.alloc(), Format::RGBA16, extent)?;
+    create(&mut buffers, "b", Format::RGBA16, extent)?;
+    let band = noise(rt.alloc(), usize::from(columns) * 32_768)?;
     let start = Instant::now(rt)?;
     let found = put_bands(&mut buffers, chain, "a", &band, columns)?.wrapping_add(put_bands(
         &mut buffers,

@@ -38,8 +38,8 @@ pub fn read_blocks<D: SwapDisk>(disk: &mut D, into: &mut [u8]) -> Result<u64, Sw
     Ok(found)
 }
 
-/// Writes the same bytes over each row of tiles of a buffer of so many columns and rows. Gives how many bytes
-/// there are.
+/// Writes the same bytes over each row of tiles of a buffer of so many columns and half as many rows of tiles.
+/// Gives how many bytes there are.
 pub fn put_bands<C: TileChain>(
     buffers: &mut Buffers,
     chain: &mut C,
@@ -52,14 +52,15 @@ pub fn put_bands<C: TileChain>(
 {
     let name = name(word)?;
     let mut found = 0u64;
-    for row in 0..columns {
+    for row in 0..columns / 2 {
         buffers.put_raw(chain, name, band(row, columns), bytes)?;
         found = found.wrapping_add(bytes.len() as u64);
     }
     Ok(found)
 }
 
-/// Reads each row of tiles of a buffer of so many columns and rows. Gives the sum of their last bytes.
+/// Reads each row of tiles of a buffer of so many columns and half as many rows of tiles. Gives the sum of their
+/// last bytes.
 pub fn get_bands<C: TileChain>(
     buffers: &mut Buffers,
     chain: &mut C,
@@ -71,7 +72,7 @@ pub fn get_bands<C: TileChain>(
 {
     let name = name(word)?;
     let mut found = 0u64;
-    for row in 0..columns {
+    for row in 0..columns / 2 {
         let patch = buffers.get(chain, name, 0, Abyss::None, band(row, columns))?;
         found = found.wrapping_add(last(patch.raw_bytes()));
     }
