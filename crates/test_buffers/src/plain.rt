@@ -79,9 +79,8 @@ impl Plain {
     /// Returns the bytes of the rectangle and of three pixels on each side of it, under a policy.
     pub fn around(&self, alloc: Global, abyss: Abyss) -> Result<Vec<u8>, AllocError> {
         let columns = u32::from(self.width) + 6;
-        let rows = u32::from(self.height) + 6;
         let mut bytes = Vec::new(alloc);
-        for index in 0..columns * rows {
+        for index in 0..count_around(self.width, self.height) {
             let x = i64::from(self.left) - 3 + i64::from(index % columns);
             let y = i64::from(self.top) - 3 + i64::from(index / columns);
             bytes.push(self.under(abyss, [x, y]))?;
@@ -137,6 +136,11 @@ impl Plain {
         let lower_sum = u16::from(self.at([x, lower])) + u16::from(self.at([right, lower]));
         ((upper_sum + lower_sum + 2) / 4) as u8
     }
+}
+
+/// Returns how many pixels a rectangle has with three more on each side.
+fn count_around(width: u8, height: u8) -> u32 {
+    (u32::from(width) + 6) * (u32::from(height) + 6)
 }
 
 /// Returns the number that is nearest to a coordinate, of so many from the first on.
