@@ -75,8 +75,8 @@ fn compare_policies<C: TileChain>(
     let around = [
         i64::from(plain.left) - 3,
         i64::from(plain.top) - 3,
-        i64::from(plain.width) + 6,
-        i64::from(plain.height) + 6,
+        i64::from(plain.width).saturating_add(6),
+        i64::from(plain.height).saturating_add(6),
     ];
     for abyss in POLICIES {
         let wanted = plain.around(alloc, abyss)?;
