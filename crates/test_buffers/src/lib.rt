@@ -4,7 +4,11 @@
 #[cfg(test)]
 mod calls;
 #[cfg(test)]
+mod comparisons;
+#[cfg(test)]
 mod examples;
+#[cfg(test)]
+mod plain;
 #[cfg(test)]
 mod refusals;
 #[cfg(test)]

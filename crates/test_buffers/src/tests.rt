@@ -1,5 +1,6 @@
-//! Expected values are worked out by hand from the doc comments.
+//! Expected values are worked out by hand from the doc comments, or in plain lists of bytes.
 
+use crate::comparisons::{compare_duplicates, compare_levels, compare_moves};
 use crate::examples::{fill_again, freeze_parts, read_levels, write_to_duplicates, write_to_parts};
 use crate::refusals::{add_too_many, write_refused};
 use chain_handlers::Chain;
@@ -58,4 +59,18 @@ fn read_over<D: SwapDisk>(rt: &impl Abort, alloc: Global, disk: &mut D) -> Resul
 fn levels_are_read_and_parts_frozen(rt: HostRuntime) -> Result<(), Fail> {
     let mut disk = SureSwap::new(rt.alloc(), 16)?;
     read_over(&rt, rt.alloc(), &mut disk)
+}
+
+/// Compares buffers with plain lists of bytes over a chain of two tiles in memory.
+fn compare_over<D: SwapDisk>(rt: &impl Abort, alloc: Global, disk: &mut D) -> Result<(), Fail> {
+    let mut chain = Chain::new(alloc, disk, 512, 2)?;
+    compare_levels(rt, &mut chain, alloc)?;
+    compare_duplicates(rt, &mut chain, alloc)?;
+    compare_moves(rt, &mut chain, alloc)
+}
+
+#[test]
+fn buffers_are_as_plain_lists(rt: HostRuntime) -> Result<(), Fail> {
+    let mut disk = SureSwap::new(rt.alloc(), 512)?;
+    compare_over(&rt, rt.alloc(), &mut disk)
 }

@@ -1,0 +1,207 @@
+//! Buffers, and the calls on them that are timed.
+
+ghost use Rattle.std.specs.Prelude.{IfOk};
+ghost use Rattle.chain_owners.specs.Held.{Held};
+ghost use Rattle.plane_rect.specs.Rectangle.{InLimits};
+ghost use Rattle.buffer_view.specs.BufferTables.{AreBuffersOver};
+
+use crate::picture::sum;
+use crate::report::{Report, Times};
+use anyhow::{Context, Result};
+use buffer_view::{Buffers, no_buffers_ask_nothing};
+use chain_handlers::TileChain;
+use pixel_formats::{Abyss, Format};
+use plane_rect::{Name, Rect};
+use std::alloc::Global;
+use std::rt::Clock;
+use std::time::Instant;
+
+/// A rectangle of a level of a buffer, in pixels, and how often it is read.
+#[derive(Clone, Copy)]
+pub struct Part {
+    pub level: u8,
+    pub first: u8,
+    pub width: u16,
+    pub height: u16,
+    pub rounds: u8,
+}
+
+impl Part {
+    /// Returns the rectangle.
+    fn rect(self) -> Rect
+        ensures { InLimits result }
+    {
+        rect(
+            u16::from(self.first),
+            u16::from(self.first),
+            self.width,
+            self.height,
+        )
+    }
+}
+
+/// Returns the name that a word is.
+pub fn name(word: &str) -> Result<Name> {
+    Ok(Name::parse(word.as_bytes()).context("not a name")?)
+}
+
+/// Returns the rectangle of so many pixels from a position on, or the one without a position where that is none
+/// in limits.
+pub fn rect(x: u16, y: u16, width: u16, height: u16) -> Rect
+    ensures { InLimits result }
+{
+    let [x, y, width, height] = [x, y, width, height].map(i64::from);
+    match Rect::new(x, y, width, height) {
+        Ok(rect) if rect.in_limits() => rect,
+        _ => Rect::EMPTY,
+    }
+}
+
+/// Adds a buffer of zeros.
+pub fn create(buffers: &mut Buffers, word: &str, format: Format, extent: Rect) -> Result<()>
+    requires { InLimits extent }
+    ensures { (held : Held) → AreBuffersOver buffers.old held → AreBuffersOver buffers.new held }
+{
+    buffers.create(name(word)?, format, extent)?;
+    Ok(())
+}
+
+/// Returns a table of one buffer of zeros, named `a`.
+pub fn one_buffer<C: TileChain>(
+    chain: &C,
+    alloc: Global,
+    format: Format,
+    extent: Rect,
+) -> Result<Buffers>
+    requires { InLimits extent }
+    ensures { IfOk result (λ buffers. AreBuffersOver buffers (C.held chain.now)) }
+{
+    no_buffers_ask_nothing();
+    let mut buffers = Buffers::new(alloc);
+    create(&mut buffers, "a", format, extent)?;
+    Ok(buffers)
+}
+
+/// Times raw bytes that are written over a rectangle of a buffer, so many times.
+pub fn time_puts<R: Clock + Print + Eprint, C: TileChain>(
+    rt: &R,
+    report: Report,
+    buffers: &mut Buffers,
+    chain: &mut C,
+    rect: Rect,
+    bytes: &[u8],
+    rounds: u8,
+) -> Result<()>
+    requires { AreBuffersOver buffers.old (C.held chain.old) }
+    ensures { AreBuffersOver buffers.new (C.held chain.new) }
+{
+    let name = name("a")?;
+    let mut times = Times::none();
+    for _round in 0..rounds {
+        let start = Instant::now(rt)?;
+        buffers.put_raw(chain, name, rect, bytes)?;
+        times.add_since(rt, start)?;
+    }
+    report.print(rt, "put", &times, bytes.len() as u64)?;
+    Ok(())
+}
+
+/// Times reads of a part of the buffer `a`. Prints the sum of the bytes that the last one gave.
+pub fn time_gets<R: Clock + Print + Eprint, C: TileChain>(
+    rt: &R,
+    report: Report,
+    buffers: &mut Buffers,
+    chain: &mut C,
+    part: Part,
+) -> Result<()>
+    requires { AreBuffersOver buffers.old (C.held chain.old) }
+    ensures { AreBuffersOver buffers.new (C.held chain.new) }
+{
+    let name = name("a")?;
+    let level = u32::from(part.level.min(8));
+    let wanted = part.rect();
+    let mut times = Times::none();
+    let mut found = 0;
+    for _round in 0..part.rounds {
+        let start = Instant::now(rt)?;
+        let patch = buffers.get(chain, name, level, Abyss::None, wanted)?;
+        times.add_since(rt, start)?;
+        found = sum(patch.raw_bytes());
+    }
+    report.print(rt, "get", &times, found)?;
+    Ok(())
+}
+
+/// Times duplicates of the buffer `a`, of these names.
+pub fn time_duplicates<R: Clock + Print + Eprint, C: TileChain>(
+    rt: &R,
+    report: Report,
+    buffers: &mut Buffers,
+    chain: &mut C,
+    words: &[&str],
+) -> Result<()>
+    requires { AreBuffersOver buffers.old (C.held chain.old) }
+    ensures { AreBuffersOver buffers.new (C.held chain.new) }
+{
+    let from = name("a")?;
+    let mut times = Times::none();
+    for word in words {
+        let name = name(word)?;
+        let start = Instant::now(rt)?;
+        buffers.dup(chain, name, from)?;
+        times.add_since(rt, start)?;
+    }
+    report.print(rt, "duplicate", &times, words.len() as u64)?;
+    Ok(())
+}
+
+/// Times one pixel that is written over squares of 32 by 32, in another tile of a buffer each.
+pub fn time_fills<R: Clock + Print + Eprint, C: TileChain>(
+    rt: &R,
+    report: Report,
+    buffers: &mut Buffers,
+    chain: &mut C,
+    word: &str,
+    tiles: u8,
+) -> Result<()>
+    requires { AreBuffersOver buffers.old (C.held chain.old) }
+    ensures { AreBuffersOver buffers.new (C.held chain.new) }
+{
+    let name = name(word)?;
+    let mut times = Times::none();
+    for tile in 0..tiles {
+        let square = rect(64 * u16::from(tile) + 8, 8, 32, 32);
+        let start = Instant::now(rt)?;
+        buffers.fill(chain, name, square, &[1, 2, 3, 255])?;
+        times.add_since(rt, start)?;
+    }
+    report.print(rt, "fill", &times, u64::from(tiles))?;
+    Ok(())
+}
+
+/// Times reads of level 3 of the buffer `a`, each after a square of 32 by 32 of it was written.
+pub fn time_reads_after_fills<R: Clock + Print + Eprint, C: TileChain>(
+    rt: &R,
+    report: Report,
+    buffers: &mut Buffers,
+    chain: &mut C,
+    part: Part,
+) -> Result<()>
+    requires { AreBuffersOver buffers.old (C.held chain.old) }
+    ensures { AreBuffersOver buffers.new (C.held chain.new) }
+{
+    let name = name("a")?;
+    let wanted = part.rect();
+    let mut times = Times::none();
+    let mut found = 0;
+    for round in 0..part.rounds {
+        let square = rect(64 * u16::from(round) + 8, 8, 32, 32);
+        buffers.fill(chain, name, square, &[1, 2, 3, 255])?;
+        let start = Instant::now(rt)?;
+        let patch = buffers.get(chain, name, 3, Abyss::None, wanted)?;
+        times.add_since(rt, start)?;
+        found = sum(patch.raw_bytes());
+    }
+    report.print(rt, "get after a fill", &times, found)?;
+    Ok(())
+}

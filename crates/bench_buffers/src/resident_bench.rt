@@ -1,0 +1,137 @@
+//! Times of buffers of which all tiles are in memory.
+
+ghost use Rattle.std.specs.Prelude.{◌≤◌};
+ghost use Rattle.buffer_view.specs.BufferTables.{AreBuffersOver};
+
+use crate::calls::{
+    Part, one_buffer, rect, time_duplicates, time_fills, time_gets, time_puts,
+    time_reads_after_fills,
+};
+use crate::report::Report;
+use anyhow::Result;
+use buffer_view::Buffers;
+use chain_handlers::{Chain, TileChain};
+use outside_io::SureSwap;
+use pixel_formats::Format;
+use std::alloc::Global;
+use std::rt::Clock;
+
+/// Returns how many columns and rows of pixels the part has that is read of an image of so many columns of tiles.
+pub fn part_side(columns: u8) -> u16
+    ensures { result ≤ 512 }
+{
+    (u16::from(columns) * 16).min(512)
+}
+
+/// Times the calls on a buffer of an image of so many columns of tiles, and half as many rows.
+pub fn time_resident<R: Clock + Print + Eprint + Alloc<A = Global>>(
+    rt: &R,
+    report: Report,
+    bytes: &[u8],
+    columns: u8,
+) -> Result<()> {
+    let mut disk = SureSwap::new(rt.alloc(), 16)?;
+    let mut chain = Chain::new(rt.alloc(), &mut disk, 16, 1 << 16)?;
+    time_image(rt, report, &mut chain, bytes, columns)
+}
+
+/// Times the calls on one buffer, which is written first.
+fn time_image<R: Clock + Print + Eprint + Alloc<A = Global>, C: TileChain>(
+    rt: &R,
+    report: Report,
+    chain: &mut C,
+    bytes: &[u8],
+    columns: u8,
+) -> Result<()> {
+    let extent = rect(0, 0, 64 * u16::from(columns), 32 * u16::from(columns));
+    let mut buffers = one_buffer(chain, rt.alloc(), Format::RGBA8, extent)?;
+    let first = report.at("blank image");
+    time_puts(rt, first, &mut buffers, chain, extent, bytes, 1)?;
+    let whole = report.at("whole image");
+    time_puts(rt, whole, &mut buffers, chain, extent, bytes, 3)?;
+    time_reads(rt, report, &mut buffers, chain, columns)?;
+    time_duplicates(rt, report, &mut buffers, chain, &["b", "c", "d"])?;
+    time_fills(
+        rt,
+        report.at("duplicate"),
+        &mut buffers,
+        chain,
+        "b",
+        columns,
+    )?;
+    time_fills(rt, report, &mut buffers, chain, "b", columns)?;
+    time_levels(rt, report, &mut buffers, chain, columns)?;
+    buffers.release(chain);
+    Ok(())
+}
+
+/// Times reads of the whole image, and of parts of it that begin with a tile and inside one.
+fn time_reads<R: Clock + Print + Eprint, C: TileChain>(
+    rt: &R,
+    report: Report,
+    buffers: &mut Buffers,
+    chain: &mut C,
+    columns: u8,
+) -> Result<()>
+    requires { AreBuffersOver buffers.old (C.held chain.old) }
+    ensures { AreBuffersOver buffers.new (C.held chain.new) }
+{
+    let whole = Part {
+        level: 0,
+        first: 0,
+        width: 64 * u16::from(columns),
+        height: 32 * u16::from(columns),
+        rounds: 3,
+    };
+    let part = Part {
+        width: part_side(columns),
+        height: part_side(columns),
+        rounds: 20,
+        ..whole
+    };
+    time_gets(rt, report.at("whole image"), buffers, chain, whole)?;
+    time_gets(rt, report.at("part"), buffers, chain, part)?;
+    time_gets(
+        rt,
+        report.at("part off the tiles"),
+        buffers,
+        chain,
+        Part { first: 32, ..part },
+    )
+}
+
+/// Times level 3, that is first averaged, then held, and then averaged where a square was written.
+fn time_levels<R: Clock + Print + Eprint, C: TileChain>(
+    rt: &R,
+    report: Report,
+    buffers: &mut Buffers,
+    chain: &mut C,
+    columns: u8,
+) -> Result<()>
+    requires { AreBuffersOver buffers.old (C.held chain.old) }
+    ensures { AreBuffersOver buffers.new (C.held chain.new) }
+{
+    let first = Part {
+        level: 3,
+        first: 0,
+        width: 8 * u16::from(columns),
+        height: 4 * u16::from(columns),
+        rounds: 1,
+    };
+    let again = Part {
+        rounds: 10,
+        ..first
+    };
+    time_gets(rt, report.at("level 3"), buffers, chain, first)?;
+    time_gets(rt, report.at("level 3 again"), buffers, chain, again)?;
+    time_reads_after_fills(
+        rt,
+        report.at("level 3"),
+        buffers,
+        chain,
+        Part {
+            rounds: columns,
+            ..first
+        },
+    )
+}
