@@ -1,0 +1,36 @@
+//! Plain copies of memory, as a scale.
+
+use crate::report::{Report, least};
+use anyhow::Result;
+use std::alloc::Global;
+use std::rt::Clock;
+use std::time::Instant;
+
+/// How many bytes a patch of 512 by 512 pixels of four samples has.
+const PATCH_BYTES: usize = 512 * 512 * 4;
+
+/// Times copies of as many bytes as a patch of 512 by 512 pixels of four samples has.
+pub fn time_copies<R: Clock + Print + Eprint + Alloc<A = Global>>(
+    rt: &R,
+    report: Report,
+    rounds: u32,
+) -> Result<()> {
+    let source = vec![in rt.alloc(); 7u8; PATCH_BYTES]?;
+    let mut target = vec![in rt.alloc(); 0u8; PATCH_BYTES]?;
+    let mut best = u128::MAX;
+    for _round in 0..rounds {
+        let start = Instant::now(rt)?;
+        copy(&source, &mut target);
+        best = least(rt, best, start)?;
+    }
+    let found = target.last().copied().map_or(0, u64::from);
+    report.print(rt, "plain copy of a patch", best, 1, found)?;
+    Ok(())
+}
+
+/// Copies bytes to as many others.
+fn copy(source: &[u8], target: &mut [u8]) {
+    if source.len() == target.len() {
+        target.copy_from_slice(source);
+    }
+}

@@ -1,0 +1,130 @@
+//! A request after a small edit.
+
+ghost use Rattle.std.specs.Prelude.{◌≡◌, IfOk};
+ghost use Rattle.model_buffers.specs.Layout.{facts_of};
+ghost use Rattle.model_operations.specs.Meanings.{int_meanings};
+ghost use Rattle.buffer_view.specs.BufferTables.{AreBuffersOver, buffers_names};
+ghost use Rattle.test_renders.specs.Ready.{AreOver, AreReady};
+
+use crate::pairs::{MANY, show_again};
+use crate::report::{Report, least};
+use crate::scenes::{Job, name, node, ready, rect, request, source};
+use anyhow::Result;
+use buffer_view::Buffers;
+use chain_contracts::TileChain;
+use chain_handlers::Chain;
+use int_ops::IntOp;
+use model_graphs::{Edited, NodeEdit};
+use node_cache::PairStore;
+use outside_io::SureSwap;
+use pixel_formats::{Abyss, Format};
+use std::alloc::Global;
+use std::rt::Clock;
+use std::time::Instant;
+use test_renders::{Canvas, Request, over_buffers};
+
+/// Times a request of 512 by 512 pixels of a gain's mean in another format: all evaluated, all cached, and each time
+/// after 32 by 32 pixels of the buffer were written and committed.
+pub fn time_edits<R: Clock + Print + Eprint + Alloc<A = Global>>(
+    rt: &R,
+    report: Report,
+    job: Job,
+) -> Result<()> {
+    let mut disk = SureSwap::new(rt.alloc(), 16)?;
+    let mut chain = Chain::new(rt.alloc(), &mut disk, 16, MANY)?;
+    time_job(rt, report, &mut chain, job)
+}
+
+/// Returns the nodes.
+fn nodes(alloc: Global) -> Result<Vec<NodeEdit<IntOp>>> {
+    let mean = IntOp::BoxMean {
+        radius: 3,
+        abyss: Abyss::Clamp,
+    };
+    let convert = IntOp::Convert {
+        format: Format::RGBA8,
+    };
+    Ok(vec![in alloc;
+        source("s")?,
+        node(alloc, "g", IntOp::Gain { num: 5, den: 4 }, "s")?,
+        node(alloc, "b", mean, "g")?,
+        node(alloc, "c", convert, "b")?,
+    ]?)
+}
+
+/// Times the request over a chain.
+fn time_job<R: Clock + Print + Eprint + Alloc<A = Global>, C: TileChain>(
+    rt: &R,
+    report: Report,
+    chain: &mut C,
+    job: Job,
+) -> Result<()> {
+    let alloc = rt.alloc();
+    let (columns, rows) = (i64::from(job.columns), i64::from(job.rows));
+    let buffers = ready(chain, alloc, rect([0, 0, columns, rows]))?;
+    let edits = nodes(alloc)?;
+    let mut canvas = over_buffers(alloc, chain, buffers, &edits, MANY)?;
+    let (x, y) = (columns / 128 * 64 - 64, rows / 128 * 64 - 64);
+    let part = request("c", [x, y, 512, 512])?;
+    let start = Instant::now(rt)?;
+    let (shown, _spent) = canvas.shown(chain, &part)?;
+    let first = least(rt, u128::MAX, start)?;
+    report.print(rt, "request evaluated", first, shown.applied, shown.applied)?;
+    let (best, reused) = show_again(rt, &mut canvas, chain, &part, job.rounds)?;
+    report.print(rt, "request cached", best, reused, reused)?;
+    let written = [x + 100, y + 100, 32, 32];
+    let (best, applied) = edit_again(rt, &mut canvas, chain, &part, written, job.rounds)?;
+    report.print(rt, "request after an edit", best, 1, applied)?;
+    Ok(())
+}
+
+/// Writes a rectangle and commits it, and renders a request, again and again. Returns the least time of the renders
+/// in nanoseconds, and how many tiles the last one evaluated.
+fn edit_again<R: Clock, C: TileChain, P: PairStore<C>>(
+    rt: &R,
+    canvas: &mut Canvas<Buffers, P>,
+    chain: &mut C,
+    request: &Request,
+    written: [i64; 4],
+    rounds: u32,
+) -> Result<(u128, u64)>
+    requires level { request.now.level ≡ 0 }
+    requires over { AreOver (AreBuffersOver canvas.old.sources (C.held chain.old)) (P.is_over canvas.old.cache (C.held chain.old))
+        (buffers_names canvas.old.sources) (P.names canvas.old.cache) (C.held chain.old) }
+    requires ready { AreReady int_meanings (facts_of canvas.old.sources.layout) canvas.old.graph.latest.nodes
+        (P.sizes canvas.old.cache (C.held chain.old)) }
+{
+    let mut best = u128::MAX;
+    let mut applied = 0;
+    for round in 0..rounds {
+        edit(canvas, chain, written, round % 256)?;
+        let start = Instant::now(rt)?;
+        let (shown, _spent) = canvas.shown(chain, request)?;
+        best = least(rt, best, start)?;
+        applied = shown.applied;
+    }
+    Ok((best, applied))
+}
+
+/// Writes one color everywhere in a rectangle, and commits that.
+fn edit<C: TileChain, P: PairStore<C>>(
+    canvas: &mut Canvas<Buffers, P>,
+    chain: &mut C,
+    written: [i64; 4],
+    sample: u32,
+) -> Result<()>
+    requires over { AreOver (AreBuffersOver canvas.old.sources (C.held chain.old)) (P.is_over canvas.old.cache (C.held chain.old))
+        (buffers_names canvas.old.sources) (P.names canvas.old.cache) (C.held chain.old) }
+    requires ready { AreReady int_meanings (facts_of canvas.old.sources.layout) canvas.old.graph.latest.nodes
+        (P.sizes canvas.old.cache (C.held chain.old)) }
+    ensures over { AreOver (AreBuffersOver canvas.new.sources (C.held chain.new)) (P.is_over canvas.new.cache (C.held chain.new))
+        (buffers_names canvas.new.sources) (P.names canvas.new.cache) (C.held chain.new) }
+    ensures ready { IfOk result (λ _. AreReady int_meanings (facts_of canvas.new.sources.layout) canvas.new.graph.latest.nodes
+        (P.sizes canvas.new.cache (C.held chain.new))) }
+{
+    let root = name("a")?;
+    let rect = rect(written);
+    canvas.fill(chain, root, rect, &[sample, 100, 200])?;
+    canvas.commit_written(chain, &[Edited { root, rect }])?;
+    Ok(())
+}

@@ -1,0 +1,103 @@
+//! Cached tiles, and tiles that are evaluated.
+
+ghost use Rattle.std.specs.Prelude.{◌≡◌};
+ghost use Rattle.model_buffers.specs.Layout.{facts_of};
+ghost use Rattle.model_operations.specs.Meanings.{int_meanings};
+ghost use Rattle.buffer_view.specs.BufferTables.{AreBuffersOver, buffers_names};
+ghost use Rattle.test_renders.specs.Ready.{AreOver, AreReady};
+
+use crate::report::{Report, least};
+use crate::scenes::{Job, node, ready, rect, request, source};
+use anyhow::Result;
+use buffer_view::Buffers;
+use chain_contracts::TileChain;
+use chain_handlers::Chain;
+use int_ops::IntOp;
+use model_graphs::NodeEdit;
+use node_cache::PairStore;
+use outside_io::SureSwap;
+use std::alloc::Global;
+use std::rt::Clock;
+use std::time::Instant;
+use test_renders::{Canvas, Request, over_buffers};
+
+/// How many tiles the chain has in memory, and how many the cache keeps.
+pub const MANY: u32 = 1 << 16;
+
+/// Times one node over the buffer, and 21 on one another: what each more costs is that of its pairs.
+pub fn time_pairs<R: Clock + Print + Eprint + Alloc<A = Global>>(
+    rt: &R,
+    report: Report,
+    job: Job,
+) -> Result<()> {
+    let mut disk = SureSwap::new(rt.alloc(), 16)?;
+    let mut chain = Chain::new(rt.alloc(), &mut disk, 16, MANY)?;
+    time_depth(rt, report, &mut chain, job, 1)?;
+    time_depth(rt, report, &mut chain, job, 21)
+}
+
+/// Returns a source and so many gains on one another, named by their numbers.
+fn gains(alloc: Global, depth: u32) -> Result<Vec<NodeEdit<IntOp>>> {
+    let mut edits = vec![in alloc; source("n0")?]?;
+    for number in 0..depth {
+        let input = format!(in alloc; "n{number}")?;
+        let next = number.wrapping_add(1);
+        let word = format!(in alloc; "n{next}")?;
+        let op = IntOp::Gain { num: 5, den: 4 };
+        edits.push(node(alloc, &word, op, &input)?)?;
+    }
+    Ok(edits)
+}
+
+/// Times gains on one another, evaluated and cached.
+fn time_depth<R: Clock + Print + Eprint + Alloc<A = Global>, C: TileChain>(
+    rt: &R,
+    report: Report,
+    chain: &mut C,
+    job: Job,
+    depth: u32,
+) -> Result<()> {
+    let alloc = rt.alloc();
+    let side = i64::from(job.columns.min(512));
+    let buffers = ready(chain, alloc, rect([0, 0, side, side]))?;
+    let edits = gains(alloc, depth)?;
+    let mut canvas = over_buffers(alloc, chain, buffers, &edits, MANY)?;
+    let last = format!(in alloc; "n{depth}")?;
+    let all = request(&last, [0, 0, side, side])?;
+    let start = Instant::now(rt)?;
+    let (shown, _spent) = canvas.shown(chain, &all)?;
+    let first = least(rt, u128::MAX, start)?;
+    report.print(rt, "gain evaluated", first, shown.applied, shown.applied)?;
+    let (best, reused) = show_again(rt, &mut canvas, chain, &all, job.rounds)?;
+    report.print(rt, "gain cached", best, reused, reused)?;
+    Ok(())
+}
+
+/// Renders a request again and again. Returns the least time in nanoseconds, and how many tiles were cached.
+pub fn show_again<R: Clock, C: TileChain, P: PairStore<C>>(
+    rt: &R,
+    canvas: &mut Canvas<Buffers, P>,
+    chain: &mut C,
+    request: &Request,
+    rounds: u32,
+) -> Result<(u128, u64)>
+    requires level { request.now.level ≡ 0 }
+    requires over { AreOver (AreBuffersOver canvas.old.sources (C.held chain.old)) (P.is_over canvas.old.cache (C.held chain.old))
+        (buffers_names canvas.old.sources) (P.names canvas.old.cache) (C.held chain.old) }
+    requires ready { AreReady int_meanings (facts_of canvas.old.sources.layout) canvas.old.graph.latest.nodes
+        (P.sizes canvas.old.cache (C.held chain.old)) }
+    ensures over { AreOver (AreBuffersOver canvas.new.sources (C.held chain.new)) (P.is_over canvas.new.cache (C.held chain.new))
+        (buffers_names canvas.new.sources) (P.names canvas.new.cache) (C.held chain.new) }
+    ensures ready { AreReady int_meanings (facts_of canvas.new.sources.layout) canvas.new.graph.latest.nodes
+        (P.sizes canvas.new.cache (C.held chain.new)) }
+{
+    let mut best = u128::MAX;
+    let mut reused = 0;
+    for _round in 0..rounds {
+        let start = Instant::now(rt)?;
+        let (shown, _spent) = canvas.shown(chain, request)?;
+        best = least(rt, best, start)?;
+        reused = shown.reused;
+    }
+    Ok((best, reused))
+}
