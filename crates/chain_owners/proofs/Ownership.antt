@@ -1,5 +1,5 @@
 -- Laws of names, of their owners, and of what a call respects.
-use Rattle.std.proofs.Common.{◌≡◌, ◌≢◌, ℕ, ◌+◌, ◌-◌, ◌<◌, ◌≤◌, cond, List, [], ◌∷◌, ◌++◌, length, Option, Some, None, inl, inr, refl, sym, ap, subst, ◌∙◌, arith}
+use Rattle.std.proofs.Common.{◌≡◌, ◌≢◌, ℕ, ◌+◌, ◌-◌, ◌<◌, ◌≤◌, cond, List, [], ◌∷◌, ◌++◌, length, Option, Some, None, ◌⊎◌, inl, inr, refl, sym, ap, subst, ◌∙◌, arith}
 use Rattle.std.specs.Prelude.{if◌then◌else◌, nat_le, is_some}
 use Rattle.std.specs.Option.{option_and_then, option_map, unwrap_or}
 use Rattle.std.specs.FinMap as map
@@ -48,6 +48,7 @@ pub respects-same : (held : Held) (names : List ℕ) → Respects held held name
 respects-same held names = record {
   stopped = λ q is. is;
   others = λ q. inr refl;
+  unshared = λ q none some. refl;
   unchanged = λ q other. unchanged-same held q;
   exposed = refl;
 }
@@ -59,8 +60,22 @@ module _ (a b : Held) (before after : List ℕ) (first : Respects a b before aft
     | inr more ↦ elim (first.others q) [ inl is ↦ inl is | inr same ↦ inr (omega (arith, more, same)) ]
   ]
 
+  -- a name that the first call was handed nothing of is none of the second's either
+  unshared-both : (c : Held) (last : List ℕ) → Respects b c after last
+      → (q : ℕ) → times before q ≡ 0 → 0 < owners_of a q → owners_of c q ≡ owners_of a q
+  unshared-both c last second q none some =
+      let same : owners_of b q ≡ owners_of a q = first.unshared q none some in
+      elim (cases_eq (owners_of a q) max_owners) [
+        | inl is ↦ second.stopped q (first.stopped q is) ∙ sym is
+        | inr ne ↦ elim (first.others q) [
+          | inl is ↦ absurd (ne (sym same ∙ is))
+          | inr counts ↦ second.unshared q (omega (arith, counts, none, same)) (omega (arith, same, some)) ∙ same
+        ]
+      ]
+
   pub respects-both : (c : Held) (last : List ℕ) → Respects b c after last → Respects a c before last
   respects-both c last second = record {
+    unshared = unshared-both c last second;
     stopped = λ q is. second.stopped q (first.stopped q is);
     others = λ q. elim (first.others q) [
       | inl is ↦ inl (second.stopped q is)
@@ -78,6 +93,7 @@ module _ (a b : Held) (before after : List ℕ) (first : Respects a b before aft
   respects-beside before' after' beside is is' = record {
     stopped = first.stopped;
     others = λ q. elim (first.others q) [ inl is ↦ inl is | inr same ↦ inr (omega (arith, same, is q, is' q)) ];
+    unshared = λ q none some. first.unshared q (omega (arith, none, is q)) some;
     unchanged = λ q other. first.unchanged q (elim other [ inl is ↦ inl is | inr more ↦ inr (omega (arith, more, is q)) ]);
     exposed = first.exposed;
   }
@@ -95,6 +111,15 @@ module _ (a b : Held) (before after : List ℕ) (first : Respects a b before aft
       ]
     ];
   }
+
+  -- a name that another value holds alone
+  pub alone-stays : (others : List ℕ) → Owns a (before ++ others) → (q : ℕ) → 0 < times others q → owners_of a q ≡ 1 → owners_of b q ≡ 1
+  alone-stays others owns q some one =
+      let none : times before q ≡ 0 = elim (owns.counted q) [
+        | inl is ↦ absurd (omega (arith, is, one))
+        | inr enough ↦ omega (arith, enough, times-append before others q, some, one)
+      ] in
+      first.unshared q none (omega (arith, one)) ∙ one
 
   pub seen-unchanged : {X : Type 0} (others : List ℕ) (seen : Held → X) → IsFramed others seen → Owns a (before ++ others) → seen b ≡ seen a
   seen-unchanged others seen framed owns = framed a b first.exposed (others-unchanged others owns)
@@ -170,12 +195,14 @@ module _ (held : Held) (name : ℕ) where
 
 -- ---- one owner more
 
--- Where the owners of one name alone changed, and nothing else, the count of that name decides.
+-- Where the owners of one name alone changed, which nobody held or this value too, and nothing else, the
+-- count of that name decides.
 respects-owners : (held : Held) (name count : ℕ) (before after : List ℕ) → owners_of held name ≢ max_owners
     → count + times before name ≡ owners_of held name + times after name
     → ((q : ℕ) → q ≢ name → times before q ≡ times after q)
+    → (owners_of held name ≡ 0) ⊎ (0 < times before name)
     → Respects held (with_owners held name count) before after
-respects-owners held name count before after ne here elsewhere = record {
+respects-owners held name count before after ne here elsewhere there = record {
   stopped = λ q is. elim (cases_eq q name) [
     | inl e ↦ absurd (ne (ap (owners_of held) (sym e) ∙ is))
     | inr other ↦ owners-elsewhere held name count q other ∙ is
@@ -185,25 +212,35 @@ respects-owners held name count before after ne here elsewhere = record {
         subst P (sym e) (omega (arith, here, owners-here held name count)))
     | inr other ↦ inr (omega (arith, elsewhere q other, owners-elsewhere held name count q other))
   ];
+  unshared = λ q none more. elim (cases_eq q name) [
+    | inl e ↦ absurd (elim there [
+      | inl free ↦ omega (arith, ap (owners_of held) e, free, more)
+      | inr some ↦ omega (arith, ap (times before) e, some, none)
+    ])
+    | inr other ↦ owners-elsewhere held name count q other
+  ];
   unchanged = λ q other. record { length = refl; bytes = refl };
   exposed = refl;
 }
 
-pub owned-respects : (held : Held) (names : List ℕ) (name : ℕ) → Respects held (owned held name) names (name ∷ names)
-owned-respects held names name = elim (cases_eq (owners_of held name) max_owners) [
+pub owned-respects : (held : Held) (names : List ℕ) (name : ℕ) → (owners_of held name ≡ 0) ⊎ (0 < times names name)
+    → Respects held (owned held name) names (name ∷ names)
+owned-respects held names name there = elim (cases_eq (owners_of held name) max_owners) [
   | inl is ↦ rw (owned-stopped held name is) (record {
     stopped = λ q is. is;
     others = λ q. elim (cases_eq q name) [
       | inl e ↦ inl (ap (owners_of held) e ∙ is)
       | inr other ↦ inr (omega (arith, times-elsewhere names name q other))
     ];
+    unshared = λ q none some. refl;
     unchanged = λ q other. unchanged-same held q;
     exposed = refl;
   })
   | inr ne ↦ rw (owned-more held name ne)
       (respects-owners held name (owners_of held name + 1) names (name ∷ names) ne
       (omega (arith, times-here names name))
-      (λ q other. sym (times-elsewhere names name q other)))
+      (λ q other. sym (times-elsewhere names name q other))
+      there)
 ]
 
 -- ---- one owner fewer
@@ -216,6 +253,7 @@ disowned-respects held names name owns = elim (cases_eq (owners_of held name) ma
       | inl e ↦ inl (ap (owners_of held) e ∙ is)
       | inr other ↦ inr (omega (arith, times-elsewhere names name q other))
     ];
+    unshared = λ q none some. refl;
     unchanged = λ q other. unchanged-same held q;
     exposed = refl;
   })
@@ -225,7 +263,8 @@ disowned-respects held names name owns = elim (cases_eq (owners_of held name) ma
       | inl more ↦ rw (disowned-fewer held name ne more)
           (respects-owners held name (owners_of held name - 1) (name ∷ names) names ne
           (omega (arith, times-here names name, more))
-          (times-elsewhere names name))
+          (times-elsewhere names name)
+          (inr (omega (arith, times-here names name))))
       | inr le ↦ rw (disowned-last held name le) (last ne (omega (arith, le, enough, times-here names name)) (omega (arith, le, enough, times-here names name)))
     ]
   ]
@@ -246,6 +285,10 @@ disowned-respects held names name owns = elim (cases_eq (owners_of held name) ma
       others = λ q. elim (cases_eq q name) [
         | inl e ↦ inr (omega (arith, gone q e, ap (times (name ∷ names)) e, times-here names name, ap (times names) e, ap (owners_of held) e, one, none))
         | inr other ↦ inr (omega (arith, left q other, times-elsewhere names name q other))
+      ];
+      unshared = λ q free more. elim (cases_eq q name) [
+        | inl e ↦ absurd (omega (arith, free, ap (times (name ∷ names)) e, times-here names name))
+        | inr other ↦ left q other
       ];
       unchanged = λ q has. elim (cases_eq q name) [
         | inl e ↦ absurd (elim has [
@@ -270,6 +313,10 @@ new_name-respects held names name bytes none = record {
     | inl e ↦ inr (omega (arith, ap (owners_of (with_name held name bytes)) e, owners-here held name 1, ap (times (name ∷ names)) e, times-here names name, ap (times names) e, ap (owners_of held) e, none))
     | inr other ↦ inr (omega (arith, owners-elsewhere held name 1 q other, times-elsewhere names name q other))
   ];
+  unshared = λ q free some. elim (cases_eq q name) [
+    | inl e ↦ absurd (omega (arith, some, ap (owners_of held) e, none))
+    | inr other ↦ owners-elsewhere held name 1 q other
+  ];
   unchanged = λ q has. elim (cases_eq q name) [
     | inl e ↦ absurd (elim has [
       | inl is ↦ omega (arith, is, ap (owners_of held) e, none)
@@ -285,6 +332,7 @@ pub rewritten-respects : (held : Held) (names : List ℕ) (name : ℕ) (bytes : 
 rewritten-respects held names name bytes one some = record {
   stopped = λ q is. is;
   others = λ q. inr refl;
+  unshared = λ q free more. refl;
   unchanged = λ q has. elim (cases_eq q name) [
     | inl e ↦ absurd (elim has [
       | inl is ↦ omega (arith, is, ap (owners_of held) e, one)

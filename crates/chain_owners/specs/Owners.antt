@@ -28,6 +28,8 @@ pub record Respects (old new : Held) (before after : List ℕ) : Type 0 where
   -- each name has as many other owners as before
   pub others : (name : ℕ) →
       (owners_of new name ≡ max_owners) ⊎ (owners_of new name + times before name ≡ owners_of old name + times after name)
+  -- a name that others alone hold has as many owners as before
+  pub unshared : (name : ℕ) → times before name ≡ 0 → 0 < owners_of old name → owners_of new name ≡ owners_of old name
   -- a name that has an other owner keeps its bytes
   pub unchanged : (name : ℕ) → HasOther old before name → Unchanged old new name
   -- bytes stay exposed, or stay hidden

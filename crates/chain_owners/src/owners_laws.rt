@@ -62,9 +62,19 @@ pub fn others_are_unchanged<X>()
         IsFramed others seen → Respects old new before after → Owns old (before ++ others) → seen new ≡ seen old }
 {}
 
-/// A value that becomes an owner of a name more respects all others.
+/// A value that owns a name once more, where it holds it already or nobody does, respects all others.
 pub fn owning_respects()
-    ensures { (held : Held) (names : List ℕ) (name : ℕ) → Respects held (owned held name) names (name ∷ names) }
+    ensures held { (held : Held) (names : List ℕ) (name : ℕ) →
+        0 < times names name → Respects held (owned held name) names (name ∷ names) }
+    ensures free { (held : Held) (names : List ℕ) (name : ℕ) →
+        owners_of held name ≡ 0 → Respects held (owned held name) names (name ∷ names) }
+{}
+
+/// A name that has one owner, which a call wasn't handed, has this one alone after the call too.
+pub fn only_owners_stay_alone()
+    ensures { (old new : Held) (before after others : List ℕ) (name : ℕ) →
+        Respects old new before after → Owns old (before ++ others) →
+        0 < times others name → owners_of old name ≡ 1 → owners_of new name ≡ 1 }
 {}
 
 /// A value that owns names and gives one of them up respects all others, also where the name goes.

@@ -1,15 +1,17 @@
 -- Names of which one becomes an owner, and names that one gives up, one after another.
 use Rattle.std.proofs.Common.{◌≡◌, ℕ, ◌+◌, ◌<◌, List, [], ◌∷◌, ◌++◌, inl, inr, refl, ap, subst, ◌∙◌, arith}
 use Rattle.std.specs.Prelude.{IsSome}
-use Rattle.std.specs.Option.{is_some}
+use Rattle.std.specs.FinMap as map
+use Rattle.std.specs.Option.{Option, is_some, option_and_then}
 use Rattle.std.specs.Map.{values_of}
 use Rattle.std.proofs.lemmas.Bool.{cases_eq}
 use Rattle.chain_owners.specs.Held.{Held, disowned, length_of, max_owners, owned, owners_of}
+use Rattle.chain_owners.specs.Values.{Named}
 use Rattle.chain_owners.specs.Owners.{Owns, Respects, times}
 use Rattle.chain_owners.proofs.Ownership.{disowned-respects, others-own, others-unchanged, owned-more, owned-respects, owned-stopped, owns-fewer, respects-beside, respects-both, respects-same, times-append, times-here}
 use Rattle.level_tables.specs.LevelTiles.{LevelTiles, names}
 use Rattle.level_tables.specs.Over.{IsOver}
-use Rattle.level_tables.proofs.Frames.{over-beside}
+use Rattle.level_tables.proofs.Frames.{over-framed}
 
 owned-lengths : (held : Held) (name : ℕ) → (owned held name).lengths ≡ held.lengths
 owned-lengths held name = elim (cases_eq (owners_of held name) max_owners) [
@@ -30,20 +32,22 @@ pub record Owning (all left : List ℕ) (old now : Held) : Type 0 where
   pub count : (q : ℕ) → times done q + times left q ≡ times all q
   pub lengths : now.lengths ≡ old.lengths
   pub content : now.content ≡ old.content
-  pub others : Respects old now [] done
+  pub others : Respects old now all (done ++ all)
 
 pub owning-first : (all : List ℕ) (held : Held) → Owning all all held held
-owning-first all held = record { done = []; count = λ q. omega arith; lengths = refl; content = refl; others = respects-same held [] }
+owning-first all held = record { done = []; count = λ q. omega arith; lengths = refl; content = refl; others = respects-same held all }
 
 pub owning-next : (all left rest : List ℕ) (name : ℕ) (old now new : Held) → left ≡ name ∷ rest → new ≡ owned now name → Owning all left old now → Owning all rest old new
 owning-next all left rest name old now new is is_new before =
-    let more : Respects now new before.done (name ∷ before.done) = rw is_new (owned-respects now before.done name) in
+    let some : 0 < times (before.done ++ all) name =
+        omega (arith, times-append before.done all name, before.count name, ap (λ (l : List ℕ). times l name) is, times-here rest name) in
+    let more : Respects now new (before.done ++ all) (name ∷ before.done ++ all) = rw is_new (owned-respects now (before.done ++ all) name (inr some)) in
     record {
       done = name ∷ before.done;
       count = λ q. omega (arith, before.count q, ap (λ (l : List ℕ). times l q) is);
       lengths = ap (λ (h : Held). h.lengths) is_new ∙ owned-lengths now name ∙ before.lengths;
       content = ap (λ (h : Held). h.content) is_new ∙ owned-content now name ∙ before.content;
-      others = respects-both old now [] before.done before.others new (name ∷ before.done) more;
+      others = respects-both old now all (before.done ++ all) before.others new (name ∷ before.done ++ all) more;
     }
 
 pub owning-there : (all left rest : List ℕ) (name : ℕ) (old now : Held) → left ≡ name ∷ rest → Owning all left old now
@@ -52,10 +56,10 @@ owning-there all left rest name old now is before there =
     let some : 0 < times all name = omega (arith, before.count name, ap (λ (l : List ℕ). times l name) is, times-here rest name) in
     rw before.lengths (there name some)
 
-pub owning-end : (all left : List ℕ) (old now : Held) → left ≡ [] → Owning all left old now → Respects old now [] all
+pub owning-end : (all left : List ℕ) (old now : Held) → left ≡ [] → Owning all left old now → Respects old now all (all ++ all)
 owning-end all left old now is before =
-    respects-beside old now [] before.done before.others [] all [] (λ q. omega arith)
-    (λ q. omega (arith, before.count q, ap (λ (l : List ℕ). times l q) is))
+    respects-beside old now all (before.done ++ all) before.others all (all ++ all) [] (λ q. omega arith)
+    (λ q. omega (arith, before.count q, ap (λ (l : List ℕ). times l q) is, times-append before.done all q, times-append all all q))
 
 -- ---- one owner fewer of each
 
@@ -104,16 +108,17 @@ module _ (tiles : LevelTiles) (old : Held) (over : IsOver tiles old) where
   level_names = values_of tiles.levels
 
   -- a table that is shared
-  module _ (mid new : Held) (first : Respects old mid [] put_names) (second : Respects mid new [] level_names) where
+  module _ (mid new : Held) (first : Respects old mid put_names (put_names ++ put_names)) (second : Respects mid new level_names (level_names ++ level_names)) where
     pub shared-others : Respects old new (names tiles) (names tiles ++ names tiles)
     shared-others =
         respects-both old mid (names tiles) (put_names ++ names tiles)
-        (respects-beside old mid [] put_names first (names tiles) (put_names ++ names tiles) (names tiles)
-        (λ q. omega arith) (λ q. omega (arith, times-append put_names (names tiles) q)))
+        (respects-beside old mid put_names (put_names ++ put_names) first (names tiles) (put_names ++ names tiles) level_names
+        (λ q. omega (arith, times-append put_names level_names q))
+        (λ q. omega (arith, times-append put_names (names tiles) q, times-append put_names level_names q, times-append put_names put_names q)))
         new (names tiles ++ names tiles)
-        (respects-beside mid new [] level_names second (put_names ++ names tiles) (names tiles ++ names tiles) (put_names ++ names tiles)
-        (λ q. omega arith)
-        (λ q. omega (arith, times-append (names tiles) (names tiles) q, times-append put_names (names tiles) q, times-append put_names level_names q)))
+        (respects-beside mid new level_names (level_names ++ level_names) second (put_names ++ names tiles) (names tiles ++ names tiles) (put_names ++ put_names)
+        (λ q. omega (arith, times-append put_names (names tiles) q, times-append put_names level_names q, times-append put_names put_names q))
+        (λ q. omega (arith, times-append (names tiles) (names tiles) q, times-append put_names level_names q, times-append put_names put_names q, times-append level_names level_names q)))
 
     pub shared-owns : Owns new (names tiles ++ names tiles)
     shared-owns =
@@ -121,10 +126,14 @@ module _ (tiles : LevelTiles) (old : Held) (over : IsOver tiles old) where
         (others-own old new (names tiles) (names tiles ++ names tiles) shared-others []
         (owns-fewer old (names tiles) (names tiles ++ []) (λ q. omega (arith, times-append (names tiles) [] q)) over.owned))
 
-    pub shared-over : IsOver tiles new
-    shared-over =
-        let at_mid = over-beside old mid [] put_names first tiles over.owned over in
-        over-beside mid new [] level_names second tiles at_mid.owned at_mid
+    pub shared-over : new.lengths ≡ old.lengths → new.content ≡ old.content → IsOver tiles new
+    shared-over lengths content =
+        over-framed tiles old new (ap is_some content)
+        (λ q some. record {
+          length = ap (λ (l : Named ℕ). map.get l q) lengths;
+          bytes = ap (λ (o : Option (Named (List ℕ))). option_and_then (λ (m : Named (List ℕ)). map.get m q) o) content;
+        })
+        over (owns-fewer new (names tiles ++ names tiles) (names tiles) (λ q. omega (arith, times-append (names tiles) (names tiles) q)) shared-owns)
 
   -- a table that is released
   pub put-owned : Owns old put_names

@@ -60,7 +60,8 @@ fn own_each<K: Eq + Hash, C: TileChain>(entries: &IndexMap<K, u64>, chain: &mut 
     requires { (name : ℕ) → 0 < times (values_of entries.now.entries) name → IsSome (length_of (C.held chain.old) name) }
     ensures lengths { (C.held chain.new).lengths ≡ (C.held chain.old).lengths }
     ensures content { (C.held chain.new).content ≡ (C.held chain.old).content }
-    ensures others { Respects (C.held chain.old) (C.held chain.new) [] (values_of entries.now.entries) }
+    ensures others { Respects (C.held chain.old) (C.held chain.new) (values_of entries.now.entries)
+        (values_of entries.now.entries ++ values_of entries.now.entries) }
     ensures counts { C.counts chain.new ≡ C.counts chain.old }
     ensures loans { C.loans chain.new ≡ C.loans chain.old }
     ensures valid { C.is_valid chain.old → C.is_valid chain.new }

@@ -1,3 +1,4 @@
+use Rattle.std.proofs.Common.{◌∙◌}
 use Rattle.level_tables.specs.LevelTiles.{LevelTiles}
 use Rattle.level_tables.proofs.Owning.{levels-there, put-there, shared-others, shared-over, shared-owns}
 use Rattle.level_tables.proofs.table.LevelTable.share.Goals as goal
@@ -20,7 +21,8 @@ returns-clause-over g c =
     let tiles : LevelTiles = record { format = c.self.inside.format; put = c.self.inside.put.entries; levels = c.self.inside.levels.entries } in
     rw (← c.self.view_is)
     (shared-over tiles held (rw (← c.self.view_is) at c.requires) (g.C.ChainMeaning.held c.own_each.new.chain) (g.C.ChainMeaning.held c.own_each-2.new.chain)
-    c.own_each.ensures.others c.own_each-2.ensures.others)
+    c.own_each.ensures.others c.own_each-2.ensures.others
+    (c.own_each-2.ensures.lengths ∙ c.own_each.ensures.lengths) (c.own_each-2.ensures.content ∙ c.own_each.ensures.content))
 
 pub returns-clause-owned : goal.returns-clause-owned
 returns-clause-owned g c =
