@@ -1,4 +1,5 @@
 pub mod Held
+pub mod Commits
 pub mod Cached
 pub mod Working
 pub mod Changed

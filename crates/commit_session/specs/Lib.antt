@@ -2,3 +2,4 @@ pub mod Parts
 pub mod Seen
 pub mod Steps
 pub mod Refusals
+pub mod Rendering

@@ -1,9 +1,12 @@
-//! What a session holds over one chain of tiles, how it is edited and read, and what the definitions say of it.
+//! Sessions of edits, commits and renders over one chain of tiles.
 #![tactic(auto)]
 
 mod edits;
 mod refused;
+mod renders;
 mod state;
+mod steps;
+mod voids;
 mod written;
 
 pub use refused::SessionRefused;
