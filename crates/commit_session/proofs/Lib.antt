@@ -5,3 +5,5 @@ pub mod Working
 pub mod Changed
 pub mod Same
 pub mod Hulls
+pub mod Requested
+pub mod Rendered
