@@ -21,7 +21,7 @@ ghost use Rattle.render_workers.specs.declared.refused.RenderRefused.TheVariants
 ghost use Rattle.session_states.specs.OverChains.{Leaves};
 ghost use Rattle.commit_session.specs.Parts.{session_names};
 ghost use Rattle.commit_session.specs.Refusals.{IsRefusedAs, by_render};
-ghost use Rattle.commit_session.specs.Rendering.{HasSameButCache, IsRendered, looked_up_by, names_in_render};
+ghost use Rattle.commit_session.specs.Rendering.{HasSameButCache, IsRecached, IsRendered, OnPlanRefused, looked_up_by, names_in_render};
 ghost use Rattle.commit_session.specs.Seen.{IsOver, IsSessionOf};
 ghost use Rattle.commit_session.specs.declared.refused.SessionRefused.TheVariants.{Render};
 
@@ -80,10 +80,16 @@ impl<Op: OpMeaning + Drop> SessionState<Op> {
             (IsRefusedBy Op.meanings self.old.graph.latest.nodes (request node level rect) self.old.capacity
             (HasSwapCause (C.counts chain.old) (C.counts chain.new)
             (names_in_render Op.meanings self.old (request node level rect) (C.counts chain.old))))) }
+        ensures unchanged { IfErr result (OnPlanRefused ((self.new ≡ self.old) × (C.held chain.new ≡ C.held chain.old)
+            × (C.counts chain.new ≡ C.counts chain.old) × (K.permits purse.new ≡ K.permits purse.old))) }
+        ensures refused_session { (session : Session Table Op) → IsSessionOf Op.same Op.meanings self.old (C.held chain.old) session →
+            OnErr result (IsRecached Op.same Op.meanings self.new (C.held chain.new) session) }
         ensures states { HasSameButCache self.old self.new }
         ensures uncounted { OnErr result ((self.new.applied ≡ self.old.applied) × (self.new.reused ≡ self.old.reused)) }
-        ensures permits { IfOk result (λ _. Spent (K.permits purse.old) (K.permits purse.new)
-            (looked_up_by Op.meanings self.old (request node level rect)).applied) }
+        ensures permits { MatchResult result
+            (λ _. Spent (K.permits purse.old) (K.permits purse.new) (looked_up_by Op.meanings self.old (request node level rect)).applied)
+            (λ _. (K.permits purse.new ≤ K.permits purse.old) × (K.permits purse.old ≤ K.permits purse.new
+            + length (pairs_requested Op.meanings self.old.graph.latest.nodes (request node level rect)))) }
         ensures over { IsOver Op.same Op.meanings self.new (C.held chain.new) }
         ensures other_names { AddsNoOther (C.counts chain.old) (C.counts chain.new) (values_of self.old.entries) (values_of self.new.entries) }
         ensures left { Leaves (length (pairs_requested Op.meanings self.old.graph.latest.nodes (request node level rect)))
