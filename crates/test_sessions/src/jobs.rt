@@ -29,6 +29,11 @@ fn check_bytes(rt: &impl Abort, patch: &Patch, index: usize, wanted: &[u8]) {
     assert!(rt; found.starts_with(wanted));
 }
 
+/// Checks all bytes of a patch.
+fn check_all(rt: &impl Abort, patch: &Patch, wanted: &[u8]) {
+    assert_eq!(rt; patch.raw_bytes(), wanted);
+}
+
 /// Commits a gray square of 128 by 128 pixels under the mean of nine, as the first state.
 pub fn commit_a_mean<C: TileChain>(
     rt: &impl Abort,
@@ -70,11 +75,13 @@ pub fn average_and_undo<C: TileChain>(
     check_bytes(rt, &edited, 0, &[56, 78, 67]);
     check_bytes(rt, &edited, 128, &[78, 111, 100]);
     undo(rt, session, 3);
-    assert_eq!(rt; grabbed(rt, session, "a", [0, 0, 1, 1]).raw_bytes(), &[100]);
+    let pixel = grabbed(rt, session, "a", [0, 0, 1, 1]);
+    check_all(rt, &pixel, &[100]);
     let undone = shown(rt, session, "b", [0, 0, 128, 128], (6, 14));
     assert!(rt; undone.raw_bytes() == first.raw_bytes());
     redo(rt, session, 4);
-    assert_eq!(rt; grabbed(rt, session, "a", [0, 0, 1, 1]).raw_bytes(), &[200]);
+    let pixel = grabbed(rt, session, "a", [0, 0, 1, 1]);
+    check_all(rt, &pixel, &[200]);
     let redone = shown(rt, session, "b", [0, 0, 128, 128], (7, 17));
     assert!(rt; redone.raw_bytes() == edited.raw_bytes());
 }
@@ -95,20 +102,21 @@ pub fn load_and_gain<C: TileChain>(
     make(rt, session, node(rt, alloc, "i", IntOp::Invert, "g"));
     commit(rt, session, 1);
     let first = shown(rt, session, "i", [0, 0, 2, 2], (2, 0));
-    assert_eq!(rt; first.raw_bytes(), &[235, 215, 195, 0]);
+    check_all(rt, &first, &[235, 215, 195, 0]);
     make(rt, session, node(rt, alloc, "g", IntOp::Gain { num: 3, den: 1 }, "s"));
-    let pending = shown(rt, session, "i", [0, 0, 2, 2], (2, 1));
-    assert_eq!(rt; pending.raw_bytes(), &[235, 215, 195, 0]);
+    let pending = shown(rt, session, "i", [0, 0, 2, 2], (2, 2));
+    check_all(rt, &pending, &[235, 215, 195, 0]);
     commit(rt, session, 2);
-    let second = shown(rt, session, "i", [0, 0, 2, 2], (4, 1));
-    assert_eq!(rt; second.raw_bytes(), &[225, 195, 165, 0]);
+    let second = shown(rt, session, "i", [0, 0, 2, 2], (4, 2));
+    check_all(rt, &second, &[225, 195, 165, 0]);
     let half = render(rt, session, "i", 1, [0, 0, 1, 1]);
     let half = half.expect(rt, "a request that is not refused");
-    assert_eq!(rt; half.raw_bytes(), &[146]);
+    check_all(rt, &half, &[146]);
 }
 
-/// Renders with a cache of one pair: a strip of two tiles is refused and not counted, and one tile is found only
-/// where it was the last that was looked up.
+/// Renders with a cache of one pair: a strip of more tiles is refused and not counted, and one tile is found only
+/// where it was the last that was looked up. The mean is one pixel wider than the buffer on each side, so that a
+/// whole row of it needs three tiles to the right of the origin.
 pub fn cache_one_pair<C: TileChain>(
     rt: &impl Abort,
     session: &mut OwnedSession<IntKit, C>,
@@ -130,8 +138,12 @@ pub fn cache_one_pair<C: TileChain>(
     shown(rt, session, "b", [0, 0, 64, 64], (3, 1));
     let column = shown(rt, session, "b", [0, 0, 64, 128], (4, 2));
     check_bytes(rt, &column, 0, &[44, 67]);
-    let outside = render(rt, session, "b", 0, [0, 0, 32_768, 1]);
-    assert!(rt; outside.err() == Some(SessionRefused::Render(RenderRefused::Strip { needed: 2, capacity: 1 })));
+    let row = render(rt, session, "b", 0, [0, 0, 32_768, 1]).err();
+    let strip = RenderRefused::Strip {
+        needed: 3,
+        capacity: 1,
+    };
+    assert!(rt; row == Some(SessionRefused::Render(strip)));
     let missing = render(rt, session, "c", 0, [0, 0, 1, 1]).err();
     assert!(rt; missing == Some(SessionRefused::Render(RenderRefused::UnknownNode)));
     let large = render(rt, session, "b", 8, [0, 0, 129, 1]).err();
