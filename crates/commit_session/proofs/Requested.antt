@@ -1,5 +1,5 @@
 -- Cached pairs of stated nodes: their lengths, and what they are where they are right.
-use Rattle.std.proofs.Common.{◌≡◌, ℕ, ◌*◌, List, [], ◌∷◌, length, map, Option, None, Some, absurd, refl, sym, ap, ap₂, ◌∙◌, subst}
+use Rattle.std.proofs.Common.{◌≡◌, ℕ, ◌*◌, List, [], ◌∷◌, length, map, Option, None, Some, refl, sym, ap, ap₂, ◌∙◌, subst}
 use Rattle.std.specs.Prelude.{IfSome, IsSome, is_some}
 use Rattle.std.specs.List.{AllByRecursion}
 use Rattle.std.specs.Option.{option_map}
@@ -51,7 +51,9 @@ entries-same (e ∷ a) (f ∷ b) pairs names =
     let key : e.0 ≡ f.0 = ap (λ (p : Pair). let k : PairKey = record { node = p.node; at = p.tile } in k) pair in
     let name : e.1 ≡ f.1 = cc in
     let rest : a ≡ b = entries-same a b (cc) (cc) in
-    ap₂ {B = Entries} (λ x xs. x ∷ xs) (ap₂ {B = PairKey × ℕ} (λ k n. (k, n)) key name) rest
+    let first : e ≡ f =
+    ap (λ (k : PairKey). let x : PairKey × ℕ = (k, e.1) in x) key ∙ ap (λ (n : ℕ). let x : PairKey × ℕ = (f.0, n) in x) name in
+    ap₂ {B = Entries} (λ x xs. x ∷ xs) first rest
 
 module _ {Op : Type 0} (meanings : Meanings Op) (scene : Scene Op) where
   pub fresh-pairs : (pairs : List Pair) → pairs_of by_pair (map (with_bytes meanings scene) pairs) ≡ pairs
