@@ -7,3 +7,5 @@ pub mod Same
 pub mod Hulls
 pub mod Requested
 pub mod Rendered
+pub mod Handed
+pub mod Acting

@@ -48,6 +48,10 @@ use Rattle.commit_session.proofs.Held.{table-again}
 use Rattle.commit_session.proofs.Requested.{HasLength, fresh-length, fresh-lengths, fresh-pairs, fresh-right, have-lengths, known-from, known-is, lengths-are, looked-lengths, map-itself, right-is, right-sized, sized_by, sizes-are}
 use Rattle.commit_session.proofs.Working.{retained-again}
 
+-- bytes that are known are exposed
+pub known-exposed : (entries : Entries) (held : Held) (list : List Cached) → cached_in entries held ≡ Some list → IsSome held.content
+known-exposed entries held list known = known-from held.content _ list known
+
 module _ {Op : Type 0} (same : Op → Op → Bool) (meanings : Meanings Op) (parts : Parts Op) (held : Held) (over : IsOver same meanings parts held) (stated : IsStated meanings parts.graph.latest) where
   abbrev nodes : List (NodeFact Op)
   nodes = parts.graph.latest.nodes
@@ -166,7 +170,7 @@ module _ {Op : Type 0} (same : Op → Op → Bool) (meanings : Meanings Op) (par
       module _ (exposed : is_some left.content ≡ is_some held.content)
           (right : (images : Buffers) → buffer_images latest held ≡ Some images → AreKnownRight meanings nodes images (cached_in parts.entries held) → AreKnownRight meanings nodes images (cached_in entries left)) where
         still-exposed : (list : List Cached) → cached_in entries left ≡ Some list → IsSome held.content
-        still-exposed list known = sym exposed ∙ known-from left.content _ list known
+        still-exposed list known = sym exposed ∙ known-exposed entries left list known
 
         module _ (session : Session Table Op) (is : IsSessionOf same meanings parts held session) where
           abbrev pub refreshed : List Cached

@@ -9,13 +9,13 @@ ghost use Rattle.model_graphs.specs.Node.{index_of};
 ghost use Rattle.model_graphs.specs.Permits.{Spent};
 ghost use Rattle.model_images.specs.Level.{level as level_of};
 ghost use Rattle.model_images.specs.Paint.{cut};
-ghost use Rattle.model_sessions.specs.Sessions.{Session, last_scene, with_render};
+ghost use Rattle.model_sessions.specs.Sessions.{Session, after_render, last_scene};
 ghost use Rattle.model_states.specs.Edits.{has_node};
 ghost use Rattle.model_states.specs.State.{image_of};
 ghost use Rattle.swap_store.specs.Cause.{HasSwapCause};
 ghost use Rattle.node_cache.specs.Stores.{AddsNoOther};
 ghost use Rattle.node_tiles.specs.Stated.{shape_at};
-ghost use Rattle.render_workers.specs.Refusals.{IsRefusedBy};
+ghost use Rattle.render_workers.specs.Refusals.{CanBeRendered, IsRefusedBy};
 ghost use Rattle.render_workers.specs.Requests.{pairs_requested, request};
 ghost use Rattle.render_workers.specs.declared.refused.RenderRefused.TheVariants.{Rect as OutsideLimits, UnknownNode};
 ghost use Rattle.session_states.specs.OverChains.{Leaves};
@@ -34,6 +34,7 @@ use node_cache::PairStore;
 use op_contracts::OpKit;
 use patch_abyss::Patch;
 use plane_rect::{Name, Rect};
+use render_workers::laws::requests_need_what_renders_need;
 
 impl<Op: OpMeaning + Drop> SessionState<Op> {
     /// Returns a rectangle of a level of the image of a node of the last state. Each tile that it needs is looked
@@ -71,7 +72,8 @@ impl<Op: OpMeaning + Drop> SessionState<Op> {
         ensures rendered { OnOk result (IsRendered Op.meanings (request node level rect) self.old self.new) }
         ensures session { (session : Session Table Op) → IsSessionOf Op.same Op.meanings self.old (C.held chain.old) session →
             OnOk result (IsSessionOf Op.same Op.meanings self.new (C.held chain.new)
-            (with_render Op.meanings self.old.capacity session node level rect)) }
+            (after_render Op.meanings self.old.capacity session node level rect)) }
+        ensures can { OnOk result (CanBeRendered Op.meanings self.old.graph.latest.nodes (request node level rect) self.old.capacity) }
         ensures unknown { has_node (specs_of self.old.graph.latest.nodes) node ≡ false →
             result ≡ Err (Render UnknownNode) }
         ensures outside { has_node (specs_of self.old.graph.latest.nodes) node ≡ true → scaled level rect ≡ None →
@@ -97,6 +99,7 @@ impl<Op: OpMeaning + Drop> SessionState<Op> {
             (record { held = C.held chain.old; counts = C.counts chain.old; loans = C.loans chain.old; valid = C.is_valid chain.old })
             (record { held = C.held chain.new; counts = C.counts chain.new; loans = C.loans chain.new; valid = C.is_valid chain.new }) }
     {
+        requests_need_what_renders_need::<Op>();
         let capacity = PairStore::<C>::bound(&self.cache).unwrap();
         let mut sources = BufferTiles::new(self.versions.latest());
         let done = render_workers::render(

@@ -15,7 +15,7 @@ ghost use Rattle.model_states.specs.State.{image_of};
 ghost use Rattle.swap_store.specs.Cause.{HasSwapCause};
 ghost use Rattle.node_cache.specs.Stores.{AddsNoOther};
 ghost use Rattle.node_tiles.specs.Stated.{shape_at};
-ghost use Rattle.render_workers.specs.Refusals.{IsRefusedBy};
+ghost use Rattle.render_workers.specs.Refusals.{CanBeRendered, IsRefusedBy};
 ghost use Rattle.render_workers.specs.Requests.{pairs_requested, request};
 ghost use Rattle.render_workers.specs.declared.refused.RenderRefused.TheVariants.{Rect as OutsideLimits, UnknownNode};
 ghost use Rattle.session_states.specs.OverChains.{Leaves};
@@ -67,6 +67,7 @@ impl<K: OpKit + Sync, C: TileChain> OwnedSession<K, C> {
             OnOk result (IsSessionOf K.Op.same K.Op.meanings self.new.state (C.held self.new.chain)
             (after_action K.Op.same K.Op.meanings self.old.state.capacity session (Rendering node level rect))) }
         ensures rendered { OnOk result (IsRendered K.Op.meanings (request node level rect) self.old.state self.new.state) }
+        ensures can { OnOk result (CanBeRendered K.Op.meanings self.old.state.graph.latest.nodes (request node level rect) self.old.state.capacity) }
         ensures unknown { has_node (specs_of self.old.state.graph.latest.nodes) node ≡ false →
             result ≡ Err (Render UnknownNode) }
         ensures outside { has_node (specs_of self.old.state.graph.latest.nodes) node ≡ true → scaled level rect ≡ None →
