@@ -4,21 +4,33 @@ use Rattle.std.specs.Prelude.{◌==◌}
 use Rattle.std.specs.Result.{OnOk, result_unwrap_or}
 use Rattle.std.proofs.lemmas.Bool.{eq-eqb}
 use Rattle.std.proofs.lemmas.Bool.Decides.{nat_tests}
+use Rattle.chain_owners.specs.Held.{Held}
+use Rattle.model_buffers.specs.declared.edit.BufferEdit.{BufferEdit}
+use Rattle.model_buffers.specs.BufferEdit.{edit_refused}
+use Rattle.model_buffers.specs.Layout.{TableLayout}
 use Rattle.model_buffers.specs.Table.{Table}
+use Rattle.model_graphs.specs.Laws.{Distinguishes, IsBoxed, KeepsLaws}
 use Rattle.model_graphs.specs.Meanings.{Meanings}
 use Rattle.model_states.specs.declared.refused.StateRefused.{StateRefused}
 use Rattle.model_states.specs.History.{Appends, History, number_of}
 use Rattle.model_states.proofs.HistoryLaws.{commit_appends, redo_appends, undo_appends}
 use Rattle.model_states.specs.History as history
 use Rattle.model_sessions.specs.Sessions.{Make, Session, after_action, with_history, with_state}
-use Rattle.model_sessions.specs.Steps.{Commit, HistoryEdit, Redo, Undo, after_step}
+use Rattle.model_sessions.specs.Steps.{Commit, EditBuffer, HistoryEdit, Redo, Undo, after_step}
 use Rattle.model_sessions.specs.Tables.{table_shapes}
-use Rattle.commit_session.specs.Steps.{LeadsTo}
+use Rattle.commit_session.specs.Parts.{Parts}
+use Rattle.commit_session.specs.Seen.{IsSessionOf}
+use Rattle.commit_session.specs.Steps.{IsEditedBy, LeadsTo}
+use Rattle.commit_session.proofs.Working.{edit-number}
 
 -- what holds at Ok may be said in other words
 pub on-ok : {T E : Type 0} (r : Result T E) (P Q : Type 0) → (P → Q) → OnOk r P → OnOk r Q
 on-ok (Ok x) P Q to p = to p
 on-ok (Err e) P Q to p = tt
+
+pub on-both : {T E : Type 0} (r : Result T E) (P Q R : Type 0) → (P → Q → R) → OnOk r P → OnOk r Q → OnOk r R
+on-both (Ok x) P Q R to p q = to p q
+on-both (Err e) P Q R to p q = tt
 
 module _ {Op : Type 0} (same : Op → Op → Bool) (meanings : Meanings Op) (session : Session Table Op) where
   -- a history of the same states, and one of one state more
@@ -46,6 +58,12 @@ module _ {Op : Type 0} (same : Op → Op → Bool) (meanings : Meanings Op) (ses
     pub acts-edit : (step : HistoryEdit Op) → number_of (after_step meanings session.history step) ≡ number_of session.history
         → P (record session { history = after_step meanings session.history step }) → P (after_action same meanings capacity session (Make step))
     acts-edit step number holds = subst P (sym (with-same (after_step meanings session.history step) number)) holds
+
+    pub acts-buffer : KeepsLaws meanings → IsBoxed meanings → Distinguishes same → (old new : Parts Op) (held : Held) → IsSessionOf same meanings old held session → (edit : BufferEdit)
+        → IsEditedBy edit old new → P (record session { history = after_step meanings session.history (EditBuffer edit) }) → P (after_action same meanings capacity session (Make (EditBuffer edit)))
+    acts-buffer laws boxed apart old new held is edit made holds =
+        acts-edit (EditBuffer edit)
+        (edit-number same meanings laws boxed apart session.history edit (ap (λ (l : TableLayout). edit_refused l edit) is.working.layout ∙ made.carried_out)) holds
 
     pub acts-commit : LeadsTo (history.committed meanings table_shapes session.history) (λ (next : History Table Op). P (with_state same meanings session next))
         → P (after_action same meanings capacity session (Make Commit))

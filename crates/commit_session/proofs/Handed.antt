@@ -41,12 +41,12 @@ use Rattle.commit_session.proofs.Rendered.{image-rendered, images, images-known,
 -- ---- what an answer rules out
 
 pub holds-unless : (b : Bool) → (b ≡ false → ⊥) → b ≡ true
-holds-unless true no = refl
-holds-unless false no = absurd (no refl)
+holds-unless true never = refl
+holds-unless false never = absurd (never refl)
 
 pub some-unless : {X : Type 0} (o : Option X) → (o ≡ None → ⊥) → IsSome o
-some-unless None no = absurd (no refl)
-some-unless (Some x) no = refl
+some-unless None never = absurd (never refl)
+some-unless (Some x) never = refl
 
 module _ {Op : Type 0} (same : Op → Op → Bool) (meanings : Meanings Op) (v now : Parts Op) (is : v ≡ now) (s0 s1 : ChainState)
     (requires : IsOver same meanings now s0.held) (stated : IsStated meanings v.graph.latest) where
