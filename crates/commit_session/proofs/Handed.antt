@@ -140,7 +140,7 @@ module _ {Op : Type 0} (same : Op → Op → Bool) (meanings : Meanings Op) (v n
           (first : applied ≡ min max_count (v.applied + (looked_up_by meanings v asked).applied))
           (second : reused ≡ min max_count (v.reused + (looked_up_by meanings v asked).reused))
           (shows : (images : Buffers) (list : List Cached) → buffer_images latest s0.held ≡ Some images → cached_in v.entries s0.held ≡ Some list → AreRight meanings (scene_of nodes images) list
-              → (cached_in entries s1.held ≡ Some (list_after meanings nodes images (Some v.capacity) list (pairs_requested meanings nodes asked))) × (patch ≡ image_requested meanings nodes images asked)) where
+          → (cached_in entries s1.held ≡ Some (list_after meanings nodes images (Some v.capacity) list (pairs_requested meanings nodes asked))) × (patch ≡ image_requested meanings nodes images asked)) where
         counted-up : (old more told : ℕ) → min max_count old ≡ told → min max_count (old + more) ≡ min max_count (told + more)
         counted-up old more told told-is = omega (arith, told-is)
 
@@ -153,7 +153,7 @@ module _ {Op : Type 0} (same : Op → Op → Bool) (meanings : Meanings Op) (v n
             (counted-up over.session.cached.reused (looked_up_by meanings v asked).reused v.reused over.is.reused ∙ sym second)
 
         module _ (can : CanBeRendered meanings nodes asked v.capacity) (needs : (images : Buffers) → AreImagesOf (facts_of latest.layout) images
-                → strips_needed meanings nodes asked ≡ render_need meanings (scene_of nodes images) asked.node asked.at_level asked.rect)
+            → strips_needed meanings nodes asked ≡ render_need meanings (scene_of nodes images) asked.node asked.at_level asked.rect)
             (session : Session Table Op) (of : IsSessionOf same meanings now s0.held session) where
           its : IsSessionOf same meanings v s0.held session
           its = held-by session of

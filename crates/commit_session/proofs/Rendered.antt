@@ -235,7 +235,7 @@ module _ {Op : Type 0} (same : Op → Op → Bool) (meanings : Meanings Op) (par
           (second : reused ≡ min max_count (parts.reused + (looked_up_by meanings parts asked).reused))
           (bytes : (list : List Cached) → cached_in entries left ≡ Some list → IsSome held.content)
           (made : IsSome held.content → cached_in entries left
-              ≡ Some (list_after meanings nodes (images session is) (Some parts.capacity) session.cached.list (pairs_requested meanings nodes asked))) where
+          ≡ Some (list_after meanings nodes (images session is) (Some parts.capacity) session.cached.list (pairs_requested meanings nodes asked))) where
         abbrev requested : List Pair
         requested = pairs_requested meanings nodes asked
 

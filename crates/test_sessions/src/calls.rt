@@ -52,13 +52,7 @@ pub fn create(rt: &impl Abort, word: &str, fields: Fields) -> Edit<IntOp>
 }
 
 /// Returns the edit that writes one gray everywhere in a rectangle of a buffer.
-pub fn paint(
-    rt: &impl Abort,
-    alloc: Global,
-    word: &str,
-    fields: Fields,
-    gray: u32,
-) -> Edit<IntOp>
+pub fn paint(rt: &impl Abort, alloc: Global, word: &str, fields: Fields, gray: u32) -> Edit<IntOp>
     ensures { IsProper (step_of result) }
 {
     let samples = vec![in alloc; gray].expect(rt, "memory");
@@ -70,13 +64,7 @@ pub fn paint(
 }
 
 /// Returns the edit that writes raw bytes over a rectangle of a buffer.
-pub fn load(
-    rt: &impl Abort,
-    alloc: Global,
-    word: &str,
-    fields: Fields,
-    bytes: &[u8],
-) -> Edit<IntOp>
+pub fn load(rt: &impl Abort, alloc: Global, word: &str, fields: Fields, bytes: &[u8]) -> Edit<IntOp>
     ensures { IsProper (step_of result) }
 {
     let bytes = bytes.to_vec(alloc).expect(rt, "memory");
@@ -113,11 +101,7 @@ pub fn node(rt: &impl Abort, alloc: Global, word: &str, op: IntOp, input: &str) 
 }
 
 /// Makes an edit, which is not refused.
-pub fn make<C: TileChain>(
-    rt: &impl Abort,
-    session: &mut OwnedSession<IntKit, C>,
-    edit: Edit<IntOp>,
-)
+pub fn make<C: TileChain>(rt: &impl Abort, session: &mut OwnedSession<IntKit, C>, edit: Edit<IntOp>)
     requires over { IsOver same_operation int_meanings session.old.state (C.held session.old.chain) }
     requires proper { IsProper (step_of edit) }
     ensures { IsOver same_operation int_meanings session.new.state (C.held session.new.chain) }

@@ -96,14 +96,26 @@ pub fn load_and_gain<C: TileChain>(
     ensures { IsOver same_operation int_meanings session.new.state (C.held session.new.chain) }
 {
     make(rt, session, create(rt, "a", [0, 0, 2, 2]));
-    make(rt, session, load(rt, alloc, "a", [0, 0, 2, 2], &[10, 20, 30, 200]));
+    make(
+        rt,
+        session,
+        load(rt, alloc, "a", [0, 0, 2, 2], &[10, 20, 30, 200]),
+    );
     make(rt, session, source(rt, "s", "a"));
-    make(rt, session, node(rt, alloc, "g", IntOp::Gain { num: 2, den: 1 }, "s"));
+    make(
+        rt,
+        session,
+        node(rt, alloc, "g", IntOp::Gain { num: 2, den: 1 }, "s"),
+    );
     make(rt, session, node(rt, alloc, "i", IntOp::Invert, "g"));
     commit(rt, session, 1);
     let first = shown(rt, session, "i", [0, 0, 2, 2], (2, 0));
     check_all(rt, &first, &[235, 215, 195, 0]);
-    make(rt, session, node(rt, alloc, "g", IntOp::Gain { num: 3, den: 1 }, "s"));
+    make(
+        rt,
+        session,
+        node(rt, alloc, "g", IntOp::Gain { num: 3, den: 1 }, "s"),
+    );
     let pending = shown(rt, session, "i", [0, 0, 2, 2], (2, 2));
     check_all(rt, &pending, &[235, 215, 195, 0]);
     commit(rt, session, 2);
