@@ -5,3 +5,13 @@ pub mod Working
 pub mod Changed
 pub mod Same
 pub mod Hulls
+pub mod Voided
+pub mod Still
+pub mod Stepped
+pub mod Moved
+pub mod Led
+pub mod CommitStep
+pub mod Through
+pub mod Kept
+pub mod Done
+pub mod VoidTurns
