@@ -15,3 +15,4 @@ pub mod Through
 pub mod Kept
 pub mod Done
 pub mod VoidTurns
+pub mod Nothing

@@ -30,11 +30,11 @@ StatesStep Op = Stepped (States Op) Rectangles
 
 -- ---- results that there is a number for
 
-record IsOpen {A : Type 0} (number : ℕ) (r : Result A StateRefused) (a : A) : Type 0 where
-  open_number : (number == last_number) ≡ false
-  is : r ≡ Ok a
+pub record IsOpen {A : Type 0} (number : ℕ) (r : Result A StateRefused) (a : A) : Type 0 where
+  pub open_number : (number == last_number) ≡ false
+  pub is : r ≡ Ok a
 
-open-ok : {A : Type 0} (number : ℕ) (r : Result A StateRefused) (a : A) → unless_last number r ≡ Ok a → IsOpen number r a
+pub open-ok : {A : Type 0} (number : ℕ) (r : Result A StateRefused) (a : A) → unless_last number r ≡ Ok a → IsOpen number r a
 open-ok {A} number r a is = by (number == last_number) refl is
   where
     by : (b : Bool) → (number == last_number) ≡ b → cond b (Err TooManyCommits) r ≡ Ok a → IsOpen number r a
