@@ -9,3 +9,14 @@ pub mod Requested
 pub mod Rendered
 pub mod Handed
 pub mod Acting
+pub mod Voided
+pub mod Still
+pub mod Stepped
+pub mod Moved
+pub mod Led
+pub mod CommitStep
+pub mod Through
+pub mod Kept
+pub mod Done
+pub mod VoidTurns
+pub mod Nothing
