@@ -1,20 +1,59 @@
--- States of the definitions that are held over another chain.
-use Rattle.std.proofs.Common.{◌≡◌, Bool, List, [], ◌∷◌, sym, subst, Option}
+-- States of the definitions that are held, as a graph knows them.
+use Rattle.std.proofs.Common.{◌≡◌, ℕ, zero, suc, Bool, List, [], ◌∷◌, take, map, refl, sym, ap, subst, ◌∙◌, Option}
 use Rattle.std.specs.Prelude.{IfSome}
 use Rattle.std.specs.List.{AllByRecursion}
 use Rattle.chain_owners.specs.Held.{Held}
+use Rattle.model_buffers.specs.Layout.{TableLayout, facts_of}
 use Rattle.model_buffers.specs.Table.{Table}
+use Rattle.model_graphs.specs.declared.node.NodeFact.{NodeFact}
+use Rattle.model_graphs.specs.Facts.{Facts, shapes_of_facts, specs_of}
 use Rattle.model_graphs.specs.Meanings.{Meanings}
-use Rattle.model_states.specs.Damage.{Side}
+use Rattle.model_states.specs.Commits.{side_of}
+use Rattle.model_states.specs.Damage.{IsStated, Side}
 use Rattle.model_states.specs.History.{Committed}
 use Rattle.model_states.specs.Rectangles.{Rectangles}
 use Rattle.model_states.specs.Retained.{Separated}
 use Rattle.model_states.specs.State.{State}
+use Rattle.model_states.specs.Valid.{stated}
+use Rattle.model_states.proofs.Stated.{stated_only}
+use Rattle.model_sessions.specs.Histories.{side_of_state}
+use Rattle.model_sessions.specs.Tables.{table_facts, table_shapes}
 use Rattle.buffer_view.specs.BufferTables.{BufferTable, table_of}
 use Rattle.commit_session.specs.Seen.{AreAfter, AreBefore, AreOfState, AreOfTable}
 
 abbrev Steps : Type 0 → Type 0
 Steps Op = List (Separated (Side Op) Rectangles)
+
+pub shapes-same : (buffers : BufferTable) (held : Held) (table : Table) → AreOfTable buffers held table → table_shapes table ≡ shapes_of_facts (facts_of buffers.layout)
+shapes-same buffers held table of = ap (λ (layout : TableLayout). shapes_of_facts (facts_of layout)) of.layout
+
+module _ {Op : Type 0} (meanings : Meanings Op) where
+  -- what a graph knows of a state that is held
+  pub side-same : (side : Side Op) (buffers : BufferTable) (held : Held) (state : State Table Op) → AreOfState side buffers held state → IsStated meanings side
+      → side_of_state meanings state ≡ side
+  side-same side buffers held state of is =
+      let facts : table_facts state.table ≡ side.buffers = ap facts_of of.table.layout ∙ sym of.facts in
+      let shapes = shapes_of_facts side.buffers in
+      let nodes : stated meanings shapes state.nodes ≡ side.nodes =
+      ap (stated meanings shapes) (sym of.nodes) ∙ sym (stated_only meanings shapes side.nodes is) in
+      ap (λ (f : Facts). side_of meanings f state.nodes) facts
+      ∙ ap (λ (ns : List (NodeFact Op)). let s : Side Op = record { buffers = side.buffers; nodes = ns } in s) nodes
+
+-- ---- the retained states
+
+module _ {Op : Type 0} (same : Op → Op → Bool) (meanings : Meanings Op) (held : Held) where
+  pub before-take : (n : ℕ) (latest : Side Op) (steps : Steps Op) (buffers : List BufferTable) (states : List (Committed Table Op))
+      → AreBefore same meanings latest steps buffers held states → AreBefore same meanings latest (take n steps) (take n buffers) held (take n states)
+  before-take zero latest steps buffers states are = tt
+  before-take (suc n) latest [] [] [] are = tt
+  before-take (suc n) latest [] [] (state ∷ states) are = absurd are
+  before-take (suc n) latest [] (b ∷ buffers) states are = absurd are
+  before-take (suc n) latest (step ∷ steps) [] states are = absurd are
+  before-take (suc n) latest (step ∷ steps) (b ∷ buffers) [] are = absurd are
+  before-take (suc n) latest (step ∷ steps) (b ∷ buffers) (state ∷ states) are =
+      (are.0, are.1, before-take n step.state steps buffers states are.2)
+
+-- ---- over another chain
 
 abbrev pub IsSame : Held → Held → BufferTable → Type 0
 IsSame old new b = table_of b new ≡ table_of b old

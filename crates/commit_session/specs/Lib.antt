@@ -2,3 +2,5 @@ pub mod Parts
 pub mod Seen
 pub mod Steps
 pub mod Refusals
+pub mod Rendering
+pub mod Edits

@@ -4,9 +4,10 @@ use Rattle.std.specs.Map.{values_of}
 use Rattle.model_buffers.specs.Layout.{facts_of}
 use Rattle.model_graphs.specs.declared.node.NodeEdit.{NodeEdit}
 use Rattle.model_graphs.specs.Facts.{Facts}
+use Rattle.model_states.specs.Cache.{Pair}
 use Rattle.model_states.specs.Commits.{Graph, new_graph}
 use Rattle.model_states.specs.Rectangles.{Rectangles}
-use Rattle.node_cache.specs.NodeNames.{Entries}
+use Rattle.node_cache.specs.NodeNames.{Entries, pairs_in}
 use Rattle.buffer_view.specs.BufferTables.{BufferTable, empty_table}
 use Rattle.session_states.specs.OverChains.{versions_names}
 use Rattle.session_states.specs.Versions.{Versions, new_versions}
@@ -42,6 +43,10 @@ new_parts capacity = record {
 -- the names of a chain that it holds, each as often as it is held
 abbrev pub session_names : {Op : Type 0} → Parts Op → List ℕ
 session_names parts = versions_names parts.versions ++ values_of parts.entries
+
+-- the pairs that it has cached, the most recent first
+abbrev pub cached_pairs : {Op : Type 0} → Parts Op → List Pair
+cached_pairs parts = pairs_in parts.entries
 
 -- what is known of a table of buffers without its samples
 abbrev pub known_of : BufferTable → Facts

@@ -1,5 +1,6 @@
 -- Sessions of the definitions that are held over a chain.
 use Rattle.std.specs.Prelude.{◌≡◌, ⊤, Bool, List, [], ◌∷◌, IfSome, map}
+use Rattle.std.specs.Map.{values_of}
 use Rattle.chain_owners.specs.Held.{Held}
 use Rattle.chain_owners.specs.Owners.{Owns}
 use Rattle.model_buffers.specs.Table.{Table, layout_of}
@@ -13,7 +14,7 @@ use Rattle.model_states.specs.Retained.{Retained, Separated}
 use Rattle.model_states.specs.State.{State}
 use Rattle.model_sessions.specs.Sessions.{IsSession, Session, counts_of}
 use Rattle.node_cache.specs.NodeNames.{Entries, IsNodeCache, cached_in, pairs_in, sizes_in}
-use Rattle.node_cache.specs.Stores.{sized_of}
+use Rattle.node_cache.specs.Stores.{HaveOneOwner, sized_of}
 use Rattle.buffer_view.specs.BufferTables.{BufferTable, table_of}
 use Rattle.session_states.specs.OverChains.{AreAllOver}
 use Rattle.session_states.specs.Versions.{all_versions}
@@ -84,10 +85,12 @@ pub record IsSessionOf {Op : Type 0} (same : Op → Op → Bool) (meanings : Mea
   pub applied : (counts_of session).applied ≡ parts.applied
   pub reused : (counts_of session).reused ≡ parts.reused
 
--- What a session asks of a chain, and what holds of it at every moment: it owns all its names, each table of buffers and
--- the cache have what they ask, and what is held is a session of the definitions, of which all holds that holds of these.
+-- What a session asks of a chain, and what holds of it at every moment: it owns all its names, and those of cached tiles
+-- alone; each table of buffers and the cache have what they ask; and what is held is a session of the definitions, of
+-- which all holds that holds of these.
 pub record IsOver {Op : Type 0} (same : Op → Op → Bool) (meanings : Meanings Op) (parts : Parts Op) (held : Held) : Type 0 where
   pub owned : Owns held (session_names parts)
+  pub alone : HaveOneOwner held (values_of parts.entries)
   pub over : AreAllOver (all_versions parts.versions) held
   pub cache : IsNodeCache parts.entries parts.most parts.capacity held
   pub session : Session Table Op

@@ -1,15 +1,60 @@
--- What edits make of what a session holds, without any sample.
-use Rattle.std.specs.Prelude.{◌≡◌, ℕ, List, None, Option, Some}
+-- What the steps of a session make of what it holds, without any sample.
+use Rattle.std.specs.Prelude.{◌≡◌, ℕ, Bool, List, [], ◌∷◌, Ok, Err, Option, Result, Some, None}
 use Rattle.plane_rect.specs.Rectangle.{Rectangle}
 use Rattle.model_buffers.specs.declared.edit.BufferEdit.{BufferEdit}
 use Rattle.model_buffers.specs.BufferEdit.{edit_refused, layout_with, written_by}
+use Rattle.model_graphs.specs.Meanings.{Meanings}
+use Rattle.model_states.specs.declared.refused.StateRefused.{StateRefused}
+use Rattle.model_states.specs.Cache.{all_voided, itself, without_damaged}
+use Rattle.model_states.specs.Commits.{change_to, committed}
+use Rattle.model_states.specs.Damage.{damage}
 use Rattle.model_states.specs.Rectangles.{Rectangles, with_written}
-use Rattle.commit_session.specs.Parts.{Parts}
+use Rattle.model_states.specs.Retained.{redone, undone}
+use Rattle.buffer_view.specs.BufferTables.{BufferTable}
+use Rattle.session_states.specs.Versions.{after_commit, after_redo, after_undo}
+use Rattle.commit_session.specs.Parts.{Parts, cached_pairs, working_facts}
 
 -- rectangles of roots after at most one more was written
 abbrev pub after_writing : Rectangles → Option (List ℕ × Rectangle) → Rectangles
 after_writing written None = written
 after_writing written (Some entry) = with_written written entry.0 entry.1
+
+-- No edit is pending, nothing was written since the last state, the pairs that meet these damages of nodes are gone, and
+-- nothing is counted.
+pub record IsSettled {Op : Type 0} (damages : Rectangles) (old new : Parts Op) : Type 0 where
+  pub pending : new.pending ≡ []
+  pub written : new.written ≡ []
+  pub pairs : cached_pairs new ≡ all_voided itself (cached_pairs old) damages
+  pub capacity : new.capacity ≡ old.capacity
+  pub applied : new.applied ≡ old.applied
+  pub reused : new.reused ≡ old.reused
+
+-- The working buffers and the pending edits were committed: what is voided is exactly what the damage of the change
+-- meets.
+pub record IsCommitted {Op : Type 0} (same : Op → Op → Bool) (meanings : Meanings Op) (old new : Parts Op) : Type 0 where
+  pub damages : Rectangles
+  pub graph : committed same meanings old.graph old.pending (working_facts old) old.written
+      ≡ Ok (record { next = new.graph; delta = damages })
+  pub versions : new.versions ≡ after_commit old.versions
+  pub settled : IsSettled damages old new
+  pub voided : cached_pairs new
+      ≡ without_damaged itself (damage same meanings (change_to old.graph new.graph.latest old.written)) (cached_pairs old)
+
+-- The last commit was undone, and its damage is voided.
+pub record IsUndone {Op : Type 0} (old new : Parts Op) : Type 0 where
+  pub damages : Rectangles
+  pub graph : undone old.graph ≡ Ok (record { next = new.graph; delta = damages })
+  pub versions : (back : BufferTable) (rest : List BufferTable) → old.versions.undoable ≡ back ∷ rest →
+      new.versions ≡ after_undo old.versions back rest
+  pub settled : IsSettled damages old new
+
+-- The last undo was taken back, and its damage is voided.
+pub record IsRedone {Op : Type 0} (old new : Parts Op) : Type 0 where
+  pub damages : Rectangles
+  pub graph : redone old.graph ≡ Ok (record { next = new.graph; delta = damages })
+  pub versions : (next : BufferTable) (rest : List BufferTable) → old.versions.redoable ≡ next ∷ rest →
+      new.versions ≡ after_redo old.versions next rest
+  pub settled : IsSettled damages old new
 
 -- An edit was made of the buffers that are edited, and what it writes was noted.
 pub record IsEditedBy {Op : Type 0} (edit : BufferEdit) (old new : Parts Op) : Type 0 where
@@ -28,3 +73,8 @@ pub record HasSameStates {Op : Type 0} (old new : Parts Op) : Type 0 where
   pub capacity : new.capacity ≡ old.capacity
   pub applied : new.applied ≡ old.applied
   pub reused : new.reused ≡ old.reused
+
+-- What a step of a history gives isn't refused, and the next history has this property.
+abbrev pub LeadsTo : {Next : Type 0} → Result Next StateRefused → (Next → Type 0) → Type 0
+LeadsTo (Ok next) P = P next
+LeadsTo (Err refused) P = ⊥

@@ -1,0 +1,212 @@
+//! Commits, undos and redos.
+
+ghost use Rattle.std.specs.Prelude.{◌≡◌, [], IfErr, IfOk, List, OnErr, OnOk};
+ghost use Rattle.std.specs.Map.{values_of};
+ghost use Rattle.std.specs.Option.{option_map};
+ghost use Rattle.model_buffers.specs.Table.{Table};
+ghost use Rattle.model_sessions.specs.Sessions.{Session, with_state};
+ghost use Rattle.model_sessions.specs.Tables.{table_shapes};
+ghost use Rattle.model_states.specs.Cache.{all_voided, by_pair};
+ghost use Rattle.model_states.specs.Commits.{committed as commit_of};
+ghost use Rattle.model_states.specs.History.{committed as committed_history, redone as redone_history, undone as undone_history};
+ghost use Rattle.model_states.specs.Retained.{redone as redo_of, undone as undo_of};
+ghost use Rattle.node_cache.specs.NodeNames.{IsNodeCache, cached_in, sizes_in};
+ghost use Rattle.node_cache.specs.Stores.{AddsNoOther, HaveOneOwner, by_sized};
+ghost use Rattle.graph_edits.specs.Refusals.{IsRefusalOf};
+ghost use Rattle.session_states.specs.OverChains.{Leaves};
+ghost use Rattle.commit_session.specs.Parts.{session_names, working_facts};
+ghost use Rattle.commit_session.specs.Refusals.{IsRefusedAs, by_graph};
+ghost use Rattle.commit_session.specs.Seen.{IsOver, IsSessionOf};
+ghost use Rattle.commit_session.specs.Steps.{IsCommitted, IsRedone, IsSettled, IsUndone, LeadsTo};
+
+use crate::refused::SessionRefused;
+use crate::state::SessionState;
+use crate::voids::void_all;
+use chain_contracts::TileChain;
+use graph_commits::{Damage, Graph};
+use model_graphs::OpMeaning;
+use op_contracts::OpKit;
+
+impl<Op: OpMeaning + Drop> SessionState<Op> {
+    /// Commits the pending edits of nodes over the buffers that are edited: they are the next state, and its
+    /// number is returned. Nothing can be redone after it. Exactly the cached pairs whose tile meets the damage of
+    /// their node are voided. It takes all its memory first. Takes time in proportion to the damage and to the
+    /// nodes with their inputs, and one look at each tile that the buffers hold.
+    ///
+    /// # Errors
+    ///
+    /// `Graph` with `TooManyCommits`, or else with the cause of the first edit that is refused, or else of the
+    /// first node that is not valid; and `NoMemory` if memory runs out. The session is unchanged: the pending
+    /// edits are still pending.
+    pub fn commit<K: OpKit<Op = Op>, C: TileChain>(
+        &mut self,
+        kit: &K,
+        chain: &mut C,
+    ) -> Result<u64, SessionRefused>
+        requires { IsOver Op.same Op.meanings self.old (C.held chain.old) }
+        ensures committed { OnOk result (IsCommitted Op.same Op.meanings self.old self.new) }
+        ensures number { IfOk result (λ number. number ≡ self.new.graph.number) }
+        ensures unchanged { OnErr result (self.new ≡ self.old) }
+        ensures session { (session : Session Table Op) → IsSessionOf Op.same Op.meanings self.old (C.held chain.old) session →
+            OnOk result (LeadsTo (committed_history Op.meanings table_shapes session.history)
+            (λ next. IsSessionOf Op.same Op.meanings self.new (C.held chain.new) (with_state Op.same Op.meanings session next))) }
+        ensures same { (session : Session Table Op) → IsSessionOf Op.same Op.meanings self.old (C.held chain.old) session →
+            OnErr result (IsSessionOf Op.same Op.meanings self.new (C.held chain.new) session) }
+        ensures refused { IfErr result (IsRefusedAs by_graph (IsRefusalOf (commit_of Op.same Op.meanings self.old.graph self.old.pending (working_facts self.old) self.old.written))) }
+        ensures refused_session { (session : Session Table Op) → IsSessionOf Op.same Op.meanings self.old (C.held chain.old) session →
+            IfErr result (IsRefusedAs by_graph (IsRefusalOf (committed_history Op.meanings table_shapes session.history))) }
+        ensures over { IsOver Op.same Op.meanings self.new (C.held chain.new) }
+        ensures other_names { AddsNoOther (C.counts chain.old) (C.counts chain.new) (values_of self.old.entries) (values_of self.new.entries) }
+        ensures left { Leaves 0 (session_names self.old) (session_names self.new)
+            (record { held = C.held chain.old; counts = C.counts chain.old; loans = C.loans chain.old; valid = C.is_valid chain.old })
+            (record { held = C.held chain.new; counts = C.counts chain.new; loans = C.loans chain.new; valid = C.is_valid chain.new }) }
+    {
+        let shared = self.versions.share_working(chain)?;
+        let facts = self.versions.working().facts();
+        match self.graph.commit(kit, &self.pending, facts, &self.written) {
+            Ok(damage) => {
+                self.versions.commit(chain, shared);
+                self.settle(chain, &damage);
+                Ok(damage.number)
+            }
+            Err(refused) => {
+                shared.release(chain);
+                Err(SessionRefused::from(refused))
+            }
+        }
+    }
+
+    /// Goes back to the state before the last commit that is not yet undone, under the next number, which is
+    /// returned. What is edited goes: the buffers become those of the state, and no edit is pending. The cached
+    /// pairs are voided whose tile meets the damage of their node. It takes all its memory first. Takes time in
+    /// proportion to the damage, and one look at each tile that the state's buffers hold.
+    ///
+    /// # Errors
+    ///
+    /// `Graph` with `TooManyCommits`, or else with `NothingToUndo`; and `NoMemory` if memory runs out. The session
+    /// is unchanged.
+    pub fn undo<C: TileChain>(&mut self, chain: &mut C) -> Result<u64, SessionRefused>
+        requires { IsOver Op.same Op.meanings self.old (C.held chain.old) }
+        ensures undone { OnOk result (IsUndone self.old self.new) }
+        ensures number { IfOk result (λ number. number ≡ self.new.graph.number) }
+        ensures unchanged { OnErr result (self.new ≡ self.old) }
+        ensures session { (session : Session Table Op) → IsSessionOf Op.same Op.meanings self.old (C.held chain.old) session →
+            OnOk result (LeadsTo (undone_history session.history)
+            (λ next. IsSessionOf Op.same Op.meanings self.new (C.held chain.new) (with_state Op.same Op.meanings session next))) }
+        ensures same { (session : Session Table Op) → IsSessionOf Op.same Op.meanings self.old (C.held chain.old) session →
+            OnErr result (IsSessionOf Op.same Op.meanings self.new (C.held chain.new) session) }
+        ensures refused { IfErr result (IsRefusedAs by_graph (IsRefusalOf (undo_of self.old.graph))) }
+        ensures refused_session { (session : Session Table Op) → IsSessionOf Op.same Op.meanings self.old (C.held chain.old) session →
+            IfErr result (IsRefusedAs by_graph (IsRefusalOf (undone_history session.history))) }
+        ensures over { IsOver Op.same Op.meanings self.new (C.held chain.new) }
+        ensures other_names { AddsNoOther (C.counts chain.old) (C.counts chain.new) (values_of self.old.entries) (values_of self.new.entries) }
+        ensures left { Leaves 0 (session_names self.old) (session_names self.new)
+            (record { held = C.held chain.old; counts = C.counts chain.old; loans = C.loans chain.old; valid = C.is_valid chain.old })
+            (record { held = C.held chain.new; counts = C.counts chain.new; loans = C.loans chain.new; valid = C.is_valid chain.new }) }
+    {
+        if self.versions.undo_count() == 0 {
+            return Err(refused_undo(&mut self.graph));
+        }
+        let shared = self.versions.share_undoable(chain)?;
+        match self.graph.undo() {
+            Ok(damage) => {
+                self.versions.undo(chain, shared);
+                self.settle(chain, &damage);
+                Ok(damage.number)
+            }
+            Err(refused) => {
+                shared.release(chain);
+                Err(SessionRefused::from(refused))
+            }
+        }
+    }
+
+    /// Goes on to the state that the last undo that is not yet redone left, as [`SessionState::undo`] goes back.
+    ///
+    /// # Errors
+    ///
+    /// `Graph` with `TooManyCommits`, or else with `NothingToRedo`; and `NoMemory` if memory runs out. The session
+    /// is unchanged.
+    pub fn redo<C: TileChain>(&mut self, chain: &mut C) -> Result<u64, SessionRefused>
+        requires { IsOver Op.same Op.meanings self.old (C.held chain.old) }
+        ensures redone { OnOk result (IsRedone self.old self.new) }
+        ensures number { IfOk result (λ number. number ≡ self.new.graph.number) }
+        ensures unchanged { OnErr result (self.new ≡ self.old) }
+        ensures session { (session : Session Table Op) → IsSessionOf Op.same Op.meanings self.old (C.held chain.old) session →
+            OnOk result (LeadsTo (redone_history session.history)
+            (λ next. IsSessionOf Op.same Op.meanings self.new (C.held chain.new) (with_state Op.same Op.meanings session next))) }
+        ensures same { (session : Session Table Op) → IsSessionOf Op.same Op.meanings self.old (C.held chain.old) session →
+            OnErr result (IsSessionOf Op.same Op.meanings self.new (C.held chain.new) session) }
+        ensures refused { IfErr result (IsRefusedAs by_graph (IsRefusalOf (redo_of self.old.graph))) }
+        ensures refused_session { (session : Session Table Op) → IsSessionOf Op.same Op.meanings self.old (C.held chain.old) session →
+            IfErr result (IsRefusedAs by_graph (IsRefusalOf (redone_history session.history))) }
+        ensures over { IsOver Op.same Op.meanings self.new (C.held chain.new) }
+        ensures other_names { AddsNoOther (C.counts chain.old) (C.counts chain.new) (values_of self.old.entries) (values_of self.new.entries) }
+        ensures left { Leaves 0 (session_names self.old) (session_names self.new)
+            (record { held = C.held chain.old; counts = C.counts chain.old; loans = C.loans chain.old; valid = C.is_valid chain.old })
+            (record { held = C.held chain.new; counts = C.counts chain.new; loans = C.loans chain.new; valid = C.is_valid chain.new }) }
+    {
+        if self.versions.redo_count() == 0 {
+            return Err(refused_redo(&mut self.graph));
+        }
+        let shared = self.versions.share_redoable(chain)?;
+        match self.graph.redo() {
+            Ok(damage) => {
+                self.versions.redo(chain, shared);
+                self.settle(chain, &damage);
+                Ok(damage.number)
+            }
+            Err(refused) => {
+                shared.release(chain);
+                Err(SessionRefused::from(refused))
+            }
+        }
+    }
+
+    /// Voids the cached pairs whose tile meets the damage of their node, and drops what is edited. Takes no memory.
+    fn settle<C: TileChain>(&mut self, chain: &mut C, damage: &Damage)
+        requires cache { IsNodeCache self.old.entries self.old.most self.old.capacity (C.held chain.old) }
+        requires alone { HaveOneOwner (C.held chain.old) (values_of self.old.entries) }
+        ensures settled { IsSettled damage.now.rects self.old self.new }
+        ensures versions { self.new.versions ≡ self.old.versions }
+        ensures graph { self.new.graph ≡ self.old.graph }
+        ensures sizes { sizes_in self.new.entries (C.held chain.new)
+            ≡ all_voided by_sized (sizes_in self.old.entries (C.held chain.old)) damage.now.rects }
+        ensures cached { cached_in self.new.entries (C.held chain.new)
+            ≡ option_map (λ list. all_voided by_pair list damage.now.rects) (cached_in self.old.entries (C.held chain.old)) }
+        ensures cache { IsNodeCache self.new.entries self.new.most self.new.capacity (C.held chain.new) }
+        ensures alone { HaveOneOwner (C.held chain.new) (values_of self.new.entries) }
+        ensures other_names { AddsNoOther (C.counts chain.old) (C.counts chain.new) (values_of self.old.entries) (values_of self.new.entries) }
+        ensures left { Leaves 0 (values_of self.old.entries) (values_of self.new.entries)
+            (record { held = C.held chain.old; counts = C.counts chain.old; loans = C.loans chain.old; valid = C.is_valid chain.old })
+            (record { held = C.held chain.new; counts = C.counts chain.new; loans = C.loans chain.new; valid = C.is_valid chain.new }) }
+    {
+        void_all(&mut self.cache, chain, damage.rects.as_slice());
+        self.pending.clear();
+        self.written.clear();
+    }
+}
+
+/// Returns why an undo is refused that has no state to go back to.
+fn refused_undo<Op: OpMeaning + Drop>(graph: &mut Graph<Op>) -> SessionRefused
+    requires { graph.old.undoable ≡ [] }
+    ensures unchanged { graph.new ≡ graph.old }
+    ensures refused { IsRefusedAs by_graph (IsRefusalOf (undo_of graph.old)) result }
+{
+    match graph.undo() {
+        Ok(_) => unreachable!(),
+        Err(refused) => SessionRefused::from(refused),
+    }
+}
+
+/// Returns why a redo is refused that has no state to go on to.
+fn refused_redo<Op: OpMeaning + Drop>(graph: &mut Graph<Op>) -> SessionRefused
+    requires { graph.old.redoable ≡ [] }
+    ensures unchanged { graph.new ≡ graph.old }
+    ensures refused { IsRefusedAs by_graph (IsRefusalOf (redo_of graph.old)) result }
+{
+    match graph.redo() {
+        Ok(_) => unreachable!(),
+        Err(refused) => SessionRefused::from(refused),
+    }
+}
