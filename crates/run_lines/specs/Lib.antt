@@ -1,5 +1,5 @@
-pub mod Buffers
+pub mod States
+pub mod Commands
 pub mod Edited
 pub mod Stops
 pub mod Rasters
-pub mod Lines
