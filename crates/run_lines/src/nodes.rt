@@ -24,7 +24,7 @@ use script_read::{Command, Line, Names, OpWords};
 use std::alloc::{AllocError, Global};
 
 /// Notes the edit of nodes that a line is.
-pub(crate) fn node(
+pub(crate) fn note(
     alloc: Global,
     line: &Line,
     session: &mut SessionState<IntOp>,
@@ -37,7 +37,7 @@ pub(crate) fn node(
     ensures over { (held : Held) → IsOver same_operation int_meanings session.old held →
         IsOver same_operation int_meanings session.new held }
 {
-    let edit = node_edit(alloc, &line.command)?;
+    let edit = edit_by(alloc, &line.command)?;
     session.note(edit)?;
     Ok(())
 }
@@ -47,7 +47,7 @@ pub(crate) fn node(
 /// # Errors
 ///
 /// Fails if memory runs out.
-fn node_edit(alloc: Global, command: &Command) -> Result<NodeEdit<IntOp>, AllocError>
+fn edit_by(alloc: Global, command: &Command) -> Result<NodeEdit<IntOp>, AllocError>
     requires { IsSome (node_edit_of command.now) }
     ensures { IfOk result (λ edit. node_edit_of command.now ≡ Some edit) }
 {
