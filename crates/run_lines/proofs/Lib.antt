@@ -1,7 +1,10 @@
+mod Bounds
 mod EditLines
+mod Puts
 mod Loads
 mod Grabs
 mod Grabbing
+mod NodeLines
 mod Going
 mod Stopping
 mod Starting
