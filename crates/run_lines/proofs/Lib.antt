@@ -8,3 +8,9 @@ mod NodeLines
 mod Going
 mod Stopping
 mod Starting
+mod LookingUp
+mod CachedNames
+mod Writing
+mod StepLines
+mod RenderLines
+mod Rendered
