@@ -10,13 +10,15 @@ ghost use Rattle.model_graphs.specs.Permits.{Spent};
 ghost use Rattle.model_images.specs.Level.{level as level_of};
 ghost use Rattle.model_images.specs.Paint.{cut};
 ghost use Rattle.model_sessions.specs.Sessions.{Session, last_scene, with_render};
+ghost use Rattle.model_states.specs.Damage.{IsStated};
 ghost use Rattle.model_states.specs.Edits.{has_node};
+ghost use Rattle.model_states.specs.Need.{wide};
 ghost use Rattle.model_states.specs.State.{image_of};
 ghost use Rattle.swap_store.specs.Cause.{HasSwapCause};
 ghost use Rattle.node_cache.specs.Stores.{AddsNoOther};
 ghost use Rattle.node_tiles.specs.Stated.{shape_at};
 ghost use Rattle.render_workers.specs.Refusals.{IsRefusedBy};
-ghost use Rattle.render_workers.specs.Requests.{pairs_requested, request};
+ghost use Rattle.render_workers.specs.Requests.{pairs_requested, request, strips_needed};
 ghost use Rattle.render_workers.specs.declared.refused.RenderRefused.TheVariants.{Rect as OutsideLimits, UnknownNode};
 ghost use Rattle.session_states.specs.OverChains.{Leaves};
 ghost use Rattle.commit_session.specs.Parts.{session_names};
@@ -72,6 +74,9 @@ impl<Op: OpMeaning + Drop> SessionState<Op> {
         ensures session { (session : Session Table Op) → IsSessionOf Op.same Op.meanings self.old (C.held chain.old) session →
             OnOk result (IsSessionOf Op.same Op.meanings self.new (C.held chain.new)
             (with_render Op.meanings self.old.capacity session node level rect)) }
+        ensures narrow { OnOk result (wide self.old.capacity
+            (strips_needed Op.meanings self.old.graph.latest.nodes (request node level rect)) ≡ None) }
+        ensures stated { IsStated Op.meanings self.old.graph.latest }
         ensures unknown { has_node (specs_of self.old.graph.latest.nodes) node ≡ false →
             result ≡ Err (Render UnknownNode) }
         ensures outside { has_node (specs_of self.old.graph.latest.nodes) node ≡ true → scaled level rect ≡ None →

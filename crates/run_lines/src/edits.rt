@@ -47,8 +47,8 @@ pub(crate) fn edit<C: TileChain>(
     ensures loans { C.loans chain.new ≡ C.loans chain.old }
     ensures valid { C.is_valid chain.old → C.is_valid chain.new }
 {
-    let edit = edit_by(alloc, &line.command)?;
-    session.edit(chain, &edit)?;
+    let made = edit_by(alloc, &line.command)?;
+    session.edit(chain, &made)?;
     Ok(())
 }
 

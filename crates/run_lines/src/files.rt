@@ -64,12 +64,12 @@ pub(crate) fn load<C: TileChain, F: Shelf>(
     }
     let wanted = rect.area() * u64::from(fact.format.pixel_bytes());
     let raster = read_raster(file, wanted, shelf)?;
-    let edit = BufferEdit::Put {
+    let put = BufferEdit::Put {
         name: *name,
         rect: *rect,
         bytes: RawBytes::new(raster),
     };
-    session.edit(chain, &edit)?;
+    session.edit(chain, &put)?;
     Ok(())
 }
 

@@ -144,7 +144,7 @@ fn carry_out_command<C: TileChain, F: Shelf, O: Sink>(
         Command::Grab { .. } => grab(alloc, line, session, chain, shelf, out),
         Command::Render { .. } => render(alloc, line, session, chain, shelf, out),
         Command::Node { .. } | Command::Drop { .. } => note(alloc, line, session),
-        Command::Commit | Command::Undo | Command::Redo => step(alloc, line, session, chain),
+        Command::Commit | Command::Undo | Command::Redo => step(line, session, chain),
         _ => edit(alloc, line, session, chain),
     }
 }

@@ -37,8 +37,8 @@ pub(crate) fn note(
     ensures over { (held : Held) → IsOver same_operation int_meanings session.old held →
         IsOver same_operation int_meanings session.new held }
 {
-    let edit = edit_by(alloc, &line.command)?;
-    session.note(edit)?;
+    let made = edit_by(alloc, &line.command)?;
+    session.note(made)?;
     Ok(())
 }
 
