@@ -4,7 +4,7 @@ use Rattle.std.specs.Result.{OnOk}
 use Rattle.buffer_view.specs.Causes.{HasEditCause}
 use Rattle.buffer_view.specs.declared.refused.BufferRefused.{BufferRefused}
 use Rattle.buffer_view.specs.declared.refused.BufferRefused.TheVariants as buffer_refusals
-use Rattle.chain_owners.specs.Counts.{Counts, Grows, IsFullOver}
+use Rattle.chain_owners.specs.Counts.{Continues, Counts, Grows, IsFullOver}
 use Rattle.chain_owners.specs.Held.{Held}
 use Rattle.commit_session.proofs.Working.{edit-number, valid-edited}
 use Rattle.commit_session.specs.Parts.{Parts}
@@ -207,6 +207,19 @@ module _ (exposed : Bool) (capacity line : ℕ) (state : RunState) (files : File
 
 -- ---- I/O errors
 
+-- a part that touches the chain alone
+pub chain_faults : (now : Moment) (counts : Counts) → Continues now.chain counts → HasFaults (Ok tt) now (record now { chain = counts })
+chain_faults now counts continues = record {
+  read = λ e. absurd (cc);
+  write = λ e. absurd (cc);
+  put = λ e. absurd (cc);
+  swap = λ e. absurd (cc);
+  reads = omega arith;
+  writes = omega arith;
+  puts = omega arith;
+  chain = continues;
+}
+
 module _ (edit : BufferEdit) (old new : SessionOver) (shelf : Option Files) (text : Option (List ℕ)) (reads writes puts : ℕ) where
   abbrev first : Moment
   first = at_chain shelf text reads writes puts old.counts
@@ -228,16 +241,7 @@ module _ (edit : BufferEdit) (old new : SessionOver) (shelf : Option Files) (tex
   }
 
   pub done_faults : IsEdited edit (Ok tt) old new → HasFaults (Ok tt) first last
-  done_faults is = record {
-    read = λ e. absurd (cc);
-    write = λ e. absurd (cc);
-    put = λ e. absurd (cc);
-    swap = λ e. absurd (cc);
-    reads = omega arith;
-    writes = omega arith;
-    puts = omega arith;
-    chain = is.counts.continues;
-  }
+  done_faults is = chain_faults first new.counts is.counts.continues
 
   lower_faults : (lower : BufferRefused) → HasEditCause (layout_in old) edit old.counts new.counts lower → Grows (tiles_added edit) old.counts new.counts →
       HasFaults (end_of {A = Unit {0}} (Err (stop_of (by_buffers lower)))) first last
