@@ -32,4 +32,3 @@ names_grow tiles state next old new same grows =
     let cached : length next.session.cached.list ≡ length state.session.cached.list = ap (λ (c : Counted Cached). length c.list) same in
     let within = others_within old.names new.names (length state.session.cached.list) tiles grows.names in
     record { continues = grows.continues; others = omega (arith, within, cached) }
-

@@ -1,5 +1,5 @@
 -- Lines that edit the buffers of a session.
-use Rattle.std.proofs.Common.{◌≡◌, ◌≢◌, ℕ, ◌+◌, Bool, true, List, Option, Some, None, Result, Ok, Err, IfErr, is_some, refl, sym, ap, ◌∙◌, subst, arith}
+use Rattle.std.proofs.Common.{◌≡◌, ◌≢◌, ℕ, ◌+◌, Bool, List, Option, Some, None, Result, Ok, Err, IfErr, is_some, refl, sym, ap, ◌∙◌, subst, arith}
 use Rattle.std.specs.Result.{OnOk}
 use Rattle.buffer_view.specs.Causes.{HasEditCause}
 use Rattle.buffer_view.specs.declared.refused.BufferRefused.{BufferRefused}
@@ -14,7 +14,7 @@ use Rattle.commit_session.specs.declared.refused.SessionRefused.{SessionRefused}
 use Rattle.commit_session.specs.declared.refused.SessionRefused.TheVariants.{Buffer, NoMemory}
 use Rattle.model_buffers.specs.BufferEdit.{IsProperEdit, Refusal, edit_refused}
 use Rattle.model_buffers.specs.Counts.{tiles_added}
-use Rattle.model_buffers.specs.Edits.{Edited, edited_table, table_with, unless_refused}
+use Rattle.model_buffers.specs.Edits.{table_with, unless_refused}
 use Rattle.model_buffers.specs.Layout.{TableLayout}
 use Rattle.model_buffers.specs.Table.{Table, layout_of}
 use Rattle.model_buffers.specs.declared.edit.BufferEdit.{BufferEdit}
@@ -25,8 +25,8 @@ use Rattle.model_operations.specs.Lawful.MeaningLaws.{is_boxed, is_dual, is_loca
 use Rattle.model_operations.specs.Lawful.SameLaws.{is_equality}
 use Rattle.model_operations.specs.Meanings.{int_meanings, same_operation}
 use Rattle.model_operations.specs.declared.operation.IntOp.{IntOp}
-use Rattle.model_runs.specs.Effects.{cause_of_edit, edit_gives, edits, effect}
-use Rattle.model_runs.specs.State.{Effect, RunState, in_workspace, refuses, workspace_of}
+use Rattle.model_runs.specs.Effects.{edit_gives, edits, effect}
+use Rattle.model_runs.specs.State.{Effect, RunState, in_workspace, workspace_of}
 use Rattle.model_runs.specs.declared.ending.End.{End}
 use Rattle.model_runs.specs.declared.ending.End.TheVariants as ends
 use Rattle.model_sessions.specs.Sessions.{IsSession, Session}
@@ -46,7 +46,6 @@ use Rattle.run_lines.specs.Stops.{Did, IsDone, IsEnded, end_of, stop_of}
 use Rattle.run_lines.specs.declared.stop.Stop.TheVariants as stops
 use Rattle.script_read.specs.declared.command.Command.{Command}
 use Rattle.script_read.specs.declared.command.Command.TheVariants as commands
-use Rattle.swap_store.specs.declared.refusal.SwapRefused.{SwapRefused}
 use Rattle.swap_store.specs.declared.refusal.SwapRefused.TheVariants as swap_refusals
 
 -- ---- sessions

@@ -1,8 +1,6 @@
 -- Lines that write a file of a buffer.
-use Rattle.std.proofs.Common.{◌≡◌, ◌≢◌, ℕ, ◌*◌, Bool, true, false, IsTrue, IfSome, cond, List, length, Option, Some, None, is_some, refl, sym, ap, ◌∙◌, subst}
+use Rattle.std.proofs.Common.{◌≡◌, ◌≢◌, ℕ, ◌*◌, Bool, true, IsTrue, IfSome, List, length, Option, Some, None, is_some, refl, sym, ap, ◌∙◌, subst}
 use Rattle.std.specs.Option.{option_map, option_map_or}
-use Rattle.std.specs.FinMap.{get-insert}
-use Rattle.std.proofs.lemmas.Cmp.{nat_list_cmp_total}
 use Rattle.buffer_view.specs.BufferTables.{table_of}
 use Rattle.buffer_view.specs.Reads.{IsReadOfBuffer, box_of_root, part_of_buffer}
 use Rattle.chain_owners.specs.Held.{Held}
@@ -21,27 +19,14 @@ use Rattle.model_images.specs.TileCounts.{level_tiles}
 use Rattle.model_operations.specs.declared.operation.IntOp.{IntOp}
 use Rattle.model_runs.specs.Effects.{grabs, grabs_view, writes}
 use Rattle.model_runs.specs.State.{Effect, RunState, refuses, workspace_of}
-use Rattle.outside_io.specs.Files.{Files, file, filed}
+use Rattle.outside_io.specs.Files.{Files}
 use Rattle.pixel_formats.specs.Format.{pixel_bytes}
 use Rattle.pixel_formats.specs.declared.abyss.Abyss.{Abyss}
 use Rattle.plane_rect.specs.Rectangle.{Rectangle, area, empty}
 use Rattle.root_tiles.specs.Roots.{HasShape}
-use Rattle.run_lines.specs.States.{AreAlike, Holds}
+use Rattle.run_lines.specs.States.{Holds}
 use Rattle.run_texts.specs.Texts.{grab_text}
 use Rattle.run_texts.specs.declared.cause.Cause.TheVariants as causes
-
--- ---- files
-
--- files that were alike, with a file of the same length
-pub filed_alike : (a b : Files) (name planned bytes : List ℕ) → AreAlike a b → length planned ≡ length bytes → AreAlike (filed a name planned) (filed b name bytes)
-filed_alike a b name planned bytes alike same = λ q. lookups q
-  where
-    lookups : (q : List ℕ) → option_map length (file (filed a name planned) q) ≡ option_map length (file (filed b name bytes) q)
-    lookups q = rw (get-insert nat_list_cmp_total a name planned q, get-insert nat_list_cmp_total b name bytes q) (by _)
-      where
-        by : (c : Bool) → option_map length (cond c (Some planned) (file a q)) ≡ option_map length (cond c (Some bytes) (file b q))
-        by true = ap Some same
-        by false = alike q
 
 module _ (exposed : Bool) (capacity line : ℕ) (state : RunState) (files : Files) (parts : Parts IntOp) (held : Held) (shelf : Option Files) (name : List ℕ) (z : ℕ) (policy : Abyss) (r : Rectangle) (target : List ℕ)
     (holds : Holds exposed capacity state files parts held shelf) where

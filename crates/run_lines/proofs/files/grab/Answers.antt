@@ -1,6 +1,5 @@
 use Rattle.std.proofs.Common.{◌≢◌, None, Result, Ok, Err, refl}
 use Rattle.model_buffers.specs.Layout.{find}
-use Rattle.model_runs.specs.declared.ending.End.TheVariants as ends
 use Rattle.run_events.proofs.Faults.{faults_by_cause, faults_then}
 use Rattle.run_events.specs.Moments.{Moment}
 use Rattle.run_lines.proofs.EditLines.{chain_faults}
