@@ -1,6 +1,6 @@
 //! Lines that edit buffers, and touch no file.
 
-ghost use Rattle.std.specs.Prelude.{◌≡◌, IfOk, IsSome, List, Option, Some, ℕ, Bool};
+ghost use Rattle.std.specs.Prelude.{◌≡◌, IfOk, IsSome, IsTrue, List, Option, Some, ℕ, Bool};
 ghost use Rattle.chain_owners.specs.Held.{Held};
 ghost use Rattle.commit_session.specs.Seen.{IsOver};
 ghost use Rattle.model_buffers.specs.BufferEdit.{IsProperEdit};
@@ -8,6 +8,7 @@ ghost use Rattle.model_operations.specs.Meanings.{int_meanings, same_operation};
 ghost use Rattle.model_runs.specs.Effects.{effect};
 ghost use Rattle.model_runs.specs.State.{RunState};
 ghost use Rattle.outside_io.specs.Files.{Files};
+ghost use Rattle.plane_rect.specs.Rectangle.{in_limits};
 ghost use Rattle.run_events.specs.Moments.{HasFaults};
 ghost use Rattle.run_lines.specs.Commands.{edit_of};
 ghost use Rattle.run_lines.specs.States.{Holds};
@@ -19,7 +20,7 @@ use chain_contracts::TileChain;
 use commit_session::SessionState;
 use model_buffers::BufferEdit;
 use model_operations::IntOp;
-use pixel_formats::PixelSamples;
+use pixel_formats::{Format, PixelSamples};
 use plane_rect::{Name, Rect};
 use script_read::{Command, Line};
 use std::alloc::{AllocError, Global};
@@ -64,24 +65,8 @@ fn edit_by(alloc: Global, command: &Command) -> Result<BufferEdit, AllocError>
     ensures proper { IfOk result IsProperEdit }
 {
     match command {
-        Command::Buffer { name, format, rect } => {
-            // `first_column` is called for its clause that the extent is a rectangle of the plane.
-            let _ = rect.first_column();
-            Ok(BufferEdit::Create {
-                name: *name,
-                format: *format,
-                extent: *rect,
-            })
-        }
-        Command::Sub { name, parent, rect } => {
-            // As above.
-            let _ = rect.first_column();
-            Ok(BufferEdit::Sub {
-                name: *name,
-                parent: *parent,
-                rect: *rect,
-            })
-        }
+        Command::Buffer { name, format, rect } => Ok(create(*name, *format, *rect)),
+        Command::Sub { name, parent, rect } => Ok(sub(*name, *parent, *rect)),
         Command::Dup { name, from } => Ok(BufferEdit::Duplicate {
             name: *name,
             from: *from,
@@ -106,6 +91,31 @@ fn edit_by(alloc: Global, command: &Command) -> Result<BufferEdit, AllocError>
         }),
         _ => unreachable!(),
     }
+}
+
+/// Returns the edit that makes a buffer on a root of its own.
+fn create(name: Name, format: Format, extent: Rect) -> BufferEdit
+    requires { IsTrue (in_limits extent) }
+    ensures edit { result ≡ BufferEdit.Create name format extent }
+    ensures proper { IsProperEdit result }
+{
+    // `first_column` is called for its clause that the extent is a rectangle of the plane.
+    let _ = extent.first_column();
+    BufferEdit::Create {
+        name,
+        format,
+        extent,
+    }
+}
+
+/// Returns the edit that makes a buffer on the root of another.
+fn sub(name: Name, parent: Name, rect: Rect) -> BufferEdit
+    ensures edit { result ≡ BufferEdit.Sub name parent rect }
+    ensures proper { IsProperEdit result }
+{
+    // `first_column` is called as for a root of its own.
+    let _ = rect.first_column();
+    BufferEdit::Sub { name, parent, rect }
 }
 
 /// Returns the edit that writes a pixel at each position of a rectangle of a buffer.
