@@ -1,5 +1,5 @@
 -- Lines that are carried out one after another, and the report after the last.
-use Rattle.std.proofs.Common.{◌≡◌, ◌≢◌, ℕ, Bool, List, [], ◌∷◌, Result, Ok, Err, IfOk, refl, sym, ap, ◌∙◌, subst}
+use Rattle.std.proofs.Common.{◌≡◌, ◌≢◌, ℕ, Bool, List, [], ◌∷◌, Result, Ok, Err, IfOk, sym, ap, ◌∙◌, subst}
 use Rattle.std.specs.Result.{IsErrAnd}
 use Rattle.chain_owners.specs.Held.{Held}
 use Rattle.commit_session.specs.Parts.{Parts}
@@ -7,7 +7,7 @@ use Rattle.model_bounds.specs.Counts.{HasTrueCounts, true_counts}
 use Rattle.model_operations.specs.declared.operation.IntOp.{IntOp}
 use Rattle.model_runs.specs.Effects.{effect}
 use Rattle.model_runs.specs.Ending.{Leaves}
-use Rattle.model_runs.specs.Run.{effects, files_after_all, report, state_after}
+use Rattle.model_runs.specs.Run.{effects, files_after_all, state_after}
 use Rattle.model_runs.specs.State.{Effect, RunState, refuses}
 use Rattle.model_runs.specs.declared.ending.End.{End}
 use Rattle.model_runs.specs.declared.ending.End.TheVariants as ends

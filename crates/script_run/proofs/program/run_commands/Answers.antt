@@ -1,4 +1,4 @@
-use Rattle.std.proofs.Common.{◌≡◌, Option, Some, None, Ok, is_some, min, refl}
+use Rattle.std.proofs.Common.{◌≡◌, Some, None, Ok, is_some, min, refl}
 use Rattle.chain_handlers.specs.OwnedTiles.{counts_over}
 use Rattle.model_bounds.proofs.RunCounts.{script_few}
 use Rattle.model_runs.specs.Built.{first_unbuilt}
