@@ -1,5 +1,5 @@
 -- How many pairs renders applied never falls.
-use Rattle.std.proofs.Common.{◌≡◌, ℕ, zero, suc, ◌≤◌, Bool, true, false, cond, List, [], ◌∷◌, take, Option, Some, None, Result, Ok, Err, is_none, arith}
+use Rattle.std.proofs.Common.{ℕ, zero, suc, ◌≤◌, Bool, true, false, cond, List, [], ◌∷◌, take, Option, Some, None, Result, Ok, Err, is_none, arith}
 use Rattle.std.specs.Prelude.{⊤}
 use Rattle.outside_io.specs.Files.{Files, file}
 use Rattle.pixel_formats.specs.declared.abyss.Abyss.{Abyss}

@@ -1,5 +1,5 @@
 -- What lines leave, one line after another.
-use Rattle.std.proofs.Common.{◌≡◌, ◌≢◌, ℕ, suc, ◌+◌, ◌-◌, ◌≤◌, Bool, true, false, cond, List, [], ◌∷◌, ◌++◌, drop, length, map, sum, take, Option, Some, None, Result, Ok, Err, append_assoc, is_none, refl, sym, ap, ◌∙◌, subst, arith}
+use Rattle.std.proofs.Common.{◌≡◌, ◌≢◌, ℕ, suc, ◌+◌, ◌-◌, ◌≤◌, Bool, true, false, cond, List, [], ◌∷◌, ◌++◌, drop, length, map, min, sum, take, Option, Some, None, Result, Ok, Err, append_assoc, is_none, refl, sym, ap, ◌∙◌, subst, arith}
 use Rattle.std.specs.Prelude.{nat_lt}
 use Rattle.std.specs.Option.{option_map}
 use Rattle.std.proofs.lemmas.Bool.Decides.{nat_tests}
@@ -167,8 +167,8 @@ module _ (exposed : Bool) (capacity : ℕ) (state : RunState) (files : Files) (l
       let few : most_over capacity done.next mid.chain.names reached ≤ most_over capacity state old.chain.names (done ∷ reached) =
       most_then capacity state done reached old.chain mid.chain names in
       let both = carried_then exposed (outcome_of_line done) rest (most_of_line capacity state old.chain.names done)
-          (most_over capacity done.next mid.chain.names reached) (most_over capacity state old.chain.names (done ∷ reached))
-          result old mid new first names.continues second few in
+      (most_over capacity done.next mid.chain.names reached) (most_over capacity state old.chain.names (done ∷ reached))
+      result old mid new first names.continues second few in
       let all = effects_then old.text mid.text new.text done later (take second.texts_prefix.0 (texts_in rest.events)) (first.texts tt) second.texts_prefix.1 in
       unrefused result old new none
       (subst (λ (list : List Effect). CarriesOut exposed (then_do done.events rest) (most_over capacity state old.chain.names list) result old new) (sym all) both)

@@ -1,5 +1,5 @@
 -- Lines that are carried out one after another, and the report after the last.
-use Rattle.std.proofs.Common.{◌≡◌, ◌≢◌, ℕ, Bool, List, [], ◌∷◌, Result, Ok, Err, IfOk, refl, sym, ap, ◌∙◌, subst}
+use Rattle.std.proofs.Common.{◌≡◌, ◌≢◌, ℕ, Bool, List, [], ◌∷◌, Result, Ok, Err, IfOk, sym, ap, ◌∙◌, subst}
 use Rattle.std.specs.Result.{IsErrAnd}
 use Rattle.chain_owners.specs.Held.{Held}
 use Rattle.commit_session.specs.Parts.{Parts}
@@ -7,7 +7,7 @@ use Rattle.model_bounds.specs.Counts.{HasTrueCounts, true_counts}
 use Rattle.model_operations.specs.declared.operation.IntOp.{IntOp}
 use Rattle.model_runs.specs.Effects.{effect}
 use Rattle.model_runs.specs.Ending.{Leaves}
-use Rattle.model_runs.specs.Run.{effects, files_after_all, report, state_after}
+use Rattle.model_runs.specs.Run.{effects, files_after_all, state_after}
 use Rattle.model_runs.specs.State.{Effect, RunState, refuses}
 use Rattle.model_runs.specs.declared.ending.End.{End}
 use Rattle.model_runs.specs.declared.ending.End.TheVariants as ends
@@ -96,18 +96,19 @@ module _ (exposed : Bool) (capacity : ℕ) (state : RunState) (files : Files) (a
       reached.on (Err end) new (lines_end exposed capacity reached.there reached.found line rest end now new does.carried)
 
   -- the report is that of the counts of the session
-  pub reached_report : (result : Result (Unit {0}) End) (now new : Moment) (parts : Parts IntOp) (held : Held) → Reached exposed capacity state files all [] first now parts held →
-      result ≢ Err ends.SwapFull → Leaves (events_alone (Puts (report_text parts.applied parts.reused) ∷ [])) result (world_at now) (world_at new) →
+  pub reached_report : (applied reused : ℕ) (result : Result (Unit {0}) End) (now new : Moment) (parts : Parts IntOp) (held : Held) → Reached exposed capacity state files all [] first now parts held →
+      applied ≡ parts.applied → reused ≡ parts.reused →
+      result ≢ Err ends.SwapFull → Leaves (events_alone (Puts (report_text applied reused) ∷ [])) result (world_at now) (world_at new) →
       CarriesOutLines exposed capacity state files all result first new
-  reached_report result now new parts held reached room leaves =
+  reached_report applied reused result now new parts held reached applied_is reused_is room leaves =
       let there = reached.there in
       let shown : counts_of there.session ≡ true_counts there = reached.counts.reported in
-      let applied : parts.applied ≡ there.session.cached.applied = sym reached.holds.session.applied ∙ ap (λ (c : Counts). c.applied) shown in
-      let reused : parts.reused ≡ there.session.cached.reused = sym reached.holds.session.reused ∙ ap (λ (c : Counts). c.reused) shown in
+      let a : applied ≡ there.session.cached.applied = applied_is ∙ sym reached.holds.session.applied ∙ ap (λ (c : Counts). c.applied) shown in
+      let r : reused ≡ there.session.cached.reused = reused_is ∙ sym reached.holds.session.reused ∙ ap (λ (c : Counts). c.reused) shown in
       reached.on result new
       (report_carried exposed capacity there reached.found result now new room
-      (subst (λ n. Leaves (events_alone (Puts (report_text there.session.cached.applied n) ∷ [])) result (world_at now) (world_at new)) reused
-      (subst (λ n. Leaves (events_alone (Puts (report_text n parts.reused) ∷ [])) result (world_at now) (world_at new)) applied leaves)))
+      (subst (λ n. Leaves (events_alone (Puts (report_text there.session.cached.applied n) ∷ [])) result (world_at now) (world_at new)) r
+      (subst (λ n. Leaves (events_alone (Puts (report_text n reused) ∷ [])) result (world_at now) (world_at new)) a leaves)))
 
 -- one end for another that is the same
 pub lines_same_end : (exposed : Bool) (capacity : ℕ) (state : RunState) (files : Files) (lines : List Line) (end : End) (result : Result (Unit {0}) End) (old new : Moment) → IsErrAnd result (λ other. other ≡ end) →

@@ -1,5 +1,5 @@
 -- Runs of lines from their start on.
-use Rattle.std.proofs.Common.{◌≡◌, ℕ, ◌≤◌, Bool, IsTrue, List, [], length, Option, Some, None, Result, IfSome, is_some, min, refl, subst, arith}
+use Rattle.std.proofs.Common.{◌≡◌, ℕ, ◌≤◌, Bool, List, [], length, Option, Some, None, Result, IfSome, is_some, min, refl, subst, arith}
 use Rattle.std.specs.List.{IsDistinct}
 use Rattle.std.specs.Result.{IsErrAnd}
 use Rattle.chain_handlers.specs.OwnedTiles.{counts_over, nothing_over}

@@ -1,5 +1,5 @@
 -- A session over a chain, and the files of a shelf, as what a script has made so far.
-use Rattle.std.specs.Prelude.{◌≡◌, ℕ, ◌≤◌, Bool, true, false, IsTrue, List, length, Option, Some, None, IsSomeAnd, is_some}
+use Rattle.std.specs.Prelude.{◌≡◌, ℕ, ◌≤◌, Bool, IsTrue, List, length, Option, Some, None, IsSomeAnd, is_some}
 use Rattle.std.specs.Option.{option_map}
 use Rattle.chain_owners.specs.Held.{Held}
 use Rattle.commit_session.specs.Parts.{Parts}

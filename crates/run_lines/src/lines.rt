@@ -140,10 +140,10 @@ fn carry_out_command<C: TileChain, F: Shelf, O: Sink>(
     ensures valid { C.is_valid chain.old → C.is_valid chain.new }
 {
     match &line.command {
-        Command::Load { .. } => load(alloc, line, session, chain, shelf),
+        Command::Load { .. } => load(line, session, chain, shelf),
         Command::Grab { .. } => grab(alloc, line, session, chain, shelf, out),
         Command::Render { .. } => render(alloc, line, session, chain, shelf, out),
-        Command::Node { .. } | Command::Drop { .. } => note(alloc, line, session, chain),
+        Command::Node { .. } | Command::Drop { .. } => note(alloc, line, session),
         Command::Commit | Command::Undo | Command::Redo => step(line, session, chain),
         _ => edit(alloc, line, session, chain),
     }

@@ -8,7 +8,7 @@ ghost use Rattle.run_lines.specs.declared.stop.Stop.TheVariants as stops;
 
 use buffer_view::BufferRefused;
 use commit_session::SessionRefused;
-use graph_commits::GraphRefused;
+use graph_edits::GraphRefused;
 use model_buffers::EditRefused;
 use model_runs::End;
 use model_states::StateRefused;

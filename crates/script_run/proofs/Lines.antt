@@ -1,5 +1,5 @@
 -- Lines that are built, and in limits.
-use Rattle.std.proofs.Common.{◌≡◌, ℕ, zero, suc, ◌+◌, Bool, true, false, IsTrue, cond, not, List, [], ◌∷◌, All, Option, Some, None, Result, Ok, Err, refl, sym, subst, arith}
+use Rattle.std.proofs.Common.{◌≡◌, ℕ, ◌+◌, Bool, true, false, IsTrue, cond, not, List, [], ◌∷◌, All, Option, Some, None, Result, Ok, Err, refl, sym, subst}
 use Rattle.std.proofs.lemmas.List.Elements.{All-cons, All-head, All-nil, All-tail}
 use Rattle.model_runs.specs.Built.{first_unbuilt, is_of_watch}
 use Rattle.run_lines.specs.Commands.{IsBuiltLine}

@@ -1,12 +1,12 @@
 -- What a run promises, by what it leaves and why it ends.
-use Rattle.std.proofs.Common.{◌≡◌, ℕ, ◌+◌, ◌*◌, ◌<◌, ◌≤◌, ◌⊎◌, Bool, IsTrue, ◌||◌, List, [], min, Option, Some, None, Result, Ok, Err, IfSome, IsSomeAnd, inl, inr, refl, sym, ap, ◌∙◌, subst, arith}
+use Rattle.std.proofs.Common.{◌≡◌, ℕ, ◌⊎◌, Bool, IsTrue, ◌||◌, List, [], min, Option, Some, None, Result, Ok, Err, IfSome, inl, inr, refl, sym, ap, subst, arith}
 use Rattle.chain_owners.specs.Counts.{Counts}
 use Rattle.chain_handlers.specs.OwnedTiles.{counts_over}
 use Rattle.outside_io.specs.Faults.{Rose}
 use Rattle.outside_io.specs.Files.{Files, file}
 use Rattle.model_runs.specs.Built.{BuiltRun, built_lines, built_plan, needs_no_swap, plan_of_read}
 use Rattle.model_runs.specs.Ending.{IsRefusal, IsWhole, MayTear, SaysRefused, end_status, status_of}
-use Rattle.model_runs.specs.Ran.{Faults, NoneFalls, NoneRose, Ran, SufficesFor, bytes_put, tiles_of_run}
+use Rattle.model_runs.specs.Ran.{Faults, NoneFalls, Ran, SufficesFor, bytes_put, tiles_of_run}
 use Rattle.model_runs.specs.Run.{Plan, lines_of_file, plan_of_lines, report, watched_in}
 use Rattle.model_runs.specs.State.{Numbers, Watched}
 use Rattle.model_runs.specs.Swap.{Suffices}

@@ -49,8 +49,8 @@ pub returns-clause-carried : goal.returns-clause-carried
 returns-clause-carried g c = λ exposed capacity state files holds counts.
     let lines = c.args.lines.now in
     let none : drop c.loop-line.line-index lines ≡ [] = drop_all c.loop-line.line-index lines (omega arith) in
-    reached_report exposed capacity state files lines _ _ _ _ _ _ (rw none at (c.loop-line.invariant.reached exposed capacity state files holds counts))
-    (c.put_report.ensures.cause 0 0).room (c.put_report.ensures.leaves (g.F.Shelf.files c.loop-line.shelf))
+    reached_report exposed capacity state files lines _ _ _ _ _ _ _ _ (rw none at (c.loop-line.invariant.reached exposed capacity state files holds counts))
+    c.counts.ensures.applied c.counts.ensures.reused (c.put_report.ensures.cause 0 0).room (c.put_report.ensures.leaves (g.F.Shelf.files c.loop-line.shelf))
 
 pub returns-clause-faults : goal.returns-clause-faults
 returns-clause-faults g c =

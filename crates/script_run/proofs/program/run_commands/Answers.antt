@@ -1,4 +1,4 @@
-use Rattle.std.proofs.Common.{◌≡◌, Option, Some, None, refl}
+use Rattle.std.proofs.Common.{◌≡◌, Some, None, Ok, is_some, min, refl}
 use Rattle.chain_handlers.specs.OwnedTiles.{counts_over}
 use Rattle.model_bounds.proofs.RunCounts.{script_few}
 use Rattle.model_runs.specs.Built.{first_unbuilt}
@@ -9,18 +9,24 @@ use Rattle.script_run.proofs.Lines.{are_built}
 use Rattle.script_run.proofs.Reading.{lines_need_it, lines_read, moment, read_carried, unbuilt_outcome}
 use Rattle.script_run.proofs.program.run_commands.Goals as goal
 
-pub carry_out-requires-in_default-clause-lines : goal.carry_out-requires-in_default-clause-lines
-carry_out-requires-in_default-clause-lines g c =
+pub carry_out-requires-clause-lines : goal.carry_out-requires-clause-lines
+carry_out-requires-clause-lines g c =
     let built : first_unbuilt c.args.lines.now ≡ None = cc (c.first_unbuilt.ensures, c.in_default.is) in
     are_built c.args.lines.now built c.requires.script
 
-pub carry_out-requires-in_default-clause-few : goal.carry_out-requires-in_default-clause-few
-carry_out-requires-in_default-clause-few g c = script_few c.args.lines.now c.requires.script
+pub carry_out-requires-clause-few : goal.carry_out-requires-clause-few
+carry_out-requires-clause-few g c = script_few c.args.lines.now c.requires.script
 
 pub returns-in_default-clause-carried : goal.returns-in_default-clause-carried
 returns-in_default-clause-carried g c =
     let built : first_unbuilt c.args.lines.now ≡ None = cc (c.first_unbuilt.ensures, c.in_default.is) in
-    lines_read _ _ (options_meant c.args.options) c.args.lines.now _ _ _ built refl c.carry_out.ensures.carried
+    let blocks = min c.args.options.swap_blocks (g.D.SwapDisk.block_count c.args.swap.now) in
+    lines_read (g.F.Shelf.files c.args.shelf.now) (is_some (g.D.SwapDisk.blocks c.args.swap.now)) (options_meant c.args.options) c.args.lines.now c.carry_out.result
+    (moment (g.F.Shelf.files c.args.shelf.now) (g.O.Sink.written c.args.out.now) (g.F.Shelf.read_faults c.args.shelf.now) (g.F.Shelf.write_faults c.args.shelf.now) (g.O.Sink.faults c.args.out.now)
+    (counts_over (g.D.SwapDisk.faults c.args.swap.now) blocks c.args.options.resident))
+    (moment (g.F.Shelf.files c.carry_out.new.shelf) (g.O.Sink.written c.carry_out.new.out) (g.F.Shelf.read_faults c.carry_out.new.shelf) (g.F.Shelf.write_faults c.carry_out.new.shelf) (g.O.Sink.faults c.carry_out.new.out)
+    (counts_over (g.D.SwapDisk.faults c.carry_out.new.swap) blocks c.args.options.resident))
+    built refl c.carry_out.ensures.carried
 
 pub returns-clause-carried : goal.returns-clause-carried
 returns-clause-carried g c =

@@ -1,4 +1,4 @@
-use Rattle.std.proofs.Common.{[], min, IsTrue, List, Result, refl, ap, subst}
+use Rattle.std.proofs.Common.{min, IsTrue, List, Result, refl, subst}
 use Rattle.chain_handlers.specs.OwnedTiles.{counts_over}
 use Rattle.model_runs.specs.Built.{needs_no_swap}
 use Rattle.model_runs.specs.Run.{by_grammar}
