@@ -1,5 +1,5 @@
 -- What lines leave that write a file of a node.
-use Rattle.std.proofs.Common.{◌≡◌, ◌≢◌, ℕ, ◌*◌, Bool, true, IsTrue, cond, List, length, Option, Some, None, Result, Ok, Err, IsSome, is_some, is_none, refl, sym, ap, ◌∙◌, subst, arith}
+use Rattle.std.proofs.Common.{◌≡◌, ◌≢◌, ℕ, ◌*◌, Bool, true, false, IsTrue, cond, List, length, Option, Some, None, Result, Ok, Err, IsSome, is_some, is_none, refl, sym, ap, ◌∙◌, subst, arith}
 use Rattle.std.specs.Prelude.{◌&&◌}
 use Rattle.std.specs.Map.{values_of}
 use Rattle.chain_owners.specs.Counts.{Continues, Counts, IsFullOver}
@@ -61,6 +61,11 @@ full-exceeds counts names needed longest full = by counts.used full
     by : (used : Option ℕ) → IsFullOver used counts.capacity names needed longest → Exceeds (record counts { used = used }) names
     by None full = absurd full
     by (Some used) full = (full.past, full.room)
+
+-- a test that can't fail passes
+pub passes : (b : Bool) → (b ≡ false → ⊥) → b ≡ true
+passes true never = refl
+passes false never = absurd (never refl)
 
 none-there : (o : Option Rectangle) → IsSome o → o ≡ None → ⊥
 none-there None some none = absurd (cc)
@@ -200,6 +205,19 @@ module _ (exposed : Bool) (capacity line : ℕ) (state : RunState) (files : File
         })
 
 -- ---- I/O errors
+
+-- a part that touches no device but the chain, and ends nothing
+pub chain-faults : (old new : Moment) → new.reads ≡ old.reads → new.writes ≡ old.writes → new.puts ≡ old.puts → Continues old.chain new.chain → HasFaults (Ok tt) old new
+chain-faults old new reads writes puts continues = record {
+  read = λ e. absurd (cc);
+  write = λ e. absurd (cc);
+  put = λ e. absurd (cc);
+  swap = λ e. absurd (cc);
+  reads = omega (arith, reads);
+  writes = omega (arith, writes);
+  puts = omega (arith, puts);
+  chain = continues;
+}
 
 -- a render touches no device but the chain
 pub render-faults : (refused : SessionRefused) (can : RenderRefused → Type 0) (old new : Moment) → IsRefusedAs by_render can refused →

@@ -1,5 +1,5 @@
 -- Lines that commit, undo or redo.
-use Rattle.std.proofs.Common.{◌≡◌, ◌≢◌, ℕ, ◌≤◌, Bool, true, false, not, cond, length, Option, Result, Ok, Err, IfOk, IsSomeAnd, is_some, refl, sym, ap, ◌∙◌, subst, arith}
+use Rattle.std.proofs.Common.{◌≡◌, ℕ, ◌≤◌, Bool, true, false, not, cond, length, Option, Result, Ok, Err, IfOk, IsSomeAnd, is_some, refl, sym, ap, ◌∙◌, subst, arith}
 use Rattle.std.specs.Prelude.{◌==◌}
 use Rattle.std.specs.Map.{values_of}
 use Rattle.std.specs.Result.{result_unwrap_or}
@@ -21,7 +21,6 @@ use Rattle.model_operations.specs.Meanings.{int_meanings, same_operation}
 use Rattle.model_operations.specs.declared.operation.IntOp.{IntOp}
 use Rattle.model_runs.specs.Effects.{step_gives}
 use Rattle.model_runs.specs.State.{RunState, leaves}
-use Rattle.model_runs.specs.declared.ending.End.{End}
 use Rattle.model_runs.specs.declared.ending.End.TheVariants as ends
 use Rattle.model_sessions.proofs.Actions.{action_keeps}
 use Rattle.model_sessions.specs.Histories.{change_to}
@@ -39,11 +38,11 @@ use Rattle.outside_io.specs.Files.{Files}
 use Rattle.run_events.proofs.Carrying.{nothing_carried}
 use Rattle.run_events.proofs.Texts.{put_none}
 use Rattle.run_events.specs.Carried.{HasNames, most_of_line, outcome_of_line}
-use Rattle.run_events.specs.Moments.{HasFaults, Moment, world_at}
+use Rattle.run_events.specs.Moments.{Moment, world_at}
 use Rattle.run_lines.proofs.CachedNames.{names-fall}
 use Rattle.run_lines.proofs.LookingUp.{filter-fewer}
 use Rattle.run_lines.specs.States.{AreAlike, Holds}
-use Rattle.run_lines.specs.Stops.{Did, IsDone, end_of, stop_of}
+use Rattle.run_lines.specs.Stops.{Did, IsDone, stop_of}
 
 -- ---- steps of histories
 
@@ -107,11 +106,11 @@ pub record IsStepped (gives : Result (History Table IntOp) StateRefused) (sessio
   pub counts : Grows 0 before after
   pub others : AddsNoOther before after (values_of old.entries) (values_of new.entries)
 
-module _ (exposed : Bool) (capacity line : ℕ) (state : RunState) (files : Files) (old new : Parts IntOp) (held later : Held) (before after : Moment) (step : HistoryEdit IntOp)
+module _ (exposed : Bool) (capacity line : ℕ) (state : RunState) (files : Files) (old new : Parts IntOp) (held later : Held) (before after : Moment)
     (holds : Holds exposed capacity state files old held before.files) (files_same : after.files ≡ before.files) (text_same : after.text ≡ before.text) where
-  stepped : (next : History Table IntOp) → IsStep state.session.history step (Ok next) → IsStepped (Ok next) state.session old new held later before.chain after.chain →
+  stepped : (step : HistoryEdit IntOp) (next : History Table IntOp) → IsStep state.session.history step (Ok next) → IsStepped (Ok next) state.session old new held later before.chain after.chain →
       IsDone exposed capacity state files (step_gives line state (Ok next)) before after new later
-  stepped next is did =
+  stepped step next is did =
       let session = with_state same_operation int_meanings state.session next in
       let kept : Cached → Bool = λ (c : Cached). not (meets c.pair.tile (damage same_operation int_meanings (change_to int_meanings state.session.history next) c.pair.node)) in
       let then : RunState = record state { session = session } in
@@ -130,10 +129,10 @@ module _ (exposed : Bool) (capacity line : ℕ) (state : RunState) (files : File
       (names-fall state then before.chain after.chain old new held later did.counts.continues did.others holds.session.cached did.leads.cached)
 
   -- a step that isn't refused
-  pub step-done : (gives : Result (History Table IntOp) StateRefused) → IsStep state.session.history step gives → IsStepped gives state.session old new held later before.chain after.chain →
+  pub step-done : (step : HistoryEdit IntOp) (gives : Result (History Table IntOp) StateRefused) → IsStep state.session.history step gives → IsStepped gives state.session old new held later before.chain after.chain →
       IsDone exposed capacity state files (step_gives line state gives) before after new later
-  step-done (Ok next) is did = stepped next is did
-  step-done (Err refused) is did = absurd did.leads
+  step-done step (Ok next) is did = stepped step next is did
+  step-done step (Err refused) is did = absurd did.leads
 
   by-lower : (gives : Result (History Table IntOp) StateRefused) (lower : GraphRefused) → IsRefusalOf gives lower →
       Did exposed capacity line state files (step_gives line state gives) (Err (stop_of (by_graph lower))) before after new later
@@ -149,39 +148,3 @@ module _ (exposed : Bool) (capacity line : ℕ) (state : RunState) (files : File
   step-stopped gives refused cause =
       subst (λ (r : SessionRefused). Did exposed capacity line state files (step_gives line state gives) (Err (stop_of r)) before after new later) (sym cause.is)
       (by-lower gives cause.lower cause.by_cause)
-
--- ---- I/O errors
-
--- a step meets none
-pub step-faults : (refused : SessionRefused) (cause : GraphRefused → Type 0) (old new : Moment) → IsRefusedAs by_graph cause refused → new.reads ≡ old.reads → new.writes ≡ old.writes → new.puts ≡ old.puts →
-    Grows 0 old.chain new.chain → HasFaults (end_of {A = Unit {0}} (Err (stop_of refused))) old new
-step-faults refused cause old new is reads writes puts grows =
-    subst (λ (r : SessionRefused). HasFaults (end_of {A = Unit {0}} (Err (stop_of r))) old new) (sym is.is) (by is.lower)
-  where
-    none : (end : End) → end ≢ ends.ReadFault → end ≢ ends.WriteFault → end ≢ ends.OutputFault → end ≢ ends.SwapFault → HasFaults (Err end) old new
-    none end read write put swap = record {
-      read = λ e. absurd (read (cc));
-      write = λ e. absurd (write (cc));
-      put = λ e. absurd (put (cc));
-      swap = λ e. absurd (swap (cc));
-      reads = omega (arith, reads);
-      writes = omega (arith, writes);
-      puts = omega (arith, puts);
-      chain = grows.continues;
-    }
-
-    by : (lower : GraphRefused) → HasFaults (end_of {A = Unit {0}} (Err (stop_of (by_graph lower)))) old new
-    by (graph_refusals.State refused) = none ends.Refused (λ e. cc) (λ e. cc) (λ e. cc) (λ e. cc)
-    by graph_refusals.NoMemory = none ends.NoMemory (λ e. cc) (λ e. cc) (λ e. cc) (λ e. cc)
-
-pub step-done-faults : (old new : Moment) → new.reads ≡ old.reads → new.writes ≡ old.writes → new.puts ≡ old.puts → Grows 0 old.chain new.chain → HasFaults (Ok tt) old new
-step-done-faults old new reads writes puts grows = record {
-  read = λ e. absurd (cc);
-  write = λ e. absurd (cc);
-  put = λ e. absurd (cc);
-  swap = λ e. absurd (cc);
-  reads = omega (arith, reads);
-  writes = omega (arith, writes);
-  puts = omega (arith, puts);
-  chain = grows.continues;
-}

@@ -68,7 +68,15 @@ pub(crate) fn render<C: TileChain, F: Shelf, O: Sink>(
     let mut purse = IntPurse::new(RENDER_PERMITS);
     let patch = session.render(&IntKit, chain, &mut purse, *name, *level, *rect)?;
     let bytes = patch.raw_bytes();
-    write_render(alloc, line.number, session.number(), bytes, file, shelf, out)?;
+    write_render(
+        alloc,
+        line.number,
+        session.number(),
+        bytes,
+        file,
+        shelf,
+        out,
+    )?;
     Ok(())
 }
 
