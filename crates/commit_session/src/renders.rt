@@ -10,6 +10,7 @@ ghost use Rattle.model_graphs.specs.Permits.{Spent};
 ghost use Rattle.model_images.specs.Level.{level as level_of};
 ghost use Rattle.model_images.specs.Paint.{cut};
 ghost use Rattle.model_sessions.specs.Sessions.{Session, after_render, last_scene};
+ghost use Rattle.model_states.specs.Damage.{IsStated};
 ghost use Rattle.model_states.specs.Edits.{has_node};
 ghost use Rattle.model_states.specs.State.{image_of};
 ghost use Rattle.swap_store.specs.Cause.{HasSwapCause};
@@ -74,6 +75,7 @@ impl<Op: OpMeaning + Drop> SessionState<Op> {
             OnOk result (IsSessionOf Op.same Op.meanings self.new (C.held chain.new)
             (after_render Op.meanings self.old.capacity session node level rect)) }
         ensures can { OnOk result (CanBeRendered Op.meanings self.old.graph.latest.nodes (request node level rect) self.old.capacity) }
+        ensures stated { IsStated Op.meanings self.old.graph.latest }
         ensures unknown { has_node (specs_of self.old.graph.latest.nodes) node ≡ false →
             result ≡ Err (Render UnknownNode) }
         ensures outside { has_node (specs_of self.old.graph.latest.nodes) node ≡ true → scaled level rect ≡ None →

@@ -1,4 +1,4 @@
 mod TileCounts
 mod NeedCounts
 mod ValidNodes
-mod RunCounts
+pub mod RunCounts

@@ -3,3 +3,4 @@ mod FrameNumbers
 mod Loading
 mod BuiltWords
 pub mod OptionRanges
+pub mod AppliedCounts

@@ -5,9 +5,7 @@
 mod ending;
 pub mod examples;
 pub mod laws;
-mod stage;
 mod statuses;
 
 pub use ending::End;
-pub use stage::Stage;
 pub use statuses::status_of;

@@ -2,7 +2,7 @@
 use Rattle.std.proofs.Common.{◌≡◌, ◌≢◌, ℕ, ◌+◌, ◌*◌, ◌<◌, ◌≤◌, Bool, IsTrue, List, [], ◌∷◌, ◌++◌, length, take, Option, Some, None, Result, Ok, Err, IsSomeAnd, append_assoc, refl, sym, ap, ◌∙◌, subst, arith}
 use Rattle.std.specs.Option.{option_map}
 use Rattle.std.proofs.Math.Seq.{take-append-add}
-use Rattle.chain_owners.specs.Counts.{Counts, Grows}
+use Rattle.chain_owners.specs.Counts.{Continues, Counts}
 use Rattle.model_runs.specs.Ending.{IsWhole, Leaves, MayTear, SaysRefused}
 use Rattle.model_runs.specs.Ran.{texts_in}
 use Rattle.model_runs.specs.declared.ending.End.{End}
@@ -44,9 +44,9 @@ texts_append (Puts text ∷ first) rest = ap (λ (t : List ℕ). text ++ t) (tex
 -- ---- one part
 
 -- a part whose files are all known
-pub carried_by_leaves : (exposed : Bool) (outcome : Outcome) (tiles : ℕ) (result : Result (Unit {0}) End) (old new : Moment) → result ≢ Err ends.SwapFull →
-    Leaves outcome result (world_at old) (world_at new) → CarriesOut exposed outcome tiles result old new
-carried_by_leaves exposed outcome tiles result old new room leaves = record {
+pub carried_by_leaves : (exposed : Bool) (outcome : Outcome) (most : ℕ) (result : Result (Unit {0}) End) (old new : Moment) → result ≢ Err ends.SwapFull →
+    Leaves outcome result (world_at old) (world_at new) → CarriesOut exposed outcome most result old new
+carried_by_leaves exposed outcome most result old new room leaves = record {
   refused = leaves.refused;
   whole = λ e. leaves.whole;
   texts = λ at_end. ap (λ (w : World). w.text) (leaves.whole at_end) ∙ text_after outcome.events (world_at old);
@@ -56,9 +56,9 @@ carried_by_leaves exposed outcome tiles result old new room leaves = record {
 }
 
 -- nothing is done before the end
-pub nothing_carried : (exposed : Bool) (outcome : Outcome) (tiles : ℕ) (end : End) (old new : Moment) → end ≢ ends.Refused → new.files ≡ old.files → new.text ≡ old.text →
-    (end ≡ ends.SwapFull → Exceeds old.chain (old.chain.names + tiles)) → CarriesOut exposed outcome tiles (Err end) old new
-nothing_carried exposed outcome tiles end old new other files text full =
+pub nothing_carried : (exposed : Bool) (outcome : Outcome) (most : ℕ) (end : End) (old new : Moment) → end ≢ ends.Refused → new.files ≡ old.files → new.text ≡ old.text →
+    (end ≡ ends.SwapFull → Exceeds old.chain most) → CarriesOut exposed outcome most (Err end) old new
+nothing_carried exposed outcome most end old new other files text full =
     let same : world_at new ≡ world_at old = cc in
     record {
       refused = says_any end other outcome.refused;
@@ -70,9 +70,9 @@ nothing_carried exposed outcome tiles end old new other files text full =
     }
 
 -- events whose texts are the same, and which are the same where the chain exposes its bytes
-pub carried_alike : (exposed : Bool) (events other : List Event) (tiles : ℕ) (result : Result (Unit {0}) End) (old new : Moment) → (IsTrue exposed → other ≡ events) → texts_in other ≡ texts_in events →
-    CarriesOut exposed (events_alone other) tiles result old new → CarriesOut exposed (events_alone events) tiles result old new
-carried_alike exposed events other tiles result old new same texts carried = record {
+pub carried_alike : (exposed : Bool) (events other : List Event) (most : ℕ) (result : Result (Unit {0}) End) (old new : Moment) → (IsTrue exposed → other ≡ events) → texts_in other ≡ texts_in events →
+    CarriesOut exposed (events_alone other) most result old new → CarriesOut exposed (events_alone events) most result old new
+carried_alike exposed events other most result old new same texts carried = record {
   refused = carried.refused;
   whole = λ e whole. subst (λ (list : List Event). world_at new ≡ after_all list (world_at old)) (same e) (carried.whole e whole);
   texts = λ whole. subst (λ (t : List ℕ). new.text ≡ option_map (λ text. text ++ t) old.text) texts (carried.texts whole);
@@ -83,22 +83,26 @@ carried_alike exposed events other tiles result old new same texts carried = rec
 
 -- ---- two parts
 
-exceeds_before : (old mid : Counts) (used : Option ℕ) (tiles more : ℕ) → Grows tiles old mid → mid.used ≡ used →
-    IsSomeAnd used (λ used. (mid.capacity < mid.names + more) × (used < 32 * (mid.names + more + 1))) →
-    IsSomeAnd used (λ used. (old.capacity < old.names + (tiles + more)) × (used < 32 * (old.names + (tiles + more) + 1)))
-exceeds_before old mid None tiles more grows is past = past
-exceeds_before old mid (Some used) tiles more grows is past = (omega (arith, past.0, grows.continues.capacity, grows.names), omega (arith, past.1, grows.names))
+exceeds_more : (capacity : ℕ) (used : Option ℕ) (most more : ℕ) → most ≤ more → IsSomeAnd used (λ used. (capacity < most) × (used < 32 * (most + 1))) →
+    IsSomeAnd used (λ used. (capacity < more) × (used < 32 * (more + 1)))
+exceeds_more capacity None most more few past = past
+exceeds_more capacity (Some used) most more few past = (omega (arith, past.0, few), omega (arith, past.1, few))
 
-pub Exceeds-before : (old mid : Counts) (tiles more : ℕ) → Grows tiles old mid → Exceeds mid (mid.names + more) → Exceeds old (old.names + (tiles + more))
-Exceeds-before old mid tiles more grows past =
-    subst (λ (o : Option ℕ). IsSomeAnd o (λ used. (old.capacity < old.names + (tiles + more)) × (used < 32 * (old.names + (tiles + more) + 1)))) grows.continues.used
-    (exceeds_before old mid mid.used tiles more grows refl past)
+-- names that are more
+pub Exceeds-more : (counts : Counts) (most more : ℕ) → most ≤ more → Exceeds counts most → Exceeds counts more
+Exceeds-more counts most more few past = exceeds_more counts.capacity counts.used most more few past
+
+-- names that exceed what there is later exceed what there was before
+pub Exceeds-before : (old mid : Counts) (most : ℕ) → Continues old mid → Exceeds mid most → Exceeds old most
+Exceeds-before old mid most continues past =
+    subst (λ (capacity : ℕ). IsSomeAnd old.used (λ used. (capacity < most) × (used < 32 * (most + 1)))) continues.capacity
+    (subst (λ (o : Option ℕ). IsSomeAnd o (λ used. (mid.capacity < most) × (used < 32 * (most + 1)))) continues.used past)
 
 -- a part whose events have all come, and then the rest
-pub carried_then : (exposed : Bool) (outcome rest : Outcome) (tiles more : ℕ) (result : Result (Unit {0}) End) (old mid new : Moment) →
-    CarriesOut exposed outcome tiles (Ok tt) old mid → Grows tiles old.chain mid.chain → CarriesOut exposed rest more result mid new →
-    CarriesOut exposed (then_do outcome.events rest) (tiles + more) result old new
-carried_then exposed outcome rest tiles more result old mid new first grows second = record {
+pub carried_then : (exposed : Bool) (outcome rest : Outcome) (most more all : ℕ) (result : Result (Unit {0}) End) (old mid new : Moment) →
+    CarriesOut exposed outcome most (Ok tt) old mid → Continues old.chain mid.chain → CarriesOut exposed rest more result mid new → more ≤ all →
+    CarriesOut exposed (then_do outcome.events rest) all result old new
+carried_then exposed outcome rest most more all result old mid new first continues second few = record {
   refused = second.refused;
   whole = λ e whole. second.whole e whole ∙ ap (after_all rest.events) (first.whole e tt) ∙ sym (after_all-append outcome.events rest.events (world_at old));
   texts = λ whole. second.texts whole ∙ ap (option_map (λ text. text ++ texts_in rest.events)) came ∙ put_after (texts_in outcome.events) (texts_in rest.events) old.text ∙ both;
@@ -112,7 +116,7 @@ carried_then exposed outcome rest tiles more result old mid new first grows seco
         (sym (take-append-add (texts_in outcome.events) (texts_in rest.events) second.texts_prefix.0)
         ∙ ap (take (length (texts_in outcome.events) + second.texts_prefix.0)) (sym (texts_append outcome.events rest.events))),
   );
-  full = λ full. Exceeds-before old.chain mid.chain tiles more grows (second.full full);
+  full = λ full. Exceeds-more old.chain more all few (Exceeds-before old.chain mid.chain more continues (second.full full));
 }
   where
     came : mid.text ≡ option_map (λ text. text ++ texts_in outcome.events) old.text
@@ -121,27 +125,22 @@ carried_then exposed outcome rest tiles more result old mid new first grows seco
     both : option_map (λ text. text ++ (texts_in outcome.events ++ texts_in rest.events)) old.text ≡ option_map (λ text. text ++ texts_in (outcome.events ++ rest.events)) old.text
     both = ap (λ (t : List ℕ). option_map (λ text. text ++ t) old.text) (sym (texts_append outcome.events rest.events))
 
-exceeds_more : (counts : Counts) (used : Option ℕ) (tiles more : ℕ) → tiles ≤ more → IsSomeAnd used (λ used. (counts.capacity < counts.names + tiles) × (used < 32 * (counts.names + tiles + 1))) →
-    IsSomeAnd used (λ used. (counts.capacity < counts.names + more) × (used < 32 * (counts.names + more + 1)))
-exceeds_more counts None tiles more few past = past
-exceeds_more counts (Some used) tiles more few past = (omega (arith, past.0, few), omega (arith, past.1, few))
-
--- tiles that are more
-pub more_carried : (exposed : Bool) (outcome : Outcome) (tiles more : ℕ) (result : Result (Unit {0}) End) (old new : Moment) → tiles ≤ more →
-    CarriesOut exposed outcome tiles result old new → CarriesOut exposed outcome more result old new
-more_carried exposed outcome tiles more result old new few carried = record {
+-- more names
+pub more_carried : (exposed : Bool) (outcome : Outcome) (most more : ℕ) (result : Result (Unit {0}) End) (old new : Moment) → most ≤ more →
+    CarriesOut exposed outcome most result old new → CarriesOut exposed outcome more result old new
+more_carried exposed outcome most more result old new few carried = record {
   refused = carried.refused;
   whole = carried.whole;
   texts = carried.texts;
   prefix = carried.prefix;
   texts_prefix = carried.texts_prefix;
-  full = λ full. exceeds_more old.chain old.chain.used tiles more few (carried.full full);
+  full = λ full. Exceeds-more old.chain most more few (carried.full full);
 }
 
 -- a part that ends early, and so ends what it is a part of
-pub end_carried : (exposed : Bool) (outcome rest : Outcome) (tiles more : ℕ) (end : End) (old new : Moment) → end ≢ ends.Refused → tiles ≤ more →
-    CarriesOut exposed outcome tiles (Err end) old new → CarriesOut exposed (then_do outcome.events rest) more (Err end) old new
-end_carried exposed outcome rest tiles more end old new other few carried = record {
+pub end_carried : (exposed : Bool) (outcome rest : Outcome) (most more : ℕ) (end : End) (old new : Moment) → end ≢ ends.Refused → most ≤ more →
+    CarriesOut exposed outcome most (Err end) old new → CarriesOut exposed (then_do outcome.events rest) more (Err end) old new
+end_carried exposed outcome rest most more end old new other few carried = record {
   refused = says_any end other rest.refused;
   whole = λ e whole. absurd (not_whole end other whole);
   texts = λ whole. absurd (not_whole end other whole);
@@ -152,5 +151,5 @@ end_carried exposed outcome rest tiles more end old new other few carried = reco
         (sym (part_prefix carried.texts_prefix.0 (texts_in outcome.events) (texts_in rest.events))
         ∙ ap (take (length (take carried.texts_prefix.0 (texts_in outcome.events)))) (sym (texts_append outcome.events rest.events))),
   );
-  full = λ full. exceeds_more old.chain old.chain.used tiles more few (carried.full full);
+  full = λ full. Exceeds-more old.chain most more few (carried.full full);
 }

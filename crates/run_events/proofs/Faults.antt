@@ -1,8 +1,7 @@
 -- I/O errors of parts of a run.
-use Rattle.std.proofs.Common.{◌≡◌, ◌≤◌, Result, Ok, Err, refl, sym, ap, subst, arith}
+use Rattle.std.proofs.Common.{◌≡◌, Result, Ok, Err, refl, sym, subst, arith}
 use Rattle.chain_owners.specs.Counts.{Continues, Counts}
 use Rattle.model_runs.specs.declared.ending.End.{End}
-use Rattle.model_runs.specs.declared.ending.End.TheVariants as ends
 use Rattle.run_events.specs.Causes as causes
 use Rattle.run_events.specs.Moments.{HasFaults, Moment}
 

@@ -1,92 +1,118 @@
--- Lines that edit buffers.
-use Rattle.std.proofs.Common.{◌≡◌, ◌≢◌, ℕ, ◌+◌, ◌*◌, ◌<◌, Bool, true, List, Option, Some, None, Result, Ok, Err, IfErr, IfOk, IsSomeAnd, MatchResult, is_some, refl, sym, ap, ◌∙◌, subst, arith}
-use Rattle.std.specs.Option.{option_map}
-use Rattle.buffer_view.specs.BufferTables.{AreBuffersOver, BufferTable, table_of}
-use Rattle.buffer_view.specs.Causes.{HasAddCause, HasEditCause}
+-- Lines that edit the buffers of a session.
+use Rattle.std.proofs.Common.{◌≡◌, ◌≢◌, ℕ, ◌+◌, Bool, List, Option, Some, None, Result, Ok, Err, IfErr, is_some, refl, sym, ap, ◌∙◌, subst, arith}
+use Rattle.std.specs.Result.{OnOk}
+use Rattle.buffer_view.specs.Causes.{HasEditCause}
 use Rattle.buffer_view.specs.declared.refused.BufferRefused.{BufferRefused}
 use Rattle.buffer_view.specs.declared.refused.BufferRefused.TheVariants as buffer_refusals
-use Rattle.chain_owners.specs.Counts.{Counts, Grows, IsFullOver}
+use Rattle.chain_owners.specs.Counts.{Continues, Counts, Grows, IsFullOver}
 use Rattle.chain_owners.specs.Held.{Held}
-use Rattle.model_buffers.proofs.ShapeLaws.{layout-with}
-use Rattle.model_buffers.specs.BufferEdit.{Refusal, edit_refused, layout_with, written_by}
+use Rattle.commit_session.proofs.Working.{edit-number, valid-edited}
+use Rattle.commit_session.specs.Parts.{Parts}
+use Rattle.commit_session.specs.Refusals.{IsRefusedAs, by_buffers}
+use Rattle.commit_session.specs.Seen.{IsSessionOf}
+use Rattle.commit_session.specs.declared.refused.SessionRefused.{SessionRefused}
+use Rattle.commit_session.specs.declared.refused.SessionRefused.TheVariants.{Buffer, NoMemory}
+use Rattle.model_buffers.specs.BufferEdit.{IsProperEdit, Refusal, edit_refused}
 use Rattle.model_buffers.specs.Counts.{tiles_added}
 use Rattle.model_buffers.specs.Edits.{table_with, unless_refused}
 use Rattle.model_buffers.specs.Layout.{TableLayout}
 use Rattle.model_buffers.specs.Table.{Table, layout_of}
 use Rattle.model_buffers.specs.declared.edit.BufferEdit.{BufferEdit}
+use Rattle.model_buffers.specs.declared.edit.BufferEdit.TheVariants as edit_variants
 use Rattle.model_buffers.specs.declared.refused.EditRefused.{EditRefused}
+use Rattle.model_graphs.specs.Laws.{KeepsLaws}
+use Rattle.model_operations.specs.Lawful.MeaningLaws.{is_boxed, is_dual, is_local}
+use Rattle.model_operations.specs.Lawful.SameLaws.{is_equality}
+use Rattle.model_operations.specs.Meanings.{int_meanings, same_operation}
 use Rattle.model_operations.specs.declared.operation.IntOp.{IntOp}
-use Rattle.model_runs.specs.Effects.{cause_of_edit, edit_gives, edits, effect}
-use Rattle.model_runs.specs.State.{Effect, RunState, in_workspace, refuses, workspace_of}
+use Rattle.model_runs.specs.Effects.{edit_gives, edits, effect}
+use Rattle.model_runs.specs.State.{Effect, RunState, in_workspace, workspace_of}
 use Rattle.model_runs.specs.declared.ending.End.{End}
 use Rattle.model_runs.specs.declared.ending.End.TheVariants as ends
-use Rattle.model_sessions.specs.Steps.{with_edit, with_working}
-use Rattle.model_states.specs.Rectangles.{Rectangles}
-use Rattle.model_states.specs.Workspace.{Workspace}
-use Rattle.outside_io.specs.Files.{Files}
-use Rattle.plane_rect.specs.Rectangle.{Rectangle}
+use Rattle.model_sessions.specs.Sessions.{IsSession, Session}
+use Rattle.model_sessions.specs.Steps.{EditBuffer, HistoryEdit, IsProper, after_step, with_edit, with_workspace}
+use Rattle.model_states.specs.History.{number_of}
 use Rattle.outside_io.specs.Faults.{Rose}
-use Rattle.run_events.proofs.Carrying.{nothing_carried}
+use Rattle.outside_io.specs.Files.{Files}
+use Rattle.run_events.proofs.Carrying.{Exceeds-more, nothing_carried}
 use Rattle.run_events.proofs.Faults.{continues_same}
 use Rattle.run_events.proofs.Texts.{put_none}
-use Rattle.run_events.specs.Carried.{Exceeds, outcome_of_line}
+use Rattle.run_events.specs.Carried.{Exceeds, most_of_line, outcome_of_line}
 use Rattle.run_events.specs.Moments.{HasFaults, Moment}
-use Rattle.run_lines.specs.Buffers.{Holds, edit_of}
+use Rattle.run_lines.proofs.Bounds.{names_grow, names_within}
+use Rattle.run_lines.specs.Commands.{edit_of}
+use Rattle.run_lines.specs.States.{Holds}
+use Rattle.run_lines.specs.Stops.{Did, IsDone, IsEnded, end_of, stop_of}
+use Rattle.run_lines.specs.declared.stop.Stop.TheVariants as stops
 use Rattle.script_read.specs.declared.command.Command.{Command}
 use Rattle.script_read.specs.declared.command.Command.TheVariants as commands
-use Rattle.model_buffers.specs.declared.edit.BufferEdit.TheVariants as edit_variants
-use Rattle.run_lines.specs.Edited.{BuffersOver, IsEdited}
-use Rattle.run_lines.specs.Stops.{Did, IsDone, IsEnded, end_of, stop_of}
-use Rattle.swap_store.specs.declared.refusal.SwapRefused.{SwapRefused}
 use Rattle.swap_store.specs.declared.refusal.SwapRefused.TheVariants as swap_refusals
 
--- ---- workspaces
+-- ---- sessions
 
-working-with : (workspace : Workspace Table IntOp Rectangles) (table : Table) (o : Option (List ℕ × Rectangle)) → (with_working workspace table o).working ≡ table
-working-with workspace table None = refl
-working-with workspace table (Some written) = refl
+abbrev pub IsHeld : Parts IntOp → Held → Session Table IntOp → Type 0
+IsHeld parts held session = IsSessionOf same_operation int_meanings parts held session
 
--- ---- edits of the layout alone
+-- the session after a step of its history that appends no state
+abbrev pub stepped : Session Table IntOp → HistoryEdit IntOp → Session Table IntOp
+stepped session step = record session { history = after_step int_meanings session.history step }
 
-pub the_edit : (a b : BufferEdit) → (let o : Option BufferEdit = Some a in o ≡ Some b) → a ≡ b
-the_edit a b e = cc
+laws : KeepsLaws int_meanings
+laws = record { local = is_local; dual = is_dual }
 
-add_causes : (layout : TableLayout) (edit : BufferEdit) (counts : Counts) (refused : BufferRefused) → HasAddCause layout edit refused → HasEditCause layout edit counts counts refused
-add_causes layout edit counts (buffer_refusals.Edit cause) is = is
-add_causes layout edit counts (buffer_refusals.Swap refused) is = absurd is
-add_causes layout edit counts buffer_refusals.NoMemory is = tt
+pub step_valid : (capacity : ℕ) (session : Session Table IntOp) (step : HistoryEdit IntOp) → IsSession int_meanings capacity session → IsProper step →
+    number_of (after_step int_meanings session.history step) ≡ number_of session.history → IsSession int_meanings capacity (stepped session step)
+step_valid capacity session step = valid-edited same_operation int_meanings laws is_boxed is_equality.apart capacity session step
 
-add_cause : (layout : TableLayout) (edit : BufferEdit) (counts : Counts) (edited : Result (Unit {0}) BufferRefused) → IfErr edited (HasAddCause layout edit) → IfErr edited (HasEditCause layout edit counts counts)
-add_cause layout edit counts (Ok done) is = tt
-add_cause layout edit counts (Err refused) is = add_causes layout edit counts refused is
+-- a session over a chain, with the counts of the chain
+pub record SessionOver : Type 0 where
+  pub parts : Parts IntOp
+  pub held : Held
+  pub counts : Counts
 
--- an edit that touches no tile
-pub added_edit : (edit : BufferEdit) (edited : Result (Unit {0}) BufferRefused) (old new : BufferTable) (held : Held) (counts : Counts) →
-    MatchResult edited (λ _. new.layout ≡ layout_with old.layout edit) (λ _. new.layout ≡ old.layout) →
-    MatchResult edited (λ _. table_of new held ≡ option_map (λ table. table_with table edit) (table_of old held)) (λ _. table_of new held ≡ table_of old held) →
-    ((cause : EditRefused) → edit_refused old.layout edit ≡ Some cause → edited ≡ Err (buffer_refusals.Edit cause)) →
-    IfErr edited (HasAddCause old.layout edit) → IfOk edited (λ _. edit_refused old.layout edit ≡ None) → AreBuffersOver new held →
-    IsEdited edit edited (record { buffers = old; held = held; counts = counts }) (record { buffers = new; held = held; counts = counts })
-added_edit edit edited old new held counts layout table exact cause carried_out over = record {
-  layout = layout;
-  table = table;
-  exact = exact;
-  cause = add_cause old.layout edit counts edited cause;
-  carried_out = carried_out;
-  over = over;
-  content = refl;
-  counts = record { continues = continues_same counts counts refl; names = omega arith };
-}
+abbrev pub layout_in : SessionOver → TableLayout
+layout_in over = over.parts.versions.working.layout
+
+-- What an edit of a session's buffers did.
+pub record IsEdited (edit : BufferEdit) (result : Result (Unit {0}) SessionRefused) (old new : SessionOver) : Type 0 where
+  pub carried_out : OnOk result (edit_refused (layout_in old) edit ≡ None)
+  pub session : (before : Session Table IntOp) → IsHeld old.parts old.held before → OnOk result (IsHeld new.parts new.held (stepped before (EditBuffer edit)))
+  pub exact : (refused : EditRefused) → edit_refused (layout_in old) edit ≡ Some refused → result ≢ Err NoMemory → result ≡ Err (Buffer (buffer_refusals.Edit refused))
+  pub cause : IfErr result (IsRefusedAs by_buffers (HasEditCause (layout_in old) edit old.counts new.counts))
+  pub capacity : new.parts.capacity ≡ old.parts.capacity
+  pub content : is_some new.held.content ≡ is_some old.held.content
+  pub counts : Grows (tiles_added edit) old.counts new.counts
 
 -- ---- full swaps
 
-exceeds_by : (counts : Counts) (used : Option ℕ) (tiles needed longest : ℕ) → IsFullOver used counts.capacity (counts.names + tiles) needed longest →
-    IsSomeAnd used (λ used. (counts.capacity < counts.names + tiles) × (used < 32 * (counts.names + tiles + 1)))
-exceeds_by counts None tiles needed longest full = absurd full
-exceeds_by counts (Some used) tiles needed longest full = (full.past, full.room)
+pub full_exceeds : (counts : Counts) (names needed longest : ℕ) → IsFullOver counts.used counts.capacity names needed longest → Exceeds counts names
+full_exceeds counts names needed longest full = by counts.used full
+  where
+    by : (used : Option ℕ) → IsFullOver used counts.capacity names needed longest → Exceeds (record counts { used = used }) names
+    by None full = absurd full
+    by (Some used) full = (full.past, full.room)
 
-pub full_exceeds : (counts : Counts) (tiles needed longest : ℕ) → IsFullOver counts.used counts.capacity (counts.names + tiles) needed longest → Exceeds counts (counts.names + tiles)
-full_exceeds counts tiles needed longest full = exceeds_by counts counts.used tiles needed longest full
+-- ---- running out of memory
+
+-- before anything was done
+pub out_of_memory : (exposed : Bool) (capacity line : ℕ) (state : RunState) (files : Files) (done : Effect) (now : Moment) (parts : Parts IntOp) (held : Held) →
+    Did exposed capacity line state files done (Err (stops.Ended ends.NoMemory)) now now parts held
+out_of_memory exposed capacity line state files done now parts held = record {
+  other = λ e. cc;
+  carried = nothing_carried exposed (outcome_of_line done) _ ends.NoMemory now now (λ e. cc) refl refl (λ e. absurd (cc));
+}
+
+pub out_of_memory_faults : (now : Moment) → HasFaults (Err ends.NoMemory) now now
+out_of_memory_faults now = record {
+  read = λ e. absurd (cc);
+  write = λ e. absurd (cc);
+  put = λ e. absurd (cc);
+  swap = λ e. absurd (cc);
+  reads = omega arith;
+  writes = omega arith;
+  puts = omega arith;
+  chain = continues_same now.chain now.chain refl;
+}
 
 -- ---- edits
 
@@ -94,8 +120,8 @@ full_exceeds counts tiles needed longest full = exceeds_by counts counts.used ti
 abbrev pub at_chain : Option Files → Option (List ℕ) → ℕ → ℕ → ℕ → Counts → Moment
 at_chain files text reads writes puts counts = record { files = files; text = text; reads = reads; writes = writes; puts = puts; chain = counts }
 
-module _ (exposed : Bool) (line : ℕ) (state : RunState) (files : Files) (edit : BufferEdit) (old new : BuffersOver) (shelf : Option Files) (text : Option (List ℕ)) (reads writes puts more_reads more_writes more_puts : ℕ)
-    (holds : Holds exposed state files old.buffers old.held shelf) where
+module _ (exposed : Bool) (capacity line : ℕ) (state : RunState) (files : Files) (edit : BufferEdit) (old new : SessionOver) (shelf : Option Files) (text : Option (List ℕ)) (reads writes puts more_reads more_writes more_puts : ℕ)
+    (holds : Holds exposed capacity state files old.parts old.held shelf) where
   abbrev before : Moment
   before = at_chain shelf text reads writes puts old.counts
 
@@ -105,63 +131,103 @@ module _ (exposed : Bool) (line : ℕ) (state : RunState) (files : Files) (edit 
   abbrev working : Table
   working = (workspace_of state).working
 
-  same_refusal : edit_refused (layout_of working) edit ≡ edit_refused old.buffers.layout edit
-  same_refusal = ap (λ (layout : TableLayout). edit_refused layout edit) holds.layout
+  same_refusal : edit_refused (layout_of working) edit ≡ edit_refused (layout_in old) edit
+  same_refusal = ap (λ (layout : TableLayout). edit_refused layout edit) holds.session.working.layout
 
-  gives_table : edit_refused old.buffers.layout edit ≡ None → edits line state edit ≡ edit_gives line state edit (Ok (table_with working edit))
-  gives_table none = ap (λ (r : Refusal). edit_gives line state edit (unless_refused r (table_with working edit))) (same_refusal ∙ none)
-
-  gives_refusal : (cause : EditRefused) → edit_refused old.buffers.layout edit ≡ Some cause → edits line state edit ≡ refuses line state (cause_of_edit cause)
-  gives_refusal cause some = ap (λ (r : Refusal). edit_gives line state edit (unless_refused r (table_with working edit))) (same_refusal ∙ some)
+  gives : (r : Refusal) → edit_refused (layout_in old) edit ≡ r → edits line state edit ≡ edit_gives line state edit (unless_refused r (table_with working edit))
+  gives r is = ap (λ (r : Refusal). edit_gives line state edit (unless_refused r (table_with working edit))) (same_refusal ∙ is)
 
   abbrev next : RunState
   next = in_workspace state (with_edit (workspace_of state) edit (Ok (table_with working edit)))
 
-  next_table : (workspace_of next).working ≡ table_with working edit
-  next_table = working-with (workspace_of state) (table_with working edit) (written_by (layout_of working) edit)
+  session_is : edit_refused (layout_in old) edit ≡ None → stepped state.session (EditBuffer edit) ≡ next.session
+  session_is none =
+      ap (λ (r : Refusal). let s : Session Table IntOp = record state.session { history = with_workspace state.session.history (with_edit (workspace_of state) edit (unless_refused r (table_with working edit))) } in s)
+      (same_refusal ∙ none)
 
   -- an edit that is carried out
-  pub edit_done : IsEdited edit (Ok tt) old new → IsDone exposed files (edits line state edit) before after new.buffers new.held
-  edit_done is =
-      subst (λ (done : Effect). IsDone exposed files done before after new.buffers new.held) (sym (gives_table is.carried_out))
+  pub edit_done : IsProperEdit edit → IsEdited edit (Ok tt) old new → IsDone exposed capacity state files (edits line state edit) before after new.parts new.held
+  edit_done proper is =
+      let none = is.carried_out in
+      let valid = step_valid capacity state.session (EditBuffer edit) holds.valid proper
+      (edit-number same_operation int_meanings laws is_boxed is_equality.apart state.session.history edit (same_refusal ∙ none)) in
+      subst (λ (done : Effect). IsDone exposed capacity state files done before after new.parts new.held) (sym (gives None none))
       (record {
         carried = record { refused = refl; whole = λ e whole. refl; texts = λ whole. put_none text; prefix = λ e. refl; texts_prefix = (0, put_none text); full = λ full. absurd (cc) };
         next = record {
-          layout = ap layout_of next_table ∙ layout-with working edit ∙ ap (λ (layout : TableLayout). layout_with layout edit) holds.layout ∙ sym is.layout;
+          session = subst (IsHeld new.parts new.held) (session_is none) (is.session state.session holds.session);
+          valid = subst (IsSession int_meanings capacity) (session_is none) valid;
+          applied = holds.applied;
+          as_many = is.capacity ∙ holds.as_many;
+          unwatched = holds.unwatched;
           content = is.content ∙ holds.content;
-          table = λ e. is.table ∙ ap (option_map (λ table. table_with table edit)) (holds.table e) ∙ ap Some (sym next_table);
           alike = holds.alike;
           same = holds.same;
         };
-        names = is.counts;
+        names = names_grow (tiles_added edit) state next old.counts new.counts refl is.counts;
       })
 
-  tiles_of_edit : (r : Refusal) → edit_refused old.buffers.layout edit ≡ r → (refused : SwapRefused) → IsEdited edit (Err (buffer_refusals.Swap refused)) old new →
-      (edits line state edit).tiles ≡ tiles_added edit
-  tiles_of_edit None e refused is = ap (λ (done : Effect). done.tiles) (gives_table e)
-  tiles_of_edit (Some cause) e refused is = absurd (let other = is.exact cause e in cc)
+  ended : (done : Effect) (end : End) → end ≢ ends.Refused → (end ≡ ends.SwapFull → Exceeds old.counts (most_of_line capacity state old.counts.names done)) →
+      IsEnded exposed capacity state done end before after
+  ended done end other full = record {
+    other = other;
+    carried = nothing_carried exposed (outcome_of_line done) (most_of_line capacity state old.counts.names done) end before after other refl refl full;
+  }
 
-  ended : (done : Effect) (end : End) → end ≢ ends.Refused → (end ≡ ends.SwapFull → Exceeds old.counts (old.counts.names + done.tiles)) → IsEnded exposed done end before after
-  ended done end other full = record { other = other; carried = nothing_carried exposed (outcome_of_line done) done.tiles end before after other refl refl full }
+  -- a swap that the edit's tiles may have filled
+  full_at : (r : Refusal) → edit_refused (layout_in old) edit ≡ r → (needed longest : ℕ) →
+      IsEdited edit (Err (Buffer (buffer_refusals.Swap (swap_refusals.SwapFull needed longest)))) old new →
+      IsFullOver old.counts.used old.counts.capacity (old.counts.names + tiles_added edit) needed longest →
+      Exceeds old.counts (most_of_line capacity state old.counts.names (edits line state edit))
+  full_at (Some refused) e needed longest is full = absurd (let other = is.exact refused e (λ memory. cc) in cc)
+  full_at None e needed longest is full =
+      let done = edit_gives line state edit (Ok (table_with working edit)) in
+      subst (λ (d : Effect). Exceeds old.counts (most_of_line capacity state old.counts.names d)) (sym (gives None e))
+      (Exceeds-more old.counts (old.counts.names + tiles_added edit) (most_of_line capacity state old.counts.names done)
+      (names_within exposed capacity state files old.parts old.held shelf holds old.counts.names done refl)
+      (full_exceeds old.counts (old.counts.names + tiles_added edit) needed longest full))
+
+  by_lower : (lower : BufferRefused) → HasEditCause (layout_in old) edit old.counts new.counts lower → IsEdited edit (Err (by_buffers lower)) old new →
+      Did exposed capacity line state files (edits line state edit) (Err (stop_of (by_buffers lower))) before after new.parts new.held
+  by_lower (buffer_refusals.Edit refused) cause is = record { effect = gives (Some refused) cause; files = refl; text = refl }
+  by_lower (buffer_refusals.Swap swap_refusals.SwapFault) cause is = ended (edits line state edit) ends.SwapFault (λ e. cc) (λ e. absurd (cc))
+  by_lower (buffer_refusals.Swap (swap_refusals.SwapFull needed longest)) cause is =
+      ended (edits line state edit) ends.SwapFull (λ e. cc) (λ e. full_at (edit_refused (layout_in old) edit) refl needed longest is cause)
+  by_lower (buffer_refusals.Swap swap_refusals.NoMemory) cause is = ended (edits line state edit) ends.NoMemory (λ e. cc) (λ e. absurd (cc))
+  by_lower buffer_refusals.NoMemory cause is = ended (edits line state edit) ends.NoMemory (λ e. cc) (λ e. absurd (cc))
 
   -- an edit that is refused
-  pub edit_stopped : (refused : BufferRefused) → IsEdited edit (Err refused) old new →
-      Did exposed line state files (edits line state edit) (Err (stop_of refused)) before after new.buffers new.held
-  edit_stopped (buffer_refusals.Edit cause) is = record { effect = gives_refusal cause is.cause; files = refl; text = refl }
-  edit_stopped (buffer_refusals.Swap swap_refusals.SwapFault) is = ended (edits line state edit) ends.SwapFault (λ e. cc) (λ e. absurd (cc))
-  edit_stopped (buffer_refusals.Swap (swap_refusals.SwapFull needed longest)) is =
-      let tiles = tiles_of_edit (edit_refused old.buffers.layout edit) refl (swap_refusals.SwapFull needed longest) is in
-      ended (edits line state edit) ends.SwapFull (λ e. cc)
-      (λ e. subst (λ n. Exceeds old.counts (old.counts.names + n)) (sym tiles) (full_exceeds old.counts (tiles_added edit) needed longest is.cause))
-  edit_stopped (buffer_refusals.Swap swap_refusals.NoMemory) is = ended (edits line state edit) ends.NoMemory (λ e. cc) (λ e. absurd (cc))
-  edit_stopped buffer_refusals.NoMemory is = ended (edits line state edit) ends.NoMemory (λ e. cc) (λ e. absurd (cc))
+  pub edit_stopped : (refused : SessionRefused) → IsEdited edit (Err refused) old new →
+      Did exposed capacity line state files (edits line state edit) (Err (stop_of refused)) before after new.parts new.held
+  edit_stopped refused is =
+      let as_buffers = is.cause in
+      subst (λ (r : SessionRefused). Did exposed capacity line state files (edits line state edit) (Err (stop_of r)) before after new.parts new.held) (sym as_buffers.is)
+      (by_lower as_buffers.lower as_buffers.by_cause (subst (λ (r : SessionRefused). IsEdited edit (Err r) old new) as_buffers.is is))
 
 -- ---- I/O errors
 
-module _ (edit : BufferEdit) (old new : BuffersOver) (shelf : Option Files) (text : Option (List ℕ)) (reads writes puts : ℕ) where
+-- a part that touches the chain alone
+pub chain_faults : (now : Moment) (counts : Counts) → Continues now.chain counts → HasFaults (Ok tt) now (record now { chain = counts })
+chain_faults now counts continues = record {
+  read = λ e. absurd (cc);
+  write = λ e. absurd (cc);
+  put = λ e. absurd (cc);
+  swap = λ e. absurd (cc);
+  reads = omega arith;
+  writes = omega arith;
+  puts = omega arith;
+  chain = continues;
+}
+
+module _ (edit : BufferEdit) (old new : SessionOver) (shelf : Option Files) (text : Option (List ℕ)) (reads writes puts : ℕ) where
+  abbrev first : Moment
+  first = at_chain shelf text reads writes puts old.counts
+
+  abbrev last : Moment
+  last = at_chain shelf text reads writes puts new.counts
+
   no_fault : (end : End) → end ≢ ends.ReadFault → end ≢ ends.WriteFault → end ≢ ends.OutputFault → (end ≡ ends.SwapFault → Rose old.counts.faults new.counts.faults) →
-      Grows (tiles_added edit) old.counts new.counts →
-      HasFaults (Err end) (at_chain shelf text reads writes puts old.counts) (at_chain shelf text reads writes puts new.counts)
+      Grows (tiles_added edit) old.counts new.counts → HasFaults (Err end) first last
   no_fault end read write put swap grows = record {
     read = λ e. absurd (read (cc));
     write = λ e. absurd (write (cc));
@@ -173,31 +239,25 @@ module _ (edit : BufferEdit) (old new : BuffersOver) (shelf : Option Files) (tex
     chain = grows.continues;
   }
 
-  pub done_faults : IsEdited edit (Ok tt) old new → HasFaults (Ok tt) (at_chain shelf text reads writes puts old.counts) (at_chain shelf text reads writes puts new.counts)
-  done_faults is = record {
-    read = λ e. absurd (cc);
-    write = λ e. absurd (cc);
-    put = λ e. absurd (cc);
-    swap = λ e. absurd (cc);
-    reads = omega arith;
-    writes = omega arith;
-    puts = omega arith;
-    chain = is.counts.continues;
-  }
+  pub done_faults : IsEdited edit (Ok tt) old new → HasFaults (Ok tt) first last
+  done_faults is = chain_faults first new.counts is.counts.continues
 
-  pub stopped_faults : (refused : BufferRefused) → IsEdited edit (Err refused) old new →
-      HasFaults (end_of {A = Unit {0}} (Err (stop_of refused))) (at_chain shelf text reads writes puts old.counts) (at_chain shelf text reads writes puts new.counts)
-  stopped_faults (buffer_refusals.Edit cause) is = no_fault ends.Refused (λ e. cc) (λ e. cc) (λ e. cc) (λ e. absurd (cc)) is.counts
-  stopped_faults (buffer_refusals.Swap swap_refusals.SwapFault) is = no_fault ends.SwapFault (λ e. cc) (λ e. cc) (λ e. cc) (λ e. is.cause) is.counts
-  stopped_faults (buffer_refusals.Swap (swap_refusals.SwapFull needed longest)) is = no_fault ends.SwapFull (λ e. cc) (λ e. cc) (λ e. cc) (λ e. absurd (cc)) is.counts
-  stopped_faults (buffer_refusals.Swap swap_refusals.NoMemory) is = no_fault ends.NoMemory (λ e. cc) (λ e. cc) (λ e. cc) (λ e. absurd (cc)) is.counts
-  stopped_faults buffer_refusals.NoMemory is = no_fault ends.NoMemory (λ e. cc) (λ e. cc) (λ e. cc) (λ e. absurd (cc)) is.counts
+  lower_faults : (lower : BufferRefused) → HasEditCause (layout_in old) edit old.counts new.counts lower → Grows (tiles_added edit) old.counts new.counts →
+      HasFaults (end_of {A = Unit {0}} (Err (stop_of (by_buffers lower)))) first last
+  lower_faults (buffer_refusals.Edit refused) cause grows = no_fault ends.Refused (λ e. cc) (λ e. cc) (λ e. cc) (λ e. absurd (cc)) grows
+  lower_faults (buffer_refusals.Swap swap_refusals.SwapFault) cause grows = no_fault ends.SwapFault (λ e. cc) (λ e. cc) (λ e. cc) (λ e. cause) grows
+  lower_faults (buffer_refusals.Swap (swap_refusals.SwapFull needed longest)) cause grows = no_fault ends.SwapFull (λ e. cc) (λ e. cc) (λ e. cc) (λ e. absurd (cc)) grows
+  lower_faults (buffer_refusals.Swap swap_refusals.NoMemory) cause grows = no_fault ends.NoMemory (λ e. cc) (λ e. cc) (λ e. cc) (λ e. absurd (cc)) grows
+  lower_faults buffer_refusals.NoMemory cause grows = no_fault ends.NoMemory (λ e. cc) (λ e. cc) (λ e. cc) (λ e. absurd (cc)) grows
+
+  pub stopped_faults : (refused : SessionRefused) → IsEdited edit (Err refused) old new → HasFaults (end_of {A = Unit {0}} (Err (stop_of refused))) first last
+  stopped_faults refused is =
+      subst (λ (r : SessionRefused). HasFaults (end_of {A = Unit {0}} (Err (stop_of r))) first last) (sym is.cause.is) (lower_faults is.cause.lower is.cause.by_cause is.counts)
 
 -- ---- commands
 
-pub some_edit : (o : Option BufferEdit) → is_some o ≡ true → (edit : BufferEdit) × (o ≡ Some edit)
-some_edit None some = absurd (cc)
-some_edit (Some edit) some = (edit, refl)
+the_edit : (a b : BufferEdit) → (let o : Option BufferEdit = Some a in o ≡ Some b) → a ≡ b
+the_edit a b e = cc
 
 -- the effect of a command that is an edit
 pub edit_effect : (capacity : ℕ) (state : RunState) (files : Files) (line : ℕ) (command : Command) (edit : BufferEdit) → edit_of command ≡ Some edit →

@@ -1,22 +1,26 @@
--- Lines that are carried out one after another.
-use Rattle.std.proofs.Common.{◌≡◌, ◌≢◌, ℕ, Bool, List, [], ◌∷◌, Result, Ok, Err, IfOk, sym, subst}
+-- Lines that are carried out one after another, and the report after the last.
+use Rattle.std.proofs.Common.{◌≡◌, ◌≢◌, ℕ, Bool, List, [], ◌∷◌, Result, Ok, Err, IfOk, sym, ap, ◌∙◌, subst}
 use Rattle.std.specs.Result.{IsErrAnd}
-use Rattle.buffer_view.specs.BufferTables.{BufferTable}
 use Rattle.chain_owners.specs.Held.{Held}
+use Rattle.commit_session.specs.Parts.{Parts}
+use Rattle.model_bounds.specs.Counts.{HasTrueCounts, true_counts}
+use Rattle.model_operations.specs.declared.operation.IntOp.{IntOp}
 use Rattle.model_runs.specs.Effects.{effect}
 use Rattle.model_runs.specs.Ending.{Leaves}
-use Rattle.model_runs.specs.Run.{files_after_all}
-use Rattle.model_runs.specs.State.{Effect, RunState}
+use Rattle.model_runs.specs.Run.{effects, files_after_all, state_after}
+use Rattle.model_runs.specs.State.{Effect, RunState, refuses}
 use Rattle.model_runs.specs.declared.ending.End.{End}
 use Rattle.model_runs.specs.declared.ending.End.TheVariants as ends
+use Rattle.model_sessions.specs.Sessions.{Counts, counts_of}
 use Rattle.outside_io.specs.Files.{Files}
 use Rattle.run_events.proofs.Carrying.{carried_by_leaves}
-use Rattle.run_events.proofs.Lines.{lines_end, lines_then, no_lines}
-use Rattle.run_events.specs.Carried.{CarriesOut, CarriesOutLines, outcome_of_line}
+use Rattle.run_events.proofs.Lines.{line_unrefused, lines_end, lines_then, report_carried, state_then}
+use Rattle.run_events.specs.Carried.{CarriesOut, CarriesOutLines, most_of_line, outcome_of_line}
 use Rattle.run_events.specs.Moments.{Moment, world_at}
-use Rattle.run_lines.specs.Buffers.{Holds}
+use Rattle.run_lines.specs.States.{Holds}
 use Rattle.run_lines.specs.Stops.{Does, IsRefused}
-use Rattle.run_texts.specs.Events.{refusal}
+use Rattle.run_texts.specs.Events.{Puts, events_alone, refusal}
+use Rattle.run_texts.specs.Texts.{report_text}
 use Rattle.run_texts.specs.World.{World}
 use Rattle.run_texts.specs.declared.cause.Cause.{Cause}
 use Rattle.script_read.specs.declared.command.Line.{Line}
@@ -27,62 +31,84 @@ no_ok : (line : ℕ) (cause : Cause) (result : Result (Unit {0}) End) (old new :
 no_ok line cause (Ok done) old new P leaves = absurd (let none = leaves.refused in cc)
 no_ok line cause (Err end) old new P leaves = tt
 
+-- what is left between the same files and texts
+pub leaves_between : (line : ℕ) (cause : Cause) (result : Result (Unit {0}) End) (old mid new : Moment) → mid.files ≡ old.files → mid.text ≡ old.text → new.files ≡ mid.files →
+    Leaves (refusal line cause) result (record { files = mid.files; text = mid.text }) (record { files = mid.files; text = new.text }) →
+    Leaves (refusal line cause) result (world_at old) (world_at new)
+leaves_between line cause result old mid new files text same leaves =
+    let old_is : (let w : World = record { files = mid.files; text = mid.text } in w) ≡ world_at old = cc in
+    let new_is : (let w : World = record { files = mid.files; text = new.text } in w) ≡ world_at new = cc in
+    subst (λ (w : World). Leaves (refusal line cause) result w (world_at new)) old_is
+    (subst (λ (w : World). Leaves (refusal line cause) result (record { files = mid.files; text = mid.text }) w) new_is leaves)
+
 -- the text of a refusal was put, or the run ended at it
-pub refusal_does : (exposed : Bool) (line : ℕ) (state : RunState) (files : Files) (done : Effect) (cause : Cause) (result : Result (Unit {0}) End) (old mid new : Moment) (buffers : BufferTable) (held : Held) →
+pub refusal_does : (exposed : Bool) (capacity line : ℕ) (state : RunState) (files : Files) (done : Effect) (cause : Cause) (result : Result (Unit {0}) End) (old mid new : Moment) (parts : Parts IntOp) (held : Held) →
     IsRefused line state done cause old mid → new.files ≡ mid.files → result ≢ Err ends.SwapFull →
     Leaves (refusal line cause) result (record { files = mid.files; text = mid.text }) (record { files = mid.files; text = new.text }) →
-    Does exposed files done result old new buffers held
-refusal_does exposed line state files done cause result old mid new buffers held is same room leaves =
-    let before : World = world_at old in
-    let old_is : (let w : World = record { files = mid.files; text = mid.text } in w) ≡ world_at old = (let f = is.files in let t = is.text in cc) in
-    let new_is : (let w : World = record { files = mid.files; text = new.text } in w) ≡ world_at new = cc in
-    let leaves_world : Leaves (refusal line cause) result (world_at old) (world_at new) =
-    subst (λ (w : World). Leaves (refusal line cause) result w (world_at new)) old_is
-    (subst (λ (w : World). Leaves (refusal line cause) result (record { files = mid.files; text = mid.text }) w) new_is leaves) in
+    Does exposed capacity state files done result old new parts held
+refusal_does exposed capacity line state files done cause result old mid new parts held is same room leaves =
+    let world : Leaves (refusal line cause) result (world_at old) (world_at new) = leaves_between line cause result old mid new is.files is.text same leaves in
     record {
-      carried = subst (λ (e : Effect). CarriesOut exposed (outcome_of_line e) e.tiles result old new) (sym is.effect)
-          (carried_by_leaves exposed (refusal line cause) 0 result old new room leaves_world);
-      next = no_ok line cause result (world_at old) (world_at new) _ leaves_world;
-      names = no_ok line cause result (world_at old) (world_at new) _ leaves_world;
+      carried = subst (λ (e : Effect). CarriesOut exposed (outcome_of_line e) (most_of_line capacity state old.chain.names e) result old new) (sym is.effect)
+          (carried_by_leaves exposed (refusal line cause) (most_of_line capacity state old.chain.names (refuses line state cause)) result old new room world);
+      next = no_ok line cause result (world_at old) (world_at new) _ world;
+      names = no_ok line cause result (world_at old) (world_at new) _ world;
     }
 
 -- ---- lines
 
--- Lines are carried out up to a place: the buffers are those of a state there, and what the rest does completes what all
--- do.
-pub record Reached (exposed : Bool) (capacity : ℕ) (state : RunState) (files : Files) (all rest : List Line) (first now : Moment) (buffers : BufferTable) (held : Held) : Type 0 where
+-- Lines are carried out up to a position: the session is that of a state there, whose counts stay the true ones up to
+-- the end, and what the rest does completes what all do.
+pub record Reached (exposed : Bool) (capacity : ℕ) (state : RunState) (files : Files) (all rest : List Line) (first now : Moment) (parts : Parts IntOp) (held : Held) : Type 0 where
   pub there : RunState
   pub found : Files
-  pub holds : Holds exposed there found buffers held now.files
+  pub holds : Holds exposed capacity there found parts held now.files
+  pub counts : HasTrueCounts (state_after there (effects capacity there found rest))
   pub on : (result : Result (Unit {0}) End) (new : Moment) → CarriesOutLines exposed capacity there found rest result now new → CarriesOutLines exposed capacity state files all result first new
 
 module _ (exposed : Bool) (capacity : ℕ) (state : RunState) (files : Files) (all : List Line) (first : Moment) where
-  pub reached_first : (buffers : BufferTable) (held : Held) → Holds exposed state files buffers held first.files → Reached exposed capacity state files all all first first buffers held
-  reached_first buffers held holds = record { there = state; found = files; holds = holds; on = λ result new carried. carried }
+  pub reached_first : (parts : Parts IntOp) (held : Held) → Holds exposed capacity state files parts held first.files → HasTrueCounts (state_after state (effects capacity state files all)) →
+      Reached exposed capacity state files all all first first parts held
+  reached_first parts held holds counts = record { there = state; found = files; holds = holds; counts = counts; on = λ result new carried. carried }
 
-  pub reached_next : (line : Line) (rest : List Line) (now next : Moment) (buffers later : BufferTable) (held after : Held) →
-      (reached : Reached exposed capacity state files all (line ∷ rest) first now buffers held) →
-      Does exposed reached.found (effect capacity reached.there reached.found line.number line.command) (Ok tt) now next later after →
+  pub reached_next : (line : Line) (rest : List Line) (now next : Moment) (parts later : Parts IntOp) (held after : Held) →
+      (reached : Reached exposed capacity state files all (line ∷ rest) first now parts held) →
+      Does exposed capacity reached.there reached.found (effect capacity reached.there reached.found line.number line.command) (Ok tt) now next later after →
       Reached exposed capacity state files all rest first next later after
-  reached_next line rest now next buffers later held after reached does =
-      let done = effect capacity reached.there reached.found line.number line.command in
+  reached_next line rest now next parts later held after reached does =
+      let there = reached.there in
+      let found = reached.found in
+      let done = effect capacity there found line.number line.command in
+      let none = line_unrefused exposed capacity there found line rest _ now next does.carried in
       record {
         there = done.next;
-        found = files_after_all done.events reached.found;
+        found = files_after_all done.events found;
         holds = does.next;
-        on = λ result new carried. reached.on result new (lines_then exposed capacity reached.there reached.found line rest result now next new does.carried does.names carried);
+        counts = subst HasTrueCounts (state_then exposed capacity there found line rest none) reached.counts;
+        on = λ result new carried. reached.on result new (lines_then exposed capacity there found line rest result now next new does.carried does.names carried);
       }
 
-  pub reached_end : (line : Line) (rest : List Line) (end : End) (now new : Moment) (buffers later : BufferTable) (held after : Held) →
-      (reached : Reached exposed capacity state files all (line ∷ rest) first now buffers held) →
-      Does exposed reached.found (effect capacity reached.there reached.found line.number line.command) (Err end) now new later after →
+  pub reached_end : (line : Line) (rest : List Line) (end : End) (now new : Moment) (parts later : Parts IntOp) (held after : Held) →
+      (reached : Reached exposed capacity state files all (line ∷ rest) first now parts held) →
+      Does exposed capacity reached.there reached.found (effect capacity reached.there reached.found line.number line.command) (Err end) now new later after →
       CarriesOutLines exposed capacity state files all (Err end) first new
-  reached_end line rest end now new buffers later held after reached does =
+  reached_end line rest end now new parts later held after reached does =
       reached.on (Err end) new (lines_end exposed capacity reached.there reached.found line rest end now new does.carried)
 
-  pub reached_all : (now : Moment) (buffers : BufferTable) (held : Held) → Reached exposed capacity state files all [] first now buffers held →
-      CarriesOutLines exposed capacity state files all (Ok tt) first now
-  reached_all now buffers held reached = reached.on (Ok tt) now (no_lines exposed capacity reached.there reached.found now)
+  -- the report is that of the counts of the session
+  pub reached_report : (applied reused : ℕ) (result : Result (Unit {0}) End) (now new : Moment) (parts : Parts IntOp) (held : Held) → Reached exposed capacity state files all [] first now parts held →
+      applied ≡ parts.applied → reused ≡ parts.reused →
+      result ≢ Err ends.SwapFull → Leaves (events_alone (Puts (report_text applied reused) ∷ [])) result (world_at now) (world_at new) →
+      CarriesOutLines exposed capacity state files all result first new
+  reached_report applied reused result now new parts held reached applied_is reused_is room leaves =
+      let there = reached.there in
+      let shown : counts_of there.session ≡ true_counts there = reached.counts.reported in
+      let a : applied ≡ there.session.cached.applied = applied_is ∙ sym reached.holds.session.applied ∙ ap (λ (c : Counts). c.applied) shown in
+      let r : reused ≡ there.session.cached.reused = reused_is ∙ sym reached.holds.session.reused ∙ ap (λ (c : Counts). c.reused) shown in
+      reached.on result new
+      (report_carried exposed capacity there reached.found result now new room
+      (subst (λ n. Leaves (events_alone (Puts (report_text there.session.cached.applied n) ∷ [])) result (world_at now) (world_at new)) r
+      (subst (λ n. Leaves (events_alone (Puts (report_text n reused) ∷ [])) result (world_at now) (world_at new)) a leaves)))
 
 -- one end for another that is the same
 pub lines_same_end : (exposed : Bool) (capacity : ℕ) (state : RunState) (files : Files) (lines : List Line) (end : End) (result : Result (Unit {0}) End) (old new : Moment) → IsErrAnd result (λ other. other ≡ end) →

@@ -1,7 +1,16 @@
+mod Bounds
 mod EditLines
+mod Puts
 mod Loads
 mod Grabs
 mod Grabbing
+mod NodeLines
 mod Going
 mod Stopping
 mod Starting
+mod LookingUp
+mod CachedNames
+mod Writing
+mod StepLines
+mod RenderLines
+mod Rendered

@@ -1,17 +1,16 @@
 -- Lines that load a file into a buffer.
-use Rattle.std.proofs.Common.{◌≡◌, ℕ, ◌<◌, ◌==◌, Bool, true, false, IsTrue, cond, List, length, Option, Some, None, Result, Ok, Err, IsSomeAnd, IfSome, ◌⊎◌, is_some, inl, inr, refl, sym, ap, ◌∙◌, subst, arith}
+use Rattle.std.proofs.Common.{◌≡◌, ℕ, ◌*◌, ◌^◌, ◌<◌, ◌≤◌, ◌==◌, Bool, true, false, IsTrue, cond, List, length, Option, Some, None, Ok, Err, IsSomeAnd, IfSome, ◌⊎◌, inl, inr, refl, sym, ap, ◌∙◌, subst, arith}
 use Rattle.std.specs.Option.{option_map}
+use Rattle.std.specs.Prelude.{◌&&◌, nat_le}
+use Rattle.std.proofs.Math.Nat.{mul-le-mul}
 use Rattle.std.proofs.lemmas.Bool.Decides.{nat_tests}
-use Rattle.buffer_view.specs.BufferTables.{BufferTable}
-use Rattle.buffer_view.specs.Causes.{HasEditCause}
-use Rattle.buffer_view.specs.declared.refused.BufferRefused.{BufferRefused}
-use Rattle.buffer_view.specs.declared.refused.BufferRefused.TheVariants as buffer_refusals
-use Rattle.chain_owners.specs.Counts.{Counts}
 use Rattle.chain_owners.specs.Held.{Held}
+use Rattle.commit_session.specs.Parts.{Parts, working_facts}
+use Rattle.commit_session.specs.declared.refused.SessionRefused.{SessionRefused}
 use Rattle.model_buffers.proofs.FactLaws.{fact-found}
-use Rattle.model_buffers.specs.BufferEdit.{Refusal, edit_refused, if_known, put_refused, unless}
+use Rattle.model_buffers.specs.BufferEdit.{Refusal, if_known, put_refused, unless}
 use Rattle.model_buffers.specs.Edits.{table_with, unless_refused}
-use Rattle.model_buffers.specs.Layout.{TableLayout, View, fact_in, facts_of, find, view_shape}
+use Rattle.model_buffers.specs.Layout.{TableLayout, View, fact_in, find, view_shape}
 use Rattle.model_buffers.specs.Table.{Table, layout_of}
 use Rattle.model_buffers.specs.declared.edit.BufferEdit.TheVariants.{Put}
 use Rattle.model_buffers.specs.declared.refused.EditRefused.TheVariants.{OutOfBounds, WrongSize}
@@ -19,109 +18,85 @@ use Rattle.model_graphs.specs.Facts.{fact_of}
 use Rattle.model_graphs.specs.Shapes.{Shape}
 use Rattle.model_graphs.specs.declared.buffer.BufferFact.{BufferFact}
 use Rattle.model_images.specs.FromRaw.{byte_count}
+use Rattle.model_operations.specs.declared.operation.IntOp.{IntOp}
 use Rattle.model_runs.specs.Effects.{edit_gives, edits, load_into, loads}
 use Rattle.model_runs.specs.State.{Effect, RunState, refuses, workspace_of}
+use Rattle.model_runs.specs.declared.ending.End.{End}
+use Rattle.model_runs.specs.declared.ending.End.TheVariants as ends
 use Rattle.outside_io.specs.Files.{Files, file}
-use Rattle.plane_rect.specs.Rectangle.{Rectangle, includes}
-use Rattle.run_lines.specs.Buffers.{AreAlike, Holds}
-use Rattle.run_lines.specs.Edited.{BuffersOver, IsEdited}
+use Rattle.plane_rect.specs.Rectangle.{Rectangle, area, in_limits, includes}
 use Rattle.run_events.proofs.Carrying.{nothing_carried}
 use Rattle.run_events.specs.Moments.{Moment}
-use Rattle.run_lines.proofs.EditLines.{at_chain, edit_done, edit_stopped}
+use Rattle.run_lines.proofs.EditLines.{IsEdited, SessionOver, at_chain, edit_done, edit_stopped}
+use Rattle.run_lines.proofs.Puts.{put_alike}
 use Rattle.run_lines.specs.Rasters.{IsNoRaster, IsRaster}
+use Rattle.run_lines.specs.States.{AreAlike, Holds}
 use Rattle.run_lines.specs.Stops.{Did, IsDone, IsEnded, stop_of}
 use Rattle.run_lines.specs.declared.stop.Stop.{Stop}
 use Rattle.run_lines.specs.declared.stop.Stop.TheVariants as stops
-use Rattle.model_runs.specs.declared.ending.End.{End}
-use Rattle.model_runs.specs.declared.ending.End.TheVariants as ends
 use Rattle.run_texts.specs.declared.cause.Cause.{Cause}
 use Rattle.run_texts.specs.declared.cause.Cause.TheVariants as causes
+
+-- ---- how many bytes a raster has
+
+both_pass : (a b : Bool) → (a && b) ≡ true → b ≡ true
+both_pass true b passed = passed
+both_pass false b passed = absurd (cc)
+
+small_area : (r : Rectangle) → in_limits r ≡ true → area r ≤ 2 ^ 25
+small_area r limits =
+    let small : nat_le (area r) (2 ^ 25) ≡ true = both_pass (nat_le r.width (2 ^ 15) && nat_le r.height (2 ^ 15)) (nat_le (area r) (2 ^ 25)) limits in
+    grind (arith, nat_tests, small)
+
+pub raster_fits : (r : Rectangle) (bytes : ℕ) → IsTrue (in_limits r) → bytes < 2 ^ 32 → area r * bytes < 2 ^ 64
+raster_fits r bytes limits few =
+    let under : bytes ≤ 2 ^ 32 = omega (arith, few) in
+    let product : area r * bytes ≤ 2 ^ 25 * 2 ^ 32 = mul-le-mul (small_area r limits) under in
+    omega (arith, product)
 
 -- ---- files of the same length
 
 -- a file that is there, in files that are alike
-pub there_alike : (a b : Option (List ℕ)) (bytes : List ℕ) → option_map length a ≡ option_map length b → b ≡ Some bytes → (planned : List ℕ) × (a ≡ Some planned) × (length planned ≡ length bytes)
+there_alike : (a b : Option (List ℕ)) (bytes : List ℕ) → option_map length a ≡ option_map length b → b ≡ Some bytes → (planned : List ℕ) × (a ≡ Some planned) × (length planned ≡ length bytes)
 there_alike (Some planned) b bytes same is = (planned, refl, (let there : option_map length b ≡ Some (length bytes) = ap (option_map length) is in cc))
 there_alike None b bytes same is = absurd (let there : option_map length b ≡ Some (length bytes) = ap (option_map length) is in cc)
 
-pub absent_alike : (a b : Option (List ℕ)) → option_map length a ≡ option_map length b → b ≡ None → a ≡ None
+absent_alike : (a b : Option (List ℕ)) → option_map length a ≡ option_map length b → b ≡ None → a ≡ None
 absent_alike None b same is = refl
 absent_alike (Some planned) b same is = absurd (let none : option_map length b ≡ None = ap (option_map length) is in cc)
 
--- ---- rasters of the same length
-
-abbrev put_refusal : TableLayout → List ℕ → Rectangle → ℕ → Refusal
-put_refusal layout name r count =
-    if_known (find layout.buffers name) (λ view.
-    let shape = view_shape layout view in
-    let wanted = byte_count r shape.format in
-    unless (includes shape.box r) OutOfBounds (unless (count == wanted) (WrongSize count wanted) None))
-
-module _ (name : List ℕ) (r : Rectangle) (a b : List ℕ) (same : length a ≡ length b) where
-  refusals_alike : (layout : TableLayout) → edit_refused layout (Put name r a) ≡ edit_refused layout (Put name r b)
-  refusals_alike layout = ap (put_refusal layout name r) same
-
-  causes_alike : (layout : TableLayout) (old new : Counts) (refused : BufferRefused) → HasEditCause layout (Put name r a) old new refused → HasEditCause layout (Put name r b) old new refused
-  causes_alike layout old new (buffer_refusals.Edit cause) is = sym (refusals_alike layout) ∙ is
-  causes_alike layout old new (buffer_refusals.Swap refused) is = is
-  causes_alike layout old new buffer_refusals.NoMemory is = tt
-
-  -- without their bytes, tables are as unknown as before
-  tables_alike : {X : Type 0} (content : Option X) (f g : Table → Table) (t : X → Table) → is_some content ≡ false → option_map f (option_map t content) ≡ option_map g (option_map t content)
-  tables_alike None f g t none = refl
-  tables_alike (Some x) f g t none = absurd (cc)
-
-  -- what is done by raw bytes is done by others of the same length, and the same where the chain exposes its bytes
-  pub put_alike : (exposed : Bool) (edited : Result (Unit {0}) BufferRefused) (old new : BuffersOver) → (IsTrue exposed → a ≡ b) → is_some old.held.content ≡ exposed →
-      IsEdited (Put name r a) edited old new → IsEdited (Put name r b) edited old new
-  put_alike true edited old new equal content is = subst (λ (bytes : List ℕ). IsEdited (Put name r bytes) edited old new) (equal refl) is
-  put_alike false (Ok done) old new equal content is = record {
-    layout = is.layout;
-    table = is.table ∙ tables_alike old.held.content (λ table. table_with table (Put name r a)) (λ table. table_with table (Put name r b)) _ content;
-    exact = λ cause e. is.exact cause (refusals_alike old.buffers.layout ∙ e);
-    cause = tt;
-    carried_out = sym (refusals_alike old.buffers.layout) ∙ is.carried_out;
-    over = is.over;
-    content = is.content;
-    counts = is.counts;
-  }
-  put_alike false (Err refused) old new equal content is = record {
-    layout = is.layout;
-    table = is.table;
-    exact = λ cause e. is.exact cause (refusals_alike old.buffers.layout ∙ e);
-    cause = causes_alike old.buffers.layout old.counts new.counts refused is.cause;
-    carried_out = tt;
-    over = is.over;
-    content = is.content;
-    counts = is.counts;
-  }
-
 -- ---- refusals before a byte is put
 
-module _ (exposed : Bool) (line : ℕ) (state : RunState) (files : Files) (buffers : BufferTable) (held : Held) (shelf : Option Files) (name : List ℕ) (r : Rectangle)
-    (holds : Holds exposed state files buffers held shelf) where
+module _ (exposed : Bool) (capacity line : ℕ) (state : RunState) (files : Files) (parts : Parts IntOp) (held : Held) (shelf : Option Files) (name : List ℕ) (r : Rectangle)
+    (holds : Holds exposed capacity state files parts held shelf) where
   abbrev working : Table
   working = (workspace_of state).working
 
-  pub view_found : find working.buffers name ≡ find buffers.layout.buffers name
-  view_found = ap (λ (layout : TableLayout). find layout.buffers name) holds.layout
+  abbrev layout : TableLayout
+  layout = parts.versions.working.layout
+
+  abbrev facts : Option BufferFact
+  facts = fact_of (working_facts parts) name
+
+  view_found : find working.buffers name ≡ find layout.buffers name
+  view_found = ap (λ (l : TableLayout). find l.buffers name) holds.session.working.layout
 
   -- a fact of the buffers, and the view of the state
-  view_of : (view : Option View) (fact : BufferFact) → find buffers.layout.buffers name ≡ view → fact_of (facts_of buffers.layout) name ≡ Some fact →
-      (v : View) × (find working.buffers name ≡ Some v) × (fact ≡ fact_in buffers.layout name v)
-  view_of None fact found is = absurd (let none : fact_of (facts_of buffers.layout) name ≡ None = fact-found buffers.layout name ∙ ap (option_map (fact_in buffers.layout name)) found in cc)
-  view_of (Some v) fact found is = (v, view_found ∙ found, (let there : fact_of (facts_of buffers.layout) name ≡ Some (fact_in buffers.layout name v) = fact-found buffers.layout name ∙ ap (option_map (fact_in buffers.layout name)) found in cc))
+  view_of : (view : Option View) (fact : BufferFact) → find layout.buffers name ≡ view → facts ≡ Some fact →
+      (v : View) × (find working.buffers name ≡ Some v) × (fact ≡ fact_in layout name v)
+  view_of None fact found is = absurd (let none : facts ≡ None = fact-found layout name ∙ ap (option_map (fact_in layout name)) found in cc)
+  view_of (Some v) fact found is = (v, view_found ∙ found, (let there : facts ≡ Some (fact_in layout name v) = fact-found layout name ∙ ap (option_map (fact_in layout name)) found in cc))
 
-  no_view : (view : Option View) → find buffers.layout.buffers name ≡ view → fact_of (facts_of buffers.layout) name ≡ None → find working.buffers name ≡ None
+  no_view : (view : Option View) → find layout.buffers name ≡ view → facts ≡ None → find working.buffers name ≡ None
   no_view None found none = view_found ∙ found
-  no_view (Some v) found none = absurd (let there : fact_of (facts_of buffers.layout) name ≡ Some (fact_in buffers.layout name v) = fact-found buffers.layout name ∙ ap (option_map (fact_in buffers.layout name)) found in cc)
+  no_view (Some v) found none = absurd (let there : facts ≡ Some (fact_in layout name v) = fact-found layout name ∙ ap (option_map (fact_in layout name)) found in cc)
 
   into_unknown : (found : Option (List ℕ)) → load_into line state name r found None ≡ refuses line state causes.UnknownBuffer
   into_unknown None = refl
   into_unknown (Some bytes) = refl
 
-  pub load_unknown : (source : List ℕ) → fact_of (facts_of buffers.layout) name ≡ None → loads line state name r (file files source) ≡ refuses line state causes.UnknownBuffer
-  load_unknown source none = ap (load_into line state name r (file files source)) (no_view (find buffers.layout.buffers name) refl none) ∙ into_unknown (file files source)
+  pub load_unknown : (source : List ℕ) → facts ≡ None → loads line state name r (file files source) ≡ refuses line state causes.UnknownBuffer
+  load_unknown source none = ap (load_into line state name r (file files source)) (no_view (find layout.buffers name) refl none) ∙ into_unknown (file files source)
 
   -- why a raster is refused at a buffer that is there
   refused_there : (bytes : List ℕ) (v : View) → find working.buffers name ≡ Some v → (refusal : Refusal) → put_refused (view_shape (layout_of working) v) r bytes ≡ refusal →
@@ -131,8 +106,8 @@ module _ (exposed : Bool) (line : ℕ) (state : RunState) (files : Files) (buffe
       ∙ ap (λ (o : Option View). edit_gives line state (Put name r bytes) (unless_refused (if_known o (λ view. put_refused (view_shape (layout_of working) view) r bytes)) (table_with working (Put name r bytes)))) there
       ∙ ap (λ (o : Refusal). edit_gives line state (Put name r bytes) (unless_refused o (table_with working (Put name r bytes)))) is
 
-  shape_there : (v : View) → view_shape (layout_of working) v ≡ view_shape buffers.layout v
-  shape_there v = ap (λ (layout : TableLayout). view_shape layout v) holds.layout
+  shape_there : (v : View) → view_shape (layout_of working) v ≡ view_shape layout v
+  shape_there v = ap (λ (l : TableLayout). view_shape l v) holds.session.working.layout
 
   out_of_bounds : (found : Option (List ℕ)) (v : View) → find working.buffers name ≡ Some v → includes v.extent r ≡ false → loads line state name r found ≡ refuses line state causes.OutOfBounds
   out_of_bounds None v there out =
@@ -142,22 +117,22 @@ module _ (exposed : Bool) (line : ℕ) (state : RunState) (files : Files) (buffe
       let wanted = byte_count r shape.format in
       refused_there bytes v there (Some OutOfBounds) (ap (λ b. unless b OutOfBounds (unless (length bytes == wanted) (WrongSize (length bytes) wanted) None)) out)
 
-  pub load_out_of_bounds : (source : List ℕ) (fact : BufferFact) → fact_of (facts_of buffers.layout) name ≡ Some fact → includes fact.bounds r ≡ false →
+  pub load_out_of_bounds : (source : List ℕ) (fact : BufferFact) → facts ≡ Some fact → includes fact.bounds r ≡ false →
       loads line state name r (file files source) ≡ refuses line state causes.OutOfBounds
   load_out_of_bounds source fact is out =
-      let there = view_of (find buffers.layout.buffers name) fact refl is in
+      let there = view_of (find layout.buffers name) fact refl is in
       out_of_bounds (file files source) there.0 there.1 (ap (λ (f : BufferFact). includes f.bounds r) (sym there.2) ∙ out)
 
   -- a raster that is not there, or is too long
-  missing : (found : Option (List ℕ)) (fact : BufferFact) (cause : Cause) (actual : Option (List ℕ)) → fact_of (facts_of buffers.layout) name ≡ Some fact → includes fact.bounds r ≡ true →
+  missing : (found : Option (List ℕ)) (fact : BufferFact) (cause : Cause) (actual : Option (List ℕ)) → facts ≡ Some fact → includes fact.bounds r ≡ true →
       option_map length found ≡ option_map length actual → IsNoRaster actual (byte_count r fact.format) cause → loads line state name r found ≡ refuses line state cause
   missing found fact cause actual is inside same (inl none) =
-      let there = view_of (find buffers.layout.buffers name) fact refl is in
+      let there = view_of (find layout.buffers name) fact refl is in
       let within : includes there.0.extent r ≡ true = ap (λ (f : BufferFact). includes f.bounds r) (sym there.2) ∙ inside in
       ap (loads line state name r) (absent_alike found actual same none.1)
       ∙ ap (load_into line state name r None) there.1 ∙ ap (λ b. refuses line state (cond b causes.Absent causes.OutOfBounds)) within ∙ ap (refuses line state) (sym none.0)
   missing found fact cause actual is inside same (inr (wrong, long)) =
-      let there = view_of (find buffers.layout.buffers name) fact refl is in
+      let there = view_of (find layout.buffers name) fact refl is in
       let planned = there_alike found actual long.0 same long.1 in
       let bytes = planned.0 in
       let shape = view_shape (layout_of working) there.0 in
@@ -172,17 +147,17 @@ module _ (exposed : Bool) (line : ℕ) (state : RunState) (files : Files) (buffe
       ∙ ap (λ b. unless b (WrongSize (length bytes) wanted) None) other)
       ∙ ap (refuses line state) (sym wrong)
 
-  pub load_missing : (source : List ℕ) (fact : BufferFact) (cause : Cause) (actual : Files) → fact_of (facts_of buffers.layout) name ≡ Some fact → includes fact.bounds r ≡ true → shelf ≡ Some actual →
+  load_missing : (source : List ℕ) (fact : BufferFact) (cause : Cause) (actual : Files) → facts ≡ Some fact → includes fact.bounds r ≡ true → shelf ≡ Some actual →
       IsNoRaster (file actual source) (byte_count r fact.format) cause → loads line state name r (file files source) ≡ refuses line state cause
   load_missing source fact cause actual is inside shown none =
       missing (file files source) fact cause (file actual source) is inside ((subst (λ (o : Option Files). IsSomeAnd o (AreAlike files)) shown holds.alike) source) none
 
   -- a raster that was read
-  pub load_read : (source bytes : List ℕ) (fact : BufferFact) (actual : Files) → fact_of (facts_of buffers.layout) name ≡ Some fact → shelf ≡ Some actual → file actual source ≡ Some bytes →
+  pub load_read : (source bytes : List ℕ) (fact : BufferFact) (actual : Files) → facts ≡ Some fact → shelf ≡ Some actual → file actual source ≡ Some bytes →
       (planned : List ℕ) × (file files source ≡ Some planned) × (length bytes ≡ length planned) × (IsTrue exposed → bytes ≡ planned)
       × (loads line state name r (file files source) ≡ edits line state (Put name r planned))
   load_read source bytes fact actual is shown read =
-      let there = view_of (find buffers.layout.buffers name) fact refl is in
+      let there = view_of (find layout.buffers name) fact refl is in
       let planned = there_alike (file files source) (file actual source) bytes ((subst (λ (o : Option Files). IsSomeAnd o (AreAlike files)) shown holds.alike) source) read in (
         planned.0,
         planned.1,
@@ -194,26 +169,26 @@ module _ (exposed : Bool) (line : ℕ) (state : RunState) (files : Files) (buffe
   -- ---- what the line leaves
 
   -- a raster that was not read
-  pub load_not_read : (source : List ℕ) (stop : Stop) (fact : BufferFact) (before after : Moment) (later : BufferTable) (after_held : Held) → fact_of (facts_of buffers.layout) name ≡ Some fact → includes fact.bounds r ≡ true →
+  pub load_not_read : (source : List ℕ) (stop : Stop) (fact : BufferFact) (before after : Moment) (later : Parts IntOp) (after_held : Held) → facts ≡ Some fact → includes fact.bounds r ≡ true →
       IfSome shelf (λ actual. IsRaster (file actual source) (byte_count r fact.format) (Err stop)) → after.files ≡ before.files → after.text ≡ before.text →
-      Did exposed line state files (loads line state name r (file files source)) (Err stop) before after later after_held
+      Did exposed capacity line state files (loads line state name r (file files source)) (Err stop) before after later after_held
   load_not_read source stop fact before after later after_held is inside raster same_files same_text = by shelf refl stop raster holds.alike
     where
-      ended : (end : End) → (end ≡ ends.ReadFault) ⊎ (end ≡ ends.NoMemory) → IsEnded exposed (loads line state name r (file files source)) end before after
+      ended : (end : End) → (end ≡ ends.ReadFault) ⊎ (end ≡ ends.NoMemory) → IsEnded exposed capacity state (loads line state name r (file files source)) end before after
       ended end (inl read) = record { other = λ e. cc; carried = nothing_carried exposed _ _ end before after (λ e. cc) same_files same_text (λ e. absurd (cc)) }
       ended end (inr memory) = record { other = λ e. cc; carried = nothing_carried exposed _ _ end before after (λ e. cc) same_files same_text (λ e. absurd (cc)) }
 
       by : (o : Option Files) → shelf ≡ o → (stop : Stop) → IfSome o (λ actual. IsRaster (file actual source) (byte_count r fact.format) (Err stop)) → IsSomeAnd shelf (AreAlike files) →
-          Did exposed line state files (loads line state name r (file files source)) (Err stop) before after later after_held
+          Did exposed capacity line state files (loads line state name r (file files source)) (Err stop) before after later after_held
       by None shown stop raster alike = absurd (subst (λ (o : Option Files). IsSomeAnd o (AreAlike files)) shown alike)
       by (Some actual) shown (stops.Refused cause) raster alike = record { effect = load_missing source fact cause actual is inside shown raster; files = same_files; text = same_text }
       by (Some actual) shown (stops.Ended end) raster alike = ended end raster
 
 -- ---- a raster that was read
 
-module _ (exposed : Bool) (line : ℕ) (state : RunState) (files : Files) (old new : BuffersOver) (shelf : Option Files) (name : List ℕ) (r : Rectangle) (source bytes : List ℕ) (fact : BufferFact)
-    (text : Option (List ℕ)) (reads writes puts more_reads more_writes more_puts : ℕ) (now : Option Files) (same_files : now ≡ shelf) (holds : Holds exposed state files old.buffers old.held shelf)
-    (is : fact_of (facts_of old.buffers.layout) name ≡ Some fact) (read : IfSome shelf (λ actual. file actual source ≡ Some bytes)) where
+module _ (exposed : Bool) (capacity line : ℕ) (state : RunState) (files : Files) (old new : SessionOver) (shelf : Option Files) (name : List ℕ) (r : Rectangle) (source bytes : List ℕ) (fact : BufferFact)
+    (text : Option (List ℕ)) (reads writes puts more_reads more_writes more_puts : ℕ) (now : Option Files) (same_files : now ≡ shelf) (holds : Holds exposed capacity state files old.parts old.held shelf)
+    (is : fact_of (working_facts old.parts) name ≡ Some fact) (read : IfSome shelf (λ actual. file actual source ≡ Some bytes)) where
   abbrev before : Moment
   before = at_chain shelf text reads writes puts old.counts
 
@@ -233,23 +208,23 @@ module _ (exposed : Bool) (line : ℕ) (state : RunState) (files : Files) (old n
   there : (o : Option Files) → shelf ≡ o → IfSome o (λ actual. file actual source ≡ Some bytes) → IsSomeAnd shelf (AreAlike files) → Planned
   there None shown read alike = absurd (subst (λ (o : Option Files). IsSomeAnd o (AreAlike files)) shown alike)
   there (Some actual) shown read alike =
-      let planned = load_read exposed line state files old.buffers old.held shelf name r holds source bytes fact actual is shown read in
+      let planned = load_read exposed capacity line state files old.parts old.held shelf name r holds source bytes fact actual is shown read in
       record { raster = planned.0; long = planned.2; same = planned.3; effect = planned.4 }
 
   abbrev plan : Planned
   plan = there shelf refl read holds.alike
 
-  pub load_done : IsEdited (Put name r bytes) (Ok tt) old new → IsDone exposed files (loads line state name r (file files source)) before after new.buffers new.held
+  pub load_done : IsEdited (Put name r bytes) (Ok tt) old new → IsDone exposed capacity state files (loads line state name r (file files source)) before after new.parts new.held
   load_done edited =
       let alike = put_alike name r bytes plan.raster plan.long exposed (Ok tt) old new plan.same holds.content edited in
-      subst (λ (o : Option Files). IsDone exposed files (loads line state name r (file files source)) before (after_at o) new.buffers new.held) (sym same_files)
-      (subst (λ (done : Effect). IsDone exposed files done before (after_at shelf) new.buffers new.held) (sym plan.effect)
-      (edit_done exposed line state files (Put name r plan.raster) old new shelf text reads writes puts more_reads more_writes more_puts holds alike))
+      subst (λ (o : Option Files). IsDone exposed capacity state files (loads line state name r (file files source)) before (after_at o) new.parts new.held) (sym same_files)
+      (subst (λ (done : Effect). IsDone exposed capacity state files done before (after_at shelf) new.parts new.held) (sym plan.effect)
+      (edit_done exposed capacity line state files (Put name r plan.raster) old new shelf text reads writes puts more_reads more_writes more_puts holds tt alike))
 
-  pub load_stopped : (refused : BufferRefused) → IsEdited (Put name r bytes) (Err refused) old new →
-      Did exposed line state files (loads line state name r (file files source)) (Err (stop_of refused)) before after new.buffers new.held
+  pub load_stopped : (refused : SessionRefused) → IsEdited (Put name r bytes) (Err refused) old new →
+      Did exposed capacity line state files (loads line state name r (file files source)) (Err (stop_of refused)) before after new.parts new.held
   load_stopped refused edited =
       let alike = put_alike name r bytes plan.raster plan.long exposed (Err refused) old new plan.same holds.content edited in
-      subst (λ (o : Option Files). Did exposed line state files (loads line state name r (file files source)) (Err (stop_of refused)) before (after_at o) new.buffers new.held) (sym same_files)
-      (subst (λ (done : Effect). Did exposed line state files done (Err (stop_of refused)) before (after_at shelf) new.buffers new.held) (sym plan.effect)
-      (edit_stopped exposed line state files (Put name r plan.raster) old new shelf text reads writes puts more_reads more_writes more_puts holds refused alike))
+      subst (λ (o : Option Files). Did exposed capacity line state files (loads line state name r (file files source)) (Err (stop_of refused)) before (after_at o) new.parts new.held) (sym same_files)
+      (subst (λ (done : Effect). Did exposed capacity line state files done (Err (stop_of refused)) before (after_at shelf) new.parts new.held) (sym plan.effect)
+      (edit_stopped exposed capacity line state files (Put name r plan.raster) old new shelf text reads writes puts more_reads more_writes more_puts holds refused alike))

@@ -1,47 +1,73 @@
 -- Runs of lines from their start on.
-use Rattle.std.proofs.Common.{◌≡◌, ℕ, Bool, IsTrue, List, [], Option, Some, None, Result, IfSome, is_some, min, refl, subst}
+use Rattle.std.proofs.Common.{◌≡◌, ℕ, ◌≤◌, Bool, List, [], length, Option, Some, None, Result, IfSome, is_some, min, refl, subst, arith}
+use Rattle.std.specs.List.{IsDistinct}
 use Rattle.std.specs.Result.{IsErrAnd}
-use Rattle.buffer_view.specs.BufferTables.{BufferTable, empty_table, table_of}
 use Rattle.chain_handlers.specs.OwnedTiles.{counts_over, nothing_over}
 use Rattle.chain_owners.specs.Counts.{Counts}
 use Rattle.chain_owners.specs.Held.{Held}
-use Rattle.model_buffers.specs.Table.{no_buffers}
+use Rattle.commit_session.specs.Parts.{Parts, new_parts}
+use Rattle.commit_session.specs.Seen.{IsSessionOf}
+use Rattle.model_bounds.proofs.RunCounts.{last_true}
+use Rattle.model_bounds.specs.Counts.{HasTrueCounts}
+use Rattle.model_operations.specs.Meanings.{int_meanings, same_operation}
+use Rattle.model_operations.specs.declared.operation.IntOp.{IntOp}
+use Rattle.model_runs.specs.Run.{effects, state_after}
 use Rattle.model_runs.specs.State.{RunState, first_state}
 use Rattle.model_runs.specs.declared.ending.End.{End}
 use Rattle.model_runs.specs.declared.ending.End.TheVariants as ends
+use Rattle.model_sessions.proofs.Steps.{start}
+use Rattle.model_sessions.specs.Sessions.{IsSession, new_session}
 use Rattle.outside_io.specs.Files.{Files}
 use Rattle.outside_io.specs.Swap.{Blocks}
+use Rattle.pixel_formats.specs.Limits.{max_lines}
 use Rattle.run_events.proofs.Carrying.{nothing_carried}
 use Rattle.run_events.specs.Carried.{CarriesOutLines}
 use Rattle.run_events.specs.Moments.{Moment}
 use Rattle.run_lines.proofs.Going.{lines_same_end}
-use Rattle.run_lines.specs.Buffers.{Holds}
+use Rattle.run_lines.specs.States.{Holds}
 use Rattle.script_read.specs.declared.command.Line.{Line}
-
-table_begins : (blocks : Option Blocks) → IsTrue (is_some blocks) → table_of empty_table (nothing_over blocks) ≡ Some no_buffers
-table_begins None some = absurd (cc)
-table_begins (Some blocks) some = refl
 
 content_begins : (blocks : Option Blocks) → is_some (nothing_over blocks).content ≡ is_some blocks
 content_begins None = refl
 content_begins (Some blocks) = refl
 
--- no buffers over a chain without names are those of the state before the first line
-pub begins : (blocks : Option Blocks) (files : Files) → Holds (is_some blocks) (first_state []) files empty_table (nothing_over blocks) (Some files)
-begins blocks files = record {
-  layout = refl;
+-- the session without buffers, nodes and pairs is valid, however many pairs may be cached
+first_valid : (capacity : ℕ) → IsSession int_meanings capacity new_session
+unfolding IsDistinct
+first_valid capacity = record { history = start int_meanings; right = tt; distinct = tt; few = omega arith }
+
+-- a session over a chain without names is that of the state before the first line
+begins : (capacity : ℕ) (blocks : Option Blocks) (files : Files) → IsSessionOf same_operation int_meanings (new_parts capacity) (nothing_over blocks) new_session →
+    Holds (is_some blocks) capacity (first_state []) files (new_parts capacity) (nothing_over blocks) (Some files)
+begins capacity blocks files session = record {
+  session = session;
+  valid = first_valid capacity;
+  applied = omega arith;
+  as_many = refl;
+  unwatched = refl;
   content = content_begins blocks;
-  table = table_begins blocks;
   alike = λ name. refl;
   same = λ e. refl;
 }
+
+-- the same where a run begins
+pub run_begins : (capacity : ℕ) (blocks : Option Blocks) (files : Files) (parts : Parts IntOp) (held : Held) (shelf : Option Files) →
+    parts ≡ new_parts capacity → held ≡ nothing_over blocks → shelf ≡ Some files → IsSessionOf same_operation int_meanings parts held new_session →
+    Holds (is_some blocks) capacity (first_state []) files parts held shelf
+run_begins capacity blocks files parts held shelf none nothing shown session =
+    rw (none, nothing, shown) (begins capacity blocks files (rw (none, nothing) at session))
+
+-- the counts of so few lines are the true ones
+pub true_at_end : (capacity : ℕ) (files : Files) (lines : List Line) → length lines ≤ max_lines →
+    HasTrueCounts (state_after (first_state []) (effects capacity (first_state []) files lines))
+true_at_end capacity files lines few = last_true capacity [] files lines few
 
 pub where_exposed : (shelf : Option Files) (P : Files → Type 0) → ((files : Files) → shelf ≡ Some files → P files) → IfSome shelf P
 where_exposed None P holds = tt
 where_exposed (Some files) P holds = holds files refl
 
 -- no memory was left before the first line
-pub memory_lines : (exposed : Bool) (capacity : ℕ) (state : RunState) (files : Files) (lines : List Line) (result : Result (Unit {0}) End) (old new : Moment) → IsErrAnd result (λ end. end ≡ ends.NoMemory) →
+memory_lines : (exposed : Bool) (capacity : ℕ) (state : RunState) (files : Files) (lines : List Line) (result : Result (Unit {0}) End) (old new : Moment) → IsErrAnd result (λ end. end ≡ ends.NoMemory) →
     new.files ≡ old.files → new.text ≡ old.text → CarriesOutLines exposed capacity state files lines result old new
 memory_lines exposed capacity state files lines result old new same files_same text_same =
     lines_same_end exposed capacity state files lines ends.NoMemory result old new same
@@ -54,7 +80,7 @@ memory_begins exposed capacity shelf lines result old new same files_same text_s
     (λ files shown. memory_lines exposed capacity (first_state []) files lines result old new same files_same text_same)
 
 -- the counts of the chain afterwards don't matter
-pub lines_rechained : (exposed : Bool) (capacity : ℕ) (state : RunState) (files : Files) (lines : List Line) (result : Result (Unit {0}) End) (old new : Moment) (counts : Counts) →
+lines_rechained : (exposed : Bool) (capacity : ℕ) (state : RunState) (files : Files) (lines : List Line) (result : Result (Unit {0}) End) (old new : Moment) (counts : Counts) →
     CarriesOutLines exposed capacity state files lines result old new → CarriesOutLines exposed capacity state files lines result old (record new { chain = counts })
 lines_rechained exposed capacity state files lines result old new counts carried = record {
   refused = carried.refused;
@@ -64,11 +90,6 @@ lines_rechained exposed capacity state files lines result old new counts carried
   texts_prefix = carried.texts_prefix;
   full = carried.full;
 }
-
--- the same where a run begins
-pub run_begins : (blocks : Option Blocks) (files : Files) (buffers : BufferTable) (held : Held) (shelf : Option Files) → buffers ≡ empty_table → held ≡ nothing_over blocks → shelf ≡ Some files →
-    Holds (is_some blocks) (first_state []) files buffers held shelf
-run_begins blocks files buffers held shelf none nothing shown = rw (none, nothing, shown) (begins blocks files)
 
 pub lines_from : (exposed : Bool) (capacity : ℕ) (state : RunState) (files : Files) (lines : List Line) (result : Result (Unit {0}) End) (old new : Moment) (first counts : Counts) → old.chain ≡ first →
     CarriesOutLines exposed capacity state files lines result old new → CarriesOutLines exposed capacity state files lines result (record old { chain = first }) (record new { chain = counts })

@@ -1,5 +1,4 @@
-pub mod Buffers
-pub mod Edited
+pub mod States
+pub mod Commands
 pub mod Stops
 pub mod Rasters
-pub mod Lines

@@ -1,49 +1,140 @@
 //! Lines that edit buffers, and touch no file.
 
-ghost use Rattle.std.specs.Prelude.{◌≡◌, IsSome, Some};
-ghost use Rattle.buffer_view.specs.BufferTables.{AreBuffersOver, buffers_names};
-ghost use Rattle.chain_owners.specs.Owners.{Respects};
-ghost use Rattle.model_buffers.specs.declared.edit.BufferEdit.{BufferEdit as Edit};
-ghost use Rattle.run_lines.specs.Buffers.{edit_of};
-ghost use Rattle.run_lines.specs.Edited.{IsEdited};
+ghost use Rattle.std.specs.Prelude.{◌≡◌, IfOk, IsSome, IsTrue, List, Option, Some, ℕ, Bool};
+ghost use Rattle.chain_owners.specs.Held.{Held};
+ghost use Rattle.commit_session.specs.Seen.{IsOver};
+ghost use Rattle.model_buffers.specs.BufferEdit.{IsProperEdit};
+ghost use Rattle.model_operations.specs.Meanings.{int_meanings, same_operation};
+ghost use Rattle.model_runs.specs.Effects.{effect};
+ghost use Rattle.model_runs.specs.State.{RunState};
+ghost use Rattle.outside_io.specs.Files.{Files};
+ghost use Rattle.plane_rect.specs.Rectangle.{in_limits};
+ghost use Rattle.run_events.specs.Moments.{HasFaults};
+ghost use Rattle.run_lines.specs.Commands.{edit_of};
+ghost use Rattle.run_lines.specs.States.{Holds};
+ghost use Rattle.run_lines.specs.Stops.{Did, end_of};
 ghost use Rattle.script_read.specs.Limits.{IsInLimits};
 
-use buffer_view::{BufferRefused, Buffers};
+use crate::stop::Stop;
 use chain_contracts::TileChain;
-use script_read::Command;
+use commit_session::SessionState;
+use model_buffers::BufferEdit;
+use model_operations::IntOp;
+use pixel_formats::{Format, PixelSamples};
+use plane_rect::{Name, Rect};
+use script_read::{Command, Line};
+use std::alloc::{AllocError, Global};
 
-/// Carries out a command that edits buffers.
+/// Carries out a line that edits buffers.
 pub(crate) fn edit<C: TileChain>(
-    command: &Command,
-    buffers: &mut Buffers,
+    alloc: Global,
+    line: &Line,
+    session: &mut SessionState<IntOp>,
     chain: &mut C,
-) -> Result<(), BufferRefused>
-    requires over { AreBuffersOver buffers.old (C.held chain.old) }
-    requires limits { IsInLimits command.now }
-    requires edit { IsSome (edit_of command.now) }
-    ensures edited { (edit : Edit) → edit_of command.now ≡ Some edit → IsEdited edit result
-        (record { buffers = buffers.old; held = C.held chain.old; counts = C.counts chain.old })
-        (record { buffers = buffers.new; held = C.held chain.new; counts = C.counts chain.new }) }
-    ensures others { Respects (C.held chain.old) (C.held chain.new) (buffers_names buffers.old) (buffers_names buffers.new) }
+) -> Result<(), Stop>
+    requires over { IsOver same_operation int_meanings session.old (C.held chain.old) }
+    requires limits { IsInLimits line.now.command }
+    requires edit { IsSome (edit_of line.now.command) }
+    ensures did { (shelf : Option Files) (text : Option (List ℕ)) (reads writes puts : ℕ) (exposed : Bool) (capacity : ℕ) (state : RunState) (files : Files) →
+        Holds exposed capacity state files session.old (C.held chain.old) shelf →
+        Did exposed capacity line.now.number state files (effect capacity state files line.now.number line.now.command) result
+        (record { files = shelf; text = text; reads = reads; writes = writes; puts = puts; chain = C.counts chain.old })
+        (record { files = shelf; text = text; reads = reads; writes = writes; puts = puts; chain = C.counts chain.new })
+        session.new (C.held chain.new) }
+    ensures faults { (shelf : Option Files) (text : Option (List ℕ)) (reads writes puts : ℕ) → HasFaults (end_of result)
+        (record { files = shelf; text = text; reads = reads; writes = writes; puts = puts; chain = C.counts chain.old })
+        (record { files = shelf; text = text; reads = reads; writes = writes; puts = puts; chain = C.counts chain.new }) }
+    ensures over { IsOver same_operation int_meanings session.new (C.held chain.new) }
     ensures loans { C.loans chain.new ≡ C.loans chain.old }
     ensures valid { C.is_valid chain.old → C.is_valid chain.new }
 {
+    let made = edit_by(alloc, &line.command)?;
+    session.edit(chain, &made)?;
+    Ok(())
+}
+
+/// Returns the edit that a command is.
+///
+/// # Errors
+///
+/// Fails if memory runs out.
+fn edit_by(alloc: Global, command: &Command) -> Result<BufferEdit, AllocError>
+    requires limits { IsInLimits command.now }
+    requires edit { IsSome (edit_of command.now) }
+    ensures edit { IfOk result (λ edit. edit_of command.now ≡ Some edit) }
+    ensures proper { IfOk result IsProperEdit }
+{
     match command {
-        Command::Buffer { name, format, rect } => buffers.create(*name, *format, *rect),
-        Command::Sub { name, parent, rect } => buffers.sub(*name, *parent, *rect),
-        Command::Dup { name, from } => buffers.dup(chain, *name, *from),
+        Command::Buffer { name, format, rect } => Ok(create(*name, *format, *rect)),
+        Command::Sub { name, parent, rect } => Ok(sub(*name, *parent, *rect)),
+        Command::Dup { name, from } => Ok(BufferEdit::Duplicate {
+            name: *name,
+            from: *from,
+        }),
         Command::Fill {
             name,
             rect,
             samples,
-        } => buffers.fill(chain, *name, *rect, samples.as_slice()),
+        } => fill(alloc, *name, *rect, samples),
         Command::Copy {
             from,
             to,
             rect,
             dx,
             dy,
-        } => buffers.copy(chain, *from, *to, *rect, *dx, *dy),
+        } => Ok(BufferEdit::Copy {
+            from: *from,
+            to: *to,
+            rect: *rect,
+            dx: *dx,
+            dy: *dy,
+        }),
         _ => unreachable!(),
     }
+}
+
+/// Returns the edit that makes a buffer on a root of its own.
+fn create(name: Name, format: Format, extent: Rect) -> BufferEdit
+    requires { IsTrue (in_limits extent) }
+    ensures edit { result ≡ BufferEdit.Create name format extent }
+    ensures proper { IsProperEdit result }
+{
+    // `first_column` is called for its clause that the extent is a rectangle of the plane.
+    let _ = extent.first_column();
+    BufferEdit::Create {
+        name,
+        format,
+        extent,
+    }
+}
+
+/// Returns the edit that makes a buffer on the root of another.
+fn sub(name: Name, parent: Name, rect: Rect) -> BufferEdit
+    ensures edit { result ≡ BufferEdit.Sub name parent rect }
+    ensures proper { IsProperEdit result }
+{
+    // `first_column` is called as for a root of its own.
+    let _ = rect.first_column();
+    BufferEdit::Sub { name, parent, rect }
+}
+
+/// Returns the edit that writes a pixel at each position of a rectangle of a buffer.
+///
+/// # Errors
+///
+/// Fails if memory runs out.
+fn fill(
+    alloc: Global,
+    name: Name,
+    rect: Rect,
+    samples: &PixelSamples,
+) -> Result<BufferEdit, AllocError>
+    ensures { IfOk result (λ edit. edit ≡ BufferEdit.Fill name rect samples.now) }
+{
+    let samples = PixelSamples::new(samples.as_slice().to_vec(alloc)?);
+    Ok(BufferEdit::Fill {
+        name,
+        rect,
+        samples,
+    })
 }

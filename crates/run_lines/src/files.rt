@@ -1,25 +1,28 @@
 //! Lines that read a file into a buffer, or write a file of one.
 
 ghost use Rattle.std.specs.Prelude.{◌≡◌, [], ◌∷◌, ℕ, Bool, IfSome, IsTrue, List, Option, length};
-ghost use Rattle.buffer_view.specs.BufferTables.{AreBuffersOver, buffers_names};
 ghost use Rattle.chain_owners.specs.Counts.{Counts};
-ghost use Rattle.chain_owners.specs.Owners.{Respects};
+ghost use Rattle.commit_session.specs.Seen.{IsOver};
+ghost use Rattle.model_operations.specs.Meanings.{int_meanings, same_operation};
 ghost use Rattle.model_runs.specs.Effects.{effect, writes};
 ghost use Rattle.model_runs.specs.Ending.{Leaves};
 ghost use Rattle.model_runs.specs.State.{RunState};
 ghost use Rattle.outside_io.specs.Files.{Files, file as bytes_of};
 ghost use Rattle.run_events.specs.Causes.{HasCause};
-ghost use Rattle.run_lines.specs.Buffers.{Holds, is_grab, is_load};
 ghost use Rattle.run_events.specs.Moments.{HasFaults};
+ghost use Rattle.run_lines.specs.Commands.{is_grab, is_load};
 ghost use Rattle.run_lines.specs.Rasters.{IsRaster};
+ghost use Rattle.run_lines.specs.States.{Holds};
 ghost use Rattle.run_lines.specs.Stops.{Did, end_of};
 ghost use Rattle.run_texts.specs.Events.{Puts, events_alone};
 ghost use Rattle.run_texts.specs.Texts.{grab_text as text_of_grab};
 ghost use Rattle.script_read.specs.Limits.{IsInLimits};
 
 use crate::stop::Stop;
-use buffer_view::Buffers;
 use chain_contracts::TileChain;
+use commit_session::SessionState;
+use model_buffers::{BufferEdit, RawBytes};
+use model_operations::IntOp;
 use model_runs::End;
 use outside_io::{Shelf, ShelfAnswer, Sink};
 use run_events::{put_text, write_file};
@@ -30,31 +33,30 @@ use std::alloc::Global;
 /// Carries out a line that loads a file into a buffer.
 pub(crate) fn load<C: TileChain, F: Shelf>(
     line: &Line,
-    buffers: &mut Buffers,
+    session: &mut SessionState<IntOp>,
     chain: &mut C,
     shelf: &mut F,
 ) -> Result<(), Stop>
-    requires over { AreBuffersOver buffers.old (C.held chain.old) }
+    requires over { IsOver same_operation int_meanings session.old (C.held chain.old) }
     requires limits { IsInLimits line.now.command }
     requires load { IsTrue (is_load line.now.command) }
     ensures did { (text : Option (List ℕ)) (puts : ℕ) (exposed : Bool) (capacity : ℕ) (state : RunState) (files : Files) →
-        Holds exposed state files buffers.old (C.held chain.old) (F.files shelf.old) →
-        Did exposed line.now.number state files (effect capacity state files line.now.number line.now.command) result
+        Holds exposed capacity state files session.old (C.held chain.old) (F.files shelf.old) →
+        Did exposed capacity line.now.number state files (effect capacity state files line.now.number line.now.command) result
         (record { files = F.files shelf.old; text = text; reads = F.read_faults shelf.old; writes = F.write_faults shelf.old; puts = puts; chain = C.counts chain.old })
         (record { files = F.files shelf.new; text = text; reads = F.read_faults shelf.new; writes = F.write_faults shelf.new; puts = puts; chain = C.counts chain.new })
-        buffers.new (C.held chain.new) }
+        session.new (C.held chain.new) }
     ensures faults { (text : Option (List ℕ)) (puts : ℕ) → HasFaults (end_of result)
         (record { files = F.files shelf.old; text = text; reads = F.read_faults shelf.old; writes = F.write_faults shelf.old; puts = puts; chain = C.counts chain.old })
         (record { files = F.files shelf.new; text = text; reads = F.read_faults shelf.new; writes = F.write_faults shelf.new; puts = puts; chain = C.counts chain.new }) }
-    ensures over { AreBuffersOver buffers.new (C.held chain.new) }
-    ensures others { Respects (C.held chain.old) (C.held chain.new) (buffers_names buffers.old) (buffers_names buffers.new) }
+    ensures over { IsOver same_operation int_meanings session.new (C.held chain.new) }
     ensures loans { C.loans chain.new ≡ C.loans chain.old }
     ensures valid { C.is_valid chain.old → C.is_valid chain.new }
 {
     let Command::Load { name, rect, file } = &line.command else {
         unreachable!()
     };
-    let Some(fact) = buffers.fact(*name) else {
+    let Some(fact) = session.extent(*name) else {
         return Err(Stop::Refused(Cause::UnknownBuffer));
     };
     if !fact.bounds.contains(rect) {
@@ -62,7 +64,12 @@ pub(crate) fn load<C: TileChain, F: Shelf>(
     }
     let wanted = rect.area() * u64::from(fact.format.pixel_bytes());
     let raster = read_raster(file, wanted, shelf)?;
-    buffers.put_raw(chain, *name, *rect, &raster)?;
+    let put = BufferEdit::Put {
+        name: *name,
+        rect: *rect,
+        bytes: RawBytes::new(raster),
+    };
+    session.edit(chain, &put)?;
     Ok(())
 }
 
@@ -87,25 +94,24 @@ fn read_raster<F: Shelf>(file: &FileName, wanted: u64, shelf: &mut F) -> Result<
 pub(crate) fn grab<C: TileChain, F: Shelf, O: Sink>(
     alloc: Global,
     line: &Line,
-    buffers: &mut Buffers,
+    session: &mut SessionState<IntOp>,
     chain: &mut C,
     shelf: &mut F,
     out: &mut O,
 ) -> Result<(), Stop>
-    requires over { AreBuffersOver buffers.old (C.held chain.old) }
+    requires over { IsOver same_operation int_meanings session.old (C.held chain.old) }
     requires limits { IsInLimits line.now.command }
     requires grab { IsTrue (is_grab line.now.command) }
     ensures did { (exposed : Bool) (capacity : ℕ) (state : RunState) (files : Files) →
-        Holds exposed state files buffers.old (C.held chain.old) (F.files shelf.old) →
-        Did exposed line.now.number state files (effect capacity state files line.now.number line.now.command) result
+        Holds exposed capacity state files session.old (C.held chain.old) (F.files shelf.old) →
+        Did exposed capacity line.now.number state files (effect capacity state files line.now.number line.now.command) result
         (record { files = F.files shelf.old; text = O.written out.old; reads = F.read_faults shelf.old; writes = F.write_faults shelf.old; puts = O.faults out.old; chain = C.counts chain.old })
         (record { files = F.files shelf.new; text = O.written out.new; reads = F.read_faults shelf.new; writes = F.write_faults shelf.new; puts = O.faults out.new; chain = C.counts chain.new })
-        buffers.new (C.held chain.new) }
+        session.new (C.held chain.new) }
     ensures faults { HasFaults (end_of result)
         (record { files = F.files shelf.old; text = O.written out.old; reads = F.read_faults shelf.old; writes = F.write_faults shelf.old; puts = O.faults out.old; chain = C.counts chain.old })
         (record { files = F.files shelf.new; text = O.written out.new; reads = F.read_faults shelf.new; writes = F.write_faults shelf.new; puts = O.faults out.new; chain = C.counts chain.new }) }
-    ensures over { AreBuffersOver buffers.new (C.held chain.new) }
-    ensures others { Respects (C.held chain.old) (C.held chain.new) (buffers_names buffers.old) (buffers_names buffers.new) }
+    ensures over { IsOver same_operation int_meanings session.new (C.held chain.new) }
     ensures loans { C.loans chain.new ≡ C.loans chain.old }
     ensures valid { C.is_valid chain.old → C.is_valid chain.new }
 {
@@ -119,7 +125,7 @@ pub(crate) fn grab<C: TileChain, F: Shelf, O: Sink>(
     else {
         unreachable!()
     };
-    let patch = buffers.get(chain, *name, *level, *abyss, *rect)?;
+    let patch = session.grab(chain, *name, *level, *abyss, *rect)?;
     write_grab(alloc, line.number, patch.raw_bytes(), file, shelf, out)?;
     Ok(())
 }

@@ -1,11 +1,14 @@
-//! Carries out the lines of scripts: buffers over a chain, files of a shelf, and texts.
+//! Carries out the lines of scripts over a session: edits, steps and renders over a chain, files of a shelf, and texts.
 #![tactic(auto)]
 
 mod edits;
 mod files;
 mod lines;
+mod nodes;
+mod renders;
 mod script;
+mod steps;
 mod stop;
 
-pub use lines::is_of_buffers;
-pub use script::{ChainLimits, carry_out};
+pub use lines::is_of_watch;
+pub use script::{RunLimits, carry_out};

@@ -1,138 +1,150 @@
-//! Lines of buffers, one after another.
+//! Lines, one after another.
 
-ghost use Rattle.std.specs.Prelude.{◌≡◌, ℕ, All, Bool, IsTrue};
-ghost use Rattle.buffer_view.specs.BufferTables.{AreBuffersOver, buffers_names};
-ghost use Rattle.chain_owners.specs.Owners.{Respects};
-ghost use Rattle.model_runs.specs.Built.{is_of_buffers as of_buffers};
+ghost use Rattle.std.specs.Prelude.{◌≡◌, [], ◌∷◌, ℕ, All, Bool, Option};
+ghost use Rattle.commit_session.specs.Seen.{IsOver};
+ghost use Rattle.model_bounds.specs.Counts.{HasTrueCounts};
+ghost use Rattle.model_operations.specs.Meanings.{int_meanings, same_operation};
+ghost use Rattle.model_runs.specs.Built.{is_of_watch as of_watch};
 ghost use Rattle.model_runs.specs.Effects.{effect};
+ghost use Rattle.model_runs.specs.Ending.{Leaves};
+ghost use Rattle.model_runs.specs.Run.{effects, state_after};
 ghost use Rattle.model_runs.specs.State.{RunState};
 ghost use Rattle.outside_io.specs.Files.{Files};
-ghost use Rattle.run_lines.specs.Buffers.{Holds};
 ghost use Rattle.run_events.specs.Carried.{CarriesOutLines};
-ghost use Rattle.run_lines.specs.Lines.{IsLineOfBuffers};
+ghost use Rattle.run_events.specs.Causes.{HasCause};
 ghost use Rattle.run_events.specs.Moments.{HasFaults};
+ghost use Rattle.run_lines.specs.Commands.{IsBuiltLine};
+ghost use Rattle.run_lines.specs.States.{Holds};
 ghost use Rattle.run_lines.specs.Stops.{Did, Does, end_of};
+ghost use Rattle.run_texts.specs.Events.{Puts, events_alone};
+ghost use Rattle.run_texts.specs.Texts.{report_text as text_of_report};
 
 use crate::edits::edit;
 use crate::files::{grab, load};
+use crate::nodes::note;
+use crate::renders::render;
+use crate::steps::step;
 use crate::stop::Stop;
-use buffer_view::Buffers;
 use chain_contracts::TileChain;
+use commit_session::{Counts, SessionState};
+use model_operations::IntOp;
 use model_runs::End;
 use outside_io::{Shelf, Sink};
-use run_events::refuse;
+use run_events::{put_text, refuse};
+use run_texts::report_text;
 use script_read::{Command, Line};
 use std::alloc::Global;
 
-/// Returns whether a command makes, changes or reads buffers.
-pub fn is_of_buffers(command: &Command) -> bool
-    ensures { result ≡ of_buffers command.now }
+/// Returns whether a command begins or ends a watch.
+pub fn is_of_watch(command: &Command) -> bool
+    ensures { result ≡ of_watch command.now }
 {
-    matches!(
-        command,
-        Command::Buffer { .. }
-            | Command::Sub { .. }
-            | Command::Dup { .. }
-            | Command::Load { .. }
-            | Command::Fill { .. }
-            | Command::Copy { .. }
-            | Command::Grab { .. }
-    )
+    matches!(command, Command::Watch { .. } | Command::EndWatch)
 }
 
-/// Carries out lines of buffers, up to the first that is refused.
+/// Carries out lines up to the first that is refused, and puts the report after the last.
 pub(crate) fn carry_out_lines<C: TileChain, F: Shelf, O: Sink>(
     alloc: Global,
     lines: &[Line],
-    buffers: &mut Buffers,
+    session: &mut SessionState<IntOp>,
     chain: &mut C,
     shelf: &mut F,
     out: &mut O,
 ) -> Result<(), End>
-    requires over { AreBuffersOver buffers.old (C.held chain.old) }
-    requires lines { All IsLineOfBuffers lines.now }
+    requires over { IsOver same_operation int_meanings session.old (C.held chain.old) }
+    requires lines { All IsBuiltLine lines.now }
     ensures carried { (exposed : Bool) (capacity : ℕ) (state : RunState) (files : Files) →
-        Holds exposed state files buffers.old (C.held chain.old) (F.files shelf.old) →
+        Holds exposed capacity state files session.old (C.held chain.old) (F.files shelf.old) →
+        HasTrueCounts (state_after state (effects capacity state files lines.now)) →
         CarriesOutLines exposed capacity state files lines.now result
         (record { files = F.files shelf.old; text = O.written out.old; reads = F.read_faults shelf.old; writes = F.write_faults shelf.old; puts = O.faults out.old; chain = C.counts chain.old })
         (record { files = F.files shelf.new; text = O.written out.new; reads = F.read_faults shelf.new; writes = F.write_faults shelf.new; puts = O.faults out.new; chain = C.counts chain.new }) }
     ensures faults { HasFaults result
         (record { files = F.files shelf.old; text = O.written out.old; reads = F.read_faults shelf.old; writes = F.write_faults shelf.old; puts = O.faults out.old; chain = C.counts chain.old })
         (record { files = F.files shelf.new; text = O.written out.new; reads = F.read_faults shelf.new; writes = F.write_faults shelf.new; puts = O.faults out.new; chain = C.counts chain.new }) }
-    ensures over { AreBuffersOver buffers.new (C.held chain.new) }
-    ensures others { Respects (C.held chain.old) (C.held chain.new) (buffers_names buffers.old) (buffers_names buffers.new) }
+    ensures over { IsOver same_operation int_meanings session.new (C.held chain.new) }
     ensures loans { C.loans chain.new ≡ C.loans chain.old }
     ensures valid { C.is_valid chain.old → C.is_valid chain.new }
 {
     for line in lines {
-        carry_out_line(alloc, line, buffers, chain, shelf, out)?;
+        carry_out_line(alloc, line, session, chain, shelf, out)?;
     }
-    Ok(())
+    put_report(alloc, session.counts(), out)
 }
 
-/// Carries out a line of buffers, and puts its text where it is refused.
+/// Puts the report of how many tiles of nodes were evaluated, and how many were found in the cache.
+fn put_report<O: Sink>(alloc: Global, counts: Counts, out: &mut O) -> Result<(), End>
+    ensures leaves { (files : Option Files) →
+        Leaves (events_alone (Puts (text_of_report counts.applied counts.reused) ∷ [])) result
+        (record { files = files; text = O.written out.old }) (record { files = files; text = O.written out.new }) }
+    ensures cause { (reads writes : ℕ) → HasCause result
+        (record { reads = reads; writes = writes; puts = O.faults out.old }) (record { reads = reads; writes = writes; puts = O.faults out.new }) }
+{
+    let text = report_text(alloc, counts.applied, counts.reused)?;
+    put_text(&text, out)
+}
+
+/// Carries out a line, and puts its text where it is refused.
 fn carry_out_line<C: TileChain, F: Shelf, O: Sink>(
     alloc: Global,
     line: &Line,
-    buffers: &mut Buffers,
+    session: &mut SessionState<IntOp>,
     chain: &mut C,
     shelf: &mut F,
     out: &mut O,
 ) -> Result<(), End>
-    requires over { AreBuffersOver buffers.old (C.held chain.old) }
-    requires line { IsLineOfBuffers line.now }
+    requires over { IsOver same_operation int_meanings session.old (C.held chain.old) }
+    requires line { IsBuiltLine line.now }
     ensures does { (exposed : Bool) (capacity : ℕ) (state : RunState) (files : Files) →
-        Holds exposed state files buffers.old (C.held chain.old) (F.files shelf.old) →
-        Does exposed files (effect capacity state files line.now.number line.now.command) result
+        Holds exposed capacity state files session.old (C.held chain.old) (F.files shelf.old) →
+        Does exposed capacity state files (effect capacity state files line.now.number line.now.command) result
         (record { files = F.files shelf.old; text = O.written out.old; reads = F.read_faults shelf.old; writes = F.write_faults shelf.old; puts = O.faults out.old; chain = C.counts chain.old })
         (record { files = F.files shelf.new; text = O.written out.new; reads = F.read_faults shelf.new; writes = F.write_faults shelf.new; puts = O.faults out.new; chain = C.counts chain.new })
-        buffers.new (C.held chain.new) }
+        session.new (C.held chain.new) }
     ensures faults { HasFaults result
         (record { files = F.files shelf.old; text = O.written out.old; reads = F.read_faults shelf.old; writes = F.write_faults shelf.old; puts = O.faults out.old; chain = C.counts chain.old })
         (record { files = F.files shelf.new; text = O.written out.new; reads = F.read_faults shelf.new; writes = F.write_faults shelf.new; puts = O.faults out.new; chain = C.counts chain.new }) }
-    ensures over { AreBuffersOver buffers.new (C.held chain.new) }
-    ensures others { Respects (C.held chain.old) (C.held chain.new) (buffers_names buffers.old) (buffers_names buffers.new) }
+    ensures over { IsOver same_operation int_meanings session.new (C.held chain.new) }
     ensures loans { C.loans chain.new ≡ C.loans chain.old }
     ensures valid { C.is_valid chain.old → C.is_valid chain.new }
 {
-    match carry_out_command(alloc, line, buffers, chain, shelf, out) {
+    match carry_out_command(alloc, line, session, chain, shelf, out) {
         Ok(()) => Ok(()),
         Err(Stop::Refused(cause)) => refuse(alloc, line.number, cause, out),
         Err(Stop::Ended(end)) => Err(end),
     }
 }
 
-/// Carries out the command of a line of buffers, but for the text of its refusal.
+/// Carries out the command of a line, but for the text of its refusal.
 fn carry_out_command<C: TileChain, F: Shelf, O: Sink>(
     alloc: Global,
     line: &Line,
-    buffers: &mut Buffers,
+    session: &mut SessionState<IntOp>,
     chain: &mut C,
     shelf: &mut F,
     out: &mut O,
 ) -> Result<(), Stop>
-    requires over { AreBuffersOver buffers.old (C.held chain.old) }
-    requires line { IsLineOfBuffers line.now }
+    requires over { IsOver same_operation int_meanings session.old (C.held chain.old) }
+    requires line { IsBuiltLine line.now }
     ensures did { (exposed : Bool) (capacity : ℕ) (state : RunState) (files : Files) →
-        Holds exposed state files buffers.old (C.held chain.old) (F.files shelf.old) →
-        Did exposed line.now.number state files (effect capacity state files line.now.number line.now.command) result
+        Holds exposed capacity state files session.old (C.held chain.old) (F.files shelf.old) →
+        Did exposed capacity line.now.number state files (effect capacity state files line.now.number line.now.command) result
         (record { files = F.files shelf.old; text = O.written out.old; reads = F.read_faults shelf.old; writes = F.write_faults shelf.old; puts = O.faults out.old; chain = C.counts chain.old })
         (record { files = F.files shelf.new; text = O.written out.new; reads = F.read_faults shelf.new; writes = F.write_faults shelf.new; puts = O.faults out.new; chain = C.counts chain.new })
-        buffers.new (C.held chain.new) }
+        session.new (C.held chain.new) }
     ensures faults { HasFaults (end_of result)
         (record { files = F.files shelf.old; text = O.written out.old; reads = F.read_faults shelf.old; writes = F.write_faults shelf.old; puts = O.faults out.old; chain = C.counts chain.old })
         (record { files = F.files shelf.new; text = O.written out.new; reads = F.read_faults shelf.new; writes = F.write_faults shelf.new; puts = O.faults out.new; chain = C.counts chain.new }) }
-    ensures over { AreBuffersOver buffers.new (C.held chain.new) }
-    ensures others { Respects (C.held chain.old) (C.held chain.new) (buffers_names buffers.old) (buffers_names buffers.new) }
+    ensures over { IsOver same_operation int_meanings session.new (C.held chain.new) }
     ensures loans { C.loans chain.new ≡ C.loans chain.old }
     ensures valid { C.is_valid chain.old → C.is_valid chain.new }
 {
     match &line.command {
-        Command::Load { .. } => load(line, buffers, chain, shelf),
-        Command::Grab { .. } => grab(alloc, line, buffers, chain, shelf, out),
-        _ => {
-            edit(&line.command, buffers, chain)?;
-            Ok(())
-        }
+        Command::Load { .. } => load(line, session, chain, shelf),
+        Command::Grab { .. } => grab(alloc, line, session, chain, shelf, out),
+        Command::Render { .. } => render(alloc, line, session, chain, shelf, out),
+        Command::Node { .. } | Command::Drop { .. } => note(alloc, line, session),
+        Command::Commit | Command::Undo | Command::Redo => step(line, session, chain),
+        _ => edit(alloc, line, session, chain),
     }
 }

@@ -18,7 +18,7 @@ pub fn refusal_text(alloc: Global, line: u32, cause: Cause) -> Result<String, Al
 pub fn render_text(
     alloc: Global,
     line: u32,
-    commit: u32,
+    commit: u64,
     bytes: usize,
 ) -> Result<String, AllocError>
     ensures { IfOk result (λ text. string_bytes text ≡ render_text line commit bytes) }

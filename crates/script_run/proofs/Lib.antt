@@ -1,11 +1,6 @@
 mod Statuses
-mod Rasters
 mod Loads
-mod Strips
-mod Committed
-mod Fitting
+mod Lines
 mod Unwatched
-mod Carrying
-mod Buffers
 mod Reading
 mod Promises

@@ -1,20 +1,20 @@
 -- What a run promises, by what it leaves and why it ends.
-use Rattle.std.proofs.Common.{◌≡◌, ℕ, ◌+◌, ◌*◌, ◌<◌, ◌≤◌, ◌⊎◌, Bool, IsTrue, ◌||◌, List, [], min, Option, Some, None, Result, Ok, Err, IfSome, IsSomeAnd, inl, inr, refl, sym, ap, ◌∙◌, subst, arith}
+use Rattle.std.proofs.Common.{◌≡◌, ℕ, ◌⊎◌, Bool, IsTrue, ◌||◌, List, [], min, Option, Some, None, Result, Ok, Err, IfSome, inl, inr, refl, sym, ap, subst, arith}
 use Rattle.chain_owners.specs.Counts.{Counts}
 use Rattle.chain_handlers.specs.OwnedTiles.{counts_over}
 use Rattle.outside_io.specs.Faults.{Rose}
 use Rattle.outside_io.specs.Files.{Files, file}
-use Rattle.model_runs.specs.Built.{BuiltRun, built_ending, built_lines, built_plan, needs_no_swap, options_with, plan_of_read}
+use Rattle.model_runs.specs.Built.{BuiltRun, built_lines, built_plan, needs_no_swap, plan_of_read}
 use Rattle.model_runs.specs.Ending.{IsRefusal, IsWhole, MayTear, SaysRefused, end_status, status_of}
-use Rattle.model_runs.specs.Ran.{Faults, NoneFalls, NoneRose, Ran, SufficesFor, bytes_put}
-use Rattle.model_runs.specs.Run.{Plan, applied_in, lines_of_file, plan_of_lines, watched_in}
+use Rattle.model_runs.specs.Ran.{Faults, NoneFalls, Ran, SufficesFor, bytes_put, tiles_of_run}
+use Rattle.model_runs.specs.Run.{Plan, lines_of_file, plan_of_lines, report, watched_in}
 use Rattle.model_runs.specs.State.{Numbers, Watched}
-use Rattle.model_runs.specs.Swap.{effects_to_stop}
+use Rattle.model_runs.specs.Swap.{Suffices}
 use Rattle.model_runs.specs.Watching.{AreNumbers}
 use Rattle.model_runs.specs.Words.{Options}
 use Rattle.model_runs.specs.declared.ending.End.{End}
 use Rattle.model_runs.specs.declared.ending.End.TheVariants as ends
-use Rattle.run_events.specs.Carried.{CarriesOut, Exceeds, tiles_to_stop}
+use Rattle.run_events.specs.Carried.{CarriesOut, Exceeds}
 use Rattle.run_events.specs.Moments.{HasFaults, Moment, world_at}
 use Rattle.run_texts.proofs.Leaving.{some_weaker}
 use Rattle.run_texts.specs.Events.{Refusal}
@@ -93,31 +93,28 @@ complete_by refused (Err ends.SwapFull) old new says faults fault room reads wri
 
 -- ---- a full swap
 
--- more tiles than there is space for are not all of a run's tiles where the swap suffices
-exceeds_not : (blocks resident tiles applied cached : ℕ) (plan_blocks plan_resident : ℕ) → plan_blocks ≡ blocks → plan_resident ≡ resident →
-    (resident < 0 + tiles) × (blocks < 32 * (0 + tiles + 1)) →
-    (32 * (tiles + min cached applied + 1 + 1) ≤ plan_blocks) ⊎ (tiles + min cached applied + 1 ≤ plan_resident) → ⊥
-exceeds_not blocks resident tiles applied cached plan_blocks plan_resident b r past (inl room) = omega (arith, past.0, past.1, room)
-exceeds_not blocks resident tiles applied cached plan_blocks plan_resident b r past (inr few) = omega (arith, past.0, past.1, few)
+-- a swap that suffices for as many tiles as there are names isn't exceeded by them
+exceeds_not : (faults blocks resident tiles : ℕ) → Exceeds (counts_over faults blocks resident) tiles → Suffices blocks resident tiles → ⊥
+exceeds_not faults blocks resident tiles past (inl room) = omega (arith, past.0, past.1, room)
+exceeds_not faults blocks resident tiles past (inr few) = omega (arith, past.0, past.1, few)
 
-never_suffices : (plan : Plan) (faults resident blocks size : ℕ) (put : Option (List ℕ)) → plan.options ≡ options_with resident blocks →
-    Exceeds (counts_over faults (min blocks size) resident) (0 + tiles_to_stop put plan.effects) → ¬ SufficesFor plan size put
-never_suffices plan faults resident blocks size put is past =
-    let b : min plan.options.swap_blocks size ≡ min blocks size = ap (λ (o : Options). min o.swap_blocks size) is in
-    let r : plan.options.resident ≡ resident = ap (λ (o : Options). o.resident) is in
-    λ suffices. exceeds_not (min blocks size) resident (tiles_to_stop put plan.effects) (applied_in (effects_to_stop put plan.effects)) plan.options.cache
-    (min plan.options.swap_blocks size) plan.options.resident b r past suffices
+never_suffices : (plan : Plan) (options : Options) (faults size : ℕ) (put : Option (List ℕ)) → plan.options ≡ options →
+    Exceeds (counts_over faults (min options.swap_blocks size) options.resident) (tiles_of_run plan put) → ¬ SufficesFor plan size put
+never_suffices plan options faults size put is past =
+    let same : Exceeds (counts_over faults (min plan.options.swap_blocks size) plan.options.resident) (tiles_of_run plan put) =
+    subst (λ (o : Options). Exceeds (counts_over faults (min o.swap_blocks size) o.resident) (tiles_of_run plan put)) (sym is) past in
+    exceeds_not faults (min plan.options.swap_blocks size) plan.options.resident (tiles_of_run plan put) same
 
-options_of : (numbers : Numbers) (files : Files) (options : Options) (built : Result (List Line) Refusal) → (plan_of_lines built_ending options numbers files built).options ≡ options
+options_of : (numbers : Numbers) (files : Files) (options : Options) (built : Result (List Line) Refusal) → (plan_of_lines report options numbers files built).options ≡ options
 options_of numbers files options (Ok lines) = refl
 options_of numbers files options (Err refused) = refl
 
 -- ---- a run
 
-ran_by : (exposed : Bool) (plan : Plan) (ended : Result (Unit {0}) End) (resident blocks size : ℕ) (faults : ℕ) (old new : Moment) → watched_in plan.effects ≡ [] → plan.options ≡ options_with resident blocks →
-    old.chain ≡ counts_over faults (min blocks size) resident → CarriesOut exposed plan.outcome (tiles_to_stop (bytes_put old.text new.text) plan.effects) ended old new → HasFaults ended old new →
+ran_by : (exposed : Bool) (plan : Plan) (options : Options) (ended : Result (Unit {0}) End) (size faults : ℕ) (old new : Moment) → watched_in plan.effects ≡ [] → plan.options ≡ options →
+    old.chain ≡ counts_over faults (min options.swap_blocks size) options.resident → CarriesOut exposed plan.outcome (tiles_of_run plan (bytes_put old.text new.text)) ended old new → HasFaults ended old new →
     Ran (IsTrue exposed) plan [] size (world_at old) (world_at new) (faults_at old) (faults_at new) (status_of ended)
-ran_by exposed plan ended resident blocks size faults old new unwatched options chain carried has = record {
+ran_by exposed plan options ended size faults old new unwatched is chain carried has = record {
   meets = subst (λ (watched : List Watched). AreNumbers watched []) (sym unwatched) refl;
   done = done_by plan.outcome.refused ended carried.refused;
   refused = refused_by plan.outcome.refused ended carried.refused;
@@ -130,31 +127,30 @@ ran_by exposed plan ended resident blocks size faults old new unwatched options 
 }
   where
     not_enough : ended ≡ Err ends.SwapFull → ¬ SufficesFor plan size (bytes_put old.text new.text)
-    not_enough is =
-        never_suffices plan faults resident blocks size (bytes_put old.text new.text) options
-        (subst (λ (counts : Counts). Exceeds counts (counts.names + tiles_to_stop (bytes_put old.text new.text) plan.effects)) chain (carried.full is))
+    not_enough full =
+        never_suffices plan options faults size (bytes_put old.text new.text) is
+        (subst (λ (counts : Counts). Exceeds counts (tiles_of_run plan (bytes_put old.text new.text))) chain (carried.full full))
 
 -- the promise of a run that words ask for
 pub ran_named : (found : Option BuiltRun) (run : BuiltRun) (swapped : Bool) (exposed : Option Files) (ended : Result (Unit {0}) End) (status size faults : ℕ) (old new : Moment) →
-    found ≡ Some run → status ≡ status_of ended → old.files ≡ exposed → old.chain ≡ counts_over faults (min run.swap_blocks size) run.resident →
-    IfSome exposed (λ files. CarriesOutRead swapped files (options_with run.resident run.swap_blocks) (lines_of_file (file files run.script)) ended old new) → HasFaults ended old new →
+    found ≡ Some run → status ≡ status_of ended → old.files ≡ exposed → old.chain ≡ counts_over faults (min run.options.swap_blocks size) run.options.resident →
+    IfSome exposed (λ files. CarriesOutRead swapped files run.options (lines_of_file (file files run.script)) ended old new) → HasFaults ended old new →
     IfSome found (λ run. IfSome exposed (λ files. (numbers : Numbers) × Ran (IsTrue (swapped || needs_no_swap (lines_of_file (file files run.script)))) (built_plan numbers files run) numbers size
     (record { files = Some files; text = old.text }) (world_at new) (faults_at old) (faults_at new) status))
 ran_named found run swapped None ended status size faults old new named is files chain carried has = rw named tt
 ran_named found run swapped (Some given) ended status size faults old new named is files chain carried has =
     let read = lines_of_file (file given run.script) in
-    let options = options_with run.resident run.swap_blocks in
     let begin : (let w : World = record { files = Some given; text = old.text } in w) ≡ world_at old = ap (λ (f : Option Files). (let w : World = record { files = f; text = old.text } in w)) (sym files) in
     rw (named, is, begin) (
       [],
-      ran_by (swapped || needs_no_swap read) (plan_of_read [] given options read) ended run.resident run.swap_blocks size faults old new
-          (plan_unwatched given options read) (options_of [] given options (built_lines read)) chain carried has,
+      ran_by (swapped || needs_no_swap read) (plan_of_read [] given run.options read) run.options ended size faults old new
+          (plan_unwatched given run.options read) (options_of [] given run.options (built_lines read)) chain carried has,
     )
 
 -- a run that needs no swap comes to its end whatever the swap is
 pub complete_named : (found : Option BuiltRun) (run : BuiltRun) (swapped : Bool) (exposed : Option Files) (ended : Result (Unit {0}) End) (status : ℕ) (Same : Type 0) (old new : Moment) →
     found ≡ Some run → status ≡ status_of ended →
-    IfSome exposed (λ files. CarriesOutRead swapped files (options_with run.resident run.swap_blocks) (lines_of_file (file files run.script)) ended old new) → HasFaults ended old new →
+    IfSome exposed (λ files. CarriesOutRead swapped files run.options (lines_of_file (file files run.script)) ended old new) → HasFaults ended old new →
     IfSome exposed (λ files. IsTrue (needs_no_swap (lines_of_file (file files run.script))) → Same × EndsWithoutSwap ended) →
     ¬ Rose old.reads new.reads → ¬ Rose old.writes new.writes → ¬ Rose old.puts new.puts →
     IfSome found (λ run. IfSome exposed (λ files. IsTrue (needs_no_swap (lines_of_file (file files run.script))) → (status ≡ 7) ⊎ (status ≡ end_status (built_plan [] files run).outcome.refused)))

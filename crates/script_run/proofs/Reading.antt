@@ -1,21 +1,21 @@
 -- What a run leaves of a script that was read.
-use Rattle.std.proofs.Common.{◌≡◌, ◌≢◌, ℕ, ◌≤◌, Bool, true, false, ◌||◌, cond, List, [], length, Option, Some, None, Result, Ok, Err, IfSome, IsTrue, is_none, is_some, max, refl, sym, ap, ◌∙◌, subst, arith}
+use Rattle.std.proofs.Common.{◌≡◌, ◌≢◌, ℕ, ◌≤◌, Bool, true, false, ◌||◌, cond, List, [], length, Option, Some, None, Result, Ok, Err, IfSome, IsTrue, is_some, sym, ap, ◌∙◌, subst, arith}
 use Rattle.std.specs.Prelude.{nat_lt}
 use Rattle.std.proofs.lemmas.Bool.Decides.{nat_tests}
 use Rattle.chain_owners.specs.Counts.{Counts}
 use Rattle.outside_io.specs.Files.{Files, file}
 use Rattle.pixel_formats.specs.Limits.{max_script_bytes}
-use Rattle.model_runs.specs.Built.{built_ending, first_other, first_unbuilt, needs_no_swap, plan_of_read, unless_unbuilt}
+use Rattle.model_runs.specs.Built.{first_unbuilt, needs_no_swap, plan_of_read, unless_unbuilt}
 use Rattle.model_runs.specs.Ending.{Leaves}
-use Rattle.model_runs.specs.Ran.{bytes_put}
-use Rattle.model_runs.specs.Run.{by_grammar, effects, lines_of_file, outcome_from, outcome_of_effects, plan_of_lines}
-use Rattle.model_runs.specs.State.{first_state}
-use Rattle.model_runs.specs.Words.{Options, default_options}
+use Rattle.model_runs.specs.Ran.{bytes_put, tiles_of_run}
+use Rattle.model_runs.specs.Run.{by_grammar, effects, lines_of_file, outcome_of_effects, plan_of_lines, report}
+use Rattle.model_runs.specs.State.{Effect, first_state}
+use Rattle.model_runs.specs.Swap.{effects_to_stop, tiles_in}
+use Rattle.model_runs.specs.Words.{Options}
 use Rattle.model_runs.specs.declared.ending.End.{End}
 use Rattle.model_runs.specs.declared.ending.End.TheVariants as ends
-use Rattle.model_runs.specs.declared.stage.Stage.TheVariants as stages
-use Rattle.run_events.proofs.Carrying.{carried_by_leaves}
-use Rattle.run_events.specs.Carried.{CarriesOut, CarriesOutLines, tiles_to_stop}
+use Rattle.run_events.proofs.Carrying.{carried_by_leaves, more_carried}
+use Rattle.run_events.specs.Carried.{CarriesOut, CarriesOutLines, most_to_stop}
 use Rattle.run_events.specs.Moments.{Moment, world_at}
 use Rattle.run_texts.specs.Events.{Outcome, Refusal, refusal}
 use Rattle.run_texts.specs.declared.cause.Cause.TheVariants.{Grammar, TooLong}
@@ -38,40 +38,40 @@ read_carried (Some files) exposed options read result old new room leaves = carr
 
 -- ---- lines
 
--- what was read are lines, whose first of either kind are these
-abbrev CarriesOutBuilt : Bool → Files → Options → List Line → Option ℕ → Option ℕ → Result (Unit {0}) End → Moment → Moment → Type 0
-CarriesOutBuilt exposed files options lines unbuilt other result old new =
-    let plan = plan_of_lines built_ending options [] files (unless_unbuilt lines unbuilt other) in
-    CarriesOut (exposed || (is_none unbuilt || is_some other)) plan.outcome (tiles_to_stop (bytes_put old.text new.text) plan.effects) result old new
+-- what was read are lines, whose first that isn't built is this
+abbrev CarriesOutBuilt : Bool → Files → Options → List Line → Option ℕ → Result (Unit {0}) End → Moment → Moment → Type 0
+CarriesOutBuilt exposed files options lines unbuilt result old new =
+    let plan = plan_of_lines report options [] files (unless_unbuilt lines unbuilt) in
+    CarriesOut (exposed || is_some unbuilt) plan.outcome (tiles_of_run plan (bytes_put old.text new.text)) result old new
 
-unless_false : (exposed : Bool) (outcome : Outcome) (tiles : ℕ) (result : Result (Unit {0}) End) (old new : Moment) → CarriesOut exposed outcome tiles result old new → CarriesOut (exposed || false) outcome tiles result old new
-unless_false true outcome tiles result old new carried = carried
-unless_false false outcome tiles result old new carried = carried
+unless_false : (exposed : Bool) (outcome : Outcome) (most : ℕ) (result : Result (Unit {0}) End) (old new : Moment) → CarriesOut exposed outcome most result old new → CarriesOut (exposed || false) outcome most result old new
+unless_false true outcome most result old new carried = carried
+unless_false false outcome most result old new carried = carried
 
--- lines of buffers that aren't of the form
-pub buffers_carried : (found : Option Files) (exposed : Bool) (options : Options) (lines : List Line) (unbuilt : ℕ) (result : Result (Unit {0}) End) (old new : Moment) →
-    first_unbuilt stages.Empty lines ≡ Some unbuilt → first_other lines ≡ None →
+-- a chain that has no names at first has no more than the run's tiles
+tiles_from_none : (capacity names : ℕ) (put : Option (List ℕ)) (all : List Effect) → names ≡ 0 → most_to_stop capacity (first_state []) names put all ≤ tiles_in capacity (effects_to_stop put all)
+tiles_from_none capacity names put all none = omega (arith, none)
+
+-- lines that are all built
+pub lines_read : (found : Option Files) (exposed : Bool) (options : Options) (lines : List Line) (result : Result (Unit {0}) End) (old new : Moment) →
+    first_unbuilt lines ≡ None → old.chain.names ≡ 0 →
     IfSome found (λ files. CarriesOutLines exposed options.cache (first_state []) files lines result old new) →
     IfSome found (λ files. CarriesOutRead exposed files options (Ok lines) result old new)
-buffers_carried None exposed options lines unbuilt result old new form buffers carried = tt
-buffers_carried (Some files) exposed options lines unbuilt result old new form buffers carried =
+lines_read None exposed options lines result old new built none carried = tt
+lines_read (Some files) exposed options lines result old new built none carried =
     let all = effects options.cache (first_state []) files lines in
-    subst (λ (o : Option ℕ). CarriesOutBuilt exposed files options lines o (first_other lines) result old new) (sym form)
-    (subst (λ (o : Option ℕ). CarriesOutBuilt exposed files options lines (Some unbuilt) o result old new) (sym buffers)
-    (unless_false exposed (outcome_of_effects built_ending (first_state []) files all) (tiles_to_stop (bytes_put old.text new.text) all) result old new carried))
+    let put = bytes_put old.text new.text in
+    let outcome = outcome_of_effects report (first_state []) files all in
+    let most = most_to_stop options.cache (first_state []) old.chain.names put all in
+    let tiles = tiles_in options.cache (effects_to_stop put all) in
+    subst (λ (o : Option ℕ). CarriesOutBuilt exposed files options lines o result old new) (sym built)
+    (unless_false exposed outcome tiles result old new
+    (more_carried exposed outcome most tiles result old new (tiles_from_none options.cache old.chain.names put all none) carried))
 
--- the outcome of lines of the form
-pub form_outcome : (files : Files) (options : Options) (lines : List Line) → first_unbuilt stages.Empty lines ≡ None →
-    (plan_of_read [] files options (Ok lines)).outcome ≡ outcome_from built_ending options.cache (first_state []) files lines
-form_outcome files options lines form = ap (λ (o : Option ℕ). (plan_of_lines built_ending options [] files (unless_unbuilt lines o (first_other lines))).outcome) form
-
--- the outcome of lines that are neither
-pub unbuilt_outcome : (files : Files) (options : Options) (lines : List Line) (unbuilt other line : ℕ) → first_unbuilt stages.Empty lines ≡ Some unbuilt → first_other lines ≡ Some other → line ≡ max unbuilt other →
-    (plan_of_read [] files options (Ok lines)).outcome ≡ refusal line (Grammar UnknownCommand)
-unbuilt_outcome files options lines unbuilt other line form buffers at =
-    ap (λ (o : Option ℕ). (plan_of_lines built_ending options [] files (unless_unbuilt lines o (first_other lines))).outcome) form
-    ∙ ap (λ (o : Option ℕ). (plan_of_lines built_ending options [] files (unless_unbuilt lines (Some unbuilt) o)).outcome) buffers
-    ∙ ap (λ (n : ℕ). refusal n (Grammar UnknownCommand)) (sym at)
+-- the outcome of lines of which one isn't built
+pub unbuilt_outcome : (files : Files) (options : Options) (lines : List Line) (unbuilt : ℕ) → first_unbuilt lines ≡ Some unbuilt →
+    (plan_of_read [] files options (Ok lines)).outcome ≡ refusal unbuilt (Grammar UnknownCommand)
+unbuilt_outcome files options lines unbuilt some = ap (λ (o : Option ℕ). (plan_of_lines report options [] files (unless_unbuilt lines o)).outcome) some
 
 -- ---- a text
 
@@ -119,10 +119,10 @@ pub any_known : (found : Option Files) (P : Files → Type 0) → ((files : File
 any_known None P all = tt
 any_known (Some files) P all = all files
 
--- lines of buffers that aren't of the form need it
-pub buffers_need_it : (lines : List Line) (unbuilt : ℕ) → first_unbuilt stages.Empty lines ≡ Some unbuilt → first_other lines ≡ None → IsTrue (needs_no_swap (Ok lines)) → ⊥
-buffers_need_it lines unbuilt form buffers none =
-    let need : needs_no_swap (Ok lines) ≡ false = ap (λ (o : Option ℕ). is_none o || is_some (first_other lines)) form ∙ ap (λ (o : Option ℕ). false || is_some o) buffers in
+-- lines that are all built need it
+pub lines_need_it : (lines : List Line) → first_unbuilt lines ≡ None → IsTrue (needs_no_swap (Ok lines)) → ⊥
+lines_need_it lines built none =
+    let need : needs_no_swap (Ok lines) ≡ false = ap (λ (o : Option ℕ). is_some o) built in
     cc
 
 -- what is left of a text that was read, where its lines need no swap

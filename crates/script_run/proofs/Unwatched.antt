@@ -1,5 +1,5 @@
 -- No line that is built ends a watch.
-use Rattle.std.proofs.Common.{◌≡◌, ◌≢◌, ℕ, Bool, true, false, cond, List, [], ◌∷◌, Option, Some, None, Result, Ok, Err, is_none, refl, sym, ap, ◌∙◌}
+use Rattle.std.proofs.Common.{◌≡◌, ◌≢◌, ℕ, Bool, true, false, cond, List, [], ◌∷◌, Option, Some, None, Result, Ok, Err, is_none, refl, ap, ◌∙◌}
 use Rattle.std.specs.Prelude.{⊤}
 use Rattle.std.specs.List.{cons_option}
 use Rattle.outside_io.specs.Files.{Files, file}
@@ -17,13 +17,11 @@ use Rattle.model_states.specs.Need.{wide}
 use Rattle.model_states.specs.declared.refused.StateRefused.{StateRefused}
 use Rattle.model_sessions.specs.Sessions.{render_need}
 use Rattle.model_sessions.specs.Tables.{table_shapes}
-use Rattle.model_runs.specs.Built.{built_ending, first_other, first_unbuilt, is_of_buffers, next_stage, plan_of_read, unless_built, unless_unbuilt}
+use Rattle.model_runs.specs.Built.{first_unbuilt, is_of_watch, plan_of_read, unless_unbuilt}
 use Rattle.model_runs.specs.Effects.{edit_gives, effect, grabs_view, load_into, opens, renders, renders_known, step_gives}
-use Rattle.model_runs.specs.Run.{and_on, effects, files_after_all, plan_of_lines, watched_in}
+use Rattle.model_runs.specs.Run.{and_on, effects, files_after_all, plan_of_lines, report, watched_in}
 use Rattle.model_runs.specs.Words.{Options}
 use Rattle.model_runs.specs.State.{Effect, RunState, first_state, leaves, refuses, scene_in, workspace_of}
-use Rattle.model_runs.specs.declared.stage.Stage.{Stage}
-use Rattle.model_runs.specs.declared.stage.Stage.TheVariants as stages
 use Rattle.pixel_formats.specs.declared.abyss.Abyss.{Abyss}
 use Rattle.run_texts.specs.Events.{Refusal}
 use Rattle.run_texts.specs.declared.cause.Cause.TheVariants.{Strip, UnknownNode}
@@ -57,15 +55,6 @@ grab_quiet : (line : ℕ) (state : RunState) (name : List ℕ) (z : ℕ) (policy
     IsQuiet (grabs_view line state name z policy r target view)
 grab_quiet line state name z policy r target None = refl
 grab_quiet line state name z policy r target (Some view) = refl
-
--- the end of a watch isn't built
-not_ended : (stage next : Stage) → next_stage stage commands.EndWatch ≡ Some next → ⊥
-not_ended stages.Empty next built = cc
-not_ended (stages.Buffered name r) next built = cc
-not_ended (stages.Loaded name) next built = cc
-not_ended (stages.Sourced name) next built = cc
-not_ended (stages.Inverted name) next built = cc
-not_ended (stages.Committed name) next built = cc
 
 -- a command that ends no watch
 quiet : (capacity : ℕ) (state : RunState) (files : Files) (line : ℕ) (command : Command) → command ≢ commands.EndWatch →
@@ -123,31 +112,21 @@ unwatched capacity state files (line ∷ lines) none =
 
 -- ---- lines that are built
 
-form_ends : (stage : Stage) (lines : List Line) → first_unbuilt stage lines ≡ None → NoneEnds lines
-form_ends stage [] built = tt
-form_ends stage (line ∷ lines) built = of (next_stage stage line.command) refl built (λ next rest. form_ends next lines rest)
+built_end : (lines : List Line) → first_unbuilt lines ≡ None → NoneEnds lines
+built_end [] none = tt
+built_end (line ∷ lines) none = by (is_of_watch line.command) refl none (built_end lines)
   where
-    of : (o : Option Stage) → next_stage stage line.command ≡ o → unless_built line.number o (λ next. first_unbuilt next lines) ≡ None →
-        ((next : Stage) → first_unbuilt next lines ≡ None → NoneEnds lines) → NoneEnds (line ∷ lines)
-    of None e built follow = absurd (cc)
-    of (Some next) e built follow = ((λ end. not_ended stage next (ap (next_stage stage) (sym end) ∙ e)), follow next built)
-
-buffers_end : (lines : List Line) → first_other lines ≡ None → NoneEnds lines
-buffers_end [] none = tt
-buffers_end (line ∷ lines) none = by (is_of_buffers line.command) refl none (buffers_end lines)
-  where
-    by : (b : Bool) → is_of_buffers line.command ≡ b → cond b (first_other lines) (Some line.number) ≡ None → (first_other lines ≡ None → NoneEnds lines) → NoneEnds (line ∷ lines)
-    by true is none follow = ((λ end. let no : is_of_buffers line.command ≡ false = ap is_of_buffers end in cc), follow none)
-    by false is none follow = absurd (cc)
+    by : (b : Bool) → is_of_watch line.command ≡ b → cond b (Some line.number) (first_unbuilt lines) ≡ None → (first_unbuilt lines ≡ None → NoneEnds lines) → NoneEnds (line ∷ lines)
+    by true is none follow = absurd (cc)
+    by false is none follow = ((λ end. let yes : is_of_watch line.command ≡ true = ap is_of_watch end in cc), follow none)
 
 -- ---- plans
 
-plan_of_built : (files : Files) (options : Options) (lines : List Line) (unbuilt other : Option ℕ) → first_unbuilt stages.Empty lines ≡ unbuilt → first_other lines ≡ other →
-    watched_in (plan_of_lines built_ending options [] files (unless_unbuilt lines unbuilt other)).effects ≡ []
-plan_of_built files options lines None other form buffers = unwatched options.cache (first_state []) files lines (form_ends stages.Empty lines form)
-plan_of_built files options lines (Some line) None form buffers = unwatched options.cache (first_state []) files lines (buffers_end lines buffers)
-plan_of_built files options lines (Some line) (Some other) form buffers = refl
+plan_of_built : (files : Files) (options : Options) (lines : List Line) (unbuilt : Option ℕ) → first_unbuilt lines ≡ unbuilt →
+    watched_in (plan_of_lines report options [] files (unless_unbuilt lines unbuilt)).effects ≡ []
+plan_of_built files options lines None none = unwatched options.cache (first_state []) files lines (built_end lines none)
+plan_of_built files options lines (Some line) some = refl
 
 pub plan_unwatched : (files : Files) (options : Options) (read : Result (List Line) Refusal) → watched_in (plan_of_read [] files options read).effects ≡ []
-plan_unwatched files options (Ok lines) = plan_of_built files options lines (first_unbuilt stages.Empty lines) (first_other lines) refl refl
+plan_unwatched files options (Ok lines) = plan_of_built files options lines (first_unbuilt lines) refl
 plan_unwatched files options (Err refused) = refl

@@ -1,4 +1,3 @@
-pub mod Loading
 pub mod Carried
 pub mod Meant
 pub use Rattle.outside_io.specs.Files

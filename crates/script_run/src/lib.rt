@@ -2,8 +2,6 @@
 #![tactic(auto)]
 
 mod built;
-mod carry_out;
-mod images;
 mod program;
 mod words;
 

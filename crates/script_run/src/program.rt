@@ -7,24 +7,25 @@ ghost use Rattle.outside_io.specs.Files.{file};
 ghost use Rattle.outside_io.specs.Faults.{Rose};
 ghost use Rattle.script_read.specs.IsScript.{IsScript};
 ghost use Rattle.script_read.specs.Script.{script_of};
-ghost use Rattle.model_runs.specs.Built.{built_plan, built_request as built_by, needs_no_swap, options_with};
+ghost use Rattle.model_runs.specs.Built.{built_plan, built_request as built_by, needs_no_swap};
 ghost use Rattle.model_runs.specs.Ending.{end_status};
+ghost use Rattle.model_runs.specs.Laws.{AreInRange};
 ghost use Rattle.model_runs.specs.Ran.{NoneFalls, Ran};
 ghost use Rattle.model_runs.specs.Run.{by_grammar, lines_of_file};
 ghost use Rattle.model_runs.specs.State.{Numbers};
 ghost use Rattle.run_events.specs.Moments.{HasFaults};
 ghost use Rattle.script_run.specs.Carried.{CarriesOutRead, EndsWithoutSwap};
-ghost use Rattle.script_run.specs.Meant.{AreChainLimits};
+ghost use Rattle.run_words.specs.Meant.{options_meant};
 
-use crate::built::{first_other, first_unbuilt};
-use crate::carry_out::carry_out;
+use crate::built::first_unbuilt;
 use crate::words::built_request;
 use model_runs::{End, status_of};
 use outside_io::{Gate, Shelf, ShelfAnswer, Sink, SwapDisk};
 use pixel_formats::limits::MAX_SCRIPT_BYTES;
 use run_events::refuse;
-use run_lines::ChainLimits;
+use run_lines::{RunLimits, carry_out};
 use run_texts::Cause;
+use run_words::Options;
 use script_read::{Line, ScriptAnswer, ScriptCause, read_script};
 use std::alloc::Global;
 
@@ -80,7 +81,7 @@ pub fn run<F: Shelf, D: SwapDisk, O: Sink, G: Gate + Sync>(
         (record { reads = F.read_faults shelf.new; writes = F.write_faults shelf.new; swaps = D.faults swap.new; puts = O.faults out.new }) }
 {
     match built_request(words) {
-        Some(run) => status_of(run_script(alloc, run.script, run.limits, shelf, swap, out)),
+        Some(run) => status_of(run_script(alloc, run.script, run.options, shelf, swap, out)),
         None => WRONG_WORDS,
     }
 }
@@ -89,25 +90,25 @@ pub fn run<F: Shelf, D: SwapDisk, O: Sink, G: Gate + Sync>(
 fn run_script<F: Shelf, D: SwapDisk, O: Sink>(
     alloc: Global,
     script: &str,
-    limits: ChainLimits,
+    options: Options,
     shelf: &mut F,
     swap: &mut D,
     out: &mut O,
 ) -> Result<(), End>
     requires name { IsTrue (is_file_name script.now) }
-    requires limits { AreChainLimits limits }
+    requires options { AreInRange (options_meant options) }
     ensures carried { IfSome (F.files shelf.old) (λ files.
-        CarriesOutRead (is_some (D.blocks swap.old)) files (options_with limits.resident limits.blocks) (lines_of_file (file files script.now)) result
-        (record { files = F.files shelf.old; text = O.written out.old; reads = F.read_faults shelf.old; writes = F.write_faults shelf.old; puts = O.faults out.old; chain = counts_over (D.faults swap.old) (min limits.blocks (D.block_count swap.old)) limits.resident })
-        (record { files = F.files shelf.new; text = O.written out.new; reads = F.read_faults shelf.new; writes = F.write_faults shelf.new; puts = O.faults out.new; chain = counts_over (D.faults swap.new) (min limits.blocks (D.block_count swap.old)) limits.resident })) }
+        CarriesOutRead (is_some (D.blocks swap.old)) files (options_meant options) (lines_of_file (file files script.now)) result
+        (record { files = F.files shelf.old; text = O.written out.old; reads = F.read_faults shelf.old; writes = F.write_faults shelf.old; puts = O.faults out.old; chain = counts_over (D.faults swap.old) (min options.swap_blocks (D.block_count swap.old)) options.resident })
+        (record { files = F.files shelf.new; text = O.written out.new; reads = F.read_faults shelf.new; writes = F.write_faults shelf.new; puts = O.faults out.new; chain = counts_over (D.faults swap.new) (min options.swap_blocks (D.block_count swap.old)) options.resident })) }
     ensures unswapped { IfSome (F.files shelf.old) (λ files. IsTrue (needs_no_swap (lines_of_file (file files script.now))) →
         (swap.new ≡ swap.old) × EndsWithoutSwap result) }
     ensures faults { HasFaults result
-        (record { files = F.files shelf.old; text = O.written out.old; reads = F.read_faults shelf.old; writes = F.write_faults shelf.old; puts = O.faults out.old; chain = counts_over (D.faults swap.old) (min limits.blocks (D.block_count swap.old)) limits.resident })
-        (record { files = F.files shelf.new; text = O.written out.new; reads = F.read_faults shelf.new; writes = F.write_faults shelf.new; puts = O.faults out.new; chain = counts_over (D.faults swap.new) (min limits.blocks (D.block_count swap.old)) limits.resident }) }
+        (record { files = F.files shelf.old; text = O.written out.old; reads = F.read_faults shelf.old; writes = F.write_faults shelf.old; puts = O.faults out.old; chain = counts_over (D.faults swap.old) (min options.swap_blocks (D.block_count swap.old)) options.resident })
+        (record { files = F.files shelf.new; text = O.written out.new; reads = F.read_faults shelf.new; writes = F.write_faults shelf.new; puts = O.faults out.new; chain = counts_over (D.faults swap.new) (min options.swap_blocks (D.block_count swap.old)) options.resident }) }
 {
     match shelf.read(script, MAX_SCRIPT_BYTES) {
-        Ok(text) => run_text(alloc, &text, limits, shelf, swap, out),
+        Ok(text) => run_text(alloc, &text, options, shelf, swap, out),
         Err(ShelfAnswer::TooLong { .. }) => refuse(alloc, 0, Cause::TooLong, out),
         Err(ShelfAnswer::Absent) => refuse(alloc, 0, Cause::Absent, out),
         Err(ShelfAnswer::Failed) => Err(End::ReadFault),
@@ -119,23 +120,23 @@ fn run_script<F: Shelf, D: SwapDisk, O: Sink>(
 fn run_text<F: Shelf, D: SwapDisk, O: Sink>(
     alloc: Global,
     text: &[u8],
-    limits: ChainLimits,
+    options: Options,
     shelf: &mut F,
     swap: &mut D,
     out: &mut O,
 ) -> Result<(), End>
-    requires { AreChainLimits limits }
+    requires { AreInRange (options_meant options) }
     ensures carried { IfSome (F.files shelf.old) (λ files.
-        CarriesOutRead (is_some (D.blocks swap.old)) files (options_with limits.resident limits.blocks) (by_grammar (script_of text.now)) result
-        (record { files = F.files shelf.old; text = O.written out.old; reads = F.read_faults shelf.old; writes = F.write_faults shelf.old; puts = O.faults out.old; chain = counts_over (D.faults swap.old) (min limits.blocks (D.block_count swap.old)) limits.resident })
-        (record { files = F.files shelf.new; text = O.written out.new; reads = F.read_faults shelf.new; writes = F.write_faults shelf.new; puts = O.faults out.new; chain = counts_over (D.faults swap.new) (min limits.blocks (D.block_count swap.old)) limits.resident })) }
+        CarriesOutRead (is_some (D.blocks swap.old)) files (options_meant options) (by_grammar (script_of text.now)) result
+        (record { files = F.files shelf.old; text = O.written out.old; reads = F.read_faults shelf.old; writes = F.write_faults shelf.old; puts = O.faults out.old; chain = counts_over (D.faults swap.old) (min options.swap_blocks (D.block_count swap.old)) options.resident })
+        (record { files = F.files shelf.new; text = O.written out.new; reads = F.read_faults shelf.new; writes = F.write_faults shelf.new; puts = O.faults out.new; chain = counts_over (D.faults swap.new) (min options.swap_blocks (D.block_count swap.old)) options.resident })) }
     ensures unswapped { IsTrue (needs_no_swap (by_grammar (script_of text.now))) → (swap.new ≡ swap.old) × EndsWithoutSwap result }
     ensures faults { HasFaults result
-        (record { files = F.files shelf.old; text = O.written out.old; reads = F.read_faults shelf.old; writes = F.write_faults shelf.old; puts = O.faults out.old; chain = counts_over (D.faults swap.old) (min limits.blocks (D.block_count swap.old)) limits.resident })
-        (record { files = F.files shelf.new; text = O.written out.new; reads = F.read_faults shelf.new; writes = F.write_faults shelf.new; puts = O.faults out.new; chain = counts_over (D.faults swap.new) (min limits.blocks (D.block_count swap.old)) limits.resident }) }
+        (record { files = F.files shelf.old; text = O.written out.old; reads = F.read_faults shelf.old; writes = F.write_faults shelf.old; puts = O.faults out.old; chain = counts_over (D.faults swap.old) (min options.swap_blocks (D.block_count swap.old)) options.resident })
+        (record { files = F.files shelf.new; text = O.written out.new; reads = F.read_faults shelf.new; writes = F.write_faults shelf.new; puts = O.faults out.new; chain = counts_over (D.faults swap.new) (min options.swap_blocks (D.block_count swap.old)) options.resident }) }
 {
     match read_script(alloc, text) {
-        Ok(lines) => run_commands(alloc, &lines, limits, shelf, swap, out),
+        Ok(lines) => run_commands(alloc, &lines, options, shelf, swap, out),
         Err(ScriptAnswer::Refused { line, cause }) => {
             refuse(alloc, line, Cause::Grammar(cause), out)
         }
@@ -147,32 +148,33 @@ fn run_text<F: Shelf, D: SwapDisk, O: Sink>(
 fn run_commands<F: Shelf, D: SwapDisk, O: Sink>(
     alloc: Global,
     lines: &[Line],
-    limits: ChainLimits,
+    options: Options,
     shelf: &mut F,
     swap: &mut D,
     out: &mut O,
 ) -> Result<(), End>
     requires script { IsScript lines.now }
-    requires limits { AreChainLimits limits }
+    requires options { AreInRange (options_meant options) }
     ensures carried { IfSome (F.files shelf.old) (λ files.
-        CarriesOutRead (is_some (D.blocks swap.old)) files (options_with limits.resident limits.blocks) (Ok lines.now) result
-        (record { files = F.files shelf.old; text = O.written out.old; reads = F.read_faults shelf.old; writes = F.write_faults shelf.old; puts = O.faults out.old; chain = counts_over (D.faults swap.old) (min limits.blocks (D.block_count swap.old)) limits.resident })
-        (record { files = F.files shelf.new; text = O.written out.new; reads = F.read_faults shelf.new; writes = F.write_faults shelf.new; puts = O.faults out.new; chain = counts_over (D.faults swap.new) (min limits.blocks (D.block_count swap.old)) limits.resident })) }
+        CarriesOutRead (is_some (D.blocks swap.old)) files (options_meant options) (Ok lines.now) result
+        (record { files = F.files shelf.old; text = O.written out.old; reads = F.read_faults shelf.old; writes = F.write_faults shelf.old; puts = O.faults out.old; chain = counts_over (D.faults swap.old) (min options.swap_blocks (D.block_count swap.old)) options.resident })
+        (record { files = F.files shelf.new; text = O.written out.new; reads = F.read_faults shelf.new; writes = F.write_faults shelf.new; puts = O.faults out.new; chain = counts_over (D.faults swap.new) (min options.swap_blocks (D.block_count swap.old)) options.resident })) }
     ensures unswapped { IsTrue (needs_no_swap (Ok lines.now)) → (swap.new ≡ swap.old) × EndsWithoutSwap result }
     ensures faults { HasFaults result
-        (record { files = F.files shelf.old; text = O.written out.old; reads = F.read_faults shelf.old; writes = F.write_faults shelf.old; puts = O.faults out.old; chain = counts_over (D.faults swap.old) (min limits.blocks (D.block_count swap.old)) limits.resident })
-        (record { files = F.files shelf.new; text = O.written out.new; reads = F.read_faults shelf.new; writes = F.write_faults shelf.new; puts = O.faults out.new; chain = counts_over (D.faults swap.new) (min limits.blocks (D.block_count swap.old)) limits.resident }) }
+        (record { files = F.files shelf.old; text = O.written out.old; reads = F.read_faults shelf.old; writes = F.write_faults shelf.old; puts = O.faults out.old; chain = counts_over (D.faults swap.old) (min options.swap_blocks (D.block_count swap.old)) options.resident })
+        (record { files = F.files shelf.new; text = O.written out.new; reads = F.read_faults shelf.new; writes = F.write_faults shelf.new; puts = O.faults out.new; chain = counts_over (D.faults swap.new) (min options.swap_blocks (D.block_count swap.old)) options.resident }) }
 {
     let Some(unbuilt) = first_unbuilt(lines) else {
-        return carry_out(alloc, lines, shelf, out);
+        let limits = RunLimits {
+            swap_blocks: options.swap_blocks,
+            resident: options.resident,
+            cache: options.cache,
+        };
+        return carry_out(alloc, lines, limits, shelf, swap, out);
     };
-    let Some(other) = first_other(lines) else {
-        return run_lines::carry_out(alloc, lines, limits, shelf, swap, out);
-    };
-    let line = unbuilt.max(other);
     refuse(
         alloc,
-        line,
+        unbuilt,
         Cause::Grammar(ScriptCause::UnknownCommand),
         out,
     )

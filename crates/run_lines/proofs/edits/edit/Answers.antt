@@ -1,43 +1,79 @@
-use mir.Syntax.{w64}
-use mir.Val.{SFits}
-use Rattle.std.proofs.Common.{rules, subst}
-use Rattle.std.proofs.lemmas.Int.{to_z-of_z}
-use Rattle.model_buffers.specs.declared.edit.BufferEdit.{BufferEdit as Edit}
-use Rattle.model_buffers.specs.declared.edit.BufferEdit.TheVariants.{Copy, Create, Sub}
-use Rattle.run_lines.proofs.EditLines.{added_edit, the_edit}
-use Rattle.run_lines.specs.Edited.{IsEdited}
+use Rattle.std.proofs.Common.{Result, Ok, Err, refl, subst}
+use Rattle.model_runs.specs.State.{Effect}
+use Rattle.model_runs.specs.declared.ending.End.TheVariants as ends
+use Rattle.run_events.specs.Moments.{Moment}
+use Rattle.run_lines.proofs.EditLines.{IsEdited, SessionOver, at_chain, edit_done, edit_effect, edit_stopped, out_of_memory, stopped_faults}
+use Rattle.run_lines.proofs.Stopping.{same_stop, same_stop_faults}
+use Rattle.run_lines.specs.Stops.{Did, IsDone, stop_of}
+use Rattle.run_lines.specs.declared.stop.Stop.{Stop}
+use Rattle.run_lines.specs.declared.stop.Stop.TheVariants as stops
 use Rattle.run_lines.proofs.edits.edit.Goals as goal
 
-pub returns-in-Buffer-clause-edited : goal.returns-in-Buffer-clause-edited
-returns-in-Buffer-clause-edited g c = λ edit e.
-    let held = g.C.ChainMeaning.held c.args.chain.now in
-    subst (λ (x : Edit). IsEdited x c.create.result (record { buffers = c.args.buffers.now; held = g.C.ChainMeaning.held c.args.chain.now; counts = g.C.ChainMeaning.counts c.args.chain.now })
-    (record { buffers = c.create.new.self; held = g.C.ChainMeaning.held c.args.chain.now; counts = g.C.ChainMeaning.counts c.args.chain.now })) (the_edit (Create c.in-Buffer.name c.in-Buffer.format c.in-Buffer.rect) edit (rw c.in-Buffer.is at e))
-    (added_edit _ c.create.result c.args.buffers.now c.create.new.self held (g.C.ChainMeaning.counts c.args.chain.now) c.create.ensures.layout (c.create.ensures.table held) c.create.ensures.exact
-    c.create.ensures.cause c.create.ensures.carried_out (c.create.ensures.over held c.requires.over))
+pub returns-in_err-made-clause-did : goal.returns-in_err-made-clause-did
+returns-in_err-made-clause-did g c = λ shelf text reads writes puts exposed capacity state files holds.
+    same_stop exposed capacity c.args.line.now.number state files _ (stops.Ended ends.NoMemory) _ _ _ c.args.session.now (g.C.ChainMeaning.held c.args.chain.now) c.from_residual.ensures.1
+    (out_of_memory exposed capacity c.args.line.now.number state files _ _ c.args.session.now (g.C.ChainMeaning.held c.args.chain.now))
 
-pub returns-in-Sub-clause-edited : goal.returns-in-Sub-clause-edited
-returns-in-Sub-clause-edited g c = λ edit e.
-    let held = g.C.ChainMeaning.held c.args.chain.now in
-    subst (λ (x : Edit). IsEdited x c.sub.result (record { buffers = c.args.buffers.now; held = g.C.ChainMeaning.held c.args.chain.now; counts = g.C.ChainMeaning.counts c.args.chain.now })
-    (record { buffers = c.sub.new.self; held = g.C.ChainMeaning.held c.args.chain.now; counts = g.C.ChainMeaning.counts c.args.chain.now })) (the_edit (Sub c.in-Sub.name c.in-Sub.parent c.in-Sub.rect) edit (rw c.in-Sub.is at e))
-    (added_edit _ c.sub.result c.args.buffers.now c.sub.new.self held (g.C.ChainMeaning.counts c.args.chain.now) c.sub.ensures.layout (c.sub.ensures.table held) c.sub.ensures.exact
-    c.sub.ensures.cause c.sub.ensures.carried_out (c.sub.ensures.over held c.requires.over))
+pub returns-in_err-edit-clause-did : goal.returns-in_err-edit-clause-did
+returns-in_err-edit-clause-did g c = λ shelf text reads writes puts exposed capacity state files holds.
+    let line = c.args.line.now.number in
+    let command = c.args.line.now.command in
+    let old : SessionOver = record { parts = c.args.session.now; held = g.C.ChainMeaning.held c.args.chain.now; counts = g.C.ChainMeaning.counts c.args.chain.now } in
+    let new : SessionOver = record { parts = c.edit.new.self; held = g.C.ChainMeaning.held c.edit.new.chain; counts = g.C.ChainMeaning.counts c.edit.new.chain } in
+    let edit = c.in_ok-made.made in
+    let refused = c.in_err-edit.field-0.0 in
+    let edited : IsEdited edit (Err refused) old new = record {
+      carried_out = tt;
+      session = λ before of. tt;
+      exact = c.in_err-edit.ensures.exact;
+      cause = c.in_err-edit.ensures.cause;
+      capacity = c.in_err-edit.ensures.states.capacity;
+      content = c.in_err-edit.ensures.left.others.exposed;
+      counts = c.in_err-edit.ensures.left.counts;
+    } in
+    let before : Moment = at_chain shelf text reads writes puts old.counts in
+    let after : Moment = at_chain shelf text reads writes puts new.counts in
+    same_stop exposed capacity line state files _ (stop_of refused) _ _ _ new.parts new.held c.from_residual-in_err-edit.ensures.1
+    (subst (λ (done : Effect). Did exposed capacity line state files done (Err (stop_of refused)) before after new.parts new.held)
+    (edit_effect capacity state files line command edit c.in_ok-made.ensures.edit)
+    (edit_stopped exposed capacity line state files edit old new shelf text reads writes puts reads writes puts holds refused edited))
 
-pub returns-in-Copy-clause-edited : goal.returns-in-Copy-clause-edited
-returns-in-Copy-clause-edited g c = λ edit e.
-    let dx : SFits w64 c.in-Copy.dx = search rules in
-    let dy : SFits w64 c.in-Copy.dy = search rules in
-    subst (λ (x : Edit). IsEdited x c.copy.result (record { buffers = c.args.buffers.now; held = g.C.ChainMeaning.held c.args.chain.now; counts = g.C.ChainMeaning.counts c.args.chain.now })
-    (record { buffers = c.copy.new.self; held = g.C.ChainMeaning.held c.copy.new.chain; counts = g.C.ChainMeaning.counts c.copy.new.chain }))
-    (the_edit (Copy c.in-Copy.from c.in-Copy.to c.in-Copy.rect c.in-Copy.dx c.in-Copy.dy) edit (rw c.in-Copy.is at e))
-    (record {
-      layout = c.copy.ensures.layout;
-      table = simp to_z-of_z at c.copy.ensures.table;
-      exact = simp to_z-of_z at c.copy.ensures.exact;
-      cause = simp to_z-of_z at c.copy.ensures.cause;
-      carried_out = simp to_z-of_z at c.copy.ensures.carried_out;
-      over = c.copy.ensures.over;
-      content = c.copy.ensures.others.exposed;
-      counts = simp to_z-of_z at c.copy.ensures.counts;
-    })
+pub returns-in_err-edit-clause-faults : goal.returns-in_err-edit-clause-faults
+returns-in_err-edit-clause-faults g c = λ shelf text reads writes puts.
+    let old : SessionOver = record { parts = c.args.session.now; held = g.C.ChainMeaning.held c.args.chain.now; counts = g.C.ChainMeaning.counts c.args.chain.now } in
+    let new : SessionOver = record { parts = c.edit.new.self; held = g.C.ChainMeaning.held c.edit.new.chain; counts = g.C.ChainMeaning.counts c.edit.new.chain } in
+    let edit = c.in_ok-made.made in
+    let refused = c.in_err-edit.field-0.0 in
+    let edited : IsEdited edit (Err refused) old new = record {
+      carried_out = tt;
+      session = λ before of. tt;
+      exact = c.in_err-edit.ensures.exact;
+      cause = c.in_err-edit.ensures.cause;
+      capacity = c.in_err-edit.ensures.states.capacity;
+      content = c.in_err-edit.ensures.left.others.exposed;
+      counts = c.in_err-edit.ensures.left.counts;
+    } in
+    same_stop_faults (let stopped : Result (Unit {0}) Stop = Err (stop_of refused) in stopped) (stop_of refused) _ _ _ refl c.from_residual-in_err-edit.ensures.1
+    (stopped_faults edit old new shelf text reads writes puts refused edited)
+
+pub returns-clause-did : goal.returns-clause-did
+returns-clause-did g c = λ shelf text reads writes puts exposed capacity state files holds.
+    let line = c.args.line.now.number in
+    let command = c.args.line.now.command in
+    let old : SessionOver = record { parts = c.args.session.now; held = g.C.ChainMeaning.held c.args.chain.now; counts = g.C.ChainMeaning.counts c.args.chain.now } in
+    let new : SessionOver = record { parts = c.edit.new.self; held = g.C.ChainMeaning.held c.edit.new.chain; counts = g.C.ChainMeaning.counts c.edit.new.chain } in
+    let edit = c.in_ok-made.made in
+    let edited : IsEdited edit (Ok tt) old new = record {
+      carried_out = c.in_ok-edit.ensures.edited.carried_out;
+      session = c.in_ok-edit.ensures.session;
+      exact = c.in_ok-edit.ensures.exact;
+      cause = tt;
+      capacity = c.in_ok-edit.ensures.states.capacity;
+      content = c.in_ok-edit.ensures.left.others.exposed;
+      counts = c.in_ok-edit.ensures.left.counts;
+    } in
+    let before : Moment = at_chain shelf text reads writes puts old.counts in
+    let after : Moment = at_chain shelf text reads writes puts new.counts in
+    subst (λ (done : Effect). IsDone exposed capacity state files done before after new.parts new.held)
+    (edit_effect capacity state files line command edit c.in_ok-made.ensures.edit)
+    (edit_done exposed capacity line state files edit old new shelf text reads writes puts reads writes puts holds c.in_ok-made.ensures.proper edited)

@@ -7,15 +7,15 @@ use Rattle.run_lines.proofs.lines.carry_out_line.Goals as goal
 
 pub returns-in-Ok-clause-does : goal.returns-in-Ok-clause-does
 returns-in-Ok-clause-does g c = λ exposed capacity state files holds.
-    done_does exposed files _ _ _ _ _ (c.in-Ok.ensures.did exposed capacity state files holds)
+    done_does exposed capacity state files _ _ _ _ _ (c.in-Ok.ensures.did exposed capacity state files holds)
 
 pub returns-in-Err-Refused-clause-does : goal.returns-in-Err-Refused-clause-does
 returns-in-Err-Refused-clause-does g c = λ exposed capacity state files holds.
     let old : Moment = (record { files = g.F.Shelf.files c.args.shelf.now; text = g.O.Sink.written c.args.out.now; reads = g.F.Shelf.read_faults c.args.shelf.now; writes = g.F.Shelf.write_faults c.args.shelf.now; puts = g.O.Sink.faults c.args.out.now; chain = g.C.ChainMeaning.counts c.args.chain.now }) in
     let mid : Moment = (record { files = g.F.Shelf.files c.carry_out_command.new.shelf; text = g.O.Sink.written c.carry_out_command.new.out; reads = g.F.Shelf.read_faults c.carry_out_command.new.shelf; writes = g.F.Shelf.write_faults c.carry_out_command.new.shelf; puts = g.O.Sink.faults c.carry_out_command.new.out; chain = g.C.ChainMeaning.counts c.carry_out_command.new.chain }) in
     let new : Moment = (record { files = g.F.Shelf.files c.carry_out_command.new.shelf; text = g.O.Sink.written c.refuse.new.out; reads = g.F.Shelf.read_faults c.carry_out_command.new.shelf; writes = g.F.Shelf.write_faults c.carry_out_command.new.shelf; puts = g.O.Sink.faults c.refuse.new.out; chain = g.C.ChainMeaning.counts c.carry_out_command.new.chain }) in
-    refusal_does exposed c.args.line.now.number state files _ c.in-Err-Refused.cause c.refuse.result old mid new _ _
-    (refused_at exposed c.args.line.now.number state files _ _ c.in-Err-Refused.cause old mid _ _ c.in-Err-Refused.field-0-is (c.in-Err-Refused.ensures.did exposed capacity state files holds))
+    refusal_does exposed capacity c.args.line.now.number state files _ c.in-Err-Refused.cause c.refuse.result old mid new _ _
+    (refused_at exposed capacity c.args.line.now.number state files _ _ c.in-Err-Refused.cause old mid _ _ c.in-Err-Refused.field-0-is (c.in-Err-Refused.ensures.did exposed capacity state files holds))
     refl (c.refuse.ensures.cause 0 0).room (c.refuse.ensures.leaves mid.files)
 
 pub returns-in-Err-Refused-clause-faults : goal.returns-in-Err-Refused-clause-faults
@@ -27,4 +27,4 @@ returns-in-Err-Refused-clause-faults g c =
 
 pub returns-in-Err-Ended-clause-does : goal.returns-in-Err-Ended-clause-does
 returns-in-Err-Ended-clause-does g c = λ exposed capacity state files holds.
-    ended_does exposed c.args.line.now.number state files _ _ c.in-Err-Ended.end _ _ _ _ c.in-Err-Ended.field-0-is (c.in-Err-Ended.ensures.did exposed capacity state files holds)
+    ended_does exposed capacity c.args.line.now.number state files _ _ c.in-Err-Ended.end _ _ _ _ c.in-Err-Ended.field-0-is (c.in-Err-Ended.ensures.did exposed capacity state files holds)

@@ -1,6 +1,6 @@
-use Rattle.std.proofs.Common.{[], min, IsTrue, List, Result, refl, ap, subst}
+use Rattle.std.proofs.Common.{min, IsTrue, List, Result, refl, subst}
 use Rattle.chain_handlers.specs.OwnedTiles.{counts_over}
-use Rattle.model_runs.specs.Built.{needs_no_swap, options_with}
+use Rattle.model_runs.specs.Built.{needs_no_swap}
 use Rattle.model_runs.specs.Run.{by_grammar}
 use Rattle.script_read.specs.Script as grammar
 use Rattle.script_read.specs.Script.{script_of}
@@ -8,12 +8,13 @@ use Rattle.script_read.specs.declared.command.Line.{Line}
 use Rattle.run_events.proofs.Faults.{faults_by_cause}
 use Rattle.run_events.proofs.Leaving.{Leaves-same_outcome, nothing_done, exposed_any}
 use Rattle.script_run.proofs.Reading.{moment, read_carried, refused_outcome}
+use Rattle.run_words.specs.Meant.{options_meant}
 use Rattle.script_run.proofs.program.run_text.Goals as goal
 
 pub returns-in-Err-Refused-clause-carried : goal.returns-in-Err-Refused-clause-carried
 returns-in-Err-Refused-clause-carried g c =
-    let options = options_with c.args.limits.resident c.args.limits.blocks in
-    let chain = counts_over (g.D.SwapDisk.faults c.args.swap.now) (min c.args.limits.blocks (g.D.SwapDisk.block_count c.args.swap.now)) c.args.limits.resident in
+    let options = options_meant c.args.options in
+    let chain = counts_over (g.D.SwapDisk.faults c.args.swap.now) (min c.args.options.swap_blocks (g.D.SwapDisk.block_count c.args.swap.now)) c.args.options.resident in
     read_carried (g.F.Shelf.files c.args.shelf.now) _ options (λ files. by_grammar (script_of c.args.text.now)) c.refuse.result
     (moment (g.F.Shelf.files c.args.shelf.now) (g.O.Sink.written c.args.out.now) (g.F.Shelf.read_faults c.args.shelf.now) (g.F.Shelf.write_faults c.args.shelf.now) (g.O.Sink.faults c.args.out.now) chain)
     (moment (g.F.Shelf.files c.args.shelf.now) (g.O.Sink.written c.refuse.new.out) (g.F.Shelf.read_faults c.args.shelf.now) (g.F.Shelf.write_faults c.args.shelf.now) (g.O.Sink.faults c.refuse.new.out) chain)
@@ -24,7 +25,7 @@ returns-in-Err-Refused-clause-carried g c =
 
 pub returns-in-Err-NoMemory-clause-carried : goal.returns-in-Err-NoMemory-clause-carried
 returns-in-Err-NoMemory-clause-carried g c =
-    let options = options_with c.args.limits.resident c.args.limits.blocks in
+    let options = options_meant c.args.options in
     read_carried _ _ options (λ files. by_grammar (script_of c.args.text.now)) _ _ _ (λ e. cc)
     (exposed_any _ _ _ _ _ (λ files. nothing_done _ _))
 

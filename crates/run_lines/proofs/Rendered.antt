@@ -1,0 +1,247 @@
+-- What lines leave that write a file of a node.
+use Rattle.std.proofs.Common.{◌≡◌, ◌≢◌, ℕ, ◌*◌, Bool, true, false, IsTrue, cond, List, length, Option, Some, None, Result, Ok, Err, IsSome, is_some, is_none, refl, sym, ap, ◌∙◌, subst, arith}
+use Rattle.std.specs.Prelude.{◌&&◌}
+use Rattle.std.specs.Map.{values_of}
+use Rattle.chain_owners.specs.Counts.{Continues, Counts, IsFullOver}
+use Rattle.chain_owners.specs.Held.{Held}
+use Rattle.commit_session.specs.Parts.{Parts}
+use Rattle.commit_session.specs.Refusals.{IsRefusedAs, by_render}
+use Rattle.commit_session.specs.Rendering.{HasSameButCache, names_in_render}
+use Rattle.commit_session.specs.Seen.{IsSessionOf}
+use Rattle.commit_session.specs.declared.refused.SessionRefused.{SessionRefused}
+use Rattle.model_graphs.specs.Facts.{specs_of}
+use Rattle.model_graphs.specs.Node.{index_of}
+use Rattle.model_images.specs.Image.{Image}
+use Rattle.model_images.specs.Level.{level}
+use Rattle.model_images.specs.Paint.{cut}
+use Rattle.model_images.specs.Raw.{raw}
+use Rattle.model_operations.specs.Lawful.MeaningLaws.{is_boxed, is_dual, is_local}
+use Rattle.model_operations.specs.Lawful.SameLaws.{is_equality}
+use Rattle.model_operations.specs.Meanings.{int_meanings, same_operation}
+use Rattle.model_operations.specs.declared.operation.IntOp.{IntOp}
+use Rattle.model_runs.specs.Effects.{node_image, renders, writes}
+use Rattle.model_runs.specs.Ending.{Leaves}
+use Rattle.model_runs.specs.State.{Effect, RunState, number_in, scene_in}
+use Rattle.model_runs.specs.declared.ending.End.{End}
+use Rattle.model_runs.specs.declared.ending.End.TheVariants as ends
+use Rattle.model_sessions.proofs.Actions.{action_keeps}
+use Rattle.model_sessions.specs.Sessions.{IsSession, Render, with_render}
+use Rattle.model_states.specs.Cache.{by_pair, needed_pairs, with_bytes}
+use Rattle.model_sessions.specs.Sessions.{render_need}
+use Rattle.model_states.specs.Damage.{IsStated}
+use Rattle.model_states.specs.Edits.{has_node}
+use Rattle.model_states.specs.Need.{wide}
+use Rattle.node_cache.specs.Stores.{AddsNoOther}
+use Rattle.node_tiles.specs.Stated.{shape_at}
+use Rattle.outside_io.specs.Faults.{Rose}
+use Rattle.outside_io.specs.Files.{Files}
+use Rattle.pixel_formats.specs.Format.{pixel_bytes}
+use Rattle.plane_rect.specs.Rectangle.{Rectangle, area, scaled}
+use Rattle.render_workers.specs.Refusals.{CanBeRendered, IsRefusedBy}
+use Rattle.render_workers.specs.Requests.{Request, request, strips_needed}
+use Rattle.render_workers.specs.declared.refused.RenderRefused.{RenderRefused}
+use Rattle.render_workers.specs.declared.refused.RenderRefused.TheVariants as render_refusals
+use Rattle.run_events.proofs.Carrying.{Exceeds-more, nothing_carried}
+use Rattle.run_events.specs.Carried.{CarriesOut, Exceeds, most_of_line, outcome_of_line}
+use Rattle.run_events.specs.Moments.{HasFaults, Moment, world_at}
+use Rattle.run_lines.proofs.CachedNames.{names-fall}
+use Rattle.run_lines.proofs.LookingUp.{all-grow}
+use Rattle.run_lines.proofs.RenderLines.{has-same, planned, render-bytes, render-length, render-names, render-narrow, render-unknown, render-wide, rendered, wide-same}
+use Rattle.run_lines.proofs.Writing.{Wants, file-carried, file-ended, file-written}
+use Rattle.run_lines.specs.States.{Holds}
+use Rattle.run_lines.specs.Stops.{Did, IsDone, IsEnded, end_of, stop_of}
+use Rattle.run_texts.specs.Events.{events_alone}
+use Rattle.run_texts.specs.Texts.{render_text}
+use Rattle.swap_store.specs.Cause.{HasSwapCause}
+
+-- names that fill a swap exceed what there is for them
+full-exceeds : (counts : Counts) (names needed longest : ℕ) → IsFullOver counts.used counts.capacity names needed longest → Exceeds counts names
+full-exceeds counts names needed longest full = by counts.used full
+  where
+    by : (used : Option ℕ) → IsFullOver used counts.capacity names needed longest → Exceeds (record counts { used = used }) names
+    by None full = absurd full
+    by (Some used) full = (full.past, full.room)
+
+-- a test that can't fail passes
+pub passes : (b : Bool) → (b ≡ false → ⊥) → b ≡ true
+passes true never = refl
+passes false never = absurd (never refl)
+
+none-there : (o : Option Rectangle) → IsSome o → o ≡ None → ⊥
+none-there None some none = absurd (cc)
+none-there (Some x) some none = absurd (cc)
+
+-- the session after a render that isn't refused is valid
+render-valid : (capacity : ℕ) (state : RunState) (name : List ℕ) (z : ℕ) (r : Rectangle) → IsSession int_meanings capacity state.session → has_node (scene_in state).nodes name ≡ true →
+    wide capacity (render_need int_meanings (scene_in state) name z r) ≡ None → IsSession int_meanings capacity (with_render int_meanings capacity state.session name z r)
+render-valid capacity state name z r valid there narrow =
+    let session = state.session in
+    let can : (has_node (scene_in state).nodes name && is_none (wide capacity (render_need int_meanings (scene_in state) name z r))) ≡ true =
+    ap (λ (b : Bool). b && is_none (wide capacity (render_need int_meanings (scene_in state) name z r))) there ∙ ap (λ (o : Option ℕ). true && is_none o) narrow in
+    subst (λ (b : Bool). IsSession int_meanings capacity (cond b (with_render int_meanings capacity session name z r) session)) can
+    (action_keeps same_operation int_meanings (record { local = is_local; dual = is_dual }) is_boxed is_equality.apart capacity session (Render name z r) valid tt)
+
+-- What a render answered: a patch of the rectangle, in the node's format, and of its image where the chain exposes its
+-- bytes.
+pub record IsShown (exposed : Bool) (state : RunState) (parts : Parts IntOp) (name : List ℕ) (z : ℕ) (r : Rectangle) (patch : Image) (bytes : List ℕ) : Type 0 where
+  pub box : patch.box ≡ r
+  pub format : patch.format ≡ (shape_at parts.graph.latest.nodes (index_of (specs_of parts.graph.latest.nodes) name)).format
+  pub image : IsTrue exposed → patch ≡ cut (level (node_image state name) z) r
+  pub raw_is : bytes ≡ raw patch patch.box
+  pub count : length bytes ≡ area patch.box * pixel_bytes patch.format
+
+-- The session that a render left which isn't refused.
+pub record IsLeft (state : RunState) (old new : Parts IntOp) (held later : Held) (name : List ℕ) (z : ℕ) (r : Rectangle) (before after : Counts) : Type 0 where
+  pub session : IsSessionOf same_operation int_meanings new later (with_render int_meanings old.capacity state.session name z r)
+  pub states : HasSameButCache old new
+  pub content : is_some later.content ≡ is_some held.content
+  pub continues : Continues before after
+  pub others : AddsNoOther before after (values_of old.entries) (values_of new.entries)
+
+module _ (exposed : Bool) (capacity line : ℕ) (state : RunState) (files : Files) (parts later : Parts IntOp) (held after_held : Held) (name : List ℕ) (z : ℕ) (r : Rectangle) (target : List ℕ) (before after : Moment)
+    (holds : Holds exposed capacity state files parts held before.files) (stated_is : IsStated int_meanings parts.graph.latest) where
+  abbrev done : Effect
+  done = rendered exposed capacity line state files parts held before.files name z r target holds stated_is
+
+  abbrev given : Effect
+  given = renders capacity line state name z r target
+
+  abbrev wanted : List ℕ
+  wanted = planned exposed capacity line state files parts held before.files name z r target holds stated_is
+
+  abbrev asked : Request
+  asked = request name z r
+
+  -- ---- renders that are refused
+
+  module _ (files_same : after.files ≡ before.files) (text_same : after.text ≡ before.text) where
+    ended : (end : End) → end ≢ ends.Refused → (end ≡ ends.SwapFull → Exceeds before.chain (most_of_line capacity state before.chain.names done)) → IsEnded exposed capacity state done end before after
+    ended end other full = record {
+      other = other;
+      carried = nothing_carried exposed (outcome_of_line done) (most_of_line capacity state before.chain.names done) end before after other files_same text_same full;
+    }
+
+    full-at : (needed longest : ℕ) → CanBeRendered int_meanings parts.graph.latest.nodes asked parts.capacity →
+        IsFullOver before.chain.used before.chain.capacity (names_in_render int_meanings parts asked before.chain) needed longest → Exceeds before.chain (most_of_line capacity state before.chain.names done)
+    full-at needed longest can full =
+        let names = names_in_render int_meanings parts asked before.chain in
+        let is = render-narrow exposed capacity line state files parts held before.files name z r target holds stated_is can.node can.narrow in
+        subst (λ (e : Effect). Exceeds before.chain (most_of_line capacity state before.chain.names e)) (sym is)
+        (Exceeds-more before.chain names (most_of_line capacity state before.chain.names given)
+        (render-names exposed capacity line state files parts held before.files name z r target holds stated_is before.chain) (full-exceeds before.chain names needed longest full))
+
+    by-lower : IsSome (scaled z r) → (lower : RenderRefused) →
+        IsRefusedBy int_meanings parts.graph.latest.nodes asked parts.capacity (HasSwapCause before.chain after.chain (names_in_render int_meanings parts asked before.chain)) lower →
+        Did exposed capacity line state files done (Err (stop_of (by_render lower))) before after later after_held
+    by-lower inside render_refusals.UnknownNode cause =
+        record { effect = render-unknown exposed capacity line state files parts held before.files name z r target holds stated_is cause; files = files_same; text = text_same }
+    by-lower inside render_refusals.Rect cause = absurd (none-there (scaled z r) inside cause.1)
+    by-lower inside (render_refusals.Strip needed most) cause =
+        record { effect = render-wide exposed capacity line state files parts held before.files name z r target holds stated_is needed cause.node cause.needed_is; files = files_same; text = text_same }
+    by-lower inside render_refusals.SwapFault cause = ended ends.SwapFault (λ e. cc) (λ e. absurd (cc))
+    by-lower inside (render_refusals.SwapFull needed longest) cause = ended ends.SwapFull (λ e. cc) (λ e. full-at needed longest cause.0 cause.1)
+    by-lower inside render_refusals.NoMemory cause = ended ends.NoMemory (λ e. cc) (λ e. absurd (cc))
+
+    pub render-stopped : (refused : SessionRefused) → IsSome (scaled z r) →
+        IsRefusedAs by_render (IsRefusedBy int_meanings parts.graph.latest.nodes asked parts.capacity (HasSwapCause before.chain after.chain (names_in_render int_meanings parts asked before.chain))) refused →
+        Did exposed capacity line state files done (Err (stop_of refused)) before after later after_held
+    render-stopped refused inside cause =
+        subst (λ (s : SessionRefused). Did exposed capacity line state files done (Err (stop_of s)) before after later after_held) (sym cause.is)
+        (by-lower inside cause.lower cause.by_cause)
+
+  -- ---- a render that isn't refused
+
+  module _ (there : has_node (specs_of parts.graph.latest.nodes) name ≡ true) (narrow : wide parts.capacity (strips_needed int_meanings parts.graph.latest.nodes asked) ≡ None)
+      (patch : Image) (bytes : List ℕ) (shown : IsShown exposed state parts name z r patch bytes) (number : ℕ) (number_is : number ≡ number_in state)
+      (result : Result (Unit {0}) End) (room : result ≢ Err ends.SwapFull)
+      (leaves : Leaves (events_alone (writes target bytes (render_text line number (length bytes)))) result (world_at before) (world_at after)) where
+    gives : done ≡ given
+    gives = render-narrow exposed capacity line state files parts held before.files name z r target holds stated_is there narrow
+
+    wants : Wants exposed given target wanted bytes (render_text line number (length bytes))
+    wants =
+        let long = render-length exposed capacity line state files parts held before.files name z r target holds stated_is patch bytes shown.box shown.format shown.count in
+        record {
+          events = ap (λ (n : ℕ). writes target wanted (render_text line n (length wanted))) (sym number_is) ∙ ap (λ (n : ℕ). writes target wanted (render_text line number n)) long;
+          none = refl;
+          as_long = long;
+          as_wanted = λ e. shown.raw_is ∙ render-bytes exposed capacity line state files parts held before.files name z r target holds stated_is patch shown.box (shown.image e);
+        }
+
+    -- its file or its text ends the run
+    pub render-ended : (end : End) → result ≡ Err end → IsEnded exposed capacity state done end before after
+    render-ended end err =
+        subst (λ (e : Effect). IsEnded exposed capacity state e end before after) (sym gives)
+        (file-ended exposed given target wanted bytes (render_text line number (length bytes)) wants result before after leaves capacity state end room err)
+
+    -- its file is written and its text put
+    pub render-done : result ≡ Ok tt → IsLeft state parts later held after_held name z r before.chain after.chain → IsDone exposed capacity state files done before after later after_held
+    render-done ok left =
+        let cached = state.session.cached in
+        let next = with_render int_meanings capacity state.session name z r in
+        let text = render_text line number (length bytes) in
+        let pairs = needed_pairs (scene_in state).nodes (render_need int_meanings (scene_in state) name z r) in
+        let grow = all-grow by_pair (with_bytes int_meanings (scene_in state)) (Some capacity) cached pairs in
+        let session : IsSessionOf same_operation int_meanings later after_held next =
+        subst (λ (n : ℕ). IsSessionOf same_operation int_meanings later after_held (with_render int_meanings n state.session name z r)) holds.as_many left.session in
+        let has = sym (has-same exposed capacity line state files parts held before.files name z r target holds stated_is) ∙ there in
+        let fits = sym (wide-same exposed capacity line state files parts held before.files name z r target holds stated_is) ∙ narrow in
+        let filed = file-written exposed given target wanted bytes text wants result before after leaves files ok holds.alike holds.same in
+        subst (λ (e : Effect). IsDone exposed capacity state files e before after later after_held) (sym gives)
+        (record {
+          carried = subst (λ (r : Result (Unit {0}) End). CarriesOut exposed (outcome_of_line given) (most_of_line capacity state before.chain.names given) r before after) ok
+              (file-carried exposed given target wanted bytes text wants result before after leaves (most_of_line capacity state before.chain.names given) room);
+          next = record {
+            session = session;
+            valid = render-valid capacity state name z r holds.valid has fits;
+            applied = omega (arith, grow, holds.applied);
+            as_many = left.states.capacity ∙ holds.as_many;
+            unwatched = holds.unwatched;
+            content = left.content ∙ holds.content;
+            alike = filed.alike;
+            same = filed.same;
+          };
+          names = names-fall state given.next before.chain after.chain parts later held after_held left.continues left.others holds.session.cached session.cached;
+        })
+
+-- ---- I/O errors
+
+-- a part that touches no device but the chain, and ends nothing
+pub chain-faults : (old new : Moment) → new.reads ≡ old.reads → new.writes ≡ old.writes → new.puts ≡ old.puts → Continues old.chain new.chain → HasFaults (Ok tt) old new
+chain-faults old new reads writes puts continues = record {
+  read = λ e. absurd (cc);
+  write = λ e. absurd (cc);
+  put = λ e. absurd (cc);
+  swap = λ e. absurd (cc);
+  reads = omega (arith, reads);
+  writes = omega (arith, writes);
+  puts = omega (arith, puts);
+  chain = continues;
+}
+
+-- a render touches no device but the chain
+pub render-faults : (refused : SessionRefused) (can : RenderRefused → Type 0) (old new : Moment) → IsRefusedAs by_render can refused →
+    (can render_refusals.SwapFault → Rose old.chain.faults new.chain.faults) → new.reads ≡ old.reads → new.writes ≡ old.writes → new.puts ≡ old.puts → Continues old.chain new.chain →
+    HasFaults (end_of {A = Unit {0}} (Err (stop_of refused))) old new
+render-faults refused can old new is swap reads writes puts continues =
+    subst (λ (s : SessionRefused). HasFaults (end_of {A = Unit {0}} (Err (stop_of s))) old new) (sym is.is) (by is.lower is.by_cause)
+  where
+    at : (end : End) → end ≢ ends.ReadFault → end ≢ ends.WriteFault → end ≢ ends.OutputFault → (end ≡ ends.SwapFault → Rose old.chain.faults new.chain.faults) → HasFaults (Err end) old new
+    at end read write put rose = record {
+      read = λ e. absurd (read (cc));
+      write = λ e. absurd (write (cc));
+      put = λ e. absurd (put (cc));
+      swap = λ e. rose (cc);
+      reads = omega (arith, reads);
+      writes = omega (arith, writes);
+      puts = omega (arith, puts);
+      chain = continues;
+    }
+
+    by : (lower : RenderRefused) → can lower → HasFaults (end_of {A = Unit {0}} (Err (stop_of (by_render lower)))) old new
+    by render_refusals.UnknownNode cause = at ends.Refused (λ e. cc) (λ e. cc) (λ e. cc) (λ e. absurd (cc))
+    by render_refusals.Rect cause = at ends.Refused (λ e. cc) (λ e. cc) (λ e. cc) (λ e. absurd (cc))
+    by (render_refusals.Strip needed capacity) cause = at ends.Refused (λ e. cc) (λ e. cc) (λ e. cc) (λ e. absurd (cc))
+    by render_refusals.SwapFault cause = at ends.SwapFault (λ e. cc) (λ e. cc) (λ e. cc) (λ e. swap cause)
+    by (render_refusals.SwapFull needed longest) cause = at ends.SwapFull (λ e. cc) (λ e. cc) (λ e. cc) (λ e. absurd (cc))
+    by render_refusals.NoMemory cause = at ends.NoMemory (λ e. cc) (λ e. cc) (λ e. cc) (λ e. absurd (cc))

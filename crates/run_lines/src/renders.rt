@@ -1,0 +1,102 @@
+//! Lines that write a file of a node.
+
+ghost use Rattle.std.specs.Prelude.{◌≡◌, ℕ, Bool, IsTrue, length};
+ghost use Rattle.commit_session.specs.Seen.{IsOver};
+ghost use Rattle.model_operations.specs.Meanings.{int_meanings, same_operation};
+ghost use Rattle.model_runs.specs.Effects.{effect, writes};
+ghost use Rattle.model_runs.specs.Ending.{Leaves};
+ghost use Rattle.model_runs.specs.State.{RunState};
+ghost use Rattle.outside_io.specs.Files.{Files};
+ghost use Rattle.run_events.specs.Causes.{HasCause};
+ghost use Rattle.run_events.specs.Moments.{HasFaults};
+ghost use Rattle.run_lines.specs.Commands.{is_render};
+ghost use Rattle.run_lines.specs.States.{Holds};
+ghost use Rattle.run_lines.specs.Stops.{Did, end_of};
+ghost use Rattle.run_texts.specs.Events.{events_alone};
+ghost use Rattle.run_texts.specs.Texts.{render_text as text_of_render};
+ghost use Rattle.script_read.specs.Limits.{IsInLimits};
+
+use crate::stop::Stop;
+use chain_contracts::TileChain;
+use commit_session::SessionState;
+use int_ops::{IntKit, IntPurse};
+use model_operations::IntOp;
+use model_runs::End;
+use outside_io::{Shelf, Sink};
+use run_events::{put_text, write_file};
+use run_texts::render_text;
+use script_read::{Command, FileName, Line};
+use std::alloc::Global;
+
+/// How many permits a render has: as many as any may spend.
+const RENDER_PERMITS: u64 = 1 << 32;
+
+/// Carries out a line that writes a file of a level of a node.
+pub(crate) fn render<C: TileChain, F: Shelf, O: Sink>(
+    alloc: Global,
+    line: &Line,
+    session: &mut SessionState<IntOp>,
+    chain: &mut C,
+    shelf: &mut F,
+    out: &mut O,
+) -> Result<(), Stop>
+    requires over { IsOver same_operation int_meanings session.old (C.held chain.old) }
+    requires limits { IsInLimits line.now.command }
+    requires render { IsTrue (is_render line.now.command) }
+    ensures did { (exposed : Bool) (capacity : ℕ) (state : RunState) (files : Files) →
+        Holds exposed capacity state files session.old (C.held chain.old) (F.files shelf.old) →
+        Did exposed capacity line.now.number state files (effect capacity state files line.now.number line.now.command) result
+        (record { files = F.files shelf.old; text = O.written out.old; reads = F.read_faults shelf.old; writes = F.write_faults shelf.old; puts = O.faults out.old; chain = C.counts chain.old })
+        (record { files = F.files shelf.new; text = O.written out.new; reads = F.read_faults shelf.new; writes = F.write_faults shelf.new; puts = O.faults out.new; chain = C.counts chain.new })
+        session.new (C.held chain.new) }
+    ensures faults { HasFaults (end_of result)
+        (record { files = F.files shelf.old; text = O.written out.old; reads = F.read_faults shelf.old; writes = F.write_faults shelf.old; puts = O.faults out.old; chain = C.counts chain.old })
+        (record { files = F.files shelf.new; text = O.written out.new; reads = F.read_faults shelf.new; writes = F.write_faults shelf.new; puts = O.faults out.new; chain = C.counts chain.new }) }
+    ensures over { IsOver same_operation int_meanings session.new (C.held chain.new) }
+    ensures loans { C.loans chain.new ≡ C.loans chain.old }
+    ensures valid { C.is_valid chain.old → C.is_valid chain.new }
+{
+    let Command::Render {
+        name,
+        level,
+        rect,
+        file,
+    } = &line.command
+    else {
+        unreachable!()
+    };
+    let mut purse = IntPurse::new(RENDER_PERMITS);
+    let patch = session.render(&IntKit, chain, &mut purse, *name, *level, *rect)?;
+    let bytes = patch.raw_bytes();
+    write_render(
+        alloc,
+        line.number,
+        session.number(),
+        bytes,
+        file,
+        shelf,
+        out,
+    )?;
+    Ok(())
+}
+
+/// Writes the file of a render line, and puts its text.
+fn write_render<F: Shelf, O: Sink>(
+    alloc: Global,
+    line: u32,
+    commit: u64,
+    bytes: &[u8],
+    file: &FileName,
+    shelf: &mut F,
+    out: &mut O,
+) -> Result<(), End>
+    ensures leaves { Leaves (events_alone (writes file.now bytes.now (text_of_render line commit (length bytes.now)))) result
+        (record { files = F.files shelf.old; text = O.written out.old }) (record { files = F.files shelf.new; text = O.written out.new }) }
+    ensures cause { HasCause result
+        (record { reads = F.read_faults shelf.old; writes = F.write_faults shelf.old; puts = O.faults out.old })
+        (record { reads = F.read_faults shelf.new; writes = F.write_faults shelf.new; puts = O.faults out.new }) }
+{
+    let text = render_text(alloc, line, commit, bytes.len())?;
+    write_file(bytes, file, shelf)?;
+    put_text(&text, out)
+}

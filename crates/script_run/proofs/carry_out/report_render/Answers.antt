@@ -1,9 +1,0 @@
-use Rattle.std.proofs.Common.{◌≡◌, ◌∙◌}
-use Rattle.run_texts.specs.Texts.{render_text}
-use Rattle.run_events.proofs.Leaving.{Leaves-same_text}
-use Rattle.script_run.proofs.carry_out.report_render.Goals as goal
-
-pub returns-clause-leaves : goal.returns-clause-leaves
-returns-clause-leaves g c = λ files.
-    let text : c.deref.result.now ≡ render_text c.args.line 1 c.args.bytes = c.deref.ensures ∙ c.in_ok-text.ensures in
-    Leaves-same_text _ _ _ _ _ text (c.put_text.ensures.leaves files)
