@@ -16,6 +16,7 @@ pub use held_laws::{
 pub use owners_laws::{
     calls_respect_beside, calls_respect_in_any_order, calls_respect_in_turn, disowning_respects,
     new_names_respect, no_change_respects, only_owners_stay_alone, others_are_unchanged,
-    others_keep_bytes, others_still_own, owners_own_fewer, owning_respects, rewriting_respects, times_add_up,
+    others_keep_bytes, others_still_own, owners_own_fewer, owning_respects, rewriting_respects,
+    times_add_up,
 };
 pub use run::Run;

@@ -40,7 +40,7 @@ owning-first all held = record { done = []; count = λ q. omega arith; lengths =
 pub owning-next : (all left rest : List ℕ) (name : ℕ) (old now new : Held) → left ≡ name ∷ rest → new ≡ owned now name → Owning all left old now → Owning all rest old new
 owning-next all left rest name old now new is is_new before =
     let some : 0 < times (before.done ++ all) name =
-        omega (arith, times-append before.done all name, before.count name, ap (λ (l : List ℕ). times l name) is, times-here rest name) in
+    omega (arith, times-append before.done all name, before.count name, ap (λ (l : List ℕ). times l name) is, times-here rest name) in
     let more : Respects now new (before.done ++ all) (name ∷ before.done ++ all) = rw is_new (owned-respects now (before.done ++ all) name (inr some)) in
     record {
       done = name ∷ before.done;
