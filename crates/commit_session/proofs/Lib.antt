@@ -5,6 +5,10 @@ pub mod Working
 pub mod Changed
 pub mod Same
 pub mod Hulls
+pub mod Requested
+pub mod Rendered
+pub mod Handed
+pub mod Acting
 pub mod Voided
 pub mod Still
 pub mod Stepped

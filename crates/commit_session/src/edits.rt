@@ -82,6 +82,7 @@ impl<Op: OpMeaning + Drop> SessionState<Op> {
     pub fn note(&mut self, edit: NodeEdit<Op>) -> Result<(), SessionRefused>
         ensures noted { OnOk result (self.new ≡ record self.old { pending = self.old.pending ++ edit ∷ [] }) }
         ensures unchanged { OnErr result (self.new ≡ self.old) }
+        ensures cause { IfErr result (λ refused. refused ≡ NoMemory) }
         ensures session { (held : Held) (session : Session Table Op) → IsSessionOf Op.same Op.meanings self.old held session →
             OnOk result (IsSessionOf Op.same Op.meanings self.new held
             (record session { history = after_step Op.meanings session.history (EditNode edit) })) }
