@@ -2,10 +2,11 @@
 use Rattle.std.proofs.Common.{◌≡◌, ℕ, List, ◌++◌, arith}
 use Rattle.std.specs.Map.{values_of}
 use Rattle.chain_owners.specs.Owners.{Owns}
-use Rattle.chain_owners.proofs.Ownership.{others-own, others-unchanged, owns-fewer, times-append}
+use Rattle.chain_owners.proofs.Ownership.{alone-stays, others-own, others-unchanged, owns-fewer, times-append}
 use Rattle.root_tiles.specs.Chains.{ChainState}
 use Rattle.node_cache.specs.NodeLaws.{node_framed, node_framed_condition, node_framed_sizes}
 use Rattle.node_cache.specs.NodeNames.{Entries, IsNodeCache, cached_in, sizes_in}
+use Rattle.node_cache.specs.Stores.{HaveOneOwner}
 use Rattle.session_states.specs.OverChains.{Leaves}
 use Rattle.session_states.proofs.Names.{leaves-beside}
 
@@ -16,6 +17,11 @@ module _ (added : ℕ) (before after : List ℕ) (s0 s1 : ChainState) (leaves : 
 
   cache-owned : Owns s1.held (values_of es)
   cache-owned = owns-fewer s1.held (after ++ values_of es) (values_of es) (λ q. omega (arith, times-append after (values_of es) q)) session-owned
+
+  pub alone-again : HaveOneOwner s0.held (values_of es) → HaveOneOwner s1.held (values_of es)
+  alone-again alone = record {
+    one = λ q some. alone-stays s0.held s1.held before after leaves.others (values_of es) owned q some (alone.one q some);
+  }
 
   pub cache-again : (most capacity : ℕ) → IsNodeCache es most capacity s0.held → IsNodeCache es most capacity s1.held
   cache-again most capacity is =

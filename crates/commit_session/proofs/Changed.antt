@@ -28,7 +28,7 @@ use Rattle.session_states.specs.Versions.{Versions, new_versions}
 use Rattle.commit_session.specs.Parts.{Parts, new_parts, session_names}
 use Rattle.commit_session.specs.Seen.{IsOver, IsSessionOf}
 use Rattle.commit_session.specs.Steps.{after_writing}
-use Rattle.commit_session.proofs.Cached.{cache-again, cached-again, session-left, session-owned, sizes-again}
+use Rattle.commit_session.proofs.Cached.{alone-again, cache-again, cached-again, session-left, session-owned, sizes-again}
 use Rattle.commit_session.proofs.Working.{edit-number, session-edited, session-noted, session-shown, valid-edited, with_edited}
 use Rattle.model_sessions.proofs.Actions.{first_session}
 use Rattle.model_sessions.specs.Sessions.{new_session}
@@ -96,6 +96,7 @@ module _ {Op : Type 0} (same : Op → Op → Bool) (meanings : Meanings Op) wher
     pub over-shown : AreShownAgain v.versions.working edited.working s0.held s1.held → IsOver same meanings (final v.written) s1.held
     over-shown again = record {
       owned = session-owned added (versions_names v.versions) (versions_names edited) s0 s1 leaves v.entries owned;
+      alone = alone-again added (versions_names v.versions) (versions_names edited) s0 s1 leaves v.entries owned over.alone;
       over = versions.over;
       cache = cache-again added (versions_names v.versions) (versions_names edited) s0 s1 leaves v.entries owned v.most v.capacity over.cache;
       session = requires.session;
@@ -108,6 +109,7 @@ module _ {Op : Type 0} (same : Op → Op → Bool) (meanings : Meanings Op) wher
         → written ≡ after_writing v.written (written_by v.versions.working.layout edit) → IsOver same meanings (final written) s1.held
     over-edited laws boxed apart edit written proper made noted = record {
       owned = session-owned added (versions_names v.versions) (versions_names edited) s0 s1 leaves v.entries owned;
+      alone = alone-again added (versions_names v.versions) (versions_names edited) s0 s1 leaves v.entries owned over.alone;
       over = versions.over;
       cache = cache-again added (versions_names v.versions) (versions_names edited) s0 s1 leaves v.entries owned v.most v.capacity over.cache;
       session = record requires.session { history = after_step meanings requires.session.history (EditBuffer edit) };
@@ -125,6 +127,7 @@ module _ {Op : Type 0} (same : Op → Op → Bool) (meanings : Meanings Op) wher
       → IsOver same meanings (record parts { pending = parts.pending ++ edit ∷ [] }) held
   over-noted laws boxed apart parts edit held over = record {
     owned = over.owned;
+    alone = over.alone;
     over = over.over;
     cache = over.cache;
     session = record over.session { history = after_step meanings over.session.history (EditNode edit) };
@@ -165,6 +168,7 @@ module _ {Op : Type 0} (same : Op → Op → Bool) (meanings : Meanings Op) wher
       → AreVersionsOver (new_versions empty_table) held → IsOver same meanings (new_parts capacity) held
   over-first laws boxed apart capacity held cache versions = record {
     owned = versions.owned;
+    alone = record { one = λ q some. absurd (omega (arith, some)) };
     over = versions.over;
     cache = cache;
     session = new_session;

@@ -3,3 +3,4 @@ pub mod Seen
 pub mod Steps
 pub mod Refusals
 pub mod Rendering
+pub mod Edits

@@ -1,15 +1,19 @@
 -- What renders make of what a session holds.
-use Rattle.std.specs.Prelude.{◌≡◌, ℕ, ◌+◌, ◌-◌, ◌≤◌, min, length, List}
+use Rattle.std.specs.Prelude.{◌≡◌, ℕ, ◌+◌, ◌-◌, ⊤, Bool, List, Some, length, min}
 use Rattle.std.specs.Map.{values_of}
-use Rattle.plane_rect.specs.Rectangle.{Rectangle}
 use Rattle.chain_owners.specs.Counts.{Counts}
+use Rattle.chain_owners.specs.Held.{Held}
 use Rattle.model_buffers.specs.Counts.{names_after_render}
+use Rattle.model_buffers.specs.Table.{Table}
 use Rattle.model_graphs.specs.Meanings.{Meanings}
-use Rattle.model_states.specs.Cache.{Counted, Pair, all_looked_up, itself, uncounted}
-use Rattle.model_sessions.specs.Sessions.{max_count}
+use Rattle.model_states.specs.Cache.{Cached, Counted, Pair, all_looked_up, itself, uncounted}
+use Rattle.model_sessions.specs.Sessions.{Session, max_count}
 use Rattle.render_workers.specs.Requests.{Request, pairs_requested}
+use Rattle.render_workers.specs.declared.refused.RenderRefused.TheVariants as renders
 use Rattle.commit_session.specs.Parts.{Parts, cached_pairs}
-use Rattle.std.specs.Prelude.{Some}
+use Rattle.commit_session.specs.Seen.{IsSessionOf}
+use Rattle.commit_session.specs.declared.refused.SessionRefused.{SessionRefused}
+use Rattle.commit_session.specs.declared.refused.SessionRefused.TheVariants.{Buffer, Graph, Render, NoMemory}
 
 -- the cached pairs and both counts of a request, once its pairs are looked up in their order
 abbrev pub looked_up_by : {Op : Type 0} → Meanings Op → Parts Op → Request → Counted Pair
@@ -38,3 +42,22 @@ abbrev pub names_in_render : {Op : Type 0} → Meanings Op → Parts Op → Requ
 names_in_render meanings parts request counts =
     names_after_render (counts.names - length (values_of parts.entries)) (length (cached_pairs parts)) parts.capacity
     (looked_up_by meanings parts request).applied
+
+-- ---- refusals
+
+-- what holds of a refusal by the plan of a render, which comes before anything is looked up
+abbrev pub OnPlanRefused : Type 0 → SessionRefused → Type 0
+OnPlanRefused P (Render renders.UnknownNode) = P
+OnPlanRefused P (Render renders.Rect) = P
+OnPlanRefused P (Render (renders.Strip needed capacity)) = P
+OnPlanRefused P (Render renders.SwapFault) = ⊤
+OnPlanRefused P (Render (renders.SwapFull needed longest)) = ⊤
+OnPlanRefused P (Render renders.NoMemory) = ⊤
+OnPlanRefused P (Buffer refused) = ⊤
+OnPlanRefused P (Graph refused) = ⊤
+OnPlanRefused P NoMemory = ⊤
+
+-- A session is held with other cached pairs.
+pub record IsRecached {Op : Type 0} (same : Op → Op → Bool) (meanings : Meanings Op) (parts : Parts Op) (held : Held) (session : Session Table Op) : Type 0 where
+  pub list : List Cached
+  pub is : IsSessionOf same meanings parts held (record session { cached = record session.cached { list = list } })

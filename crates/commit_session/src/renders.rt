@@ -9,21 +9,20 @@ ghost use Rattle.model_graphs.specs.Node.{index_of};
 ghost use Rattle.model_graphs.specs.Permits.{Spent};
 ghost use Rattle.model_images.specs.Level.{level as level_of};
 ghost use Rattle.model_images.specs.Paint.{cut};
-ghost use Rattle.model_sessions.specs.Sessions.{Session, last_scene, with_render};
+ghost use Rattle.model_sessions.specs.Sessions.{Session, after_render, last_scene};
 ghost use Rattle.model_states.specs.Damage.{IsStated};
 ghost use Rattle.model_states.specs.Edits.{has_node};
-ghost use Rattle.model_states.specs.Need.{wide};
 ghost use Rattle.model_states.specs.State.{image_of};
 ghost use Rattle.swap_store.specs.Cause.{HasSwapCause};
 ghost use Rattle.node_cache.specs.Stores.{AddsNoOther};
 ghost use Rattle.node_tiles.specs.Stated.{shape_at};
-ghost use Rattle.render_workers.specs.Refusals.{IsRefusedBy};
-ghost use Rattle.render_workers.specs.Requests.{pairs_requested, request, strips_needed};
+ghost use Rattle.render_workers.specs.Refusals.{CanBeRendered, IsRefusedBy};
+ghost use Rattle.render_workers.specs.Requests.{pairs_requested, request};
 ghost use Rattle.render_workers.specs.declared.refused.RenderRefused.TheVariants.{Rect as OutsideLimits, UnknownNode};
 ghost use Rattle.session_states.specs.OverChains.{Leaves};
 ghost use Rattle.commit_session.specs.Parts.{session_names};
 ghost use Rattle.commit_session.specs.Refusals.{IsRefusedAs, by_render};
-ghost use Rattle.commit_session.specs.Rendering.{HasSameButCache, IsRendered, looked_up_by, names_in_render};
+ghost use Rattle.commit_session.specs.Rendering.{HasSameButCache, IsRecached, IsRendered, OnPlanRefused, looked_up_by, names_in_render};
 ghost use Rattle.commit_session.specs.Seen.{IsOver, IsSessionOf};
 ghost use Rattle.commit_session.specs.declared.refused.SessionRefused.TheVariants.{Render};
 
@@ -36,6 +35,7 @@ use node_cache::PairStore;
 use op_contracts::OpKit;
 use patch_abyss::Patch;
 use plane_rect::{Name, Rect};
+use render_workers::laws::requests_need_what_renders_need;
 
 impl<Op: OpMeaning + Drop> SessionState<Op> {
     /// Returns a rectangle of a level of the image of a node of the last state. Each tile that it needs is looked
@@ -73,9 +73,8 @@ impl<Op: OpMeaning + Drop> SessionState<Op> {
         ensures rendered { OnOk result (IsRendered Op.meanings (request node level rect) self.old self.new) }
         ensures session { (session : Session Table Op) → IsSessionOf Op.same Op.meanings self.old (C.held chain.old) session →
             OnOk result (IsSessionOf Op.same Op.meanings self.new (C.held chain.new)
-            (with_render Op.meanings self.old.capacity session node level rect)) }
-        ensures narrow { OnOk result (wide self.old.capacity
-            (strips_needed Op.meanings self.old.graph.latest.nodes (request node level rect)) ≡ None) }
+            (after_render Op.meanings self.old.capacity session node level rect)) }
+        ensures can { OnOk result (CanBeRendered Op.meanings self.old.graph.latest.nodes (request node level rect) self.old.capacity) }
         ensures stated { IsStated Op.meanings self.old.graph.latest }
         ensures unknown { has_node (specs_of self.old.graph.latest.nodes) node ≡ false →
             result ≡ Err (Render UnknownNode) }
@@ -85,10 +84,16 @@ impl<Op: OpMeaning + Drop> SessionState<Op> {
             (IsRefusedBy Op.meanings self.old.graph.latest.nodes (request node level rect) self.old.capacity
             (HasSwapCause (C.counts chain.old) (C.counts chain.new)
             (names_in_render Op.meanings self.old (request node level rect) (C.counts chain.old))))) }
+        ensures unchanged { IfErr result (OnPlanRefused ((self.new ≡ self.old) × (C.held chain.new ≡ C.held chain.old)
+            × (C.counts chain.new ≡ C.counts chain.old) × (K.permits purse.new ≡ K.permits purse.old))) }
+        ensures refused_session { (session : Session Table Op) → IsSessionOf Op.same Op.meanings self.old (C.held chain.old) session →
+            OnErr result (IsRecached Op.same Op.meanings self.new (C.held chain.new) session) }
         ensures states { HasSameButCache self.old self.new }
         ensures uncounted { OnErr result ((self.new.applied ≡ self.old.applied) × (self.new.reused ≡ self.old.reused)) }
-        ensures permits { IfOk result (λ _. Spent (K.permits purse.old) (K.permits purse.new)
-            (looked_up_by Op.meanings self.old (request node level rect)).applied) }
+        ensures permits { MatchResult result
+            (λ _. Spent (K.permits purse.old) (K.permits purse.new) (looked_up_by Op.meanings self.old (request node level rect)).applied)
+            (λ _. (K.permits purse.new ≤ K.permits purse.old) × (K.permits purse.old ≤ K.permits purse.new
+            + length (pairs_requested Op.meanings self.old.graph.latest.nodes (request node level rect)))) }
         ensures over { IsOver Op.same Op.meanings self.new (C.held chain.new) }
         ensures other_names { AddsNoOther (C.counts chain.old) (C.counts chain.new) (values_of self.old.entries) (values_of self.new.entries) }
         ensures left { Leaves (length (pairs_requested Op.meanings self.old.graph.latest.nodes (request node level rect)))
@@ -96,6 +101,7 @@ impl<Op: OpMeaning + Drop> SessionState<Op> {
             (record { held = C.held chain.old; counts = C.counts chain.old; loans = C.loans chain.old; valid = C.is_valid chain.old })
             (record { held = C.held chain.new; counts = C.counts chain.new; loans = C.loans chain.new; valid = C.is_valid chain.new }) }
     {
+        requests_need_what_renders_need::<Op>();
         let capacity = PairStore::<C>::bound(&self.cache).unwrap();
         let mut sources = BufferTiles::new(self.versions.latest());
         let done = render_workers::render(

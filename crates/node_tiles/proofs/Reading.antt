@@ -1,7 +1,8 @@
 -- Several reads of tiles are one.
-use Rattle.std.proofs.Common.{ℕ, ◌+◌, ◌∙◌, refl, arith}
+use Rattle.std.proofs.Common.{◌≡◌, ℕ, ◌+◌, ◌∙◌, List, [], refl, ap, arith}
 use Rattle.chain_owners.specs.Counts.{Counts, Grows}
-use Rattle.chain_owners.proofs.Ownership.{respects-both, respects-same}
+use Rattle.chain_owners.specs.Owners.{Respects, times}
+use Rattle.chain_owners.proofs.Ownership.{respects-beside, respects-both, respects-same}
 use Rattle.swap_store.specs.Cause.{HasSwapCause}
 use Rattle.swap_store.specs.declared.refusal.SwapRefused.{SwapRefused}
 use Rattle.swap_store.proofs.Causes.{cause-before, cause-more}
@@ -22,7 +23,7 @@ reads-none a = record {
   facts = refl;
   images = refl;
   names = refl;
-  others = respects-same a.held a.names;
+  others = respects-same a.held [];
   owners = refl;
   counts = record { continues = record { used = refl; capacity = refl; later = omega arith }; names = omega arith };
   loans = refl;
@@ -33,11 +34,20 @@ reads-both a b c first second = record {
   facts = second.facts ∙ first.facts;
   images = second.images ∙ first.images;
   names = second.names ∙ first.names;
-  others = respects-both a.held b.held a.names b.names first.others c.held c.names second.others;
+  others = respects-both a.held b.held [] [] first.others c.held [] second.others;
   owners = second.owners ∙ first.owners;
   counts = grows-both 0 0 a.counts b.counts c.counts first.counts second.counts;
   loans = second.loans ∙ first.loans;
 }
+
+-- the owners of other names than these are respected
+pub reads-beside : (a b : Seen) → Reads a b → (before after : List ℕ) → after ≡ before → Respects a.held b.held before after
+reads-beside a b reads before after same =
+    respects-beside a.held b.held [] [] reads.others before after before (λ q. omega arith)
+    (λ q. let is : times after q ≡ times before q = ap (λ (ns : List ℕ). times ns q) same in omega (arith, is))
+
+pub reads-others : (a b : Seen) → Reads a b → Respects a.held b.held a.names b.names
+reads-others a b reads = reads-beside a b reads a.names b.names reads.names
 
 -- a refusal after reads has the cause that it has from their beginning on
 pub cause-then : (a b c : Seen) (refused : SwapRefused) → Reads a b → HasSwapCause b.counts c.counts b.counts.names refused

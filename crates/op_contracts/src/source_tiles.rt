@@ -1,6 +1,6 @@
 //! Where the tiles of buffers come from.
 
-ghost use Rattle.std.specs.Prelude.{◌≡◌, ℕ, List, Option, IfErr, IfOk, IsSome};
+ghost use Rattle.std.specs.Prelude.{◌≡◌, ℕ, [], List, Option, IfErr, IfOk, IsSome};
 ghost use Rattle.chain_owners.specs.Counts.{Grows};
 ghost use Rattle.chain_owners.specs.Held.{Held};
 ghost use Rattle.chain_owners.specs.Owners.{IsFramed, Owns, Respects};
@@ -32,8 +32,8 @@ pub trait SourceTiles<H: ChainMeaning> {
     ghost is_over: { Self → Held → Type 0 };
 
     /// Returns the 64 by 64 pixels of a tile of a buffer, zero outside the buffer's box. Whatever it
-    /// answers, the buffers and their images are unchanged, the other owners' names too, no name has
-    /// other owners than before, and the chain has no name more.
+    /// answers, the buffers and their images are unchanged, each name that has an owner keeps its bytes,
+    /// also the source's own, no name has other owners than before, and the chain has no name more.
     ///
     /// # Errors
     ///
@@ -48,7 +48,7 @@ pub trait SourceTiles<H: ChainMeaning> {
         ensures facts { facts self.new ≡ facts self.old }
         ensures images { images self.new (H.held chain.new) ≡ images self.old (H.held chain.old) }
         ensures over { is_over self.new (H.held chain.new) }
-        ensures others { Respects (H.held chain.old) (H.held chain.new) (names self.old) (names self.new) }
+        ensures others { Respects (H.held chain.old) (H.held chain.new) [] [] }
         ensures names { names self.new ≡ names self.old }
         ensures owners { (H.held chain.new).owners ≡ (H.held chain.old).owners }
         ensures counts { Grows 0 (H.counts chain.old) (H.counts chain.new) }

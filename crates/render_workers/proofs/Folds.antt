@@ -8,7 +8,7 @@ use Rattle.strip_renders.specs.Strips.{counted, most_cached, most_names}
 use Rattle.strip_renders.proofs.Names.{few-names}
 
 -- so many more are counted
-abbrev more : {X : Type 0} → ℕ → ℕ → Counted X → Counted X
+abbrev pub more : {X : Type 0} → ℕ → ℕ → Counted X → Counted X
 more applied reused c = counted c.list (applied + c.applied) (reused + c.reused)
 
 module _ {X : Type 0} (key : X → Pair) (fresh : Pair → X) (capacity : Option ℕ) where
@@ -26,7 +26,7 @@ module _ {X : Type 0} (key : X → Pair) (fresh : Pair → X) (capacity : Option
           ap (λ (n : ℕ). counted (recent_of key fresh capacity before.list pair (Some x)) (applied + before.applied) n) same
 
   -- counts of before don't matter to the list, and are added
-  shifted : (applied reused : ℕ) (before : Counted X) (pairs : List Pair)
+  pub shifted : (applied reused : ℕ) (before : Counted X) (pairs : List Pair)
       → all_looked_up key fresh capacity (more applied reused before) pairs ≡ more applied reused (all_looked_up key fresh capacity before pairs)
   shifted applied reused before [] = refl
   shifted applied reused before (pair ∷ pairs) =
@@ -39,7 +39,7 @@ module _ {X : Type 0} (key : X → Pair) (fresh : Pair → X) (capacity : Option
       let second : reused ≡ reused + 0 = omega arith in
       ap (λ (n : ℕ). counted list n reused) first ∙ ap (λ (n : ℕ). counted list (applied + 0) n) second
 
-  looked-counted : (list : List X) (applied reused : ℕ) (pairs : List Pair)
+  pub looked-counted : (list : List X) (applied reused : ℕ) (pairs : List Pair)
       → all_looked_up key fresh capacity (counted list applied reused) pairs ≡ more applied reused (all_looked_up key fresh capacity (uncounted list) pairs)
   looked-counted list applied reused pairs =
       ap (λ (c : Counted X). all_looked_up key fresh capacity c pairs) (recounted list applied reused)

@@ -11,7 +11,7 @@ use Rattle.swap_store.specs.declared.refusal.SwapRefused.{SwapRefused}
 use Rattle.swap_store.proofs.Causes.{cause-before, cause-more}
 use Rattle.node_cache.specs.Stores.{AddsNoOther, HaveOneOwner}
 use Rattle.node_tiles.specs.Reads.{Reads, Seen, seen}
-use Rattle.node_tiles.proofs.Reading.{grows-both}
+use Rattle.node_tiles.proofs.Reading.{grows-both, reads-beside}
 use Rattle.strip_renders.specs.Moments.{Keeps, Moment, names_of}
 
 -- what a moment has of its source and its chain
@@ -32,10 +32,7 @@ keeps-reads old new reads capacity names = record {
   images = reads.images;
   source_names = reads.names;
   capacity = capacity;
-  others =
-      respects-beside old.held new.held old.source_names new.source_names reads.others (names_of old) (names_of new) old.cache_names
-      (times-append old.source_names old.cache_names)
-      (λ q. times-append new.source_names new.cache_names q ∙ ap (λ (ns : List ℕ). times new.source_names q + times ns q) names);
+  others = reads-beside (source_of old) (source_of new) reads old.cache_names new.cache_names names;
   one_owner = λ have. record {
     one = λ name held.
         let owners : owners_of new.held name ≡ owners_of old.held name = owners-same old.held new.held reads.owners name in
@@ -65,10 +62,7 @@ keeps-turns added old new turns facts images names = record {
   images = images;
   source_names = names;
   capacity = turns.capacity;
-  others =
-      respects-beside old.held new.held old.cache_names new.cache_names turns.others (names_of old) (names_of new) old.source_names
-      (λ q. omega (arith, times-append old.source_names old.cache_names q))
-      (λ q. omega (arith, times-append new.source_names new.cache_names q, ap (λ (ns : List ℕ). times ns q) names));
+  others = turns.others;
   one_owner = turns.one_owner;
   other_names = turns.other_names;
   counts = turns.counts;
@@ -81,12 +75,20 @@ keeps-both first second a b c one two = record {
   images = two.images ∙ one.images;
   source_names = two.source_names ∙ one.source_names;
   capacity = two.capacity ∙ one.capacity;
-  others = respects-both a.held b.held (names_of a) (names_of b) one.others c.held (names_of c) two.others;
+  others = respects-both a.held b.held a.cache_names b.cache_names one.others c.held c.cache_names two.others;
   one_owner = λ have. two.one_owner (one.one_owner have);
   other_names = λ have. record { names = omega (arith, (one.other_names have).names, (two.other_names (one.one_owner have)).names) };
   counts = grows-both first second a.counts b.counts c.counts one.counts two.counts;
   loans = two.loans ∙ one.loans;
 }
+
+-- the owners of other names than both hold are respected
+pub keeps-others : (added : ℕ) (old new : Moment) → Keeps added old new → Respects old.held new.held (names_of old) (names_of new)
+keeps-others added old new keeps =
+    respects-beside old.held new.held old.cache_names new.cache_names keeps.others (names_of old) (names_of new) old.source_names
+    (λ q. omega (arith, times-append old.source_names old.cache_names q))
+    (λ q. let is : times new.source_names q ≡ times old.source_names q = ap (λ (ns : List ℕ). times ns q) keeps.source_names in
+    omega (arith, is, times-append new.source_names new.cache_names q))
 
 -- fewer names are at most so many
 pub keeps-most : (added more : ℕ) (a b : Moment) → added ≤ more → Keeps added a b → Keeps more a b

@@ -19,7 +19,7 @@ use Rattle.node_tiles.specs.Stated.{AreTilesOf, HaveLengths, scene_of}
 use Rattle.node_tiles.proofs.Reading.{reads-none}
 use Rattle.strip_renders.specs.Moments.{Keeps, Moment, names_of}
 use Rattle.strip_renders.specs.Strips.{AreKnownRight, HoldsNeed, IsPermitted, IsRendered, counted, list_after, pairs_needed}
-use Rattle.strip_renders.proofs.Moments.{keeps-reads, source_of}
+use Rattle.strip_renders.proofs.Moments.{keeps-others, keeps-reads, source_of}
 
 -- ---- needed tiles by their index
 
@@ -110,7 +110,7 @@ keeps-none now = keeps-reads now now (reads-none (source_of now)) refl refl
 pub owned-kept : (added : ℕ) (old new : Moment) → Keeps added old new → Owns old.held (names_of old) → Owns new.held (names_of new)
 owned-kept added old new keeps owns =
     owns-fewer new.held (names_of new ++ []) (names_of new) (λ q. omega (arith, times-append (names_of new) [] q))
-    (others-own old.held new.held (names_of old) (names_of new) keeps.others []
+    (others-own old.held new.held (names_of old) (names_of new) (keeps-others added old new keeps) []
     (owns-fewer old.held (names_of old) (names_of old ++ []) (λ q. omega (arith, times-append (names_of old) [] q)) owns))
 
 -- no tile is needed yet

@@ -43,14 +43,14 @@ abbrev pub names_of : Moment → List ℕ
 names_of now = now.source_names ++ now.cache_names
 
 -- What is left whatever a render answers: the buffers, their images and the names that the source holds are unchanged,
--- so are the cache's capacity, the other owners and the loans, and the chain has so many names more at most. Where each
--- cached name had one owner it has again, and no name more isn't the cache's.
+-- so are the cache's capacity, the loans and all owners but the cache, of which the source is one, and the chain has so
+-- many names more at most. Where each cached name had one owner it has again, and no name more isn't the cache's.
 pub record Keeps (added : ℕ) (old new : Moment) : Type 0 where
   pub facts : new.facts ≡ old.facts
   pub images : new.images ≡ old.images
   pub source_names : new.source_names ≡ old.source_names
   pub capacity : new.capacity ≡ old.capacity
-  pub others : Respects old.held new.held (names_of old) (names_of new)
+  pub others : Respects old.held new.held old.cache_names new.cache_names
   pub one_owner : HaveOneOwner old.held old.cache_names → HaveOneOwner new.held new.cache_names
   pub other_names : HaveOneOwner old.held old.cache_names → AddsNoOther old.counts new.counts old.cache_names new.cache_names
   pub counts : Grows added old.counts new.counts

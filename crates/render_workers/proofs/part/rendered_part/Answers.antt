@@ -6,6 +6,7 @@ use Rattle.model_states.specs.Need.{strip_of}
 use Rattle.model_states.specs.Valid.{AreStated}
 use Rattle.roi_planner.proofs.Widths.{handed-on}
 use Rattle.node_tiles.specs.Reads.{Reads}
+use Rattle.node_tiles.proofs.Reading.{reads-others}
 use Rattle.strip_renders.specs.Moments.{moment, names_of}
 use Rattle.strip_renders.specs.Strips.{pairs_needed}
 use Rattle.strip_renders.proofs.Moments.{owns-last, source_of}
@@ -40,8 +41,8 @@ returns-in_err-patch-clause-leaves g c =
     let leaves : Leaves meanings nodes pairs old mid before after = c.in_ok-done.ensures.leaves in
     let owned : Owns mid.held (names_of mid) = owned-kept (length pairs) old mid leaves.keeps c.requires.owned in
     let reads : Reads (source_of mid) (source_of end) = c.in_err-patch.ensures.reads in
-    let cached : end.cached ≡ mid.cached = seen-unchanged mid.held end.held mid.source_names end.source_names reads.others mid.cache_names (g.C.PairStore.cached c.held_strip.new.cache) (g.met.C.PairStore.framed c.held_strip.new.cache) owned in
-    let sizes : end.sizes ≡ mid.sizes = seen-unchanged mid.held end.held mid.source_names end.source_names reads.others mid.cache_names (g.C.PairStore.sizes c.held_strip.new.cache) (g.met.C.PairStore.framed_sizes c.held_strip.new.cache) owned in
+    let cached : end.cached ≡ mid.cached = seen-unchanged mid.held end.held mid.source_names end.source_names (reads-others _ _ reads) mid.cache_names (g.C.PairStore.cached c.held_strip.new.cache) (g.met.C.PairStore.framed c.held_strip.new.cache) owned in
+    let sizes : end.sizes ≡ mid.sizes = seen-unchanged mid.held end.held mid.source_names end.source_names (reads-others _ _ reads) mid.cache_names (g.C.PairStore.sizes c.held_strip.new.cache) (g.met.C.PairStore.framed_sizes c.held_strip.new.cache) owned in
     leaves-reads meanings nodes pairs old mid end before after reads refl refl sizes cached leaves
 
 pub returns-in_err-patch-clause-cache_over : goal.returns-in_err-patch-clause-cache_over
@@ -56,8 +57,8 @@ returns-in_err-patch-clause-cache_over g c =
     let owned : Owns mid.held (names_of mid) = owned-kept (length pairs) old mid leaves.keeps c.requires.owned in
     let reads : Reads (source_of mid) (source_of end) = c.in_err-patch.ensures.reads in
     g.met.C.PairStore.framed_condition c.held_strip.new.cache mid.held end.held c.in_ok-done.ensures.cache_over reads.others.exposed
-    (others-unchanged mid.held end.held mid.source_names end.source_names reads.others mid.cache_names owned)
-    (owns-last end.held end.source_names mid.cache_names (others-own mid.held end.held mid.source_names end.source_names reads.others mid.cache_names owned))
+    (others-unchanged mid.held end.held mid.source_names end.source_names (reads-others _ _ reads) mid.cache_names owned)
+    (owns-last end.held end.source_names mid.cache_names (others-own mid.held end.held mid.source_names end.source_names (reads-others _ _ reads) mid.cache_names owned))
 
 pub returns-in_err-patch-clause-excused : goal.returns-in_err-patch-clause-excused
 returns-in_err-patch-clause-excused g c =
@@ -88,7 +89,7 @@ returns-clause-looks g c =
     let leaves : Leaves meanings nodes pairs old mid before after = c.in_ok-done.ensures.leaves in
     let owned : Owns mid.held (names_of mid) = owned-kept (length pairs) old mid leaves.keeps c.requires.owned in
     let reads : Reads (source_of mid) (source_of end) = c.in_ok-patch.ensures.reads in
-    let cached : end.cached ≡ mid.cached = seen-unchanged mid.held end.held mid.source_names end.source_names reads.others mid.cache_names (g.C.PairStore.cached c.held_strip.new.cache) (g.met.C.PairStore.framed c.held_strip.new.cache) owned in
+    let cached : end.cached ≡ mid.cached = seen-unchanged mid.held end.held mid.source_names end.source_names (reads-others _ _ reads) mid.cache_names (g.C.PairStore.cached c.held_strip.new.cache) (g.met.C.PairStore.framed c.held_strip.new.cache) owned in
     let done = c.in_ok-done.done in
     looks-reads meanings nodes pairs old mid end before after reads refl done.applied done.reused refl cached c.in_ok-done.ensures.looks
 
@@ -109,8 +110,8 @@ returns-clause-leaves g c =
     let leaves : Leaves meanings nodes pairs old mid before after = c.in_ok-done.ensures.leaves in
     let owned : Owns mid.held (names_of mid) = owned-kept (length pairs) old mid leaves.keeps c.requires.owned in
     let reads : Reads (source_of mid) (source_of end) = c.in_ok-patch.ensures.reads in
-    let cached : end.cached ≡ mid.cached = seen-unchanged mid.held end.held mid.source_names end.source_names reads.others mid.cache_names (g.C.PairStore.cached c.held_strip.new.cache) (g.met.C.PairStore.framed c.held_strip.new.cache) owned in
-    let sizes : end.sizes ≡ mid.sizes = seen-unchanged mid.held end.held mid.source_names end.source_names reads.others mid.cache_names (g.C.PairStore.sizes c.held_strip.new.cache) (g.met.C.PairStore.framed_sizes c.held_strip.new.cache) owned in
+    let cached : end.cached ≡ mid.cached = seen-unchanged mid.held end.held mid.source_names end.source_names (reads-others _ _ reads) mid.cache_names (g.C.PairStore.cached c.held_strip.new.cache) (g.met.C.PairStore.framed c.held_strip.new.cache) owned in
+    let sizes : end.sizes ≡ mid.sizes = seen-unchanged mid.held end.held mid.source_names end.source_names (reads-others _ _ reads) mid.cache_names (g.C.PairStore.sizes c.held_strip.new.cache) (g.met.C.PairStore.framed_sizes c.held_strip.new.cache) owned in
     leaves-reads meanings nodes pairs old mid end before after reads refl refl sizes cached leaves
 
 pub returns-clause-cache_over : goal.returns-clause-cache_over
@@ -125,5 +126,5 @@ returns-clause-cache_over g c =
     let owned : Owns mid.held (names_of mid) = owned-kept (length pairs) old mid leaves.keeps c.requires.owned in
     let reads : Reads (source_of mid) (source_of end) = c.in_ok-patch.ensures.reads in
     g.met.C.PairStore.framed_condition c.held_strip.new.cache mid.held end.held c.in_ok-done.ensures.cache_over reads.others.exposed
-    (others-unchanged mid.held end.held mid.source_names end.source_names reads.others mid.cache_names owned)
-    (owns-last end.held end.source_names mid.cache_names (others-own mid.held end.held mid.source_names end.source_names reads.others mid.cache_names owned))
+    (others-unchanged mid.held end.held mid.source_names end.source_names (reads-others _ _ reads) mid.cache_names owned)
+    (owns-last end.held end.source_names mid.cache_names (others-own mid.held end.held mid.source_names end.source_names (reads-others _ _ reads) mid.cache_names owned))

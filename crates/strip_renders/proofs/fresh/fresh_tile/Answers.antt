@@ -8,6 +8,7 @@ use Rattle.swap_store.specs.Cause.{HasSwapCause}
 use Rattle.node_cache.specs.Stores.{pair_at}
 use Rattle.node_tiles.specs.Reads.{Reads}
 use Rattle.node_tiles.proofs.Places.{ready-inside}
+use Rattle.node_tiles.proofs.Reading.{reads-others}
 use Rattle.roi_planner.proofs.Widths.{handed-on}
 use Rattle.strip_renders.specs.Looks.{HasSameCache, IsKept}
 use Rattle.strip_renders.specs.Moments.{moment}
@@ -25,8 +26,8 @@ returns-in_err-tile-clause-kept g c =
     let source1 = g.S.SourceTiles.names c.evaluate.new.sources in
     let cached = g.C.PairStore.names c.args.cache.now in
     let reads : Reads (source_of old) (source_of mid) = c.in_err-tile.ensures.reads in
-    let sizes : mid.sizes ≡ old.sizes = seen-unchanged h0 h1 source source1 reads.others cached (g.C.PairStore.sizes c.args.cache.now) (g.met.C.PairStore.framed_sizes c.args.cache.now) c.requires.owned in
-    let bytes : mid.cached ≡ old.cached = seen-unchanged h0 h1 source source1 reads.others cached (g.C.PairStore.cached c.args.cache.now) (g.met.C.PairStore.framed c.args.cache.now) c.requires.owned in
+    let sizes : mid.sizes ≡ old.sizes = seen-unchanged h0 h1 source source1 (reads-others _ _ reads) cached (g.C.PairStore.sizes c.args.cache.now) (g.met.C.PairStore.framed_sizes c.args.cache.now) c.requires.owned in
+    let bytes : mid.cached ≡ old.cached = seen-unchanged h0 h1 source source1 (reads-others _ _ reads) cached (g.C.PairStore.cached c.args.cache.now) (g.met.C.PairStore.framed c.args.cache.now) c.requires.owned in
     matched-err c.from_residual.result (λ tile. IsKept old mid (pair_of (specs_of c.args.nodes.now) (c.args.node, c.args.at)) tile) (HasSameCache old mid) _ c.from_residual.ensures.1
     (record { pairs = refl; sizes = sizes; cached = bytes })
 
@@ -44,8 +45,8 @@ returns-in_err-tile-clause-cache_over g c =
     let source1 = g.S.SourceTiles.names c.evaluate.new.sources in
     let cached = g.C.PairStore.names c.args.cache.now in
     g.met.C.PairStore.framed_condition c.args.cache.now h0 h1 c.requires.cache_over c.in_err-tile.ensures.reads.others.exposed
-    (others-unchanged h0 h1 source source1 c.in_err-tile.ensures.reads.others cached c.requires.owned)
-    (owns-last h1 source1 cached (others-own h0 h1 source source1 c.in_err-tile.ensures.reads.others cached c.requires.owned))
+    (others-unchanged h0 h1 source source1 (reads-others _ _ c.in_err-tile.ensures.reads) cached c.requires.owned)
+    (owns-last h1 source1 cached (others-own h0 h1 source source1 (reads-others _ _ c.in_err-tile.ensures.reads) cached c.requires.owned))
 
 pub returns-in_err-share-clause-kept : goal.returns-in_err-share-clause-kept
 returns-in_err-share-clause-kept g c =
@@ -57,8 +58,8 @@ returns-in_err-share-clause-kept g c =
     let source1 = g.S.SourceTiles.names c.evaluate.new.sources in
     let cached = g.C.PairStore.names c.args.cache.now in
     let reads : Reads (source_of old) (source_of mid) = c.in_ok-tile.ensures.reads in
-    let sizes : mid.sizes ≡ old.sizes = seen-unchanged h0 h1 source source1 reads.others cached (g.C.PairStore.sizes c.args.cache.now) (g.met.C.PairStore.framed_sizes c.args.cache.now) c.requires.owned in
-    let bytes : mid.cached ≡ old.cached = seen-unchanged h0 h1 source source1 reads.others cached (g.C.PairStore.cached c.args.cache.now) (g.met.C.PairStore.framed c.args.cache.now) c.requires.owned in
+    let sizes : mid.sizes ≡ old.sizes = seen-unchanged h0 h1 source source1 (reads-others _ _ reads) cached (g.C.PairStore.sizes c.args.cache.now) (g.met.C.PairStore.framed_sizes c.args.cache.now) c.requires.owned in
+    let bytes : mid.cached ≡ old.cached = seen-unchanged h0 h1 source source1 (reads-others _ _ reads) cached (g.C.PairStore.cached c.args.cache.now) (g.met.C.PairStore.framed c.args.cache.now) c.requires.owned in
     matched-err c.from_residual-in_err-share.result (λ tile. IsKept old mid (pair_of (specs_of c.args.nodes.now) (c.args.node, c.args.at)) tile) (HasSameCache old mid) _ c.from_residual-in_err-share.ensures.1
     (record { pairs = refl; sizes = sizes; cached = bytes })
 
@@ -76,8 +77,8 @@ returns-in_err-share-clause-cache_over g c =
     let source1 = g.S.SourceTiles.names c.evaluate.new.sources in
     let cached = g.C.PairStore.names c.args.cache.now in
     g.met.C.PairStore.framed_condition c.args.cache.now h0 h1 c.requires.cache_over c.in_ok-tile.ensures.reads.others.exposed
-    (others-unchanged h0 h1 source source1 c.in_ok-tile.ensures.reads.others cached c.requires.owned)
-    (owns-last h1 source1 cached (others-own h0 h1 source source1 c.in_ok-tile.ensures.reads.others cached c.requires.owned))
+    (others-unchanged h0 h1 source source1 (reads-others _ _ c.in_ok-tile.ensures.reads) cached c.requires.owned)
+    (owns-last h1 source1 cached (others-own h0 h1 source source1 (reads-others _ _ c.in_ok-tile.ensures.reads) cached c.requires.owned))
 
 pub keep-requires-clause-over : goal.keep-requires-clause-over
 keep-requires-clause-over g c =
@@ -87,8 +88,8 @@ keep-requires-clause-over g c =
     let source1 = g.S.SourceTiles.names c.evaluate.new.sources in
     let cached = g.C.PairStore.names c.args.cache.now in
     g.met.C.PairStore.framed_condition c.args.cache.now h0 h1 c.requires.cache_over c.in_ok-tile.ensures.reads.others.exposed
-    (others-unchanged h0 h1 source source1 c.in_ok-tile.ensures.reads.others cached c.requires.owned)
-    (owns-last h1 source1 cached (others-own h0 h1 source source1 c.in_ok-tile.ensures.reads.others cached c.requires.owned))
+    (others-unchanged h0 h1 source source1 (reads-others _ _ c.in_ok-tile.ensures.reads) cached c.requires.owned)
+    (owns-last h1 source1 cached (others-own h0 h1 source source1 (reads-others _ _ c.in_ok-tile.ensures.reads) cached c.requires.owned))
 
 pub keep-requires-clause-absent : goal.keep-requires-clause-absent
 keep-requires-clause-absent g c =
@@ -118,7 +119,7 @@ returns-in_err-keep-clause-keeps g c =
       loans = c.in_err-keep.ensures.loans;
       capacity = c.in_err-keep.ensures.capacity;
     } in
-    let owned : Owns h1 (cached ++ source1) = owns-turned h1 source1 cached (others-own h0 h1 source source1 c.in_ok-tile.ensures.reads.others cached c.requires.owned) in
+    let owned : Owns h1 (cached ++ source1) = owns-turned h1 source1 cached (others-own h0 h1 source source1 (reads-others _ _ c.in_ok-tile.ensures.reads) cached c.requires.owned) in
     let images : new.images ≡ mid.images = seen-unchanged h1 h2 cached cached2 c.in_err-keep.ensures.others source1 (g.S.SourceTiles.images c.evaluate.new.sources) (g.met.S.SourceTiles.framed c.evaluate.new.sources) owned in
     keeps-both 0 1 old mid new (keeps-reads old mid c.in_ok-tile.ensures.reads refl refl) (keeps-turns 1 mid new turns refl images refl)
 
@@ -131,7 +132,7 @@ returns-in_err-keep-clause-sources_over g c =
     let cached = g.C.PairStore.names c.args.cache.now in
     let h2 = g.H.ChainMeaning.held c.keep.new.chain in
     let cached2 = g.C.PairStore.names c.keep.new.self in
-    let owned : Owns h1 (cached ++ source1) = owns-turned h1 source1 cached (others-own h0 h1 source source1 c.in_ok-tile.ensures.reads.others cached c.requires.owned) in
+    let owned : Owns h1 (cached ++ source1) = owns-turned h1 source1 cached (others-own h0 h1 source source1 (reads-others _ _ c.in_ok-tile.ensures.reads) cached c.requires.owned) in
     g.met.S.SourceTiles.framed_condition c.evaluate.new.sources h1 h2 c.in_ok-tile.ensures.over c.in_err-keep.ensures.others.exposed
     (others-unchanged h1 h2 cached cached2 c.in_err-keep.ensures.others source1 owned)
     (owns-last h2 cached2 source1 (others-own h1 h2 cached cached2 c.in_err-keep.ensures.others source1 owned))
@@ -156,7 +157,7 @@ returns-clause-keeps g c =
       loans = c.in_ok-keep.ensures.loans;
       capacity = c.in_ok-keep.ensures.capacity;
     } in
-    let owned : Owns h1 (cached ++ source1) = owns-turned h1 source1 cached (others-own h0 h1 source source1 c.in_ok-tile.ensures.reads.others cached c.requires.owned) in
+    let owned : Owns h1 (cached ++ source1) = owns-turned h1 source1 cached (others-own h0 h1 source source1 (reads-others _ _ c.in_ok-tile.ensures.reads) cached c.requires.owned) in
     let images : new.images ≡ mid.images = seen-unchanged h1 h2 cached cached2 c.in_ok-keep.ensures.others source1 (g.S.SourceTiles.images c.evaluate.new.sources) (g.met.S.SourceTiles.framed c.evaluate.new.sources) owned in
     keeps-both 0 1 old mid new (keeps-reads old mid c.in_ok-tile.ensures.reads refl refl) (keeps-turns 1 mid new turns refl images refl)
 
@@ -169,7 +170,7 @@ returns-clause-sources_over g c =
     let cached = g.C.PairStore.names c.args.cache.now in
     let h2 = g.H.ChainMeaning.held c.keep.new.chain in
     let cached2 = g.C.PairStore.names c.keep.new.self in
-    let owned : Owns h1 (cached ++ source1) = owns-turned h1 source1 cached (others-own h0 h1 source source1 c.in_ok-tile.ensures.reads.others cached c.requires.owned) in
+    let owned : Owns h1 (cached ++ source1) = owns-turned h1 source1 cached (others-own h0 h1 source source1 (reads-others _ _ c.in_ok-tile.ensures.reads) cached c.requires.owned) in
     g.met.S.SourceTiles.framed_condition c.evaluate.new.sources h1 h2 c.in_ok-tile.ensures.over c.in_ok-keep.ensures.others.exposed
     (others-unchanged h1 h2 cached cached2 c.in_ok-keep.ensures.others source1 owned)
     (owns-last h2 cached2 source1 (others-own h1 h2 cached cached2 c.in_ok-keep.ensures.others source1 owned))
@@ -185,8 +186,8 @@ returns-in_err-keep-clause-kept g c =
     let source1 = g.S.SourceTiles.names c.evaluate.new.sources in
     let cached = g.C.PairStore.names c.args.cache.now in
     let reads : Reads (source_of old) (source_of mid) = c.in_ok-tile.ensures.reads in
-    let sizes : mid.sizes ≡ old.sizes = seen-unchanged h0 h1 source source1 reads.others cached (g.C.PairStore.sizes c.args.cache.now) (g.met.C.PairStore.framed_sizes c.args.cache.now) c.requires.owned in
-    let bytes : mid.cached ≡ old.cached = seen-unchanged h0 h1 source source1 reads.others cached (g.C.PairStore.cached c.args.cache.now) (g.met.C.PairStore.framed c.args.cache.now) c.requires.owned in
+    let sizes : mid.sizes ≡ old.sizes = seen-unchanged h0 h1 source source1 (reads-others _ _ reads) cached (g.C.PairStore.sizes c.args.cache.now) (g.met.C.PairStore.framed_sizes c.args.cache.now) c.requires.owned in
+    let bytes : mid.cached ≡ old.cached = seen-unchanged h0 h1 source source1 (reads-others _ _ reads) cached (g.C.PairStore.cached c.args.cache.now) (g.met.C.PairStore.framed c.args.cache.now) c.requires.owned in
     matched-err c.from_residual-in_err-keep.result (λ tile. IsKept old new (pair_of (specs_of c.args.nodes.now) (c.args.node, c.args.at)) tile) (HasSameCache old new) _ c.from_residual-in_err-keep.ensures.1
     (record { pairs = c.in_err-keep.ensures.pairs; sizes = c.in_err-keep.ensures.sizes ∙ sizes; cached = c.in_err-keep.ensures.cached ∙ bytes })
 
@@ -211,8 +212,8 @@ returns-clause-kept g c =
     let source1 = g.S.SourceTiles.names c.evaluate.new.sources in
     let cached = g.C.PairStore.names c.args.cache.now in
     let reads : Reads (source_of old) (source_of mid) = c.in_ok-tile.ensures.reads in
-    let sizes : mid.sizes ≡ old.sizes = seen-unchanged h0 h1 source source1 reads.others cached (g.C.PairStore.sizes c.args.cache.now) (g.met.C.PairStore.framed_sizes c.args.cache.now) c.requires.owned in
-    let bytes : mid.cached ≡ old.cached = seen-unchanged h0 h1 source source1 reads.others cached (g.C.PairStore.cached c.args.cache.now) (g.met.C.PairStore.framed c.args.cache.now) c.requires.owned in
+    let sizes : mid.sizes ≡ old.sizes = seen-unchanged h0 h1 source source1 (reads-others _ _ reads) cached (g.C.PairStore.sizes c.args.cache.now) (g.met.C.PairStore.framed_sizes c.args.cache.now) c.requires.owned in
+    let bytes : mid.cached ≡ old.cached = seen-unchanged h0 h1 source source1 (reads-others _ _ reads) cached (g.C.PairStore.cached c.args.cache.now) (g.met.C.PairStore.framed c.args.cache.now) c.requires.owned in
     let nodes = c.args.nodes.now in
     let fact = c.index-nodes-node.result in
     let inside = ready-inside nodes g.K.Op.OpMeaning.meanings c.args.held.now c.args.node c.args.at c.requires.ready in

@@ -5,6 +5,8 @@ use Rattle.std.proofs.lemmas.Int.{to_z-of_z}
 use Rattle.std.proofs.lemmas.Result.{err_from_is_err_and}
 use Rattle.buffer_layouts.specs.Views.{AreCopyParts}
 use Rattle.chain_owners.specs.Held.{Held}
+use Rattle.chain_owners.specs.Owners.{Respects}
+use Rattle.chain_owners.proofs.Ownership.{respects-same}
 use Rattle.model_buffers.specs.BufferEdit.{edit_refused}
 use Rattle.model_buffers.specs.Counts.{moved_count}
 use Rattle.model_buffers.specs.Edits.{written}
@@ -17,7 +19,7 @@ use Rattle.model_images.specs.Raw.{raw}
 use Rattle.model_images.specs.TileCounts.{tile_count}
 use Rattle.root_tiles.proofs.ChainReads.{refused-after}
 use Rattle.buffer_view.specs.BufferLaws.{layout-shown}
-use Rattle.buffer_view.specs.BufferTables.{AreBuffersOver, BufferTable, images_over, table_of}
+use Rattle.buffer_view.specs.BufferTables.{AreBuffersOver, BufferTable, buffers_names, images_over, table_of}
 use Rattle.buffer_view.proofs.Copies.{copy-shown, source-can, target-can}
 use Rattle.buffer_view.proofs.Refusals.{exact-none, grows-after, swap-cause}
 use Rattle.buffer_view.proofs.Tables.{is-table}
@@ -190,3 +192,9 @@ returns-clause-counts g c =
 
 pub returns-clause-valid : goal.returns-clause-valid
 returns-clause-valid g c = λ is. c.write.ensures.valid (c.read.ensures.read.valid is)
+
+pub returns-in_err-bytes-clause-others : goal.returns-in_err-bytes-clause-others
+returns-in_err-bytes-clause-others g c =
+    let held = g.C.ChainMeaning.held c.args.chain.now in
+    let names = buffers_names c.args.self.now in
+    subst (λ (h : Held). Respects held h names names) (sym c.read.ensures.read.held) (respects-same held names)

@@ -1,0 +1,262 @@
+-- Sessions after a commit, an undo or a redo.
+use Rattle.std.proofs.Common.{◌≡◌, ℕ, Bool, List, ◌∷◌, ◌++◌, refl, sym, ap, subst, ◌∙◌, Option, Some, Result, Ok, Err}
+use Rattle.std.specs.Prelude.{slice_get}
+use Rattle.std.specs.Map.{values_of}
+use Rattle.std.specs.Option.{option_map}
+use Rattle.model_buffers.specs.Table.{Table}
+use Rattle.model_graphs.specs.Laws.{Distinguishes, IsBoxed, KeepsLaws}
+use Rattle.model_graphs.specs.Meanings.{Meanings}
+use Rattle.model_states.specs.declared.refused.StateRefused.{StateRefused}
+use Rattle.model_states.specs.Cache.{Cached, all_voided, by_pair, itself}
+use Rattle.model_states.specs.Commits.{Graph, change_to, committed}
+use Rattle.model_states.specs.Damage.{damage}
+use Rattle.model_states.specs.History as history
+use Rattle.model_states.specs.History.{History, appended}
+use Rattle.model_states.specs.Rectangles.{Rectangles}
+use Rattle.model_states.specs.Retained.{redone, undone}
+use Rattle.model_states.specs.Workspace.{settled_step}
+use Rattle.model_sessions.specs.Sessions.{IsSession, Session, with_state}
+use Rattle.model_sessions.specs.Steps.{Commit, HistoryEdit, IsProper, Redo, Undo, after_step}
+use Rattle.model_sessions.specs.Tables.{table_shapes}
+use Rattle.chain_owners.specs.Owners.{Owns}
+use Rattle.root_tiles.specs.Chains.{ChainState}
+use Rattle.node_cache.specs.NodeNames.{IsNodeCache, cached_in, sizes_in}
+use Rattle.node_cache.specs.Stores.{AddsNoOther, HaveOneOwner, by_sized}
+use Rattle.graph_commits.specs.Graphs.{AreDamagesOf}
+use Rattle.buffer_view.specs.BufferTables.{BufferTable}
+use Rattle.session_states.specs.OverChains.{AreAllOver, AreVersionsOver, Leaves, tables_of, versions_names}
+use Rattle.session_states.specs.Versions.{Versions, after_commit, after_redo, after_undo, all_versions}
+use Rattle.session_states.proofs.Returned.{first-is}
+use Rattle.commit_session.specs.Parts.{Parts, cached_pairs, session_names, working_facts}
+use Rattle.commit_session.specs.Seen.{AreOfTable, AreRetained, IsOver, IsSessionOf}
+use Rattle.commit_session.specs.Steps.{IsCommitted, IsRedone, IsSettled, IsUndone, LeadsTo}
+use Rattle.commit_session.proofs.CommitStep.{CommitLeads, commit-leads}
+use Rattle.commit_session.proofs.Led.{IsAfter, history_after, leads-to, or-before, session-led, valid-led}
+use Rattle.commit_session.proofs.Moved.{retained-moved, working-moved}
+use Rattle.commit_session.proofs.Stepped.{DamagesBack, DamagesOn, GraphStep, IsStep, Leads, StatesStep, change_from, parts_with, redo-leads, undo-leads}
+use Rattle.commit_session.proofs.Through.{cached-ready, left-through, others-through, over-through, owned-through, sizes-ready, tables-through}
+use Rattle.commit_session.proofs.Voided.{voids-leave}
+
+module _ {Op : Type 0} (same : Op → Op → Bool) (meanings : Meanings Op) where
+  -- The buffers were shared, then put in their place, and the cached pairs voided: over these chains.
+  pub record IsThrough (now new : Parts Op) (next : Graph Op) (versions : Versions BufferTable) (delta : Rectangles) (between : List ℕ) (s0 s1 s2 s3 : ChainState) : Type 0 where
+    pub shared : Leaves 0 (versions_names now.versions) between s0 s1
+    pub shared_tables : tables_of now.versions s1.held ≡ tables_of now.versions s0.held
+    pub put : Leaves 0 between (versions_names versions) s1 s2
+    pub put_tables : tables_of versions s2.held ≡ tables_of versions s1.held
+    pub put_over : AreVersionsOver versions s2.held
+    pub settled : IsSettled delta (parts_with same meanings now s1.held next versions) new
+    pub versions_are : new.versions ≡ versions
+    pub graph_is : new.graph ≡ next
+    pub sizes : sizes_in new.entries s3.held ≡ all_voided by_sized (sizes_in now.entries s2.held) delta
+    pub cached : cached_in new.entries s3.held ≡ option_map (λ (l : List Cached). all_voided by_pair l delta) (cached_in now.entries s2.held)
+    pub cache : IsNodeCache new.entries new.most new.capacity s3.held
+    pub alone : HaveOneOwner s3.held (values_of new.entries)
+    pub others : AddsNoOther s2.counts s3.counts (values_of now.entries) (values_of new.entries)
+    pub left : Leaves 0 (values_of now.entries) (values_of new.entries) s2 s3
+
+  module _ (now new : Parts Op) (next : Graph Op) (versions : Versions BufferTable) (delta : Rectangles) (between : List ℕ) (s0 s1 s2 s3 : ChainState)
+      (through : IsThrough now new next versions delta between s0 s1 s2 s3) (over : IsOver same meanings now s0.held) where
+    -- ---- over the chain
+
+    pub done-others : AddsNoOther s0.counts s3.counts (values_of now.entries) (values_of new.entries)
+    done-others = others-through now.versions versions now.entries new.entries between s0 s1 s2 over.owned through.shared through.put s3 through.left through.put_over through.others
+
+    pub done-left : Leaves 0 (session_names now) (session_names new) s0 s3
+    done-left =
+        subst (λ (v : Versions BufferTable). Leaves 0 (session_names now) (versions_names v ++ values_of new.entries) s0 s3) (sym through.versions_are)
+        (left-through now.versions versions now.entries new.entries between s0 s1 s2 over.owned through.shared through.put s3 through.left through.put_over)
+
+    is-after : IsAfter same meanings now new next versions delta s0.held s1.held s2.held s3.held
+    is-after = record {
+      settled = through.settled;
+      versions_are = through.versions_are;
+      graph_is = through.graph_is;
+      tables = tables-through now.versions versions now.entries new.entries between s0 s1 s2 over.owned through.shared through.put s3 through.left through.put_over
+          ∙ through.put_tables;
+      bytes = cached-ready now.versions versions now.entries new.entries between s0 s1 s2 over.owned through.shared through.put;
+      sizes = sizes-ready now.versions versions now.entries new.entries between s0 s1 s2 over.owned through.shared through.put;
+      bytes_after = through.cached;
+      sizes_after = through.sizes;
+    }
+
+    -- ---- of the definitions
+
+    module _ (session : Session Table Op) (of : IsSessionOf same meanings now s0.held session) where
+      shared-states : AreRetained same meanings now s1.held session.history.workspace.retained
+      shared-states =
+          retained-moved s0.held s1.held now.versions through.shared_tables same meanings now now.graph session.history.workspace.retained now refl refl of.retained
+
+      shared-working : AreOfTable now.versions.working s1.held session.history.workspace.working
+      shared-working = working-moved s0.held s1.held now.versions through.shared_tables session.history.workspace.working of.working
+
+      -- a step of its states
+      pub done-session : (stepped : StatesStep Op) → IsStep same meanings now s1.held next versions delta session.history.workspace.retained stepped
+          → IsSessionOf same meanings new s3.held (with_state same meanings session (history_after same meanings session.history stepped))
+      done-session stepped step = session-led same meanings now new next versions delta s0.held s1.held s2.held s3.held is-after session of stepped step
+
+    module _ (laws : KeepsLaws meanings) (boxed : IsBoxed meanings) (apart : Distinguishes same) where
+      done-over : (action : HistoryEdit Op) (stepped : StatesStep Op) → IsStep same meanings now s1.held next versions delta over.session.history.workspace.retained stepped
+          → IsProper action → after_step meanings over.session.history action ≡ history_after same meanings over.session.history stepped
+          → IsOver same meanings new s3.held
+      done-over action stepped step proper is = record {
+        owned = subst (λ (v : Versions BufferTable). Owns s3.held (versions_names v ++ values_of new.entries)) (sym through.versions_are)
+            (owned-through now.versions versions now.entries new.entries between s0 s1 s2 over.owned through.shared through.put s3 through.left through.put_over);
+        alone = through.alone;
+        over = subst (λ (v : Versions BufferTable). AreAllOver (all_versions v) s3.held) (sym through.versions_are)
+            (over-through now.versions versions now.entries new.entries between s0 s1 s2 over.owned through.shared through.put s3 through.left through.put_over);
+        cache = through.cache;
+        session = with_state same meanings over.session (history_after same meanings over.session.history stepped);
+        is = done-session over.session over.is stepped step;
+        valid = subst (λ (n : ℕ). IsSession meanings n (with_state same meanings over.session (history_after same meanings over.session.history stepped))) (sym through.settled.capacity)
+            (valid-led same meanings laws boxed apart now.capacity over.session stepped step.number action over.valid proper is);
+      }
+
+    -- ---- what isn't counted or cached
+
+    -- a result of this graph is one of the new session's
+    graph-same : (r : Result (GraphStep Op) StateRefused) → r ≡ Ok (record { next = next; delta = delta }) → r ≡ Ok (record { next = new.graph; delta = delta })
+    graph-same r is =
+        is ∙ ap (λ (g : Graph Op). let step : GraphStep Op = record { next = g; delta = delta } in Ok step) (sym through.graph_is)
+
+    done-settled : IsSettled delta now new
+    done-settled = record {
+      pending = through.settled.pending;
+      written = through.settled.written;
+      pairs = through.settled.pairs;
+      capacity = through.settled.capacity;
+      applied = through.settled.applied;
+      reused = through.settled.reused;
+    }
+
+    -- ---- a commit
+
+    module _ (is : committed same meanings now.graph now.pending (working_facts now) now.written ≡ Ok (record { next = next; delta = delta }))
+        (versions_are : versions ≡ after_commit now.versions) (promise : AreDamagesOf same meanings (change_from same meanings now s1.held next now.written) delta) where
+      commit-of : (session : Session Table Op) → IsSessionOf same meanings now s0.held session → CommitLeads same meanings now s1.held next versions delta session.history
+      commit-of session of =
+          commit-leads same meanings now s0.held session of s1.held (shared-states session of) (shared-working session of) next delta versions is versions_are promise
+
+      pub commit-session : (session : Session Table Op) → IsSessionOf same meanings now s0.held session
+          → LeadsTo (history.committed meanings table_shapes session.history) (λ (next : History Table Op). IsSessionOf same meanings new s3.held (with_state same meanings session next))
+      commit-session session of =
+          let leads = commit-of session of in
+          leads-to (history.committed meanings table_shapes session.history) (history_after same meanings session.history leads.stepped)
+          (λ (next : History Table Op). IsSessionOf same meanings new s3.held (with_state same meanings session next)) leads.is
+          (done-session session of leads.stepped leads.step)
+
+      pub commit-over : KeepsLaws meanings → IsBoxed meanings → Distinguishes same → IsOver same meanings new s3.held
+      commit-over laws boxed apart =
+          let leads = commit-of over.session over.is in
+          done-over laws boxed apart Commit leads.stepped leads.step tt
+          (or-before (history.committed meanings table_shapes over.session.history) (history_after same meanings over.session.history leads.stepped) over.session.history leads.is)
+
+      pub commit-done : IsCommitted same meanings now new
+      commit-done =
+          let leads = commit-of over.session over.is in
+          record {
+            damages = delta;
+            graph = graph-same (committed same meanings now.graph now.pending (working_facts now) now.written) is;
+            versions = through.versions_are ∙ versions_are;
+            settled = done-settled;
+            voided = through.settled.pairs
+                ∙ voids-leave same meanings delta leads.step.change leads.step.damages (damage same meanings (change_to now.graph new.graph.latest now.written))
+                (λ name. leads.step.each name
+                ∙ ap (λ (w : Rectangles). damage same meanings (change_from same meanings now s1.held next w) name) leads.written
+                ∙ ap (λ (g : Graph Op). damage same meanings (change_from same meanings now s1.held g now.written) name) (sym through.graph_is))
+                itself (cached_pairs now);
+          }
+
+    -- ---- an undo
+
+    module _ (is : undone now.graph ≡ Ok (record { next = next; delta = delta }))
+        (made : (back : BufferTable) (rest : List BufferTable) → now.versions.undoable ≡ back ∷ rest → versions ≡ after_undo now.versions back rest)
+        (promise : DamagesBack same meanings now s1.held next delta) where
+      undo-of : (session : Session Table Op) → IsSessionOf same meanings now s0.held session
+          → Leads same meanings now s1.held next versions delta session.history.workspace.retained (undone session.history.workspace.retained)
+      undo-of session of = undo-leads same meanings now s1.held session.history.workspace.retained (shared-states session of) next versions delta is made promise
+
+      undone-is : (session : Session Table Op) (of : IsSessionOf same meanings now s0.held session)
+          → history.undone session.history ≡ Ok (history_after same meanings session.history (undo-of session of).stepped)
+      undone-is session of = ap (λ (r : Result (StatesStep Op) StateRefused). appended session.history (settled_step r)) (undo-of session of).is
+
+      pub undo-session : (session : Session Table Op) → IsSessionOf same meanings now s0.held session
+          → LeadsTo (history.undone session.history) (λ (next : History Table Op). IsSessionOf same meanings new s3.held (with_state same meanings session next))
+      undo-session session of =
+          let leads = undo-of session of in
+          leads-to (history.undone session.history) (history_after same meanings session.history leads.stepped)
+          (λ (next : History Table Op). IsSessionOf same meanings new s3.held (with_state same meanings session next)) (undone-is session of)
+          (done-session session of leads.stepped leads.step)
+
+      pub undo-over : KeepsLaws meanings → IsBoxed meanings → Distinguishes same → IsOver same meanings new s3.held
+      undo-over laws boxed apart =
+          let leads = undo-of over.session over.is in
+          done-over laws boxed apart Undo leads.stepped leads.step tt
+          (or-before (history.undone over.session.history) (history_after same meanings over.session.history leads.stepped) over.session.history (undone-is over.session over.is))
+
+      pub undo-done : IsUndone now new
+      undo-done = record {
+        damages = delta;
+        graph = graph-same (undone now.graph) is;
+        versions = λ back rest first. through.versions_are ∙ made back rest first;
+        settled = done-settled;
+      }
+
+    -- ---- a redo
+
+    module _ (is : redone now.graph ≡ Ok (record { next = next; delta = delta }))
+        (made : (on : BufferTable) (rest : List BufferTable) → now.versions.redoable ≡ on ∷ rest → versions ≡ after_redo now.versions on rest)
+        (promise : DamagesOn same meanings now s1.held next delta) where
+      redo-of : (session : Session Table Op) → IsSessionOf same meanings now s0.held session
+          → Leads same meanings now s1.held next versions delta session.history.workspace.retained (redone session.history.workspace.retained)
+      redo-of session of = redo-leads same meanings now s1.held session.history.workspace.retained (shared-states session of) next versions delta is made promise
+
+      redone-is : (session : Session Table Op) (of : IsSessionOf same meanings now s0.held session)
+          → history.redone session.history ≡ Ok (history_after same meanings session.history (redo-of session of).stepped)
+      redone-is session of = ap (λ (r : Result (StatesStep Op) StateRefused). appended session.history (settled_step r)) (redo-of session of).is
+
+      pub redo-session : (session : Session Table Op) → IsSessionOf same meanings now s0.held session
+          → LeadsTo (history.redone session.history) (λ (next : History Table Op). IsSessionOf same meanings new s3.held (with_state same meanings session next))
+      redo-session session of =
+          let leads = redo-of session of in
+          leads-to (history.redone session.history) (history_after same meanings session.history leads.stepped)
+          (λ (next : History Table Op). IsSessionOf same meanings new s3.held (with_state same meanings session next)) (redone-is session of)
+          (done-session session of leads.stepped leads.step)
+
+      pub redo-over : KeepsLaws meanings → IsBoxed meanings → Distinguishes same → IsOver same meanings new s3.held
+      redo-over laws boxed apart =
+          let leads = redo-of over.session over.is in
+          done-over laws boxed apart Redo leads.stepped leads.step tt
+          (or-before (history.redone over.session.history) (history_after same meanings over.session.history leads.stepped) over.session.history (redone-is over.session over.is))
+
+      pub redo-done : IsRedone now new
+      redo-done = record {
+        damages = delta;
+        graph = graph-same (redone now.graph) is;
+        versions = λ on rest first. through.versions_are ∙ made on rest first;
+        settled = done-settled;
+      }
+
+-- ---- the states to which buffers go
+
+module _ (now final : Versions BufferTable) (shared : BufferTable) where
+  pub made-undo : slice_get now.undoable 0 ≡ Some shared → ((rest : List BufferTable) → now.undoable ≡ shared ∷ rest → final ≡ after_undo now shared rest)
+      → (back : BufferTable) (rest : List BufferTable) → now.undoable ≡ back ∷ rest → final ≡ after_undo now back rest
+  made-undo there made back rest is =
+      let first : back ≡ shared = first-is now.undoable rest back shared is there in
+      subst (λ (b : BufferTable). final ≡ after_undo now b rest) (sym first) (made rest (is ∙ ap (λ (b : BufferTable). b ∷ rest) first))
+
+  pub made-redo : slice_get now.redoable 0 ≡ Some shared → ((rest : List BufferTable) → now.redoable ≡ shared ∷ rest → final ≡ after_redo now shared rest)
+      → (on : BufferTable) (rest : List BufferTable) → now.redoable ≡ on ∷ rest → final ≡ after_redo now on rest
+  made-redo there made on rest is =
+      let first : on ≡ shared = first-is now.redoable rest on shared is there in
+      subst (λ (b : BufferTable). final ≡ after_redo now b rest) (sym first) (made rest (is ∙ ap (λ (b : BufferTable). b ∷ rest) first))
+
+-- ---- refusals
+
+module _ {Op : Type 0} (past : History Table Op) (why : StateRefused) where
+  pub undo-refusal : undone past.workspace.retained ≡ Err why → history.undone past ≡ Err why
+  undo-refusal is = ap (λ (r : Result (StatesStep Op) StateRefused). appended past (settled_step r)) is
+
+  pub redo-refusal : redone past.workspace.retained ≡ Err why → history.redone past ≡ Err why
+  redo-refusal is = ap (λ (r : Result (StatesStep Op) StateRefused). appended past (settled_step r)) is
