@@ -1,5 +1,5 @@
 -- No step leads where there is no state to go to.
-use Rattle.std.proofs.Common.{◌≡◌, List, [], sym, ap, ◌∙◌, Ok}
+use Rattle.std.proofs.Common.{◌≡◌, ℕ, List, [], ◌∷◌, length, refl, sym, ap, ◌∙◌, Ok, arith}
 use Rattle.model_states.specs.Retained.{Retained, Separated, Stepped, redo_to, redone, undo_to, undone}
 use Rattle.commit_session.proofs.Stepped.{open-ok}
 
@@ -17,3 +17,8 @@ module _ {State Delta : Type 0} (retained : Retained State Delta) (stepped : Ste
       let made : redo_to retained [] ≡ Ok stepped =
       sym (ap (λ (list : List (Separated State Delta)). redo_to retained list) none) ∙ opened.is in
       cc
+
+-- a list of no length
+pub none-there : {X : Type 0} (list : List X) (count : ℕ) → count ≡ length list → count ≡ 0 → list ≡ []
+none-there [] count is none = refl
+none-there (x ∷ list) count is none = absurd (omega (arith, is, none))

@@ -1,16 +1,22 @@
 -- The buffers of the last state are among those that are edited.
-use Rattle.std.proofs.Common.{◌≡◌, ℕ, List, refl, sym, ap, subst, ◌∙◌, Option, Some, None}
+use Rattle.std.proofs.Common.{◌≡◌, ℕ, Bool, List, refl, sym, ap, ◌∙◌, subst, Option, Some, None}
 use Rattle.std.specs.Option.{option_map}
 use Rattle.chain_owners.specs.Held.{Held}
-use Rattle.model_buffers.specs.Layout.{TableLayout, View, fact_in, facts_of, find}
+use Rattle.model_buffers.specs.Layout.{View, fact_in, facts_of, find}
 use Rattle.model_buffers.specs.Table.{Table, layout_of, root_of}
 use Rattle.model_graphs.specs.declared.buffer.BufferFact.{BufferFact}
+use Rattle.model_graphs.specs.declared.node.NodeEdit.{NodeEdit}
 use Rattle.model_graphs.specs.Facts.{Facts, fact_of}
-use Rattle.model_states.specs.Damage.{IsSteady}
+use Rattle.model_graphs.specs.Meanings.{Meanings}
+use Rattle.model_states.specs.Commits.{Graph, committed}
 use Rattle.model_states.specs.Rectangles.{Rectangles}
+use Rattle.model_sessions.specs.Histories.{last_state}
 use Rattle.model_sessions.specs.Tables.{Continues, table_facts}
 use Rattle.model_sessions.proofs.Sources.{fact-found, neighbors}
 use Rattle.graph_commits.specs.Graphs.{AreStillThere}
+use Rattle.buffer_view.specs.BufferTables.{BufferTable}
+use Rattle.commit_session.specs.Parts.{Parts, working_facts}
+use Rattle.commit_session.specs.Seen.{IsOver}
 
 -- the root of a buffer that is known
 root-known : (table : Table) (name : List ℕ) (fact : BufferFact) → fact_of (table_facts table) name ≡ Some fact → root_of table name ≡ Some fact.root
@@ -42,3 +48,31 @@ still-there table next written continued = λ name a found.
     let on = continued name a.root (root-known table name a found) in
     let again = known-root next name a.root on.0 in
     (again.fact, again.found, (neighbors table next written continued).steady name a again.fact found again.found)
+
+-- ---- what a commit is handed
+
+module _ {Op : Type 0} (same : Op → Op → Bool) (meanings : Meanings Op) (now : Parts Op) (held : Held) (over : IsOver same meanings now held)
+    (working : BufferTable) (facts : Facts) (working_is : working ≡ now.versions.working) (facts_are : facts ≡ facts_of working.layout) where
+  -- the facts are those of the working buffers
+  pub working-facts : facts ≡ working_facts now
+  working-facts = facts_are ∙ ap (λ (b : BufferTable). facts_of b.layout) working_is
+
+  -- and each buffer of the last state is among them
+  pub working-still : AreStillThere now.graph.latest.buffers facts
+  working-still =
+      let history = over.session.history in
+      let latest = over.is.retained.latest in
+      let old : table_facts (last_state history).table ≡ now.graph.latest.buffers = ap facts_of latest.table.layout ∙ sym latest.facts in
+      let new : table_facts history.workspace.working ≡ facts = ap facts_of over.is.working.layout ∙ sym working-facts in
+      subst (λ (f : Facts). AreStillThere now.graph.latest.buffers f) new
+      (subst (λ (f : Facts). AreStillThere f (table_facts history.workspace.working)) old
+      (still-there (last_state history).table history.workspace.working history.workspace.written over.valid.history.continued))
+
+-- the same commit, of edits, facts and rectangles that are these
+module _ {Op : Type 0} (same : Op → Op → Bool) (meanings : Meanings Op) (graph : Graph Op) (edits edits' : List (NodeEdit Op)) (facts facts' : Facts) (written written' : Rectangles)
+    (edits_are : edits ≡ edits') (facts_are : facts ≡ facts') (written_is : written ≡ written') where
+  pub commit-same : committed same meanings graph edits facts written ≡ committed same meanings graph edits' facts' written'
+  commit-same =
+      ap (λ (es : List (NodeEdit Op)). committed same meanings graph es facts written) edits_are
+      ∙ ap (λ (f : Facts). committed same meanings graph edits' f written) facts_are
+      ∙ ap (λ (w : Rectangles). committed same meanings graph edits' facts' w) written_is
