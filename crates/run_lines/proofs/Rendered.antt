@@ -45,6 +45,7 @@ use Rattle.render_workers.specs.declared.refused.RenderRefused.TheVariants as re
 use Rattle.run_events.proofs.Carrying.{Exceeds-more, nothing_carried}
 use Rattle.run_events.specs.Carried.{CarriesOut, Exceeds, most_of_line, outcome_of_line}
 use Rattle.run_events.specs.Moments.{HasFaults, Moment, world_at}
+use Rattle.run_lines.proofs.Bounds.{full_exceeds}
 use Rattle.run_lines.proofs.CachedNames.{names-fall}
 use Rattle.run_lines.proofs.LookingUp.{all-grow}
 use Rattle.run_lines.proofs.RenderLines.{has-same, planned, render-bytes, render-length, render-names, render-narrow, render-unknown, render-wide, rendered, wide-same}
@@ -54,14 +55,6 @@ use Rattle.run_lines.specs.Stops.{Did, IsDone, IsEnded, end_of, stop_of}
 use Rattle.run_texts.specs.Events.{events_alone}
 use Rattle.run_texts.specs.Texts.{render_text}
 use Rattle.swap_store.specs.Cause.{HasSwapCause}
-
--- names that fill a swap exceed what there is for them
-full-exceeds : (counts : Counts) (names needed longest : ℕ) → IsFullOver counts.used counts.capacity names needed longest → Exceeds counts names
-full-exceeds counts names needed longest full = by counts.used full
-  where
-    by : (used : Option ℕ) → IsFullOver used counts.capacity names needed longest → Exceeds (record counts { used = used }) names
-    by None full = absurd full
-    by (Some used) full = (full.past, full.room)
 
 none-there : (o : Option Rectangle) → IsSome o → o ≡ None → ⊥
 none-there None some none = absurd (cc)
@@ -128,7 +121,7 @@ module _ (exposed : Bool) (capacity line : ℕ) (state : RunState) (files : File
         let is = render-narrow exposed capacity line state files parts held before.files name z r target holds stated_is can.node can.narrow in
         subst (λ (e : Effect). Exceeds before.chain (most_of_line capacity state before.chain.names e)) (sym is)
         (Exceeds-more before.chain names (most_of_line capacity state before.chain.names given)
-        (render-names exposed capacity line state files parts held before.files name z r target holds stated_is before.chain) (full-exceeds before.chain names needed longest full))
+        (render-names exposed capacity line state files parts held before.files name z r target holds stated_is before.chain) (full_exceeds before.chain names needed longest full))
 
     by-lower : IsSome (scaled z r) → (lower : RenderRefused) →
         IsRefusedBy int_meanings parts.graph.latest.nodes asked parts.capacity (HasSwapCause before.chain after.chain (names_in_render int_meanings parts asked before.chain)) lower →
