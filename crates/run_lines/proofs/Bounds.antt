@@ -1,15 +1,23 @@
--- How many names a chain has while a line edits or reads buffers.
-use Rattle.std.proofs.Common.{◌≡◌, ℕ, ◌+◌, ◌-◌, ◌≤◌, Bool, length, Option, ap, arith}
+-- How many names a chain has while a line is carried out.
+use Rattle.std.proofs.Common.{◌≡◌, ℕ, ◌+◌, ◌-◌, ◌≤◌, Bool, length, Option, Some, None, ap, arith}
 use Rattle.std.specs.Prelude.{min}
-use Rattle.chain_owners.specs.Counts.{Counts, Grows}
+use Rattle.chain_owners.specs.Counts.{Counts, Grows, IsFullOver}
 use Rattle.chain_owners.specs.Held.{Held}
 use Rattle.commit_session.specs.Parts.{Parts}
 use Rattle.model_operations.specs.declared.operation.IntOp.{IntOp}
 use Rattle.model_runs.specs.State.{Effect, RunState}
 use Rattle.model_states.specs.Cache.{Cached, Counted}
 use Rattle.outside_io.specs.Files.{Files}
-use Rattle.run_events.specs.Carried.{HasNames, most_of_line}
+use Rattle.run_events.specs.Carried.{Exceeds, HasNames, most_of_line}
 use Rattle.run_lines.specs.States.{Holds}
+
+-- names that fill a swap exceed what there is for them
+pub full_exceeds : (counts : Counts) (names needed longest : ℕ) → IsFullOver counts.used counts.capacity names needed longest → Exceeds counts names
+full_exceeds counts names needed longest full = by counts.used full
+  where
+    by : (used : Option ℕ) → IsFullOver used counts.capacity names needed longest → Exceeds (record counts { used = used }) names
+    by None full = absurd full
+    by (Some used) full = (full.past, full.room)
 
 cached_within : (names tiles cached capacity applied : ℕ) → cached ≤ capacity → cached ≤ applied → names + tiles ≤ names - cached + tiles + min capacity applied + 1
 cached_within names tiles cached capacity applied few counted = omega arith

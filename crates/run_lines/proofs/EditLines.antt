@@ -39,7 +39,7 @@ use Rattle.run_events.proofs.Faults.{continues_same}
 use Rattle.run_events.proofs.Texts.{put_none}
 use Rattle.run_events.specs.Carried.{Exceeds, most_of_line, outcome_of_line}
 use Rattle.run_events.specs.Moments.{HasFaults, Moment}
-use Rattle.run_lines.proofs.Bounds.{names_grow, names_within}
+use Rattle.run_lines.proofs.Bounds.{full_exceeds, names_grow, names_within}
 use Rattle.run_lines.specs.Commands.{edit_of}
 use Rattle.run_lines.specs.States.{Holds}
 use Rattle.run_lines.specs.Stops.{Did, IsDone, IsEnded, end_of, stop_of}
@@ -82,15 +82,6 @@ pub record IsEdited (edit : BufferEdit) (result : Result (Unit {0}) SessionRefus
   pub capacity : new.parts.capacity ≡ old.parts.capacity
   pub content : is_some new.held.content ≡ is_some old.held.content
   pub counts : Grows (tiles_added edit) old.counts new.counts
-
--- ---- full swaps
-
-pub full_exceeds : (counts : Counts) (names needed longest : ℕ) → IsFullOver counts.used counts.capacity names needed longest → Exceeds counts names
-full_exceeds counts names needed longest full = by counts.used full
-  where
-    by : (used : Option ℕ) → IsFullOver used counts.capacity names needed longest → Exceeds (record counts { used = used }) names
-    by None full = absurd full
-    by (Some used) full = (full.past, full.room)
 
 -- ---- running out of memory
 

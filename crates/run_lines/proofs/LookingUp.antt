@@ -4,17 +4,14 @@ use Rattle.std.proofs.lemmas.List.{length-take}
 use Rattle.model_states.proofs.CacheLaws.{pairs_alone}
 use Rattle.model_states.specs.Cache.{Cached, Counted, Pair, all_looked_up, applied_more, by_pair, counted_pairs, find_pair, itself, looked_up, pairs_of, recent, recent_of, same_pair, uncounted, within, without_pair}
 
-fewer : {X : Type 0} (test : X → Bool) (list : List X) → length (filter test list) ≤ length list
-fewer test [] = omega arith
-fewer test (x ∷ list) = by (test x) (fewer test list)
+-- what is left of a list is no longer than it
+pub filter-fewer : {X : Type 0} (test : X → Bool) (list : List X) → length (filter test list) ≤ length list
+filter-fewer test [] = omega arith
+filter-fewer test (x ∷ list) = by (test x) (filter-fewer test list)
   where
     by : (b : Bool) → length (filter test list) ≤ length list → length (cond b (x ∷ filter test list) (filter test list)) ≤ length (x ∷ list)
     by true less = omega (arith, less)
     by false less = omega (arith, less)
-
--- what is left of a list is no longer than it
-pub filter-fewer : {X : Type 0} (test : X → Bool) (list : List X) → length (filter test list) ≤ length list
-filter-fewer test list = fewer test list
 
 within-fewer : {X : Type 0} (capacity : Option ℕ) (list : List X) → length (within capacity list) ≤ length list
 within-fewer None list = omega arith
@@ -30,7 +27,7 @@ module _ {X : Type 0} (key : X → Pair) (fresh : Pair → X) (capacity : Option
     where
       by : (b : Bool) → cond b (Some y) (find_pair key list pair) ≡ Some x → (find_pair key list pair ≡ Some x → length (without_pair key list pair) + 1 ≤ length list) →
           length (cond (not b) (y ∷ without_pair key list pair) (without_pair key list pair)) + 1 ≤ length (y ∷ list)
-      by true here rest = let less = fewer (λ y. not (test pair y)) list in omega (arith, less)
+      by true here rest = let less = filter-fewer (λ y. not (test pair y)) list in omega (arith, less)
       by false later rest = let less = rest later in omega (arith, less)
 
   step-grows : (counted : Counted X) (pair : Pair) →

@@ -1,5 +1,5 @@
 -- What lines leave that write a file of a node.
-use Rattle.std.proofs.Common.{◌≡◌, ◌≢◌, ℕ, ◌*◌, Bool, true, false, IsTrue, cond, List, length, Option, Some, None, Result, Ok, Err, IsSome, is_some, is_none, refl, sym, ap, ◌∙◌, subst, arith}
+use Rattle.std.proofs.Common.{◌≡◌, ◌≢◌, ℕ, ◌*◌, Bool, true, IsTrue, cond, List, length, Option, Some, None, Result, Ok, Err, IsSome, is_some, is_none, refl, sym, ap, ◌∙◌, subst, arith}
 use Rattle.std.specs.Prelude.{◌&&◌}
 use Rattle.std.specs.Map.{values_of}
 use Rattle.chain_owners.specs.Counts.{Continues, Counts, IsFullOver}
@@ -25,7 +25,8 @@ use Rattle.model_runs.specs.State.{Effect, RunState, number_in, scene_in}
 use Rattle.model_runs.specs.declared.ending.End.{End}
 use Rattle.model_runs.specs.declared.ending.End.TheVariants as ends
 use Rattle.model_sessions.proofs.Actions.{action_keeps}
-use Rattle.model_sessions.specs.Sessions.{IsSession, Render, with_render}
+use Rattle.model_sessions.specs.Sessions.{IsSession, Render, Session, after_render, last_scene, with_render}
+use Rattle.model_buffers.specs.Table.{Table}
 use Rattle.model_states.specs.Cache.{by_pair, needed_pairs, with_bytes}
 use Rattle.model_sessions.specs.Sessions.{render_need}
 use Rattle.model_states.specs.Damage.{IsStated}
@@ -38,12 +39,13 @@ use Rattle.outside_io.specs.Files.{Files}
 use Rattle.pixel_formats.specs.Format.{pixel_bytes}
 use Rattle.plane_rect.specs.Rectangle.{Rectangle, area, scaled}
 use Rattle.render_workers.specs.Refusals.{CanBeRendered, IsRefusedBy}
-use Rattle.render_workers.specs.Requests.{Request, request, strips_needed}
+use Rattle.render_workers.specs.Requests.{Request, request}
 use Rattle.render_workers.specs.declared.refused.RenderRefused.{RenderRefused}
 use Rattle.render_workers.specs.declared.refused.RenderRefused.TheVariants as render_refusals
 use Rattle.run_events.proofs.Carrying.{Exceeds-more, nothing_carried}
 use Rattle.run_events.specs.Carried.{CarriesOut, Exceeds, most_of_line, outcome_of_line}
 use Rattle.run_events.specs.Moments.{HasFaults, Moment, world_at}
+use Rattle.run_lines.proofs.Bounds.{full_exceeds}
 use Rattle.run_lines.proofs.CachedNames.{names-fall}
 use Rattle.run_lines.proofs.LookingUp.{all-grow}
 use Rattle.run_lines.proofs.RenderLines.{has-same, planned, render-bytes, render-length, render-names, render-narrow, render-unknown, render-wide, rendered, wide-same}
@@ -54,32 +56,23 @@ use Rattle.run_texts.specs.Events.{events_alone}
 use Rattle.run_texts.specs.Texts.{render_text}
 use Rattle.swap_store.specs.Cause.{HasSwapCause}
 
--- names that fill a swap exceed what there is for them
-full-exceeds : (counts : Counts) (names needed longest : ℕ) → IsFullOver counts.used counts.capacity names needed longest → Exceeds counts names
-full-exceeds counts names needed longest full = by counts.used full
-  where
-    by : (used : Option ℕ) → IsFullOver used counts.capacity names needed longest → Exceeds (record counts { used = used }) names
-    by None full = absurd full
-    by (Some used) full = (full.past, full.room)
-
--- a test that can't fail passes
-pub passes : (b : Bool) → (b ≡ false → ⊥) → b ≡ true
-passes true never = refl
-passes false never = absurd (never refl)
-
 none-there : (o : Option Rectangle) → IsSome o → o ≡ None → ⊥
 none-there None some none = absurd (cc)
 none-there (Some x) some none = absurd (cc)
 
--- the session after a render that isn't refused is valid
-render-valid : (capacity : ℕ) (state : RunState) (name : List ℕ) (z : ℕ) (r : Rectangle) → IsSession int_meanings capacity state.session → has_node (scene_in state).nodes name ≡ true →
-    wide capacity (render_need int_meanings (scene_in state) name z r) ≡ None → IsSession int_meanings capacity (with_render int_meanings capacity state.session name z r)
-render-valid capacity state name z r valid there narrow =
-    let session = state.session in
-    let can : (has_node (scene_in state).nodes name && is_none (wide capacity (render_need int_meanings (scene_in state) name z r))) ≡ true =
-    ap (λ (b : Bool). b && is_none (wide capacity (render_need int_meanings (scene_in state) name z r))) there ∙ ap (λ (o : Option ℕ). true && is_none o) narrow in
-    subst (λ (b : Bool). IsSession int_meanings capacity (cond b (with_render int_meanings capacity session name z r) session)) can
-    (action_keeps same_operation int_meanings (record { local = is_local; dual = is_dual }) is_boxed is_equality.apart capacity session (Render name z r) valid tt)
+-- the session after a render that isn't refused
+is-rendered : (capacity : ℕ) (session : Session Table IntOp) (name : List ℕ) (z : ℕ) (r : Rectangle) → has_node (last_scene session).nodes name ≡ true →
+    wide capacity (render_need int_meanings (last_scene session) name z r) ≡ None → after_render int_meanings capacity session name z r ≡ with_render int_meanings capacity session name z r
+is-rendered capacity session name z r there narrow =
+    let needed = wide capacity (render_need int_meanings (last_scene session) name z r) in
+    let can : (has_node (last_scene session).nodes name && is_none needed) ≡ true =
+    ap (λ (b : Bool). b && is_none needed) there ∙ ap (λ (o : Option ℕ). true && is_none o) narrow in
+    ap (λ (b : Bool). cond b (with_render int_meanings capacity session name z r) session) can
+
+-- is valid
+render-valid : (capacity : ℕ) (session : Session Table IntOp) (name : List ℕ) (z : ℕ) (r : Rectangle) → IsSession int_meanings capacity session → IsSession int_meanings capacity (after_render int_meanings capacity session name z r)
+render-valid capacity session name z r valid =
+    action_keeps same_operation int_meanings (record { local = is_local; dual = is_dual }) is_boxed is_equality.apart capacity session (Render name z r) valid tt
 
 -- What a render answered: a patch of the rectangle, in the node's format, and of its image where the chain exposes its
 -- bytes.
@@ -92,7 +85,7 @@ pub record IsShown (exposed : Bool) (state : RunState) (parts : Parts IntOp) (na
 
 -- The session that a render left which isn't refused.
 pub record IsLeft (state : RunState) (old new : Parts IntOp) (held later : Held) (name : List ℕ) (z : ℕ) (r : Rectangle) (before after : Counts) : Type 0 where
-  pub session : IsSessionOf same_operation int_meanings new later (with_render int_meanings old.capacity state.session name z r)
+  pub session : IsSessionOf same_operation int_meanings new later (after_render int_meanings old.capacity state.session name z r)
   pub states : HasSameButCache old new
   pub content : is_some later.content ≡ is_some held.content
   pub continues : Continues before after
@@ -128,7 +121,7 @@ module _ (exposed : Bool) (capacity line : ℕ) (state : RunState) (files : File
         let is = render-narrow exposed capacity line state files parts held before.files name z r target holds stated_is can.node can.narrow in
         subst (λ (e : Effect). Exceeds before.chain (most_of_line capacity state before.chain.names e)) (sym is)
         (Exceeds-more before.chain names (most_of_line capacity state before.chain.names given)
-        (render-names exposed capacity line state files parts held before.files name z r target holds stated_is before.chain) (full-exceeds before.chain names needed longest full))
+        (render-names exposed capacity line state files parts held before.files name z r target holds stated_is before.chain) (full_exceeds before.chain names needed longest full))
 
     by-lower : IsSome (scaled z r) → (lower : RenderRefused) →
         IsRefusedBy int_meanings parts.graph.latest.nodes asked parts.capacity (HasSwapCause before.chain after.chain (names_in_render int_meanings parts asked before.chain)) lower →
@@ -151,12 +144,12 @@ module _ (exposed : Bool) (capacity line : ℕ) (state : RunState) (files : File
 
   -- ---- a render that isn't refused
 
-  module _ (there : has_node (specs_of parts.graph.latest.nodes) name ≡ true) (narrow : wide parts.capacity (strips_needed int_meanings parts.graph.latest.nodes asked) ≡ None)
+  module _ (can : CanBeRendered int_meanings parts.graph.latest.nodes asked parts.capacity)
       (patch : Image) (bytes : List ℕ) (shown : IsShown exposed state parts name z r patch bytes) (number : ℕ) (number_is : number ≡ number_in state)
       (result : Result (Unit {0}) End) (room : result ≢ Err ends.SwapFull)
       (leaves : Leaves (events_alone (writes target bytes (render_text line number (length bytes)))) result (world_at before) (world_at after)) where
     gives : done ≡ given
-    gives = render-narrow exposed capacity line state files parts held before.files name z r target holds stated_is there narrow
+    gives = render-narrow exposed capacity line state files parts held before.files name z r target holds stated_is can.node can.narrow
 
     wants : Wants exposed given target wanted bytes (render_text line number (length bytes))
     wants =
@@ -182,10 +175,12 @@ module _ (exposed : Bool) (capacity line : ℕ) (state : RunState) (files : File
         let text = render_text line number (length bytes) in
         let pairs = needed_pairs (scene_in state).nodes (render_need int_meanings (scene_in state) name z r) in
         let grow = all-grow by_pair (with_bytes int_meanings (scene_in state)) (Some capacity) cached pairs in
+        let has = sym (has-same exposed capacity line state files parts held before.files name z r target holds stated_is) ∙ can.node in
+        let fits = sym (wide-same exposed capacity line state files parts held before.files name z r target holds stated_is) ∙ can.narrow in
+        let is = is-rendered capacity state.session name z r has fits in
         let session : IsSessionOf same_operation int_meanings later after_held next =
-        subst (λ (n : ℕ). IsSessionOf same_operation int_meanings later after_held (with_render int_meanings n state.session name z r)) holds.as_many left.session in
-        let has = sym (has-same exposed capacity line state files parts held before.files name z r target holds stated_is) ∙ there in
-        let fits = sym (wide-same exposed capacity line state files parts held before.files name z r target holds stated_is) ∙ narrow in
+        subst (IsSessionOf same_operation int_meanings later after_held) is
+        (subst (λ (n : ℕ). IsSessionOf same_operation int_meanings later after_held (after_render int_meanings n state.session name z r)) holds.as_many left.session) in
         let filed = file-written exposed given target wanted bytes text wants result before after leaves files ok holds.alike holds.same in
         subst (λ (e : Effect). IsDone exposed capacity state files e before after later after_held) (sym gives)
         (record {
@@ -193,7 +188,7 @@ module _ (exposed : Bool) (capacity line : ℕ) (state : RunState) (files : File
               (file-carried exposed given target wanted bytes text wants result before after leaves (most_of_line capacity state before.chain.names given) room);
           next = record {
             session = session;
-            valid = render-valid capacity state name z r holds.valid has fits;
+            valid = subst (IsSession int_meanings capacity) is (render-valid capacity state.session name z r holds.valid);
             applied = omega (arith, grow, holds.applied);
             as_many = left.states.capacity ∙ holds.as_many;
             unwatched = holds.unwatched;

@@ -1,10 +1,8 @@
 use Rattle.std.proofs.Common.{◌≡◌, Result, Ok, Err, refl, sym, ap, ◌∙◌}
-use Rattle.model_graphs.specs.Facts.{specs_of}
 use Rattle.model_runs.specs.State.{number_in}
-use Rattle.model_states.specs.Edits.{has_node}
 use Rattle.run_events.proofs.Faults.{faults_by_cause, faults_then}
 use Rattle.run_events.specs.Moments.{Moment}
-use Rattle.run_lines.proofs.Rendered.{IsLeft, IsShown, chain-faults, passes, render-done, render-ended, render-faults, render-stopped}
+use Rattle.run_lines.proofs.Rendered.{IsLeft, IsShown, chain-faults, render-done, render-ended, render-faults, render-stopped}
 use Rattle.run_lines.proofs.Stopping.{same_stop, same_stop_faults}
 use Rattle.run_lines.specs.Stops.{stop_of}
 use Rattle.run_lines.specs.declared.stop.Stop.{Stop}
@@ -41,7 +39,6 @@ returns-in_err-write_render-clause-did g c = λ exposed capacity state files hol
     let parts = c.args.session.now in
     let before : Moment = record { files = g.F.Shelf.files c.args.shelf.now; text = g.O.Sink.written c.args.out.now; reads = g.F.Shelf.read_faults c.args.shelf.now; writes = g.F.Shelf.write_faults c.args.shelf.now; puts = g.O.Sink.faults c.args.out.now; chain = g.C.ChainMeaning.counts c.args.chain.now } in
     let after : Moment = record { files = g.F.Shelf.files c.write_render.new.shelf; text = g.O.Sink.written c.write_render.new.out; reads = g.F.Shelf.read_faults c.write_render.new.shelf; writes = g.F.Shelf.write_faults c.write_render.new.shelf; puts = g.O.Sink.faults c.write_render.new.out; chain = g.C.ChainMeaning.counts c.render.new.chain } in
-    let there = passes (has_node (specs_of parts.graph.latest.nodes) c.in-Render.name) (λ none. (let other = ensures.unknown none in cc)) in
     let shown : IsShown exposed state parts c.in-Render.name c.in-Render.level c.in-Render.rect c.in_ok-patch.patch c.raw_bytes-bytes.result.now = record {
       box = ensures.rect;
       format = ensures.format;
@@ -53,7 +50,7 @@ returns-in_err-write_render-clause-did g c = λ exposed capacity state files hol
     rw c.in-Render.is
     (same_stop exposed capacity line state files _ _ _ _ _ _ _ c.from_residual-in_err-write_render.ensures.1
     (render-ended exposed capacity line state files parts c.render.new.self (g.C.ChainMeaning.held c.args.chain.now) (g.C.ChainMeaning.held c.render.new.chain)
-    c.in-Render.name c.in-Render.level c.in-Render.rect c.in-Render.file before after holds ensures.stated there ensures.narrow c.in_ok-patch.patch c.raw_bytes-bytes.result.now shown c.number.result number
+    c.in-Render.name c.in-Render.level c.in-Render.rect c.in-Render.file before after holds ensures.stated ensures.can c.in_ok-patch.patch c.raw_bytes-bytes.result.now shown c.number.result number
     _ c.in_err-write_render.ensures.cause.room c.in_err-write_render.ensures.leaves c.in_err-write_render.field-0.0 refl))
 
 pub returns-in_err-write_render-clause-faults : goal.returns-in_err-write_render-clause-faults
@@ -75,7 +72,6 @@ returns-clause-did g c = λ exposed capacity state files holds.
     let later = g.C.ChainMeaning.held c.render.new.chain in
     let before : Moment = record { files = g.F.Shelf.files c.args.shelf.now; text = g.O.Sink.written c.args.out.now; reads = g.F.Shelf.read_faults c.args.shelf.now; writes = g.F.Shelf.write_faults c.args.shelf.now; puts = g.O.Sink.faults c.args.out.now; chain = g.C.ChainMeaning.counts c.args.chain.now } in
     let after : Moment = record { files = g.F.Shelf.files c.write_render.new.shelf; text = g.O.Sink.written c.write_render.new.out; reads = g.F.Shelf.read_faults c.write_render.new.shelf; writes = g.F.Shelf.write_faults c.write_render.new.shelf; puts = g.O.Sink.faults c.write_render.new.out; chain = g.C.ChainMeaning.counts c.render.new.chain } in
-    let there = passes (has_node (specs_of parts.graph.latest.nodes) c.in-Render.name) (λ none. (let other = ensures.unknown none in cc)) in
     let shown : IsShown exposed state parts c.in-Render.name c.in-Render.level c.in-Render.rect c.in_ok-patch.patch c.raw_bytes-bytes.result.now = record {
       box = ensures.rect;
       format = ensures.format;
@@ -93,7 +89,7 @@ returns-clause-did g c = λ exposed capacity state files holds.
     } in
     rw c.in-Render.is
     (render-done exposed capacity line state files parts c.render.new.self held later
-    c.in-Render.name c.in-Render.level c.in-Render.rect c.in-Render.file before after holds ensures.stated there ensures.narrow c.in_ok-patch.patch c.raw_bytes-bytes.result.now shown c.number.result number
+    c.in-Render.name c.in-Render.level c.in-Render.rect c.in-Render.file before after holds ensures.stated ensures.can c.in_ok-patch.patch c.raw_bytes-bytes.result.now shown c.number.result number
     _ c.in_ok-write_render.ensures.cause.room c.in_ok-write_render.ensures.leaves refl left)
 
 pub returns-clause-faults : goal.returns-clause-faults
