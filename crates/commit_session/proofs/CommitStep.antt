@@ -1,5 +1,5 @@
 -- A commit is a step of the states that are held.
-use Rattle.std.proofs.Common.{◌≡◌, ℕ, ◌+◌, Bool, List, [], ◌∷◌, refl, sym, ap, subst, ◌∙◌, Ok, Err}
+use Rattle.std.proofs.Common.{◌≡◌, ℕ, ◌+◌, Bool, List, ◌∷◌, refl, sym, ap, subst, ◌∙◌, Ok, Err}
 use Rattle.pixel_formats.specs.Limits.{max_undoable}
 use Rattle.chain_owners.specs.Held.{Held}
 use Rattle.model_buffers.specs.Table.{Table}

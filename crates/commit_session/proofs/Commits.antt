@@ -1,7 +1,6 @@
 -- A commit of a graph is one of the history that is held.
-use Rattle.std.proofs.Common.{◌≡◌, ℕ, ◌+◌, Bool, true, false, cond, List, [], ◌∷◌, take, refl, sym, ap, subst, ◌∙◌, Result, Ok, Err}
+use Rattle.std.proofs.Common.{◌≡◌, ℕ, Bool, true, false, cond, List, refl, sym, ap, subst, ◌∙◌, Result, Ok, Err}
 use Rattle.std.specs.Prelude.{◌==◌}
-use Rattle.pixel_formats.specs.Limits.{max_undoable}
 use Rattle.model_buffers.specs.Table.{Table}
 use Rattle.model_graphs.specs.declared.node.NodeEdit.{NodeEdit}
 use Rattle.model_graphs.specs.Facts.{Facts, shapes_of_facts, specs_of}
@@ -10,13 +9,12 @@ use Rattle.model_graphs.specs.Node.{Node}
 use Rattle.model_graphs.specs.Shapes.{Shapes}
 use Rattle.model_states.specs.declared.refused.StateRefused.{StateRefused}
 use Rattle.model_states.specs.declared.refused.StateRefused.TheVariants.{TooManyCommits}
-use Rattle.model_states.specs.Commits.{Graph, change_to, commit_nodes, commit_side, committed, side_of}
-use Rattle.model_states.specs.Damage.{Side, damage_list}
+use Rattle.model_states.specs.Commits.{Graph, commit_nodes, commit_side, committed, side_of}
 use Rattle.model_states.specs.Edits.{edited}
 use Rattle.model_states.specs.History as history
 use Rattle.model_states.specs.History.{History, appended}
 use Rattle.model_states.specs.Rectangles.{Rectangles}
-use Rattle.model_states.specs.Retained.{Stepped, last_number, unless_last, with_commit}
+use Rattle.model_states.specs.Retained.{Stepped, last_number}
 use Rattle.model_states.specs.Workspace as workspace
 use Rattle.model_states.specs.Workspace.{Workspace}
 use Rattle.model_sessions.specs.Tables.{table_shapes}

@@ -1,12 +1,12 @@
 -- States of the definitions that are held, as a graph knows them.
-use Rattle.std.proofs.Common.{◌≡◌, ℕ, zero, suc, Bool, List, [], ◌∷◌, take, map, refl, sym, ap, subst, ◌∙◌, Option}
+use Rattle.std.proofs.Common.{◌≡◌, ℕ, zero, suc, Bool, List, [], ◌∷◌, take, sym, ap, subst, ◌∙◌, Option}
 use Rattle.std.specs.Prelude.{IfSome}
 use Rattle.std.specs.List.{AllByRecursion}
 use Rattle.chain_owners.specs.Held.{Held}
 use Rattle.model_buffers.specs.Layout.{TableLayout, facts_of}
 use Rattle.model_buffers.specs.Table.{Table}
 use Rattle.model_graphs.specs.declared.node.NodeFact.{NodeFact}
-use Rattle.model_graphs.specs.Facts.{Facts, shapes_of_facts, specs_of}
+use Rattle.model_graphs.specs.Facts.{Facts, shapes_of_facts}
 use Rattle.model_graphs.specs.Meanings.{Meanings}
 use Rattle.model_states.specs.Commits.{side_of}
 use Rattle.model_states.specs.Damage.{IsStated, Side}

@@ -1,5 +1,5 @@
 -- Sessions that a refused step leaves as they were, and why it is refused.
-use Rattle.std.proofs.Common.{◌≡◌, ℕ, Bool, List, [], ◌++◌, refl, sym, ap, ◌∙◌, Option, Result, Err, arith}
+use Rattle.std.proofs.Common.{◌≡◌, Bool, [], ◌++◌, refl, sym, ap, ◌∙◌, Option, Result, Err, arith}
 use Rattle.std.specs.Map.{values_of}
 use Rattle.chain_owners.specs.Owners.{Owns}
 use Rattle.chain_owners.proofs.Ownership.{times-append}

@@ -1,5 +1,5 @@
 -- Retained states over a chain that shows the same.
-use Rattle.std.proofs.Common.{◌≡◌, Bool, List, sym, ap, subst, Option}
+use Rattle.std.proofs.Common.{◌≡◌, Bool, sym, ap, subst, Option}
 use Rattle.std.specs.List.{AllByRecursion}
 use Rattle.chain_owners.specs.Held.{Held}
 use Rattle.model_buffers.specs.Table.{Table}

@@ -3,7 +3,9 @@
 ghost use Rattle.model_operations.specs.Meanings.{int_meanings, same_operation};
 ghost use Rattle.commit_session.specs.Seen.{IsOver};
 
-use crate::step_calls::{Step, check_byte, create, fill, name, new_session, note_invert, note_source, step};
+use crate::step_calls::{
+    Step, check_byte, create, fill, make_step, name, new_session, note_invert, note_source,
+};
 use chain_contracts::TileChain;
 use commit_session::{SessionRefused, SessionState};
 use graph_commits::GraphRefused;
@@ -27,7 +29,7 @@ fn leads<C: TileChain>(
     requires { IsOver same_operation int_meanings session.old (C.held chain.old) }
     ensures { IsOver same_operation int_meanings session.new (C.held chain.new) }
 {
-    assert_eq!(rt; step(session, chain, made), Ok(number));
+    assert_eq!(rt; make_step(session, chain, made), Ok(number));
     assert_eq!(rt; session.number(), number);
 }
 
@@ -43,7 +45,7 @@ fn is_refused<C: TileChain>(
     ensures { IsOver same_operation int_meanings session.new (C.held chain.new) }
 {
     let wanted = SessionRefused::Graph(GraphRefused::State(cause));
-    assert_eq!(rt; step(session, chain, made), Err(wanted));
+    assert_eq!(rt; make_step(session, chain, made), Err(wanted));
 }
 
 /// Commits two states, goes back to the first and on again. What isn't committed goes at an undo.
@@ -53,7 +55,13 @@ pub fn go_back_and_on<C: TileChain>(
     alloc: Global,
 ) -> Result<(), Fail> {
     let mut session = new_session(chain, alloc)?;
-    is_refused(rt, &mut session, chain, Step::Undo, StateRefused::NothingToUndo);
+    is_refused(
+        rt,
+        &mut session,
+        chain,
+        Step::Undo,
+        StateRefused::NothingToUndo,
+    );
     create(&mut session, chain, "a", BOX)?;
     fill(&mut session, chain, alloc, "a", BOX, 10)?;
     note_source(&mut session, chain, "s", "a")?;
@@ -71,7 +79,13 @@ pub fn go_back_and_on<C: TileChain>(
     assert!(rt; session.has_node(name("i")?));
     assert!(rt; !session.has_node(name("t")?));
     check_byte(rt, &mut session, chain, "a", BOX, 20)?;
-    is_refused(rt, &mut session, chain, Step::Redo, StateRefused::NothingToRedo);
+    is_refused(
+        rt,
+        &mut session,
+        chain,
+        Step::Redo,
+        StateRefused::NothingToRedo,
+    );
     Ok(())
 }
 
@@ -83,7 +97,13 @@ pub fn commit_again<C: TileChain>(
 ) -> Result<(), Fail> {
     let mut session = new_session(chain, alloc)?;
     note_source(&mut session, chain, "s", "a")?;
-    is_refused(rt, &mut session, chain, Step::Commit, StateRefused::UnknownInput);
+    is_refused(
+        rt,
+        &mut session,
+        chain,
+        Step::Commit,
+        StateRefused::UnknownInput,
+    );
     create(&mut session, chain, "a", BOX)?;
     leads(rt, &mut session, chain, Step::Commit, 1);
     assert!(rt; session.has_node(name("s")?));
@@ -112,8 +132,20 @@ pub fn undo_all<C: TileChain>(rt: &impl Abort, chain: &mut C, alloc: Global) -> 
     let mut session = new_session(chain, alloc)?;
     steps_from(rt, &mut session, chain, Step::Commit, 1, 66);
     steps_from(rt, &mut session, chain, Step::Undo, 67, 64);
-    is_refused(rt, &mut session, chain, Step::Undo, StateRefused::NothingToUndo);
+    is_refused(
+        rt,
+        &mut session,
+        chain,
+        Step::Undo,
+        StateRefused::NothingToUndo,
+    );
     steps_from(rt, &mut session, chain, Step::Redo, 131, 64);
-    is_refused(rt, &mut session, chain, Step::Redo, StateRefused::NothingToRedo);
+    is_refused(
+        rt,
+        &mut session,
+        chain,
+        Step::Redo,
+        StateRefused::NothingToRedo,
+    );
     Ok(())
 }

@@ -1,11 +1,9 @@
 use Rattle.std.proofs.Common.{◌≡◌, List, [], ◌++◌, sym, ap, subst, ◌∙◌, Ok}
 use Rattle.root_tiles.specs.Chains.{ChainState}
-use Rattle.model_graphs.specs.Facts.{Facts, rectangles_of}
+use Rattle.model_graphs.specs.Facts.{rectangles_of}
 use Rattle.model_graphs.specs.Laws.{KeepsLaws}
-use Rattle.model_graphs.specs.declared.node.NodeEdit.{NodeEdit}
 use Rattle.model_states.specs.Commits.{Graph, committed}
 use Rattle.model_states.specs.Rectangles.{Rectangles}
-use Rattle.model_states.specs.Retained.{Stepped}
 use Rattle.session_states.specs.OverChains.{AreVersionsOver, Leaves, tables_of, versions_names}
 use Rattle.buffer_view.specs.BufferTables.{BufferTable, buffers_names}
 use Rattle.std.proofs.Common.{ℕ}

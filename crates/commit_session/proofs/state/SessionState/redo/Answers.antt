@@ -1,18 +1,14 @@
-use Rattle.std.proofs.Common.{◌≡◌, List, [], ◌++◌, sym, ap, subst, ◌∙◌, Ok}
+use Rattle.std.proofs.Common.{◌≡◌, List, [], ◌++◌, sym, ap, subst}
 use Rattle.root_tiles.specs.Chains.{ChainState}
-use Rattle.model_graphs.specs.Facts.{Facts, rectangles_of}
+use Rattle.model_graphs.specs.Facts.{rectangles_of}
 use Rattle.model_graphs.specs.Laws.{KeepsLaws}
-use Rattle.model_graphs.specs.declared.node.NodeEdit.{NodeEdit}
-use Rattle.model_states.specs.Commits.{Graph, committed}
-use Rattle.model_states.specs.Rectangles.{Rectangles}
-use Rattle.model_states.specs.Retained.{Stepped}
+use Rattle.model_states.specs.Commits.{Graph}
 use Rattle.session_states.specs.OverChains.{AreVersionsOver, Leaves, tables_of, versions_names}
 use Rattle.buffer_view.specs.BufferTables.{BufferTable, buffers_names}
 use Rattle.std.proofs.Common.{ℕ}
 use Rattle.chain_owners.specs.Owners.{Owns}
-use Rattle.graph_commits.specs.Graphs.{AreDamagesOf}
 use Rattle.graph_edits.specs.Refusals.{IsRefusalOf}
-use Rattle.commit_session.specs.Parts.{Parts, session_names, working_facts}
+use Rattle.commit_session.specs.Parts.{Parts, session_names}
 use Rattle.commit_session.specs.Refusals.{IsRefusedAs, by_graph}
 use Rattle.commit_session.specs.Seen.{IsOver, IsSessionOf}
 use Rattle.std.proofs.Common.{rules, tests}
