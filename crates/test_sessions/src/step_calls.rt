@@ -132,15 +132,15 @@ pub fn note_invert<C: TileChain>(
 }
 
 /// Makes a step. Returns the number of the state that it leads to, or why it is refused.
-pub fn step<C: TileChain>(
+pub fn make_step<C: TileChain>(
     session: &mut SessionState<IntOp>,
     chain: &mut C,
-    step: Step,
+    made: Step,
 ) -> Result<u64, SessionRefused>
     requires { IsOver same_operation int_meanings session.old (C.held chain.old) }
     ensures { IsOver same_operation int_meanings session.new (C.held chain.new) }
 {
-    match step {
+    match made {
         Step::Commit => session.commit(&IntKit, chain),
         Step::Undo => session.undo(chain),
         Step::Redo => session.redo(chain),
