@@ -4,7 +4,7 @@ ghost use Rattle.model_operations.specs.Meanings.{int_meanings, same_operation};
 ghost use Rattle.commit_session.specs.Seen.{IsOver};
 
 use crate::step_calls::{
-    Step, check_byte, create, fill, name, new_session, note_invert, note_source, step,
+    Step, check_byte, create, fill, make_step, name, new_session, note_invert, note_source,
 };
 use chain_contracts::TileChain;
 use commit_session::{SessionRefused, SessionState};
@@ -29,7 +29,7 @@ fn leads<C: TileChain>(
     requires { IsOver same_operation int_meanings session.old (C.held chain.old) }
     ensures { IsOver same_operation int_meanings session.new (C.held chain.new) }
 {
-    assert_eq!(rt; step(session, chain, made), Ok(number));
+    assert_eq!(rt; make_step(session, chain, made), Ok(number));
     assert_eq!(rt; session.number(), number);
 }
 
@@ -45,7 +45,7 @@ fn is_refused<C: TileChain>(
     ensures { IsOver same_operation int_meanings session.new (C.held chain.new) }
 {
     let wanted = SessionRefused::Graph(GraphRefused::State(cause));
-    assert_eq!(rt; step(session, chain, made), Err(wanted));
+    assert_eq!(rt; make_step(session, chain, made), Err(wanted));
 }
 
 /// Commits two states, goes back to the first and on again. What isn't committed goes at an undo.
