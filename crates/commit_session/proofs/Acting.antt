@@ -1,10 +1,12 @@
 -- Steps and renders of sessions, as actions.
-use Rattle.std.proofs.Common.{◌≡◌, ℕ, ◌+◌, Bool, true, false, cond, Result, Ok, Err, IfOk, refl, sym, ap, ◌∙◌, subst, arith}
+use Rattle.std.proofs.Common.{◌≡◌, ℕ, ◌+◌, Bool, true, false, cond, List, Result, Ok, Err, IfOk, refl, sym, ap, ◌∙◌, subst, arith}
 use Rattle.std.specs.Prelude.{◌==◌}
-use Rattle.std.specs.Result.{OnOk, result_unwrap_or}
+use Rattle.std.specs.Result.{OnErr, OnOk, result_unwrap_or}
 use Rattle.std.proofs.lemmas.Bool.{eq-eqb}
 use Rattle.std.proofs.lemmas.Bool.Decides.{nat_tests}
 use Rattle.chain_owners.specs.Held.{Held}
+use Rattle.root_tiles.specs.Chains.{ChainState}
+use Rattle.model_graphs.specs.declared.node.NodeEdit.{NodeEdit}
 use Rattle.model_buffers.specs.declared.edit.BufferEdit.{BufferEdit}
 use Rattle.model_buffers.specs.BufferEdit.{edit_refused}
 use Rattle.model_buffers.specs.Layout.{TableLayout}
@@ -18,9 +20,11 @@ use Rattle.model_states.specs.History as history
 use Rattle.model_sessions.specs.Sessions.{Make, Session, after_action, with_history, with_state}
 use Rattle.model_sessions.specs.Steps.{Commit, EditBuffer, HistoryEdit, Redo, Undo, after_step}
 use Rattle.model_sessions.specs.Tables.{table_shapes}
-use Rattle.commit_session.specs.Parts.{Parts}
+use Rattle.session_states.specs.OverChains.{Leaves}
+use Rattle.commit_session.specs.Parts.{Parts, session_names}
 use Rattle.commit_session.specs.Seen.{IsSessionOf}
-use Rattle.commit_session.specs.Steps.{IsEditedBy, LeadsTo}
+use Rattle.commit_session.specs.Steps.{HasSameStates, IsEditedBy, LeadsTo}
+use Rattle.commit_session.proofs.Changed.{leaves-nothing}
 use Rattle.commit_session.proofs.Working.{edit-number}
 
 -- what holds at Ok may be said in other words
@@ -31,6 +35,33 @@ on-ok (Err e) P Q to p = tt
 pub on-both : {T E : Type 0} (r : Result T E) (P Q R : Type 0) → (P → Q → R) → OnOk r P → OnOk r Q → OnOk r R
 on-both (Ok x) P Q R to p q = to p q
 on-both (Err e) P Q R to p q = tt
+
+pub on-error : {T E : Type 0} (r : Result T E) (P Q : Type 0) → (P → Q) → OnErr r P → OnErr r Q
+on-error (Ok x) P Q to p = tt
+on-error (Err e) P Q to p = to p
+
+-- ---- an edit of nodes that was noted, or was not
+
+module _ {Op T E : Type 0} (r : Result T E) (old new : Parts Op) (pending : List (NodeEdit Op)) (noted : OnOk r (new ≡ record old { pending = pending })) (unchanged : OnErr r (new ≡ old)) where
+  noted-as : (P : Parts Op → Type 0) → P (record old { pending = pending }) → P old → P new
+  noted-as P first second = by r noted unchanged
+    where
+      by : (r : Result T E) → OnOk r (new ≡ record old { pending = pending }) → OnErr r (new ≡ old) → P new
+      by (Ok x) is not = subst P (sym is) first
+      by (Err e) is not = subst P (sym not) second
+
+  pub noted-states : HasSameStates old new
+  noted-states =
+      noted-as (λ (p : Parts Op). HasSameStates old p)
+      (record { latest = refl; undoable = refl; redoable = refl; graph = refl; entries = refl; most = refl; capacity = refl; applied = refl; reused = refl })
+      (record { latest = refl; undoable = refl; redoable = refl; graph = refl; entries = refl; most = refl; capacity = refl; applied = refl; reused = refl })
+
+  pub noted-left : (state : ChainState) → Leaves 0 (session_names old) (session_names new) state state
+  noted-left state =
+      noted-as (λ (p : Parts Op). Leaves 0 (session_names old) (session_names p) state state)
+      (leaves-nothing (session_names old) state) (leaves-nothing (session_names old) state)
+
+-- ---- actions
 
 module _ {Op : Type 0} (same : Op → Op → Bool) (meanings : Meanings Op) (session : Session Table Op) where
   -- a history of the same states, and one of one state more

@@ -1,7 +1,8 @@
 -- Renders of sessions, by what the lower call is handed and answers.
-use Rattle.std.proofs.Common.{◌≡◌, ℕ, ◌+◌, Bool, true, false, cond, List, ◌++◌, Option, None, Some, refl, sym, ap, ◌∙◌, subst, arith}
-use Rattle.std.specs.Prelude.{◌&&◌, IsSome, is_none, is_some, min}
+use Rattle.std.proofs.Common.{◌≡◌, ℕ, ◌+◌, Bool, true, false, cond, List, ◌++◌, Option, None, Some, Result, Ok, Err, refl, sym, ap, ◌∙◌, subst, arith}
+use Rattle.std.specs.Prelude.{◌&&◌, IfErr, IsSome, is_none, is_some, min}
 use Rattle.std.specs.Map.{values_of}
+use Rattle.std.specs.Result.{IsErrAnd}
 use Rattle.std.proofs.lemmas.Option.{same_Some}
 use Rattle.chain_owners.specs.Counts.{Grows}
 use Rattle.chain_owners.specs.Held.{Held}
@@ -27,14 +28,18 @@ use Rattle.model_sessions.specs.Sessions.{Session, after_render, can_render, las
 use Rattle.node_cache.specs.NodeNames.{Entries, IsNodeCache, cached_in, pairs_in, sizes_in}
 use Rattle.node_cache.specs.Stores.{HaveOneOwner}
 use Rattle.node_tiles.specs.Stated.{scene_of}
+use Rattle.strip_renders.specs.Moments.{Moment}
 use Rattle.strip_renders.specs.Strips.{AreKnownRight, AreSizedPairs, list_after}
-use Rattle.render_workers.specs.Refusals.{CanBeRendered}
+use Rattle.render_workers.specs.declared.refused.RenderRefused.{RenderRefused}
+use Rattle.render_workers.specs.declared.refused.RenderRefused.TheVariants as renders
+use Rattle.render_workers.specs.Refusals.{CanBeRendered, ChangesNothing}
 use Rattle.render_workers.specs.Requests.{Request, image_requested, pairs_requested, strips_needed}
 use Rattle.buffer_view.specs.BufferTables.{AreBuffersOver, BufferTable, buffer_images, buffers_names}
 use Rattle.session_states.specs.OverChains.{Leaves, names_of_all, versions_names}
 use Rattle.session_states.proofs.Names.{leaves-beside}
 use Rattle.commit_session.specs.Parts.{Parts, session_names}
-use Rattle.commit_session.specs.Rendering.{HasSameButCache, IsRecached, looked_up_by}
+use Rattle.commit_session.specs.Refusals.{by_render}
+use Rattle.commit_session.specs.Rendering.{HasSameButCache, IsRecached, OnPlanRefused, looked_up_by}
 use Rattle.commit_session.specs.Seen.{IsOver, IsSessionOf}
 use Rattle.commit_session.proofs.Rendered.{image-rendered, images, images-known, known-exposed, list-known, over-after, refreshed, right-known, scene, scene-is, session-refreshed, session-rendered, shown, sized-old, stated-latest}
 
@@ -47,6 +52,31 @@ holds-unless false never = absurd (never refl)
 pub some-unless : {X : Type 0} (o : Option X) → (o ≡ None → ⊥) → IsSome o
 some-unless None never = absurd (never refl)
 some-unless (Some x) never = refl
+
+-- what holds of a refusal holds of the one that it is handed on as
+pub handed-on : {T E : Type 0} (r : Result T E) (e : E) (P : E → Type 0) → IsErrAnd r (λ handed. handed ≡ e) → P e → IfErr r P
+handed-on (Ok x) e P is holds = tt
+handed-on (Err f) e P is holds = subst P (sym is) holds
+
+-- one answer is not two
+pub err-same : {T E : Type 0} (r : Result T E) (x y : E) → r ≡ Err x → r ≡ Err y → x ≡ y
+err-same r x y first second = cc
+
+pub ok-never : {T E : Type 0} (r : Result T E) (x : T) (y : E) → r ≡ Ok x → r ≡ Err y → ⊥
+ok-never r x y first second = cc
+
+-- a sum up to the largest count
+pub saturated : (n old more count : ℕ) → n ≡ min (old + more) max_count → more ≡ count → n ≡ min max_count (old + count)
+saturated n old more count is same = omega (arith, is, same)
+
+-- what is unchanged where a plan refuses
+pub plan-unchanged : (lower : RenderRefused) (old new : Moment) (before after : ℕ) (P : Type 0) → (new ≡ old → after ≡ before → P) → ChangesNothing old new before after lower → OnPlanRefused P (by_render lower)
+plan-unchanged renders.UnknownNode old new before after P by nothing = by nothing.0 nothing.1
+plan-unchanged renders.Rect old new before after P by nothing = by nothing.0 nothing.1
+plan-unchanged (renders.Strip needed capacity) old new before after P by nothing = by nothing.0 nothing.1
+plan-unchanged renders.SwapFault old new before after P by nothing = tt
+plan-unchanged (renders.SwapFull needed longest) old new before after P by nothing = tt
+plan-unchanged renders.NoMemory old new before after P by nothing = tt
 
 module _ {Op : Type 0} (same : Op → Op → Bool) (meanings : Meanings Op) (v now : Parts Op) (is : v ≡ now) (s0 s1 : ChainState)
     (requires : IsOver same meanings now s0.held) (stated : IsStated meanings v.graph.latest) where
@@ -108,6 +138,15 @@ module _ {Op : Type 0} (same : Op → Op → Bool) (meanings : Meanings Op) (v n
       most = cache.same ∙ same_Some capacity v.capacity bound ∙ sym over.cache.same ∙ ap (λ (p : Parts Op). p.most) is;
       capacity = same_Some capacity v.capacity bound ∙ ap (λ (p : Parts Op). p.capacity) is;
     }
+
+    pub final-same : entries ≡ v.entries → applied ≡ v.applied → reused ≡ v.reused → final ≡ now
+    final-same first second third =
+        ap (λ (es : Entries). let p : Parts Op = record final { entries = es } in p) first
+        ∙ ap (λ (n : ℕ). let p : Parts Op = record v { most = n; capacity = capacity; applied = applied; reused = reused } in p) (cache.same ∙ same_Some capacity v.capacity bound ∙ sym over.cache.same)
+        ∙ ap (λ (n : ℕ). let p : Parts Op = record v { capacity = n; applied = applied; reused = reused } in p) (same_Some capacity v.capacity bound)
+        ∙ ap (λ (n : ℕ). let p : Parts Op = record v { applied = n; reused = reused } in p) second
+        ∙ ap (λ (n : ℕ). let p : Parts Op = record v { reused = n } in p) third
+        ∙ is
 
     pub final-left : (added : ℕ) → Grows added s0.counts s1.counts → s1.loans ≡ s0.loans → (s0.valid → s1.valid)
         → Leaves added (session_names now) (session_names final) s0 s1
