@@ -1,154 +1,92 @@
-//! The examples. What each must leave was worked out by hand.
+//! The examples of buffers and of nodes.
 
-use crate::cases::{Failing, NONE_FAILS, run_script, run_words, words_of};
-use crate::scripts::{COMMENTED, GRAMMAR, REGIONS, SCRIPT, UNBUILT};
+use crate::buffer_cases::{BUFFERS, EDGES};
+use crate::cases::{PLAIN, SOUND, check_case, check_cases, run_over, shelf_of};
+use crate::edit_cases::EDITED;
+use crate::fault_cases::{EDITING_JOB, EDITING_JOB_IN_11, EDITING_JOB_IN_12};
+use crate::graph_cases::{RENDERED, STRIP_TOO_WIDE, WIDEST_STRIP};
 use std::test::Fail;
 
-const RASTER: &[u8] = b"\x00\x40\x80\xff";
+/// Words that ask for the same run of a small script, with few tiles in memory and with many.
+const SAME_RUNS: [&str; 5] = [
+    PLAIN,
+    "run script.txt --resident=1",
+    "run --resident 2 script.txt --swap-blocks=2048",
+    "run --swap-blocks 0001216 script.txt --resident 1 --cache 65536",
+    "run script.txt --resident 37 --swap-blocks 1",
+];
 
-/// The raster with each sample inverted.
-const INVERSE: &[u8] = b"\xff\xbf\x7f\x00";
-
-#[test]
-fn a_raster_is_inverted(rt: HostRuntime) -> Result<(), Fail> {
-    let ended = run_script(rt.alloc(), SCRIPT, RASTER, NONE_FAILS)?;
-    assert_eq!(rt; ended.status, 0);
-    assert_eq!(rt;
-        ended.text.as_slice(),
-        b"render 6 commit 1 bytes 4\n".as_slice()
-    );
-    assert_eq!(rt; ended.shelf.get("out.raw"), Some(INVERSE));
-    Ok(())
-}
-
-#[test]
-fn regions_outside_the_box_are_zero(rt: HostRuntime) -> Result<(), Fail> {
-    let ended = run_script(rt.alloc(), REGIONS, RASTER, NONE_FAILS)?;
-    assert_eq!(rt; ended.status, 0);
-    let text =
-        b"render 6 commit 1 bytes 4\nrender 7 commit 1 bytes 0\nrender 8 commit 1 bytes 8\n".as_slice();
-    assert_eq!(rt; ended.text.as_slice(), text);
-    assert_eq!(rt; ended.shelf.get("out.raw"), Some(INVERSE));
-    assert_eq!(rt; ended.shelf.get("none.raw"), Some(b"".as_slice()));
-    assert_eq!(rt;
-        ended.shelf.get("wide.raw"),
-        Some(b"\x00\x00\x00\x00\xff\xbf\x00\x00".as_slice())
-    );
-    Ok(())
-}
+/// Lines that grab a level of 00 40 80 FF under a policy, and the bytes of their file. Level 1 is the mean
+/// (0 + 64 + 128 + 255 + 2) div 4 = 112, and level 2 is (112 + 2) div 4 = 28.
+const GRABS: [(&str, &[u8]); 12] = [
+    ("grab a 0 NONE -1 0 4 1 o", b"\x00\x00\x40\x00"),
+    ("grab a 0 CLAMP -1 0 4 1 o", b"\x00\x00\x40\x40"),
+    ("grab a 0 LOOP -1 0 4 1 o", b"\x40\x00\x40\x00"),
+    ("grab a 0 BLACK -1 0 4 1 o", b"\x00\x00\x40\x00"),
+    ("grab a 0 WHITE -1 0 4 1 o", b"\xff\x00\x40\xff"),
+    ("grab a 1 NONE -1 0 3 1 o", b"\x00\x70\x00"),
+    ("grab a 1 CLAMP -1 0 3 1 o", b"\x70\x70\x70"),
+    ("grab a 1 LOOP -1 0 3 1 o", b"\x70\x70\x70"),
+    ("grab a 1 BLACK -1 0 3 1 o", b"\x00\x70\x00"),
+    ("grab a 1 WHITE -1 0 3 1 o", b"\xff\x70\xff"),
+    ("grab a 2 NONE 0 0 2 1 o", b"\x1c\x00"),
+    ("grab a 2 WHITE 0 0 2 1 o", b"\x1c\xff"),
+];
 
 #[test]
-fn lines_may_be_spaced_and_commented(rt: HostRuntime) -> Result<(), Fail> {
-    let ended = run_script(rt.alloc(), COMMENTED, RASTER, NONE_FAILS)?;
-    assert_eq!(rt; ended.status, 0);
-    let text = b"render 12 commit 1 bytes 4\nrender 14 commit 1 bytes 8\n".as_slice();
-    assert_eq!(rt; ended.text.as_slice(), text);
-    assert_eq!(rt; ended.shelf.get("out.raw"), Some(INVERSE));
-    assert_eq!(rt;
-        ended.shelf.get("wide.raw"),
-        Some(b"\x00\x00\x00\x00\xff\xbf\x00\x00".as_slice())
-    );
-    let short = run_script(rt.alloc(), COMMENTED, b"\x00", NONE_FAILS)?;
-    assert_eq!(rt; short.status, 2);
-    assert_eq!(rt; short.text.as_slice(), b"line 5: WrongSize\n".as_slice());
-    Ok(())
-}
-
-#[test]
-fn the_first_line_that_breaks_the_grammar_is_refused(rt: HostRuntime) -> Result<(), Fail> {
-    for (script, text) in GRAMMAR {
-        let ended = run_script(rt.alloc(), script, RASTER, NONE_FAILS)?;
-        assert_eq!(rt; ended.text.as_slice(), text);
-        assert_eq!(rt; ended.status, if text.is_empty() { 0 } else { 2 });
+fn buffers_are_edited_and_grabbed(rt: HostRuntime) -> Result<(), Fail> {
+    for line in SAME_RUNS {
+        check_cases(&rt, rt.alloc(), line, &BUFFERS)?;
     }
     Ok(())
 }
 
 #[test]
-fn the_first_line_that_isnt_built_is_refused(rt: HostRuntime) -> Result<(), Fail> {
-    for (script, text) in UNBUILT {
-        let ended = run_script(rt.alloc(), script, RASTER, NONE_FAILS)?;
-        assert_eq!(rt; ended.text.as_slice(), text);
-        assert_eq!(rt; ended.status, 2);
-        assert_eq!(rt; ended.shelf.get("out.raw"), None);
-    }
-    Ok(())
-}
-
-#[test]
-fn a_raster_of_a_wrong_size_is_refused(rt: HostRuntime) -> Result<(), Fail> {
-    for raster in [b"".as_slice(), b"\x00\x40\x80", b"\x00\x40\x80\xff\x00"] {
-        let ended = run_script(rt.alloc(), SCRIPT, raster, NONE_FAILS)?;
-        assert_eq!(rt; ended.status, 2);
-        assert_eq!(rt; ended.text.as_slice(), b"line 2: WrongSize\n".as_slice());
-        assert_eq!(rt; ended.shelf.get("out.raw"), None);
-    }
-    Ok(())
-}
-
-#[test]
-fn an_absent_file_is_refused(rt: HostRuntime) -> Result<(), Fail> {
+fn levels_are_grabbed_under_policies(rt: HostRuntime) -> Result<(), Fail> {
     let alloc = rt.alloc();
-    let script = SCRIPT.to_vec(alloc)?;
-    let files = vec![in alloc; ("script.txt".to_string(alloc)?, script)]?;
-    let words = vec![in alloc; "run".to_string(alloc)?, "script.txt".to_string(alloc)?]?;
-    let ended = run_words(alloc, &words, files, NONE_FAILS)?;
-    assert_eq!(rt; ended.status, 2);
-    assert_eq!(rt; ended.text.as_slice(), b"line 2: Absent\n".as_slice());
-    let ended = run_words(alloc, &words, Vec::new(alloc), NONE_FAILS)?;
-    assert_eq!(rt; ended.status, 2);
-    assert_eq!(rt; ended.text.as_slice(), b"line 0: Absent\n".as_slice());
-    Ok(())
-}
-
-#[test]
-fn other_words_have_status_1(rt: HostRuntime) -> Result<(), Fail> {
-    for line in [
-        "run",
-        "help",
-        "script.txt",
-        "run -- script.txt",
-        "run script.txt --workers 0",
-        "run script.txt script.txt",
-        "RUN script.txt",
-        "run ../script.txt",
-        "run -script",
-        "run script.txt --resident 0",
-        "run script.txt --resident 32769",
-        "run script.txt --resident=1 --resident 1",
-        "run script.txt --resident 00000001",
-        "run script.txt --swap-blocks 1048577",
-        "run script.txt --swap-blocks",
-        "run script.txt --workers 2",
-        "run script.txt --cache 5",
-        "make 1",
-    ] {
-        let words = words_of(rt.alloc(), line)?;
-        let ended = run_words(rt.alloc(), &words, Vec::new(rt.alloc()), NONE_FAILS)?;
-        assert_eq!(rt; ended.status, 1, "{line}");
-        assert_eq!(rt; ended.text.is_empty(), true, "{line}");
+    for (grab, file) in GRABS {
+        let script = format!(in alloc; "buffer a Y8 0 0 2 2\nload a 0 0 2 2 in.raw\n{grab}")?;
+        let files = [
+            ("script.txt", script.as_bytes()),
+            ("in.raw", b"\x00\x40\x80\xff".as_slice()),
+        ];
+        let mut shelf = shelf_of(alloc, &files, SOUND)?;
+        let ended = run_over(alloc, PLAIN, &mut shelf, SOUND)?;
+        assert_eq!(rt; ended.status, 0, "{grab}");
+        assert_eq!(rt; shelf.get("o"), Some(file), "{grab}");
     }
     Ok(())
 }
 
 #[test]
-fn a_fault_of_the_outside_ends_the_run(rt: HostRuntime) -> Result<(), Fail> {
-    for (read, write, put, status, text, output) in [
-        (0, 0, 1, 6, b"render 6 comm".as_slice(), Some(INVERSE)),
-        (0, 1, 0, 4, b"", Some(b"\xff\xbf".as_slice())),
-        (1, 0, 0, 3, b"", None),
-        (2, 0, 0, 3, b"", None),
-    ] {
-        let failing = Failing {
-            read,
-            write,
-            put,
-            ..NONE_FAILS
-        };
-        let ended = run_script(rt.alloc(), SCRIPT, RASTER, failing)?;
-        assert_eq!(rt; ended.status, status);
-        assert_eq!(rt; ended.text.as_slice(), text);
-        assert_eq!(rt; ended.shelf.get("out.raw"), output);
+fn the_plane_and_the_levels_have_ends(rt: HostRuntime) -> Result<(), Fail> {
+    check_cases(&rt, rt.alloc(), PLAIN, &EDGES)
+}
+
+#[test]
+fn nodes_are_rendered(rt: HostRuntime) -> Result<(), Fail> {
+    for line in SAME_RUNS {
+        check_cases(&rt, rt.alloc(), line, &RENDERED)?;
     }
     Ok(())
+}
+
+#[test]
+fn edits_are_committed_undone_and_redone(rt: HostRuntime) -> Result<(), Fail> {
+    for line in SAME_RUNS {
+        check_cases(&rt, rt.alloc(), line, &EDITED)?;
+    }
+    Ok(())
+}
+
+#[test]
+fn the_cache_decides_on_strips_and_the_report_alone(rt: HostRuntime) -> Result<(), Fail> {
+    let alloc = rt.alloc();
+    for line in SAME_RUNS {
+        check_case(&rt, alloc, line, &EDITING_JOB)?;
+    }
+    check_case(&rt, alloc, "run script.txt --cache 12", &EDITING_JOB_IN_12)?;
+    check_case(&rt, alloc, "run script.txt --cache 11", &EDITING_JOB_IN_11)?;
+    check_case(&rt, alloc, "run script.txt --cache=65", &WIDEST_STRIP)?;
+    check_case(&rt, alloc, "run script.txt --cache=64", &STRIP_TOO_WIDE)
 }
