@@ -36,7 +36,7 @@ pub struct Devices {
 
 /// Devices that don't fail.
 pub const SOUND: Devices = Devices {
-    blocks: 2_048,
+    blocks: 64,
     read: 0,
     write: 0,
     put: 0,

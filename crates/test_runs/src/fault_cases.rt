@@ -5,107 +5,107 @@ use crate::contents::Content;
 
 /// A job of twenty lines: buffers, their parts and duplicates, nodes, levels and an undo.
 pub const EDITING_JOB: Case = Case {
-    script: "buffer a Y8 0 0 192 128\n\
-          fill a 0 0 192 128 100\n\
-          fill a 64 64 64 64 20\n\
+    script: "buffer a Y8 0 0 128 128\n\
+          fill a 0 0 128 128 200\n\
+          fill a 64 64 64 64 240\n\
           dup b a\n\
-          fill b 0 0 1 1 200\n\
-          copy a b 0 0 64 128 128 0\n\
-          sub c b 32 32 128 64\n\
-          grab c 1 CLAMP 8 8 80 48 g1\n\
+          fill b 40 40 1 1 100\n\
+          copy a b 64 64 64 64 -64 0\n\
+          sub c b 32 32 64 64\n\
+          grab c 1 CLAMP 8 8 32 32 g1\n\
           node s source b\n\
           node i invert s\n\
           node m box 2 CLAMP i\n\
           node o add i m\n\
           commit\n\
-          render o 0 0 0 192 128 r1\n\
+          render o 0 32 32 64 64 r1\n\
           fill b 100 100 8 8 255\n\
           commit\n\
-          render m 2 0 0 48 32 r2\n\
+          render m 2 8 8 24 24 r2\n\
           undo\n\
-          render o 0 0 0 192 128 r3\n\
-          grab a 0 LOOP -64 -64 320 256 g2\n",
+          render o 0 88 48 40 32 r3\n\
+          grab a 0 LOOP -8 40 80 40 g2\n",
     status: 0,
-    text: "grab 8 bytes 3840\n\
-          render 14 commit 1 bytes 24576\n\
-          render 17 commit 2 bytes 1536\n\
-          render 19 commit 3 bytes 24576\n\
-          grab 20 bytes 81920\n\
-          report applied 23 reused 43\n",
+    text: "grab 8 bytes 1024\n\
+          render 14 commit 1 bytes 4096\n\
+          render 17 commit 2 bytes 576\n\
+          render 19 commit 3 bytes 1280\n\
+          grab 20 bytes 3200\n\
+          report applied 17 reused 23\n",
     files: &[
-        ("g1", Content::Hashed(3840, 0x900e_879f_f270_0b25)),
-        ("r1", Content::Hashed(24576, 0x7b07_19a0_0f3d_c374)),
-        ("r2", Content::Hashed(1536, 0xe345_7826_8809_60ac)),
-        ("r3", Content::Hashed(24576, 0x7b07_19a0_0f3d_c374)),
-        ("g2", Content::Hashed(81920, 0xb62e_5ee7_5db0_2325)),
+        ("g1", Content::Hashed(1024, 0x86da_e361_c5d5_c572)),
+        ("r1", Content::Hashed(4096, 0xe9d4_9c9f_a5ef_c3fd)),
+        ("r2", Content::Hashed(576, 0xe9f9_c58d_572a_513a)),
+        ("r3", Content::Hashed(1280, 0x1da8_d416_1a8d_eaa5)),
+        ("g2", Content::Hashed(3200, 0xd155_ad61_47d7_7d25)),
     ],
 };
 
-/// The same with a cache of 12 tiles, as many as its widest strips.
-pub const EDITING_JOB_IN_12: Case = Case {
-    script: "buffer a Y8 0 0 192 128\n\
-          fill a 0 0 192 128 100\n\
-          fill a 64 64 64 64 20\n\
+/// The same with a cache of 8 tiles, as many as its widest strip.
+pub const EDITING_JOB_IN_8: Case = Case {
+    script: "buffer a Y8 0 0 128 128\n\
+          fill a 0 0 128 128 200\n\
+          fill a 64 64 64 64 240\n\
           dup b a\n\
-          fill b 0 0 1 1 200\n\
-          copy a b 0 0 64 128 128 0\n\
-          sub c b 32 32 128 64\n\
-          grab c 1 CLAMP 8 8 80 48 g1\n\
+          fill b 40 40 1 1 100\n\
+          copy a b 64 64 64 64 -64 0\n\
+          sub c b 32 32 64 64\n\
+          grab c 1 CLAMP 8 8 32 32 g1\n\
           node s source b\n\
           node i invert s\n\
           node m box 2 CLAMP i\n\
           node o add i m\n\
           commit\n\
-          render o 0 0 0 192 128 r1\n\
+          render o 0 32 32 64 64 r1\n\
           fill b 100 100 8 8 255\n\
           commit\n\
-          render m 2 0 0 48 32 r2\n\
+          render m 2 8 8 24 24 r2\n\
           undo\n\
-          render o 0 0 0 192 128 r3\n\
-          grab a 0 LOOP -64 -64 320 256 g2\n",
+          render o 0 88 48 40 32 r3\n\
+          grab a 0 LOOP -8 40 80 40 g2\n",
     status: 0,
-    text: "grab 8 bytes 3840\n\
-          render 14 commit 1 bytes 24576\n\
-          render 17 commit 2 bytes 1536\n\
-          render 19 commit 3 bytes 24576\n\
-          grab 20 bytes 81920\n\
-          report applied 35 reused 31\n",
+    text: "grab 8 bytes 1024\n\
+          render 14 commit 1 bytes 4096\n\
+          render 17 commit 2 bytes 576\n\
+          render 19 commit 3 bytes 1280\n\
+          grab 20 bytes 3200\n\
+          report applied 20 reused 20\n",
     files: &[
-        ("g1", Content::Hashed(3840, 0x900e_879f_f270_0b25)),
-        ("r1", Content::Hashed(24576, 0x7b07_19a0_0f3d_c374)),
-        ("r2", Content::Hashed(1536, 0xe345_7826_8809_60ac)),
-        ("r3", Content::Hashed(24576, 0x7b07_19a0_0f3d_c374)),
-        ("g2", Content::Hashed(81920, 0xb62e_5ee7_5db0_2325)),
+        ("g1", Content::Hashed(1024, 0x86da_e361_c5d5_c572)),
+        ("r1", Content::Hashed(4096, 0xe9d4_9c9f_a5ef_c3fd)),
+        ("r2", Content::Hashed(576, 0xe9f9_c58d_572a_513a)),
+        ("r3", Content::Hashed(1280, 0x1da8_d416_1a8d_eaa5)),
+        ("g2", Content::Hashed(3200, 0xd155_ad61_47d7_7d25)),
     ],
 };
 
-/// The same with a cache of 11 tiles.
-pub const EDITING_JOB_IN_11: Case = Case {
-    script: "buffer a Y8 0 0 192 128\n\
-          fill a 0 0 192 128 100\n\
-          fill a 64 64 64 64 20\n\
+/// The same with a cache of 7 tiles.
+pub const EDITING_JOB_IN_7: Case = Case {
+    script: "buffer a Y8 0 0 128 128\n\
+          fill a 0 0 128 128 200\n\
+          fill a 64 64 64 64 240\n\
           dup b a\n\
-          fill b 0 0 1 1 200\n\
-          copy a b 0 0 64 128 128 0\n\
-          sub c b 32 32 128 64\n\
-          grab c 1 CLAMP 8 8 80 48 g1\n\
+          fill b 40 40 1 1 100\n\
+          copy a b 64 64 64 64 -64 0\n\
+          sub c b 32 32 64 64\n\
+          grab c 1 CLAMP 8 8 32 32 g1\n\
           node s source b\n\
           node i invert s\n\
           node m box 2 CLAMP i\n\
           node o add i m\n\
           commit\n\
-          render o 0 0 0 192 128 r1\n\
+          render o 0 32 32 64 64 r1\n\
           fill b 100 100 8 8 255\n\
           commit\n\
-          render m 2 0 0 48 32 r2\n\
+          render m 2 8 8 24 24 r2\n\
           undo\n\
-          render o 0 0 0 192 128 r3\n\
-          grab a 0 LOOP -64 -64 320 256 g2\n",
+          render o 0 88 48 40 32 r3\n\
+          grab a 0 LOOP -8 40 80 40 g2\n",
     status: 2,
-    text: "grab 8 bytes 3840\n\
+    text: "grab 8 bytes 1024\n\
           line 14: Strip\n",
     files: &[
-        ("g1", Content::Hashed(3840, 0x900e_879f_f270_0b25)),
+        ("g1", Content::Hashed(1024, 0x86da_e361_c5d5_c572)),
         ("r1", Content::Absent),
         ("r2", Content::Absent),
         ("r3", Content::Absent),

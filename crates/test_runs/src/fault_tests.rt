@@ -13,7 +13,7 @@ use std::test::Fail;
 const ONE_RESIDENT: &str = "run script.txt --resident 1";
 
 /// More calls of the swap than any case here makes.
-const MOST_CALLS: u64 = 2_000;
+const MOST_CALLS: u64 = 1_000;
 
 /// What the first file holds whose text isn't whole.
 #[derive(Clone, Copy)]
@@ -106,8 +106,22 @@ fn fail_each_write(rt: &impl Abort, alloc: Global, case: &Case) -> Result<u64, F
 }
 
 #[test]
-fn each_read_of_the_swap_ends_the_run_where_it_fails(rt: HostRuntime) -> Result<(), Fail> {
-    for case in [EDITING_JOB, MEANS_AFTER_AN_EDIT, FOUR_GRABS] {
+fn each_read_of_the_swap_ends_a_job_where_it_fails(rt: HostRuntime) -> Result<(), Fail> {
+    let failed = fail_each_read(&rt, rt.alloc(), &EDITING_JOB)?;
+    assert!(rt; failed > 0 && failed < MOST_CALLS, "{failed}");
+    Ok(())
+}
+
+#[test]
+fn each_write_of_the_swap_ends_a_job_where_it_fails(rt: HostRuntime) -> Result<(), Fail> {
+    let failed = fail_each_write(&rt, rt.alloc(), &EDITING_JOB)?;
+    assert!(rt; failed > 0 && failed < MOST_CALLS, "{failed}");
+    Ok(())
+}
+
+#[test]
+fn each_read_of_the_swap_ends_a_run_where_it_fails(rt: HostRuntime) -> Result<(), Fail> {
+    for case in [MEANS_AFTER_AN_EDIT, FOUR_GRABS] {
         let failed = fail_each_read(&rt, rt.alloc(), &case)?;
         assert!(rt; failed > 0 && failed < MOST_CALLS, "{failed}");
     }
@@ -115,8 +129,8 @@ fn each_read_of_the_swap_ends_the_run_where_it_fails(rt: HostRuntime) -> Result<
 }
 
 #[test]
-fn each_write_of_the_swap_ends_the_run_where_it_fails(rt: HostRuntime) -> Result<(), Fail> {
-    for case in [EDITING_JOB, MEANS_AFTER_AN_EDIT, FOUR_GRABS, FOUR_TILES] {
+fn each_write_of_the_swap_ends_a_run_where_it_fails(rt: HostRuntime) -> Result<(), Fail> {
+    for case in [MEANS_AFTER_AN_EDIT, FOUR_GRABS, FOUR_TILES] {
         let failed = fail_each_write(&rt, rt.alloc(), &case)?;
         assert!(rt; failed > 0 && failed < MOST_CALLS, "{failed}");
     }
@@ -204,7 +218,7 @@ fn run_in_blocks(
     Ok(ended.status)
 }
 
-/// Four tiles and one more suffice for the first script, and 37 for the other: so many in memory, or 32 blocks for each
+/// Four tiles and one more suffice for the first script, and 27 for the other: so many in memory, or 32 blocks for each
 /// and for one more.
 #[test]
 fn a_full_swap_ends_the_run(rt: HostRuntime) -> Result<(), Fail> {
@@ -231,8 +245,8 @@ fn a_full_swap_ends_the_run(rt: HostRuntime) -> Result<(), Fail> {
             0,
         ),
         ("run script.txt --resident 1", EDITING_JOB, 4, 8),
-        ("run script.txt --resident 1", EDITING_JOB, 1_216, 0),
-        ("run script.txt --resident 37", EDITING_JOB, 1, 0),
+        ("run script.txt --resident 1", EDITING_JOB, 896, 0),
+        ("run script.txt --resident 27", EDITING_JOB, 1, 0),
     ] {
         let ended = run_in_blocks(&rt, alloc, line, &case, blocks)?;
         assert_eq!(rt; ended, status, "{line}");
@@ -242,7 +256,7 @@ fn a_full_swap_ends_the_run(rt: HostRuntime) -> Result<(), Fail> {
 
 #[test]
 fn a_swap_of_few_blocks_ends_the_run_or_suffices(rt: HostRuntime) -> Result<(), Fail> {
-    for blocks in 1..48 {
+    for blocks in 1..32 {
         let ended = run_in_blocks(&rt, rt.alloc(), ONE_RESIDENT, &EDITING_JOB, blocks)?;
         assert!(rt; ended == 0 || ended == 8, "{blocks}");
     }

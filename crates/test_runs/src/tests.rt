@@ -3,7 +3,7 @@
 use crate::buffer_cases::{BUFFERS, EDGES};
 use crate::cases::{PLAIN, SOUND, check_case, check_cases, run_over, shelf_of};
 use crate::edit_cases::EDITED;
-use crate::fault_cases::{EDITING_JOB, EDITING_JOB_IN_11, EDITING_JOB_IN_12};
+use crate::fault_cases::{EDITING_JOB, EDITING_JOB_IN_7, EDITING_JOB_IN_8};
 use crate::graph_cases::{RENDERED, STRIP_TOO_WIDE, WIDEST_STRIP};
 use std::test::Fail;
 
@@ -12,8 +12,8 @@ const SAME_RUNS: [&str; 5] = [
     PLAIN,
     "run script.txt --resident=1",
     "run --resident 2 script.txt --swap-blocks=2048",
-    "run --swap-blocks 0001216 script.txt --resident 1 --cache 65536",
-    "run script.txt --resident 37 --swap-blocks 1",
+    "run --swap-blocks 0000896 script.txt --resident 1 --cache 65536",
+    "run script.txt --resident 27 --swap-blocks 1",
 ];
 
 /// Lines that grab a level of 00 40 80 FF under a policy, and the bytes of their file. Level 1 is the mean
@@ -85,8 +85,8 @@ fn the_cache_decides_on_strips_and_the_report_alone(rt: HostRuntime) -> Result<(
     for line in SAME_RUNS {
         check_case(&rt, alloc, line, &EDITING_JOB)?;
     }
-    check_case(&rt, alloc, "run script.txt --cache 12", &EDITING_JOB_IN_12)?;
-    check_case(&rt, alloc, "run script.txt --cache 11", &EDITING_JOB_IN_11)?;
+    check_case(&rt, alloc, "run script.txt --cache 8", &EDITING_JOB_IN_8)?;
+    check_case(&rt, alloc, "run script.txt --cache 7", &EDITING_JOB_IN_7)?;
     check_case(&rt, alloc, "run script.txt --cache=65", &WIDEST_STRIP)?;
     check_case(&rt, alloc, "run script.txt --cache=64", &STRIP_TOO_WIDE)
 }
