@@ -39,6 +39,20 @@ impl Content {
         }
     }
 
+    /// Returns whether there is no file, or one that begins this, where the bytes are known.
+    ///
+    /// # Errors
+    ///
+    /// `AllocError` if memory runs out.
+    pub fn is_begun(&self, alloc: Global, file: Option<&[u8]>) -> Result<bool, AllocError> {
+        match (self, file) {
+            (_, None) => Ok(true),
+            (Content::Bytes(wanted), Some(found)) => Ok(wanted.starts_with(found)),
+            (Content::Bands(bands), Some(found)) => Ok(bytes_of(alloc, bands)?.starts_with(found)),
+            _ => Ok(false),
+        }
+    }
+
     /// Returns whether a file holds the first half of this, rounded down.
     pub fn is_half(&self, file: Option<&[u8]>) -> bool {
         match (self, file) {

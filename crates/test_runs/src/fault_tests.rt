@@ -22,6 +22,8 @@ enum Next {
     Absent,
     /// The first half of its bytes.
     Half,
+    /// Some of its first bytes, or there is no such file.
+    Begun,
     /// All of its bytes.
     Whole,
 }
@@ -48,6 +50,7 @@ fn check_beginning(
             match next {
                 Next::Absent => found.is_none(),
                 Next::Half => content.is_half(found),
+                Next::Begun => content.is_begun(alloc, found)?,
                 Next::Whole => whole,
             }
         };
@@ -261,4 +264,18 @@ fn a_swap_of_few_blocks_ends_the_run_or_suffices(rt: HostRuntime) -> Result<(), 
         assert!(rt; ended == 0 || ended == 8, "{blocks}");
     }
     Ok(())
+}
+
+/// Does all, with ample memory. Where a request for memory is refused, as by `rt try --test --fail-alloc N`, the run
+/// ends with status 7 after a beginning, or does all without it; where the request is one of this test, it fails.
+#[test]
+fn a_run_that_is_out_of_memory_ends_early(rt: HostRuntime) -> Result<(), Fail> {
+    let case = MEANS_AFTER_AN_EDIT;
+    let mut shelf = folder_of(rt.alloc(), &case, SOUND)?;
+    let ended = run_over(rt.alloc(), ONE_RESIDENT, &mut shelf, SOUND)?;
+    if ended.status == 7 {
+        check_beginning(&rt, rt.alloc(), &case, &ended, &shelf, Next::Begun)
+    } else {
+        check_end(&rt, rt.alloc(), &case, &ended, &shelf)
+    }
 }
