@@ -4,7 +4,7 @@ use crate::cases::Case;
 use crate::contents::Content;
 
 /// Runs over buffers alone.
-pub const BUFFERS: [Case; 15] = [
+pub const BUFFERS: [Case; 16] = [
     // Without a write a buffer is zero.
     Case {
         script: "buffer a Y8 0 0 4 2\n\
@@ -125,6 +125,60 @@ pub const BUFFERS: [Case; 15] = [
             ("loop", Content::Bytes(b"\x14\x0a\x14\x0a")),
             ("black", Content::Bytes(b"\x00\x0a\x14\x00")),
             ("white", Content::Bytes(b"\xff\x0a\x14\xff")),
+        ],
+    },
+    // Levels under policies: level 1 is the mean (0 + 64 + 128 + 255 + 2) div 4 = 112, and level 2 is (112 + 2) div 4 = 28.
+    Case {
+        script: "buffer a Y8 0 0 2 2\n\
+          load a 0 0 2 2 in.raw\n\
+          grab a 0 NONE -1 0 4 1 none0\n\
+          grab a 0 CLAMP -1 0 4 1 clamp0\n\
+          grab a 0 LOOP -1 0 4 1 loop0\n\
+          grab a 0 BLACK -1 0 4 1 black0\n\
+          grab a 0 WHITE -1 0 4 1 white0\n\
+          grab a 1 NONE -1 0 4 1 none1\n\
+          grab a 1 CLAMP -1 0 4 1 clamp1\n\
+          grab a 1 LOOP -1 0 4 1 loop1\n\
+          grab a 1 BLACK -1 0 4 1 black1\n\
+          grab a 1 WHITE -1 0 4 1 white1\n\
+          grab a 2 NONE -1 0 4 1 none2\n\
+          grab a 2 CLAMP -1 0 4 1 clamp2\n\
+          grab a 2 LOOP -1 0 4 1 loop2\n\
+          grab a 2 BLACK -1 0 4 1 black2\n\
+          grab a 2 WHITE -1 0 4 1 white2\n",
+        status: 0,
+        text: "grab 3 bytes 4\n\
+          grab 4 bytes 4\n\
+          grab 5 bytes 4\n\
+          grab 6 bytes 4\n\
+          grab 7 bytes 4\n\
+          grab 8 bytes 4\n\
+          grab 9 bytes 4\n\
+          grab 10 bytes 4\n\
+          grab 11 bytes 4\n\
+          grab 12 bytes 4\n\
+          grab 13 bytes 4\n\
+          grab 14 bytes 4\n\
+          grab 15 bytes 4\n\
+          grab 16 bytes 4\n\
+          grab 17 bytes 4\n\
+          report applied 0 reused 0\n",
+        files: &[
+            ("none0", Content::Bytes(b"\x00\x00\x40\x00")),
+            ("clamp0", Content::Bytes(b"\x00\x00\x40\x40")),
+            ("loop0", Content::Bytes(b"\x40\x00\x40\x00")),
+            ("black0", Content::Bytes(b"\x00\x00\x40\x00")),
+            ("white0", Content::Bytes(b"\xff\x00\x40\xff")),
+            ("none1", Content::Bytes(b"\x00\x70\x00\x00")),
+            ("clamp1", Content::Bytes(b"\x70\x70\x70\x70")),
+            ("loop1", Content::Bytes(b"\x70\x70\x70\x70")),
+            ("black1", Content::Bytes(b"\x00\x70\x00\x00")),
+            ("white1", Content::Bytes(b"\xff\x70\xff\xff")),
+            ("none2", Content::Bytes(b"\x00\x1c\x00\x00")),
+            ("clamp2", Content::Bytes(b"\x1c\x1c\x1c\x1c")),
+            ("loop2", Content::Bytes(b"\x1c\x1c\x1c\x1c")),
+            ("black2", Content::Bytes(b"\x00\x1c\x00\x00")),
+            ("white2", Content::Bytes(b"\xff\x1c\xff\xff")),
         ],
     },
     // A level of odd width: (10 + 20 + 2) div 4 and (31 + 2) div 4. Its box has two columns.

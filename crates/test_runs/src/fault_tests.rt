@@ -4,6 +4,7 @@ use crate::cases::{Case, Devices, Ended, PLAIN, SOUND, check_end, folder_of, run
 use crate::fault_cases::{
     EDITING_JOB, EITHER_SIDE, FOUR_GRABS, FOUR_TILES, MEANS_AFTER_AN_EDIT, TWO_LOADS,
 };
+use crate::graph_cases::RENDERED;
 use outside_io::MemShelf;
 use std::alloc::{AllocError, Global};
 use std::process::Abort;
@@ -80,26 +81,26 @@ fn fail_and_run_again(
     Ok(true)
 }
 
-/// Lets each read of the swap fail in turn. Returns how many fail.
-fn fail_each_read(rt: &impl Abort, alloc: Global, case: &Case) -> Result<u64, Fail> {
-    for failed in 0..MOST_CALLS {
-        let devices = Devices {
-            swap_read: failed + 1,
-            ..SOUND
-        };
-        if !fail_and_run_again(rt, alloc, case, devices)? {
-            return Ok(failed);
-        }
-    }
-    Ok(MOST_CALLS)
+/// A kind of call of the swap.
+#[derive(Clone, Copy)]
+enum SwapCall {
+    Read,
+    Write,
 }
 
-/// Lets each write of the swap fail in turn. Returns how many fail.
-fn fail_each_write(rt: &impl Abort, alloc: Global, case: &Case) -> Result<u64, Fail> {
+/// Lets each call of a kind fail in turn. Returns how many fail.
+fn fail_each(rt: &impl Abort, alloc: Global, case: &Case, kind: SwapCall) -> Result<u64, Fail> {
     for failed in 0..MOST_CALLS {
-        let devices = Devices {
-            swap_write: failed + 1,
-            ..SOUND
+        let call = failed + 1;
+        let devices = match kind {
+            SwapCall::Read => Devices {
+                swap_read: call,
+                ..SOUND
+            },
+            SwapCall::Write => Devices {
+                swap_write: call,
+                ..SOUND
+            },
         };
         if !fail_and_run_again(rt, alloc, case, devices)? {
             return Ok(failed);
@@ -110,31 +111,27 @@ fn fail_each_write(rt: &impl Abort, alloc: Global, case: &Case) -> Result<u64, F
 
 #[test]
 fn each_read_of_the_swap_ends_a_job_where_it_fails(rt: HostRuntime) -> Result<(), Fail> {
-    let failed = fail_each_read(&rt, rt.alloc(), &EDITING_JOB)?;
+    let failed = fail_each(&rt, rt.alloc(), &EDITING_JOB, SwapCall::Read)?;
     assert!(rt; failed > 0 && failed < MOST_CALLS, "{failed}");
     Ok(())
 }
 
 #[test]
 fn each_write_of_the_swap_ends_a_job_where_it_fails(rt: HostRuntime) -> Result<(), Fail> {
-    let failed = fail_each_write(&rt, rt.alloc(), &EDITING_JOB)?;
+    let failed = fail_each(&rt, rt.alloc(), &EDITING_JOB, SwapCall::Write)?;
     assert!(rt; failed > 0 && failed < MOST_CALLS, "{failed}");
     Ok(())
 }
 
 #[test]
-fn each_read_of_the_swap_ends_a_run_where_it_fails(rt: HostRuntime) -> Result<(), Fail> {
-    for case in [MEANS_AFTER_AN_EDIT, FOUR_GRABS] {
-        let failed = fail_each_read(&rt, rt.alloc(), &case)?;
-        assert!(rt; failed > 0 && failed < MOST_CALLS, "{failed}");
-    }
-    Ok(())
-}
-
-#[test]
-fn each_write_of_the_swap_ends_a_run_where_it_fails(rt: HostRuntime) -> Result<(), Fail> {
-    for case in [MEANS_AFTER_AN_EDIT, FOUR_GRABS, FOUR_TILES] {
-        let failed = fail_each_write(&rt, rt.alloc(), &case)?;
+fn each_call_of_the_swap_ends_a_run_where_it_fails(rt: HostRuntime) -> Result<(), Fail> {
+    for (case, kind) in [
+        (MEANS_AFTER_AN_EDIT, SwapCall::Read),
+        (MEANS_AFTER_AN_EDIT, SwapCall::Write),
+        (FOUR_GRABS, SwapCall::Read),
+        (FOUR_TILES, SwapCall::Write),
+    ] {
+        let failed = fail_each(&rt, rt.alloc(), &case, kind)?;
         assert!(rt; failed > 0 && failed < MOST_CALLS, "{failed}");
     }
     Ok(())
@@ -154,15 +151,6 @@ fn fail_at(
     assert_eq!(rt; ended.status, status);
     check_beginning(rt, alloc, case, &ended, &shelf, next)?;
     Ok(ended.text)
-}
-
-#[test]
-fn a_write_of_the_shelf_that_fails_leaves_half_a_file(rt: HostRuntime) -> Result<(), Fail> {
-    for write in 1..5 {
-        let devices = Devices { write, ..SOUND };
-        fail_at(&rt, rt.alloc(), &EITHER_SIDE, devices, 4, Next::Half)?;
-    }
-    Ok(())
 }
 
 /// Returns the texts before one, and the first half of that one.
@@ -190,14 +178,37 @@ fn a_put_that_fails_comes_after_its_file(rt: HostRuntime) -> Result<(), Fail> {
     Ok(())
 }
 
-/// The first read is that of the script.
+/// The first read is that of the script. A write that fails leaves half a file.
 #[test]
-fn a_read_of_the_shelf_that_fails_ends_the_run(rt: HostRuntime) -> Result<(), Fail> {
-    let first = b"grab 3 bytes 4\n".as_slice();
-    for (read, wanted) in [(1, b"".as_slice()), (2, b""), (3, first)] {
-        let devices = Devices { read, ..SOUND };
-        let text = fail_at(&rt, rt.alloc(), &TWO_LOADS, devices, 3, Next::Absent)?;
-        assert_eq!(rt; text.as_slice(), wanted);
+fn a_call_of_the_shelf_that_fails_ends_the_run(rt: HostRuntime) -> Result<(), Fail> {
+    for (case, read, write, text) in [
+        (TWO_LOADS, 1, 0, b"".as_slice()),
+        (TWO_LOADS, 2, 0, b""),
+        (TWO_LOADS, 3, 0, b"grab 3 bytes 4\n"),
+        (RENDERED[0], 2, 0, b""),
+        (RENDERED[0], 0, 1, b""),
+        (EITHER_SIDE, 0, 1, b""),
+        (EITHER_SIDE, 0, 2, b"grab 5 bytes 2\n"),
+        (EITHER_SIDE, 0, 3, b"grab 5 bytes 2\ngrab 6 bytes 2\n"),
+        (
+            EITHER_SIDE,
+            0,
+            4,
+            b"grab 5 bytes 2\ngrab 6 bytes 2\ngrab 8 bytes 2\n",
+        ),
+    ] {
+        let devices = Devices {
+            read,
+            write,
+            ..SOUND
+        };
+        let (status, next) = if write == 0 {
+            (3, Next::Absent)
+        } else {
+            (4, Next::Half)
+        };
+        let found = fail_at(&rt, rt.alloc(), &case, devices, status, next)?;
+        assert_eq!(rt; found.as_slice(), text);
     }
     Ok(())
 }
@@ -254,13 +265,8 @@ fn a_full_swap_ends_the_run(rt: HostRuntime) -> Result<(), Fail> {
         let ended = run_in_blocks(&rt, alloc, line, &case, blocks)?;
         assert_eq!(rt; ended, status, "{line}");
     }
-    Ok(())
-}
-
-#[test]
-fn a_swap_of_few_blocks_ends_the_run_or_suffices(rt: HostRuntime) -> Result<(), Fail> {
     for blocks in 1..32 {
-        let ended = run_in_blocks(&rt, rt.alloc(), ONE_RESIDENT, &EDITING_JOB, blocks)?;
+        let ended = run_in_blocks(&rt, alloc, ONE_RESIDENT, &EDITING_JOB, blocks)?;
         assert!(rt; ended == 0 || ended == 8, "{blocks}");
     }
     Ok(())

@@ -3,6 +3,7 @@
 use crate::cases::{PLAIN, check_text};
 use crate::refusal_cases::REPORT;
 use std::alloc::{AllocError, Global};
+use std::process::Abort;
 use std::test::Fail;
 
 /// Appends a line some times.
@@ -43,95 +44,84 @@ fn means(alloc: Global, count: u32) -> Result<String, Fail> {
     Ok(script)
 }
 
-/// A chain of 45 means is 5,761 pixels wide and as high; one more has more pixels than an image may have. A pixel of it
-/// needs more tiles than the cache has.
-#[test]
-fn boxes_grow_up_to_the_largest_image(rt: HostRuntime) -> Result<(), Fail> {
-    let alloc = rt.alloc();
+/// Checks that a script is carried out.
+fn check_done(rt: &impl Abort, alloc: Global, script: &str) -> Result<(), Fail> {
+    check_text(rt, alloc, PLAIN, script.as_bytes(), 0, REPORT)
+}
+
+/// Checks the text with which a script is refused.
+fn check_refused(rt: &impl Abort, alloc: Global, script: &str, text: &str) -> Result<(), Fail> {
+    check_text(rt, alloc, PLAIN, script.as_bytes(), 2, text)
+}
+
+/// Checks that a chain of 45 means, which is 5,761 pixels wide and as high, can be made, though a pixel of it needs more
+/// tiles than the cache has; and that one more has more pixels than an image may have.
+fn check_boxes(rt: &impl Abort, alloc: Global) -> Result<(), Fail> {
     let mut script = means(alloc, 45)?;
     script.push_str("commit\n")?;
-    check_text(&rt, alloc, PLAIN, script.as_bytes(), 0, REPORT)?;
+    check_done(rt, alloc, &script)?;
     script.push_str("render n45 0 0 0 1 1 o\n")?;
-    let text = "line 48: Strip\n";
-    check_text(&rt, alloc, PLAIN, script.as_bytes(), 2, text)?;
+    check_refused(rt, alloc, &script, "line 48: Strip\n")?;
     let mut script = means(alloc, 46)?;
     script.push_str("commit\n")?;
-    let text = "line 48: Bounds\n";
-    check_text(&rt, alloc, PLAIN, script.as_bytes(), 2, text)
+    check_refused(rt, alloc, &script, "line 48: Bounds\n")
 }
 
-#[test]
-fn there_are_64_buffers(rt: HostRuntime) -> Result<(), Fail> {
-    let alloc = rt.alloc();
+/// Checks that there are at most 64 buffers and 256 nodes.
+fn check_names(rt: &impl Abort, alloc: Global) -> Result<(), Fail> {
     let mut script = buffers(alloc, 64)?;
-    check_text(&rt, alloc, PLAIN, script.as_bytes(), 0, REPORT)?;
+    check_done(rt, alloc, &script)?;
     script.push_str("buffer a Y8 0 0 1 1\n")?;
-    let text = "line 65: TooManyBuffers\n";
-    check_text(&rt, alloc, PLAIN, script.as_bytes(), 2, text)
-}
-
-#[test]
-fn there_are_256_nodes(rt: HostRuntime) -> Result<(), Fail> {
-    let alloc = rt.alloc();
+    check_refused(rt, alloc, &script, "line 65: TooManyBuffers\n")?;
     let mut script = colors(alloc, 256)?;
     script.push_str("commit\nnode n0 invert n0\n")?;
-    check_text(&rt, alloc, PLAIN, script.as_bytes(), 0, REPORT)?;
+    check_done(rt, alloc, &script)?;
     let mut script = colors(alloc, 257)?;
     script.push_str("commit\n")?;
-    let text = "line 258: TooManyNodes\n";
-    check_text(&rt, alloc, PLAIN, script.as_bytes(), 2, text)
+    check_refused(rt, alloc, &script, "line 258: TooManyNodes\n")
 }
 
-/// After 65 commits 64 states can be undone, and as many redone.
-#[test]
-fn states_of_64_commits_can_be_undone(rt: HostRuntime) -> Result<(), Fail> {
-    let alloc = rt.alloc();
+/// Checks that after 65 commits 64 states can be undone, and as many redone.
+fn check_history(rt: &impl Abort, alloc: Global) -> Result<(), Fail> {
     let mut script = String::new(alloc);
     repeat(&mut script, "commit\n", 65)?;
     repeat(&mut script, "undo\n", 64)?;
-    check_text(&rt, alloc, PLAIN, script.as_bytes(), 0, REPORT)?;
+    check_done(rt, alloc, &script)?;
     let mut undone = script.clone()?;
     undone.push_str("undo\n")?;
-    let text = "line 130: NothingToUndo\n";
-    check_text(&rt, alloc, PLAIN, undone.as_bytes(), 2, text)?;
+    check_refused(rt, alloc, &undone, "line 130: NothingToUndo\n")?;
     repeat(&mut script, "redo\n", 65)?;
-    let text = "line 194: NothingToRedo\n";
-    check_text(&rt, alloc, PLAIN, script.as_bytes(), 2, text)
+    check_refused(rt, alloc, &script, "line 194: NothingToRedo\n")
+}
+
+#[test]
+fn images_names_and_histories_have_limits(rt: HostRuntime) -> Result<(), Fail> {
+    check_boxes(&rt, rt.alloc())?;
+    check_names(&rt, rt.alloc())?;
+    check_history(&rt, rt.alloc())
 }
 
 /// A comment of 1,023 bytes and its end, 1,024 times, is as long as a script may be.
 #[test]
-fn a_script_has_at_most_1048576_bytes(rt: HostRuntime) -> Result<(), Fail> {
+fn scripts_have_limits(rt: HostRuntime) -> Result<(), Fail> {
     let alloc = rt.alloc();
-    let mut comment = String::new(alloc);
-    repeat(&mut comment, "#", 1_023)?;
-    comment.push_str("\n")?;
+    let mut line = String::new(alloc);
+    repeat(&mut line, "#", 1_023)?;
+    let comment = format!(in alloc; "{line}\n")?;
     let mut script = String::new(alloc);
     repeat(&mut script, &comment, 1_024)?;
-    check_text(&rt, alloc, PLAIN, script.as_bytes(), 0, REPORT)?;
+    check_done(&rt, alloc, &script)?;
     script.push_str("\n")?;
-    let text = "line 0: TooLong\n";
-    check_text(&rt, alloc, PLAIN, script.as_bytes(), 2, text)
-}
+    check_refused(&rt, alloc, &script, "line 0: TooLong\n")?;
 
-#[test]
-fn a_script_has_at_most_10000_lines(rt: HostRuntime) -> Result<(), Fail> {
-    let alloc = rt.alloc();
+    line.push_str("#")?;
+    check_done(&rt, alloc, &line)?;
+    line.push_str("#")?;
+    check_refused(&rt, alloc, &line, "line 1: LineTooLong\n")?;
+
     let mut script = String::new(alloc);
     repeat(&mut script, "\n", 10_000)?;
-    check_text(&rt, alloc, PLAIN, script.as_bytes(), 0, REPORT)?;
+    check_done(&rt, alloc, &script)?;
     script.push_str("\n")?;
-    let text = "line 10001: TooManyLines\n";
-    check_text(&rt, alloc, PLAIN, script.as_bytes(), 2, text)
-}
-
-#[test]
-fn a_line_has_at_most_1024_bytes(rt: HostRuntime) -> Result<(), Fail> {
-    let alloc = rt.alloc();
-    let mut script = String::new(alloc);
-    repeat(&mut script, "#", 1_024)?;
-    check_text(&rt, alloc, PLAIN, script.as_bytes(), 0, REPORT)?;
-    script.push_str("#")?;
-    let text = "line 1: LineTooLong\n";
-    check_text(&rt, alloc, PLAIN, script.as_bytes(), 2, text)
+    check_refused(&rt, alloc, &script, "line 10001: TooManyLines\n")
 }

@@ -90,35 +90,23 @@ fn options_stand_in_any_order_and_have_ends(rt: HostRuntime) -> Result<(), Fail>
     for line in RUNS {
         check_text(&rt, rt.alloc(), line, b"buffer a Y8 0 0 1 1\n", 0, REPORT)?;
     }
+    let mut shelf = shelf_of(rt.alloc(), &[("16", b"".as_slice())], SOUND)?;
+    let ended = run_over(rt.alloc(), "run --resident 16 16", &mut shelf, SOUND)?;
+    assert_eq!(rt; ended.status, 0, "a number is a name too");
     Ok(())
 }
 
 #[test]
 fn other_words_have_status_1(rt: HostRuntime) -> Result<(), Fail> {
-    for line in OTHER_WORDS {
-        check_text(&rt, rt.alloc(), line, b"buffer a Y8 0 0 1 1\n", 1, "")?;
-    }
-    Ok(())
-}
-
-#[test]
-fn words_without_a_byte_have_status_1(rt: HostRuntime) -> Result<(), Fail> {
     let alloc = rt.alloc();
+    for line in OTHER_WORDS {
+        check_text(&rt, alloc, line, b"buffer a Y8 0 0 1 1\n", 1, "")?;
+    }
     let mut shelf = shelf_of(alloc, &[("script.txt", b"".as_slice())], SOUND)?;
-    let none = Vec::new(alloc);
-    assert_eq!(rt; run_words(alloc, &none, &mut shelf, SOUND)?.status, 1);
     let no_name = vec![in alloc; "run".to_string(alloc)?, "".to_string(alloc)?]?;
-    assert_eq!(rt; run_words(alloc, &no_name, &mut shelf, SOUND)?.status, 1);
-    Ok(())
-}
-
-#[test]
-fn a_number_is_a_name_too(rt: HostRuntime) -> Result<(), Fail> {
-    let mut shelf = shelf_of(rt.alloc(), &[("16", b"".as_slice())], SOUND)?;
-    let ended = run_over(rt.alloc(), "run --resident 16 16", &mut shelf, SOUND)?;
-    assert_eq!(rt; ended.status, 0);
-    let ended = run_over(rt.alloc(), "run 17", &mut shelf, SOUND)?;
-    assert_eq!(rt; ended.status, 2);
-    assert_eq!(rt; ended.text.as_slice(), b"line 0: Absent\n".as_slice());
+    let ended = run_words(alloc, &no_name, &mut shelf, SOUND)?;
+    assert_eq!(rt; ended.status, 1, "a word without a byte");
+    let ended = run_over(alloc, "", &mut shelf, SOUND)?;
+    assert_eq!(rt; ended.status, 1, "no word");
     Ok(())
 }
