@@ -8,19 +8,24 @@ use crate::graph_cases::{RENDERED, STRIP_TOO_WIDE, WIDEST_STRIP};
 use std::test::Fail;
 
 /// Words that ask for the same run of a small script, with few tiles in memory and with many.
-const SAME_RUNS: [&str; 5] = [
+const SAME_RUNS: [&str; 3] = [
     PLAIN,
-    "run script.txt --resident=1",
-    "run --resident 2 script.txt --swap-blocks=2048",
-    "run --swap-blocks 0000896 script.txt --resident 1 --cache 65536",
-    "run script.txt --resident 27 --swap-blocks 1",
+    "run --swap-blocks 896 script.txt --resident 1 --cache 65536",
+    "run script.txt --resident=27 --swap-blocks=1",
 ];
 
 #[test]
-fn scripts_leave_the_same_whatever_is_resident(rt: HostRuntime) -> Result<(), Fail> {
+fn buffers_are_edited_and_grabbed(rt: HostRuntime) -> Result<(), Fail> {
     for line in SAME_RUNS {
         check_cases(&rt, rt.alloc(), line, &BUFFERS)?;
         check_cases(&rt, rt.alloc(), line, &EDGES)?;
+    }
+    Ok(())
+}
+
+#[test]
+fn nodes_are_rendered_edited_and_undone(rt: HostRuntime) -> Result<(), Fail> {
+    for line in SAME_RUNS {
         check_cases(&rt, rt.alloc(), line, &RENDERED)?;
         check_cases(&rt, rt.alloc(), line, &EDITED)?;
         check_case(&rt, rt.alloc(), line, &EDITING_JOB)?;
