@@ -169,10 +169,17 @@ fn sent(alloc: Global, text: &str, failing: usize) -> Result<Vec<u8>, AllocError
 
 #[test]
 fn a_put_that_fails_comes_after_its_file(rt: HostRuntime) -> Result<(), Fail> {
-    for (put, failing) in [(1, 0), (2, 1), (3, 2), (4, 3), (5, 4)] {
+    for (case, put, failing) in [
+        (RENDERED[0], 1, 0),
+        (EITHER_SIDE, 1, 0),
+        (EITHER_SIDE, 2, 1),
+        (EITHER_SIDE, 3, 2),
+        (EITHER_SIDE, 4, 3),
+        (EITHER_SIDE, 5, 4),
+    ] {
         let devices = Devices { put, ..SOUND };
-        let text = fail_at(&rt, rt.alloc(), &EITHER_SIDE, devices, 6, Next::Whole)?;
-        let wanted = sent(rt.alloc(), EITHER_SIDE.text, failing)?;
+        let text = fail_at(&rt, rt.alloc(), &case, devices, 6, Next::Whole)?;
+        let wanted = sent(rt.alloc(), case.text, failing)?;
         assert_eq!(rt; text.as_slice(), wanted.as_slice());
     }
     Ok(())
@@ -232,6 +239,15 @@ fn run_in_blocks(
     Ok(ended.status)
 }
 
+/// Checks that a job over a swap of few blocks ends early or does all.
+fn check_few_blocks(rt: &impl Abort, alloc: Global) -> Result<(), Fail> {
+    for blocks in 1..32 {
+        let ended = run_in_blocks(rt, alloc, ONE_RESIDENT, &EDITING_JOB, blocks)?;
+        assert!(rt; ended == 0 || ended == 8, "{blocks}");
+    }
+    Ok(())
+}
+
 /// Four tiles and one more suffice for the first script, and 27 for the other: so many in memory, or 32 blocks for each
 /// and for one more.
 #[test]
@@ -265,11 +281,7 @@ fn a_full_swap_ends_the_run(rt: HostRuntime) -> Result<(), Fail> {
         let ended = run_in_blocks(&rt, alloc, line, &case, blocks)?;
         assert_eq!(rt; ended, status, "{line}");
     }
-    for blocks in 1..32 {
-        let ended = run_in_blocks(&rt, alloc, ONE_RESIDENT, &EDITING_JOB, blocks)?;
-        assert!(rt; ended == 0 || ended == 8, "{blocks}");
-    }
-    Ok(())
+    check_few_blocks(&rt, alloc)
 }
 
 /// Does all, with ample memory. Where a request for memory is refused, as by `rt try --test --fail-alloc N`, the run
