@@ -1,13 +1,30 @@
-//! Worked examples of whole runs. What each must leave was worked out by hand.
+//! Worked examples of whole runs. What each must leave was worked out by hand, or apart, by a program that evaluates
+//! whole images.
 #![tactic(auto)]
 
 #[cfg(test)]
-mod buffer_scripts;
-#[cfg(test)]
-mod buffer_tests;
+mod buffer_cases;
 #[cfg(test)]
 mod cases;
 #[cfg(test)]
-mod scripts;
+mod contents;
+#[cfg(test)]
+mod edit_cases;
+#[cfg(test)]
+mod fault_cases;
+#[cfg(test)]
+mod fault_tests;
+#[cfg(test)]
+mod graph_cases;
+#[cfg(test)]
+mod limit_tests;
+#[cfg(test)]
+mod photograph_tests;
+#[cfg(test)]
+mod refusal_cases;
+#[cfg(test)]
+mod refusal_tests;
 #[cfg(test)]
 mod tests;
+#[cfg(test)]
+mod word_tests;
