@@ -1,5 +1,5 @@
 -- Runs of lines from their start on.
-use Rattle.std.proofs.Common.{◌≡◌, ℕ, ◌≤◌, Bool, List, [], length, Option, Some, None, Result, IfSome, is_some, min, refl, subst, arith}
+use Rattle.std.proofs.Common.{◌≡◌, ℕ, ◌≤◌, Bool, List, [], length, Option, Some, None, Result, IfSome, is_some, min, refl, ap, subst, arith}
 use Rattle.std.specs.List.{IsDistinct}
 use Rattle.std.specs.Result.{IsErrAnd}
 use Rattle.chain_handlers.specs.OwnedTiles.{counts_over, nothing_over}
@@ -22,7 +22,7 @@ use Rattle.outside_io.specs.Swap.{Blocks}
 use Rattle.pixel_formats.specs.Limits.{max_lines}
 use Rattle.run_events.proofs.Carrying.{nothing_carried}
 use Rattle.run_events.specs.Carried.{CarriesOutLines}
-use Rattle.run_events.specs.Moments.{Moment}
+use Rattle.run_events.specs.Moments.{HasFaults, Moment}
 use Rattle.run_lines.proofs.Going.{lines_same_end}
 use Rattle.run_lines.specs.States.{Holds}
 use Rattle.script_read.specs.declared.command.Line.{Line}
@@ -96,6 +96,22 @@ pub lines_from : (exposed : Bool) (capacity : ℕ) (state : RunState) (files : F
 lines_from exposed capacity state files lines result old new first counts is carried =
     subst (λ (c : Counts). CarriesOutLines exposed capacity state files lines result (record old { chain = c }) (record new { chain = counts })) is
     (lines_rechained exposed capacity state files lines result old new counts carried)
+
+-- the counts of I/O errors of a chain are those of the swap below it
+pub faults_rechained : (result : Result (Unit {0}) End) (old new : Moment) (first counts : Counts) → old.chain ≡ first → counts.faults ≡ new.chain.faults → counts.used ≡ first.used → counts.capacity ≡ first.capacity →
+    HasFaults result old new → HasFaults result (record old { chain = first }) (record new { chain = counts })
+faults_rechained result old new first counts is same used capacity faults =
+    let before : old.chain.faults ≡ first.faults = ap (λ (c : Counts). c.faults) is in
+    record {
+      read = faults.read;
+      write = faults.write;
+      put = faults.put;
+      swap = λ e. let rose = faults.swap e in omega (arith, rose, before, same);
+      reads = faults.reads;
+      writes = faults.writes;
+      puts = faults.puts;
+      chain = record { used = used; capacity = capacity; later = let later = faults.chain.later in omega (arith, later, before, same) };
+    }
 
 pub over_counts : (faults used capacity blocks size resident : ℕ) → used ≡ min blocks size → capacity ≡ resident → counts_over faults used capacity ≡ counts_over faults (min blocks size) resident
 over_counts faults used capacity blocks size resident is as_many = rw (is, as_many) refl

@@ -1,8 +1,8 @@
-use Rattle.std.proofs.Common.{[], min, is_some, refl, ap, ◌∙◌}
+use Rattle.std.proofs.Common.{[], min, is_some, refl, ap, ◌∙◌, rules}
 use Rattle.chain_handlers.specs.OwnedTiles.{counts_over}
 use Rattle.model_runs.specs.State.{first_state}
 use Rattle.run_events.specs.Moments.{Moment}
-use Rattle.run_lines.proofs.Starting.{lines_from, memory_begins, over_counts, run_begins, true_at_end, where_exposed}
+use Rattle.run_lines.proofs.Starting.{faults_rechained, lines_from, memory_begins, over_counts, run_begins, true_at_end, where_exposed}
 use Rattle.run_lines.proofs.script.carry_out.Goals as goal
 
 pub returns-in_err-memory-clause-carried : goal.returns-in_err-memory-clause-carried
@@ -29,3 +29,10 @@ returns-clause-carried g c =
     (c.carry_out_lines-result.ensures.carried exposed cache (first_state []) files
     (run_begins cache (g.D.SwapDisk.blocks c.args.swap.now) files _ _ _ c.in_ok-session.ensures.parts c.over-chain.ensures.held shown (c.in_ok-session.ensures.session _))
     (true_at_end cache files c.args.lines.now c.requires.few)))
+
+pub returns-clause-faults : goal.returns-clause-faults
+returns-clause-faults g c =
+    faults_rechained _ _ _ _ _
+    (c.over-chain.ensures.counts
+    ∙ over_counts _ _ _ _ _ _ (c.in_ok-memory.ensures.blocks ∙ c.min.ensures ∙ ap (min c.args.limits.swap_blocks) c.size.ensures.value) c.in_ok-memory.ensures.resident)
+    (search rules) refl refl c.carry_out_lines-result.ensures.faults
