@@ -1,4 +1,4 @@
-//! Sessions of the fifteen operations: small examples, and jobs of edits, commits and renders, as tests.
+//! Sessions of the fifteen operations: jobs of edits, commits and renders, as tests.
 #![tactic(auto)]
 
 #[cfg(test)]
@@ -7,11 +7,5 @@ mod calls;
 mod faults;
 #[cfg(test)]
 mod jobs;
-#[cfg(test)]
-mod step_calls;
-#[cfg(test)]
-mod step_examples;
-#[cfg(test)]
-mod step_tests;
 #[cfg(test)]
 mod tests;
