@@ -1,4 +1,5 @@
 use Rattle.std.proofs.Common.{◌++◌}
+use Rattle.strip_renders.proofs.Moments.{keeps-others}
 use Rattle.test_renders.proofs.ReadyLaws.{owned-on}
 use Rattle.test_renders.proofs.renders.show.Goals as goal
 
@@ -10,7 +11,7 @@ returns-in_err-shown-clause-over g c =
       owned = owned-on (g.H.ChainMeaning.held c.args.chain.now) (g.H.ChainMeaning.held c.render.new.chain)
           (g.S.SourceTiles.names c.args.sources.now ++ g.P.PairStore.names c.args.cache.now)
           (g.S.SourceTiles.names c.render.new.sources ++ g.P.PairStore.names c.render.new.cache)
-          c.render.ensures.keeps.others c.requires.over.owned;
+          (keeps-others _ _ _ c.render.ensures.keeps) c.requires.over.owned;
     }
 
 pub returns-clause-over : goal.returns-clause-over
@@ -21,5 +22,5 @@ returns-clause-over g c =
       owned = owned-on (g.H.ChainMeaning.held c.args.chain.now) (g.H.ChainMeaning.held c.render.new.chain)
           (g.S.SourceTiles.names c.args.sources.now ++ g.P.PairStore.names c.args.cache.now)
           (g.S.SourceTiles.names c.render.new.sources ++ g.P.PairStore.names c.render.new.cache)
-          c.render.ensures.keeps.others c.requires.over.owned;
+          (keeps-others _ _ _ c.render.ensures.keeps) c.requires.over.owned;
     }
