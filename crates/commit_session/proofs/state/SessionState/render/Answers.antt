@@ -184,7 +184,7 @@ returns-in_err-done-clause-over g c =
     let bound : Some capacity ≡ Some v.capacity = c.render.ensures.keeps.capacity in
     let respects : Respects s0.held s1.held (values_of v.entries) (values_of es) = c.render.ensures.keeps.others in
     let right : (images : Buffers) → buffer_images v.versions.latest s0.held ≡ Some images → AreKnownRight g.Op.OpMeaning.meanings v.graph.latest.nodes images (cached_in v.entries s0.held)
-        → AreKnownRight g.Op.OpMeaning.meanings v.graph.latest.nodes images (cached_in es s1.held) =
+    → AreKnownRight g.Op.OpMeaning.meanings v.graph.latest.nodes images (cached_in es s1.held) =
     λ images known are.
     subst (λ (xs : List (NodeFact g.row.Op.Denot)). AreKnownRight g.Op.OpMeaning.meanings xs images (cached_in es s1.held)) nodes
     (c.render.ensures.right images (ap (λ (x : BufferTable). buffer_images x s0.held) source ∙ known)
@@ -226,7 +226,7 @@ returns-in_err-done-clause-refused_session g c =
     let bound : Some capacity ≡ Some v.capacity = c.render.ensures.keeps.capacity in
     let respects : Respects s0.held s1.held (values_of v.entries) (values_of es) = c.render.ensures.keeps.others in
     let right : (images : Buffers) → buffer_images v.versions.latest s0.held ≡ Some images → AreKnownRight g.Op.OpMeaning.meanings v.graph.latest.nodes images (cached_in v.entries s0.held)
-        → AreKnownRight g.Op.OpMeaning.meanings v.graph.latest.nodes images (cached_in es s1.held) =
+    → AreKnownRight g.Op.OpMeaning.meanings v.graph.latest.nodes images (cached_in es s1.held) =
     λ images known are.
     subst (λ (xs : List (NodeFact g.row.Op.Denot)). AreKnownRight g.Op.OpMeaning.meanings xs images (cached_in es s1.held)) nodes
     (c.render.ensures.right images (ap (λ (x : BufferTable). buffer_images x s0.held) source ∙ known)
@@ -268,7 +268,7 @@ returns-in_err-done-clause-states g c =
     let bound : Some capacity ≡ Some v.capacity = c.render.ensures.keeps.capacity in
     let respects : Respects s0.held s1.held (values_of v.entries) (values_of es) = c.render.ensures.keeps.others in
     let right : (images : Buffers) → buffer_images v.versions.latest s0.held ≡ Some images → AreKnownRight g.Op.OpMeaning.meanings v.graph.latest.nodes images (cached_in v.entries s0.held)
-        → AreKnownRight g.Op.OpMeaning.meanings v.graph.latest.nodes images (cached_in es s1.held) =
+    → AreKnownRight g.Op.OpMeaning.meanings v.graph.latest.nodes images (cached_in es s1.held) =
     λ images known are.
     subst (λ (xs : List (NodeFact g.row.Op.Denot)). AreKnownRight g.Op.OpMeaning.meanings xs images (cached_in es s1.held)) nodes
     (c.render.ensures.right images (ap (λ (x : BufferTable). buffer_images x s0.held) source ∙ known)
@@ -310,7 +310,7 @@ returns-in_err-done-clause-left g c =
     let bound : Some capacity ≡ Some v.capacity = c.render.ensures.keeps.capacity in
     let respects : Respects s0.held s1.held (values_of v.entries) (values_of es) = c.render.ensures.keeps.others in
     let right : (images : Buffers) → buffer_images v.versions.latest s0.held ≡ Some images → AreKnownRight g.Op.OpMeaning.meanings v.graph.latest.nodes images (cached_in v.entries s0.held)
-        → AreKnownRight g.Op.OpMeaning.meanings v.graph.latest.nodes images (cached_in es s1.held) =
+    → AreKnownRight g.Op.OpMeaning.meanings v.graph.latest.nodes images (cached_in es s1.held) =
     λ images known are.
     subst (λ (xs : List (NodeFact g.row.Op.Denot)). AreKnownRight g.Op.OpMeaning.meanings xs images (cached_in es s1.held)) nodes
     (c.render.ensures.right images (ap (λ (x : BufferTable). buffer_images x s0.held) source ∙ known)
@@ -354,7 +354,7 @@ returns-clause-over g c =
     let bound : Some capacity ≡ Some v.capacity = c.render.ensures.keeps.capacity in
     let respects : Respects s0.held s1.held (values_of v.entries) (values_of es) = c.render.ensures.keeps.others in
     let right : (images : Buffers) → buffer_images v.versions.latest s0.held ≡ Some images → AreKnownRight g.Op.OpMeaning.meanings v.graph.latest.nodes images (cached_in v.entries s0.held)
-        → AreKnownRight g.Op.OpMeaning.meanings v.graph.latest.nodes images (cached_in es s1.held) =
+    → AreKnownRight g.Op.OpMeaning.meanings v.graph.latest.nodes images (cached_in es s1.held) =
     λ images known are.
     subst (λ (xs : List (NodeFact g.row.Op.Denot)). AreKnownRight g.Op.OpMeaning.meanings xs images (cached_in es s1.held)) nodes
     (c.render.ensures.right images (ap (λ (x : BufferTable). buffer_images x s0.held) source ∙ known)
@@ -373,9 +373,9 @@ returns-clause-over g c =
     let second : reused ≡ min max_count (v.reused + (looked_up_by g.Op.OpMeaning.meanings v asked).reused) =
     saturated reused v.reused done.reused (looked_up_by g.Op.OpMeaning.meanings v asked).reused c.saturating_add-self-inside-2.ensures (ap (λ (c : Counted Pair). c.reused) looked) in
     let shows : (images : Buffers) (list : List Cached) → buffer_images v.versions.latest s0.held ≡ Some images → cached_in v.entries s0.held ≡ Some list
-        → AreRight g.Op.OpMeaning.meanings (scene_of v.graph.latest.nodes images) list
-        → (cached_in es s1.held ≡ Some (list_after g.Op.OpMeaning.meanings v.graph.latest.nodes images (Some v.capacity) list (pairs_requested g.Op.OpMeaning.meanings v.graph.latest.nodes asked)))
-        × (done.patch ≡ image_requested g.Op.OpMeaning.meanings v.graph.latest.nodes images asked) =
+    → AreRight g.Op.OpMeaning.meanings (scene_of v.graph.latest.nodes images) list
+    → (cached_in es s1.held ≡ Some (list_after g.Op.OpMeaning.meanings v.graph.latest.nodes images (Some v.capacity) list (pairs_requested g.Op.OpMeaning.meanings v.graph.latest.nodes asked)))
+    × (done.patch ≡ image_requested g.Op.OpMeaning.meanings v.graph.latest.nodes images asked) =
     λ images list known its are.
     let x = c.in_ok-done.ensures.shown images list (ap (λ (x : BufferTable). buffer_images x s0.held) source ∙ known) its
     (subst (λ (xs : List (NodeFact g.row.Op.Denot)). AreRight g.Op.OpMeaning.meanings (scene_of xs images) list) (sym nodes) are) in
@@ -414,7 +414,7 @@ returns-clause-session g c =
     let bound : Some capacity ≡ Some v.capacity = c.render.ensures.keeps.capacity in
     let respects : Respects s0.held s1.held (values_of v.entries) (values_of es) = c.render.ensures.keeps.others in
     let right : (images : Buffers) → buffer_images v.versions.latest s0.held ≡ Some images → AreKnownRight g.Op.OpMeaning.meanings v.graph.latest.nodes images (cached_in v.entries s0.held)
-        → AreKnownRight g.Op.OpMeaning.meanings v.graph.latest.nodes images (cached_in es s1.held) =
+    → AreKnownRight g.Op.OpMeaning.meanings v.graph.latest.nodes images (cached_in es s1.held) =
     λ images known are.
     subst (λ (xs : List (NodeFact g.row.Op.Denot)). AreKnownRight g.Op.OpMeaning.meanings xs images (cached_in es s1.held)) nodes
     (c.render.ensures.right images (ap (λ (x : BufferTable). buffer_images x s0.held) source ∙ known)
@@ -433,9 +433,9 @@ returns-clause-session g c =
     let second : reused ≡ min max_count (v.reused + (looked_up_by g.Op.OpMeaning.meanings v asked).reused) =
     saturated reused v.reused done.reused (looked_up_by g.Op.OpMeaning.meanings v asked).reused c.saturating_add-self-inside-2.ensures (ap (λ (c : Counted Pair). c.reused) looked) in
     let shows : (images : Buffers) (list : List Cached) → buffer_images v.versions.latest s0.held ≡ Some images → cached_in v.entries s0.held ≡ Some list
-        → AreRight g.Op.OpMeaning.meanings (scene_of v.graph.latest.nodes images) list
-        → (cached_in es s1.held ≡ Some (list_after g.Op.OpMeaning.meanings v.graph.latest.nodes images (Some v.capacity) list (pairs_requested g.Op.OpMeaning.meanings v.graph.latest.nodes asked)))
-        × (done.patch ≡ image_requested g.Op.OpMeaning.meanings v.graph.latest.nodes images asked) =
+    → AreRight g.Op.OpMeaning.meanings (scene_of v.graph.latest.nodes images) list
+    → (cached_in es s1.held ≡ Some (list_after g.Op.OpMeaning.meanings v.graph.latest.nodes images (Some v.capacity) list (pairs_requested g.Op.OpMeaning.meanings v.graph.latest.nodes asked)))
+    × (done.patch ≡ image_requested g.Op.OpMeaning.meanings v.graph.latest.nodes images asked) =
     λ images list known its are.
     let x = c.in_ok-done.ensures.shown images list (ap (λ (x : BufferTable). buffer_images x s0.held) source ∙ known) its
     (subst (λ (xs : List (NodeFact g.row.Op.Denot)). AreRight g.Op.OpMeaning.meanings (scene_of xs images) list) (sym nodes) are) in
@@ -445,14 +445,14 @@ returns-clause-session g c =
     let can : CanBeRendered g.Op.OpMeaning.meanings v.graph.latest.nodes asked v.capacity =
     subst (λ (n : ℕ). CanBeRendered g.Op.OpMeaning.meanings v.graph.latest.nodes asked n) limit
     (subst (λ (xs : List (NodeFact g.row.Op.Denot)). CanBeRendered g.Op.OpMeaning.meanings xs asked c.unwrap-capacity.result) nodes (
-      let there : has_node (specs_of ns) c.args.node ≡ true = holds-unless (has_node (specs_of ns) c.args.node) (λ none. ok-never _ done renders.UnknownNode refl (c.in_ok-done.ensures.unknown none)) in record {
-        node = there;
-        rect = some-unless (scaled c.args.level c.args.rect) (λ far. ok-never _ done renders.Rect refl (c.in_ok-done.ensures.outside there far));
-        narrow = c.in_ok-done.ensures.narrow;
-      }
+    let there : has_node (specs_of ns) c.args.node ≡ true = holds-unless (has_node (specs_of ns) c.args.node) (λ none. ok-never _ done renders.UnknownNode refl (c.in_ok-done.ensures.unknown none)) in record {
+      node = there;
+      rect = some-unless (scaled c.args.level c.args.rect) (λ far. ok-never _ done renders.Rect refl (c.in_ok-done.ensures.outside there far));
+      narrow = c.in_ok-done.ensures.narrow;
+    }
     )) in
     let needs : (images : Buffers) → AreImagesOf (facts_of v.versions.latest.layout) images
-        → strips_needed g.Op.OpMeaning.meanings v.graph.latest.nodes asked ≡ render_need g.Op.OpMeaning.meanings (scene_of v.graph.latest.nodes images) asked.node asked.at_level asked.rect =
+    → strips_needed g.Op.OpMeaning.meanings v.graph.latest.nodes asked ≡ render_need g.Op.OpMeaning.meanings (scene_of v.graph.latest.nodes images) asked.node asked.at_level asked.rect =
     λ images shown. c.requests_need_what_renders_need.ensures g.Op.OpMeaning.meanings (facts_of v.versions.latest.layout) v.graph.latest.nodes images asked (asked-stated g.Op.OpMeaning.same g.Op.OpMeaning.meanings v now is s0 s0 c.requires.over stated) shown in
     λ session of. session-after g.Op.OpMeaning.same g.Op.OpMeaning.meanings v now is s0 s1 c.requires.over stated es most capacity applied reused cache sized bound respects right asked done.patch pairs first second shows can needs session of
 
@@ -487,7 +487,7 @@ returns-clause-image g c =
     let bound : Some capacity ≡ Some v.capacity = c.render.ensures.keeps.capacity in
     let respects : Respects s0.held s1.held (values_of v.entries) (values_of es) = c.render.ensures.keeps.others in
     let right : (images : Buffers) → buffer_images v.versions.latest s0.held ≡ Some images → AreKnownRight g.Op.OpMeaning.meanings v.graph.latest.nodes images (cached_in v.entries s0.held)
-        → AreKnownRight g.Op.OpMeaning.meanings v.graph.latest.nodes images (cached_in es s1.held) =
+    → AreKnownRight g.Op.OpMeaning.meanings v.graph.latest.nodes images (cached_in es s1.held) =
     λ images known are.
     subst (λ (xs : List (NodeFact g.row.Op.Denot)). AreKnownRight g.Op.OpMeaning.meanings xs images (cached_in es s1.held)) nodes
     (c.render.ensures.right images (ap (λ (x : BufferTable). buffer_images x s0.held) source ∙ known)
@@ -506,9 +506,9 @@ returns-clause-image g c =
     let second : reused ≡ min max_count (v.reused + (looked_up_by g.Op.OpMeaning.meanings v asked).reused) =
     saturated reused v.reused done.reused (looked_up_by g.Op.OpMeaning.meanings v asked).reused c.saturating_add-self-inside-2.ensures (ap (λ (c : Counted Pair). c.reused) looked) in
     let shows : (images : Buffers) (list : List Cached) → buffer_images v.versions.latest s0.held ≡ Some images → cached_in v.entries s0.held ≡ Some list
-        → AreRight g.Op.OpMeaning.meanings (scene_of v.graph.latest.nodes images) list
-        → (cached_in es s1.held ≡ Some (list_after g.Op.OpMeaning.meanings v.graph.latest.nodes images (Some v.capacity) list (pairs_requested g.Op.OpMeaning.meanings v.graph.latest.nodes asked)))
-        × (done.patch ≡ image_requested g.Op.OpMeaning.meanings v.graph.latest.nodes images asked) =
+    → AreRight g.Op.OpMeaning.meanings (scene_of v.graph.latest.nodes images) list
+    → (cached_in es s1.held ≡ Some (list_after g.Op.OpMeaning.meanings v.graph.latest.nodes images (Some v.capacity) list (pairs_requested g.Op.OpMeaning.meanings v.graph.latest.nodes asked)))
+    × (done.patch ≡ image_requested g.Op.OpMeaning.meanings v.graph.latest.nodes images asked) =
     λ images list known its are.
     let x = c.in_ok-done.ensures.shown images list (ap (λ (x : BufferTable). buffer_images x s0.held) source ∙ known) its
     (subst (λ (xs : List (NodeFact g.row.Op.Denot)). AreRight g.Op.OpMeaning.meanings (scene_of xs images) list) (sym nodes) are) in
@@ -518,14 +518,14 @@ returns-clause-image g c =
     let can : CanBeRendered g.Op.OpMeaning.meanings v.graph.latest.nodes asked v.capacity =
     subst (λ (n : ℕ). CanBeRendered g.Op.OpMeaning.meanings v.graph.latest.nodes asked n) limit
     (subst (λ (xs : List (NodeFact g.row.Op.Denot)). CanBeRendered g.Op.OpMeaning.meanings xs asked c.unwrap-capacity.result) nodes (
-      let there : has_node (specs_of ns) c.args.node ≡ true = holds-unless (has_node (specs_of ns) c.args.node) (λ none. ok-never _ done renders.UnknownNode refl (c.in_ok-done.ensures.unknown none)) in record {
-        node = there;
-        rect = some-unless (scaled c.args.level c.args.rect) (λ far. ok-never _ done renders.Rect refl (c.in_ok-done.ensures.outside there far));
-        narrow = c.in_ok-done.ensures.narrow;
-      }
+    let there : has_node (specs_of ns) c.args.node ≡ true = holds-unless (has_node (specs_of ns) c.args.node) (λ none. ok-never _ done renders.UnknownNode refl (c.in_ok-done.ensures.unknown none)) in record {
+      node = there;
+      rect = some-unless (scaled c.args.level c.args.rect) (λ far. ok-never _ done renders.Rect refl (c.in_ok-done.ensures.outside there far));
+      narrow = c.in_ok-done.ensures.narrow;
+    }
     )) in
     let needs : (images : Buffers) → AreImagesOf (facts_of v.versions.latest.layout) images
-        → strips_needed g.Op.OpMeaning.meanings v.graph.latest.nodes asked ≡ render_need g.Op.OpMeaning.meanings (scene_of v.graph.latest.nodes images) asked.node asked.at_level asked.rect =
+    → strips_needed g.Op.OpMeaning.meanings v.graph.latest.nodes asked ≡ render_need g.Op.OpMeaning.meanings (scene_of v.graph.latest.nodes images) asked.node asked.at_level asked.rect =
     λ images shown. c.requests_need_what_renders_need.ensures g.Op.OpMeaning.meanings (facts_of v.versions.latest.layout) v.graph.latest.nodes images asked (asked-stated g.Op.OpMeaning.same g.Op.OpMeaning.meanings v now is s0 s0 c.requires.over stated) shown in
     λ session of some. image-after g.Op.OpMeaning.same g.Op.OpMeaning.meanings v now is s0 s1 c.requires.over stated es most capacity applied reused cache sized bound respects right asked done.patch pairs first second shows can needs session of some
 
@@ -560,7 +560,7 @@ returns-clause-states g c =
     let bound : Some capacity ≡ Some v.capacity = c.render.ensures.keeps.capacity in
     let respects : Respects s0.held s1.held (values_of v.entries) (values_of es) = c.render.ensures.keeps.others in
     let right : (images : Buffers) → buffer_images v.versions.latest s0.held ≡ Some images → AreKnownRight g.Op.OpMeaning.meanings v.graph.latest.nodes images (cached_in v.entries s0.held)
-        → AreKnownRight g.Op.OpMeaning.meanings v.graph.latest.nodes images (cached_in es s1.held) =
+    → AreKnownRight g.Op.OpMeaning.meanings v.graph.latest.nodes images (cached_in es s1.held) =
     λ images known are.
     subst (λ (xs : List (NodeFact g.row.Op.Denot)). AreKnownRight g.Op.OpMeaning.meanings xs images (cached_in es s1.held)) nodes
     (c.render.ensures.right images (ap (λ (x : BufferTable). buffer_images x s0.held) source ∙ known)
@@ -579,9 +579,9 @@ returns-clause-states g c =
     let second : reused ≡ min max_count (v.reused + (looked_up_by g.Op.OpMeaning.meanings v asked).reused) =
     saturated reused v.reused done.reused (looked_up_by g.Op.OpMeaning.meanings v asked).reused c.saturating_add-self-inside-2.ensures (ap (λ (c : Counted Pair). c.reused) looked) in
     let shows : (images : Buffers) (list : List Cached) → buffer_images v.versions.latest s0.held ≡ Some images → cached_in v.entries s0.held ≡ Some list
-        → AreRight g.Op.OpMeaning.meanings (scene_of v.graph.latest.nodes images) list
-        → (cached_in es s1.held ≡ Some (list_after g.Op.OpMeaning.meanings v.graph.latest.nodes images (Some v.capacity) list (pairs_requested g.Op.OpMeaning.meanings v.graph.latest.nodes asked)))
-        × (done.patch ≡ image_requested g.Op.OpMeaning.meanings v.graph.latest.nodes images asked) =
+    → AreRight g.Op.OpMeaning.meanings (scene_of v.graph.latest.nodes images) list
+    → (cached_in es s1.held ≡ Some (list_after g.Op.OpMeaning.meanings v.graph.latest.nodes images (Some v.capacity) list (pairs_requested g.Op.OpMeaning.meanings v.graph.latest.nodes asked)))
+    × (done.patch ≡ image_requested g.Op.OpMeaning.meanings v.graph.latest.nodes images asked) =
     λ images list known its are.
     let x = c.in_ok-done.ensures.shown images list (ap (λ (x : BufferTable). buffer_images x s0.held) source ∙ known) its
     (subst (λ (xs : List (NodeFact g.row.Op.Denot)). AreRight g.Op.OpMeaning.meanings (scene_of xs images) list) (sym nodes) are) in
@@ -620,7 +620,7 @@ returns-clause-can g c =
     let bound : Some capacity ≡ Some v.capacity = c.render.ensures.keeps.capacity in
     let respects : Respects s0.held s1.held (values_of v.entries) (values_of es) = c.render.ensures.keeps.others in
     let right : (images : Buffers) → buffer_images v.versions.latest s0.held ≡ Some images → AreKnownRight g.Op.OpMeaning.meanings v.graph.latest.nodes images (cached_in v.entries s0.held)
-        → AreKnownRight g.Op.OpMeaning.meanings v.graph.latest.nodes images (cached_in es s1.held) =
+    → AreKnownRight g.Op.OpMeaning.meanings v.graph.latest.nodes images (cached_in es s1.held) =
     λ images known are.
     subst (λ (xs : List (NodeFact g.row.Op.Denot)). AreKnownRight g.Op.OpMeaning.meanings xs images (cached_in es s1.held)) nodes
     (c.render.ensures.right images (ap (λ (x : BufferTable). buffer_images x s0.held) source ∙ known)
@@ -639,9 +639,9 @@ returns-clause-can g c =
     let second : reused ≡ min max_count (v.reused + (looked_up_by g.Op.OpMeaning.meanings v asked).reused) =
     saturated reused v.reused done.reused (looked_up_by g.Op.OpMeaning.meanings v asked).reused c.saturating_add-self-inside-2.ensures (ap (λ (c : Counted Pair). c.reused) looked) in
     let shows : (images : Buffers) (list : List Cached) → buffer_images v.versions.latest s0.held ≡ Some images → cached_in v.entries s0.held ≡ Some list
-        → AreRight g.Op.OpMeaning.meanings (scene_of v.graph.latest.nodes images) list
-        → (cached_in es s1.held ≡ Some (list_after g.Op.OpMeaning.meanings v.graph.latest.nodes images (Some v.capacity) list (pairs_requested g.Op.OpMeaning.meanings v.graph.latest.nodes asked)))
-        × (done.patch ≡ image_requested g.Op.OpMeaning.meanings v.graph.latest.nodes images asked) =
+    → AreRight g.Op.OpMeaning.meanings (scene_of v.graph.latest.nodes images) list
+    → (cached_in es s1.held ≡ Some (list_after g.Op.OpMeaning.meanings v.graph.latest.nodes images (Some v.capacity) list (pairs_requested g.Op.OpMeaning.meanings v.graph.latest.nodes asked)))
+    × (done.patch ≡ image_requested g.Op.OpMeaning.meanings v.graph.latest.nodes images asked) =
     λ images list known its are.
     let x = c.in_ok-done.ensures.shown images list (ap (λ (x : BufferTable). buffer_images x s0.held) source ∙ known) its
     (subst (λ (xs : List (NodeFact g.row.Op.Denot)). AreRight g.Op.OpMeaning.meanings (scene_of xs images) list) (sym nodes) are) in
@@ -651,11 +651,11 @@ returns-clause-can g c =
     let can : CanBeRendered g.Op.OpMeaning.meanings v.graph.latest.nodes asked v.capacity =
     subst (λ (n : ℕ). CanBeRendered g.Op.OpMeaning.meanings v.graph.latest.nodes asked n) limit
     (subst (λ (xs : List (NodeFact g.row.Op.Denot)). CanBeRendered g.Op.OpMeaning.meanings xs asked c.unwrap-capacity.result) nodes (
-      let there : has_node (specs_of ns) c.args.node ≡ true = holds-unless (has_node (specs_of ns) c.args.node) (λ none. ok-never _ done renders.UnknownNode refl (c.in_ok-done.ensures.unknown none)) in record {
-        node = there;
-        rect = some-unless (scaled c.args.level c.args.rect) (λ far. ok-never _ done renders.Rect refl (c.in_ok-done.ensures.outside there far));
-        narrow = c.in_ok-done.ensures.narrow;
-      }
+    let there : has_node (specs_of ns) c.args.node ≡ true = holds-unless (has_node (specs_of ns) c.args.node) (λ none. ok-never _ done renders.UnknownNode refl (c.in_ok-done.ensures.unknown none)) in record {
+      node = there;
+      rect = some-unless (scaled c.args.level c.args.rect) (λ far. ok-never _ done renders.Rect refl (c.in_ok-done.ensures.outside there far));
+      narrow = c.in_ok-done.ensures.narrow;
+    }
     )) in
     subst (λ (p : Parts g.row.Op.Denot). CanBeRendered g.Op.OpMeaning.meanings p.graph.latest.nodes asked p.capacity) is
     (can)
@@ -691,7 +691,7 @@ returns-clause-rendered g c =
     let bound : Some capacity ≡ Some v.capacity = c.render.ensures.keeps.capacity in
     let respects : Respects s0.held s1.held (values_of v.entries) (values_of es) = c.render.ensures.keeps.others in
     let right : (images : Buffers) → buffer_images v.versions.latest s0.held ≡ Some images → AreKnownRight g.Op.OpMeaning.meanings v.graph.latest.nodes images (cached_in v.entries s0.held)
-        → AreKnownRight g.Op.OpMeaning.meanings v.graph.latest.nodes images (cached_in es s1.held) =
+    → AreKnownRight g.Op.OpMeaning.meanings v.graph.latest.nodes images (cached_in es s1.held) =
     λ images known are.
     subst (λ (xs : List (NodeFact g.row.Op.Denot)). AreKnownRight g.Op.OpMeaning.meanings xs images (cached_in es s1.held)) nodes
     (c.render.ensures.right images (ap (λ (x : BufferTable). buffer_images x s0.held) source ∙ known)
@@ -710,9 +710,9 @@ returns-clause-rendered g c =
     let second : reused ≡ min max_count (v.reused + (looked_up_by g.Op.OpMeaning.meanings v asked).reused) =
     saturated reused v.reused done.reused (looked_up_by g.Op.OpMeaning.meanings v asked).reused c.saturating_add-self-inside-2.ensures (ap (λ (c : Counted Pair). c.reused) looked) in
     let shows : (images : Buffers) (list : List Cached) → buffer_images v.versions.latest s0.held ≡ Some images → cached_in v.entries s0.held ≡ Some list
-        → AreRight g.Op.OpMeaning.meanings (scene_of v.graph.latest.nodes images) list
-        → (cached_in es s1.held ≡ Some (list_after g.Op.OpMeaning.meanings v.graph.latest.nodes images (Some v.capacity) list (pairs_requested g.Op.OpMeaning.meanings v.graph.latest.nodes asked)))
-        × (done.patch ≡ image_requested g.Op.OpMeaning.meanings v.graph.latest.nodes images asked) =
+    → AreRight g.Op.OpMeaning.meanings (scene_of v.graph.latest.nodes images) list
+    → (cached_in es s1.held ≡ Some (list_after g.Op.OpMeaning.meanings v.graph.latest.nodes images (Some v.capacity) list (pairs_requested g.Op.OpMeaning.meanings v.graph.latest.nodes asked)))
+    × (done.patch ≡ image_requested g.Op.OpMeaning.meanings v.graph.latest.nodes images asked) =
     λ images list known its are.
     let x = c.in_ok-done.ensures.shown images list (ap (λ (x : BufferTable). buffer_images x s0.held) source ∙ known) its
     (subst (λ (xs : List (NodeFact g.row.Op.Denot)). AreRight g.Op.OpMeaning.meanings (scene_of xs images) list) (sym nodes) are) in
@@ -752,7 +752,7 @@ returns-clause-left g c =
     let bound : Some capacity ≡ Some v.capacity = c.render.ensures.keeps.capacity in
     let respects : Respects s0.held s1.held (values_of v.entries) (values_of es) = c.render.ensures.keeps.others in
     let right : (images : Buffers) → buffer_images v.versions.latest s0.held ≡ Some images → AreKnownRight g.Op.OpMeaning.meanings v.graph.latest.nodes images (cached_in v.entries s0.held)
-        → AreKnownRight g.Op.OpMeaning.meanings v.graph.latest.nodes images (cached_in es s1.held) =
+    → AreKnownRight g.Op.OpMeaning.meanings v.graph.latest.nodes images (cached_in es s1.held) =
     λ images known are.
     subst (λ (xs : List (NodeFact g.row.Op.Denot)). AreKnownRight g.Op.OpMeaning.meanings xs images (cached_in es s1.held)) nodes
     (c.render.ensures.right images (ap (λ (x : BufferTable). buffer_images x s0.held) source ∙ known)
@@ -771,9 +771,9 @@ returns-clause-left g c =
     let second : reused ≡ min max_count (v.reused + (looked_up_by g.Op.OpMeaning.meanings v asked).reused) =
     saturated reused v.reused done.reused (looked_up_by g.Op.OpMeaning.meanings v asked).reused c.saturating_add-self-inside-2.ensures (ap (λ (c : Counted Pair). c.reused) looked) in
     let shows : (images : Buffers) (list : List Cached) → buffer_images v.versions.latest s0.held ≡ Some images → cached_in v.entries s0.held ≡ Some list
-        → AreRight g.Op.OpMeaning.meanings (scene_of v.graph.latest.nodes images) list
-        → (cached_in es s1.held ≡ Some (list_after g.Op.OpMeaning.meanings v.graph.latest.nodes images (Some v.capacity) list (pairs_requested g.Op.OpMeaning.meanings v.graph.latest.nodes asked)))
-        × (done.patch ≡ image_requested g.Op.OpMeaning.meanings v.graph.latest.nodes images asked) =
+    → AreRight g.Op.OpMeaning.meanings (scene_of v.graph.latest.nodes images) list
+    → (cached_in es s1.held ≡ Some (list_after g.Op.OpMeaning.meanings v.graph.latest.nodes images (Some v.capacity) list (pairs_requested g.Op.OpMeaning.meanings v.graph.latest.nodes asked)))
+    × (done.patch ≡ image_requested g.Op.OpMeaning.meanings v.graph.latest.nodes images asked) =
     λ images list known its are.
     let x = c.in_ok-done.ensures.shown images list (ap (λ (x : BufferTable). buffer_images x s0.held) source ∙ known) its
     (subst (λ (xs : List (NodeFact g.row.Op.Denot)). AreRight g.Op.OpMeaning.meanings (scene_of xs images) list) (sym nodes) are) in
@@ -814,7 +814,7 @@ returns-in_err-done-clause-unknown g c =
     let bound : Some capacity ≡ Some v.capacity = c.render.ensures.keeps.capacity in
     let respects : Respects s0.held s1.held (values_of v.entries) (values_of es) = c.render.ensures.keeps.others in
     let right : (images : Buffers) → buffer_images v.versions.latest s0.held ≡ Some images → AreKnownRight g.Op.OpMeaning.meanings v.graph.latest.nodes images (cached_in v.entries s0.held)
-        → AreKnownRight g.Op.OpMeaning.meanings v.graph.latest.nodes images (cached_in es s1.held) =
+    → AreKnownRight g.Op.OpMeaning.meanings v.graph.latest.nodes images (cached_in es s1.held) =
     λ images known are.
     subst (λ (xs : List (NodeFact g.row.Op.Denot)). AreKnownRight g.Op.OpMeaning.meanings xs images (cached_in es s1.held)) nodes
     (c.render.ensures.right images (ap (λ (x : BufferTable). buffer_images x s0.held) source ∙ known)
@@ -859,7 +859,7 @@ returns-in_err-done-clause-outside g c =
     let bound : Some capacity ≡ Some v.capacity = c.render.ensures.keeps.capacity in
     let respects : Respects s0.held s1.held (values_of v.entries) (values_of es) = c.render.ensures.keeps.others in
     let right : (images : Buffers) → buffer_images v.versions.latest s0.held ≡ Some images → AreKnownRight g.Op.OpMeaning.meanings v.graph.latest.nodes images (cached_in v.entries s0.held)
-        → AreKnownRight g.Op.OpMeaning.meanings v.graph.latest.nodes images (cached_in es s1.held) =
+    → AreKnownRight g.Op.OpMeaning.meanings v.graph.latest.nodes images (cached_in es s1.held) =
     λ images known are.
     subst (λ (xs : List (NodeFact g.row.Op.Denot)). AreKnownRight g.Op.OpMeaning.meanings xs images (cached_in es s1.held)) nodes
     (c.render.ensures.right images (ap (λ (x : BufferTable). buffer_images x s0.held) source ∙ known)
@@ -904,7 +904,7 @@ returns-in_err-done-clause-cause g c =
     let bound : Some capacity ≡ Some v.capacity = c.render.ensures.keeps.capacity in
     let respects : Respects s0.held s1.held (values_of v.entries) (values_of es) = c.render.ensures.keeps.others in
     let right : (images : Buffers) → buffer_images v.versions.latest s0.held ≡ Some images → AreKnownRight g.Op.OpMeaning.meanings v.graph.latest.nodes images (cached_in v.entries s0.held)
-        → AreKnownRight g.Op.OpMeaning.meanings v.graph.latest.nodes images (cached_in es s1.held) =
+    → AreKnownRight g.Op.OpMeaning.meanings v.graph.latest.nodes images (cached_in es s1.held) =
     λ images known are.
     subst (λ (xs : List (NodeFact g.row.Op.Denot)). AreKnownRight g.Op.OpMeaning.meanings xs images (cached_in es s1.held)) nodes
     (c.render.ensures.right images (ap (λ (x : BufferTable). buffer_images x s0.held) source ∙ known)
@@ -958,7 +958,7 @@ returns-in_err-done-clause-unchanged g c =
     let bound : Some capacity ≡ Some v.capacity = c.render.ensures.keeps.capacity in
     let respects : Respects s0.held s1.held (values_of v.entries) (values_of es) = c.render.ensures.keeps.others in
     let right : (images : Buffers) → buffer_images v.versions.latest s0.held ≡ Some images → AreKnownRight g.Op.OpMeaning.meanings v.graph.latest.nodes images (cached_in v.entries s0.held)
-        → AreKnownRight g.Op.OpMeaning.meanings v.graph.latest.nodes images (cached_in es s1.held) =
+    → AreKnownRight g.Op.OpMeaning.meanings v.graph.latest.nodes images (cached_in es s1.held) =
     λ images known are.
     subst (λ (xs : List (NodeFact g.row.Op.Denot)). AreKnownRight g.Op.OpMeaning.meanings xs images (cached_in es s1.held)) nodes
     (c.render.ensures.right images (ap (λ (x : BufferTable). buffer_images x s0.held) source ∙ known)
@@ -1009,7 +1009,7 @@ returns-in_err-done-clause-permits g c =
     let bound : Some capacity ≡ Some v.capacity = c.render.ensures.keeps.capacity in
     let respects : Respects s0.held s1.held (values_of v.entries) (values_of es) = c.render.ensures.keeps.others in
     let right : (images : Buffers) → buffer_images v.versions.latest s0.held ≡ Some images → AreKnownRight g.Op.OpMeaning.meanings v.graph.latest.nodes images (cached_in v.entries s0.held)
-        → AreKnownRight g.Op.OpMeaning.meanings v.graph.latest.nodes images (cached_in es s1.held) =
+    → AreKnownRight g.Op.OpMeaning.meanings v.graph.latest.nodes images (cached_in es s1.held) =
     λ images known are.
     subst (λ (xs : List (NodeFact g.row.Op.Denot)). AreKnownRight g.Op.OpMeaning.meanings xs images (cached_in es s1.held)) nodes
     (c.render.ensures.right images (ap (λ (x : BufferTable). buffer_images x s0.held) source ∙ known)
@@ -1057,7 +1057,7 @@ returns-in_err-done-clause-other_names g c =
     let bound : Some capacity ≡ Some v.capacity = c.render.ensures.keeps.capacity in
     let respects : Respects s0.held s1.held (values_of v.entries) (values_of es) = c.render.ensures.keeps.others in
     let right : (images : Buffers) → buffer_images v.versions.latest s0.held ≡ Some images → AreKnownRight g.Op.OpMeaning.meanings v.graph.latest.nodes images (cached_in v.entries s0.held)
-        → AreKnownRight g.Op.OpMeaning.meanings v.graph.latest.nodes images (cached_in es s1.held) =
+    → AreKnownRight g.Op.OpMeaning.meanings v.graph.latest.nodes images (cached_in es s1.held) =
     λ images known are.
     subst (λ (xs : List (NodeFact g.row.Op.Denot)). AreKnownRight g.Op.OpMeaning.meanings xs images (cached_in es s1.held)) nodes
     (c.render.ensures.right images (ap (λ (x : BufferTable). buffer_images x s0.held) source ∙ known)
@@ -1097,7 +1097,7 @@ returns-clause-other_names g c =
     let bound : Some capacity ≡ Some v.capacity = c.render.ensures.keeps.capacity in
     let respects : Respects s0.held s1.held (values_of v.entries) (values_of es) = c.render.ensures.keeps.others in
     let right : (images : Buffers) → buffer_images v.versions.latest s0.held ≡ Some images → AreKnownRight g.Op.OpMeaning.meanings v.graph.latest.nodes images (cached_in v.entries s0.held)
-        → AreKnownRight g.Op.OpMeaning.meanings v.graph.latest.nodes images (cached_in es s1.held) =
+    → AreKnownRight g.Op.OpMeaning.meanings v.graph.latest.nodes images (cached_in es s1.held) =
     λ images known are.
     subst (λ (xs : List (NodeFact g.row.Op.Denot)). AreKnownRight g.Op.OpMeaning.meanings xs images (cached_in es s1.held)) nodes
     (c.render.ensures.right images (ap (λ (x : BufferTable). buffer_images x s0.held) source ∙ known)
@@ -1137,7 +1137,7 @@ returns-clause-unknown g c =
     let bound : Some capacity ≡ Some v.capacity = c.render.ensures.keeps.capacity in
     let respects : Respects s0.held s1.held (values_of v.entries) (values_of es) = c.render.ensures.keeps.others in
     let right : (images : Buffers) → buffer_images v.versions.latest s0.held ≡ Some images → AreKnownRight g.Op.OpMeaning.meanings v.graph.latest.nodes images (cached_in v.entries s0.held)
-        → AreKnownRight g.Op.OpMeaning.meanings v.graph.latest.nodes images (cached_in es s1.held) =
+    → AreKnownRight g.Op.OpMeaning.meanings v.graph.latest.nodes images (cached_in es s1.held) =
     λ images known are.
     subst (λ (xs : List (NodeFact g.row.Op.Denot)). AreKnownRight g.Op.OpMeaning.meanings xs images (cached_in es s1.held)) nodes
     (c.render.ensures.right images (ap (λ (x : BufferTable). buffer_images x s0.held) source ∙ known)
@@ -1177,7 +1177,7 @@ returns-clause-outside g c =
     let bound : Some capacity ≡ Some v.capacity = c.render.ensures.keeps.capacity in
     let respects : Respects s0.held s1.held (values_of v.entries) (values_of es) = c.render.ensures.keeps.others in
     let right : (images : Buffers) → buffer_images v.versions.latest s0.held ≡ Some images → AreKnownRight g.Op.OpMeaning.meanings v.graph.latest.nodes images (cached_in v.entries s0.held)
-        → AreKnownRight g.Op.OpMeaning.meanings v.graph.latest.nodes images (cached_in es s1.held) =
+    → AreKnownRight g.Op.OpMeaning.meanings v.graph.latest.nodes images (cached_in es s1.held) =
     λ images known are.
     subst (λ (xs : List (NodeFact g.row.Op.Denot)). AreKnownRight g.Op.OpMeaning.meanings xs images (cached_in es s1.held)) nodes
     (c.render.ensures.right images (ap (λ (x : BufferTable). buffer_images x s0.held) source ∙ known)
