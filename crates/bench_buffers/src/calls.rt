@@ -14,7 +14,9 @@ use pixel_formats::{Abyss, Format};
 use plane_rect::{Name, Rect};
 use std::alloc::Global;
 use std::rt::Clock;
+use std::thread::Threads;
 use std::time::Instant;
+use worker_pieces::Workers;
 
 /// A rectangle of a level of a buffer, in pixels, and how often it is read.
 #[derive(Clone, Copy)]
@@ -83,7 +85,7 @@ pub fn one_buffer<C: TileChain>(
 }
 
 /// Times raw bytes that are written over a rectangle of a buffer, so many times.
-pub fn time_puts<R: Clock + Print + Eprint, C: TileChain>(
+pub fn time_puts<R: Clock + Print + Eprint + Threads + Sync, C: TileChain>(
     rt: &R,
     report: Report,
     buffers: &mut Buffers,
@@ -99,7 +101,7 @@ pub fn time_puts<R: Clock + Print + Eprint, C: TileChain>(
     let mut times = Times::none();
     for _round in 0..rounds {
         let start = Instant::now(rt)?;
-        buffers.put_raw(chain, name, rect, bytes)?;
+        buffers.put_raw(chain, name, rect, bytes, Workers::new(rt, 1))?;
         times.add_since(rt, start)?;
     }
     report.print(rt, "put", &times, bytes.len() as u64)?;

@@ -15,6 +15,7 @@ use outside_io::SureSwap;
 use pixel_formats::Format;
 use std::alloc::Global;
 use std::rt::Clock;
+use std::thread::Threads;
 
 /// Returns how many columns and rows of pixels the part has that is read of an image of so many columns of tiles.
 pub fn part_side(columns: u8) -> u16
@@ -24,7 +25,7 @@ pub fn part_side(columns: u8) -> u16
 }
 
 /// Times the calls on a buffer of an image of so many columns of tiles, and half as many rows.
-pub fn time_resident<R: Clock + Print + Eprint + Alloc<A = Global>>(
+pub fn time_resident<R: Clock + Print + Eprint + Threads + Sync + Alloc<A = Global>>(
     rt: &R,
     report: Report,
     bytes: &[u8],
@@ -36,7 +37,7 @@ pub fn time_resident<R: Clock + Print + Eprint + Alloc<A = Global>>(
 }
 
 /// Times the calls on one buffer, which is written first.
-fn time_image<R: Clock + Print + Eprint + Alloc<A = Global>, C: TileChain>(
+fn time_image<R: Clock + Print + Eprint + Threads + Sync + Alloc<A = Global>, C: TileChain>(
     rt: &R,
     report: Report,
     chain: &mut C,

@@ -13,6 +13,7 @@ use outside_io::SwapDisk;
 use pixel_formats::Format;
 use std::alloc::Global;
 use std::rt::Clock;
+use std::thread::Threads;
 use std::time::Instant;
 
 /// Returns how many blocks the tiles of two images have, of so many columns and half as many rows of tiles of
@@ -40,7 +41,7 @@ pub fn time_blocks<R: Clock + Print + Eprint + Alloc<A = Global>, D: SwapDisk>(
 }
 
 /// Times two buffers over a disk.
-pub fn time_file<R: Clock + Print + Eprint + Alloc<A = Global>, D: SwapDisk>(
+pub fn time_file<R: Clock + Print + Eprint + Threads + Sync + Alloc<A = Global>, D: SwapDisk>(
     rt: &R,
     report: Report,
     disk: &mut D,
@@ -53,7 +54,7 @@ pub fn time_file<R: Clock + Print + Eprint + Alloc<A = Global>, D: SwapDisk>(
 }
 
 /// Times two buffers that are written and read, a row of tiles a call.
-fn time_two<R: Clock + Print + Eprint + Alloc<A = Global>, C: TileChain>(
+fn time_two<R: Clock + Print + Eprint + Threads + Sync + Alloc<A = Global>, C: TileChain>(
     rt: &R,
     report: Report,
     chain: &mut C,
@@ -64,7 +65,8 @@ fn time_two<R: Clock + Print + Eprint + Alloc<A = Global>, C: TileChain>(
     create(&mut buffers, "b", Format::RGBA16, extent)?;
     let band = noise(rt.alloc(), usize::from(columns) * 32_768)?;
     let start = Instant::now(rt)?;
-    let found = put_bands(&mut buffers, chain, "a", &band, columns)?.wrapping_add(put_bands(
+    let found = put_bands(rt, &mut buffers, chain, "a", &band, columns)?.wrapping_add(put_bands(
+        rt,
         &mut buffers,
         chain,
         "b",

@@ -11,6 +11,8 @@ use chain_handlers::TileChain;
 use outside_io::{SwapAnswer, SwapDisk};
 use pixel_formats::Abyss;
 use plane_rect::Rect;
+use std::thread::Threads;
+use worker_pieces::Workers;
 
 /// Writes each block. Gives how many bytes there are.
 pub fn write_blocks<D: SwapDisk>(disk: &mut D, bytes: &[u8]) -> Result<u64, SwapAnswer>
@@ -40,7 +42,8 @@ pub fn read_blocks<D: SwapDisk>(disk: &mut D, into: &mut [u8]) -> Result<u64, Sw
 
 /// Writes the same bytes over each row of tiles of a buffer of so many columns and half as many rows of tiles.
 /// Gives how many bytes there are.
-pub fn put_bands<C: TileChain>(
+pub fn put_bands<R: Threads + Sync, C: TileChain>(
+    rt: &R,
     buffers: &mut Buffers,
     chain: &mut C,
     word: &str,
@@ -53,7 +56,7 @@ pub fn put_bands<C: TileChain>(
     let name = name(word)?;
     let mut found = 0u64;
     for row in 0..columns / 2 {
-        buffers.put_raw(chain, name, band(row, columns), bytes)?;
+        buffers.put_raw(chain, name, band(row, columns), bytes, Workers::new(rt, 1))?;
         found = found.wrapping_add(bytes.len() as u64);
     }
     Ok(found)

@@ -20,12 +20,14 @@ use outside_io::SureSwap;
 use pixel_formats::{Abyss, Format};
 use std::alloc::Global;
 use std::rt::Clock;
+use std::thread::Threads;
 use std::time::Instant;
 use test_renders::{Canvas, Request, over_buffers};
+use worker_pieces::Workers;
 
 /// Times a request of 512 by 512 pixels of a gain's mean in another format: all evaluated, all cached, and each time
 /// after 32 by 32 pixels of the buffer were written and committed.
-pub fn time_edits<R: Clock + Print + Eprint + Alloc<A = Global>>(
+pub fn time_edits<R: Clock + Print + Eprint + Threads + Sync + Alloc<A = Global>>(
     rt: &R,
     report: Report,
     job: Job,
@@ -53,7 +55,7 @@ fn nodes(alloc: Global) -> Result<Vec<NodeEdit<IntOp>>> {
 }
 
 /// Times the request over a chain.
-fn time_job<R: Clock + Print + Eprint + Alloc<A = Global>, C: TileChain>(
+fn time_job<R: Clock + Print + Eprint + Threads + Sync + Alloc<A = Global>, C: TileChain>(
     rt: &R,
     report: Report,
     chain: &mut C,
@@ -67,7 +69,7 @@ fn time_job<R: Clock + Print + Eprint + Alloc<A = Global>, C: TileChain>(
     let (x, y) = (columns / 128 * 64 - 64, rows / 128 * 64 - 64);
     let part = request("c", [x, y, 512, 512])?;
     let start = Instant::now(rt)?;
-    let (shown, _spent) = canvas.shown(chain, &part)?;
+    let (shown, _spent) = canvas.shown(chain, &part, Workers::new(rt, 1))?;
     let first = least(rt, u128::MAX, start)?;
     report.print(rt, "request evaluated", first, shown.applied, shown.applied)?;
     let (best, reused) = show_again(rt, &mut canvas, chain, &part, job.rounds)?;
@@ -80,7 +82,7 @@ fn time_job<R: Clock + Print + Eprint + Alloc<A = Global>, C: TileChain>(
 
 /// Writes a rectangle and commits it, and renders a request, again and again. Returns the least time of the renders
 /// in nanoseconds, and how many tiles the last one evaluated.
-fn edit_again<R: Clock, C: TileChain, P: PairStore<C>>(
+fn edit_again<R: Clock + Threads + Sync, C: TileChain, P: PairStore<C>>(
     rt: &R,
     canvas: &mut Canvas<Buffers, P>,
     chain: &mut C,
@@ -99,7 +101,7 @@ fn edit_again<R: Clock, C: TileChain, P: PairStore<C>>(
     for round in 0..rounds {
         edit(canvas, chain, written, round % 256)?;
         let start = Instant::now(rt)?;
-        let (shown, _spent) = canvas.shown(chain, request)?;
+        let (shown, _spent) = canvas.shown(chain, request, Workers::new(rt, 1))?;
         best = least(rt, best, start)?;
         applied = shown.applied;
     }

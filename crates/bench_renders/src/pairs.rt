@@ -18,14 +18,16 @@ use node_cache::PairStore;
 use outside_io::SureSwap;
 use std::alloc::Global;
 use std::rt::Clock;
+use std::thread::Threads;
 use std::time::Instant;
 use test_renders::{Canvas, Request, over_buffers};
+use worker_pieces::Workers;
 
 /// How many tiles the chain has in memory, and how many the cache keeps.
 pub const MANY: u32 = 1 << 16;
 
 /// Times one node over the buffer, and 21 on one another: what each more costs is that of its pairs.
-pub fn time_pairs<R: Clock + Print + Eprint + Alloc<A = Global>>(
+pub fn time_pairs<R: Clock + Print + Eprint + Threads + Sync + Alloc<A = Global>>(
     rt: &R,
     report: Report,
     job: Job,
@@ -50,7 +52,7 @@ fn gains(alloc: Global, depth: u32) -> Result<Vec<NodeEdit<IntOp>>> {
 }
 
 /// Times gains on one another, evaluated and cached.
-fn time_depth<R: Clock + Print + Eprint + Alloc<A = Global>, C: TileChain>(
+fn time_depth<R: Clock + Print + Eprint + Threads + Sync + Alloc<A = Global>, C: TileChain>(
     rt: &R,
     report: Report,
     chain: &mut C,
@@ -65,7 +67,7 @@ fn time_depth<R: Clock + Print + Eprint + Alloc<A = Global>, C: TileChain>(
     let last = format!(in alloc; "n{depth}")?;
     let all = request(&last, [0, 0, side, side])?;
     let start = Instant::now(rt)?;
-    let (shown, _spent) = canvas.shown(chain, &all)?;
+    let (shown, _spent) = canvas.shown(chain, &all, Workers::new(rt, 1))?;
     let first = least(rt, u128::MAX, start)?;
     report.print(rt, "gain evaluated", first, shown.applied, shown.applied)?;
     let (best, reused) = show_again(rt, &mut canvas, chain, &all, job.rounds)?;
@@ -74,7 +76,7 @@ fn time_depth<R: Clock + Print + Eprint + Alloc<A = Global>, C: TileChain>(
 }
 
 /// Renders a request again and again. Returns the least time in nanoseconds, and how many tiles were cached.
-pub fn show_again<R: Clock, C: TileChain, P: PairStore<C>>(
+pub fn show_again<R: Clock + Threads + Sync, C: TileChain, P: PairStore<C>>(
     rt: &R,
     canvas: &mut Canvas<Buffers, P>,
     chain: &mut C,
@@ -95,7 +97,7 @@ pub fn show_again<R: Clock, C: TileChain, P: PairStore<C>>(
     let mut reused = 0;
     for _round in 0..rounds {
         let start = Instant::now(rt)?;
-        let (shown, _spent) = canvas.shown(chain, request)?;
+        let (shown, _spent) = canvas.shown(chain, request, Workers::new(rt, 1))?;
         best = least(rt, best, start)?;
         reused = shown.reused;
     }

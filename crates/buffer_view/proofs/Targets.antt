@@ -25,6 +25,11 @@ pub mapped-same : {X Y Z : Type 0} (o : Option X) (t : Y) (f g : Y → Z) → f 
 mapped-same None t f g same = refl
 mapped-same (Some x) t f g same = ap Some same
 
+-- a value that is there, of which more is known
+pub there-weaker : {X : Type 0} (P Q : X → Type 0) (o : Option X) → ((x : X) → P x → Q x) → IsSomeAnd o P → IsSomeAnd o Q
+there-weaker P Q None weaker there = there
+there-weaker P Q (Some x) weaker there = weaker x there
+
 module _ (layout : TableLayout) (is : IsLayout layout) (name : List ℕ) (seen : RootView) (target : root_view layout name ≡ Some seen) where
   -- what is seen is a view of the root of the number
   pub by_target : (P : Type 0) → ((view : View) → find layout.buffers name ≡ Some view → on_root layout view ≡ seen

@@ -1,7 +1,6 @@
 pub mod BufferTables
 pub mod BufferLaws
 pub mod Causes
-pub mod Written
 pub mod Shares
 pub mod Reads
 pub mod Freezing

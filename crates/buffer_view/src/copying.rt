@@ -23,7 +23,7 @@ ghost use Rattle.buffer_view.specs.declared.refused.BufferRefused.TheVariants.{E
 
 use crate::buffers::Buffers;
 use crate::refused::BufferRefused;
-use crate::written::Written;
+use crate::written::Raw;
 use chain_contracts::TileChain;
 use plane_rect::{Name, Rect};
 use swap_store::SwapRefused;
@@ -73,7 +73,8 @@ impl Buffers {
         // `first_column` is called for its clause that the rectangle is one of the plane.
         let _ = rect.first_column();
         let bytes = self.read(chain, parts.source.root, rect)?;
-        self.write(chain, parts.target.root, parts.moved, &Written::Raw(&bytes))?;
+        let written = Raw { bytes: &bytes };
+        self.write(chain, parts.target.root, parts.moved, &written)?;
         Ok(())
     }
 

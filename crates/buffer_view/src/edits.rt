@@ -15,9 +15,11 @@ ghost use Rattle.buffer_view.specs.declared.refused.BufferRefused.TheVariants.{E
 
 use crate::buffers::Buffers;
 use crate::refused::BufferRefused;
-use crate::written::Written;
+use crate::written::{Even, SplitRaw};
 use chain_contracts::TileChain;
 use plane_rect::{Name, Rect};
+use std::thread::Threads;
+use worker_pieces::Workers;
 
 impl Buffers {
     /// Writes one pixel at each position of a rectangle of a buffer: a sample for each channel. After an error
@@ -60,23 +62,25 @@ impl Buffers {
             Ok(view) => view,
             Err(refused) => return Err(BufferRefused::Edit(refused)),
         };
-        self.write(chain, view.root, rect, &Written::Even(samples))?;
+        self.write(chain, view.root, rect, &Even { samples })?;
         Ok(())
     }
 
-    /// Writes raw bytes over a rectangle of a buffer: its pixels row by row, each row from the left. After an
-    /// error the buffers and their images are as before. Takes time in proportion to the tiles of the rectangle.
+    /// Writes raw bytes over a rectangle of a buffer: its pixels row by row, each row from the left. Several
+    /// workers cut the tiles that the rectangle covers, where that is worth it. After an error the buffers and
+    /// their images are as before. Takes time in proportion to the tiles of the rectangle.
     ///
     /// # Errors
     ///
     /// `UnknownBuffer` where no buffer has the name, else `OutOfBounds` where the buffer lacks a position of the
     /// rectangle, and else `WrongSize` where the bytes are more or fewer than those of the rectangle. Else as [`Buffers::fill`].
-    pub fn put_raw<C: TileChain>(
+    pub fn put_raw<C: TileChain, R: Threads + Sync>(
         &mut self,
         chain: &mut C,
         name: Name,
         rect: Rect,
         bytes: &[u8],
+        workers: Workers<'_, R>,
     ) -> Result<(), BufferRefused>
         requires { AreBuffersOver self.old (C.held chain.old) }
         ensures layout { MatchResult result
@@ -101,7 +105,7 @@ impl Buffers {
             Ok(view) => view,
             Err(refused) => return Err(BufferRefused::Edit(refused)),
         };
-        self.write(chain, view.root, rect, &Written::Raw(bytes))?;
+        self.write(chain, view.root, rect, &SplitRaw { bytes, workers })?;
         Ok(())
     }
 }

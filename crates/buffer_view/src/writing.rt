@@ -10,7 +10,6 @@ ghost use Rattle.model_images.specs.TileCounts.{tile_count};
 ghost use Rattle.plane_rect.specs.Rectangle.{Includes};
 ghost use Rattle.swap_store.specs.Cause.{HasSwapCause};
 ghost use Rattle.buffer_view.specs.BufferTables.{AreBuffersOver, buffers_names, table_of};
-ghost use Rattle.buffer_view.specs.Written.{IsWrittenOver, written_pixels};
 
 use crate::buffers::Buffers;
 use crate::written::Written;
@@ -20,20 +19,20 @@ use swap_store::SwapRefused;
 
 impl Buffers {
     /// Writes over a rectangle of the root of a number. After an error the buffers are as before.
-    pub(crate) fn write<C: TileChain>(
+    pub(crate) fn write<C: TileChain, W: Written>(
         &mut self,
         chain: &mut C,
         number: usize,
         rect: Rect,
-        samples: &Written,
+        samples: &W,
     ) -> Result<(), SwapRefused>
         requires over { AreBuffersOver self.old (C.held chain.old) }
         requires inside { IsSomeAnd (slice_get self.old.layout.roots number) (λ (entry : List ℕ × Shape). Includes entry.1.box rect) }
-        requires samples { IsSomeAnd (slice_get self.old.layout.roots number) (λ (entry : List ℕ × Shape). IsWrittenOver entry.1.format rect samples.now) }
+        requires samples { IsSomeAnd (slice_get self.old.layout.roots number) (λ (entry : List ℕ × Shape). W.fits samples.now entry.1.format rect) }
         ensures layout { self.new.layout ≡ self.old.layout }
         ensures table { (root : List ℕ) (shape : Shape) → slice_get self.old.layout.roots number ≡ Some (root, shape) →
             OnOk result (table_of self.new (C.held chain.new) ≡ option_map
-            (λ table. written table root rect (written_pixels shape.format rect samples.now))
+            (λ table. written table root rect (W.pixels samples.now shape.format rect))
             (table_of self.old (C.held chain.old))) }
         ensures same { OnErr result (table_of self.new (C.held chain.new) ≡ table_of self.old (C.held chain.old)) }
         ensures over { AreBuffersOver self.new (C.held chain.new) }

@@ -1,33 +1,38 @@
 //! What is written over a rectangle of a root.
 
-ghost use Rattle.std.specs.Prelude.{◌≡◌, ◌+◌, IfErr, OnErr, OnOk};
+ghost use Rattle.std.specs.Prelude.{◌≡◌, ◌+◌, ℕ, IfErr, OnErr, OnOk, length};
+ghost use denote.Param.Send.{IsSync};
 ghost use Rattle.std.specs.Option.{option_map};
 ghost use Rattle.chain_owners.specs.Counts.{Grows};
 ghost use Rattle.chain_owners.specs.Owners.{Respects};
+ghost use Rattle.model_buffers.specs.BufferEdit.{IsPixel};
+ghost use Rattle.model_buffers.specs.Edits.{evenly};
+ghost use Rattle.model_images.specs.FromRaw.{byte_count, pixels_from_raw};
 ghost use Rattle.model_images.specs.Paint.{painted};
 ghost use Rattle.model_images.specs.TileCounts.{tile_count};
-ghost use Rattle.plane_rect.specs.Rectangle.{Includes};
+ghost use Rattle.pixel_formats.specs.Row.{Pixel};
+ghost use Rattle.pixel_formats.specs.declared.format.Format.{Format};
+ghost use Rattle.plane_rect.specs.Rectangle.{Includes, Rectangle};
 ghost use Rattle.root_tiles.specs.Roots.{IsRootOver, root_image, root_names, root_shape};
 ghost use Rattle.swap_store.specs.Cause.{HasSwapCause};
-ghost use Rattle.buffer_view.specs.Written.{IsWrittenOver, written_pixels};
 
 use chain_contracts::TileChain;
 use plane_rect::Rect;
 use root_tiles::Root;
+use std::thread::Threads;
 use swap_store::SwapRefused;
+use worker_pieces::Workers;
 
 /// What is written over a rectangle of a root.
-#[derive(Drop)]
-pub(crate) enum Written<'a> {
-    /// One pixel everywhere: a sample for each channel.
-    Even(&'a [u32]),
-    /// The raw bytes of the rectangle, row by row.
-    Raw(&'a [u8]),
-}
+pub(crate) trait Written {
+    /// It can be written over a rectangle of a root of a format.
+    ghost fits: { Self → Format → Rectangle → Type 0 };
 
-impl<'a> Written<'a> {
+    /// The samples that are written.
+    ghost pixels: { Self → Format → Rectangle → ℕ → ℕ → Pixel };
+
     /// Writes over a rectangle of a root's box. After an error the root and its image are as before.
-    pub fn write<C: TileChain>(
+    fn write<C: TileChain>(
         &self,
         root: &mut Root,
         chain: &mut C,
@@ -35,9 +40,9 @@ impl<'a> Written<'a> {
     ) -> Result<(), SwapRefused>
         requires over { IsRootOver root.old (C.held chain.old) }
         requires inside { Includes root.old.box rect }
-        requires written { IsWrittenOver root.old.tiles.format rect self.now }
+        requires written { fits self.now root.old.tiles.format rect }
         ensures image { OnOk result (root_image root.new (C.held chain.new) ≡ option_map
-            (λ image. painted image rect (written_pixels root.old.tiles.format rect self.now))
+            (λ image. painted image rect (pixels self.now root.old.tiles.format rect))
             (root_image root.old (C.held chain.old))) }
         ensures shape { root_shape root.new ≡ root_shape root.old }
         ensures unchanged { OnErr result (root.new ≡ root.old) }
@@ -48,11 +53,69 @@ impl<'a> Written<'a> {
         ensures cause { IfErr result (HasSwapCause (C.counts chain.old) (C.counts chain.new)
             ((C.counts chain.old).names + tile_count rect)) }
         ensures loans { C.loans chain.new ≡ C.loans chain.old }
-        ensures valid { C.is_valid chain.old → C.is_valid chain.new }
-    {
-        match self {
-            Written::Even(samples) => root.fill(chain, rect, samples),
-            Written::Raw(bytes) => root.put_raw(chain, rect, bytes),
-        }
+        ensures valid { C.is_valid chain.old → C.is_valid chain.new };
+}
+
+/// One pixel everywhere: a sample for each channel.
+#[derive(Clone, Copy)]
+pub(crate) struct Even<'a> {
+    pub samples: &'a [u32],
+}
+
+impl Written for Even<'_> {
+    ghost fits = { λ written format _. IsPixel format written.samples.now };
+
+    ghost pixels = { λ written _ _. evenly written.samples.now };
+
+    fn write<C: TileChain>(
+        &self,
+        root: &mut Root,
+        chain: &mut C,
+        rect: Rect,
+    ) -> Result<(), SwapRefused> {
+        root.fill(chain, rect, self.samples)
+    }
+}
+
+/// The raw bytes of the rectangle, row by row.
+#[derive(Clone, Copy)]
+pub(crate) struct Raw<'a> {
+    pub bytes: &'a [u8],
+}
+
+impl Written for Raw<'_> {
+    ghost fits = { λ written format r. length written.bytes.now ≡ byte_count r format };
+
+    ghost pixels = { λ written format r. pixels_from_raw r format written.bytes.now };
+
+    fn write<C: TileChain>(
+        &self,
+        root: &mut Root,
+        chain: &mut C,
+        rect: Rect,
+    ) -> Result<(), SwapRefused> {
+        root.put_raw_alone(chain, rect, self.bytes)
+    }
+}
+
+/// The raw bytes of the rectangle, row by row, of which several workers may cut the tiles.
+#[derive(Drop)]
+pub(crate) struct SplitRaw<'a, R: Threads + Sync> {
+    pub bytes: &'a [u8],
+    pub workers: Workers<'a, R>,
+}
+
+impl<R: Threads + Sync> Written for SplitRaw<'_, R> {
+    ghost fits = { λ written format r. IsSync R.row × (length written.bytes.now ≡ byte_count r format) };
+
+    ghost pixels = { λ written format r. pixels_from_raw r format written.bytes.now };
+
+    fn write<C: TileChain>(
+        &self,
+        root: &mut Root,
+        chain: &mut C,
+        rect: Rect,
+    ) -> Result<(), SwapRefused> {
+        root.put_raw(chain, rect, self.bytes, self.workers)
     }
 }

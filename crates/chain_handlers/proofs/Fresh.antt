@@ -58,6 +58,8 @@ module _ (placement : Placement) (none : map.len placement.extents ≡ 0) where
         ap (λ n. record { faults = faults; names = n; used = Some placement.used; capacity = capacity })
         (ap (λ (fs : List (ℕ × List ℕ)). map.len (overlay fs (disk_held placement blocks)).lengths) empty ∙ ap map.len no_lengths ∙ len-empty nat_cmp ℕ)
 
-    pub fresh-cache : (capacity : ℕ) (below : Held) → IsCache es capacity below
-    fresh-cache capacity below =
-        subst (λ (fs : List (ℕ × List ℕ)). IsCache fs capacity below) (sym empty) (record { fits = omega arith; agrees = λ name len is. is })
+-- a cache without tiles
+pub fresh-cache : (es : List (ℕ × List ℕ)) → es ≡ [] → (capacity : ℕ) (below : Held) → IsCache es capacity below
+fresh-cache es empty capacity below =
+    subst (λ (fs : List (ℕ × List ℕ)). IsCache fs capacity below) (sym empty)
+    (record { fits = omega arith; shown = record { lengths = λ name len is. is; bytes = λ name bytes is. is } })

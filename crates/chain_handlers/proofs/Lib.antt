@@ -2,6 +2,8 @@ mod NameCounts
 mod DiskPuts
 mod Tiles
 mod Overlays
+mod Shown
+mod EntryCounts
 mod Moves
 mod Owning
 mod Fresh

@@ -1,5 +1,5 @@
 -- A tile that moves from a cache to what is below it.
-use Rattle.std.proofs.Common.{◌≡◌, ℕ, ◌+◌, ◌-◌, ◌<◌, ◌≤◌, eqb, List, [], ◌∷◌, ◌++◌, length, take, Option, Some, None, is_some, true≢false, true, false, cond, IfSome, refl, sym, ap, ◌∙◌, subst, inl, inr, length-take, arith}
+use Rattle.std.proofs.Common.{◌≡◌, ℕ, ◌+◌, ◌-◌, ◌<◌, ◌≤◌, eqb, List, [], ◌∷◌, ◌++◌, length, take, Option, Some, None, is_some, true≢false, true, false, cond, IfSome, Result, Ok, Err, OnOk, OnErr, refl, sym, ap, ◌∙◌, subst, inl, inr, length-take, arith}
 use Rattle.std.specs.Cmp.{nat_eq_equiv}
 use Rattle.std.specs.FinMap as map
 use Rattle.std.specs.FinMap.{len-insert}
@@ -10,22 +10,24 @@ use Rattle.std.proofs.lemmas.Cmp.{nat_cmp_total}
 use Rattle.std.proofs.lemmas.Map.{lookup-none}
 use Rattle.std.proofs.lemmas.Map.Entries.{lookup_from_place, none_past_head}
 use Rattle.std.proofs.lemmas.Map.Keys.{IsDistinct-tail}
-use Rattle.lru.specs.LruCache.{last_entry, lru_cache, promoted, put_entries}
+use Rattle.lru.specs.LruCache.{LruCache, last_entry, lru_cache, promoted, put_entries}
 use Rattle.lru.proofs.CallerLemmas.{lookup-put_entries}
 use Rattle.chain_owners.specs.Chain.{HasSameNames}
 use Rattle.chain_owners.specs.Counts.{Continues, Counts}
 use Rattle.chain_owners.specs.Held.{Held, bytes_of, length_of, with_tile, without_tile}
 use Rattle.chain_owners.specs.Room.{Room}
-use Rattle.chain_owners.proofs.Names.{get_elsewhere, get_gone, get_here, get_left}
+use Rattle.chain_owners.proofs.Names.{get_gone}
 use Rattle.swap_store.specs.declared.refusal.SwapRefused.{SwapRefused}
 use Rattle.swap_store.specs.declared.refusal.SwapRefused.TheVariants as refusals
 use Rattle.swap_store.specs.Cause.{HasSwapCause}
 use Rattle.swap_store.proofs.Causes.{cause-before, cause-more}
-use Rattle.chain_handlers.specs.Overlay.{IsCache, IsCrowded, overlay}
+use Rattle.chain_handlers.specs.Overlay.{IsCache, IsCrowded, IsShown, overlay}
 use Rattle.chain_contracts.specs.Tiles.{OnFull, Reads, ReportsPut, ReportsRoom, emptied}
 use Rattle.chain_handlers.proofs.NameCounts.{len-inserted}
 use Rattle.chain_handlers.proofs.Tiles.{put-known}
-use Rattle.chain_handlers.proofs.Overlays.{names-below, overlay-has, overlay-hides, overlay-lacks, overlay-last, overlay-promoted, overlay-put, overlay-removed, overlay-shadow, split_last}
+use Rattle.chain_handlers.proofs.EntryCounts.{length-promoted, length-put, length-removed}
+use Rattle.chain_handlers.proofs.Shown.{shown-beneath, shown-less, shown-out, shown-put, shown-same}
+use Rattle.chain_handlers.proofs.Overlays.{names-below, overlay-exposes, overlay-has, overlay-hides, overlay-lacks, overlay-last, overlay-promoted, overlay-put, overlay-removed, overlay-shadow, split_last}
 
 -- a tile of one map is one of another that has its lengths
 pub reports-above : (inner outer : Held) (store : Option Room) (refused : SwapRefused)
@@ -45,6 +47,20 @@ lookup-before (e ∷ es) fs k none = elim (cases_eq k e.0) [
   | inr ne ↦ rw (ne_eqb k e.0 ne) (lookup-before es fs k (rw (ne_eqb k e.0 ne) at none))
 ]
 
+known-shown : (es : List (ℕ × List ℕ)) (name : ℕ) (bytes : List ℕ) (below : Held) → HasSameNames below → IsShown below (overlay es below)
+    → lookup (eqb name) es ≡ Some bytes → is_some (length_of below name) ≡ true → with_tile below name bytes ≡ below
+known-shown es name bytes below same shown is there =
+    let has = overlay-has name es bytes below is in
+    put-known below name bytes same (known-length (length_of below name) refl there) (known-bytes (bytes_of below name) refl)
+  where
+    known-length : (o : Option ℕ) → length_of below name ≡ o → is_some o ≡ true → length_of below name ≡ Some (length bytes)
+    known-length None is' there' = absurd (true≢false (sym there'))
+    known-length (Some len) is' there' = is' ∙ sym (shown.lengths name len is') ∙ (overlay-has name es bytes below is).0
+
+    known-bytes : (o : Option (List ℕ)) → bytes_of below name ≡ o → IfSome o (λ b. bytes ≡ b)
+    known-bytes None is' = tt
+    known-bytes (Some b) is' = rw (shown.bytes name b is') at (overlay-has name es bytes below is).1
+
 module _ (es : List (ℕ × List ℕ)) (name : ℕ) (bytes : List ℕ) (below : Held) (last : last_entry es ≡ Some (name, bytes)) where
   pub moved-held : (new : Held) → new ≡ with_tile below name bytes → overlay (take (length es - 1) es) new ≡ overlay es below
   moved-held new is =
@@ -58,22 +74,23 @@ module _ (es : List (ℕ × List ℕ)) (name : ℕ) (bytes : List ℕ) (below : 
   names-moved : map.len (with_tile below name bytes).lengths ≤ map.len (overlay es below).lengths
   names-moved = omega (arith, names-below (take (length es - 1) es) (with_tile below name bytes), ap (λ (h : Held). map.len h.lengths) (moved-held (with_tile below name bytes) refl))
 
-  agrees-moved : IsDistinct eqb (keys_of es) → ((q len : ℕ) → length_of below q ≡ Some len → length_of (overlay es below) q ≡ Some len)
-      → (q len : ℕ) → length_of (with_tile below name bytes) q ≡ Some len → length_of (overlay es below) q ≡ Some len
-  agrees-moved apart agrees q len is = elim (cases_eq q name) [
-    | inl same ↦
-        let found = (overlay-has name es bytes below (lookup_from_place nat_eq_equiv es (length es - 1) name bytes apart last)).0 in
-        ap (length_of (overlay es below)) same ∙ found ∙ sym (get_here below.lengths name (length bytes)) ∙ sym (ap (length_of (with_tile below name bytes)) same) ∙ is
-    | inr ne ↦ agrees q len (sym (get_elsewhere below.lengths name (length bytes) q ne) ∙ is)
-  ]
+  in-memory : IsDistinct eqb (keys_of es) → lookup (eqb name) es ≡ Some bytes
+  in-memory apart = lookup_from_place nat_eq_equiv es (length es - 1) name bytes apart last
 
   pub laws-moved : (capacity : ℕ) (new : Held) → new ≡ with_tile below name bytes → IsDistinct eqb (keys_of es)
       → IsCache es capacity below → IsCache (take (length es - 1) es) capacity new
   laws-moved capacity new is apart laws = record {
     fits = omega (arith, length-take {A = ℕ × List ℕ}, laws.fits);
-    agrees = λ q len has. ap (λ held. length_of held q) (moved-held new is)
-        ∙ agrees-moved apart laws.agrees q len (sym (ap (λ held. length_of held q) is) ∙ has);
+    shown = subst (λ held. IsShown held (overlay (take (length es - 1) es) new)) (sym is)
+        (shown-same (with_tile below name bytes) (overlay es below) (overlay (take (length es - 1) es) new) (moved-held new is)
+        (shown-put below (overlay es below) name laws.shown bytes (overlay-has name es bytes below (in-memory apart)).0
+        (λ exposed. overlay-exposes name es bytes below exposed (in-memory apart))));
   }
+
+  -- a tile in memory whose name is below is the one that is there
+  pub last-known : (capacity : ℕ) → HasSameNames below → IsDistinct eqb (keys_of es) → IsCache es capacity below
+      → is_some (length_of below name) ≡ true → with_tile below name bytes ≡ below
+  last-known capacity same apart laws there = known-shown es name bytes below same laws.shown (in-memory apart) there
 
   pub moved-cause : (old now : Counts) (refused : SwapRefused) → HasSwapCause old now (map.len (with_tile below name bytes).lengths) refused
       → HasSwapCause old now (map.len (overlay es below).lengths) refused
@@ -84,11 +101,11 @@ module _ (es : List (ℕ × List ℕ)) (name : ℕ) (bytes : List ℕ) (below : 
   moved-report capacity store refusals.SwapFault apart laws is = tt
   moved-report capacity store (refusals.SwapFull needed found) apart laws is = record {
     tile = elim is.tile [
-      | inl tile ↦ record { name = tile.name; len = tile.len; there = laws.agrees tile.name tile.len tile.there; blocks = tile.blocks }
+      | inl tile ↦ record { name = tile.name; len = tile.len; there = laws.shown.lengths tile.name tile.len tile.there; blocks = tile.blocks }
       | inr own ↦ record {
         name = name;
         len = length bytes;
-        there = (overlay-has name es bytes below (lookup_from_place nat_eq_equiv es (length es - 1) name bytes apart last)).0;
+        there = (overlay-has name es bytes below (in-memory apart)).0;
         blocks = own;
       }
     ];
@@ -111,42 +128,61 @@ module _ (es : List (ℕ × List ℕ)) (capacity name : ℕ) (bytes : List ℕ) 
       ∙ overlay-hides name inserted bytes below (lookup-put_entries eqb (lru_cache es capacity) name bytes nat_eq_equiv)
       ∙ overlay-put name es capacity bytes below room
 
-  pub insert-laws : IsCache es capacity below → length inserted ≤ capacity → IsCache inserted capacity new
-  insert-laws laws fits = record {
-    fits = fits;
-    agrees = λ q len has. elim (cases_eq q name) [
-      | inl same ↦ absurd (none-some len (sym (ap (length_of (without_tile below name)) same ∙ get_gone below.lengths name) ∙ sym (ap (λ held. length_of held q) is) ∙ has))
-      | inr ne ↦ ap (λ held. length_of held q) insert-held ∙ get_elsewhere (overlay es below).lengths name (length bytes) q ne
-          ∙ laws.agrees q len (sym (get_left below.lengths name q ne) ∙ sym (ap (λ held. length_of held q) is) ∙ has)
-    ];
+  pub insert-laws : IsCache es capacity below → IsCache inserted capacity new
+  insert-laws laws = record {
+    fits = length-put es capacity name bytes room laws.fits;
+    shown = subst (λ held. IsShown held (overlay inserted new)) (sym is)
+        (shown-same (without_tile below name) (with_tile (overlay es below) name bytes) (overlay inserted new) insert-held
+        (shown-beneath below (overlay es below) name laws.shown bytes));
   }
-    where
-      none-some : (len : ℕ) → None ≡ Some len → ⊥
-      none-some len wrong = cc
+
+-- a tile that is kept as it is below
+module _ (es : List (ℕ × List ℕ)) (capacity name : ℕ) (bytes : List ℕ) (below : Held) (room : lookup (eqb name) es ≡ None → length es < capacity)
+    (known : with_tile (overlay es below) name bytes ≡ overlay es below) where
+  pub brought-held : overlay (put_entries eqb (lru_cache es capacity) name bytes) below ≡ overlay es below
+  brought-held = overlay-put name es capacity bytes below room ∙ known
+
+  abbrev brought : LruCache ℕ (List ℕ)
+  brought = lru_cache (put_entries eqb (lru_cache es capacity) name bytes) capacity
+
+  pub brought-laws : {X E : Type 0} (answer : Result X E) (new : LruCache ℕ (List ℕ)) → OnOk answer (new ≡ brought) → OnErr answer (new ≡ lru_cache es capacity)
+      → IsCache es capacity below → IsCache new.entries new.cap below
+  brought-laws (Ok done) new put left laws = subst (λ (cache : LruCache ℕ (List ℕ)). IsCache cache.entries cache.cap below) (sym put) (record {
+    fits = length-put es capacity name bytes room laws.fits;
+    shown = shown-same below (overlay es below) (overlay brought.entries below) brought-held laws.shown;
+  })
+  brought-laws (Err refused) new put left laws = subst (λ (cache : LruCache ℕ (List ℕ)). IsCache cache.entries cache.cap below) (sym left) laws
 
 pub promoted-laws : (es : List (ℕ × List ℕ)) (capacity name : ℕ) (below : Held) → IsCache es capacity below
-    → length (promoted (eqb name) es) ≤ capacity → IsCache (promoted (eqb name) es) capacity below
-promoted-laws es capacity name below laws fits = record {
-  fits = fits;
-  agrees = λ q len has. ap (λ held. length_of held q) (overlay-promoted name es below) ∙ laws.agrees q len has;
+    → IsCache (promoted (eqb name) es) capacity below
+promoted-laws es capacity name below laws = record {
+  fits = omega (arith, laws.fits, length-promoted (eqb name) es);
+  shown = shown-same below (overlay es below) (overlay (promoted (eqb name) es) below) (overlay-promoted name es below) laws.shown;
 }
 
 module _ (es : List (ℕ × List ℕ)) (capacity name : ℕ) (below new : Held) (apart : IsDistinct eqb (keys_of es)) (is : new ≡ without_tile below name) where
   pub removed-held : overlay (remove_entry (eqb name) es) new ≡ without_tile (overlay es below) name
   removed-held = ap (overlay (remove_entry (eqb name) es)) is ∙ overlay-removed name es below apart
 
-  pub removed-laws : IsCache es capacity below → length (remove_entry (eqb name) es) ≤ capacity → IsCache (remove_entry (eqb name) es) capacity new
-  removed-laws laws fits = record {
-    fits = fits;
-    agrees = λ q len has. elim (cases_eq q name) [
-      | inl same ↦ absurd (none-some len (sym (ap (length_of (without_tile below name)) same ∙ get_gone below.lengths name) ∙ sym (ap (λ held. length_of held q) is) ∙ has))
-      | inr ne ↦ ap (λ held. length_of held q) removed-held ∙ get_left (overlay es below).lengths name q ne
-          ∙ laws.agrees q len (sym (get_left below.lengths name q ne) ∙ sym (ap (λ held. length_of held q) is) ∙ has)
-    ];
+  pub removed-laws : IsCache es capacity below → IsCache (remove_entry (eqb name) es) capacity new
+  removed-laws laws = record {
+    fits = omega (arith, laws.fits, length-removed (eqb name) es);
+    shown = subst (λ held. IsShown held (overlay (remove_entry (eqb name) es) new)) (sym is)
+        (shown-same (without_tile below name) (without_tile (overlay es below) name) (overlay (remove_entry (eqb name) es) new) removed-held
+        (shown-out below (overlay es below) name laws.shown));
   }
-    where
-      none-some : (len : ℕ) → None ≡ Some len → ⊥
-      none-some len wrong = cc
+
+-- a tile in memory that gives up its place below is the same from above
+module _ (es : List (ℕ × List ℕ)) (name : ℕ) (bytes : List ℕ) (below new : Held) (there : lookup (eqb name) es ≡ Some bytes) (is : new ≡ without_tile below name) where
+  pub given_up-held : overlay es new ≡ overlay es below
+  given_up-held = ap (overlay es) is ∙ overlay-hides name es bytes below there
+
+  pub given_up-laws : (capacity : ℕ) → IsCache es capacity below → IsCache es capacity new
+  given_up-laws capacity laws = record {
+    fits = laws.fits;
+    shown = subst (λ held. IsShown held (overlay es new)) (sym is)
+        (shown-same (without_tile below name) (overlay es below) (overlay es new) given_up-held (shown-less below (overlay es below) name laws.shown));
+  }
 
 -- ---- names of a full cache
 
@@ -239,12 +275,12 @@ crowded-for es capacity name len below full apart none known = record {
   past = omega (arith, full, one-of-more es name len below apart none known);
 }
 
--- a tile that is kept where it was read changes nothing
-pub refetched : (outer middle new : Held) (name len : ℕ) (tile : List ℕ) → new ≡ with_tile middle name tile → middle ≡ outer
-    → HasSameNames outer → length_of outer name ≡ Some len → Reads outer name len tile → new ≡ outer
-refetched outer middle new name len tile put same names known read =
-    put ∙ ap (λ held. with_tile held name tile) same
-    ∙ put-known outer name tile names (known ∙ ap (λ n. Some n) (sym read.length)) read.bytes
+-- a tile that was read is what its name has
+pub read-known : (outer middle : Held) (name len : ℕ) (tile : List ℕ) → middle ≡ outer → HasSameNames outer → length_of outer name ≡ Some len
+    → Reads outer name len tile → with_tile middle name tile ≡ middle
+read-known outer middle name len tile same names known read =
+    ap (λ held. with_tile held name tile) same
+    ∙ put-known outer name tile names (known ∙ ap (λ n. Some n) (sym read.length)) read.bytes ∙ sym same
 
 -- a tile that is found in memory is read
 pub reads-found : (es : List (ℕ × List ℕ)) (name len : ℕ) (tile : List ℕ) (below : Held) → lookup (eqb name) es ≡ Some tile

@@ -1,5 +1,5 @@
 -- What a cache holds after a tile moved, came or went.
-use Rattle.std.proofs.Common.{◌≡◌, ◌≢◌, ℕ, ◌+◌, ◌-◌, ◌<◌, ◌≤◌, eqb, zero, suc, slice_get, take_all, List, [], ◌∷◌, ◌++◌, length, take, Option, Some, None, IfSome, refl, sym, ap, ap₂, ◌∙◌, inl, inr, arith}
+use Rattle.std.proofs.Common.{◌≡◌, ◌≢◌, ℕ, ◌+◌, ◌-◌, ◌<◌, ◌≤◌, eqb, zero, suc, slice_get, take_all, List, [], ◌∷◌, ◌++◌, length, take, Option, Some, None, IfSome, is_some, true, true≢false, refl, sym, ap, ap₂, ◌∙◌, inl, inr, arith}
 use Rattle.std.specs.Option.{option_and_then, option_map, option_map_or}
 use Rattle.std.specs.FinMap as map
 use Rattle.std.specs.Cmp.{nat_eq_equiv}
@@ -14,7 +14,7 @@ use Rattle.chain_owners.specs.Held.{Held, bytes_of, length_of, with_tile, withou
 use Rattle.chain_owners.specs.Values.{Named}
 use Rattle.chain_owners.proofs.Names.{get_elsewhere, get_here}
 use Rattle.chain_handlers.specs.Overlay.{overlay}
-use Rattle.chain_handlers.proofs.NameCounts.{len-inserted}
+use Rattle.chain_handlers.proofs.NameCounts.{is_some-map, len-inserted}
 use Rattle.chain_handlers.proofs.Tiles.{out-put, out-swap, put-fill, put-swap, put-twice}
 
 abbrev Entries : Type 0
@@ -101,6 +101,36 @@ module _ (name : ℕ) where
         rw (bytes-elsewhere held.content k v ne) is.1,
       )
 
+  -- the same where the bytes below are exposed
+  pub overlay-exposes : (es : Entries) (bytes : List ℕ) (below : Held) → is_some below.content ≡ true → lookup (eqb name) es ≡ Some bytes
+      → bytes_of (overlay es below) name ≡ Some bytes
+  overlay-exposes es bytes below exposed is =
+      let bytes-there = (overlay-has es bytes below is).1 in
+      some-bytes (bytes_of (overlay es below) name) bytes (overlay-some es bytes below exposed is) bytes-there
+    where
+      some-bytes : (o : Option (List ℕ)) (bytes : List ℕ) → is_some o ≡ true → IfSome o (λ b. bytes ≡ b) → o ≡ Some bytes
+      some-bytes None bytes some same = absurd (true≢false (sym some))
+      some-bytes (Some b) bytes some same = ap (λ x. Some x) (sym same)
+
+      exposed-above : (es : Entries) (below : Held) → is_some below.content ≡ true → is_some (overlay es below).content ≡ true
+      exposed-above [] below exposed = exposed
+      exposed-above (f ∷ es) below exposed =
+          is_some-map (λ (m : Named (List ℕ)). map.insert m f.0 f.1) (overlay es below).content ∙ exposed-above es below exposed
+
+      at-head : (c : Option (Named (List ℕ))) (k : ℕ) (v : List ℕ) → name ≡ k → is_some c ≡ true
+          → is_some (option_and_then (λ content. map.get content name) (option_map (λ (m : Named (List ℕ)). map.insert m k v) c)) ≡ true
+      at-head None k v same some = absurd (true≢false (sym some))
+      at-head (Some m) k v same some = ap (λ q. is_some (map.get (map.insert m k v) q)) same ∙ ap is_some (get_here m k v)
+
+      overlay-some : (es : Entries) (bytes : List ℕ) (below : Held) → is_some below.content ≡ true → lookup (eqb name) es ≡ Some bytes
+          → is_some (bytes_of (overlay es below) name) ≡ true
+      overlay-some [] bytes below exposed is = absurd (let no : None ≡ Some bytes = is in cc)
+      overlay-some (f ∷ es) bytes below exposed is = elim (cases_eq name f.0) [
+        | inl same ↦ at-head (overlay es below).content f.0 f.1 same (exposed-above es below exposed)
+        | inr ne ↦ ap is_some (bytes-elsewhere (overlay es below).content f.0 f.1 ne)
+            ∙ overlay-some es bytes below exposed (rw (ne_eqb name f.0 ne) at is)
+      ]
+
   -- without one in memory, a name has what is below
   pub overlay-lacks : (es : Entries) (below : Held) → lookup (eqb name) es ≡ None
       → (length_of (overlay es below) name ≡ length_of below name) × (bytes_of (overlay es below) name ≡ bytes_of below name)
@@ -137,7 +167,7 @@ module _ (name : ℕ) where
     | inr ne ↦ ap (λ held. with_tile held f.0 f.1) (overlay-hides es bytes below (rw (ne_eqb name f.0 ne) at is))
   ]
 
-  no-entry : (es : Entries) → lookup_entry (eqb name) es ≡ None → lookup (eqb name) es ≡ None
+  pub no-entry : (es : Entries) → lookup_entry (eqb name) es ≡ None → lookup (eqb name) es ≡ None
   no-entry [] is = refl
   no-entry (f ∷ es) is = elim (cases_eq name f.0) [
     | inl same ↦ absurd (let no : Some f ≡ None = rw (eq-eqb name f.0 same) at is in cc)

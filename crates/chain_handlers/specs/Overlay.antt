@@ -6,7 +6,7 @@ use Rattle.std.specs.FinMap as map
 use Rattle.std.proofs.Common.{Bool, true, false, cond, eqb, refl, sym, ap, ◌∙◌}
 use Rattle.chain_owners.specs.Chain.{HasSameNames, IsChain}
 use Rattle.chain_owners.specs.Counts.{AreCounts, Counts}
-use Rattle.chain_owners.specs.Held.{HasLengths, Held, length_of, with_tile}
+use Rattle.chain_owners.specs.Held.{HasLengths, Held, bytes_of, length_of, with_tile}
 use Rattle.chain_owners.specs.Room.{Room}
 use Rattle.chain_owners.specs.Values.{Named}
 use Rattle.chain_owners.proofs.HeldLaws.{lengths-put}
@@ -26,11 +26,16 @@ cache_counts es capacity below counts = record {
   capacity = capacity;
 }
 
--- What holds of a cache at every moment that a program can reach.
+-- each name of the one is one of the other, with the same bytes
+pub record IsShown (inner outer : Held) : Type 0 where
+  pub lengths : (name len : ℕ) → length_of inner name ≡ Some len → length_of outer name ≡ Some len
+  pub bytes : (name : ℕ) (bytes : List ℕ) → bytes_of inner name ≡ Some bytes → bytes_of outer name ≡ Some bytes
+
+-- What holds of a cache at every moment: a name below has the same bytes there as above, so that a tile
+-- in memory whose name is below may leave memory as it is.
 pub record IsCache (es : List (ℕ × List ℕ)) (capacity : ℕ) (below : Held) : Type 0 where
   pub fits : length es ≤ capacity
-  -- a name below has as many bytes there as above
-  pub agrees : (name len : ℕ) → length_of below name ≡ Some len → length_of (overlay es below) name ≡ Some len
+  pub shown : IsShown below (overlay es below)
 
 -- a cache of so many tiles at most has so many, and there are more names than that
 pub record IsCrowded (resident capacity names : ℕ) : Type 0 where

@@ -12,6 +12,7 @@ ghost use Rattle.swap_store.specs.Cause.{HasSwapCause};
 ghost use Rattle.chain_contracts.specs.Tiles.{OnFull, Reads, ReportsPut, ReportsRoom, emptied};
 ghost use Rattle.chain_handlers.specs.Overlay.{IsCache, IsCrowded, cache_counts, cache_has_counts, cache_is_chain, overlay, overlay_has_same_names};
 
+use crate::below::{forget_where_there, give_up_places, put_where_missing};
 use chain_contracts::TileHandler;
 use chain_owners::ChainMeaning;
 use lru::LruCache;
@@ -21,12 +22,14 @@ use std::num::NonZeroUsize;
 use swap_store::SwapRefused;
 use tile_cow::Tile;
 
-/// Keeps tiles in memory, and the others below. A tile that has to leave is below before it does.
+/// Keeps tiles in memory, and the others below. A tile that has to leave is below before it does. One
+/// that was brought in from below stays there as well until it is replaced, so it leaves without a write.
 #[derive(Drop)]
 pub struct CacheHandler<H: TileHandler + Drop> {
     tiles: LruCache<u64, Tile>,
     below: H,
     alloc: Global,
+    ghost cached: { IsCache tiles.entries tiles.cap (H.held below) },
 }
 
 impl<H: TileHandler + Drop> ChainMeaning for CacheHandler<H> {
@@ -41,8 +44,7 @@ impl<H: TileHandler + Drop> ChainMeaning for CacheHandler<H> {
 
     ghost loans = { λ cache. H.loans cache.below };
 
-    ghost is_valid = { λ cache.
-        H.is_valid cache.below × IsCache cache.tiles.entries cache.tiles.cap (H.held cache.below) };
+    ghost is_valid = { λ cache. H.is_valid cache.below };
 
     ghost same_names = { λ cache.
         overlay_has_same_names cache.tiles.entries (H.held cache.below) (H.same_names cache.below) };
@@ -52,7 +54,7 @@ impl<H: TileHandler + Drop> ChainMeaning for CacheHandler<H> {
 
     ghost chain_laws = { λ cache valid. cache_is_chain cache.tiles.entries cache.tiles.cap
         (H.held cache.below) (H.counts cache.below) (H.store cache.below) (H.resident cache.below)
-        (H.chain_laws cache.below valid.0) valid.1 };
+        (H.chain_laws cache.below valid) cache.cached };
 }
 
 impl<H: TileHandler + Drop> CacheHandler<H> {
@@ -68,8 +70,9 @@ impl<H: TileHandler + Drop> CacheHandler<H> {
         Ok(CacheHandler::over(alloc, tiles, below))
     }
 
-    /// Returns a handler of the tiles below, whose own tiles are in memory already.
+    /// Returns a handler of the tiles below, for which the memory was taken before.
     pub(crate) fn over(alloc: Global, tiles: LruCache<u64, Tile>, below: H) -> CacheHandler<H>
+        requires { tiles.entries ≡ [] }
         ensures below { result.below ≡ below }
         ensures tiles { result.tiles ≡ tiles }
     {
@@ -80,7 +83,47 @@ impl<H: TileHandler + Drop> CacheHandler<H> {
         }
     }
 
-    /// Puts the tile that was used the longest time ago below, and then takes it out of memory.
+    /// Puts the tile that was used the longest time ago below, unless it is there, and then takes it out of
+    /// memory.
+    fn move_last_once(&mut self) -> Result<(), SwapRefused>
+        ensures held { overlay self.new.tiles.entries (H.held self.new.below)
+            ≡ overlay self.old.tiles.entries (H.held self.old.below) }
+        ensures moved { OnOk result (length self.new.tiles.entries ≡ length self.old.tiles.entries - 1) }
+        ensures unmoved { OnErr result (self.new.tiles ≡ self.old.tiles) }
+        ensures capacity { self.new.tiles.cap ≡ self.old.tiles.cap }
+        ensures fewer { (k : ℕ) → lookup (nat_eq k) self.old.tiles.entries ≡ None
+            → lookup (nat_eq k) self.new.tiles.entries ≡ None }
+        ensures cause { IfErr result (HasSwapCause (emptied (H.counts self.old.below)) (H.counts self.new.below)
+            (map.len (overlay self.old.tiles.entries (H.held self.old.below)).lengths)) }
+        ensures full { H.is_valid self.old.below → IfErr result
+            (ReportsRoom (overlay self.old.tiles.entries (H.held self.old.below)) (H.store self.new.below)) }
+        ensures continues { Continues (H.counts self.old.below) (H.counts self.new.below) }
+        ensures loans { H.loans self.new.below ≡ H.loans self.old.below }
+        ensures valid { H.is_valid self.old.below → H.is_valid self.new.below }
+    {
+        let Some((name, tile)) = self.tiles.peek_lru() else {
+            return Ok(());
+        };
+        self.tiles.len();
+        put_where_missing(&mut self.below, *name, tile)?;
+        self.tiles.pop_lru();
+        Ok(())
+    }
+
+    /// Gives up the places below of all tiles in memory. It looks at each of them.
+    fn give_up_places(&mut self)
+        ensures held { overlay self.new.tiles.entries (H.held self.new.below)
+            ≡ overlay self.old.tiles.entries (H.held self.old.below) }
+        ensures tiles { self.new.tiles ≡ self.old.tiles }
+        ensures continues { Continues (H.counts self.old.below) (H.counts self.new.below) }
+        ensures loans { H.loans self.new.below ≡ H.loans self.old.below }
+        ensures valid { H.is_valid self.old.below → H.is_valid self.new.below }
+    {
+        give_up_places(&mut self.below, &self.tiles);
+    }
+
+    /// Puts the tile that was used the longest time ago below, unless it is there, and then takes it out of
+    /// memory. Where it finds no room, all tiles in memory give up their places below first.
     fn move_last(&mut self) -> Result<(), SwapRefused>
         ensures held { overlay self.new.tiles.entries (H.held self.new.below)
             ≡ overlay self.old.tiles.entries (H.held self.old.below) }
@@ -91,22 +134,19 @@ impl<H: TileHandler + Drop> CacheHandler<H> {
             → lookup (nat_eq k) self.new.tiles.entries ≡ None }
         ensures cause { IfErr result (HasSwapCause (emptied (H.counts self.old.below)) (H.counts self.new.below)
             (map.len (overlay self.old.tiles.entries (H.held self.old.below)).lengths)) }
-        ensures full { H.is_valid self.old.below →
-            IsCache self.old.tiles.entries self.old.tiles.cap (H.held self.old.below) → IfErr result
+        ensures full { H.is_valid self.old.below → IfErr result
             (ReportsRoom (overlay self.old.tiles.entries (H.held self.old.below)) (H.store self.new.below)) }
         ensures continues { Continues (H.counts self.old.below) (H.counts self.new.below) }
         ensures loans { H.loans self.new.below ≡ H.loans self.old.below }
         ensures valid { H.is_valid self.old.below → H.is_valid self.new.below }
-        ensures laws { IsCache self.old.tiles.entries self.old.tiles.cap (H.held self.old.below) →
-            IsCache self.new.tiles.entries self.new.tiles.cap (H.held self.new.below) }
     {
-        let Some((name, tile)) = self.tiles.peek_lru() else {
-            return Ok(());
-        };
-        self.tiles.len();
-        self.below.put(*name, tile)?;
-        self.tiles.pop_lru();
-        Ok(())
+        match self.move_last_once() {
+            Err(SwapRefused::SwapFull { .. }) => {
+                self.give_up_places();
+                self.move_last_once()
+            }
+            answer => answer,
+        }
     }
 
     /// Makes room for one tile more in memory.
@@ -122,32 +162,16 @@ impl<H: TileHandler + Drop> CacheHandler<H> {
             → lookup (nat_eq k) self.new.tiles.entries ≡ None }
         ensures cause { IfErr result (HasSwapCause (emptied (H.counts self.old.below)) (H.counts self.new.below)
             (map.len (overlay self.old.tiles.entries (H.held self.old.below)).lengths)) }
-        ensures full { H.is_valid self.old.below →
-            IsCache self.old.tiles.entries self.old.tiles.cap (H.held self.old.below) → IfErr result
+        ensures full { H.is_valid self.old.below → IfErr result
             (ReportsRoom (overlay self.old.tiles.entries (H.held self.old.below)) (H.store self.new.below)) }
         ensures continues { Continues (H.counts self.old.below) (H.counts self.new.below) }
         ensures loans { H.loans self.new.below ≡ H.loans self.old.below }
         ensures valid { H.is_valid self.old.below → H.is_valid self.new.below }
-        ensures laws { IsCache self.old.tiles.entries self.old.tiles.cap (H.held self.old.below) →
-            IsCache self.new.tiles.entries self.new.tiles.cap (H.held self.new.below) }
     {
         if self.tiles.len() < self.tiles.cap().get() {
             return Ok(());
         }
         self.move_last()
-    }
-
-    /// Takes a name out of what is below, where it is there.
-    fn forget_below(&mut self, name: u64)
-        ensures held { H.held self.new.below ≡ without_tile (H.held self.old.below) name }
-        ensures tiles { self.new.tiles ≡ self.old.tiles }
-        ensures continues { Continues (H.counts self.old.below) (H.counts self.new.below) }
-        ensures loans { H.loans self.new.below ≡ H.loans self.old.below }
-        ensures valid { H.is_valid self.old.below → H.is_valid self.new.below }
-    {
-        if self.below.has(name) {
-            self.below.forget(name);
-        }
     }
 
     /// Keeps a tile in memory under a name, for which there is room, and nowhere else.
@@ -162,13 +186,26 @@ impl<H: TileHandler + Drop> CacheHandler<H> {
         ensures continues { Continues (H.counts self.old.below) (H.counts self.new.below) }
         ensures loans { H.loans self.new.below ≡ H.loans self.old.below }
         ensures valid { H.is_valid self.old.below → H.is_valid self.new.below }
-        ensures laws { IsCache self.old.tiles.entries self.old.tiles.cap (H.held self.old.below) →
-            IsCache self.new.tiles.entries self.new.tiles.cap (H.held self.new.below) }
     {
         let shared = tile.share(self.alloc)?;
         self.tiles.put(name, shared)?;
-        self.forget_below(name);
-        self.tiles.len();
+        forget_where_there(&mut self.below, name);
+        Ok(())
+    }
+
+    /// Keeps a tile in memory that is below, and stays there. There is room for it.
+    fn bring_in(&mut self, name: u64, tile: &Tile) -> Result<(), NoMemory>
+        requires room { lookup (nat_eq name) self.old.tiles.entries ≡ None
+            → length self.old.tiles.entries < self.old.tiles.cap }
+        requires known { with_tile (overlay self.old.tiles.entries (H.held self.old.below)) name tile.now
+            ≡ overlay self.old.tiles.entries (H.held self.old.below) }
+        ensures held { overlay self.new.tiles.entries (H.held self.new.below)
+            ≡ overlay self.old.tiles.entries (H.held self.old.below) }
+        ensures below { self.new.below ≡ self.old.below }
+        ensures capacity { self.new.tiles.cap ≡ self.old.tiles.cap }
+    {
+        let shared = tile.share(self.alloc)?;
+        self.tiles.put(name, shared)?;
         Ok(())
     }
 
@@ -180,15 +217,12 @@ impl<H: TileHandler + Drop> CacheHandler<H> {
             ≡ overlay self.old.tiles.entries (H.held self.old.below) }
         ensures below { self.new.below ≡ self.old.below }
         ensures capacity { self.new.tiles.cap ≡ self.old.tiles.cap }
-        ensures laws { IsCache self.old.tiles.entries self.old.tiles.cap (H.held self.old.below) →
-            IsCache self.new.tiles.entries self.new.tiles.cap (H.held self.new.below) }
     {
         let Some(tile) = self.tiles.peek(&name) else {
             return Ok(None);
         };
         let shared = tile.share(self.alloc)?;
         self.tiles.promote(&name);
-        self.tiles.len();
         Ok(Some(shared))
     }
 
@@ -206,14 +240,11 @@ impl<H: TileHandler + Drop> CacheHandler<H> {
             → lookup (nat_eq name) self.new.tiles.entries ≡ None }
         ensures cause { IfErr result (HasSwapCause (emptied (H.counts self.old.below)) (H.counts self.new.below)
             (map.len (overlay self.old.tiles.entries (H.held self.old.below)).lengths)) }
-        ensures full { H.is_valid self.old.below →
-            IsCache self.old.tiles.entries self.old.tiles.cap (H.held self.old.below) → IfErr result
+        ensures full { H.is_valid self.old.below → IfErr result
             (ReportsRoom (overlay self.old.tiles.entries (H.held self.old.below)) (H.store self.new.below)) }
         ensures continues { Continues (H.counts self.old.below) (H.counts self.new.below) }
         ensures loans { H.loans self.new.below ≡ H.loans self.old.below }
         ensures valid { H.is_valid self.old.below → H.is_valid self.new.below }
-        ensures laws { IsCache self.old.tiles.entries self.old.tiles.cap (H.held self.old.below) →
-            IsCache self.new.tiles.entries self.new.tiles.cap (H.held self.new.below) }
     {
         if self.tiles.contains(&name) {
             return Ok(());
@@ -230,13 +261,10 @@ impl<H: TileHandler + Drop> CacheHandler<H> {
         ensures continues { Continues (H.counts self.old.below) (H.counts self.new.below) }
         ensures loans { H.loans self.new.below ≡ H.loans self.old.below }
         ensures valid { H.is_valid self.old.below → H.is_valid self.new.below }
-        ensures laws { IsCache self.old.tiles.entries self.old.tiles.cap (H.held self.old.below) →
-            IsCache self.new.tiles.entries self.new.tiles.cap (H.held self.new.below) }
     {
         self.tiles.len();
         self.tiles.pop(&name);
-        self.forget_below(name);
-        self.tiles.len();
+        forget_where_there(&mut self.below, name);
     }
 
     /// Keeps a tile in memory under a name, for which it makes room.
@@ -248,24 +276,20 @@ impl<H: TileHandler + Drop> CacheHandler<H> {
         ensures capacity { self.new.tiles.cap ≡ self.old.tiles.cap }
         ensures cause { IfErr result (HasSwapCause (emptied (H.counts self.old.below)) (H.counts self.new.below)
             (map.len (with_tile (overlay self.old.tiles.entries (H.held self.old.below)) name tile.now).lengths)) }
-        ensures full { H.is_valid self.old.below →
-            IsCache self.old.tiles.entries self.old.tiles.cap (H.held self.old.below) → IfErr result
+        ensures full { H.is_valid self.old.below → IfErr result
             (ReportsPut (overlay self.old.tiles.entries (H.held self.old.below)) tile.now (H.store self.new.below)) }
         ensures resident { IfErr result (OnFull (IsCrowded (length self.new.tiles.entries) self.new.tiles.cap
             (map.len (with_tile (overlay self.old.tiles.entries (H.held self.old.below)) name tile.now).lengths))) }
         ensures continues { Continues (H.counts self.old.below) (H.counts self.new.below) }
         ensures loans { H.loans self.new.below ≡ H.loans self.old.below }
         ensures valid { H.is_valid self.old.below → H.is_valid self.new.below }
-        ensures laws { IsCache self.old.tiles.entries self.old.tiles.cap (H.held self.old.below) →
-            IsCache self.new.tiles.entries self.new.tiles.cap (H.held self.new.below) }
     {
         self.make_room_for(name)?;
         self.insert(name, tile)?;
         Ok(())
     }
 
-    /// Reads a tile from below that isn't in memory, for which it makes room there. After an error the
-    /// tile is where it was.
+    /// Reads a tile from below that isn't in memory, for which it makes room there. It stays below.
     fn fetch(&mut self, name: u64, len: u32) -> Result<Tile, SwapRefused>
         requires size { IsTileLength len }
         requires known { length_of (overlay self.old.tiles.entries (H.held self.old.below)) name ≡ Some len }
@@ -276,8 +300,7 @@ impl<H: TileHandler + Drop> CacheHandler<H> {
         ensures capacity { self.new.tiles.cap ≡ self.old.tiles.cap }
         ensures cause { IfErr result (HasSwapCause (emptied (H.counts self.old.below)) (H.counts self.new.below)
             (map.len (overlay self.old.tiles.entries (H.held self.old.below)).lengths)) }
-        ensures full { H.is_valid self.old.below →
-            IsCache self.old.tiles.entries self.old.tiles.cap (H.held self.old.below) → IfErr result
+        ensures full { H.is_valid self.old.below → IfErr result
             (ReportsRoom (overlay self.old.tiles.entries (H.held self.old.below)) (H.store self.new.below)) }
         ensures resident { IfErr result (OnFull (IsCrowded (length self.new.tiles.entries) self.new.tiles.cap
             (map.len (overlay self.old.tiles.entries (H.held self.old.below)).lengths)
@@ -285,12 +308,10 @@ impl<H: TileHandler + Drop> CacheHandler<H> {
         ensures continues { Continues (H.counts self.old.below) (H.counts self.new.below) }
         ensures loans { H.loans self.new.below ≡ H.loans self.old.below }
         ensures valid { H.is_valid self.old.below → H.is_valid self.new.below }
-        ensures laws { IsCache self.old.tiles.entries self.old.tiles.cap (H.held self.old.below) →
-            IsCache self.new.tiles.entries self.new.tiles.cap (H.held self.new.below) }
     {
         let tile = self.below.get(name, len)?;
         self.make_room()?;
-        self.insert(name, &tile)?;
+        self.bring_in(name, &tile)?;
         Ok(tile)
     }
 
@@ -302,14 +323,11 @@ impl<H: TileHandler + Drop> CacheHandler<H> {
         ensures capacity { self.new.tiles.cap ≡ self.old.tiles.cap }
         ensures cause { IfErr result (HasSwapCause (emptied (H.counts self.old.below)) (H.counts self.new.below)
             (map.len (overlay self.old.tiles.entries (H.held self.old.below)).lengths)) }
-        ensures full { H.is_valid self.old.below →
-            IsCache self.old.tiles.entries self.old.tiles.cap (H.held self.old.below) → IfErr result
+        ensures full { H.is_valid self.old.below → IfErr result
             (ReportsRoom (overlay self.old.tiles.entries (H.held self.old.below)) (H.store self.new.below)) }
         ensures continues { Continues (H.counts self.old.below) (H.counts self.new.below) }
         ensures loans { H.loans self.new.below ≡ H.loans self.old.below }
         ensures valid { H.is_valid self.old.below → H.is_valid self.new.below }
-        ensures laws { IsCache self.old.tiles.entries self.old.tiles.cap (H.held self.old.below) →
-            IsCache self.new.tiles.entries self.new.tiles.cap (H.held self.new.below) }
     {
         while !self.tiles.is_empty() {
             self.move_last()?;

@@ -1,6 +1,7 @@
 //! Tiles under names, in handlers that stand on one another.
 #![tactic(auto)]
 
+mod below;
 mod cache_handler;
 mod chain_memory;
 mod disk_handler;

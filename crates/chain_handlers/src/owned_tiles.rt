@@ -25,7 +25,11 @@ type Tiles<D> = EmptyHandler<CacheHandler<DiskHandler<D>>>;
 /// A map from names to tiles over a disk that it owns, in which each name has owners. A clause sees what
 /// it holds by `ChainMeaning`.
 #[derive(Drop)]
-pub struct OwnedTiles<D: SwapDisk + Drop> {
+pub struct OwnedTiles<D: SwapDisk + Drop>
+where
+    // What the cache in `tiles` says of the handler below it is said by this bound's meanings.
+    DiskHandler<D>: TileHandler,
+{
     tiles: Tiles<D>,
     owners: OwnerCounts,
     next: u64,

@@ -33,6 +33,8 @@ use model_buffers::BufferEdit;
 use model_graphs::{NodeEdit, OpMeaning};
 use patch_abyss::{Abyss, Patch};
 use plane_rect::{Name, Rect};
+use std::thread::Threads;
+use worker_pieces::Workers;
 
 impl<Op: OpMeaning + Drop> SessionState<Op> {
     /// Makes an edit of the buffers that are edited, and notes the rectangle of a root that it writes. The
@@ -42,10 +44,11 @@ impl<Op: OpMeaning + Drop> SessionState<Op> {
     ///
     /// `Buffer` with the cause of the edit, in its order; else `Buffer` with the swap's, where the edit's tiles
     /// may have been too many; and `NoMemory` if memory runs out. The session is unchanged.
-    pub fn edit<C: TileChain>(
+    pub fn edit<C: TileChain, R: Threads + Sync>(
         &mut self,
         chain: &mut C,
         edit: &BufferEdit,
+        workers: Workers<'_, R>,
     ) -> Result<(), SessionRefused>
         requires over { IsOver Op.same Op.meanings self.old (C.held chain.old) }
         requires proper { IsProperEdit edit.now }
@@ -69,7 +72,7 @@ impl<Op: OpMeaning + Drop> SessionState<Op> {
             (record { held = C.held chain.new; counts = C.counts chain.new; loans = C.loans chain.new; valid = C.is_valid chain.new }) }
     {
         self.written.reserve(1)?;
-        self.versions.edit(chain, edit)?;
+        self.versions.edit(chain, edit, workers)?;
         note_written(&mut self.written, self.versions.working(), edit);
         Ok(())
     }

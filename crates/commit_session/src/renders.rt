@@ -36,6 +36,8 @@ use op_contracts::OpKit;
 use patch_abyss::Patch;
 use plane_rect::{Name, Rect};
 use render_workers::laws::requests_need_what_renders_need;
+use std::thread::Threads;
+use worker_pieces::Workers;
 
 impl<Op: OpMeaning + Drop> SessionState<Op> {
     /// Returns a rectangle of a level of the image of a node of the last state. Each tile that it needs is looked
@@ -49,7 +51,7 @@ impl<Op: OpMeaning + Drop> SessionState<Op> {
     /// more tiles than the cache holds. Then nothing has changed. Else `Render` with the swap's causes, and
     /// `NoMemory` if memory runs out: then the cached pairs are those of a part of the request, and right, and
     /// permits may be spent. No refused render is counted.
-    pub fn render<K: OpKit<Op = Op> + Sync, C: TileChain>(
+    pub fn render<K: OpKit<Op = Op> + Sync, C: TileChain, R: Threads + Sync>(
         &mut self,
         kit: &K,
         chain: &mut C,
@@ -57,6 +59,7 @@ impl<Op: OpMeaning + Drop> SessionState<Op> {
         node: Name,
         level: u32,
         rect: Rect,
+        workers: Workers<'_, R>,
     ) -> Result<Patch, SessionRefused>
     where
         Op: Sync,
@@ -116,6 +119,7 @@ impl<Op: OpMeaning + Drop> SessionState<Op> {
             level,
             rect,
             capacity,
+            workers,
         )?;
         self.counts.applied = self.counts.applied.saturating_add(done.applied);
         self.counts.reused = self.counts.reused.saturating_add(done.reused);

@@ -27,6 +27,7 @@ pub struct OwnedSession<K: OpKit, C: TileChain> {
     pub(crate) kit: K,
     pub(crate) chain: C,
     pub(crate) state: SessionState<K::Op>,
+    pub(crate) workers: u32,
 }
 
 /// A session over a disk that was lent to it.
@@ -34,7 +35,8 @@ pub type Session<'s, K, D> = OwnedSession<K, Chain<'s, D>>;
 
 impl<'s, K: OpKit + Drop, D: SwapDisk> OwnedSession<K, OwnedTiles<Lent<'s, D>>> {
     /// Returns a session without buffers and nodes, whose tiles take at most `blocks` blocks of a disk, or all where
-    /// it has fewer, of which at most `resident` are in memory, and which caches at most `cache` tiles of nodes.
+    /// it has fewer, of which at most `resident` are in memory, which caches at most `cache` tiles of nodes,
+    /// and whose work is split into at most `workers` pieces.
     ///
     /// # Errors
     ///
@@ -46,6 +48,7 @@ impl<'s, K: OpKit + Drop, D: SwapDisk> OwnedSession<K, OwnedTiles<Lent<'s, D>>> 
         blocks: u32,
         resident: u32,
         cache: u32,
+        workers: u32,
     ) -> Result<Session<'s, K, D>, NoMemory>
         requires resident { 1 ≤ resident }
         requires cache { 1 ≤ cache }
@@ -64,7 +67,12 @@ impl<'s, K: OpKit + Drop, D: SwapDisk> OwnedSession<K, OwnedTiles<Lent<'s, D>>> 
     {
         let state = SessionState::new(alloc, cache)?;
         let chain = OwnedTiles::new(alloc, swap, blocks, resident)?;
-        Ok(OwnedSession { kit, chain, state })
+        Ok(OwnedSession {
+            kit,
+            chain,
+            state,
+            workers,
+        })
     }
 }
 
@@ -78,6 +86,7 @@ impl<K: OpKit + Drop, D: SwapDisk + Drop> OwnedSession<K, OwnedTiles<D>> {
             kit: _,
             chain,
             state: _,
+            workers: _,
         } = self;
         chain.end()
     }

@@ -29,6 +29,8 @@ use chain_contracts::TileChain;
 use op_contracts::OpKit;
 use patch_abyss::{Abyss, Patch};
 use plane_rect::{Name, Rect};
+use std::thread::Threads;
+use worker_pieces::Workers;
 
 impl<K: OpKit, C: TileChain> OwnedSession<K, C> {
     /// Makes an edit of the buffers that are edited, or notes one of nodes, which the next commit makes.
@@ -37,7 +39,11 @@ impl<K: OpKit, C: TileChain> OwnedSession<K, C> {
     ///
     /// `Buffer` with the cause of an edit of buffers, in its order; else `Buffer` with the swap's, where the edit's
     /// tiles may have been too many; and `NoMemory` if memory runs out. The session is unchanged.
-    pub fn edit(&mut self, edit: Edit<K::Op>) -> Result<(), SessionRefused>
+    pub fn edit<R: Threads + Sync>(
+        &mut self,
+        threads: &R,
+        edit: Edit<K::Op>,
+    ) -> Result<(), SessionRefused>
         requires over { IsOver K.Op.same K.Op.meanings self.old.state (C.held self.old.chain) }
         requires proper { IsProper (step_of edit) }
         ensures session { (session : SessionOf Table K.Op) → IsSessionOf K.Op.same K.Op.meanings self.old.state (C.held self.old.chain) session →
@@ -56,7 +62,10 @@ impl<K: OpKit, C: TileChain> OwnedSession<K, C> {
             (record { held = C.held self.new.chain; counts = C.counts self.new.chain; loans = C.loans self.new.chain; valid = C.is_valid self.new.chain }) }
     {
         match edit.part() {
-            EditPart::Buffer(edit) => self.state.edit(&mut self.chain, &edit),
+            EditPart::Buffer(edit) => {
+                let workers = Workers::new(threads, self.workers);
+                self.state.edit(&mut self.chain, &edit, workers)
+            }
             EditPart::Node(edit) => self.state.note(edit),
         }
     }

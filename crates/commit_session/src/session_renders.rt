@@ -31,6 +31,8 @@ use chain_contracts::TileChain;
 use op_contracts::OpKit;
 use patch_abyss::Patch;
 use plane_rect::{Name, Rect};
+use std::thread::Threads;
+use worker_pieces::Workers;
 
 impl<K: OpKit + Sync, C: TileChain> OwnedSession<K, C> {
     /// Returns a rectangle of a level of the image of a node of the last state. Each tile that it needs is looked
@@ -44,8 +46,9 @@ impl<K: OpKit + Sync, C: TileChain> OwnedSession<K, C> {
     /// more tiles than the cache holds. Then nothing has changed. Else `Render` with the swap's causes, and
     /// `NoMemory` if memory runs out: then the cached pairs may be others, and right, and permits may be spent. No
     /// refused render is counted.
-    pub fn render(
+    pub fn render<R: Threads + Sync>(
         &mut self,
+        threads: &R,
         purse: &mut K::Purse,
         node: Name,
         level: u32,
@@ -93,7 +96,15 @@ impl<K: OpKit + Sync, C: TileChain> OwnedSession<K, C> {
             (record { held = C.held self.old.chain; counts = C.counts self.old.chain; loans = C.loans self.old.chain; valid = C.is_valid self.old.chain })
             (record { held = C.held self.new.chain; counts = C.counts self.new.chain; loans = C.loans self.new.chain; valid = C.is_valid self.new.chain }) }
     {
-        self.state
-            .render(&self.kit, &mut self.chain, purse, node, level, rect)
+        let workers = Workers::new(threads, self.workers);
+        self.state.render(
+            &self.kit,
+            &mut self.chain,
+            purse,
+            node,
+            level,
+            rect,
+            workers,
+        )
     }
 }

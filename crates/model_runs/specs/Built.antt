@@ -1,5 +1,5 @@
--- What is built today of runs. Later work shortens this until it is gone.
-use Rattle.std.specs.Prelude.{ℕ, ◌==◌, Bool, true, false, is_some, if◌then◌else◌, List, [], ◌∷◌, Option, Some, None, Result, Ok, Err}
+-- What is built today of runs: all but watches. Later work shortens this until it is gone.
+use Rattle.std.specs.Prelude.{ℕ, Bool, true, false, is_some, if◌then◌else◌, List, [], ◌∷◌, Option, Some, None, Result, Ok, Err}
 use Rattle.outside_io.specs.Files.{Files, file}
 use Rattle.run_texts.specs.Events.{Refusal}
 use Rattle.run_texts.specs.declared.cause.Cause.TheVariants.{Grammar}
@@ -7,34 +7,10 @@ use Rattle.script_fields.specs.declared.cause.ScriptCause.TheVariants.{UnknownCo
 use Rattle.script_read.specs.declared.command.Command.{Command}
 use Rattle.script_read.specs.declared.command.Command.TheVariants as commands
 use Rattle.script_read.specs.declared.command.Line.{Line}
-use Rattle.script_words.specs.Numbers.{◌>>=◌}
-use Rattle.model_runs.specs.Run.{Plan, lines_of_file, plan_of_lines, report}
+use Rattle.model_runs.specs.MadeJob.{job_name, made_ending, made_files}
+use Rattle.model_runs.specs.Run.{Ending, Plan, lines_of_file, plan_of_lines, report}
 use Rattle.model_runs.specs.State.{Numbers}
-use Rattle.model_runs.specs.Words.{MakeJob, Options, Request, RunScript, default_options, request_of}
-
--- ---- words
-
--- A run that is built: its script, and the options of its words.
-pub record BuiltRun : Type 0 where
-  pub script : List ℕ
-  pub options : Options
-
--- a value, where a test passes
-abbrev pub if_passed : {A : Type 0} → Bool → A → Option A
-if_passed test value = if test then Some value else None
-
--- Other numbers of workers than the default one aren't built.
-abbrev pub has_built_options : Options → Bool
-has_built_options options = options.workers == default_options.workers
-
--- the run of a request, None where it isn't built: made jobs aren't
-abbrev pub built_run : Request → Option BuiltRun
-built_run (RunScript script options) = if_passed (has_built_options options) (record { script = script; options = options })
-built_run (MakeJob number) = None
-
--- The run that words ask for; None where they ask for none that is built.
-abbrev pub built_request : List (List ℕ) → Option BuiltRun
-built_request words = request_of words >>= built_run
+use Rattle.model_runs.specs.Words.{Options, ScriptRun, default_options}
 
 -- ---- lines
 
@@ -66,10 +42,15 @@ needs_no_swap (Err refused) = true
 
 -- ---- runs
 
--- What a run is to do today of what was read of a script.
-abbrev pub plan_of_read : Numbers → Files → Options → Result (List Line) Refusal → Plan
-plan_of_read numbers files options read = plan_of_lines report options numbers files (built_lines read)
+-- What a run is to do today of what was read of a script, with its ending.
+abbrev pub plan_of_read : Ending → Numbers → Files → Options → Result (List Line) Refusal → Plan
+plan_of_read ending numbers files options read = plan_of_lines ending options numbers files (built_lines read)
 
 -- What a run of a script is to do today.
-abbrev pub built_plan : Numbers → Files → BuiltRun → Plan
-built_plan numbers files run = plan_of_read numbers files run.options (lines_of_file (file files run.script))
+abbrev pub built_plan : Numbers → Files → ScriptRun → Plan
+built_plan numbers files run = plan_of_read report numbers files run.options (lines_of_file (file files run.script))
+
+-- What a run of a made job is to do today, over a shelf of its own.
+abbrev pub built_job : ℕ → Plan
+built_job number =
+    plan_of_read made_ending [] (made_files number) default_options (lines_of_file (file (made_files number) job_name))

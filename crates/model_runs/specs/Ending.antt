@@ -16,6 +16,11 @@ status_of (Err ends.OutputFault) = 6
 status_of (Err ends.NoMemory) = 7
 status_of (Err ends.SwapFull) = 8
 
+-- how a part of a run ended, whatever it answers
+abbrev pub ended : {A : Type 0} → Result A End → Result (Unit {0}) End
+ended (Ok value) = Ok tt
+ended (Err end) = Err end
+
 -- the status of a run that comes to its end, or to the line that is refused
 abbrev pub end_status : Option Refusal → ℕ
 end_status None = 0

@@ -18,12 +18,12 @@ abbrev pub next_state : ℕ → ℕ
 next_state x = (1664525 * x + 1013904223) % 2 ^ 32
 
 -- so many draws after a state: of each next state the highest byte
-abbrev pub draws : ℕ → ℕ → List ℕ
+unfoldable pub draws : ℕ → ℕ → List ℕ
 draws zero x = []
 draws (suc n) x = next_state x / 2 ^ 24 ∷ draws n (next_state x)
 
 -- the state after so many draws
-abbrev pub state_after_draws : ℕ → ℕ → ℕ
+unfoldable pub state_after_draws : ℕ → ℕ → ℕ
 state_after_draws zero x = x
 state_after_draws (suc n) x = state_after_draws n (next_state x)
 
@@ -36,7 +36,7 @@ fill_by (p ∷ q ∷ v ∷ w ∷ r ∷ g ∷ b ∷ []) =
 fill_by other = []
 
 -- so many fills, each by the next seven draws after a state
-abbrev pub fills : ℕ → ℕ → List (List (List ℕ))
+unfoldable pub fills : ℕ → ℕ → List (List (List ℕ))
 fills zero x = []
 fills (suc n) x = fill_by (draws 7 x) ∷ fills n (state_after_draws 7 x)
 
@@ -72,13 +72,13 @@ abbrev pub last_lines : List (List ℕ)
 last_lines =
     codes "undo" ∷ render_line 25 ∷ codes "undo" ∷ render_line 26 ∷ codes "redo" ∷ render_line 27 ∷ []
 
-abbrev pub made_script : ℕ → List ℕ
+unfoldable pub made_script : ℕ → List ℕ
 made_script number = text_of (first_lines ++ edit_lines 1 (fills 24 number) ++ last_lines)
 
 -- ---- the raster
 
 -- the bytes of 512 by 384 pixels of three channels: the draws after those of the fills
-abbrev pub made_raster : ℕ → List ℕ
+unfoldable pub made_raster : ℕ → List ℕ
 made_raster number = draws (512 * 384 * 3) (state_after_draws (24 * 7) number)
 
 -- ---- the run
@@ -91,7 +91,7 @@ abbrev pub made_files : ℕ → Files
 made_files number = filed (filed (from_entries []) (codes "g.raw") (made_raster number)) job_name (made_script number)
 
 -- the sum of all bytes of the 28 files that the renders write
-abbrev pub render_sum : Files → ℕ
+unfoldable pub render_sum : Files → ℕ
 render_sum files = sum (map (λ number. sum (unwrap_or (file files (render_file number)) [])) (range_with_len 0 28))
 
 -- the sum is put before the report

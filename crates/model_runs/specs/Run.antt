@@ -56,6 +56,10 @@ applied_in effects = (state_after (first_state []) effects).session.cached.appli
 abbrev pub Ending : Type 0
 Ending = RunState → Files → List Event
 
+-- nothing more
+abbrev pub no_ending : Ending
+no_ending state files = []
+
 -- the report of the counts
 abbrev pub report : Ending
 report state files = Puts (report_text state.session.cached.applied state.session.cached.reused) ∷ []

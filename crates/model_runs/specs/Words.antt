@@ -146,3 +146,26 @@ request_of (command ∷ words) =
     if bytes_eq command (codes "run") then run_request words
     else if bytes_eq command (codes "make") then make_request words
     else None
+
+-- ---- by kind
+
+-- A run of a script: its name, and the options of the words.
+pub record ScriptRun : Type 0 where
+  pub script : List ℕ
+  pub options : Options
+
+abbrev pub script_run_of : Request → Option ScriptRun
+script_run_of (RunScript script options) = Some (record { script = script; options = options })
+script_run_of (MakeJob number) = None
+
+abbrev pub job_of : Request → Option ℕ
+job_of (RunScript script options) = None
+job_of (MakeJob number) = Some number
+
+-- the run of a script that words ask for, None where they ask for none
+abbrev pub asked_script : List (List ℕ) → Option ScriptRun
+asked_script words = request_of words >>= script_run_of
+
+-- the number of the job that words ask for, None where they ask for none
+abbrev pub asked_job : List (List ℕ) → Option ℕ
+asked_job words = request_of words >>= job_of

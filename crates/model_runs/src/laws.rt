@@ -1,7 +1,6 @@
 //! What holds of runs.
 
 ghost use Rattle.std.specs.Prelude.{◌≡◌, ◌<◌, ◌≤◌, ℕ, List, Some, length, slice_index_or};
-ghost use Rattle.model_runs.specs.Built.{BuiltRun, built_request};
 ghost use Rattle.model_runs.specs.Words.{Options, RunScript, request_of};
 ghost use Rattle.outside_io.specs.Files.{Files};
 ghost use Rattle.script_read.specs.declared.command.Line.{Line};
@@ -23,12 +22,6 @@ pub fn frames_show_commits_of_the_watch()
         AreViewersNumbers watched numbers → i < length numbers → watched.watching.opened ≤ slice_index_or numbers i 0 }
     ensures ended { (watched : Watched) (numbers : List ℕ) (i : ℕ) →
         AreViewersNumbers watched numbers → i < length numbers → slice_index_or numbers i 0 ≤ watched.ended }
-{}
-
-/// The words that are built ask for a run of their script with their options.
-pub fn built_words_are_requests()
-    ensures { (words : List (List ℕ)) (run : BuiltRun) → built_request words ≡ Some run →
-        request_of words ≡ Some (RunScript run.script run.options) }
 {}
 
 /// The options that words ask for are in their ranges.

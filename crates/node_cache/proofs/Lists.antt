@@ -1,6 +1,6 @@
 -- Lists of entries, and of what is made of them.
 use Rattle.std.proofs.Common.{◌≡◌, ℕ, zero, suc, ◌-◌, ◌<◌, ◌≤◌, Bool, true, false, not, ◌&&◌, List, [], ◌∷◌, ◌++◌, map, filter, take, drop, length, Option, Some, None, option_map, refl, sym, ap, ap₂, subst, ◌∙◌, cond, append_assoc, arith}
-use Rattle.std.specs.Prelude.{slice_get}
+use Rattle.std.specs.Prelude.{is_some, slice_get}
 use Rattle.std.specs.List.{AllByRecursion, IsDistinct}
 use Rattle.std.specs.Map.{keys_of, lookup, lookup_entry, remove_entry}
 use Rattle.std.specs.Option.{option_map_or}
@@ -9,12 +9,13 @@ use Rattle.std.proofs.lemmas.List.{take-map}
 use Rattle.std.proofs.lemmas.List.Elements.{filter-append}
 use Rattle.lru.specs.LruCache.{lru_cache, promoted, put_entries}
 use Rattle.plane_rect.specs.Rectangle.{Rectangle}
-use Rattle.model_states.specs.Cache.{Pair, after_keep, after_look, find_pair, same_pair, to_prefix, voided, without_pair}
+use Rattle.model_states.specs.Cache.{Pair, after_keep, after_look, find_pair, itself, same_pair, to_prefix, voided, without_pair}
 use Rattle.model_states.specs.Regions.{meets}
 use Rattle.model_states.proofs.CacheLaws.{same_pair-true}
 use Rattle.model_states.proofs.NeedLaws.{Decides-same_pair}
 use Rattle.node_cache.specs.declared.pair_key.PairKey.{PairKey}
 use Rattle.node_cache.specs.Keys.{entries_left, is_voided, pair_of, same_key}
+use Rattle.node_cache.specs.NodeNames.{entry_pair, pairs_in}
 
 -- ---- filters
 
@@ -260,3 +261,15 @@ module _ {V : Type 0} where
       let end = last-of rest e in
       let wrong : None ≡ Some e = sym found ∙ end in
       cc
+
+-- ---- whether a pair is there
+
+module _ {V : Type 0} where
+  same-there : (o : Option (PairKey × V)) → is_some (option_map (λ (e : PairKey × V). e.1) o) ≡ is_some (option_map (entry_pair {V = V}) o)
+  same-there None = refl
+  same-there (Some e) = refl
+
+  pub key-there : (k : PairKey) (es : List (PairKey × V)) → is_some (lookup (same_key k) es) ≡ is_some (find_pair itself (pairs_in {V = V} es) (pair_of k))
+  key-there k es =
+      ap is_some (sym (entry-lookup k es)) ∙ same-there (lookup_entry (same_key k) es)
+      ∙ ap is_some (sym (find-made itself (entry_pair {V = V}) (λ e. refl) k es))

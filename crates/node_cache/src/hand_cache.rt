@@ -197,6 +197,10 @@ impl PairStore<()> for HandCache {
         self.take_out(node, &rect);
     }
 
+    fn has(&self, node: Name, at: TileAt) -> bool {
+        self.tiles.contains(&PairKey { node, at })
+    }
+
     fn order(&self) -> Result<Vec<(Name, TileAt)>, NoMemory> {
         order_of(self.alloc, &self.tiles)
     }

@@ -260,6 +260,10 @@ impl<C: TileChain> PairStore<C> for NodeCache {
         self.take_out(chain, node, &rect);
     }
 
+    fn has(&self, node: Name, at: TileAt) -> bool {
+        self.names.contains(&PairKey { node, at })
+    }
+
     fn order(&self) -> Result<Vec<(Name, TileAt)>, NoMemory> {
         order_of(self.alloc, &self.names)
     }

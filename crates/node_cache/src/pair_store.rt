@@ -1,6 +1,6 @@
 //! Where the tiles of nodes that were evaluated are kept.
 
-ghost use Rattle.std.specs.Prelude.{◌≡◌, ◌+◌, ◌≤◌, ℕ, List, Option, None, MatchResult, IfErr, IfOk, IfSome, length};
+ghost use Rattle.std.specs.Prelude.{◌≡◌, ◌+◌, ◌≤◌, ℕ, List, Option, None, MatchResult, IfErr, IfOk, IfSome, is_some, length};
 ghost use Rattle.std.specs.Option.{option_map};
 ghost use Rattle.chain_owners.specs.Counts.{Grows};
 ghost use Rattle.chain_owners.specs.Held.{Held};
@@ -131,6 +131,10 @@ pub trait PairStore<H: ChainMeaning> {
         ensures counts { Grows 0 (H.counts chain.old) (H.counts chain.new) }
         ensures loans { H.loans chain.new ≡ H.loans chain.old }
         ensures valid { H.is_valid chain.old → H.is_valid chain.new };
+
+    /// Returns whether a pair is there, and leaves the list as it is. Takes constant time and no memory.
+    fn has(&self, node: Name, at: TileAt) -> bool
+        ensures { result ≡ is_some (find_pair itself (pairs self.now) (pair_at node at)) };
 
     /// Returns the pairs, the most recent first. Takes time in proportion to their number.
     fn order(&self) -> Result<Vec<(Name, TileAt)>, NoMemory>

@@ -1,8 +1,8 @@
 -- What an operation is applied to for a tile, and what it gives.
-use Rattle.std.proofs.Common.{◌≡◌, ℕ, ◌*◌, List, [], ◌∷◌, All, length, Option, Some, IsSome, refl, sym, ap, ◌∙◌, subst}
+use Rattle.std.proofs.Common.{◌≡◌, ℕ, ◌*◌, List, [], ◌∷◌, length, Option, Some, IsSome, refl, sym, ap, ◌∙◌, subst}
 use Rattle.std.specs.Prelude.{slice_get}
 use Rattle.std.proofs.lemmas.Option.{get_or_from_slice_get, slice_get_within}
-use Rattle.plane_rect.specs.Rectangle.{Includes, Inside, Rectangle, meet}
+use Rattle.plane_rect.specs.Rectangle.{Inside, Rectangle, meet}
 use Rattle.plane_rect.specs.Tile.{Tile, tile_square}
 use Rattle.plane_rect.proofs.Rectangles.{Inside-meet}
 use Rattle.pixel_formats.specs.Format.{pixel_bytes}
@@ -18,14 +18,15 @@ use Rattle.model_graphs.specs.Facts.{Facts, shapes_of_facts, specs_of, stated_sh
 use Rattle.model_graphs.specs.Meanings.{Meanings, formats_of, result_box, result_format}
 use Rattle.model_graphs.specs.Node.{step_of}
 use Rattle.model_graphs.specs.Shapes.{Shape}
-use Rattle.model_graphs.specs.Windows.{IsWholeWindow, Window}
+use Rattle.model_graphs.specs.Windows.{Window}
 use Rattle.model_states.specs.Valid.{AreStated, input_formats}
 use Rattle.model_states.proofs.Suited.{IsSuited}
-use Rattle.op_contracts.specs.Applying.{HaveRequired, IsInOneTile, bounds_of, result_of_windows, window_bounds, window_formats, window_images}
+use Rattle.op_contracts.specs.Applying.{result_of_windows, window_bounds, window_formats, window_images}
 use Rattle.roi_planner.specs.Inputs.{Inputs, SuitsBody, SuitsInputs, inputs_of}
 use Rattle.roi_planner.proofs.StatedLaws.{suits-body}
 use Rattle.node_tiles.specs.Held.{HeldTiles}
 use Rattle.node_tiles.specs.Inputs.{AreInputWindows}
+use Rattle.node_tiles.specs.Jobs.{IsApplicable}
 use Rattle.node_tiles.specs.Stated.{HaveLengths, length_at, part_at}
 use Rattle.node_tiles.proofs.Places.{shape-at, suited}
 use Rattle.node_tiles.proofs.Whole.{windows-bounds, windows-formats, windows-required, windows-whole}
@@ -33,17 +34,6 @@ use Rattle.node_tiles.proofs.Whole.{windows-bounds, windows-formats, windows-req
 formats-shown : (windows : List Window) → formats_of (window_images windows) ≡ window_formats windows
 formats-shown [] = refl
 formats-shown (window ∷ windows) = ap (λ (formats : List Format). window.format ∷ formats) (formats-shown windows)
-
--- What a call that applies an operation asks for.
-pub record IsApplicable {Op : Type 0} (meanings : Meanings Op) (operation : Op) (boxes : List Rectangle) (windows : List Window) (part : Rectangle) : Type 0 where
-  pub inputs : length windows ≡ meanings.input_count operation
-  pub boxes_are : boxes ≡ window_bounds windows
-  pub format : IsSome (meanings.format operation (window_formats windows))
-  pub bounds : IsSome (bounds_of meanings operation boxes)
-  pub inside : Includes (result_box meanings operation boxes) part
-  pub tile : IsInOneTile part
-  pub whole : All IsWholeWindow windows
-  pub required : HaveRequired meanings operation boxes windows part
 
 module _ {Op : Type 0} (meanings : Meanings Op) (facts : Facts) (nodes : List (NodeFact Op)) (stated : AreStated meanings (shapes_of_facts facts) nodes)
     (node : ℕ) (fact : NodeFact Op) (operation : Op) (names : List (List ℕ)) (found : slice_get nodes node ≡ Some fact) (body : fact.spec.body ≡ Compute operation names) where

@@ -5,3 +5,4 @@ pub mod Places
 pub mod Whole
 pub mod Applied
 pub mod Scenes
+pub mod JobLaws

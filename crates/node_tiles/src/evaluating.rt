@@ -11,14 +11,13 @@ ghost use Rattle.roi_planner.specs.Inputs.{all_inputs};
 ghost use Rattle.node_tiles.specs.Reads.{Reads, seen};
 ghost use Rattle.node_tiles.specs.Stated.{AreTilesOf, HaveLengths, IsReady, bytes_at, length_at};
 
-use crate::applying::applied_tile;
-use crate::input_windows::input_windows;
 use crate::strip_tiles::StripTiles;
+use crate::tile_jobs::{apply_job, tile_job};
 use chain_owners::ChainMeaning;
-use model_graphs::{Body, NodeFact};
+use model_graphs::NodeFact;
 use op_contracts::{OpKit, SourceTiles};
 use plane_rect::TileAt;
-use roi_planner::{NodeInputs, tile_part};
+use roi_planner::NodeInputs;
 use std::alloc::Global;
 use swap_store::SwapRefused;
 use tile_cow::Tile;
@@ -66,12 +65,8 @@ where
     ensures cause { IfErr result (HasSwapCause (H.counts chain.old) (H.counts chain.new) (H.counts chain.old).names) }
     ensures valid { H.is_valid chain.old → H.is_valid chain.new }
 {
-    let fact = &nodes[node as usize];
-    let Body::Compute { op, .. } = &fact.spec.body else {
-        unreachable!()
-    };
-    let inputs = &inputs[node as usize];
-    let part = tile_part(&at, &fact.bounds);
-    let windows = input_windows(kit, alloc, nodes, inputs, held, sources, chain, op, part)?;
-    Ok(applied_tile(kit, alloc, purse, op, inputs.boxes(), &windows, part, at)?)
+    let job = tile_job(
+        kit, alloc, nodes, inputs, held, sources, chain, purse, node, at,
+    )?;
+    Ok(apply_job(kit, alloc, nodes, inputs, job)?)
 }

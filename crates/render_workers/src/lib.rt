@@ -8,5 +8,7 @@ mod refused;
 mod rendering;
 mod strips;
 
+pub use frozen_images::{FrozenBuffer, SceneTiles};
 pub use refused::RenderRefused;
 pub use rendering::{Rendered, render};
+pub use scenes::Scene;

@@ -24,9 +24,11 @@ use patch_abyss::Patch;
 use plane_rect::Rect;
 use roi_planner::{NodeInputs, strip_of};
 use std::alloc::Global;
+use std::thread::Threads;
 use strip_patches::{LevelPatch, strip_patch};
 use strip_renders::{StripDone, render_strip};
 use swap_store::SwapRefused;
+use worker_pieces::Workers;
 
 /// The part of a node's image over a strip, how many of the tiles that it needs were evaluated and how
 /// many the cache had.
@@ -50,7 +52,13 @@ pub(crate) struct LookCounts {
 /// # Errors
 ///
 /// As [`render_strip`].
-fn held_strip<H: ChainMeaning, S: SourceTiles<H>, C: PairStore<H>, K: OpKit + Sync>(
+fn held_strip<
+    H: ChainMeaning,
+    S: SourceTiles<H>,
+    C: PairStore<H>,
+    K: OpKit + Sync,
+    R: Threads + Sync,
+>(
     kit: &K,
     alloc: Global,
     nodes: &[NodeFact<K::Op>],
@@ -61,6 +69,7 @@ fn held_strip<H: ChainMeaning, S: SourceTiles<H>, C: PairStore<H>, K: OpKit + Sy
     purse: &mut K::Purse,
     node: u32,
     rect: Rect,
+    workers: Workers<'_, R>,
 ) -> Result<StripDone, SwapRefused>
 where
     K::Op: Sync,
@@ -95,7 +104,7 @@ where
 {
     let strip = strip_of(kit, alloc, nodes, inputs, node, rect)?;
     let done = render_strip(
-        kit, alloc, nodes, inputs, sources, cache, chain, purse, &strip,
+        kit, alloc, nodes, inputs, sources, cache, chain, purse, &strip, workers,
     )?;
     Ok(done)
 }
@@ -106,7 +115,13 @@ where
 /// # Errors
 ///
 /// As [`render_strip`].
-fn rendered_part<H: ChainMeaning, S: SourceTiles<H>, C: PairStore<H>, K: OpKit + Sync>(
+fn rendered_part<
+    H: ChainMeaning,
+    S: SourceTiles<H>,
+    C: PairStore<H>,
+    K: OpKit + Sync,
+    R: Threads + Sync,
+>(
     kit: &K,
     alloc: Global,
     nodes: &[NodeFact<K::Op>],
@@ -117,6 +132,7 @@ fn rendered_part<H: ChainMeaning, S: SourceTiles<H>, C: PairStore<H>, K: OpKit +
     purse: &mut K::Purse,
     node: u32,
     rect: Rect,
+    workers: Workers<'_, R>,
 ) -> Result<Part, SwapRefused>
 where
     K::Op: Sync,
@@ -152,7 +168,7 @@ where
         (moment (S.facts sources.new) (S.images sources.new (H.held chain.new)) (S.names sources.new) (C.pairs cache.new) (C.sizes cache.new (H.held chain.new)) (C.cached cache.new (H.held chain.new)) (C.capacity cache.new) (C.names cache.new) (H.held chain.new) (H.counts chain.new) (H.loans chain.new))) }
 {
     let done = held_strip(
-        kit, alloc, nodes, inputs, sources, cache, chain, purse, node, rect,
+        kit, alloc, nodes, inputs, sources, cache, chain, purse, node, rect, workers,
     )?;
     let patch = strip_patch(alloc, nodes, &done.tiles, sources, chain, node, rect)?;
     Ok(Part {
@@ -168,7 +184,13 @@ where
 /// # Errors
 ///
 /// As [`render_strip`].
-pub(crate) fn add_part<H: ChainMeaning, S: SourceTiles<H>, C: PairStore<H>, K: OpKit + Sync>(
+pub(crate) fn add_part<
+    H: ChainMeaning,
+    S: SourceTiles<H>,
+    C: PairStore<H>,
+    K: OpKit + Sync,
+    R: Threads + Sync,
+>(
     kit: &K,
     alloc: Global,
     nodes: &[NodeFact<K::Op>],
@@ -180,6 +202,7 @@ pub(crate) fn add_part<H: ChainMeaning, S: SourceTiles<H>, C: PairStore<H>, K: O
     level_patch: &mut LevelPatch,
     node: u32,
     rect: Rect,
+    workers: Workers<'_, R>,
 ) -> Result<LookCounts, SwapRefused>
 where
     K::Op: Sync,
@@ -217,7 +240,7 @@ where
         (moment (S.facts sources.new) (S.images sources.new (H.held chain.new)) (S.names sources.new) (C.pairs cache.new) (C.sizes cache.new (H.held chain.new)) (C.cached cache.new (H.held chain.new)) (C.capacity cache.new) (C.names cache.new) (H.held chain.new) (H.counts chain.new) (H.loans chain.new))) }
 {
     let part = rendered_part(
-        kit, alloc, nodes, inputs, sources, cache, chain, purse, node, rect,
+        kit, alloc, nodes, inputs, sources, cache, chain, purse, node, rect, workers,
     )?;
     level_patch.add(alloc, part.patch)?;
     Ok(LookCounts {

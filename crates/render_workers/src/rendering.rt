@@ -35,8 +35,10 @@ use patch_abyss::Patch;
 use pixel_formats::Format;
 use plane_rect::{Name, Rect};
 use std::alloc::Global;
+use std::thread::Threads;
 use strip_patches::LevelPatch;
 use swap_store::SwapRefused;
+use worker_pieces::Workers;
 
 /// What a request gives: the rectangle of the level of the node's image, how many of the needed tiles
 /// were evaluated, and how many the cache had.
@@ -64,7 +66,13 @@ fn format_of<Op>(nodes: &[NodeFact<Op>], node: u32) -> Format
 /// # Errors
 ///
 /// As [`render`], of which the swap's and `NoMemory` are left.
-fn render_planned<H: ChainMeaning, S: SourceTiles<H>, C: PairStore<H>, K: OpKit + Sync>(
+fn render_planned<
+    H: ChainMeaning,
+    S: SourceTiles<H>,
+    C: PairStore<H>,
+    K: OpKit + Sync,
+    R: Threads + Sync,
+>(
     kit: &K,
     alloc: Global,
     nodes: &[NodeFact<K::Op>],
@@ -75,6 +83,7 @@ fn render_planned<H: ChainMeaning, S: SourceTiles<H>, C: PairStore<H>, K: OpKit 
     node: u32,
     level: u32,
     rect: Rect,
+    workers: Workers<'_, R>,
 ) -> Result<Rendered, SwapRefused>
 where
     K::Op: Sync,
@@ -122,6 +131,7 @@ where
         &mut level_patch,
         node,
         source,
+        workers,
     )?;
     let patch = level_patch.finish(alloc)?;
     Ok(Rendered {
@@ -149,7 +159,13 @@ where
 /// each needed tile can fill the swap, and, where each cached name has one owner, the names of a full cache
 /// and one more can too; and `NoMemory` if memory runs out. The cached pairs are then those of a part of
 /// the request, and right where they were, and permits may be spent.
-pub fn render<H: ChainMeaning, S: SourceTiles<H>, C: PairStore<H>, K: OpKit + Sync>(
+pub fn render<
+    H: ChainMeaning,
+    S: SourceTiles<H>,
+    C: PairStore<H>,
+    K: OpKit + Sync,
+    R: Threads + Sync,
+>(
     kit: &K,
     alloc: Global,
     nodes: &[NodeFact<K::Op>],
@@ -161,6 +177,7 @@ pub fn render<H: ChainMeaning, S: SourceTiles<H>, C: PairStore<H>, K: OpKit + Sy
     level: u32,
     rect: Rect,
     capacity: u32,
+    workers: Workers<'_, R>,
 ) -> Result<Rendered, RenderRefused>
 where
     K::Op: Sync,
@@ -215,7 +232,7 @@ where
 {
     let position = planned_position(kit, alloc, nodes, node, level, rect, capacity)?;
     let done = render_planned(
-        kit, alloc, nodes, sources, cache, chain, purse, position, level, rect,
+        kit, alloc, nodes, sources, cache, chain, purse, position, level, rect, workers,
     )?;
     Ok(done)
 }

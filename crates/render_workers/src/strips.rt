@@ -23,8 +23,10 @@ use op_contracts::{OpKit, SourceTiles};
 use plane_rect::Rect;
 use roi_planner::{all_inputs, strip_rects};
 use std::alloc::Global;
+use std::thread::Threads;
 use strip_patches::LevelPatch;
 use swap_store::SwapRefused;
+use worker_pieces::Workers;
 
 /// Renders the strips of a request for the node at a position, from the top, and adds each to the patch
 /// of the request. Returns how many of the needed tiles were evaluated and how many the cache had.
@@ -32,7 +34,13 @@ use swap_store::SwapRefused;
 /// # Errors
 ///
 /// As [`render_strip`](strip_renders::render_strip), for the pairs of all strips.
-pub(crate) fn render_strips<H: ChainMeaning, S: SourceTiles<H>, C: PairStore<H>, K: OpKit + Sync>(
+pub(crate) fn render_strips<
+    H: ChainMeaning,
+    S: SourceTiles<H>,
+    C: PairStore<H>,
+    K: OpKit + Sync,
+    R: Threads + Sync,
+>(
     kit: &K,
     alloc: Global,
     nodes: &[NodeFact<K::Op>],
@@ -43,6 +51,7 @@ pub(crate) fn render_strips<H: ChainMeaning, S: SourceTiles<H>, C: PairStore<H>,
     level_patch: &mut LevelPatch,
     node: u32,
     request: Rect,
+    workers: Workers<'_, R>,
 ) -> Result<LookCounts, SwapRefused>
 where
     K::Op: Sync,
@@ -95,6 +104,7 @@ where
             level_patch,
             node,
             *rect,
+            workers,
         )?;
         applied += counts.applied;
         reused += counts.reused;

@@ -2,6 +2,7 @@ pub mod Blitting
 pub mod ChainReads
 pub mod Solid
 pub mod PaintedTiles
+pub mod Cut
 pub mod Making
 pub mod Written
 pub mod HullTiles

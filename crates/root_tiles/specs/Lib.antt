@@ -1,4 +1,5 @@
 pub mod Chains
+pub mod Cutting
 pub mod Growth
 pub mod Made
 pub mod Paints

@@ -1,10 +1,13 @@
 //! The images of root buffers, each held by the tiles of a table over a chain.
 #![tactic(auto)]
 
+mod cut_tiles;
+mod cutting;
 mod laws;
 mod paint;
 mod painting;
 mod reading;
+mod ready;
 mod root;
 mod shares;
 mod tiles;

@@ -12,30 +12,80 @@ ghost use Rattle.pixel_formats.specs.Row.{sample_at};
 ghost use Rattle.plane_rect.specs.Rectangle.{Includes};
 ghost use Rattle.solid_patches.specs.Samples.{IsSampleOf};
 ghost use Rattle.swap_store.specs.Cause.{HasSwapCause};
+ghost use Rattle.root_tiles.specs.Cutting.{cutting_of};
 ghost use Rattle.root_tiles.specs.Made.{HasAll, Makes};
 ghost use Rattle.root_tiles.specs.Paints.{IsPaint, IsSolid, paint_pixels};
 ghost use Rattle.root_tiles.specs.Roots.{IsRootOver, root_image, root_names, root_shape};
 
+use crate::cut_tiles::CutTiles;
+use crate::cutting::Raster;
 use crate::paint::Paint;
+use crate::ready::{NoneReady, ReadyTiles};
 use crate::root::Root;
 use chain_contracts::TileChain;
 use level_tables::NewTiles;
 use no_memory::NoMemory;
 use plane_rect::{Rect, TILE_SIDE};
 use solid_patches::solid_patch;
+use std::thread::Threads;
 use swap_store::SwapRefused;
 use tile_cow::Tile;
+use worker_pieces::Workers;
 
 impl Root {
-    /// Writes raw bytes over a rectangle of the box: its pixels row by row, each row from the left. After an
-    /// error the tiles and the image are as before. Takes time in proportion to the tiles of the rectangle.
+    /// Writes raw bytes over a rectangle of the box: its pixels row by row, each row from the left. Several workers
+    /// cut the tiles that the rectangle covers, where that is worth it. After an error the tiles and the image are
+    /// as before. Takes time in proportion to the tiles of the rectangle.
     ///
     /// # Errors
     ///
     /// `SwapFault` only where the swap's count of I/O errors rose in this call, `SwapFull` only where
     /// the chain's names and as many more as the rectangle meets tiles can fill the swap, and `NoMemory`
     /// if memory runs out.
-    pub fn put_raw<C: TileChain>(
+    pub fn put_raw<C: TileChain, R: Threads + Sync>(
+        &mut self,
+        chain: &mut C,
+        rect: Rect,
+        bytes: &[u8],
+        workers: Workers<'_, R>,
+    ) -> Result<(), SwapRefused>
+        requires over { IsRootOver self.old (C.held chain.old) }
+        requires inside { Includes self.old.box rect }
+        requires count { length bytes.now ≡ byte_count rect self.old.tiles.format }
+        ensures image { OnOk result (root_image self.new (C.held chain.new) ≡ option_map
+            (λ image. painted image rect (pixels_from_raw rect self.old.tiles.format bytes.now))
+            (root_image self.old (C.held chain.old))) }
+        ensures shape { root_shape self.new ≡ root_shape self.old }
+        ensures unchanged { OnErr result (self.new ≡ self.old) }
+        ensures same { OnErr result (root_image self.new (C.held chain.new) ≡ root_image self.old (C.held chain.old)) }
+        ensures over { IsRootOver self.new (C.held chain.new) }
+        ensures others { Respects (C.held chain.old) (C.held chain.new) (root_names self.old) (root_names self.new) }
+        ensures counts { Grows (tile_count rect) (C.counts chain.old) (C.counts chain.new) }
+        ensures cause { IfErr result (HasSwapCause (C.counts chain.old) (C.counts chain.new)
+            ((C.counts chain.old).names + tile_count rect)) }
+        ensures loans { C.loans chain.new ≡ C.loans chain.old }
+        ensures valid { C.is_valid chain.old → C.is_valid chain.new }
+    {
+        if !workers.are_several() {
+            return self.put_raw_alone(chain, rect, bytes);
+        }
+        let raster = Raster {
+            alloc: self.alloc,
+            format: self.format(),
+            bounds: self.bounds(),
+            rect,
+            bytes,
+        };
+        let mut ready = CutTiles::new(&raster, workers);
+        self.write(chain, rect, &Paint::Raw(bytes), &mut ready)
+    }
+
+    /// Writes raw bytes over a rectangle of the box as [`Root::put_raw`] does, on the caller's thread alone.
+    ///
+    /// # Errors
+    ///
+    /// As [`Root::put_raw`].
+    pub fn put_raw_alone<C: TileChain>(
         &mut self,
         chain: &mut C,
         rect: Rect,
@@ -58,7 +108,7 @@ impl Root {
         ensures loans { C.loans chain.new ≡ C.loans chain.old }
         ensures valid { C.is_valid chain.old → C.is_valid chain.new }
     {
-        self.write(chain, rect, &Paint::Raw(bytes))
+        self.write(chain, rect, &Paint::Raw(bytes), &mut NoneReady)
     }
 
     /// Writes one pixel at each position of a rectangle of the box: a sample for each channel. After an error
@@ -92,7 +142,7 @@ impl Root {
         ensures valid { C.is_valid chain.old → C.is_valid chain.new }
     {
         let tile = self.solid_tile(samples)?;
-        self.write(chain, rect, &Paint::Solid(&tile))
+        self.write(chain, rect, &Paint::Solid(&tile), &mut NoneReady)
     }
 
     /// Returns a tile of one pixel everywhere.
@@ -109,15 +159,17 @@ impl Root {
     }
 
     /// Writes over a rectangle of the box. After an error the tiles and the image are as before.
-    fn write<C: TileChain>(
+    fn write<C: TileChain, T: ReadyTiles>(
         &mut self,
         chain: &mut C,
         rect: Rect,
         paint: &Paint,
+        ready: &mut T,
     ) -> Result<(), SwapRefused>
         requires over { IsRootOver self.old (C.held chain.old) }
         requires inside { Includes self.old.box rect }
         requires paint { IsPaint self.old.tiles.format rect paint.now }
+        requires ready { T.are_cut ready.old (cutting_of self.old rect paint.now) }
         ensures image { OnOk result (root_image self.new (C.held chain.new) ≡ option_map
             (λ image. painted image rect (paint_pixels self.old.tiles.format rect paint.now))
             (root_image self.old (C.held chain.old))) }
@@ -134,7 +186,7 @@ impl Root {
     {
         self.table.reserve(rect.tiles().count())?;
         let mut made = NewTiles::new(self.alloc, self.format());
-        if let Err(refused) = self.make(chain, rect, paint, &mut made) {
+        if let Err(refused) = self.make(chain, rect, paint, ready, &mut made) {
             made.discard(chain);
             return Err(refused);
         }
@@ -143,16 +195,18 @@ impl Root {
     }
 
     /// Makes the tiles beside the root as they are once something is written over a rectangle of the box.
-    fn make<C: TileChain>(
+    fn make<C: TileChain, T: ReadyTiles>(
         &self,
         chain: &mut C,
         rect: Rect,
         paint: &Paint,
+        ready: &mut T,
         made: &mut NewTiles,
     ) -> Result<(), SwapRefused>
         requires over { IsRootOver self.now (C.held chain.old) }
         requires inside { Includes self.now.box rect }
         requires paint { IsPaint self.now.tiles.format rect paint.now }
+        requires ready { T.are_cut ready.old (cutting_of self.now rect paint.now) }
         requires format { made.old.format ≡ self.now.tiles.format }
         requires none { made.old.entries ≡ [] }
         ensures format { made.new.format ≡ self.now.tiles.format }
@@ -166,7 +220,7 @@ impl Root {
             ((C.counts chain.old).names + tile_count rect)) }
     {
         for at in rect.tiles() {
-            let tile = self.painted_tile(chain, at, rect, paint)?;
+            let tile = self.next_tile(chain, at, rect, paint, ready)?;
             made.add(chain, at, tile)?;
         }
         Ok(())

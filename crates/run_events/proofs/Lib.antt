@@ -2,4 +2,5 @@ pub mod Leaving
 pub mod Texts
 pub mod Carrying
 pub mod Lines
+pub mod Endings
 pub mod Faults

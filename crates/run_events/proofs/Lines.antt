@@ -8,16 +8,17 @@ use Rattle.std.proofs.lemmas.List.Sums.{sum_by-cons}
 use Rattle.std.proofs.Math.Seq.{drop-append_seam}
 use Rattle.chain_owners.specs.Counts.{Counts}
 use Rattle.model_runs.proofs.AppliedCounts.{AreRising, effects_rise, rising_end, rising_prefix}
-use Rattle.model_runs.specs.Ending.{Leaves, SaysRefused}
+use Rattle.model_runs.specs.Ending.{SaysRefused}
 use Rattle.model_runs.specs.Effects.{effect}
 use Rattle.model_runs.specs.Ran.{bytes_put, texts_in}
-use Rattle.model_runs.specs.Run.{after_line, and_on, effects, files_after_all, outcome_of_effects, report, state_after}
+use Rattle.model_runs.specs.Run.{after_line, and_on, effects, files_after_all, no_ending, outcome_of_effects, state_after}
 use Rattle.model_runs.specs.State.{Effect, RunState}
 use Rattle.model_runs.specs.Swap.{effects_shown, effects_to_stop, text_length, texts_length}
 use Rattle.model_runs.specs.declared.ending.End.{End}
 use Rattle.model_runs.specs.declared.ending.End.TheVariants as ends
 use Rattle.outside_io.specs.Files.{Files}
 use Rattle.run_events.proofs.Carrying.{carried_by_leaves, carried_then, end_carried, more_carried}
+use Rattle.run_events.proofs.Leaving.{nothing_left}
 use Rattle.run_events.specs.Carried.{CarriesOut, CarriesOutLines, HasNames, most_of_line, most_to_stop, other_names, outcome_of_line}
 use Rattle.run_events.specs.Moments.{Moment, world_at}
 use Rattle.run_texts.specs.Events.{Event, Outcome, Puts, Refusal, Writes, events_alone, then_do}
@@ -114,12 +115,12 @@ lines_of capacity files lines done = and_on files (λ next later. effects capaci
 abbrev CarriesOutFrom : Bool → ℕ → RunState → Files → List Line → Effect → Result (Unit {0}) End → Moment → Moment → Type 0
 CarriesOutFrom exposed capacity state files lines done result old new =
     let all = lines_of capacity files lines done in
-    CarriesOut exposed (outcome_of_effects report state files all) (most_to_stop capacity state old.chain.names (bytes_put old.text new.text) all) result old new
+    CarriesOut exposed (outcome_of_effects no_ending state files all) (most_to_stop capacity state old.chain.names (bytes_put old.text new.text) all) result old new
 
 abbrev refusal_at : ℕ → Cause → Refusal
 refusal_at line cause = record { line = line; cause = cause }
 
-not_refused : (end : End) → SaysRefused (Err end) None → end ≢ ends.Refused
+pub not_refused : (end : End) → SaysRefused (Err end) None → end ≢ ends.Refused
 not_refused ends.Refused says = absurd says
 not_refused ends.ReadFault says = λ e. cc
 not_refused ends.WriteFault says = λ e. cc
@@ -137,7 +138,7 @@ module _ (exposed : Bool) (capacity : ℕ) (state : RunState) (files : Files) (l
   later = effects capacity done.next (files_after_all done.events files) lines
 
   abbrev rest : Outcome
-  rest = outcome_of_effects report done.next (files_after_all done.events files) later
+  rest = outcome_of_effects no_ending done.next (files_after_all done.events files) later
 
   -- how many names there are at most, from here on
   abbrev most_on : Moment → Moment → List Effect → ℕ
@@ -152,8 +153,8 @@ module _ (exposed : Bool) (capacity : ℕ) (state : RunState) (files : Files) (l
       CarriesOutFrom exposed capacity state files lines done result old new
   unrefused result old new none carried =
       let all : lines_of capacity files lines done ≡ done ∷ later = ap (λ (r : Option Cause). cond (is_none r) (done ∷ later) (done ∷ [])) none in
-      let outcome : outcome_of_effects report state files (done ∷ later) ≡ then_do done.events rest = ap (λ (r : Option Cause). after_line done.line done.events r rest) none in
-      subst (λ (list : List Effect). CarriesOut exposed (outcome_of_effects report state files list) (most_on old new list) result old new) (sym all)
+      let outcome : outcome_of_effects no_ending state files (done ∷ later) ≡ then_do done.events rest = ap (λ (r : Option Cause). after_line done.line done.events r rest) none in
+      subst (λ (list : List Effect). CarriesOut exposed (outcome_of_effects no_ending state files list) (most_on old new list) result old new) (sym all)
       (subst (λ (o : Outcome). CarriesOut exposed o (most_on old new (done ∷ later)) result old new) (sym outcome) carried)
 
   -- a line that is carried out, and the lines after it
@@ -186,10 +187,10 @@ module _ (exposed : Bool) (capacity : ℕ) (state : RunState) (files : Files) (l
           (first_shown capacity state old.chain.names (bytes_put old.text new.text) done later rising) carried)
       by (Some cause) some =
           let all : lines_of capacity files lines done ≡ done ∷ [] = ap (λ (r : Option Cause). cond (is_none r) (done ∷ later) (done ∷ [])) some in
-          let outcome : outcome_of_effects report state files (done ∷ []) ≡ outcome_of_line done =
-          ap (λ (r : Option Cause). after_line done.line done.events r (outcome_of_effects report done.next (files_after_all done.events files) [])) some
+          let outcome : outcome_of_effects no_ending state files (done ∷ []) ≡ outcome_of_line done =
+          ap (λ (r : Option Cause). after_line done.line done.events r (outcome_of_effects no_ending done.next (files_after_all done.events files) [])) some
           ∙ sym (ap (λ (r : Option Cause). (let o : Outcome = record { events = done.events; refused = option_map (λ cause. refusal_at done.line cause) r } in o)) some) in
-          subst (λ (list : List Effect). CarriesOut exposed (outcome_of_effects report state files list) (most_on old new list) (Err end) old new) (sym all)
+          subst (λ (list : List Effect). CarriesOut exposed (outcome_of_effects no_ending state files list) (most_on old new list) (Err end) old new) (sym all)
           (subst (λ (o : Outcome). CarriesOut exposed o (most_on old new (done ∷ [])) (Err end) old new) (sym outcome)
           (more_carried exposed (outcome_of_line done) (most_of_line capacity state old.chain.names done) (most_on old new (done ∷ [])) (Err end) old new
           (first_shown capacity state old.chain.names (bytes_put old.text new.text) done [] tt) carried))
@@ -220,8 +221,7 @@ module _ (exposed : Bool) (capacity : ℕ) (state : RunState) (files : Files) (l
   pub line_unrefused : (most : ℕ) (old new : Moment) → CarriesOut exposed (outcome_of_line done_by) most (Ok tt) old new → done_by.refused ≡ None
   line_unrefused most old new carried = no_refusal done_by.line done_by.refused carried.refused
 
--- the report after the last line
-pub report_carried : (exposed : Bool) (capacity : ℕ) (state : RunState) (files : Files) (result : Result (Unit {0}) End) (old new : Moment) → result ≢ Err ends.SwapFull →
-    Leaves (events_alone (report state files)) result (world_at old) (world_at new) → CarriesOutLines exposed capacity state files [] result old new
-report_carried exposed capacity state files result old new room leaves =
-    carried_by_leaves exposed (events_alone (report state files)) (most_to_stop capacity state old.chain.names (bytes_put old.text new.text) []) result old new room leaves
+-- nothing is done after the last line
+pub none_left : (exposed : Bool) (capacity : ℕ) (state : RunState) (files : Files) (now : Moment) → CarriesOutLines exposed capacity state files [] (Ok tt) now now
+none_left exposed capacity state files now =
+    carried_by_leaves exposed (events_alone []) (most_to_stop capacity state now.chain.names (bytes_put now.text now.text) []) (Ok tt) now now (λ e. cc) (nothing_left (world_at now))

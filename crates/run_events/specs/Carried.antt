@@ -9,7 +9,7 @@ use Rattle.run_texts.specs.declared.cause.Cause.{Cause}
 use Rattle.script_read.specs.declared.command.Line.{Line}
 use Rattle.model_runs.specs.Ending.{IsWhole, MayTear, SaysRefused}
 use Rattle.model_runs.specs.Ran.{bytes_put, texts_in}
-use Rattle.model_runs.specs.Run.{effects, outcome_of_effects, report, state_after}
+use Rattle.model_runs.specs.Run.{effects, no_ending, outcome_of_effects, state_after}
 use Rattle.model_runs.specs.State.{Effect, RunState}
 use Rattle.model_runs.specs.Swap.{effects_to_stop}
 use Rattle.model_runs.specs.declared.ending.End.{End}
@@ -66,9 +66,14 @@ pub record HasNames (tiles : ℕ) (state next : RunState) (old new : Counts) : T
 
 -- ---- lines
 
--- what lines and the report after them leave, from a state and files on
+-- what lines leave, and nothing after them, from a state and files on
 abbrev pub CarriesOutLines : Bool → ℕ → RunState → Files → List Line → Result (Unit {0}) End → Moment → Moment → Type 0
 CarriesOutLines exposed capacity state files lines result old new =
     let all = effects capacity state files lines in
-    CarriesOut exposed (outcome_of_effects report state files all)
+    CarriesOut exposed (outcome_of_effects no_ending state files all)
     (most_to_stop capacity state old.chain.names (bytes_put old.text new.text) all) result old new
+
+-- So many tiles of nodes were evaluated up to a state, and so many found in the cache.
+pub record IsCounted (state : RunState) (evaluated found : ℕ) : Type 0 where
+  pub applied : evaluated ≡ state.session.cached.applied
+  pub reused : found ≡ state.session.cached.reused

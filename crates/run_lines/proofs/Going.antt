@@ -1,5 +1,5 @@
--- Lines that are carried out one after another, and the report after the last.
-use Rattle.std.proofs.Common.{◌≡◌, ◌≢◌, ℕ, Bool, List, [], ◌∷◌, Result, Ok, Err, IfOk, sym, ap, ◌∙◌, subst}
+-- Lines that are carried out one after another.
+use Rattle.std.proofs.Common.{◌≡◌, ◌≢◌, ℕ, Bool, List, [], ◌∷◌, Result, Ok, Err, IfOk, refl, sym, ap, ◌∙◌, subst}
 use Rattle.std.specs.Result.{IsErrAnd}
 use Rattle.chain_owners.specs.Held.{Held}
 use Rattle.commit_session.specs.Parts.{Parts}
@@ -14,13 +14,12 @@ use Rattle.model_runs.specs.declared.ending.End.TheVariants as ends
 use Rattle.model_sessions.specs.Sessions.{Counts, counts_of}
 use Rattle.outside_io.specs.Files.{Files}
 use Rattle.run_events.proofs.Carrying.{carried_by_leaves}
-use Rattle.run_events.proofs.Lines.{line_unrefused, lines_end, lines_then, report_carried, state_then}
-use Rattle.run_events.specs.Carried.{CarriesOut, CarriesOutLines, most_of_line, outcome_of_line}
+use Rattle.run_events.proofs.Lines.{line_unrefused, lines_end, lines_then, none_left, state_then}
+use Rattle.run_events.specs.Carried.{CarriesOut, CarriesOutLines, IsCounted, most_of_line, outcome_of_line}
 use Rattle.run_events.specs.Moments.{Moment, world_at}
 use Rattle.run_lines.specs.States.{Holds}
 use Rattle.run_lines.specs.Stops.{Does, IsRefused}
-use Rattle.run_texts.specs.Events.{Puts, events_alone, refusal}
-use Rattle.run_texts.specs.Texts.{report_text}
+use Rattle.run_texts.specs.Events.{refusal}
 use Rattle.run_texts.specs.World.{World}
 use Rattle.run_texts.specs.declared.cause.Cause.{Cause}
 use Rattle.script_read.specs.declared.command.Line.{Line}
@@ -64,12 +63,13 @@ pub record Reached (exposed : Bool) (capacity : ℕ) (state : RunState) (files :
   pub found : Files
   pub holds : Holds exposed capacity there found parts held now.files
   pub counts : HasTrueCounts (state_after there (effects capacity there found rest))
+  pub last : state_after there (effects capacity there found rest) ≡ state_after state (effects capacity state files all)
   pub on : (result : Result (Unit {0}) End) (new : Moment) → CarriesOutLines exposed capacity there found rest result now new → CarriesOutLines exposed capacity state files all result first new
 
 module _ (exposed : Bool) (capacity : ℕ) (state : RunState) (files : Files) (all : List Line) (first : Moment) where
   pub reached_first : (parts : Parts IntOp) (held : Held) → Holds exposed capacity state files parts held first.files → HasTrueCounts (state_after state (effects capacity state files all)) →
       Reached exposed capacity state files all all first first parts held
-  reached_first parts held holds counts = record { there = state; found = files; holds = holds; counts = counts; on = λ result new carried. carried }
+  reached_first parts held holds counts = record { there = state; found = files; holds = holds; counts = counts; last = refl; on = λ result new carried. carried }
 
   pub reached_next : (line : Line) (rest : List Line) (now next : Moment) (parts later : Parts IntOp) (held after : Held) →
       (reached : Reached exposed capacity state files all (line ∷ rest) first now parts held) →
@@ -85,6 +85,7 @@ module _ (exposed : Bool) (capacity : ℕ) (state : RunState) (files : Files) (a
         found = files_after_all done.events found;
         holds = does.next;
         counts = subst HasTrueCounts (state_then exposed capacity there found line rest none) reached.counts;
+        last = sym (state_then exposed capacity there found line rest none) ∙ reached.last;
         on = λ result new carried. reached.on result new (lines_then exposed capacity there found line rest result now next new does.carried does.names carried);
       }
 
@@ -95,20 +96,22 @@ module _ (exposed : Bool) (capacity : ℕ) (state : RunState) (files : Files) (a
   reached_end line rest end now new parts later held after reached does =
       reached.on (Err end) new (lines_end exposed capacity reached.there reached.found line rest end now new does.carried)
 
-  -- the report is that of the counts of the session
-  pub reached_report : (applied reused : ℕ) (result : Result (Unit {0}) End) (now new : Moment) (parts : Parts IntOp) (held : Held) → Reached exposed capacity state files all [] first now parts held →
-      applied ≡ parts.applied → reused ≡ parts.reused →
-      result ≢ Err ends.SwapFull → Leaves (events_alone (Puts (report_text applied reused) ∷ [])) result (world_at now) (world_at new) →
-      CarriesOutLines exposed capacity state files all result first new
-  reached_report applied reused result now new parts held reached applied_is reused_is room leaves =
+  -- the counts of the session are those of the last state
+  pub reached_counts : (now : Moment) (parts : Parts IntOp) (held : Held) → Reached exposed capacity state files all [] first now parts held →
+      IsCounted (state_after state (effects capacity state files all)) parts.applied parts.reused
+  reached_counts now parts held reached =
       let there = reached.there in
       let shown : counts_of there.session ≡ true_counts there = reached.counts.reported in
-      let a : applied ≡ there.session.cached.applied = applied_is ∙ sym reached.holds.session.applied ∙ ap (λ (c : Counts). c.applied) shown in
-      let r : reused ≡ there.session.cached.reused = reused_is ∙ sym reached.holds.session.reused ∙ ap (λ (c : Counts). c.reused) shown in
-      reached.on result new
-      (report_carried exposed capacity there reached.found result now new room
-      (subst (λ n. Leaves (events_alone (Puts (report_text there.session.cached.applied n) ∷ [])) result (world_at now) (world_at new)) r
-      (subst (λ n. Leaves (events_alone (Puts (report_text n reused) ∷ [])) result (world_at now) (world_at new)) a leaves)))
+      let here : IsCounted there parts.applied parts.reused = record {
+        applied = sym reached.holds.session.applied ∙ ap (λ (c : Counts). c.applied) shown;
+        reused = sym reached.holds.session.reused ∙ ap (λ (c : Counts). c.reused) shown;
+      } in
+      subst (λ (s : RunState). IsCounted s parts.applied parts.reused) reached.last here
+
+  -- all lines are carried out
+  pub reached_all : (now : Moment) (parts : Parts IntOp) (held : Held) → Reached exposed capacity state files all [] first now parts held →
+      CarriesOutLines exposed capacity state files all (Ok tt) first now
+  reached_all now parts held reached = reached.on (Ok tt) now (none_left exposed capacity reached.there reached.found now)
 
 -- one end for another that is the same
 pub lines_same_end : (exposed : Bool) (capacity : ℕ) (state : RunState) (files : Files) (lines : List Line) (end : End) (result : Result (Unit {0}) End) (old new : Moment) → IsErrAnd result (λ other. other ≡ end) →

@@ -1,5 +1,5 @@
 -- Runs of lines from their start on.
-use Rattle.std.proofs.Common.{◌≡◌, ℕ, ◌≤◌, Bool, List, [], length, Option, Some, None, Result, IfSome, is_some, min, refl, ap, subst, arith}
+use Rattle.std.proofs.Common.{◌≡◌, ℕ, ◌≤◌, Bool, List, [], length, Option, Some, None, Result, Ok, Err, IfOk, IfSome, is_some, min, refl, ap, subst, arith}
 use Rattle.std.specs.List.{IsDistinct}
 use Rattle.std.specs.Result.{IsErrAnd}
 use Rattle.chain_handlers.specs.OwnedTiles.{counts_over, nothing_over}
@@ -11,6 +11,7 @@ use Rattle.model_bounds.proofs.RunCounts.{last_true}
 use Rattle.model_bounds.specs.Counts.{HasTrueCounts}
 use Rattle.model_operations.specs.Meanings.{int_meanings, same_operation}
 use Rattle.model_operations.specs.declared.operation.IntOp.{IntOp}
+use Rattle.model_runs.specs.Ending.{ended}
 use Rattle.model_runs.specs.Run.{effects, state_after}
 use Rattle.model_runs.specs.State.{RunState, first_state}
 use Rattle.model_runs.specs.declared.ending.End.{End}
@@ -21,6 +22,7 @@ use Rattle.outside_io.specs.Files.{Files}
 use Rattle.outside_io.specs.Swap.{Blocks}
 use Rattle.pixel_formats.specs.Limits.{max_lines}
 use Rattle.run_events.proofs.Carrying.{nothing_carried}
+use Rattle.run_events.proofs.Faults.{faults_same_end}
 use Rattle.run_events.specs.Carried.{CarriesOutLines}
 use Rattle.run_events.specs.Moments.{HasFaults, Moment}
 use Rattle.run_lines.proofs.Going.{lines_same_end}
@@ -115,3 +117,17 @@ faults_rechained result old new first counts is same used capacity faults =
 
 pub over_counts : (faults used capacity blocks size resident : ℕ) → used ≡ min blocks size → capacity ≡ resident → counts_over faults used capacity ≡ counts_over faults (min blocks size) resident
 over_counts faults used capacity blocks size resident is as_many = rw (is, as_many) refl
+
+-- one end for another that is the same, whatever is answered
+pub ended_same : {A : Type 0} (result : Result A End) (end : End) → IsErrAnd result (λ other. other ≡ end) → IsErrAnd (ended result) (λ other. other ≡ end)
+ended_same (Ok value) end same = same
+ended_same (Err other) end same = same
+
+pub faults_ended : {A : Type 0} (result : Result A End) (end : End) (old new : Moment) → IsErrAnd result (λ other. other ≡ end) → HasFaults (Err end) old new → HasFaults (ended result) old new
+faults_ended (Ok value) end old new same faults = absurd same
+faults_ended (Err other) end old new same faults = faults_same_end end other old new same faults
+
+pub none_counted : {A : Type 0} (shelf : Option Files) (result : Result A End) (end : End) (P : Files → A → Type 0) → IsErrAnd result (λ other. other ≡ end) → IfSome shelf (λ files. IfOk result (P files))
+none_counted None result end P same = tt
+none_counted (Some files) (Ok value) end P same = absurd same
+none_counted (Some files) (Err other) end P same = tt

@@ -24,13 +24,16 @@ use pixel_formats::{Format, PixelSamples};
 use plane_rect::{Name, Rect};
 use script_read::{Command, Line};
 use std::alloc::{AllocError, Global};
+use std::thread::Threads;
+use worker_pieces::Workers;
 
 /// Carries out a line that edits buffers.
-pub(crate) fn edit<C: TileChain>(
+pub(crate) fn edit<C: TileChain, R: Threads + Sync>(
     alloc: Global,
     line: &Line,
     session: &mut SessionState<IntOp>,
     chain: &mut C,
+    workers: Workers<'_, R>,
 ) -> Result<(), Stop>
     requires over { IsOver same_operation int_meanings session.old (C.held chain.old) }
     requires limits { IsInLimits line.now.command }
@@ -49,7 +52,7 @@ pub(crate) fn edit<C: TileChain>(
     ensures valid { C.is_valid chain.old → C.is_valid chain.new }
 {
     let made = edit_by(alloc, &line.command)?;
-    session.edit(chain, &made)?;
+    session.edit(chain, &made, workers)?;
     Ok(())
 }
 

@@ -29,13 +29,16 @@ use run_events::{put_text, write_file};
 use run_texts::{Cause, grab_text};
 use script_read::{Command, FileName, Line};
 use std::alloc::Global;
+use std::thread::Threads;
+use worker_pieces::Workers;
 
 /// Carries out a line that loads a file into a buffer.
-pub(crate) fn load<C: TileChain, F: Shelf>(
+pub(crate) fn load<C: TileChain, F: Shelf, R: Threads + Sync>(
     line: &Line,
     session: &mut SessionState<IntOp>,
     chain: &mut C,
     shelf: &mut F,
+    workers: Workers<'_, R>,
 ) -> Result<(), Stop>
     requires over { IsOver same_operation int_meanings session.old (C.held chain.old) }
     requires limits { IsInLimits line.now.command }
@@ -69,7 +72,7 @@ pub(crate) fn load<C: TileChain, F: Shelf>(
         rect: *rect,
         bytes: RawBytes::new(raster),
     };
-    session.edit(chain, &put)?;
+    session.edit(chain, &put, workers)?;
     Ok(())
 }
 

@@ -10,5 +10,6 @@ mod script;
 mod steps;
 mod stop;
 
+pub use commit_session::Counts;
 pub use lines::is_of_watch;
 pub use script::{RunLimits, carry_out};

@@ -1,23 +1,19 @@
 //! Lines, one after another.
 
-ghost use Rattle.std.specs.Prelude.{◌≡◌, [], ◌∷◌, ℕ, All, Bool, Option};
+ghost use Rattle.std.specs.Prelude.{◌≡◌, ℕ, All, Bool, IfOk};
 ghost use Rattle.commit_session.specs.Seen.{IsOver};
 ghost use Rattle.model_bounds.specs.Counts.{HasTrueCounts};
 ghost use Rattle.model_operations.specs.Meanings.{int_meanings, same_operation};
 ghost use Rattle.model_runs.specs.Built.{is_of_watch as of_watch};
 ghost use Rattle.model_runs.specs.Effects.{effect};
-ghost use Rattle.model_runs.specs.Ending.{Leaves};
 ghost use Rattle.model_runs.specs.Run.{effects, state_after};
 ghost use Rattle.model_runs.specs.State.{RunState};
 ghost use Rattle.outside_io.specs.Files.{Files};
-ghost use Rattle.run_events.specs.Carried.{CarriesOutLines};
-ghost use Rattle.run_events.specs.Causes.{HasCause};
+ghost use Rattle.run_events.specs.Carried.{CarriesOutLines, IsCounted};
 ghost use Rattle.run_events.specs.Moments.{HasFaults};
 ghost use Rattle.run_lines.specs.Commands.{IsBuiltLine};
 ghost use Rattle.run_lines.specs.States.{Holds};
 ghost use Rattle.run_lines.specs.Stops.{Did, Does, end_of};
-ghost use Rattle.run_texts.specs.Events.{Puts, events_alone};
-ghost use Rattle.run_texts.specs.Texts.{report_text as text_of_report};
 
 use crate::edits::edit;
 use crate::files::{grab, load};
@@ -26,14 +22,15 @@ use crate::renders::render;
 use crate::steps::step;
 use crate::stop::Stop;
 use chain_contracts::TileChain;
-use commit_session::{Counts, SessionState};
+use commit_session::SessionState;
 use model_operations::IntOp;
 use model_runs::End;
 use outside_io::{Shelf, Sink};
-use run_events::{put_text, refuse};
-use run_texts::report_text;
+use run_events::refuse;
 use script_read::{Command, Line};
 use std::alloc::Global;
+use std::thread::Threads;
+use worker_pieces::Workers;
 
 /// Returns whether a command begins or ends a watch.
 pub fn is_of_watch(command: &Command) -> bool
@@ -42,14 +39,15 @@ pub fn is_of_watch(command: &Command) -> bool
     matches!(command, Command::Watch { .. } | Command::EndWatch)
 }
 
-/// Carries out lines up to the first that is refused, and puts the report after the last.
-pub(crate) fn carry_out_lines<C: TileChain, F: Shelf, O: Sink>(
+/// Carries out lines up to the first that is refused.
+pub(crate) fn carry_out_lines<C: TileChain, F: Shelf, O: Sink, R: Threads + Sync>(
     alloc: Global,
     lines: &[Line],
     session: &mut SessionState<IntOp>,
     chain: &mut C,
     shelf: &mut F,
     out: &mut O,
+    workers: Workers<'_, R>,
 ) -> Result<(), End>
     requires over { IsOver same_operation int_meanings session.old (C.held chain.old) }
     requires lines { All IsBuiltLine lines.now }
@@ -59,6 +57,10 @@ pub(crate) fn carry_out_lines<C: TileChain, F: Shelf, O: Sink>(
         CarriesOutLines exposed capacity state files lines.now result
         (record { files = F.files shelf.old; text = O.written out.old; reads = F.read_faults shelf.old; writes = F.write_faults shelf.old; puts = O.faults out.old; chain = C.counts chain.old })
         (record { files = F.files shelf.new; text = O.written out.new; reads = F.read_faults shelf.new; writes = F.write_faults shelf.new; puts = O.faults out.new; chain = C.counts chain.new }) }
+    ensures counts { (exposed : Bool) (capacity : ℕ) (state : RunState) (files : Files) →
+        Holds exposed capacity state files session.old (C.held chain.old) (F.files shelf.old) →
+        HasTrueCounts (state_after state (effects capacity state files lines.now)) →
+        IfOk result (λ _. IsCounted (state_after state (effects capacity state files lines.now)) session.new.applied session.new.reused) }
     ensures faults { HasFaults result
         (record { files = F.files shelf.old; text = O.written out.old; reads = F.read_faults shelf.old; writes = F.write_faults shelf.old; puts = O.faults out.old; chain = C.counts chain.old })
         (record { files = F.files shelf.new; text = O.written out.new; reads = F.read_faults shelf.new; writes = F.write_faults shelf.new; puts = O.faults out.new; chain = C.counts chain.new }) }
@@ -67,31 +69,20 @@ pub(crate) fn carry_out_lines<C: TileChain, F: Shelf, O: Sink>(
     ensures valid { C.is_valid chain.old → C.is_valid chain.new }
 {
     for line in lines {
-        carry_out_line(alloc, line, session, chain, shelf, out)?;
+        carry_out_line(alloc, line, session, chain, shelf, out, workers)?;
     }
-    put_report(alloc, session.counts(), out)
-}
-
-/// Puts the report of how many tiles of nodes were evaluated, and how many were found in the cache.
-fn put_report<O: Sink>(alloc: Global, counts: Counts, out: &mut O) -> Result<(), End>
-    ensures leaves { (files : Option Files) →
-        Leaves (events_alone (Puts (text_of_report counts.applied counts.reused) ∷ [])) result
-        (record { files = files; text = O.written out.old }) (record { files = files; text = O.written out.new }) }
-    ensures cause { (reads writes : ℕ) → HasCause result
-        (record { reads = reads; writes = writes; puts = O.faults out.old }) (record { reads = reads; writes = writes; puts = O.faults out.new }) }
-{
-    let text = report_text(alloc, counts.applied, counts.reused)?;
-    put_text(&text, out)
+    Ok(())
 }
 
 /// Carries out a line, and puts its text where it is refused.
-fn carry_out_line<C: TileChain, F: Shelf, O: Sink>(
+fn carry_out_line<C: TileChain, F: Shelf, O: Sink, R: Threads + Sync>(
     alloc: Global,
     line: &Line,
     session: &mut SessionState<IntOp>,
     chain: &mut C,
     shelf: &mut F,
     out: &mut O,
+    workers: Workers<'_, R>,
 ) -> Result<(), End>
     requires over { IsOver same_operation int_meanings session.old (C.held chain.old) }
     requires line { IsBuiltLine line.now }
@@ -108,7 +99,7 @@ fn carry_out_line<C: TileChain, F: Shelf, O: Sink>(
     ensures loans { C.loans chain.new ≡ C.loans chain.old }
     ensures valid { C.is_valid chain.old → C.is_valid chain.new }
 {
-    match carry_out_command(alloc, line, session, chain, shelf, out) {
+    match carry_out_command(alloc, line, session, chain, shelf, out, workers) {
         Ok(()) => Ok(()),
         Err(Stop::Refused(cause)) => refuse(alloc, line.number, cause, out),
         Err(Stop::Ended(end)) => Err(end),
@@ -116,13 +107,14 @@ fn carry_out_line<C: TileChain, F: Shelf, O: Sink>(
 }
 
 /// Carries out the command of a line, but for the text of its refusal.
-fn carry_out_command<C: TileChain, F: Shelf, O: Sink>(
+fn carry_out_command<C: TileChain, F: Shelf, O: Sink, R: Threads + Sync>(
     alloc: Global,
     line: &Line,
     session: &mut SessionState<IntOp>,
     chain: &mut C,
     shelf: &mut F,
     out: &mut O,
+    workers: Workers<'_, R>,
 ) -> Result<(), Stop>
     requires over { IsOver same_operation int_meanings session.old (C.held chain.old) }
     requires line { IsBuiltLine line.now }
@@ -140,11 +132,11 @@ fn carry_out_command<C: TileChain, F: Shelf, O: Sink>(
     ensures valid { C.is_valid chain.old → C.is_valid chain.new }
 {
     match &line.command {
-        Command::Load { .. } => load(line, session, chain, shelf),
+        Command::Load { .. } => load(line, session, chain, shelf, workers),
         Command::Grab { .. } => grab(alloc, line, session, chain, shelf, out),
-        Command::Render { .. } => render(alloc, line, session, chain, shelf, out),
+        Command::Render { .. } => render(alloc, line, session, chain, shelf, out, workers),
         Command::Node { .. } | Command::Drop { .. } => note(alloc, line, session),
         Command::Commit | Command::Undo | Command::Redo => step(line, session, chain),
-        _ => edit(alloc, line, session, chain),
+        _ => edit(alloc, line, session, chain, workers),
     }
 }

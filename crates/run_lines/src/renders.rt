@@ -27,18 +27,21 @@ use run_events::{put_text, write_file};
 use run_texts::render_text;
 use script_read::{Command, FileName, Line};
 use std::alloc::Global;
+use std::thread::Threads;
+use worker_pieces::Workers;
 
 /// How many permits a render has: as many as any may spend.
 const RENDER_PERMITS: u64 = 1 << 32;
 
 /// Carries out a line that writes a file of a level of a node.
-pub(crate) fn render<C: TileChain, F: Shelf, O: Sink>(
+pub(crate) fn render<C: TileChain, F: Shelf, O: Sink, R: Threads + Sync>(
     alloc: Global,
     line: &Line,
     session: &mut SessionState<IntOp>,
     chain: &mut C,
     shelf: &mut F,
     out: &mut O,
+    workers: Workers<'_, R>,
 ) -> Result<(), Stop>
     requires over { IsOver same_operation int_meanings session.old (C.held chain.old) }
     requires limits { IsInLimits line.now.command }
@@ -66,7 +69,7 @@ pub(crate) fn render<C: TileChain, F: Shelf, O: Sink>(
         unreachable!()
     };
     let mut purse = IntPurse::new(RENDER_PERMITS);
-    let patch = session.render(&IntKit, chain, &mut purse, *name, *level, *rect)?;
+    let patch = session.render(&IntKit, chain, &mut purse, *name, *level, *rect, workers)?;
     let bytes = patch.raw_bytes();
     write_render(
         alloc,

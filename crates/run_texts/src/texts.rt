@@ -49,7 +49,7 @@ pub fn frame_text(
 }
 
 /// The text of the sum of all bytes that a made job's files have.
-pub fn sum_text(alloc: Global, sum: u64) -> Result<String, AllocError>
+pub fn sum_text(alloc: Global, sum: u128) -> Result<String, AllocError>
     ensures { IfOk result (λ text. string_bytes text ≡ sum_text sum) }
 {
     format!(in alloc; "sum {sum}\n")

@@ -3,4 +3,7 @@ mod Loads
 mod Lines
 mod Unwatched
 mod Reading
+mod SumLaws
+mod AfterLines
 mod Promises
+mod Jobs

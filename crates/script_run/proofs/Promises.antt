@@ -4,14 +4,14 @@ use Rattle.chain_owners.specs.Counts.{Counts}
 use Rattle.chain_handlers.specs.OwnedTiles.{counts_over}
 use Rattle.outside_io.specs.Faults.{Rose}
 use Rattle.outside_io.specs.Files.{Files, file}
-use Rattle.model_runs.specs.Built.{BuiltRun, built_lines, built_plan, needs_no_swap, plan_of_read}
+use Rattle.model_runs.specs.Built.{built_lines, built_plan, needs_no_swap, plan_of_read}
 use Rattle.model_runs.specs.Ending.{IsRefusal, IsWhole, MayTear, SaysRefused, end_status, status_of}
 use Rattle.model_runs.specs.Ran.{Faults, NoneFalls, Ran, SufficesFor, bytes_put, tiles_of_run}
-use Rattle.model_runs.specs.Run.{Plan, lines_of_file, plan_of_lines, report, watched_in}
+use Rattle.model_runs.specs.Run.{Ending, Plan, lines_of_file, plan_of_lines, report, watched_in}
 use Rattle.model_runs.specs.State.{Numbers, Watched}
 use Rattle.model_runs.specs.Swap.{Suffices}
 use Rattle.model_runs.specs.Watching.{AreNumbers}
-use Rattle.model_runs.specs.Words.{Options}
+use Rattle.model_runs.specs.Words.{MakeJob, Options, Request, RunScript, ScriptRun, asked_job, asked_script, job_of, request_of, script_run_of}
 use Rattle.model_runs.specs.declared.ending.End.{End}
 use Rattle.model_runs.specs.declared.ending.End.TheVariants as ends
 use Rattle.run_events.specs.Carried.{CarriesOut, Exceeds}
@@ -20,6 +20,7 @@ use Rattle.run_texts.proofs.Leaving.{some_weaker}
 use Rattle.run_texts.specs.Events.{Refusal}
 use Rattle.run_texts.specs.World.{World}
 use Rattle.script_read.specs.declared.command.Line.{Line}
+use Rattle.std.specs.Prelude.{option_and_then}
 use Rattle.script_run.proofs.Statuses.{may_tear_at}
 use Rattle.script_run.proofs.Unwatched.{plan_unwatched}
 use Rattle.script_run.specs.Carried.{CarriesOutRead, EndsWithoutSwap}
@@ -105,13 +106,13 @@ never_suffices plan options faults size put is past =
     subst (λ (o : Options). Exceeds (counts_over faults (min o.swap_blocks size) o.resident) (tiles_of_run plan put)) (sym is) past in
     exceeds_not faults (min plan.options.swap_blocks size) plan.options.resident (tiles_of_run plan put) same
 
-options_of : (numbers : Numbers) (files : Files) (options : Options) (built : Result (List Line) Refusal) → (plan_of_lines report options numbers files built).options ≡ options
-options_of numbers files options (Ok lines) = refl
-options_of numbers files options (Err refused) = refl
+pub options_of : (ending : Ending) (numbers : Numbers) (files : Files) (options : Options) (built : Result (List Line) Refusal) → (plan_of_lines ending options numbers files built).options ≡ options
+options_of ending numbers files options (Ok lines) = refl
+options_of ending numbers files options (Err refused) = refl
 
 -- ---- a run
 
-ran_by : (exposed : Bool) (plan : Plan) (options : Options) (ended : Result (Unit {0}) End) (size faults : ℕ) (old new : Moment) → watched_in plan.effects ≡ [] → plan.options ≡ options →
+pub ran_by : (exposed : Bool) (plan : Plan) (options : Options) (ended : Result (Unit {0}) End) (size faults : ℕ) (old new : Moment) → watched_in plan.effects ≡ [] → plan.options ≡ options →
     old.chain ≡ counts_over faults (min options.swap_blocks size) options.resident → CarriesOut exposed plan.outcome (tiles_of_run plan (bytes_put old.text new.text)) ended old new → HasFaults ended old new →
     Ran (IsTrue exposed) plan [] size (world_at old) (world_at new) (faults_at old) (faults_at new) (status_of ended)
 ran_by exposed plan options ended size faults old new unwatched is chain carried has = record {
@@ -132,9 +133,9 @@ ran_by exposed plan options ended size faults old new unwatched is chain carried
         (subst (λ (counts : Counts). Exceeds counts (tiles_of_run plan (bytes_put old.text new.text))) chain (carried.full full))
 
 -- the promise of a run that words ask for
-pub ran_named : (found : Option BuiltRun) (run : BuiltRun) (swapped : Bool) (exposed : Option Files) (ended : Result (Unit {0}) End) (status size faults : ℕ) (old new : Moment) →
+pub ran_named : (found : Option ScriptRun) (run : ScriptRun) (swapped : Bool) (exposed : Option Files) (ended : Result (Unit {0}) End) (status size faults : ℕ) (old new : Moment) →
     found ≡ Some run → status ≡ status_of ended → old.files ≡ exposed → old.chain ≡ counts_over faults (min run.options.swap_blocks size) run.options.resident →
-    IfSome exposed (λ files. CarriesOutRead swapped files run.options (lines_of_file (file files run.script)) ended old new) → HasFaults ended old new →
+    IfSome exposed (λ files. CarriesOutRead report swapped files run.options (lines_of_file (file files run.script)) ended old new) → HasFaults ended old new →
     IfSome found (λ run. IfSome exposed (λ files. (numbers : Numbers) × Ran (IsTrue (swapped || needs_no_swap (lines_of_file (file files run.script)))) (built_plan numbers files run) numbers size
     (record { files = Some files; text = old.text }) (world_at new) (faults_at old) (faults_at new) status))
 ran_named found run swapped None ended status size faults old new named is files chain carried has = rw named tt
@@ -143,14 +144,14 @@ ran_named found run swapped (Some given) ended status size faults old new named 
     let begin : (let w : World = record { files = Some given; text = old.text } in w) ≡ world_at old = ap (λ (f : Option Files). (let w : World = record { files = f; text = old.text } in w)) (sym files) in
     rw (named, is, begin) (
       [],
-      ran_by (swapped || needs_no_swap read) (plan_of_read [] given run.options read) run.options ended size faults old new
-          (plan_unwatched given run.options read) (options_of [] given run.options (built_lines read)) chain carried has,
+      ran_by (swapped || needs_no_swap read) (plan_of_read report [] given run.options read) run.options ended size faults old new
+          (plan_unwatched report given run.options read) (options_of report [] given run.options (built_lines read)) chain carried has,
     )
 
 -- a run that needs no swap comes to its end whatever the swap is
-pub complete_named : (found : Option BuiltRun) (run : BuiltRun) (swapped : Bool) (exposed : Option Files) (ended : Result (Unit {0}) End) (status : ℕ) (Same : Type 0) (old new : Moment) →
+pub complete_named : (found : Option ScriptRun) (run : ScriptRun) (swapped : Bool) (exposed : Option Files) (ended : Result (Unit {0}) End) (status : ℕ) (Same : Type 0) (old new : Moment) →
     found ≡ Some run → status ≡ status_of ended →
-    IfSome exposed (λ files. CarriesOutRead swapped files run.options (lines_of_file (file files run.script)) ended old new) → HasFaults ended old new →
+    IfSome exposed (λ files. CarriesOutRead report swapped files run.options (lines_of_file (file files run.script)) ended old new) → HasFaults ended old new →
     IfSome exposed (λ files. IsTrue (needs_no_swap (lines_of_file (file files run.script))) → Same × EndsWithoutSwap ended) →
     ¬ Rose old.reads new.reads → ¬ Rose old.writes new.writes → ¬ Rose old.puts new.puts →
     IfSome found (λ run. IfSome exposed (λ files. IsTrue (needs_no_swap (lines_of_file (file files run.script))) → (status ≡ 7) ⊎ (status ≡ end_status (built_plan [] files run).outcome.refused)))
@@ -159,7 +160,7 @@ complete_named found run swapped (Some files) ended status Same old new named is
     rw (named, is)
     (λ none. complete_by (built_plan [] files run).outcome.refused ended old new carried.refused has (unswapped none).1.fault (unswapped none).1.room reads writes puts)
 
-pub unswapped_named : (found : Option BuiltRun) (run : BuiltRun) (exposed : Option Files) (ended : Result (Unit {0}) End) (Same : Type 0) → found ≡ Some run →
+pub unswapped_named : (found : Option ScriptRun) (run : ScriptRun) (exposed : Option Files) (ended : Result (Unit {0}) End) (Same : Type 0) → found ≡ Some run →
     IfSome exposed (λ files. IsTrue (needs_no_swap (lines_of_file (file files run.script))) → Same × EndsWithoutSwap ended) →
     IfSome found (λ run. IfSome exposed (λ files. IsTrue (needs_no_swap (lines_of_file (file files run.script))) → Same))
 unswapped_named found run None ended Same named unswapped = rw named tt
@@ -168,6 +169,15 @@ unswapped_named found run (Some files) ended Same named unswapped = rw named (λ
 -- no count of a run falls
 pub none_falls_by : (ended : Result (Unit {0}) End) (old new : Moment) → HasFaults ended old new → NoneFalls (faults_at old) (faults_at new)
 none_falls_by ended old new has = record { reads = has.reads; writes = has.writes; swaps = has.chain.later; puts = has.puts }
+
+-- ---- what is asked for
+
+pub script_asked : (words : List (List ℕ)) (script : List ℕ) (options : Options) → request_of words ≡ Some (RunScript script options) →
+    asked_script words ≡ Some (record { script = script; options = options })
+script_asked words script options asks = ap (λ (r : Option Request). option_and_then script_run_of r) asks
+
+pub job_asked : (words : List (List ℕ)) (number : ℕ) → request_of words ≡ Some (MakeJob number) → asked_job words ≡ Some number
+job_asked words number asks = ap (λ (r : Option Request). option_and_then job_of r) asks
 
 -- ---- causes of statuses
 

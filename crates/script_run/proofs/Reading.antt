@@ -8,8 +8,8 @@ use Rattle.pixel_formats.specs.Limits.{max_script_bytes}
 use Rattle.model_runs.specs.Built.{first_unbuilt, needs_no_swap, plan_of_read, unless_unbuilt}
 use Rattle.model_runs.specs.Ending.{Leaves}
 use Rattle.model_runs.specs.Ran.{bytes_put, tiles_of_run}
-use Rattle.model_runs.specs.Run.{by_grammar, effects, lines_of_file, outcome_of_effects, plan_of_lines, report}
-use Rattle.model_runs.specs.State.{Effect, first_state}
+use Rattle.model_runs.specs.Run.{by_grammar, effects, lines_of_file, no_ending, outcome_of_effects, plan_of_lines, state_after}
+use Rattle.model_runs.specs.State.{Effect, RunState, first_state}
 use Rattle.model_runs.specs.Swap.{effects_to_stop, tiles_in}
 use Rattle.model_runs.specs.Words.{Options}
 use Rattle.model_runs.specs.declared.ending.End.{End}
@@ -24,15 +24,15 @@ use Rattle.script_fields.specs.declared.cause.ScriptCause.TheVariants.{UnknownCo
 use Rattle.script_read.specs.Script as grammar
 use Rattle.script_read.specs.Script.{script_of}
 use Rattle.script_read.specs.declared.command.Line.{Line}
-use Rattle.script_run.specs.Carried.{CarriesOutRead}
+use Rattle.script_run.specs.Carried.{CarriesOutRead, last_state}
 
 abbrev pub moment : Option Files → Option (List ℕ) → ℕ → ℕ → ℕ → Counts → Moment
 moment files text reads writes puts chain = record { files = files; text = text; reads = reads; writes = writes; puts = puts; chain = chain }
 
 -- what leaves all files and texts is carried out, however the swap is
 pub read_carried : (found : Option Files) (exposed : Bool) (options : Options) (read : Files → Result (List Line) Refusal) (result : Result (Unit {0}) End) (old new : Moment) → result ≢ Err ends.SwapFull →
-    IfSome found (λ files. Leaves (plan_of_read [] files options (read files)).outcome result (world_at old) (world_at new)) →
-    IfSome found (λ files. CarriesOutRead exposed files options (read files) result old new)
+    IfSome found (λ files. Leaves (plan_of_read no_ending [] files options (read files)).outcome result (world_at old) (world_at new)) →
+    IfSome found (λ files. CarriesOutRead no_ending exposed files options (read files) result old new)
 read_carried None exposed options read result old new room leaves = tt
 read_carried (Some files) exposed options read result old new room leaves = carried_by_leaves _ _ _ result old new room leaves
 
@@ -41,7 +41,7 @@ read_carried (Some files) exposed options read result old new room leaves = carr
 -- what was read are lines, whose first that isn't built is this
 abbrev CarriesOutBuilt : Bool → Files → Options → List Line → Option ℕ → Result (Unit {0}) End → Moment → Moment → Type 0
 CarriesOutBuilt exposed files options lines unbuilt result old new =
-    let plan = plan_of_lines report options [] files (unless_unbuilt lines unbuilt) in
+    let plan = plan_of_lines no_ending options [] files (unless_unbuilt lines unbuilt) in
     CarriesOut (exposed || is_some unbuilt) plan.outcome (tiles_of_run plan (bytes_put old.text new.text)) result old new
 
 unless_false : (exposed : Bool) (outcome : Outcome) (most : ℕ) (result : Result (Unit {0}) End) (old new : Moment) → CarriesOut exposed outcome most result old new → CarriesOut (exposed || false) outcome most result old new
@@ -56,12 +56,12 @@ tiles_from_none capacity names put all none = omega (arith, none)
 pub lines_read : (found : Option Files) (exposed : Bool) (options : Options) (lines : List Line) (result : Result (Unit {0}) End) (old new : Moment) →
     first_unbuilt lines ≡ None → old.chain.names ≡ 0 →
     IfSome found (λ files. CarriesOutLines exposed options.cache (first_state []) files lines result old new) →
-    IfSome found (λ files. CarriesOutRead exposed files options (Ok lines) result old new)
+    IfSome found (λ files. CarriesOutRead no_ending exposed files options (Ok lines) result old new)
 lines_read None exposed options lines result old new built none carried = tt
 lines_read (Some files) exposed options lines result old new built none carried =
     let all = effects options.cache (first_state []) files lines in
     let put = bytes_put old.text new.text in
-    let outcome = outcome_of_effects report (first_state []) files all in
+    let outcome = outcome_of_effects no_ending (first_state []) files all in
     let most = most_to_stop options.cache (first_state []) old.chain.names put all in
     let tiles = tiles_in options.cache (effects_to_stop put all) in
     subst (λ (o : Option ℕ). CarriesOutBuilt exposed files options lines o result old new) (sym built)
@@ -70,15 +70,15 @@ lines_read (Some files) exposed options lines result old new built none carried 
 
 -- the outcome of lines of which one isn't built
 pub unbuilt_outcome : (files : Files) (options : Options) (lines : List Line) (unbuilt : ℕ) → first_unbuilt lines ≡ Some unbuilt →
-    (plan_of_read [] files options (Ok lines)).outcome ≡ refusal unbuilt (Grammar UnknownCommand)
-unbuilt_outcome files options lines unbuilt some = ap (λ (o : Option ℕ). (plan_of_lines report options [] files (unless_unbuilt lines o)).outcome) some
+    (plan_of_read no_ending [] files options (Ok lines)).outcome ≡ refusal unbuilt (Grammar UnknownCommand)
+unbuilt_outcome files options lines unbuilt some = ap (λ (o : Option ℕ). (plan_of_lines no_ending options [] files (unless_unbuilt lines o)).outcome) some
 
 -- ---- a text
 
 -- the outcome of a text that the grammar refuses
 pub refused_outcome : (files : Files) (options : Options) (read : Result (List Line) grammar.Refusal) (line : ℕ) (cause : ScriptCause) → read ≡ Err (line, cause) →
-    (plan_of_read [] files options (by_grammar read)).outcome ≡ refusal line (Grammar cause)
-refused_outcome files options read line cause is = ap (λ r. (plan_of_read [] files options (by_grammar r)).outcome) is
+    (plan_of_read no_ending [] files options (by_grammar read)).outcome ≡ refusal line (Grammar cause)
+refused_outcome files options read line cause is = ap (λ r. (plan_of_read no_ending [] files options (by_grammar r)).outcome) is
 
 -- what is left after a read of the shelf, which changes no file
 carried_after_read : (exposed : Bool) (outcome : Outcome) (tiles : ℕ) (result : Result (Unit {0}) End) (old mid : Option Files) (text : Option (List ℕ)) (reads more writes later puts : ℕ) (chain : Counts) (new : Moment) → mid ≡ old →
@@ -100,18 +100,34 @@ both_known (Some files) P Q R all one other = all files one other
 -- a script whose text was read
 pub text_carried : (exposed : Bool) (options : Options) (name bytes : List ℕ) (result : Result (Unit {0}) End) (old mid : Option Files) (text : Option (List ℕ)) (reads more writes later puts : ℕ) (chain : Counts) (new : Moment) → mid ≡ old →
     IfSome old (λ files. file files name ≡ Some bytes) → length bytes ≤ max_script_bytes →
-    IfSome mid (λ files. CarriesOutRead exposed files options (by_grammar (script_of bytes)) result (record { files = mid; text = text; reads = more; writes = later; puts = puts; chain = chain }) new) →
-    IfSome old (λ files. CarriesOutRead exposed files options (lines_of_file (file files name)) result (record { files = old; text = text; reads = reads; writes = writes; puts = puts; chain = chain }) new)
+    IfSome mid (λ files. CarriesOutRead no_ending exposed files options (by_grammar (script_of bytes)) result (record { files = mid; text = text; reads = more; writes = later; puts = puts; chain = chain }) new) →
+    IfSome old (λ files. CarriesOutRead no_ending exposed files options (lines_of_file (file files name)) result (record { files = old; text = text; reads = reads; writes = writes; puts = puts; chain = chain }) new)
 text_carried exposed options name bytes result old mid text reads more writes later puts chain new same known fits carried =
     both_known old (λ files. file files name ≡ Some bytes)
-    (λ files. CarriesOutRead exposed files options (by_grammar (script_of bytes)) result (record { files = mid; text = text; reads = more; writes = later; puts = puts; chain = chain }) new)
-    (λ files. CarriesOutRead exposed files options (lines_of_file (file files name)) result (record { files = old; text = text; reads = reads; writes = writes; puts = puts; chain = chain }) new)
+    (λ files. CarriesOutRead no_ending exposed files options (by_grammar (script_of bytes)) result (record { files = mid; text = text; reads = more; writes = later; puts = puts; chain = chain }) new)
+    (λ files. CarriesOutRead no_ending exposed files options (lines_of_file (file files name)) result (record { files = old; text = text; reads = reads; writes = writes; puts = puts; chain = chain }) new)
     (λ files is left.
-    subst (λ (read : Result (List Line) Refusal). CarriesOutRead exposed files options read result (record { files = old; text = text; reads = reads; writes = writes; puts = puts; chain = chain }) new)
+    subst (λ (read : Result (List Line) Refusal). CarriesOutRead no_ending exposed files options read result (record { files = old; text = text; reads = reads; writes = writes; puts = puts; chain = chain }) new)
     (sym (lines_of_text (file files name) bytes is fits))
     (carried_after_read _ _ _ result old mid text reads more writes later puts chain new same left))
     known
-    (subst (λ (o : Option Files). IfSome o (λ files. CarriesOutRead exposed files options (by_grammar (script_of bytes)) result (record { files = mid; text = text; reads = more; writes = later; puts = puts; chain = chain }) new)) same carried)
+    (subst (λ (o : Option Files). IfSome o (λ files. CarriesOutRead no_ending exposed files options (by_grammar (script_of bytes)) result (record { files = mid; text = text; reads = more; writes = later; puts = puts; chain = chain }) new)) same carried)
+
+-- what holds of a text that was read holds of the script
+pub text_read : (P : Files → Result (List Line) Refusal → Type 0) (old mid : Option Files) (name bytes : List ℕ) → mid ≡ old →
+    IfSome old (λ files. file files name ≡ Some bytes) → length bytes ≤ max_script_bytes →
+    IfSome mid (λ files. P files (by_grammar (script_of bytes))) → IfSome old (λ files. P files (lines_of_file (file files name)))
+text_read P old mid name bytes same known fits holds =
+    both_known old (λ files. file files name ≡ Some bytes) (λ files. P files (by_grammar (script_of bytes))) (λ files. P files (lines_of_file (file files name)))
+    (λ files is read. subst (P files) (sym (lines_of_text (file files name) bytes is fits)) read)
+    known
+    (subst (λ (o : Option Files). IfSome o (λ files. P files (by_grammar (script_of bytes)))) same holds)
+
+-- the state to which lines lead that are all built
+pub last_of_built : (files : Files) (options : Options) (lines : List Line) → first_unbuilt lines ≡ None →
+    state_after (first_state []) (effects options.cache (first_state []) files lines) ≡ last_state files options (Ok lines)
+last_of_built files options lines built =
+    sym (ap (λ (o : Option ℕ). state_after (first_state []) (plan_of_lines no_ending options [] files (unless_unbuilt lines o)).effects) built)
 
 -- ---- scripts that need no swap
 

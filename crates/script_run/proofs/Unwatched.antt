@@ -19,7 +19,7 @@ use Rattle.model_sessions.specs.Sessions.{render_need}
 use Rattle.model_sessions.specs.Tables.{table_shapes}
 use Rattle.model_runs.specs.Built.{first_unbuilt, is_of_watch, plan_of_read, unless_unbuilt}
 use Rattle.model_runs.specs.Effects.{edit_gives, effect, grabs_view, load_into, opens, renders, renders_known, step_gives}
-use Rattle.model_runs.specs.Run.{and_on, effects, files_after_all, plan_of_lines, report, watched_in}
+use Rattle.model_runs.specs.Run.{Ending, and_on, effects, files_after_all, plan_of_lines, watched_in}
 use Rattle.model_runs.specs.Words.{Options}
 use Rattle.model_runs.specs.State.{Effect, RunState, first_state, leaves, refuses, scene_in, workspace_of}
 use Rattle.pixel_formats.specs.declared.abyss.Abyss.{Abyss}
@@ -122,11 +122,11 @@ built_end (line ∷ lines) none = by (is_of_watch line.command) refl none (built
 
 -- ---- plans
 
-plan_of_built : (files : Files) (options : Options) (lines : List Line) (unbuilt : Option ℕ) → first_unbuilt lines ≡ unbuilt →
-    watched_in (plan_of_lines report options [] files (unless_unbuilt lines unbuilt)).effects ≡ []
-plan_of_built files options lines None none = unwatched options.cache (first_state []) files lines (built_end lines none)
-plan_of_built files options lines (Some line) some = refl
+plan_of_built : (ending : Ending) (files : Files) (options : Options) (lines : List Line) (unbuilt : Option ℕ) → first_unbuilt lines ≡ unbuilt →
+    watched_in (plan_of_lines ending options [] files (unless_unbuilt lines unbuilt)).effects ≡ []
+plan_of_built ending files options lines None none = unwatched options.cache (first_state []) files lines (built_end lines none)
+plan_of_built ending files options lines (Some line) some = refl
 
-pub plan_unwatched : (files : Files) (options : Options) (read : Result (List Line) Refusal) → watched_in (plan_of_read [] files options read).effects ≡ []
-plan_unwatched files options (Ok lines) = plan_of_built files options lines (first_unbuilt lines) refl
-plan_unwatched files options (Err refused) = refl
+pub plan_unwatched : (ending : Ending) (files : Files) (options : Options) (read : Result (List Line) Refusal) → watched_in (plan_of_read ending [] files options read).effects ≡ []
+plan_unwatched ending files options (Ok lines) = plan_of_built ending files options lines (first_unbuilt lines) refl
+plan_unwatched ending files options (Err refused) = refl

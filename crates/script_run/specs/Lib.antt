@@ -1,5 +1,4 @@
 pub mod Carried
-pub mod Meant
 pub use Rattle.outside_io.specs.Files
 pub use Rattle.outside_io.specs.Faults
 pub use Rattle.run_texts.specs.World

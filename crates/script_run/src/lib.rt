@@ -2,7 +2,10 @@
 #![tactic(auto)]
 
 mod built;
+mod endings;
+mod job;
 mod program;
-mod words;
+mod script;
+mod sums;
 
 pub use program::run;

@@ -23,6 +23,8 @@ use chain_contracts::TileChain;
 use model_buffers::BufferEdit;
 use patch_abyss::{Abyss, Patch};
 use plane_rect::{Name, Rect};
+use std::thread::Threads;
+use worker_pieces::Workers;
 
 impl BufferVersions {
     /// Makes an edit of the buffers that are edited: the call of [`Buffers`] that it names. All states are
@@ -31,10 +33,11 @@ impl BufferVersions {
     /// # Errors
     ///
     /// The call's: then the buffers and their images are unchanged.
-    pub fn edit<C: TileChain>(
+    pub fn edit<C: TileChain, R: Threads + Sync>(
         &mut self,
         chain: &mut C,
         edit: &BufferEdit,
+        workers: Workers<'_, R>,
     ) -> Result<(), BufferRefused>
         requires over { AreVersionsOver self.old (C.held chain.old) }
         requires proper { IsProperEdit edit.now }
@@ -54,7 +57,7 @@ impl BufferVersions {
             (record { held = C.held chain.old; counts = C.counts chain.old; loans = C.loans chain.old; valid = C.is_valid chain.old })
             (record { held = C.held chain.new; counts = C.counts chain.new; loans = C.loans chain.new; valid = C.is_valid chain.new }) }
     {
-        edit_buffers(&mut self.working, chain, edit)?;
+        edit_buffers(&mut self.working, chain, edit, workers)?;
         Ok(())
     }
 
@@ -99,10 +102,11 @@ impl BufferVersions {
 /// # Errors
 ///
 /// The call's.
-fn edit_buffers<C: TileChain>(
+fn edit_buffers<C: TileChain, R: Threads + Sync>(
     buffers: &mut Buffers,
     chain: &mut C,
     edit: &BufferEdit,
+    workers: Workers<'_, R>,
 ) -> Result<(), BufferRefused>
     requires over { AreBuffersOver buffers.old (C.held chain.old) }
     requires proper { IsProperEdit edit.now }
@@ -130,7 +134,7 @@ fn edit_buffers<C: TileChain>(
             samples,
         } => buffers.fill(chain, *name, *rect, samples.as_slice()),
         BufferEdit::Put { name, rect, bytes } => {
-            buffers.put_raw(chain, *name, *rect, bytes.as_slice())
+            buffers.put_raw(chain, *name, *rect, bytes.as_slice(), workers)
         }
         BufferEdit::Copy {
             from,

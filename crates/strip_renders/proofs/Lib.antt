@@ -6,3 +6,7 @@ pub mod HeldTiles
 pub mod Needs
 pub mod Turning
 pub mod Names
+pub mod AheadLaws
+pub mod JobLists
+pub mod Batches
+pub mod TurnLaws

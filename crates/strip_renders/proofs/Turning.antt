@@ -11,14 +11,14 @@ use Rattle.model_graphs.specs.declared.node.NodeFact.{NodeFact}
 use Rattle.model_graphs.specs.Evaluation.{Buffers}
 use Rattle.model_graphs.specs.Facts.{specs_of}
 use Rattle.model_graphs.specs.Meanings.{Meanings}
-use Rattle.model_graphs.specs.Permits.{Spent}
 use Rattle.model_states.specs.Cache.{AreRight, Cached, Counted, Pair, all_looked_up, applied_more, by_pair, find_pair, itself, looked_up, pair_of, recent, reused_more, uncounted, with_bytes}
 use Rattle.model_states.specs.Need.{Needed}
 use Rattle.node_tiles.specs.Held.{HeldTiles}
 use Rattle.node_tiles.specs.Stated.{AreTilesOf, HaveLengths, scene_of}
 use Rattle.node_tiles.proofs.Reading.{reads-none}
+use Rattle.strip_renders.specs.Ahead.{IsSpentFor}
 use Rattle.strip_renders.specs.Moments.{Keeps, Moment, names_of}
-use Rattle.strip_renders.specs.Strips.{AreKnownRight, HoldsNeed, IsPermitted, IsRendered, counted, list_after, pairs_needed}
+use Rattle.strip_renders.specs.Strips.{AreKnownRight, HoldsNeed, IsRendered, counted, list_after, pairs_needed}
 use Rattle.strip_renders.proofs.Moments.{keeps-others, keeps-reads, source_of}
 
 -- ---- needed tiles by their index
@@ -48,10 +48,11 @@ pub index-more : (found : Bool) (applied reused applied' reused' i : ℕ) → Is
 index-more true applied reused applied' reused' i more is = omega (arith, more.0, more.1, is)
 index-more false applied reused applied' reused' i more is = omega (arith, more.0, more.1, is)
 
-pub permits-more : (found : Bool) (applied reused applied' reused' first mid last : ℕ) → IsCountedMore found applied reused applied' reused' → Spent first mid applied → IsPermitted mid last found
-    → Spent first last applied'
-permits-more true applied reused applied' reused' first mid last more spent permitted = omega (arith, more.0, spent, permitted)
-permits-more false applied reused applied' reused' first mid last more spent permitted = omega (arith, more.0, spent, permitted)
+-- where the permits of tiles that are held ahead are spent already
+pub permits-more : (found : Bool) (applied reused applied' reused' first mid last held held' : ℕ) → IsCountedMore found applied reused applied' reused'
+    → mid + applied + held ≡ first → IsSpentFor (mid + held) (last + held') found → last + applied' + held' ≡ first
+permits-more true applied reused applied' reused' first mid last held held' more before spent = omega (arith, more.0, before, spent)
+permits-more false applied reused applied' reused' first mid last held held' more before spent = omega (arith, more.0, before, spent)
 
 -- one more pair is looked up
 module _ (capacity : Option ℕ) (mid last : List Pair) (pair : Pair) (found : Bool) (applied reused applied' reused' : ℕ) where

@@ -1,3 +1,4 @@
 pub mod Moments
 pub mod Strips
 pub mod Looks
+pub mod Ahead

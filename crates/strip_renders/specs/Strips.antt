@@ -1,5 +1,5 @@
 -- What a strip of a render does to a list of cached pairs, and what it holds.
-use Rattle.std.specs.Prelude.{◌≡◌, ℕ, ◌+◌, ◌-◌, min, Bool, true, false, IsSome, List, length, map, None, Option, Some, slice_get}
+use Rattle.std.specs.Prelude.{◌≡◌, ℕ, ◌+◌, ◌-◌, min, IsSome, List, length, map, None, Option, Some, slice_get}
 use Rattle.std.specs.List.{AllByRecursion, Contains}
 use Rattle.indexmap.specs.IndexMap.{insert_entry}
 use Rattle.plane_rect.specs.Rectangle.{Rectangle}
@@ -63,11 +63,6 @@ list_after meanings facts images capacity list pairs =
 pub record IsRendered {Op : Type 0} (meanings : Meanings Op) (facts : List (NodeFact Op)) (images : Buffers) (old new : Moment) (list : List Cached) (pairs : List Pair) (held : HeldTiles) : Type 0 where
   pub cached : new.cached ≡ Some (list_after meanings facts images old.capacity list pairs)
   pub tiles : AreTilesOf meanings facts images held
-
--- one permit was spent for a tile that was evaluated, and none for one that was found
-abbrev pub IsPermitted : ℕ → ℕ → Bool → Type 0
-IsPermitted old new true = new ≡ old
-IsPermitted old new false = new + 1 ≡ old
 
 -- as many of so many pairs as a cache of this capacity holds
 abbrev pub most_cached : Option ℕ → ℕ → ℕ

@@ -9,9 +9,10 @@ ghost use Rattle.model_states.specs.Valid.{AreStated};
 ghost use Rattle.swap_store.specs.Cause.{HasSwapCause};
 ghost use Rattle.roi_planner.specs.Inputs.{all_inputs};
 ghost use Rattle.node_tiles.specs.Stated.{AreTilesOf, HaveLengths, IsReady, scene_of};
+ghost use Rattle.strip_renders.specs.Ahead.{IsMade, IsMadeOf, IsPermitted, IsRefusedAt, permits_of};
 ghost use Rattle.strip_renders.specs.Looks.{IsRecent};
 ghost use Rattle.strip_renders.specs.Moments.{Keeps, moment};
-ghost use Rattle.strip_renders.specs.Strips.{AreKnownRight, AreSizedPairs, HoldsMore, IsPermitted, IsRendered};
+ghost use Rattle.strip_renders.specs.Strips.{AreKnownRight, AreSizedPairs, HoldsMore, IsRendered};
 
 use crate::needed::needed_tile;
 use chain_owners::ChainMeaning;
@@ -23,9 +24,10 @@ use plane_rect::TileAt;
 use roi_planner::NodeInputs;
 use std::alloc::Global;
 use swap_store::SwapRefused;
+use tile_cow::Tile;
 
-/// Holds one more needed tile, and returns whether the cache had it: looks its pair up, and evaluates and
-/// keeps the tile where it isn't there.
+/// Holds one more needed tile, and returns whether the cache had it: looks its pair up, and where it isn't
+/// there keeps the tile that was made ahead, or else evaluates and keeps it.
 ///
 /// # Errors
 ///
@@ -44,6 +46,7 @@ pub(crate) fn hold_needed<H: ChainMeaning, S: SourceTiles<H>, C: PairStore<H>, K
     purse: &mut K::Purse,
     node: u32,
     at: TileAt,
+    made: Option<Tile>,
 ) -> Result<bool, SwapRefused>
 where
     K::Op: Sync,
@@ -57,7 +60,8 @@ where
     requires cache_over { C.is_over cache.old (H.held chain.old) }
     requires owned { Owns (H.held chain.old) (S.names sources.old ++ C.names cache.old) }
     requires sized { AreSizedPairs nodes.now (C.sizes cache.old (H.held chain.old)) }
-    requires permits { 0 < K.permits purse.old }
+    requires made { IsMade nodes.now (C.pairs cache.old) (node, at) made }
+    requires permits { 0 < K.permits purse.old + permits_of made }
     ensures held { IfOk result (λ _. HoldsMore nodes.now (node, at) tiles.old tiles.new) }
     ensures recent { IfOk result (λ found. IsRecent
         (moment (S.facts sources.old) (S.images sources.old (H.held chain.old)) (S.names sources.old) (C.pairs cache.old) (C.sizes cache.old (H.held chain.old)) (C.cached cache.old (H.held chain.old)) (C.capacity cache.old) (C.names cache.old) (H.held chain.old) (H.counts chain.old) (H.loans chain.old))
@@ -65,6 +69,7 @@ where
         (pair_of (specs_of nodes.now) (node, at)) found) }
     ensures bytes { (images : Buffers) (list : List Cached) → S.images sources.old (H.held chain.old) ≡ Some images →
         AreTilesOf K.Op.meanings nodes.now images tiles.old →
+        IsMadeOf K.Op.meanings nodes.now images (node, at) made →
         C.cached cache.old (H.held chain.old) ≡ Some list → AreRight K.Op.meanings (scene_of nodes.now images) list →
         IfOk result (λ _. IsRendered K.Op.meanings nodes.now images
         (moment (S.facts sources.old) (S.images sources.old (H.held chain.old)) (S.names sources.old) (C.pairs cache.old) (C.sizes cache.old (H.held chain.old)) (C.cached cache.old (H.held chain.old)) (C.capacity cache.old) (C.names cache.old) (H.held chain.old) (H.counts chain.old) (H.loans chain.old))
@@ -72,11 +77,12 @@ where
         list (pair_of (specs_of nodes.now) (node, at) ∷ []) tiles.new) }
     ensures right { (images : Buffers) → S.images sources.old (H.held chain.old) ≡ Some images →
         AreTilesOf K.Op.meanings nodes.now images tiles.old →
+        IsMadeOf K.Op.meanings nodes.now images (node, at) made →
         AreKnownRight K.Op.meanings nodes.now images (C.cached cache.old (H.held chain.old)) →
         AreKnownRight K.Op.meanings nodes.now images (C.cached cache.new (H.held chain.new)) }
     ensures sized { AreSizedPairs nodes.now (C.sizes cache.new (H.held chain.new)) }
-    ensures permits { MatchResult result (λ found. IsPermitted (K.permits purse.old) (K.permits purse.new) found)
-        (λ _. (K.permits purse.new ≤ K.permits purse.old) × (K.permits purse.old ≤ K.permits purse.new + 1)) }
+    ensures permits { MatchResult result (λ found. IsPermitted (K.permits purse.old) (K.permits purse.new) made found)
+        (λ _. IsRefusedAt (K.permits purse.old) (K.permits purse.new) made) }
     ensures keeps { Keeps 1
         (moment (S.facts sources.old) (S.images sources.old (H.held chain.old)) (S.names sources.old) (C.pairs cache.old) (C.sizes cache.old (H.held chain.old)) (C.cached cache.old (H.held chain.old)) (C.capacity cache.old) (C.names cache.old) (H.held chain.old) (H.counts chain.old) (H.loans chain.old))
         (moment (S.facts sources.new) (S.images sources.new (H.held chain.new)) (S.names sources.new) (C.pairs cache.new) (C.sizes cache.new (H.held chain.new)) (C.cached cache.new (H.held chain.new)) (C.capacity cache.new) (C.names cache.new) (H.held chain.new) (H.counts chain.new) (H.loans chain.new)) }
@@ -86,7 +92,7 @@ where
     ensures cause { IfErr result (HasSwapCause (H.counts chain.old) (H.counts chain.new) ((H.counts chain.old).names + 1)) }
 {
     let (tile, found) = needed_tile(
-        kit, alloc, nodes, inputs, tiles, sources, cache, chain, purse, node, at,
+        kit, alloc, nodes, inputs, tiles, sources, cache, chain, purse, node, at, made,
     )?;
     tiles.hold(node, at, tile)?;
     Ok(found)

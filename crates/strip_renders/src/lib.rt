@@ -2,9 +2,12 @@
 //! tiles and store of pairs.
 #![tactic(auto)]
 
+mod ahead;
 mod fresh;
 mod holding;
+mod jobs;
 mod needed;
 mod strip;
+mod turns;
 
 pub use strip::{StripDone, render_strip};

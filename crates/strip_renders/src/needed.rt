@@ -9,9 +9,10 @@ ghost use Rattle.model_states.specs.Valid.{AreStated};
 ghost use Rattle.swap_store.specs.Cause.{HasSwapCause};
 ghost use Rattle.roi_planner.specs.Inputs.{all_inputs};
 ghost use Rattle.node_tiles.specs.Stated.{AreTilesOf, HaveLengths, IsReady, bytes_at, length_at};
+ghost use Rattle.strip_renders.specs.Ahead.{IsMade, IsMadeOf, IsPermitted, IsRefusedAt, permits_of};
 ghost use Rattle.strip_renders.specs.Looks.{HasSameCache, IsLookedUp};
 ghost use Rattle.strip_renders.specs.Moments.{Keeps, moment};
-ghost use Rattle.strip_renders.specs.Strips.{AreKnownRight, AreSizedPairs, IsPermitted};
+ghost use Rattle.strip_renders.specs.Strips.{AreKnownRight, AreSizedPairs};
 
 use crate::fresh::fresh_tile;
 use chain_owners::ChainMeaning;
@@ -28,8 +29,8 @@ use tile_cow::Tile;
 /// How many pixels a tile has.
 const TILE_PIXELS: u32 = 64 * 64;
 
-/// Returns a needed tile, and whether the cache had it: looks its pair up, and evaluates and keeps the
-/// tile where it isn't there.
+/// Returns a needed tile, and whether the cache had it: looks its pair up, and where it isn't there keeps
+/// the tile that was made ahead, or else evaluates and keeps it.
 ///
 /// # Errors
 ///
@@ -48,6 +49,7 @@ pub(crate) fn needed_tile<H: ChainMeaning, S: SourceTiles<H>, C: PairStore<H>, K
     purse: &mut K::Purse,
     node: u32,
     at: TileAt,
+    made: Option<Tile>,
 ) -> Result<(Tile, bool), SwapRefused>
 where
     K::Op: Sync,
@@ -61,10 +63,12 @@ where
     requires cache_over { C.is_over cache.old (H.held chain.old) }
     requires owned { Owns (H.held chain.old) (S.names sources.old ++ C.names cache.old) }
     requires sized { AreSizedPairs nodes.now (C.sizes cache.old (H.held chain.old)) }
-    requires permits { 0 < K.permits purse.old }
+    requires made { IsMade nodes.now (C.pairs cache.old) (node, at) made }
+    requires permits { 0 < K.permits purse.old + permits_of made }
     ensures length { IfOk result (λ given. length given.0 ≡ length_at nodes.now node) }
     ensures bytes { (images : Buffers) → S.images sources.old (H.held chain.old) ≡ Some images →
         AreTilesOf K.Op.meanings nodes.now images held.now →
+        IsMadeOf K.Op.meanings nodes.now images (node, at) made →
         AreKnownRight K.Op.meanings nodes.now images (C.cached cache.old (H.held chain.old)) →
         IfOk result (λ given. given.0 ≡ bytes_at K.Op.meanings nodes.now images node at) }
     ensures looked { MatchResult result
@@ -76,8 +80,8 @@ where
         (moment (S.facts sources.old) (S.images sources.old (H.held chain.old)) (S.names sources.old) (C.pairs cache.old) (C.sizes cache.old (H.held chain.old)) (C.cached cache.old (H.held chain.old)) (C.capacity cache.old) (C.names cache.old) (H.held chain.old) (H.counts chain.old) (H.loans chain.old))
         (moment (S.facts sources.new) (S.images sources.new (H.held chain.new)) (S.names sources.new) (C.pairs cache.new) (C.sizes cache.new (H.held chain.new)) (C.cached cache.new (H.held chain.new)) (C.capacity cache.new) (C.names cache.new) (H.held chain.new) (H.counts chain.new) (H.loans chain.new))) }
     ensures sized { AreSizedPairs nodes.now (C.sizes cache.new (H.held chain.new)) }
-    ensures permits { MatchResult result (λ given. IsPermitted (K.permits purse.old) (K.permits purse.new) given.1)
-        (λ _. (K.permits purse.new ≤ K.permits purse.old) × (K.permits purse.old ≤ K.permits purse.new + 1)) }
+    ensures permits { MatchResult result (λ given. IsPermitted (K.permits purse.old) (K.permits purse.new) made given.1)
+        (λ _. IsRefusedAt (K.permits purse.old) (K.permits purse.new) made) }
     ensures keeps { Keeps 1
         (moment (S.facts sources.old) (S.images sources.old (H.held chain.old)) (S.names sources.old) (C.pairs cache.old) (C.sizes cache.old (H.held chain.old)) (C.cached cache.old (H.held chain.old)) (C.capacity cache.old) (C.names cache.old) (H.held chain.old) (H.counts chain.old) (H.loans chain.old))
         (moment (S.facts sources.new) (S.images sources.new (H.held chain.new)) (S.names sources.new) (C.pairs cache.new) (C.sizes cache.new (H.held chain.new)) (C.cached cache.new (H.held chain.new)) (C.capacity cache.new) (C.names cache.new) (H.held chain.new) (H.counts chain.new) (H.loans chain.new)) }
@@ -92,7 +96,7 @@ where
         return Ok((tile, true));
     }
     let tile = fresh_tile(
-        kit, alloc, nodes, inputs, held, sources, cache, chain, purse, node, at,
+        kit, alloc, nodes, inputs, held, sources, cache, chain, purse, node, at, made,
     )?;
     Ok((tile, false))
 }

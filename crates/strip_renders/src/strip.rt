@@ -14,7 +14,8 @@ ghost use Rattle.node_tiles.specs.Stated.{scene_of};
 ghost use Rattle.strip_renders.specs.Moments.{Keeps, moment};
 ghost use Rattle.strip_renders.specs.Strips.{AreKnownRight, AreSizedPairs, HoldsNeed, IsRendered, IsStripOf, counted, most_names, pairs_needed};
 
-use crate::holding::hold_needed;
+use crate::ahead::AheadTiles;
+use crate::turns::hold_next;
 use chain_owners::ChainMeaning;
 use model_graphs::NodeFact;
 use node_cache::PairStore;
@@ -22,7 +23,9 @@ use node_tiles::StripTiles;
 use op_contracts::{OpKit, SourceTiles};
 use roi_planner::{NodeInputs, Strip};
 use std::alloc::Global;
+use std::thread::Threads;
 use swap_store::SwapRefused;
+use worker_pieces::Workers;
 
 /// What a strip has done: the tiles that it needs, how many of them were evaluated and how many the
 /// cache had.
@@ -38,13 +41,22 @@ pub struct StripDone {
 /// work, so nothing is looked up twice, also where a pair falls off the cache. The cached pairs and the
 /// counts are those of the list after these pairs are looked up, also where no bytes are known.
 ///
+/// Where there are several workers, the tiles of a node that the cache hasn't are evaluated by as many of
+/// them as these tiles are worth, before the first is looked up. The result is that of one worker.
+///
 /// # Errors
 ///
 /// `SwapFault` only where the swap's count of I/O errors rose in this call, `SwapFull` only where the
 /// chain's names and one more for each needed tile can fill the swap, and, where each cached name has one
 /// owner, the names of a full cache and one more can too; and `NoMemory` if memory runs out.
 /// The cached pairs are then those of a part of the strip, and right where they were.
-pub fn render_strip<H: ChainMeaning, S: SourceTiles<H>, C: PairStore<H>, K: OpKit + Sync>(
+pub fn render_strip<
+    H: ChainMeaning,
+    S: SourceTiles<H>,
+    C: PairStore<H>,
+    K: OpKit + Sync,
+    R: Threads + Sync,
+>(
     kit: &K,
     alloc: Global,
     nodes: &[NodeFact<K::Op>],
@@ -54,6 +66,7 @@ pub fn render_strip<H: ChainMeaning, S: SourceTiles<H>, C: PairStore<H>, K: OpKi
     chain: &mut H,
     purse: &mut K::Purse,
     strip: &Strip,
+    workers: Workers<'_, R>,
 ) -> Result<StripDone, SwapRefused>
 where
     K::Op: Sync,
@@ -96,11 +109,13 @@ where
 {
     let mut tiles = StripTiles::new(alloc);
     tiles.reserve(strip.need.as_slice().len())?;
+    let mut ahead = AheadTiles::new(alloc);
     let mut applied = 0;
     let mut reused = 0;
-    for entry in strip.need.as_slice() {
-        let found = hold_needed(
-            kit, alloc, nodes, inputs, &mut tiles, sources, cache, chain, purse, entry.0, entry.1,
+    for (index, entry) in strip.need.as_slice().iter().enumerate() {
+        let found = hold_next(
+            kit, alloc, nodes, inputs, &mut tiles, sources, cache, chain, purse, strip, index,
+            entry.0, entry.1, workers, &mut ahead,
         )?;
         if found {
             reused += 1;

@@ -12,6 +12,8 @@ use plane_rect::Name;
 use std::alloc::Global;
 use std::process::Abort;
 use std::test::Fail;
+use std::thread::Threads;
+use worker_pieces::Workers;
 
 /// All policies.
 const POLICIES: [Abyss; 5] = [
@@ -35,22 +37,29 @@ const MOVES: [[i8; 2]; 8] = [
 ];
 
 /// Returns a table of one buffer that shows a plain image.
-fn buffer_of<C: TileChain>(chain: &mut C, alloc: Global, plain: &Plain) -> Result<Buffers, Fail>
+fn buffer_of<C: TileChain>(
+    rt: &(impl Threads + Sync),
+    chain: &mut C,
+    alloc: Global,
+    plain: &Plain,
+) -> Result<Buffers, Fail>
     ensures { IfOk result (λ buffers. AreBuffersOver buffers (C.held chain.new)) }
 {
     let mut buffers = one_buffer(chain, alloc, "n00", plain.fields())?;
-    buffers.put_raw(chain, name("n00")?, rect(plain.fields()), &plain.bytes)?;
+    let all = rect(plain.fields());
+    let workers = Workers::new(rt, 3);
+    buffers.put_raw(chain, name("n00")?, all, &plain.bytes, workers)?;
     Ok(buffers)
 }
 
 /// Reads each level of a buffer that begins and ends inside tiles, and around it under each policy.
 pub fn compare_levels<C: TileChain>(
-    rt: &impl Abort,
+    rt: &(impl Abort + Threads + Sync),
     chain: &mut C,
     alloc: Global,
 ) -> Result<(), Fail> {
     let mut plain = Plain::noise(alloc, [-37, 21], [150, 70])?;
-    let mut buffers = buffer_of(chain, alloc, &plain)?;
+    let mut buffers = buffer_of(rt, chain, alloc, &plain)?;
     for level in 0..9u32 {
         compare_policies(rt, &mut buffers, chain, alloc, level, &plain)?;
         plain = plain.halved(alloc)?;
@@ -93,12 +102,12 @@ fn numbered(number: u8) -> Result<Name, Fail> {
 
 /// Duplicates a buffer 63 times, writes a pixel of its own to it and to each duplicate, and reads all of them.
 pub fn compare_duplicates<C: TileChain>(
-    rt: &impl Abort,
+    rt: &(impl Abort + Threads + Sync),
     chain: &mut C,
     alloc: Global,
 ) -> Result<(), Fail> {
     let plain = Plain::noise(alloc, [0, 0], [130, 2])?;
-    let mut buffers = buffer_of(chain, alloc, &plain)?;
+    let mut buffers = buffer_of(rt, chain, alloc, &plain)?;
     duplicate_each(&mut buffers, chain)?;
     write_each(&mut buffers, chain)?;
     compare_each(rt, &mut buffers, chain, alloc, &plain)?;
@@ -154,13 +163,13 @@ fn compare_each<C: TileChain>(
 
 /// Copies a rectangle of a buffer onto itself, in each direction by less than its size.
 pub fn compare_moves<C: TileChain>(
-    rt: &impl Abort,
+    rt: &(impl Abort + Threads + Sync),
     chain: &mut C,
     alloc: Global,
 ) -> Result<(), Fail> {
     let from = [10, 10, 80, 70];
     let mut plain = Plain::noise(alloc, [0, 0], [100, 90])?;
-    let mut buffers = buffer_of(chain, alloc, &plain)?;
+    let mut buffers = buffer_of(rt, chain, alloc, &plain)?;
     for by in MOVES {
         plain = plain.moved(alloc, from, by)?;
         copy_to_itself(&mut buffers, chain, from, by)?;

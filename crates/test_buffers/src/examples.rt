@@ -8,6 +8,8 @@ use plane_rect::TileAt;
 use std::alloc::Global;
 use std::process::Abort;
 use std::test::Fail;
+use std::thread::Threads;
+use worker_pieces::Workers;
 
 /// Duplicates a buffer, and writes to either one: the other is as it was.
 pub fn write_to_duplicates<C: TileChain>(
@@ -31,7 +33,7 @@ pub fn write_to_duplicates<C: TileChain>(
 /// Makes a part that reaches past its parent, whose own samples alone it shows, puts bytes into the part, and
 /// copies a rectangle of it onto itself.
 pub fn write_to_parts<C: TileChain>(
-    rt: &impl Abort,
+    rt: &(impl Abort + Threads + Sync),
     chain: &mut C,
     alloc: Global,
 ) -> Result<(), Fail> {
@@ -41,7 +43,13 @@ pub fn write_to_parts<C: TileChain>(
     check(rt, &mut buffers, chain, "p", 1, 0)?;
     check(rt, &mut buffers, chain, "p", 7, 5)?;
     check(rt, &mut buffers, chain, "p", 8, 0)?;
-    buffers.put_raw(chain, name("p")?, rect([2, 0, 3, 1]), &[1, 2, 3])?;
+    buffers.put_raw(
+        chain,
+        name("p")?,
+        rect([2, 0, 3, 1]),
+        &[1, 2, 3],
+        Workers::new(rt, 2),
+    )?;
     check(rt, &mut buffers, chain, "a", 3, 2)?;
     buffers.copy(chain, name("p")?, name("a")?, rect([2, 0, 3, 1]), 1, 0)?;
     check(rt, &mut buffers, chain, "p", 3, 1)?;
@@ -66,12 +74,18 @@ pub fn fill_again<C: TileChain>(rt: &impl Abort, chain: &mut C, alloc: Global) -
 
 /// Reads levels of a buffer and of a part of it under the policies.
 pub fn read_levels<C: TileChain>(
-    rt: &impl Abort,
+    rt: &(impl Abort + Threads + Sync),
     chain: &mut C,
     alloc: Global,
 ) -> Result<(), Fail> {
     let mut buffers = one_buffer(chain, alloc, "a", [0, 0, 4, 1])?;
-    buffers.put_raw(chain, name("a")?, rect([0, 0, 4, 1]), &[10, 20, 30, 40])?;
+    buffers.put_raw(
+        chain,
+        name("a")?,
+        rect([0, 0, 4, 1]),
+        &[10, 20, 30, 40],
+        Workers::new(rt, 2),
+    )?;
     let around = [-1, 0, 6, 1];
     let clamped = &[10, 10, 20, 30, 40, 40];
     check_level(

@@ -9,6 +9,8 @@ use plane_rect::Name;
 use std::alloc::Global;
 use std::process::Abort;
 use std::test::Fail;
+use std::thread::Threads;
+use worker_pieces::Workers;
 
 /// The words of as many buffers as a table may have are made of a letter and of these.
 const DIGITS: [u8; 8] = *b"01234567";
@@ -48,7 +50,7 @@ pub fn add_too_many(rt: &impl Abort, alloc: Global) -> Result<(), Fail> {
 
 /// Writes to a buffer where that is refused.
 pub fn write_refused<C: TileChain>(
-    rt: &impl Abort,
+    rt: &(impl Abort + Threads + Sync),
     chain: &mut C,
     alloc: Global,
 ) -> Result<(), Fail> {
@@ -59,7 +61,13 @@ pub fn write_refused<C: TileChain>(
     fill_refused(rt, &mut buffers, chain, "a", [0, 0, 9, 1], &[], outside)?;
     let formats = BufferRefused::Edit(EditRefused::Formats);
     fill_refused(rt, &mut buffers, chain, "a", [0, 0, 4, 1], &[256], formats)?;
-    let answer = buffers.put_raw(chain, name("a")?, rect([0, 0, 4, 1]), &[1, 2, 3]);
+    let answer = buffers.put_raw(
+        chain,
+        name("a")?,
+        rect([0, 0, 4, 1]),
+        &[1, 2, 3],
+        Workers::new(rt, 2),
+    );
     let size = EditRefused::WrongSize {
         found: 3,
         wanted: 4,

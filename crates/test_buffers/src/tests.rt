@@ -8,9 +8,14 @@ use outside_io::{MemSwap, SureSwap, SwapDisk};
 use std::alloc::Global;
 use std::process::Abort;
 use std::test::Fail;
+use std::thread::Threads;
 
 /// Writes to duplicates and to parts over a chain of one tile in memory.
-fn write_over<D: SwapDisk>(rt: &impl Abort, alloc: Global, disk: &mut D) -> Result<(), Fail> {
+fn write_over<D: SwapDisk>(
+    rt: &(impl Abort + Threads + Sync),
+    alloc: Global,
+    disk: &mut D,
+) -> Result<(), Fail> {
     let mut chain = Chain::new(alloc, disk, 16, 1)?;
     write_to_duplicates(rt, &mut chain, alloc)?;
     write_to_parts(rt, &mut chain, alloc)
@@ -36,7 +41,11 @@ fn a_fill_that_the_disk_refuses_is_made_again(rt: HostRuntime) -> Result<(), Fai
 }
 
 /// Makes refused calls over a chain.
-fn refuse_over<D: SwapDisk>(rt: &impl Abort, alloc: Global, disk: &mut D) -> Result<(), Fail> {
+fn refuse_over<D: SwapDisk>(
+    rt: &(impl Abort + Threads + Sync),
+    alloc: Global,
+    disk: &mut D,
+) -> Result<(), Fail> {
     let mut chain = Chain::new(alloc, disk, 16, 1)?;
     write_refused(rt, &mut chain, alloc)
 }
@@ -49,7 +58,11 @@ fn the_first_cause_is_reported(rt: HostRuntime) -> Result<(), Fail> {
 }
 
 /// Reads levels and freezes parts over a chain of one tile in memory.
-fn read_over<D: SwapDisk>(rt: &impl Abort, alloc: Global, disk: &mut D) -> Result<(), Fail> {
+fn read_over<D: SwapDisk>(
+    rt: &(impl Abort + Threads + Sync),
+    alloc: Global,
+    disk: &mut D,
+) -> Result<(), Fail> {
     let mut chain = Chain::new(alloc, disk, 16, 1)?;
     read_levels(rt, &mut chain, alloc)?;
     freeze_parts(rt, &mut chain, alloc)
@@ -62,7 +75,11 @@ fn levels_are_read_and_parts_frozen(rt: HostRuntime) -> Result<(), Fail> {
 }
 
 /// Compares buffers with plain lists of bytes over a chain of two tiles in memory.
-fn compare_over<D: SwapDisk>(rt: &impl Abort, alloc: Global, disk: &mut D) -> Result<(), Fail> {
+fn compare_over<D: SwapDisk>(
+    rt: &(impl Abort + Threads + Sync),
+    alloc: Global,
+    disk: &mut D,
+) -> Result<(), Fail> {
     let mut chain = Chain::new(alloc, disk, 512, 2)?;
     compare_levels(rt, &mut chain, alloc)?;
     compare_duplicates(rt, &mut chain, alloc)?;

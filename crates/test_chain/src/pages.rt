@@ -1,6 +1,6 @@
 //! Calls on a chain whose tiles all have 4,096 bytes.
 
-ghost use Rattle.std.specs.Prelude.{◌≡◌, IfOk, length};
+ghost use Rattle.std.specs.Prelude.{◌≡◌, ◌≤◌, IfOk, length};
 ghost use Rattle.test_chain.specs.Pages.{HasPages};
 
 use chain_handlers::{Chain, SwapRefused, TileChain};
@@ -93,14 +93,16 @@ pub fn check<C: TileChain>(
     Ok(())
 }
 
-/// Returns a chain without names over so many blocks of a disk, of which one page is in memory.
+/// Returns a chain without names over so many blocks of a disk, of which so many pages are in memory.
 pub fn chain_over<'s, D: SwapDisk>(
     alloc: Global,
     disk: &'s mut D,
     blocks: u32,
+    resident: u32,
 ) -> Result<Chain<'s, D>, NoMemory>
+    requires { 1 ≤ resident }
     ensures { IfOk result (λ chain. HasPages (⟦<Chain<'s, D> as ChainMeaning>⟧.held chain) (⟦<Chain<'s, D> as ChainMeaning>⟧.is_valid chain)) }
 {
-    let chain = Chain::new(alloc, disk, blocks, 1)?;
+    let chain = Chain::new(alloc, disk, blocks, resident)?;
     Ok(chain)
 }

@@ -1,6 +1,6 @@
 //! Expected values are worked out by hand from the doc comments, or are those of a plain list.
 
-use crate::examples::{fill, name_two};
+use crate::examples::{fill, give_a_block_up, name_two, read_by_turns};
 use crate::pages::chain_over;
 use crate::play::play;
 use chain_handlers::TileChain;
@@ -13,7 +13,7 @@ use std::test::Fail;
 fn names_keep_their_bytes_and_owners(rt: HostRuntime) -> Result<(), Fail> {
     let alloc = rt.alloc();
     let mut disk = SureSwap::new(alloc, 4)?;
-    let mut chain = chain_over(alloc, &mut disk, 4)?;
+    let mut chain = chain_over(alloc, &mut disk, 4, 1)?;
     name_two(&rt, &mut chain, alloc)?;
     assert!(rt; chain.zero(8_192)?.bytes().iter().all(|byte| *byte == 0));
     let _disk = chain.end();
@@ -24,8 +24,24 @@ fn names_keep_their_bytes_and_owners(rt: HostRuntime) -> Result<(), Fail> {
 fn a_refused_call_changes_no_name(rt: HostRuntime) -> Result<(), Fail> {
     let alloc = rt.alloc();
     let mut disk = MemSwap::new(alloc, 1, Vec::new(alloc), vec![in alloc; 1]?)?;
-    let mut chain = chain_over(alloc, &mut disk, 4)?;
+    let mut chain = chain_over(alloc, &mut disk, 4, 1)?;
     fill(&rt, &mut chain, alloc)
+}
+
+#[test]
+fn an_unchanged_page_is_written_once(rt: HostRuntime) -> Result<(), Fail> {
+    let alloc = rt.alloc();
+    let mut disk = MemSwap::new(alloc, 4, Vec::new(alloc), vec![in alloc; 3]?)?;
+    let mut chain = chain_over(alloc, &mut disk, 4, 1)?;
+    read_by_turns(&rt, &mut chain, alloc)
+}
+
+#[test]
+fn a_page_in_memory_gives_its_block_up(rt: HostRuntime) -> Result<(), Fail> {
+    let alloc = rt.alloc();
+    let mut disk = SureSwap::new(alloc, 2)?;
+    let mut chain = chain_over(alloc, &mut disk, 2, 2)?;
+    give_a_block_up(&rt, &mut chain, alloc)
 }
 
 /// Makes so many calls on a chain over a disk, of which one page is in memory, and beside them on a plain
@@ -36,7 +52,7 @@ fn play_over<D: SwapDisk>(
     disk: &mut D,
     steps: u64,
 ) -> Result<u32, Fail> {
-    let mut chain = chain_over(alloc, disk, 16)?;
+    let mut chain = chain_over(alloc, disk, 16, 1)?;
     play(rt, &mut chain, alloc, steps)
 }
 

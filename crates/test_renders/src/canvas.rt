@@ -26,6 +26,8 @@ use op_contracts::{OpKit, SourceTiles};
 use plane_rect::{Name, Rect};
 use render_workers::{RenderRefused, Rendered};
 use std::alloc::Global;
+use std::thread::Threads;
+use worker_pieces::Workers;
 
 /// How many permits there are for each render.
 const PERMITS: u64 = 1 << 32;
@@ -103,10 +105,11 @@ impl<S, P> Canvas<S, P> {
     /// # Errors
     ///
     /// As [`show`].
-    pub fn shown<H: ChainMeaning>(
+    pub fn shown<H: ChainMeaning, R: Threads + Sync>(
         &mut self,
         chain: &mut H,
         request: &Request,
+        workers: Workers<'_, R>,
     ) -> Result<(Rendered, u64), RenderRefused>
     where
         S: SourceTiles<H>,
@@ -131,6 +134,7 @@ impl<S, P> Canvas<S, P> {
             chain,
             &mut purse,
             request,
+            workers,
         )?;
         Ok((shown, PERMITS.wrapping_sub(IntKit.left(&purse))))
     }

@@ -24,12 +24,14 @@ use plane_rect::{Name, TileAt};
 use render_workers::RenderRefused;
 use std::alloc::Global;
 use std::process::Abort;
+use std::thread::Threads;
+use worker_pieces::Workers;
 
 impl<S, P> Canvas<S, P> {
     /// Renders a request, and checks how many tiles were evaluated, each for a permit, and how many the cache had.
     pub fn seen<H: ChainMeaning>(
         &mut self,
-        rt: &impl Abort,
+        rt: &(impl Abort + Threads + Sync),
         chain: &mut H,
         request: &Request,
         counts: (u64, u64),
@@ -47,7 +49,9 @@ impl<S, P> Canvas<S, P> {
         ensures ready { AreReady int_meanings (S.facts self.new.sources) self.new.graph.latest.nodes
             (P.sizes self.new.cache (H.held chain.new)) }
     {
-        let (shown, spent) = self.shown(chain, request).expect(rt, "a render");
+        let (shown, spent) = self
+            .shown(chain, request, Workers::new(rt, 3))
+            .expect(rt, "a render");
         assert!(rt; shown.patch.rect() == request.rect);
         assert_eq!(rt; (shown.applied, shown.reused), counts);
         assert_eq!(rt; spent, shown.applied);
@@ -57,7 +61,7 @@ impl<S, P> Canvas<S, P> {
     /// Renders a request, and checks its bytes and these counts.
     pub fn check<H: ChainMeaning>(
         &mut self,
-        rt: &impl Abort,
+        rt: &(impl Abort + Threads + Sync),
         chain: &mut H,
         request: &Request,
         bytes: &[u8],
@@ -83,7 +87,7 @@ impl<S, P> Canvas<S, P> {
     /// Checks why a request is refused.
     pub fn check_refused<H: ChainMeaning>(
         &mut self,
-        rt: &impl Abort,
+        rt: &(impl Abort + Threads + Sync),
         chain: &mut H,
         request: &Request,
         wanted: RenderRefused,
@@ -101,7 +105,7 @@ impl<S, P> Canvas<S, P> {
         ensures ready { AreReady int_meanings (S.facts self.new.sources) self.new.graph.latest.nodes
             (P.sizes self.new.cache (H.held chain.new)) }
     {
-        let refused = self.shown(chain, request).err();
+        let refused = self.shown(chain, request, Workers::new(rt, 3)).err();
         assert!(rt; refused == Some(wanted));
     }
 }

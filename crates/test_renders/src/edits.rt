@@ -9,11 +9,12 @@ use patch_abyss::Patch;
 use pixel_formats::{Abyss, Format};
 use std::alloc::Global;
 use std::process::Abort;
+use std::thread::Threads;
 
 /// Takes the mean around each of 128 by 128 pixels twice, and again after one pixel was written and committed:
 /// the tiles that meet its damage are evaluated again, and no others.
 pub fn average_after_an_edit<C: TileChain>(
-    rt: &impl Abort,
+    rt: &(impl Abort + Threads + Sync),
     chain: &mut C,
     alloc: Global,
     pixel: (i64, i64),
@@ -47,7 +48,7 @@ pub fn average_after_an_edit<C: TileChain>(
 }
 
 /// Takes the mean along a row that is then cropped: the box changes, so that no tile of it stays.
-pub fn crop_a_row<C: TileChain>(rt: &impl Abort, chain: &mut C, alloc: Global) {
+pub fn crop_a_row<C: TileChain>(rt: &(impl Abort + Threads + Sync), chain: &mut C, alloc: Global) {
     let mut buffers = one_buffer(rt, chain, alloc, "a", Format::Y8, [0, 0, 200, 1]);
     paint(rt, &mut buffers, chain, "a", [0, 0, 200, 1], 50);
     let mean = IntOp::BoxMean {

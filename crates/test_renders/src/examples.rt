@@ -8,10 +8,11 @@ use int_ops::IntOp;
 use pixel_formats::{Abyss, Format, PixelSamples};
 use std::alloc::Global;
 use std::process::Abort;
+use std::thread::Threads;
 
 /// Inverts four pixels: all of them, none, and across the edges, outside of which is zero. The buffer itself
 /// has no cached tile.
-pub fn invert_four<C: TileChain>(rt: &impl Abort, chain: &mut C, alloc: Global) {
+pub fn invert_four<C: TileChain>(rt: &(impl Abort + Threads + Sync), chain: &mut C, alloc: Global) {
     let mut buffers = one_buffer(rt, chain, alloc, "a", Format::Y8, [0, 0, 2, 2]);
     let four = [0x00, 0x40, 0x80, 0xff];
     put(rt, &mut buffers, chain, "a", [0, 0, 2, 2], &four);
@@ -32,7 +33,11 @@ pub fn invert_four<C: TileChain>(rt: &impl Abort, chain: &mut C, alloc: Global) 
 
 /// Takes the mean around one pixel, whose box grows into four tiles where it is black around, and doesn't where
 /// the pixel is repeated.
-pub fn grow_one_pixel<C: TileChain>(rt: &impl Abort, chain: &mut C, alloc: Global) {
+pub fn grow_one_pixel<C: TileChain>(
+    rt: &(impl Abort + Threads + Sync),
+    chain: &mut C,
+    alloc: Global,
+) {
     let mut buffers = one_buffer(rt, chain, alloc, "a", Format::Y8, [0, 0, 1, 1]);
     paint(rt, &mut buffers, chain, "a", [0, 0, 1, 1], 9);
     let (radius, abyss) = (1, Abyss::None);
@@ -53,7 +58,11 @@ pub fn grow_one_pixel<C: TileChain>(rt: &impl Abort, chain: &mut C, alloc: Globa
 }
 
 /// Composites a color over an opaque one, over no buffer.
-pub fn composite_colors<C: TileChain>(rt: &impl Abort, chain: &mut C, alloc: Global) {
+pub fn composite_colors<C: TileChain>(
+    rt: &(impl Abort + Threads + Sync),
+    chain: &mut C,
+    alloc: Global,
+) {
     no_buffers_ask_nothing();
     let buffers = Buffers::new(alloc);
     let edits = [

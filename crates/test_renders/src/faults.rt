@@ -20,24 +20,34 @@ use pixel_formats::Format;
 use render_workers::RenderRefused;
 use std::alloc::Global;
 use std::process::Abort;
+use std::thread::Threads;
+use worker_pieces::Workers;
 
 /// The box of the buffer, of two tiles.
 const BOX: Fields = [0, 0, 128, 64];
 
 /// Writes the buffer, and again where the disk refuses it.
-fn put_again<C: TileChain>(rt: &impl Abort, buffers: &mut Buffers, chain: &mut C, raw: &[u8])
+fn put_again<C: TileChain>(
+    rt: &(impl Abort + Threads + Sync),
+    buffers: &mut Buffers,
+    chain: &mut C,
+    raw: &[u8],
+)
     requires { AreBuffersOver buffers.old (C.held chain.old) }
     ensures { AreBuffersOver buffers.new (C.held chain.new) }
 {
     let a = name(rt, "a");
-    if buffers.put_raw(chain, a, rect(BOX), raw).is_err() {
+    if buffers
+        .put_raw(chain, a, rect(BOX), raw, Workers::new(rt, 3))
+        .is_err()
+    {
         put(rt, buffers, chain, "a", BOX, raw);
     }
 }
 
 /// Renders a request, and again where the disk refuses it. Returns the patch, and whether it did.
 fn show_again<C: TileChain, P: PairStore<C>>(
-    rt: &impl Abort,
+    rt: &(impl Abort + Threads + Sync),
     canvas: &mut Canvas<Buffers, P>,
     chain: &mut C,
     request: &Request,
@@ -52,20 +62,24 @@ fn show_again<C: TileChain, P: PairStore<C>>(
     ensures ready { AreReady int_meanings (facts_of canvas.new.sources.layout) canvas.new.graph.latest.nodes
         (P.sizes canvas.new.cache (C.held chain.new)) }
 {
-    let first = canvas.shown(chain, request);
+    let first = canvas.shown(chain, request, Workers::new(rt, 3));
     if let Ok(shown) = first {
         return (shown.0.patch, false);
     }
     assert!(rt; first.err() == Some(RenderRefused::SwapFault));
     let second = canvas
-        .shown(chain, request)
+        .shown(chain, request, Workers::new(rt, 3))
         .expect(rt, "one call that fails");
     (second.0.patch, true)
 }
 
 /// Inverts a buffer twice over a disk of which one call fails, and shows the buffer so. Returns whether the disk
 /// refused a render.
-pub fn invert_twice<C: TileChain>(rt: &impl Abort, chain: &mut C, alloc: Global) -> bool {
+pub fn invert_twice<C: TileChain>(
+    rt: &(impl Abort + Threads + Sync),
+    chain: &mut C,
+    alloc: Global,
+) -> bool {
     let raw = bytes(rt, alloc, 4, 128 * 64);
     let mut buffers = one_buffer(rt, chain, alloc, "a", Format::Y8, BOX);
     put_again(rt, &mut buffers, chain, &raw);

@@ -11,12 +11,17 @@ use model_graphs::BufferFact;
 use pixel_formats::Format;
 use std::alloc::Global;
 use std::process::Abort;
+use std::thread::Threads;
 
 /// The box of the buffer.
 const BOX: Fields = [-30, 0, 130, 70];
 
 /// Returns a buffer of random pixels, frozen.
-pub fn frozen<C: TileChain>(rt: &impl Abort, chain: &mut C, alloc: Global) -> FrozenBuffer {
+pub fn frozen<C: TileChain>(
+    rt: &(impl Abort + Threads + Sync),
+    chain: &mut C,
+    alloc: Global,
+) -> FrozenBuffer {
     let raw = bytes(rt, alloc, 3, 130 * 70 * 3);
     let mut buffers = one_buffer(rt, chain, alloc, "a", Format::RGB8, BOX);
     put(rt, &mut buffers, chain, "a", BOX, &raw);
@@ -32,7 +37,7 @@ pub fn frozen<C: TileChain>(rt: &impl Abort, chain: &mut C, alloc: Global) -> Fr
 }
 
 /// Inverts the frozen buffer twice, the second time over what a trim left of the cache: both show the same.
-pub fn invert_frozen(rt: &impl Abort, alloc: Global, buffer: FrozenBuffer) {
+pub fn invert_frozen(rt: &(impl Abort + Threads + Sync), alloc: Global, buffer: FrozenBuffer) {
     let facts = [*buffer.fact()];
     let buffers = [buffer];
     let edits = [

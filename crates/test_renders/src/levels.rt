@@ -11,6 +11,7 @@ use pixel_formats::{Abyss, Format};
 use plain_images::{Buffer, Picture, Step};
 use std::alloc::Global;
 use std::process::Abort;
+use std::thread::Threads;
 
 /// The box of the buffer, which no level of it divides evenly.
 const BOX: Fields = [-75, -3, 142, 71];
@@ -42,7 +43,12 @@ fn around(z: u32) -> Fields
 }
 
 /// Renders a level of the dilation and one of the buffer, and compares them with those of the plain program.
-pub fn compare_level<C: TileChain>(rt: &impl Abort, chain: &mut C, alloc: Global, z: u32)
+pub fn compare_level<C: TileChain>(
+    rt: &(impl Abort + Threads + Sync),
+    chain: &mut C,
+    alloc: Global,
+    z: u32,
+)
     requires { z ≤ 8 }
 {
     let raw = bytes(rt, alloc, 1, 142 * 71 * 3);

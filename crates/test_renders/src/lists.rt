@@ -20,6 +20,7 @@ use plain_graphs::{Lookups, Pair, need, needed_pairs};
 use plane_rect::{Name, TileAt};
 use std::alloc::Global;
 use std::process::Abort;
+use std::thread::Threads;
 
 /// How many pairs the cache keeps, which is what the widest strip needs.
 const CAPACITY: u32 = 8;
@@ -58,7 +59,7 @@ fn same_pairs(order: &[(Name, TileAt)], pairs: &[Pair]) -> bool {
 
 /// Renders a request, and compares the counts and the cached pairs with those of the plain list.
 fn compare<C: TileChain, P: PairStore<C>>(
-    rt: &impl Abort,
+    rt: &(impl Abort + Threads + Sync),
     canvas: &mut Canvas<Buffers, P>,
     chain: &mut C,
     lookups: &mut Lookups,
@@ -88,7 +89,11 @@ fn compare<C: TileChain, P: PairStore<C>>(
 }
 
 /// Renders requests of a mean and of its inverse over a cache that holds the pairs of one strip.
-pub fn compare_lists<C: TileChain>(rt: &impl Abort, chain: &mut C, alloc: Global) {
+pub fn compare_lists<C: TileChain>(
+    rt: &(impl Abort + Threads + Sync),
+    chain: &mut C,
+    alloc: Global,
+) {
     let buffers = one_buffer(rt, chain, alloc, "a", Format::Y8, [0, 0, 200, 150]);
     let mean = IntOp::BoxMean {
         radius: 1,

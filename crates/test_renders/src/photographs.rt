@@ -20,6 +20,7 @@ use pixel_formats::{Abyss, Format};
 use plain_images::{Buffer, Picture, Step};
 use std::alloc::Global;
 use std::process::Abort;
+use std::thread::Threads;
 
 /// The boxes of a photograph and of its caption, and what is shown of them.
 #[derive(Clone, Copy)]
@@ -110,7 +111,7 @@ fn plain_images(
 
 /// Returns the nodes over a photograph and a caption.
 fn canvas_of<C: TileChain>(
-    rt: &impl Abort,
+    rt: &(impl Abort + Threads + Sync),
     chain: &mut C,
     alloc: Global,
     sizes: Sizes,
@@ -133,7 +134,11 @@ fn canvas_of<C: TileChain>(
 
 /// Renders a small captioned photograph, the second time at level 2, and compares both with the plain program. Its two
 /// strips need 14 and 15 tiles, of which 8 are the same.
-pub fn compare_a_photograph<C: TileChain>(rt: &impl Abort, chain: &mut C, alloc: Global) {
+pub fn compare_a_photograph<C: TileChain>(
+    rt: &(impl Abort + Threads + Sync),
+    chain: &mut C,
+    alloc: Global,
+) {
     let photo = bytes(rt, alloc, 1, 128 * 96 * 3);
     let caption = bytes(rt, alloc, 2, 50 * 10 * 2);
     let pictures = plain_images(rt, alloc, SMALL, &photo, &caption);
@@ -150,7 +155,11 @@ pub fn compare_a_photograph<C: TileChain>(rt: &impl Abort, chain: &mut C, alloc:
 
 /// Renders a captioned photograph of usual size, the second time at level 2, and checks how many tiles are
 /// evaluated: each of the nodes' tiles once, though the windows of twelve strips overlap.
-pub fn caption_a_photograph<C: TileChain>(rt: &impl Abort, chain: &mut C, alloc: Global) {
+pub fn caption_a_photograph<C: TileChain>(
+    rt: &(impl Abort + Threads + Sync),
+    chain: &mut C,
+    alloc: Global,
+) {
     let photo = bytes(rt, alloc, 1, 1024 * 768 * 3);
     let caption = bytes(rt, alloc, 2, 400 * 60 * 2);
     let mut canvas = canvas_of(rt, chain, alloc, USUAL, &photo, &caption);

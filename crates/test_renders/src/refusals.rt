@@ -11,9 +11,14 @@ use pixel_formats::Format;
 use render_workers::RenderRefused;
 use std::alloc::Global;
 use std::process::Abort;
+use std::thread::Threads;
 
 /// Asks for nodes that aren't there, and for rectangles that are too wide at level 0, of sources too.
-pub fn refuse_requests<C: TileChain>(rt: &impl Abort, chain: &mut C, alloc: Global) {
+pub fn refuse_requests<C: TileChain>(
+    rt: &(impl Abort + Threads + Sync),
+    chain: &mut C,
+    alloc: Global,
+) {
     let buffers = one_buffer(rt, chain, alloc, "a", Format::Y8, [0, 0, 2, 2]);
     let edits = [
         source(rt, "s", "a"),
@@ -49,7 +54,11 @@ fn row_of_tiles(rt: &impl Abort, capacity: u32) -> Request
 }
 
 /// Asks for a row of 65 tiles of a checkerboard, where 64 may be needed, and where 65 may.
-pub fn refuse_wide_strips<C: TileChain>(rt: &impl Abort, chain: &mut C, alloc: Global) {
+pub fn refuse_wide_strips<C: TileChain>(
+    rt: &(impl Abort + Threads + Sync),
+    chain: &mut C,
+    alloc: Global,
+) {
     let buffers = one_buffer(rt, chain, alloc, "a", Format::Y8, [0, 0, 1, 1]);
     let checker = IntOp::Checker {
         format: Format::Y8,

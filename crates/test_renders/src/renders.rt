@@ -10,6 +10,8 @@ use op_contracts::{OpKit, SourceTiles};
 use plane_rect::{Name, Rect};
 use render_workers::{RenderRefused, Rendered, render};
 use std::alloc::Global;
+use std::thread::Threads;
+use worker_pieces::Workers;
 
 /// What is asked of a render: a rectangle of a level of a node, of whose strips none needs more tiles than the
 /// capacity.
@@ -26,7 +28,13 @@ pub struct Request {
 /// # Errors
 ///
 /// As [`render`].
-pub fn show<H: ChainMeaning, S: SourceTiles<H>, P: PairStore<H>, K: OpKit + Sync>(
+pub fn show<
+    H: ChainMeaning,
+    S: SourceTiles<H>,
+    P: PairStore<H>,
+    K: OpKit + Sync,
+    R: Threads + Sync,
+>(
     kit: &K,
     alloc: Global,
     graph: &Graph<K::Op>,
@@ -35,6 +43,7 @@ pub fn show<H: ChainMeaning, S: SourceTiles<H>, P: PairStore<H>, K: OpKit + Sync
     chain: &mut H,
     purse: &mut K::Purse,
     request: &Request,
+    workers: Workers<'_, R>,
 ) -> Result<Rendered, RenderRefused>
 where
     K::Op: Sync,
@@ -61,6 +70,7 @@ where
         level,
         rect,
         request.capacity,
+        workers,
     )?;
     Ok(shown)
 }

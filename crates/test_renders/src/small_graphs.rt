@@ -14,6 +14,8 @@ use pixel_formats::Format;
 use plane_rect::{Name, NameList, Rect};
 use std::alloc::Global;
 use std::process::Abort;
+use std::thread::Threads;
+use worker_pieces::Workers;
 
 /// A rectangle by x, y, width and height.
 pub type Fields = [i64; 4];
@@ -103,7 +105,7 @@ pub fn one_buffer<C: TileChain>(
 
 /// Writes raw bytes over a rectangle of a buffer.
 pub fn put<C: TileChain>(
-    rt: &impl Abort,
+    rt: &(impl Abort + Threads + Sync),
     buffers: &mut Buffers,
     chain: &mut C,
     word: &str,
@@ -113,7 +115,8 @@ pub fn put<C: TileChain>(
     requires { AreBuffersOver buffers.old (C.held chain.old) }
     ensures { AreBuffersOver buffers.new (C.held chain.new) }
 {
-    let put = buffers.put_raw(chain, name(rt, word), rect(fields), bytes);
+    let workers = Workers::new(rt, 3);
+    let put = buffers.put_raw(chain, name(rt, word), rect(fields), bytes, workers);
     put.expect(rt, "bytes of a rectangle");
 }
 

@@ -17,9 +17,14 @@ use outside_io::{MemSwap, SureSwap, SwapDisk};
 use std::alloc::Global;
 use std::process::Abort;
 use std::test::Fail;
+use std::thread::Threads;
 
 /// Runs examples of few pixels over a chain of one tile in memory.
-fn small_over<D: SwapDisk>(rt: &impl Abort, alloc: Global, disk: &mut D) -> Result<(), Fail> {
+fn small_over<D: SwapDisk>(
+    rt: &(impl Abort + Threads + Sync),
+    alloc: Global,
+    disk: &mut D,
+) -> Result<(), Fail> {
     let mut chain = Chain::new(alloc, disk, 64, 1)?;
     invert_four(rt, &mut chain, alloc);
     grow_one_pixel(rt, &mut chain, alloc);
@@ -34,7 +39,11 @@ fn few_pixels_are_inverted_averaged_and_composited(rt: HostRuntime) -> Result<()
 }
 
 /// Runs examples of edits over a chain of one tile in memory.
-fn edits_over<D: SwapDisk>(rt: &impl Abort, alloc: Global, disk: &mut D) -> Result<(), Fail> {
+fn edits_over<D: SwapDisk>(
+    rt: &(impl Abort + Threads + Sync),
+    alloc: Global,
+    disk: &mut D,
+) -> Result<(), Fail> {
     let mut chain = Chain::new(alloc, disk, 256, 1)?;
     let corner = average_after_an_edit(rt, &mut chain, alloc, (0, 0), (1, 3));
     check_bytes(rt, &corner, 0, &[56, 78]);
@@ -53,7 +62,11 @@ fn only_damaged_tiles_are_evaluated_after_an_edit(rt: HostRuntime) -> Result<(),
 }
 
 /// Makes requests that are refused over a chain of one tile in memory.
-fn refused_over<D: SwapDisk>(rt: &impl Abort, alloc: Global, disk: &mut D) -> Result<(), Fail> {
+fn refused_over<D: SwapDisk>(
+    rt: &(impl Abort + Threads + Sync),
+    alloc: Global,
+    disk: &mut D,
+) -> Result<(), Fail> {
     let mut chain = Chain::new(alloc, disk, 256, 1)?;
     refuse_requests(rt, &mut chain, alloc);
     refuse_wide_strips(rt, &mut chain, alloc);
@@ -67,7 +80,12 @@ fn the_first_cause_refuses_a_request(rt: HostRuntime) -> Result<(), Fail> {
 }
 
 /// Compares one level over a chain of three tiles in memory.
-fn level_over<D: SwapDisk>(rt: &impl Abort, alloc: Global, disk: &mut D, z: u32) -> Result<(), Fail>
+fn level_over<D: SwapDisk>(
+    rt: &(impl Abort + Threads + Sync),
+    alloc: Global,
+    disk: &mut D,
+    z: u32,
+) -> Result<(), Fail>
     requires { z ≤ 8 }
 {
     let mut chain = Chain::new(alloc, disk, 256, 3)?;
@@ -85,7 +103,11 @@ fn each_level_is_that_of_the_whole_image(rt: HostRuntime) -> Result<(), Fail> {
 }
 
 /// Renders a photograph over a chain of 40 tiles in memory.
-fn photograph_over<D: SwapDisk>(rt: &impl Abort, alloc: Global, disk: &mut D) -> Result<(), Fail> {
+fn photograph_over<D: SwapDisk>(
+    rt: &(impl Abort + Threads + Sync),
+    alloc: Global,
+    disk: &mut D,
+) -> Result<(), Fail> {
     let mut chain = Chain::new(alloc, disk, 4_096, 40)?;
     compare_a_photograph(rt, &mut chain, alloc);
     Ok(())
@@ -98,7 +120,11 @@ fn a_photograph_is_rendered_as_the_plain_program_does(rt: HostRuntime) -> Result
 }
 
 /// Renders a photograph of usual size over a chain of 4,096 tiles in memory.
-fn usual_over<D: SwapDisk>(rt: &impl Abort, alloc: Global, disk: &mut D) -> Result<(), Fail> {
+fn usual_over<D: SwapDisk>(
+    rt: &(impl Abort + Threads + Sync),
+    alloc: Global,
+    disk: &mut D,
+) -> Result<(), Fail> {
     let mut chain = Chain::new(alloc, disk, 40_960, 4_096)?;
     caption_a_photograph(rt, &mut chain, alloc);
     Ok(())
@@ -111,7 +137,11 @@ fn each_tile_of_a_photograph_is_evaluated_once(rt: HostRuntime) -> Result<(), Fa
 }
 
 /// Compares cached pairs over a chain of one tile in memory.
-fn lists_over<D: SwapDisk>(rt: &impl Abort, alloc: Global, disk: &mut D) -> Result<(), Fail> {
+fn lists_over<D: SwapDisk>(
+    rt: &(impl Abort + Threads + Sync),
+    alloc: Global,
+    disk: &mut D,
+) -> Result<(), Fail> {
     let mut chain = Chain::new(alloc, disk, 64, 1)?;
     compare_lists(rt, &mut chain, alloc);
     Ok(())
@@ -125,7 +155,7 @@ fn cached_pairs_are_those_of_the_plain_list(rt: HostRuntime) -> Result<(), Fail>
 
 /// Returns a frozen buffer, over a chain that then goes.
 fn frozen_over<D: SwapDisk>(
-    rt: &impl Abort,
+    rt: &(impl Abort + Threads + Sync),
     alloc: Global,
     disk: &mut D,
 ) -> Result<FrozenBuffer, Fail> {
@@ -142,7 +172,11 @@ fn frozen_buffers_are_rendered_without_a_chain(rt: HostRuntime) -> Result<(), Fa
 }
 
 /// Renders over a chain of one tile in memory. Returns whether the disk refused a render.
-fn fault_over<D: SwapDisk>(rt: &impl Abort, alloc: Global, disk: &mut D) -> Result<bool, Fail> {
+fn fault_over<D: SwapDisk>(
+    rt: &(impl Abort + Threads + Sync),
+    alloc: Global,
+    disk: &mut D,
+) -> Result<bool, Fail> {
     let mut chain = Chain::new(alloc, disk, 64, 1)?;
     Ok(invert_twice(rt, &mut chain, alloc))
 }

@@ -45,7 +45,7 @@ pub fn put<C: TileChain>(
     let rect = rect(fields);
     assert!(rt; root.bounds().contains(&rect));
     assert!(rt; bytes.len() as u64 == rect.area());
-    root.put_raw(chain, rect, bytes)?;
+    root.put_raw_alone(chain, rect, bytes)?;
     Ok(())
 }
 

@@ -6,6 +6,7 @@ use script_run::run;
 use std::alloc::{AllocError, Global};
 use std::process::Abort;
 use std::test::Fail;
+use std::thread::Threads;
 
 /// The bytes of `in.raw`.
 pub const RASTER: &[u8] = b"\x00\x40\x80\xff";
@@ -77,17 +78,19 @@ fn words_of(alloc: Global, line: &str) -> Result<Vec<String>, AllocError> {
 
 /// Runs the words of a line over a shelf, and a swap and a sink of its own.
 pub fn run_over(
+    rt: &(impl Threads + Sync),
     alloc: Global,
     line: &str,
     shelf: &mut MemShelf,
     devices: Devices,
 ) -> Result<Ended, Fail> {
     let words = words_of(alloc, line)?;
-    run_words(alloc, &words, shelf, devices)
+    run_words(rt, alloc, &words, shelf, devices)
 }
 
 /// Runs words over a shelf, and a swap and a sink of its own.
 pub fn run_words(
+    rt: &(impl Threads + Sync),
     alloc: Global,
     words: &[String],
     shelf: &mut MemShelf,
@@ -97,14 +100,14 @@ pub fn run_words(
     let swap_writes = vec![in alloc; devices.swap_write]?;
     let mut swap = MemSwap::new(alloc, devices.blocks.min(1 << 20), swap_reads, swap_writes)?;
     let mut sink = MemSink::new(alloc, vec![in alloc; devices.put]?);
-    let status = run(alloc, words, shelf, &mut swap, &mut sink, &OpenGate);
+    let status = run(rt, alloc, words, shelf, &mut swap, &mut sink, &OpenGate);
     let text = sink.bytes().to_vec(alloc)?;
     Ok(Ended { status, text })
 }
 
 /// Runs the words of a line over a folder with a script and `in.raw`, and checks status and text.
 pub fn check_text(
-    rt: &impl Abort,
+    rt: &(impl Abort + Threads + Sync),
     alloc: Global,
     line: &str,
     script: &[u8],
@@ -112,7 +115,7 @@ pub fn check_text(
     text: &str,
 ) -> Result<(), Fail> {
     let mut shelf = shelf_of(alloc, &[("script.txt", script), ("in.raw", RASTER)], SOUND)?;
-    let ended = run_over(alloc, line, &mut shelf, SOUND)?;
+    let ended = run_over(rt, alloc, line, &mut shelf, SOUND)?;
     assert!(rt; ended.text.as_slice() == text.as_bytes(), "{text}");
     assert_eq!(rt; ended.status, status, "{text}");
     Ok(())
@@ -149,14 +152,24 @@ pub fn check_end(
 }
 
 /// Runs a case by the words of a line, and checks what it leaves.
-pub fn check_case(rt: &impl Abort, alloc: Global, line: &str, case: &Case) -> Result<(), Fail> {
+pub fn check_case(
+    rt: &(impl Abort + Threads + Sync),
+    alloc: Global,
+    line: &str,
+    case: &Case,
+) -> Result<(), Fail> {
     let mut shelf = folder_of(alloc, case, SOUND)?;
-    let ended = run_over(alloc, line, &mut shelf, SOUND)?;
+    let ended = run_over(rt, alloc, line, &mut shelf, SOUND)?;
     check_end(rt, alloc, case, &ended, &shelf)
 }
 
 /// Runs cases by the words of a line, and checks what each leaves.
-pub fn check_cases(rt: &impl Abort, alloc: Global, line: &str, cases: &[Case]) -> Result<(), Fail> {
+pub fn check_cases(
+    rt: &(impl Abort + Threads + Sync),
+    alloc: Global,
+    line: &str,
+    cases: &[Case],
+) -> Result<(), Fail> {
     for case in cases {
         check_case(rt, alloc, line, case)?;
     }

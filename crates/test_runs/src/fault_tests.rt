@@ -9,6 +9,7 @@ use outside_io::MemShelf;
 use std::alloc::{AllocError, Global};
 use std::process::Abort;
 use std::test::Fail;
+use std::thread::Threads;
 
 /// Words of a run with one tile in memory.
 const ONE_RESIDENT: &str = "run script.txt --resident 1";
@@ -63,20 +64,20 @@ fn check_beginning(
 /// Runs a case with one resident tile. Where a call of the swap fails, checks that the run ended there, and that a
 /// second run over the same folder and a sound swap leaves everything. Returns whether a call failed.
 fn fail_and_run_again(
-    rt: &impl Abort,
+    rt: &(impl Abort + Threads + Sync),
     alloc: Global,
     case: &Case,
     devices: Devices,
 ) -> Result<bool, Fail> {
     let mut shelf = folder_of(alloc, case, SOUND)?;
-    let ended = run_over(alloc, ONE_RESIDENT, &mut shelf, devices)?;
+    let ended = run_over(rt, alloc, ONE_RESIDENT, &mut shelf, devices)?;
     if ended.status == case.status {
         check_end(rt, alloc, case, &ended, &shelf)?;
         return Ok(false);
     }
     assert_eq!(rt; ended.status, 5);
     check_beginning(rt, alloc, case, &ended, &shelf, Next::Absent)?;
-    let again = run_over(alloc, ONE_RESIDENT, &mut shelf, SOUND)?;
+    let again = run_over(rt, alloc, ONE_RESIDENT, &mut shelf, SOUND)?;
     check_end(rt, alloc, case, &again, &shelf)?;
     Ok(true)
 }
@@ -89,7 +90,12 @@ enum SwapCall {
 }
 
 /// Lets each call of a kind fail in turn. Returns how many fail.
-fn fail_each(rt: &impl Abort, alloc: Global, case: &Case, kind: SwapCall) -> Result<u64, Fail> {
+fn fail_each(
+    rt: &(impl Abort + Threads + Sync),
+    alloc: Global,
+    case: &Case,
+    kind: SwapCall,
+) -> Result<u64, Fail> {
     for failed in 0..MOST_CALLS {
         let call = failed + 1;
         let devices = match kind {
@@ -139,7 +145,7 @@ fn each_call_of_the_swap_ends_a_run_where_it_fails(rt: HostRuntime) -> Result<()
 
 /// Runs a case over devices of which one call fails, and checks status and files. Returns the text.
 fn fail_at(
-    rt: &impl Abort,
+    rt: &(impl Abort + Threads + Sync),
     alloc: Global,
     case: &Case,
     devices: Devices,
@@ -147,7 +153,7 @@ fn fail_at(
     next: Next,
 ) -> Result<Vec<u8>, Fail> {
     let mut shelf = folder_of(alloc, case, devices)?;
-    let ended = run_over(alloc, PLAIN, &mut shelf, devices)?;
+    let ended = run_over(rt, alloc, PLAIN, &mut shelf, devices)?;
     assert_eq!(rt; ended.status, status);
     check_beginning(rt, alloc, case, &ended, &shelf, next)?;
     Ok(ended.text)
@@ -222,7 +228,7 @@ fn a_call_of_the_shelf_that_fails_ends_the_run(rt: HostRuntime) -> Result<(), Fa
 
 /// Runs a case over a swap of so many blocks, and checks that it ends early with status 8, or does all.
 fn run_in_blocks(
-    rt: &impl Abort,
+    rt: &(impl Abort + Threads + Sync),
     alloc: Global,
     line: &str,
     case: &Case,
@@ -230,7 +236,7 @@ fn run_in_blocks(
 ) -> Result<u8, Fail> {
     let devices = Devices { blocks, ..SOUND };
     let mut shelf = folder_of(alloc, case, SOUND)?;
-    let ended = run_over(alloc, line, &mut shelf, devices)?;
+    let ended = run_over(rt, alloc, line, &mut shelf, devices)?;
     if ended.status == 8 {
         check_beginning(rt, alloc, case, &ended, &shelf, Next::Absent)?;
     } else {
@@ -240,7 +246,7 @@ fn run_in_blocks(
 }
 
 /// Checks that a job over a swap of few blocks ends early or does all.
-fn check_few_blocks(rt: &impl Abort, alloc: Global) -> Result<(), Fail> {
+fn check_few_blocks(rt: &(impl Abort + Threads + Sync), alloc: Global) -> Result<(), Fail> {
     for blocks in 1..32 {
         let ended = run_in_blocks(rt, alloc, ONE_RESIDENT, &EDITING_JOB, blocks)?;
         assert!(rt; ended == 0 || ended == 8, "{blocks}");
@@ -290,7 +296,7 @@ fn a_full_swap_ends_the_run(rt: HostRuntime) -> Result<(), Fail> {
 fn a_run_that_is_out_of_memory_ends_early(rt: HostRuntime) -> Result<(), Fail> {
     let case = MEANS_AFTER_AN_EDIT;
     let mut shelf = folder_of(rt.alloc(), &case, SOUND)?;
-    let ended = run_over(rt.alloc(), ONE_RESIDENT, &mut shelf, SOUND)?;
+    let ended = run_over(&rt, rt.alloc(), ONE_RESIDENT, &mut shelf, SOUND)?;
     if ended.status == 7 {
         check_beginning(&rt, rt.alloc(), &case, &ended, &shelf, Next::Begun)
     } else {

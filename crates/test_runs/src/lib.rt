@@ -17,6 +17,8 @@ mod fault_tests;
 #[cfg(test)]
 mod graph_cases;
 #[cfg(test)]
+mod job_tests;
+#[cfg(test)]
 mod limit_tests;
 #[cfg(test)]
 mod photograph_tests;

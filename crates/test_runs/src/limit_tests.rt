@@ -5,6 +5,7 @@ use crate::refusal_cases::REPORT;
 use std::alloc::{AllocError, Global};
 use std::process::Abort;
 use std::test::Fail;
+use std::thread::Threads;
 
 /// Appends a line some times.
 fn repeat(script: &mut String, line: &str, times: u32) -> Result<(), AllocError> {
@@ -45,18 +46,23 @@ fn means(alloc: Global, count: u32) -> Result<String, Fail> {
 }
 
 /// Checks that a script is carried out.
-fn check_done(rt: &impl Abort, alloc: Global, script: &str) -> Result<(), Fail> {
+fn check_done(rt: &(impl Abort + Threads + Sync), alloc: Global, script: &str) -> Result<(), Fail> {
     check_text(rt, alloc, PLAIN, script.as_bytes(), 0, REPORT)
 }
 
 /// Checks the text with which a script is refused.
-fn check_refused(rt: &impl Abort, alloc: Global, script: &str, text: &str) -> Result<(), Fail> {
+fn check_refused(
+    rt: &(impl Abort + Threads + Sync),
+    alloc: Global,
+    script: &str,
+    text: &str,
+) -> Result<(), Fail> {
     check_text(rt, alloc, PLAIN, script.as_bytes(), 2, text)
 }
 
 /// Checks that a chain of 45 means, which is 5,761 pixels wide and as high, can be made, though a pixel of it needs more
 /// tiles than the cache has; and that one more has more pixels than an image may have.
-fn check_boxes(rt: &impl Abort, alloc: Global) -> Result<(), Fail> {
+fn check_boxes(rt: &(impl Abort + Threads + Sync), alloc: Global) -> Result<(), Fail> {
     let mut script = means(alloc, 45)?;
     script.push_str("commit\n")?;
     check_done(rt, alloc, &script)?;
@@ -68,7 +74,7 @@ fn check_boxes(rt: &impl Abort, alloc: Global) -> Result<(), Fail> {
 }
 
 /// Checks that there are at most 64 buffers and 256 nodes.
-fn check_names(rt: &impl Abort, alloc: Global) -> Result<(), Fail> {
+fn check_names(rt: &(impl Abort + Threads + Sync), alloc: Global) -> Result<(), Fail> {
     let mut script = buffers(alloc, 64)?;
     check_done(rt, alloc, &script)?;
     script.push_str("buffer a Y8 0 0 1 1\n")?;
@@ -82,7 +88,7 @@ fn check_names(rt: &impl Abort, alloc: Global) -> Result<(), Fail> {
 }
 
 /// Checks that after 65 commits 64 states can be undone, and as many redone.
-fn check_history(rt: &impl Abort, alloc: Global) -> Result<(), Fail> {
+fn check_history(rt: &(impl Abort + Threads + Sync), alloc: Global) -> Result<(), Fail> {
     let mut script = String::new(alloc);
     repeat(&mut script, "commit\n", 65)?;
     repeat(&mut script, "undo\n", 64)?;

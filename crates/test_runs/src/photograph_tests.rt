@@ -1,9 +1,11 @@
 //! A job of usual size.
 
-use crate::cases::{PLAIN, SOUND, run_over, shelf_of};
+use crate::cases::{Devices, PLAIN, SOUND, run_over, shelf_of};
 use crate::contents::Content;
 use std::alloc::{AllocError, Global};
+use std::process::Abort;
 use std::test::Fail;
+use std::thread::Threads;
 
 /// A photograph is cropped, made brighter and softer, and composited under its caption.
 const SCRIPT: &[u8] = b"# caption a photograph\n\
@@ -33,6 +35,18 @@ const FILES: [(&str, Content); 2] = [
     ("small.raw", Content::Hashed(182_528, 0x6730_546e_fe1f_f3e8)),
 ];
 
+/// The same job by other numbers of workers and of tiles in memory.
+const LINES: [&str; 8] = [
+    "run script.txt --workers 1 --resident 1",
+    "run script.txt --workers 2 --resident 1",
+    "run script.txt --workers 7 --resident 1",
+    "run script.txt --workers 1 --resident 4096",
+    "run script.txt --workers 2 --resident 4096",
+    "run script.txt --workers 7 --resident 4096",
+    "run script.txt --workers 3",
+    "run script.txt --workers 16",
+];
+
 /// Returns so many bytes that look random: the highest ones of x → 1664525 x + 1013904223 mod 2^32.
 fn noise(alloc: Global, seed: u32, count: u32) -> Result<Vec<u8>, AllocError> {
     let mut bytes = Vec::new(alloc);
@@ -44,9 +58,13 @@ fn noise(alloc: Global, seed: u32, count: u32) -> Result<Vec<u8>, AllocError> {
     Ok(bytes)
 }
 
-#[test]
-fn a_photograph_is_captioned(rt: HostRuntime) -> Result<(), Fail> {
-    let alloc = rt.alloc();
+/// Runs a line over the photograph and its caption, and checks text and files.
+fn check_photograph(
+    rt: &(impl Abort + Threads + Sync),
+    alloc: Global,
+    line: &str,
+    devices: Devices,
+) -> Result<(), Fail> {
     let photo = noise(alloc, 1, 1024 * 768 * 3)?;
     let caption = noise(alloc, 2, 400 * 60 * 2)?;
     let files = [
@@ -54,12 +72,29 @@ fn a_photograph_is_captioned(rt: HostRuntime) -> Result<(), Fail> {
         ("photo.raw", photo.as_slice()),
         ("caption.raw", caption.as_slice()),
     ];
-    let mut shelf = shelf_of(alloc, &files, SOUND)?;
-    let ended = run_over(alloc, PLAIN, &mut shelf, SOUND)?;
-    assert_eq!(rt; ended.status, 0);
-    assert_eq!(rt; ended.text.as_slice(), TEXT);
+    let mut shelf = shelf_of(alloc, &files, devices)?;
+    let ended = run_over(rt, alloc, line, &mut shelf, devices)?;
+    assert_eq!(rt; ended.status, 0, "{line}");
+    assert_eq!(rt; ended.text.as_slice(), TEXT, "{line}");
     for (name, content) in FILES {
-        assert!(rt; content.is(alloc, shelf.get(name))?, "{name}");
+        assert!(rt; content.is(alloc, shelf.get(name))?, "{name} of {line}");
+    }
+    Ok(())
+}
+
+#[test]
+fn a_photograph_is_captioned(rt: HostRuntime) -> Result<(), Fail> {
+    check_photograph(&rt, rt.alloc(), PLAIN, SOUND)
+}
+
+#[test]
+fn workers_and_resident_tiles_change_no_byte(rt: HostRuntime) -> Result<(), Fail> {
+    let devices = Devices {
+        blocks: 40_960,
+        ..SOUND
+    };
+    for line in LINES {
+        check_photograph(&rt, rt.alloc(), line, devices)?;
     }
     Ok(())
 }

@@ -5,13 +5,18 @@ use crate::refusal_cases::{GRAMMAR, REFUSED_BUFFERS, REFUSED_GRAPHS, REPORT, UNB
 use std::alloc::Global;
 use std::process::Abort;
 use std::test::Fail;
+use std::thread::Threads;
 
 /// A script that loads and inverts a raster of four bytes.
 const INVERT: &[u8] =
     b"buffer a Y8 0 0 2 2\nload a 0 0 2 2 in.raw\nnode s source a\nnode i invert s\ncommit\nrender i 0 0 0 2 2 out.raw\n";
 
 /// Runs scripts, and checks that each is refused with its text, or carried out where that is the report.
-fn check_refused(rt: &impl Abort, alloc: Global, scripts: &[(&[u8], &str)]) -> Result<(), Fail> {
+fn check_refused(
+    rt: &(impl Abort + Threads + Sync),
+    alloc: Global,
+    scripts: &[(&[u8], &str)],
+) -> Result<(), Fail> {
     for (script, text) in scripts {
         let status = if *text == REPORT { 0 } else { 2 };
         check_text(rt, alloc, PLAIN, script, status, text)?;
@@ -28,11 +33,11 @@ fn the_first_line_that_is_wrong_is_refused(rt: HostRuntime) -> Result<(), Fail> 
 }
 
 /// Checks that rasters of too few and too many bytes are refused.
-fn check_sizes(rt: &impl Abort, alloc: Global) -> Result<(), Fail> {
+fn check_sizes(rt: &(impl Abort + Threads + Sync), alloc: Global) -> Result<(), Fail> {
     for raster in [b"".as_slice(), b"\x00\x40\x80", b"\x00\x40\x80\xff\x00"] {
         let files = [("script.txt", INVERT), ("in.raw", raster)];
         let mut shelf = shelf_of(alloc, &files, SOUND)?;
-        let ended = run_over(alloc, PLAIN, &mut shelf, SOUND)?;
+        let ended = run_over(rt, alloc, PLAIN, &mut shelf, SOUND)?;
         assert_eq!(rt; ended.status, 2);
         assert_eq!(rt; ended.text.as_slice(), b"line 2: WrongSize\n".as_slice());
         assert_eq!(rt; shelf.get("out.raw"), None);
@@ -52,7 +57,7 @@ fn rasters_of_a_wrong_size_and_absent_files_are_refused(rt: HostRuntime) -> Resu
         ("run absent.txt", 1, 6, b"line 0:"),
     ] {
         let mut shelf = shelf_of(alloc, &[("script.txt", INVERT)], SOUND)?;
-        let ended = run_over(alloc, line, &mut shelf, Devices { put, ..SOUND })?;
+        let ended = run_over(&rt, alloc, line, &mut shelf, Devices { put, ..SOUND })?;
         assert_eq!(rt; ended.status, status);
         assert_eq!(rt; ended.text.as_slice(), text);
     }

@@ -5,7 +5,7 @@ use crate::refusal_cases::REPORT;
 use std::test::Fail;
 
 /// Words of a run of a script that is there.
-const RUNS: [&str; 19] = [
+const RUNS: [&str; 23] = [
     "run script.txt",
     "run script.txt --workers 4 --resident 4096 --cache 16384 --swap-blocks 1048576",
     "run --swap-blocks=1048576 --cache=16384 --resident=4096 --workers=4 script.txt",
@@ -24,11 +24,15 @@ const RUNS: [&str; 19] = [
     "run script.txt --cache 65536",
     "run script.txt --cache=0065536",
     "run script.txt --workers 0000004",
+    "run script.txt --workers 1",
+    "run script.txt --workers=1",
+    "run script.txt --workers 16",
+    "run --workers=0000016 script.txt",
     "run --workers=04 script.txt",
 ];
 
-/// Other words. Workers other than four, and a made job, aren't built yet.
-const OTHER_WORDS: [&str; 54] = [
+/// Words that are in no grammar.
+const OTHER_WORDS: [&str; 56] = [
     "run",
     "help",
     "--help",
@@ -78,10 +82,12 @@ const OTHER_WORDS: [&str; 54] = [
     "run script.txt --workers 17",
     "run script.txt --workers 00000004",
     "run script.txt --workers=4 --workers=4",
-    "run script.txt --workers 2",
     "make",
-    "make 1",
+    "make x",
+    "make -1",
+    "make 0 0",
     "make 4294967296",
+    "make 00000000000",
     "make 1 --cache 1",
 ];
 
@@ -91,7 +97,7 @@ fn options_stand_in_any_order_and_have_ends(rt: HostRuntime) -> Result<(), Fail>
         check_text(&rt, rt.alloc(), line, b"buffer a Y8 0 0 1 1\n", 0, REPORT)?;
     }
     let mut shelf = shelf_of(rt.alloc(), &[("16", b"".as_slice())], SOUND)?;
-    let ended = run_over(rt.alloc(), "run --resident 16 16", &mut shelf, SOUND)?;
+    let ended = run_over(&rt, rt.alloc(), "run --resident 16 16", &mut shelf, SOUND)?;
     assert_eq!(rt; ended.status, 0, "a number is a name too");
     Ok(())
 }
@@ -104,9 +110,9 @@ fn other_words_have_status_1(rt: HostRuntime) -> Result<(), Fail> {
     }
     let mut shelf = shelf_of(alloc, &[("script.txt", b"".as_slice())], SOUND)?;
     let no_name = vec![in alloc; "run".to_string(alloc)?, "".to_string(alloc)?]?;
-    let ended = run_words(alloc, &no_name, &mut shelf, SOUND)?;
+    let ended = run_words(&rt, alloc, &no_name, &mut shelf, SOUND)?;
     assert_eq!(rt; ended.status, 1, "a word without a byte");
-    let ended = run_over(alloc, "", &mut shelf, SOUND)?;
+    let ended = run_over(&rt, alloc, "", &mut shelf, SOUND)?;
     assert_eq!(rt; ended.status, 1, "no word");
     Ok(())
 }

@@ -17,6 +17,7 @@ use pixel_formats::{Format, PixelSamples};
 use plane_rect::{Name, NameList, Rect};
 use std::alloc::Global;
 use std::process::Abort;
+use std::thread::Threads;
 
 /// A rectangle by x, y, width and height.
 pub type Fields = [i64; 4];
@@ -101,12 +102,18 @@ pub fn node(rt: &impl Abort, alloc: Global, word: &str, op: IntOp, input: &str) 
 }
 
 /// Makes an edit, which is not refused.
-pub fn make<C: TileChain>(rt: &impl Abort, session: &mut OwnedSession<IntKit, C>, edit: Edit<IntOp>)
+pub fn make<C: TileChain>(
+    rt: &(impl Abort + Threads + Sync),
+    session: &mut OwnedSession<IntKit, C>,
+    edit: Edit<IntOp>,
+)
     requires over { IsOver same_operation int_meanings session.old.state (C.held session.old.chain) }
     requires proper { IsProper (step_of edit) }
     ensures { IsOver same_operation int_meanings session.new.state (C.held session.new.chain) }
 {
-    session.edit(edit).expect(rt, "an edit that is not refused");
+    session
+        .edit(rt, edit)
+        .expect(rt, "an edit that is not refused");
 }
 
 /// Commits, and checks the number of the new state.
@@ -143,7 +150,7 @@ pub fn redo<C: TileChain>(rt: &impl Abort, session: &mut OwnedSession<IntKit, C>
 ///
 /// As [`OwnedSession::render`].
 pub fn render<C: TileChain>(
-    rt: &impl Abort,
+    rt: &(impl Abort + Threads + Sync),
     session: &mut OwnedSession<IntKit, C>,
     word: &str,
     level: u32,
@@ -154,12 +161,12 @@ pub fn render<C: TileChain>(
     ensures { IsOver same_operation int_meanings session.new.state (C.held session.new.chain) }
 {
     let mut purse = IntPurse::new(PERMITS);
-    session.render(&mut purse, name(rt, word), level, rect(fields))
+    session.render(rt, &mut purse, name(rt, word), level, rect(fields))
 }
 
 /// Renders a rectangle of a node, and checks the counts after it.
 pub fn shown<C: TileChain>(
-    rt: &impl Abort,
+    rt: &(impl Abort + Threads + Sync),
     session: &mut OwnedSession<IntKit, C>,
     word: &str,
     fields: Fields,

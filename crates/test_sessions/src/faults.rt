@@ -13,6 +13,7 @@ use patch_abyss::Patch;
 use render_workers::RenderRefused;
 use std::alloc::Global;
 use std::process::Abort;
+use std::thread::Threads;
 use swap_store::SwapRefused;
 
 /// The box of the buffer, of two tiles.
@@ -20,7 +21,7 @@ const BOX: Fields = [0, 0, 128, 64];
 
 /// Loads the buffer, and again where the disk refuses it. Returns whether it did.
 fn load_again<C: TileChain>(
-    rt: &impl Abort,
+    rt: &(impl Abort + Threads + Sync),
     session: &mut OwnedSession<IntKit, C>,
     alloc: Global,
     raw: &[u8],
@@ -28,7 +29,7 @@ fn load_again<C: TileChain>(
     requires { IsOver same_operation int_meanings session.old.state (C.held session.old.chain) }
     ensures { IsOver same_operation int_meanings session.new.state (C.held session.new.chain) }
 {
-    let Err(refused) = session.edit(load(rt, alloc, "a", BOX, raw)) else {
+    let Err(refused) = session.edit(rt, load(rt, alloc, "a", BOX, raw)) else {
         return false;
     };
     assert!(rt; refused == SessionRefused::Buffer(BufferRefused::Swap(SwapRefused::SwapFault)));
@@ -38,14 +39,14 @@ fn load_again<C: TileChain>(
 
 /// Paints a part of the buffer, and again where the disk refuses it. Returns whether it did.
 fn paint_again<C: TileChain>(
-    rt: &impl Abort,
+    rt: &(impl Abort + Threads + Sync),
     session: &mut OwnedSession<IntKit, C>,
     alloc: Global,
 ) -> bool
     requires { IsOver same_operation int_meanings session.old.state (C.held session.old.chain) }
     ensures { IsOver same_operation int_meanings session.new.state (C.held session.new.chain) }
 {
-    let Err(refused) = session.edit(paint(rt, alloc, "a", [60, 0, 8, 1], 7)) else {
+    let Err(refused) = session.edit(rt, paint(rt, alloc, "a", [60, 0, 8, 1], 7)) else {
         return false;
     };
     assert!(rt; refused == SessionRefused::Buffer(BufferRefused::Swap(SwapRefused::SwapFault)));
@@ -55,7 +56,7 @@ fn paint_again<C: TileChain>(
 
 /// Renders all, and again where the disk refuses it. Returns the patch, and whether it did.
 fn render_again<C: TileChain>(
-    rt: &impl Abort,
+    rt: &(impl Abort + Threads + Sync),
     session: &mut OwnedSession<IntKit, C>,
 ) -> (Patch, bool)
     requires { IsOver same_operation int_meanings session.old.state (C.held session.old.chain) }
@@ -74,7 +75,7 @@ fn render_again<C: TileChain>(
 /// Inverts a buffer twice, paints a part of it, undoes that and redoes it, over a disk of which one call fails. Each
 /// state shows the buffer as it was committed. Returns whether the disk refused a call.
 pub fn invert_and_paint<C: TileChain>(
-    rt: &impl Abort,
+    rt: &(impl Abort + Threads + Sync),
     session: &mut OwnedSession<IntKit, C>,
     alloc: Global,
     raw: &[u8],

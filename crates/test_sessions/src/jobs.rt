@@ -14,6 +14,7 @@ use patch_abyss::{Abyss, Patch};
 use render_workers::RenderRefused;
 use std::alloc::Global;
 use std::process::Abort;
+use std::thread::Threads;
 
 /// Returns the operation that takes the mean of nine pixels.
 fn mean() -> IntOp {
@@ -36,7 +37,7 @@ fn check_all(rt: &impl Abort, patch: &Patch, wanted: &[u8]) {
 
 /// Commits a gray square of 128 by 128 pixels under the mean of nine, as the first state.
 pub fn commit_a_mean<C: TileChain>(
-    rt: &impl Abort,
+    rt: &(impl Abort + Threads + Sync),
     session: &mut OwnedSession<IntKit, C>,
     alloc: Global,
 )
@@ -55,7 +56,7 @@ pub fn commit_a_mean<C: TileChain>(
 /// Renders a mean twice, again after one pixel was written and committed, after an undo and after a redo. The tiles
 /// that meet the pixel's damage are evaluated again, and no others.
 pub fn average_and_undo<C: TileChain>(
-    rt: &impl Abort,
+    rt: &(impl Abort + Threads + Sync),
     session: &mut OwnedSession<IntKit, C>,
     alloc: Global,
 )
@@ -88,7 +89,7 @@ pub fn average_and_undo<C: TileChain>(
 
 /// Loads four pixels, and shows them through two nodes that are edited between two commits.
 pub fn load_and_gain<C: TileChain>(
-    rt: &impl Abort,
+    rt: &(impl Abort + Threads + Sync),
     session: &mut OwnedSession<IntKit, C>,
     alloc: Global,
 )
@@ -130,7 +131,7 @@ pub fn load_and_gain<C: TileChain>(
 /// where it was the last that was looked up. The mean is one pixel wider than the buffer on each side, so that a
 /// whole row of it needs three tiles to the right of the origin.
 pub fn cache_one_pair<C: TileChain>(
-    rt: &impl Abort,
+    rt: &(impl Abort + Threads + Sync),
     session: &mut OwnedSession<IntKit, C>,
     alloc: Global,
 )

@@ -10,12 +10,13 @@ use outside_io::{MemSwap, SwapDisk};
 use std::alloc::Global;
 use std::process::Abort;
 use std::test::Fail;
+use std::thread::Threads;
 
 #[test]
 fn a_commit_voids_what_an_edit_damages(rt: HostRuntime) -> Result<(), Fail> {
     let alloc = rt.alloc();
     let mut disk = MemSwap::new(alloc, 64, Vec::new(alloc), Vec::new(alloc))?;
-    let mut session = Session::new(alloc, IntKit, &mut disk, 64, 1, 100)?;
+    let mut session = Session::new(alloc, IntKit, &mut disk, 64, 1, 100, 3)?;
     average_and_undo(&rt, &mut session, alloc);
     Ok(())
 }
@@ -24,7 +25,7 @@ fn a_commit_voids_what_an_edit_damages(rt: HostRuntime) -> Result<(), Fail> {
 fn edits_of_nodes_are_pending_until_a_commit(rt: HostRuntime) -> Result<(), Fail> {
     let alloc = rt.alloc();
     let mut disk = MemSwap::new(alloc, 64, Vec::new(alloc), Vec::new(alloc))?;
-    let mut session = Session::new(alloc, IntKit, &mut disk, 64, 1, 100)?;
+    let mut session = Session::new(alloc, IntKit, &mut disk, 64, 1, 100, 3)?;
     load_and_gain(&rt, &mut session, alloc);
     Ok(())
 }
@@ -33,7 +34,7 @@ fn edits_of_nodes_are_pending_until_a_commit(rt: HostRuntime) -> Result<(), Fail
 fn a_cache_of_one_pair_is_enough(rt: HostRuntime) -> Result<(), Fail> {
     let alloc = rt.alloc();
     let mut disk = MemSwap::new(alloc, 64, Vec::new(alloc), Vec::new(alloc))?;
-    let mut session = Session::new(alloc, IntKit, &mut disk, 64, 1, 1)?;
+    let mut session = Session::new(alloc, IntKit, &mut disk, 64, 1, 1, 3)?;
     cache_one_pair(&rt, &mut session, alloc);
     Ok(())
 }
@@ -50,9 +51,13 @@ fn grays(rt: &impl Abort, alloc: Global) -> (Vec<u8>, Vec<u8>) {
 }
 
 /// Runs a job over a session of one tile in memory and four cached ones. Returns whether the disk refused a call.
-fn fault_over<D: SwapDisk>(rt: &impl Abort, alloc: Global, disk: &mut D) -> Result<bool, Fail> {
+fn fault_over<D: SwapDisk>(
+    rt: &(impl Abort + Threads + Sync),
+    alloc: Global,
+    disk: &mut D,
+) -> Result<bool, Fail> {
     let (raw, painted) = grays(rt, alloc);
-    let mut session = Session::new(alloc, IntKit, disk, 64, 1, 4)?;
+    let mut session = Session::new(alloc, IntKit, disk, 64, 1, 4, 3)?;
     Ok(invert_and_paint(rt, &mut session, alloc, &raw, &painted))
 }
 

@@ -1,7 +1,7 @@
 use Rattle.std.proofs.Common.{◌≡◌, ◌<◌, ◌+◌, [], ◌∷◌, drop, length, refl, sym, ap, ◌∙◌, arith}
 use Rattle.std.proofs.lemmas.List.{drop_all, drop_more}
-use Rattle.run_events.proofs.Faults.{faults_by_cause, faults_then, no_faults}
-use Rattle.run_lines.proofs.Going.{lines_same_end, reached_end, reached_first, reached_next, reached_report}
+use Rattle.run_events.proofs.Faults.{faults_then, no_faults}
+use Rattle.run_lines.proofs.Going.{lines_same_end, reached_all, reached_counts, reached_end, reached_first, reached_next}
 use Rattle.script_read.specs.declared.command.Line.{Line}
 use Rattle.run_lines.proofs.lines.carry_out_lines.Goals as goal
 
@@ -49,9 +49,10 @@ pub returns-clause-carried : goal.returns-clause-carried
 returns-clause-carried g c = λ exposed capacity state files holds counts.
     let lines = c.args.lines.now in
     let none : drop c.loop-line.line-index lines ≡ [] = drop_all c.loop-line.line-index lines (omega arith) in
-    reached_report exposed capacity state files lines _ _ _ _ _ _ _ _ (rw none at (c.loop-line.invariant.reached exposed capacity state files holds counts))
-    c.counts.ensures.applied c.counts.ensures.reused (c.put_report.ensures.cause 0 0).room (c.put_report.ensures.leaves (g.F.Shelf.files c.loop-line.shelf))
+    reached_all exposed capacity state files lines _ _ _ _ (rw none at (c.loop-line.invariant.reached exposed capacity state files holds counts))
 
-pub returns-clause-faults : goal.returns-clause-faults
-returns-clause-faults g c =
-    faults_then _ _ _ _ _ c.loop-line.invariant.faults (faults_by_cause _ _ _ refl (c.put_report.ensures.cause _ _))
+pub returns-clause-counts : goal.returns-clause-counts
+returns-clause-counts g c = λ exposed capacity state files holds counts.
+    let lines = c.args.lines.now in
+    let none : drop c.loop-line.line-index lines ≡ [] = drop_all c.loop-line.line-index lines (omega arith) in
+    reached_counts exposed capacity state files lines _ _ _ _ (rw none at (c.loop-line.invariant.reached exposed capacity state files holds counts))

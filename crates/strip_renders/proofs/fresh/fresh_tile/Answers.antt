@@ -13,17 +13,18 @@ use Rattle.roi_planner.proofs.Widths.{handed-on}
 use Rattle.strip_renders.specs.Looks.{HasSameCache, IsKept}
 use Rattle.strip_renders.specs.Moments.{moment}
 use Rattle.strip_renders.proofs.Moments.{Turns, cause-kept, keeps-both, keeps-most, keeps-reads, keeps-turns, matched-err, owns-last, owns-turned, source_of}
+use Rattle.strip_renders.proofs.AheadLaws.{refused-after}
 use Rattle.strip_renders.proofs.Pairs.{kept-after, named}
 use Rattle.strip_renders.proofs.fresh.fresh_tile.Goals as goal
 
 pub returns-in_err-tile-clause-kept : goal.returns-in_err-tile-clause-kept
 returns-in_err-tile-clause-kept g c =
     let old = moment (g.S.SourceTiles.facts c.args.sources.now) (g.S.SourceTiles.images c.args.sources.now (g.H.ChainMeaning.held c.args.chain.now)) (g.S.SourceTiles.names c.args.sources.now) (g.C.PairStore.pairs c.args.cache.now) (g.C.PairStore.sizes c.args.cache.now (g.H.ChainMeaning.held c.args.chain.now)) (g.C.PairStore.cached c.args.cache.now (g.H.ChainMeaning.held c.args.chain.now)) (g.C.PairStore.capacity c.args.cache.now) (g.C.PairStore.names c.args.cache.now) (g.H.ChainMeaning.held c.args.chain.now) (g.H.ChainMeaning.counts c.args.chain.now) (g.H.ChainMeaning.loans c.args.chain.now) in
-    let mid = moment (g.S.SourceTiles.facts c.evaluate.new.sources) (g.S.SourceTiles.images c.evaluate.new.sources (g.H.ChainMeaning.held c.evaluate.new.chain)) (g.S.SourceTiles.names c.evaluate.new.sources) (g.C.PairStore.pairs c.args.cache.now) (g.C.PairStore.sizes c.args.cache.now (g.H.ChainMeaning.held c.evaluate.new.chain)) (g.C.PairStore.cached c.args.cache.now (g.H.ChainMeaning.held c.evaluate.new.chain)) (g.C.PairStore.capacity c.args.cache.now) (g.C.PairStore.names c.args.cache.now) (g.H.ChainMeaning.held c.evaluate.new.chain) (g.H.ChainMeaning.counts c.evaluate.new.chain) (g.H.ChainMeaning.loans c.evaluate.new.chain) in
+    let mid = moment (g.S.SourceTiles.facts c.made_or_evaluated.new.sources) (g.S.SourceTiles.images c.made_or_evaluated.new.sources (g.H.ChainMeaning.held c.made_or_evaluated.new.chain)) (g.S.SourceTiles.names c.made_or_evaluated.new.sources) (g.C.PairStore.pairs c.args.cache.now) (g.C.PairStore.sizes c.args.cache.now (g.H.ChainMeaning.held c.made_or_evaluated.new.chain)) (g.C.PairStore.cached c.args.cache.now (g.H.ChainMeaning.held c.made_or_evaluated.new.chain)) (g.C.PairStore.capacity c.args.cache.now) (g.C.PairStore.names c.args.cache.now) (g.H.ChainMeaning.held c.made_or_evaluated.new.chain) (g.H.ChainMeaning.counts c.made_or_evaluated.new.chain) (g.H.ChainMeaning.loans c.made_or_evaluated.new.chain) in
     let h0 = g.H.ChainMeaning.held c.args.chain.now in
-    let h1 = g.H.ChainMeaning.held c.evaluate.new.chain in
+    let h1 = g.H.ChainMeaning.held c.made_or_evaluated.new.chain in
     let source = g.S.SourceTiles.names c.args.sources.now in
-    let source1 = g.S.SourceTiles.names c.evaluate.new.sources in
+    let source1 = g.S.SourceTiles.names c.made_or_evaluated.new.sources in
     let cached = g.C.PairStore.names c.args.cache.now in
     let reads : Reads (source_of old) (source_of mid) = c.in_err-tile.ensures.reads in
     let sizes : mid.sizes ≡ old.sizes = seen-unchanged h0 h1 source source1 (reads-others _ _ reads) cached (g.C.PairStore.sizes c.args.cache.now) (g.met.C.PairStore.framed_sizes c.args.cache.now) c.requires.owned in
@@ -34,15 +35,15 @@ returns-in_err-tile-clause-kept g c =
 pub returns-in_err-tile-clause-keeps : goal.returns-in_err-tile-clause-keeps
 returns-in_err-tile-clause-keeps g c =
     let old = moment (g.S.SourceTiles.facts c.args.sources.now) (g.S.SourceTiles.images c.args.sources.now (g.H.ChainMeaning.held c.args.chain.now)) (g.S.SourceTiles.names c.args.sources.now) (g.C.PairStore.pairs c.args.cache.now) (g.C.PairStore.sizes c.args.cache.now (g.H.ChainMeaning.held c.args.chain.now)) (g.C.PairStore.cached c.args.cache.now (g.H.ChainMeaning.held c.args.chain.now)) (g.C.PairStore.capacity c.args.cache.now) (g.C.PairStore.names c.args.cache.now) (g.H.ChainMeaning.held c.args.chain.now) (g.H.ChainMeaning.counts c.args.chain.now) (g.H.ChainMeaning.loans c.args.chain.now) in
-    let mid = moment (g.S.SourceTiles.facts c.evaluate.new.sources) (g.S.SourceTiles.images c.evaluate.new.sources (g.H.ChainMeaning.held c.evaluate.new.chain)) (g.S.SourceTiles.names c.evaluate.new.sources) (g.C.PairStore.pairs c.args.cache.now) (g.C.PairStore.sizes c.args.cache.now (g.H.ChainMeaning.held c.evaluate.new.chain)) (g.C.PairStore.cached c.args.cache.now (g.H.ChainMeaning.held c.evaluate.new.chain)) (g.C.PairStore.capacity c.args.cache.now) (g.C.PairStore.names c.args.cache.now) (g.H.ChainMeaning.held c.evaluate.new.chain) (g.H.ChainMeaning.counts c.evaluate.new.chain) (g.H.ChainMeaning.loans c.evaluate.new.chain) in
+    let mid = moment (g.S.SourceTiles.facts c.made_or_evaluated.new.sources) (g.S.SourceTiles.images c.made_or_evaluated.new.sources (g.H.ChainMeaning.held c.made_or_evaluated.new.chain)) (g.S.SourceTiles.names c.made_or_evaluated.new.sources) (g.C.PairStore.pairs c.args.cache.now) (g.C.PairStore.sizes c.args.cache.now (g.H.ChainMeaning.held c.made_or_evaluated.new.chain)) (g.C.PairStore.cached c.args.cache.now (g.H.ChainMeaning.held c.made_or_evaluated.new.chain)) (g.C.PairStore.capacity c.args.cache.now) (g.C.PairStore.names c.args.cache.now) (g.H.ChainMeaning.held c.made_or_evaluated.new.chain) (g.H.ChainMeaning.counts c.made_or_evaluated.new.chain) (g.H.ChainMeaning.loans c.made_or_evaluated.new.chain) in
     keeps-most 0 1 old mid (omega arith) (keeps-reads old mid c.in_err-tile.ensures.reads refl refl)
 
 pub returns-in_err-tile-clause-cache_over : goal.returns-in_err-tile-clause-cache_over
 returns-in_err-tile-clause-cache_over g c =
     let h0 = g.H.ChainMeaning.held c.args.chain.now in
-    let h1 = g.H.ChainMeaning.held c.evaluate.new.chain in
+    let h1 = g.H.ChainMeaning.held c.made_or_evaluated.new.chain in
     let source = g.S.SourceTiles.names c.args.sources.now in
-    let source1 = g.S.SourceTiles.names c.evaluate.new.sources in
+    let source1 = g.S.SourceTiles.names c.made_or_evaluated.new.sources in
     let cached = g.C.PairStore.names c.args.cache.now in
     g.met.C.PairStore.framed_condition c.args.cache.now h0 h1 c.requires.cache_over c.in_err-tile.ensures.reads.others.exposed
     (others-unchanged h0 h1 source source1 (reads-others _ _ c.in_err-tile.ensures.reads) cached c.requires.owned)
@@ -51,11 +52,11 @@ returns-in_err-tile-clause-cache_over g c =
 pub returns-in_err-share-clause-kept : goal.returns-in_err-share-clause-kept
 returns-in_err-share-clause-kept g c =
     let old = moment (g.S.SourceTiles.facts c.args.sources.now) (g.S.SourceTiles.images c.args.sources.now (g.H.ChainMeaning.held c.args.chain.now)) (g.S.SourceTiles.names c.args.sources.now) (g.C.PairStore.pairs c.args.cache.now) (g.C.PairStore.sizes c.args.cache.now (g.H.ChainMeaning.held c.args.chain.now)) (g.C.PairStore.cached c.args.cache.now (g.H.ChainMeaning.held c.args.chain.now)) (g.C.PairStore.capacity c.args.cache.now) (g.C.PairStore.names c.args.cache.now) (g.H.ChainMeaning.held c.args.chain.now) (g.H.ChainMeaning.counts c.args.chain.now) (g.H.ChainMeaning.loans c.args.chain.now) in
-    let mid = moment (g.S.SourceTiles.facts c.evaluate.new.sources) (g.S.SourceTiles.images c.evaluate.new.sources (g.H.ChainMeaning.held c.evaluate.new.chain)) (g.S.SourceTiles.names c.evaluate.new.sources) (g.C.PairStore.pairs c.args.cache.now) (g.C.PairStore.sizes c.args.cache.now (g.H.ChainMeaning.held c.evaluate.new.chain)) (g.C.PairStore.cached c.args.cache.now (g.H.ChainMeaning.held c.evaluate.new.chain)) (g.C.PairStore.capacity c.args.cache.now) (g.C.PairStore.names c.args.cache.now) (g.H.ChainMeaning.held c.evaluate.new.chain) (g.H.ChainMeaning.counts c.evaluate.new.chain) (g.H.ChainMeaning.loans c.evaluate.new.chain) in
+    let mid = moment (g.S.SourceTiles.facts c.made_or_evaluated.new.sources) (g.S.SourceTiles.images c.made_or_evaluated.new.sources (g.H.ChainMeaning.held c.made_or_evaluated.new.chain)) (g.S.SourceTiles.names c.made_or_evaluated.new.sources) (g.C.PairStore.pairs c.args.cache.now) (g.C.PairStore.sizes c.args.cache.now (g.H.ChainMeaning.held c.made_or_evaluated.new.chain)) (g.C.PairStore.cached c.args.cache.now (g.H.ChainMeaning.held c.made_or_evaluated.new.chain)) (g.C.PairStore.capacity c.args.cache.now) (g.C.PairStore.names c.args.cache.now) (g.H.ChainMeaning.held c.made_or_evaluated.new.chain) (g.H.ChainMeaning.counts c.made_or_evaluated.new.chain) (g.H.ChainMeaning.loans c.made_or_evaluated.new.chain) in
     let h0 = g.H.ChainMeaning.held c.args.chain.now in
-    let h1 = g.H.ChainMeaning.held c.evaluate.new.chain in
+    let h1 = g.H.ChainMeaning.held c.made_or_evaluated.new.chain in
     let source = g.S.SourceTiles.names c.args.sources.now in
-    let source1 = g.S.SourceTiles.names c.evaluate.new.sources in
+    let source1 = g.S.SourceTiles.names c.made_or_evaluated.new.sources in
     let cached = g.C.PairStore.names c.args.cache.now in
     let reads : Reads (source_of old) (source_of mid) = c.in_ok-tile.ensures.reads in
     let sizes : mid.sizes ≡ old.sizes = seen-unchanged h0 h1 source source1 (reads-others _ _ reads) cached (g.C.PairStore.sizes c.args.cache.now) (g.met.C.PairStore.framed_sizes c.args.cache.now) c.requires.owned in
@@ -66,15 +67,15 @@ returns-in_err-share-clause-kept g c =
 pub returns-in_err-share-clause-keeps : goal.returns-in_err-share-clause-keeps
 returns-in_err-share-clause-keeps g c =
     let old = moment (g.S.SourceTiles.facts c.args.sources.now) (g.S.SourceTiles.images c.args.sources.now (g.H.ChainMeaning.held c.args.chain.now)) (g.S.SourceTiles.names c.args.sources.now) (g.C.PairStore.pairs c.args.cache.now) (g.C.PairStore.sizes c.args.cache.now (g.H.ChainMeaning.held c.args.chain.now)) (g.C.PairStore.cached c.args.cache.now (g.H.ChainMeaning.held c.args.chain.now)) (g.C.PairStore.capacity c.args.cache.now) (g.C.PairStore.names c.args.cache.now) (g.H.ChainMeaning.held c.args.chain.now) (g.H.ChainMeaning.counts c.args.chain.now) (g.H.ChainMeaning.loans c.args.chain.now) in
-    let mid = moment (g.S.SourceTiles.facts c.evaluate.new.sources) (g.S.SourceTiles.images c.evaluate.new.sources (g.H.ChainMeaning.held c.evaluate.new.chain)) (g.S.SourceTiles.names c.evaluate.new.sources) (g.C.PairStore.pairs c.args.cache.now) (g.C.PairStore.sizes c.args.cache.now (g.H.ChainMeaning.held c.evaluate.new.chain)) (g.C.PairStore.cached c.args.cache.now (g.H.ChainMeaning.held c.evaluate.new.chain)) (g.C.PairStore.capacity c.args.cache.now) (g.C.PairStore.names c.args.cache.now) (g.H.ChainMeaning.held c.evaluate.new.chain) (g.H.ChainMeaning.counts c.evaluate.new.chain) (g.H.ChainMeaning.loans c.evaluate.new.chain) in
+    let mid = moment (g.S.SourceTiles.facts c.made_or_evaluated.new.sources) (g.S.SourceTiles.images c.made_or_evaluated.new.sources (g.H.ChainMeaning.held c.made_or_evaluated.new.chain)) (g.S.SourceTiles.names c.made_or_evaluated.new.sources) (g.C.PairStore.pairs c.args.cache.now) (g.C.PairStore.sizes c.args.cache.now (g.H.ChainMeaning.held c.made_or_evaluated.new.chain)) (g.C.PairStore.cached c.args.cache.now (g.H.ChainMeaning.held c.made_or_evaluated.new.chain)) (g.C.PairStore.capacity c.args.cache.now) (g.C.PairStore.names c.args.cache.now) (g.H.ChainMeaning.held c.made_or_evaluated.new.chain) (g.H.ChainMeaning.counts c.made_or_evaluated.new.chain) (g.H.ChainMeaning.loans c.made_or_evaluated.new.chain) in
     keeps-most 0 1 old mid (omega arith) (keeps-reads old mid c.in_ok-tile.ensures.reads refl refl)
 
 pub returns-in_err-share-clause-cache_over : goal.returns-in_err-share-clause-cache_over
 returns-in_err-share-clause-cache_over g c =
     let h0 = g.H.ChainMeaning.held c.args.chain.now in
-    let h1 = g.H.ChainMeaning.held c.evaluate.new.chain in
+    let h1 = g.H.ChainMeaning.held c.made_or_evaluated.new.chain in
     let source = g.S.SourceTiles.names c.args.sources.now in
-    let source1 = g.S.SourceTiles.names c.evaluate.new.sources in
+    let source1 = g.S.SourceTiles.names c.made_or_evaluated.new.sources in
     let cached = g.C.PairStore.names c.args.cache.now in
     g.met.C.PairStore.framed_condition c.args.cache.now h0 h1 c.requires.cache_over c.in_ok-tile.ensures.reads.others.exposed
     (others-unchanged h0 h1 source source1 (reads-others _ _ c.in_ok-tile.ensures.reads) cached c.requires.owned)
@@ -83,9 +84,9 @@ returns-in_err-share-clause-cache_over g c =
 pub keep-requires-clause-over : goal.keep-requires-clause-over
 keep-requires-clause-over g c =
     let h0 = g.H.ChainMeaning.held c.args.chain.now in
-    let h1 = g.H.ChainMeaning.held c.evaluate.new.chain in
+    let h1 = g.H.ChainMeaning.held c.made_or_evaluated.new.chain in
     let source = g.S.SourceTiles.names c.args.sources.now in
-    let source1 = g.S.SourceTiles.names c.evaluate.new.sources in
+    let source1 = g.S.SourceTiles.names c.made_or_evaluated.new.sources in
     let cached = g.C.PairStore.names c.args.cache.now in
     g.met.C.PairStore.framed_condition c.args.cache.now h0 h1 c.requires.cache_over c.in_ok-tile.ensures.reads.others.exposed
     (others-unchanged h0 h1 source source1 (reads-others _ _ c.in_ok-tile.ensures.reads) cached c.requires.owned)
@@ -102,12 +103,12 @@ keep-requires-clause-absent g c =
 pub returns-in_err-keep-clause-keeps : goal.returns-in_err-keep-clause-keeps
 returns-in_err-keep-clause-keeps g c =
     let old = moment (g.S.SourceTiles.facts c.args.sources.now) (g.S.SourceTiles.images c.args.sources.now (g.H.ChainMeaning.held c.args.chain.now)) (g.S.SourceTiles.names c.args.sources.now) (g.C.PairStore.pairs c.args.cache.now) (g.C.PairStore.sizes c.args.cache.now (g.H.ChainMeaning.held c.args.chain.now)) (g.C.PairStore.cached c.args.cache.now (g.H.ChainMeaning.held c.args.chain.now)) (g.C.PairStore.capacity c.args.cache.now) (g.C.PairStore.names c.args.cache.now) (g.H.ChainMeaning.held c.args.chain.now) (g.H.ChainMeaning.counts c.args.chain.now) (g.H.ChainMeaning.loans c.args.chain.now) in
-    let mid = moment (g.S.SourceTiles.facts c.evaluate.new.sources) (g.S.SourceTiles.images c.evaluate.new.sources (g.H.ChainMeaning.held c.evaluate.new.chain)) (g.S.SourceTiles.names c.evaluate.new.sources) (g.C.PairStore.pairs c.args.cache.now) (g.C.PairStore.sizes c.args.cache.now (g.H.ChainMeaning.held c.evaluate.new.chain)) (g.C.PairStore.cached c.args.cache.now (g.H.ChainMeaning.held c.evaluate.new.chain)) (g.C.PairStore.capacity c.args.cache.now) (g.C.PairStore.names c.args.cache.now) (g.H.ChainMeaning.held c.evaluate.new.chain) (g.H.ChainMeaning.counts c.evaluate.new.chain) (g.H.ChainMeaning.loans c.evaluate.new.chain) in
-    let new = moment (g.S.SourceTiles.facts c.evaluate.new.sources) (g.S.SourceTiles.images c.evaluate.new.sources (g.H.ChainMeaning.held c.keep.new.chain)) (g.S.SourceTiles.names c.evaluate.new.sources) (g.C.PairStore.pairs c.keep.new.self) (g.C.PairStore.sizes c.keep.new.self (g.H.ChainMeaning.held c.keep.new.chain)) (g.C.PairStore.cached c.keep.new.self (g.H.ChainMeaning.held c.keep.new.chain)) (g.C.PairStore.capacity c.keep.new.self) (g.C.PairStore.names c.keep.new.self) (g.H.ChainMeaning.held c.keep.new.chain) (g.H.ChainMeaning.counts c.keep.new.chain) (g.H.ChainMeaning.loans c.keep.new.chain) in
+    let mid = moment (g.S.SourceTiles.facts c.made_or_evaluated.new.sources) (g.S.SourceTiles.images c.made_or_evaluated.new.sources (g.H.ChainMeaning.held c.made_or_evaluated.new.chain)) (g.S.SourceTiles.names c.made_or_evaluated.new.sources) (g.C.PairStore.pairs c.args.cache.now) (g.C.PairStore.sizes c.args.cache.now (g.H.ChainMeaning.held c.made_or_evaluated.new.chain)) (g.C.PairStore.cached c.args.cache.now (g.H.ChainMeaning.held c.made_or_evaluated.new.chain)) (g.C.PairStore.capacity c.args.cache.now) (g.C.PairStore.names c.args.cache.now) (g.H.ChainMeaning.held c.made_or_evaluated.new.chain) (g.H.ChainMeaning.counts c.made_or_evaluated.new.chain) (g.H.ChainMeaning.loans c.made_or_evaluated.new.chain) in
+    let new = moment (g.S.SourceTiles.facts c.made_or_evaluated.new.sources) (g.S.SourceTiles.images c.made_or_evaluated.new.sources (g.H.ChainMeaning.held c.keep.new.chain)) (g.S.SourceTiles.names c.made_or_evaluated.new.sources) (g.C.PairStore.pairs c.keep.new.self) (g.C.PairStore.sizes c.keep.new.self (g.H.ChainMeaning.held c.keep.new.chain)) (g.C.PairStore.cached c.keep.new.self (g.H.ChainMeaning.held c.keep.new.chain)) (g.C.PairStore.capacity c.keep.new.self) (g.C.PairStore.names c.keep.new.self) (g.H.ChainMeaning.held c.keep.new.chain) (g.H.ChainMeaning.counts c.keep.new.chain) (g.H.ChainMeaning.loans c.keep.new.chain) in
     let h0 = g.H.ChainMeaning.held c.args.chain.now in
-    let h1 = g.H.ChainMeaning.held c.evaluate.new.chain in
+    let h1 = g.H.ChainMeaning.held c.made_or_evaluated.new.chain in
     let source = g.S.SourceTiles.names c.args.sources.now in
-    let source1 = g.S.SourceTiles.names c.evaluate.new.sources in
+    let source1 = g.S.SourceTiles.names c.made_or_evaluated.new.sources in
     let cached = g.C.PairStore.names c.args.cache.now in
     let h2 = g.H.ChainMeaning.held c.keep.new.chain in
     let cached2 = g.C.PairStore.names c.keep.new.self in
@@ -120,32 +121,32 @@ returns-in_err-keep-clause-keeps g c =
       capacity = c.in_err-keep.ensures.capacity;
     } in
     let owned : Owns h1 (cached ++ source1) = owns-turned h1 source1 cached (others-own h0 h1 source source1 (reads-others _ _ c.in_ok-tile.ensures.reads) cached c.requires.owned) in
-    let images : new.images ≡ mid.images = seen-unchanged h1 h2 cached cached2 c.in_err-keep.ensures.others source1 (g.S.SourceTiles.images c.evaluate.new.sources) (g.met.S.SourceTiles.framed c.evaluate.new.sources) owned in
+    let images : new.images ≡ mid.images = seen-unchanged h1 h2 cached cached2 c.in_err-keep.ensures.others source1 (g.S.SourceTiles.images c.made_or_evaluated.new.sources) (g.met.S.SourceTiles.framed c.made_or_evaluated.new.sources) owned in
     keeps-both 0 1 old mid new (keeps-reads old mid c.in_ok-tile.ensures.reads refl refl) (keeps-turns 1 mid new turns refl images refl)
 
 pub returns-in_err-keep-clause-sources_over : goal.returns-in_err-keep-clause-sources_over
 returns-in_err-keep-clause-sources_over g c =
     let h0 = g.H.ChainMeaning.held c.args.chain.now in
-    let h1 = g.H.ChainMeaning.held c.evaluate.new.chain in
+    let h1 = g.H.ChainMeaning.held c.made_or_evaluated.new.chain in
     let source = g.S.SourceTiles.names c.args.sources.now in
-    let source1 = g.S.SourceTiles.names c.evaluate.new.sources in
+    let source1 = g.S.SourceTiles.names c.made_or_evaluated.new.sources in
     let cached = g.C.PairStore.names c.args.cache.now in
     let h2 = g.H.ChainMeaning.held c.keep.new.chain in
     let cached2 = g.C.PairStore.names c.keep.new.self in
     let owned : Owns h1 (cached ++ source1) = owns-turned h1 source1 cached (others-own h0 h1 source source1 (reads-others _ _ c.in_ok-tile.ensures.reads) cached c.requires.owned) in
-    g.met.S.SourceTiles.framed_condition c.evaluate.new.sources h1 h2 c.in_ok-tile.ensures.over c.in_err-keep.ensures.others.exposed
+    g.met.S.SourceTiles.framed_condition c.made_or_evaluated.new.sources h1 h2 c.in_ok-tile.ensures.over c.in_err-keep.ensures.others.exposed
     (others-unchanged h1 h2 cached cached2 c.in_err-keep.ensures.others source1 owned)
     (owns-last h2 cached2 source1 (others-own h1 h2 cached cached2 c.in_err-keep.ensures.others source1 owned))
 
 pub returns-clause-keeps : goal.returns-clause-keeps
 returns-clause-keeps g c =
     let old = moment (g.S.SourceTiles.facts c.args.sources.now) (g.S.SourceTiles.images c.args.sources.now (g.H.ChainMeaning.held c.args.chain.now)) (g.S.SourceTiles.names c.args.sources.now) (g.C.PairStore.pairs c.args.cache.now) (g.C.PairStore.sizes c.args.cache.now (g.H.ChainMeaning.held c.args.chain.now)) (g.C.PairStore.cached c.args.cache.now (g.H.ChainMeaning.held c.args.chain.now)) (g.C.PairStore.capacity c.args.cache.now) (g.C.PairStore.names c.args.cache.now) (g.H.ChainMeaning.held c.args.chain.now) (g.H.ChainMeaning.counts c.args.chain.now) (g.H.ChainMeaning.loans c.args.chain.now) in
-    let mid = moment (g.S.SourceTiles.facts c.evaluate.new.sources) (g.S.SourceTiles.images c.evaluate.new.sources (g.H.ChainMeaning.held c.evaluate.new.chain)) (g.S.SourceTiles.names c.evaluate.new.sources) (g.C.PairStore.pairs c.args.cache.now) (g.C.PairStore.sizes c.args.cache.now (g.H.ChainMeaning.held c.evaluate.new.chain)) (g.C.PairStore.cached c.args.cache.now (g.H.ChainMeaning.held c.evaluate.new.chain)) (g.C.PairStore.capacity c.args.cache.now) (g.C.PairStore.names c.args.cache.now) (g.H.ChainMeaning.held c.evaluate.new.chain) (g.H.ChainMeaning.counts c.evaluate.new.chain) (g.H.ChainMeaning.loans c.evaluate.new.chain) in
-    let new = moment (g.S.SourceTiles.facts c.evaluate.new.sources) (g.S.SourceTiles.images c.evaluate.new.sources (g.H.ChainMeaning.held c.keep.new.chain)) (g.S.SourceTiles.names c.evaluate.new.sources) (g.C.PairStore.pairs c.keep.new.self) (g.C.PairStore.sizes c.keep.new.self (g.H.ChainMeaning.held c.keep.new.chain)) (g.C.PairStore.cached c.keep.new.self (g.H.ChainMeaning.held c.keep.new.chain)) (g.C.PairStore.capacity c.keep.new.self) (g.C.PairStore.names c.keep.new.self) (g.H.ChainMeaning.held c.keep.new.chain) (g.H.ChainMeaning.counts c.keep.new.chain) (g.H.ChainMeaning.loans c.keep.new.chain) in
+    let mid = moment (g.S.SourceTiles.facts c.made_or_evaluated.new.sources) (g.S.SourceTiles.images c.made_or_evaluated.new.sources (g.H.ChainMeaning.held c.made_or_evaluated.new.chain)) (g.S.SourceTiles.names c.made_or_evaluated.new.sources) (g.C.PairStore.pairs c.args.cache.now) (g.C.PairStore.sizes c.args.cache.now (g.H.ChainMeaning.held c.made_or_evaluated.new.chain)) (g.C.PairStore.cached c.args.cache.now (g.H.ChainMeaning.held c.made_or_evaluated.new.chain)) (g.C.PairStore.capacity c.args.cache.now) (g.C.PairStore.names c.args.cache.now) (g.H.ChainMeaning.held c.made_or_evaluated.new.chain) (g.H.ChainMeaning.counts c.made_or_evaluated.new.chain) (g.H.ChainMeaning.loans c.made_or_evaluated.new.chain) in
+    let new = moment (g.S.SourceTiles.facts c.made_or_evaluated.new.sources) (g.S.SourceTiles.images c.made_or_evaluated.new.sources (g.H.ChainMeaning.held c.keep.new.chain)) (g.S.SourceTiles.names c.made_or_evaluated.new.sources) (g.C.PairStore.pairs c.keep.new.self) (g.C.PairStore.sizes c.keep.new.self (g.H.ChainMeaning.held c.keep.new.chain)) (g.C.PairStore.cached c.keep.new.self (g.H.ChainMeaning.held c.keep.new.chain)) (g.C.PairStore.capacity c.keep.new.self) (g.C.PairStore.names c.keep.new.self) (g.H.ChainMeaning.held c.keep.new.chain) (g.H.ChainMeaning.counts c.keep.new.chain) (g.H.ChainMeaning.loans c.keep.new.chain) in
     let h0 = g.H.ChainMeaning.held c.args.chain.now in
-    let h1 = g.H.ChainMeaning.held c.evaluate.new.chain in
+    let h1 = g.H.ChainMeaning.held c.made_or_evaluated.new.chain in
     let source = g.S.SourceTiles.names c.args.sources.now in
-    let source1 = g.S.SourceTiles.names c.evaluate.new.sources in
+    let source1 = g.S.SourceTiles.names c.made_or_evaluated.new.sources in
     let cached = g.C.PairStore.names c.args.cache.now in
     let h2 = g.H.ChainMeaning.held c.keep.new.chain in
     let cached2 = g.C.PairStore.names c.keep.new.self in
@@ -158,32 +159,32 @@ returns-clause-keeps g c =
       capacity = c.in_ok-keep.ensures.capacity;
     } in
     let owned : Owns h1 (cached ++ source1) = owns-turned h1 source1 cached (others-own h0 h1 source source1 (reads-others _ _ c.in_ok-tile.ensures.reads) cached c.requires.owned) in
-    let images : new.images ≡ mid.images = seen-unchanged h1 h2 cached cached2 c.in_ok-keep.ensures.others source1 (g.S.SourceTiles.images c.evaluate.new.sources) (g.met.S.SourceTiles.framed c.evaluate.new.sources) owned in
+    let images : new.images ≡ mid.images = seen-unchanged h1 h2 cached cached2 c.in_ok-keep.ensures.others source1 (g.S.SourceTiles.images c.made_or_evaluated.new.sources) (g.met.S.SourceTiles.framed c.made_or_evaluated.new.sources) owned in
     keeps-both 0 1 old mid new (keeps-reads old mid c.in_ok-tile.ensures.reads refl refl) (keeps-turns 1 mid new turns refl images refl)
 
 pub returns-clause-sources_over : goal.returns-clause-sources_over
 returns-clause-sources_over g c =
     let h0 = g.H.ChainMeaning.held c.args.chain.now in
-    let h1 = g.H.ChainMeaning.held c.evaluate.new.chain in
+    let h1 = g.H.ChainMeaning.held c.made_or_evaluated.new.chain in
     let source = g.S.SourceTiles.names c.args.sources.now in
-    let source1 = g.S.SourceTiles.names c.evaluate.new.sources in
+    let source1 = g.S.SourceTiles.names c.made_or_evaluated.new.sources in
     let cached = g.C.PairStore.names c.args.cache.now in
     let h2 = g.H.ChainMeaning.held c.keep.new.chain in
     let cached2 = g.C.PairStore.names c.keep.new.self in
     let owned : Owns h1 (cached ++ source1) = owns-turned h1 source1 cached (others-own h0 h1 source source1 (reads-others _ _ c.in_ok-tile.ensures.reads) cached c.requires.owned) in
-    g.met.S.SourceTiles.framed_condition c.evaluate.new.sources h1 h2 c.in_ok-tile.ensures.over c.in_ok-keep.ensures.others.exposed
+    g.met.S.SourceTiles.framed_condition c.made_or_evaluated.new.sources h1 h2 c.in_ok-tile.ensures.over c.in_ok-keep.ensures.others.exposed
     (others-unchanged h1 h2 cached cached2 c.in_ok-keep.ensures.others source1 owned)
     (owns-last h2 cached2 source1 (others-own h1 h2 cached cached2 c.in_ok-keep.ensures.others source1 owned))
 
 pub returns-in_err-keep-clause-kept : goal.returns-in_err-keep-clause-kept
 returns-in_err-keep-clause-kept g c =
     let old = moment (g.S.SourceTiles.facts c.args.sources.now) (g.S.SourceTiles.images c.args.sources.now (g.H.ChainMeaning.held c.args.chain.now)) (g.S.SourceTiles.names c.args.sources.now) (g.C.PairStore.pairs c.args.cache.now) (g.C.PairStore.sizes c.args.cache.now (g.H.ChainMeaning.held c.args.chain.now)) (g.C.PairStore.cached c.args.cache.now (g.H.ChainMeaning.held c.args.chain.now)) (g.C.PairStore.capacity c.args.cache.now) (g.C.PairStore.names c.args.cache.now) (g.H.ChainMeaning.held c.args.chain.now) (g.H.ChainMeaning.counts c.args.chain.now) (g.H.ChainMeaning.loans c.args.chain.now) in
-    let mid = moment (g.S.SourceTiles.facts c.evaluate.new.sources) (g.S.SourceTiles.images c.evaluate.new.sources (g.H.ChainMeaning.held c.evaluate.new.chain)) (g.S.SourceTiles.names c.evaluate.new.sources) (g.C.PairStore.pairs c.args.cache.now) (g.C.PairStore.sizes c.args.cache.now (g.H.ChainMeaning.held c.evaluate.new.chain)) (g.C.PairStore.cached c.args.cache.now (g.H.ChainMeaning.held c.evaluate.new.chain)) (g.C.PairStore.capacity c.args.cache.now) (g.C.PairStore.names c.args.cache.now) (g.H.ChainMeaning.held c.evaluate.new.chain) (g.H.ChainMeaning.counts c.evaluate.new.chain) (g.H.ChainMeaning.loans c.evaluate.new.chain) in
-    let new = moment (g.S.SourceTiles.facts c.evaluate.new.sources) (g.S.SourceTiles.images c.evaluate.new.sources (g.H.ChainMeaning.held c.keep.new.chain)) (g.S.SourceTiles.names c.evaluate.new.sources) (g.C.PairStore.pairs c.keep.new.self) (g.C.PairStore.sizes c.keep.new.self (g.H.ChainMeaning.held c.keep.new.chain)) (g.C.PairStore.cached c.keep.new.self (g.H.ChainMeaning.held c.keep.new.chain)) (g.C.PairStore.capacity c.keep.new.self) (g.C.PairStore.names c.keep.new.self) (g.H.ChainMeaning.held c.keep.new.chain) (g.H.ChainMeaning.counts c.keep.new.chain) (g.H.ChainMeaning.loans c.keep.new.chain) in
+    let mid = moment (g.S.SourceTiles.facts c.made_or_evaluated.new.sources) (g.S.SourceTiles.images c.made_or_evaluated.new.sources (g.H.ChainMeaning.held c.made_or_evaluated.new.chain)) (g.S.SourceTiles.names c.made_or_evaluated.new.sources) (g.C.PairStore.pairs c.args.cache.now) (g.C.PairStore.sizes c.args.cache.now (g.H.ChainMeaning.held c.made_or_evaluated.new.chain)) (g.C.PairStore.cached c.args.cache.now (g.H.ChainMeaning.held c.made_or_evaluated.new.chain)) (g.C.PairStore.capacity c.args.cache.now) (g.C.PairStore.names c.args.cache.now) (g.H.ChainMeaning.held c.made_or_evaluated.new.chain) (g.H.ChainMeaning.counts c.made_or_evaluated.new.chain) (g.H.ChainMeaning.loans c.made_or_evaluated.new.chain) in
+    let new = moment (g.S.SourceTiles.facts c.made_or_evaluated.new.sources) (g.S.SourceTiles.images c.made_or_evaluated.new.sources (g.H.ChainMeaning.held c.keep.new.chain)) (g.S.SourceTiles.names c.made_or_evaluated.new.sources) (g.C.PairStore.pairs c.keep.new.self) (g.C.PairStore.sizes c.keep.new.self (g.H.ChainMeaning.held c.keep.new.chain)) (g.C.PairStore.cached c.keep.new.self (g.H.ChainMeaning.held c.keep.new.chain)) (g.C.PairStore.capacity c.keep.new.self) (g.C.PairStore.names c.keep.new.self) (g.H.ChainMeaning.held c.keep.new.chain) (g.H.ChainMeaning.counts c.keep.new.chain) (g.H.ChainMeaning.loans c.keep.new.chain) in
     let h0 = g.H.ChainMeaning.held c.args.chain.now in
-    let h1 = g.H.ChainMeaning.held c.evaluate.new.chain in
+    let h1 = g.H.ChainMeaning.held c.made_or_evaluated.new.chain in
     let source = g.S.SourceTiles.names c.args.sources.now in
-    let source1 = g.S.SourceTiles.names c.evaluate.new.sources in
+    let source1 = g.S.SourceTiles.names c.made_or_evaluated.new.sources in
     let cached = g.C.PairStore.names c.args.cache.now in
     let reads : Reads (source_of old) (source_of mid) = c.in_ok-tile.ensures.reads in
     let sizes : mid.sizes ≡ old.sizes = seen-unchanged h0 h1 source source1 (reads-others _ _ reads) cached (g.C.PairStore.sizes c.args.cache.now) (g.met.C.PairStore.framed_sizes c.args.cache.now) c.requires.owned in
@@ -194,22 +195,22 @@ returns-in_err-keep-clause-kept g c =
 pub returns-in_err-keep-clause-cause : goal.returns-in_err-keep-clause-cause
 returns-in_err-keep-clause-cause g c =
     let old = moment (g.S.SourceTiles.facts c.args.sources.now) (g.S.SourceTiles.images c.args.sources.now (g.H.ChainMeaning.held c.args.chain.now)) (g.S.SourceTiles.names c.args.sources.now) (g.C.PairStore.pairs c.args.cache.now) (g.C.PairStore.sizes c.args.cache.now (g.H.ChainMeaning.held c.args.chain.now)) (g.C.PairStore.cached c.args.cache.now (g.H.ChainMeaning.held c.args.chain.now)) (g.C.PairStore.capacity c.args.cache.now) (g.C.PairStore.names c.args.cache.now) (g.H.ChainMeaning.held c.args.chain.now) (g.H.ChainMeaning.counts c.args.chain.now) (g.H.ChainMeaning.loans c.args.chain.now) in
-    let mid = moment (g.S.SourceTiles.facts c.evaluate.new.sources) (g.S.SourceTiles.images c.evaluate.new.sources (g.H.ChainMeaning.held c.evaluate.new.chain)) (g.S.SourceTiles.names c.evaluate.new.sources) (g.C.PairStore.pairs c.args.cache.now) (g.C.PairStore.sizes c.args.cache.now (g.H.ChainMeaning.held c.evaluate.new.chain)) (g.C.PairStore.cached c.args.cache.now (g.H.ChainMeaning.held c.evaluate.new.chain)) (g.C.PairStore.capacity c.args.cache.now) (g.C.PairStore.names c.args.cache.now) (g.H.ChainMeaning.held c.evaluate.new.chain) (g.H.ChainMeaning.counts c.evaluate.new.chain) (g.H.ChainMeaning.loans c.evaluate.new.chain) in
+    let mid = moment (g.S.SourceTiles.facts c.made_or_evaluated.new.sources) (g.S.SourceTiles.images c.made_or_evaluated.new.sources (g.H.ChainMeaning.held c.made_or_evaluated.new.chain)) (g.S.SourceTiles.names c.made_or_evaluated.new.sources) (g.C.PairStore.pairs c.args.cache.now) (g.C.PairStore.sizes c.args.cache.now (g.H.ChainMeaning.held c.made_or_evaluated.new.chain)) (g.C.PairStore.cached c.args.cache.now (g.H.ChainMeaning.held c.made_or_evaluated.new.chain)) (g.C.PairStore.capacity c.args.cache.now) (g.C.PairStore.names c.args.cache.now) (g.H.ChainMeaning.held c.made_or_evaluated.new.chain) (g.H.ChainMeaning.counts c.made_or_evaluated.new.chain) (g.H.ChainMeaning.loans c.made_or_evaluated.new.chain) in
     handed-on c.from_residual-in_err-keep.result c.in_err-keep.field-0.0
     (HasSwapCause (g.H.ChainMeaning.counts c.args.chain.now) (g.H.ChainMeaning.counts c.keep.new.chain) ((g.H.ChainMeaning.counts c.args.chain.now).names + 1))
     c.from_residual-in_err-keep.ensures.1
-    (cause-kept 0 ((g.H.ChainMeaning.counts c.evaluate.new.chain).names + 1) ((g.H.ChainMeaning.counts c.args.chain.now).names + 1) old mid (g.H.ChainMeaning.counts c.keep.new.chain) c.in_err-keep.field-0.0
+    (cause-kept 0 ((g.H.ChainMeaning.counts c.made_or_evaluated.new.chain).names + 1) ((g.H.ChainMeaning.counts c.args.chain.now).names + 1) old mid (g.H.ChainMeaning.counts c.keep.new.chain) c.in_err-keep.field-0.0
     (keeps-reads old mid c.in_ok-tile.ensures.reads refl refl) (omega (arith, c.in_ok-tile.ensures.reads.counts.names)) c.in_err-keep.ensures.cause)
 
 pub returns-clause-kept : goal.returns-clause-kept
 returns-clause-kept g c =
     let old = moment (g.S.SourceTiles.facts c.args.sources.now) (g.S.SourceTiles.images c.args.sources.now (g.H.ChainMeaning.held c.args.chain.now)) (g.S.SourceTiles.names c.args.sources.now) (g.C.PairStore.pairs c.args.cache.now) (g.C.PairStore.sizes c.args.cache.now (g.H.ChainMeaning.held c.args.chain.now)) (g.C.PairStore.cached c.args.cache.now (g.H.ChainMeaning.held c.args.chain.now)) (g.C.PairStore.capacity c.args.cache.now) (g.C.PairStore.names c.args.cache.now) (g.H.ChainMeaning.held c.args.chain.now) (g.H.ChainMeaning.counts c.args.chain.now) (g.H.ChainMeaning.loans c.args.chain.now) in
-    let mid = moment (g.S.SourceTiles.facts c.evaluate.new.sources) (g.S.SourceTiles.images c.evaluate.new.sources (g.H.ChainMeaning.held c.evaluate.new.chain)) (g.S.SourceTiles.names c.evaluate.new.sources) (g.C.PairStore.pairs c.args.cache.now) (g.C.PairStore.sizes c.args.cache.now (g.H.ChainMeaning.held c.evaluate.new.chain)) (g.C.PairStore.cached c.args.cache.now (g.H.ChainMeaning.held c.evaluate.new.chain)) (g.C.PairStore.capacity c.args.cache.now) (g.C.PairStore.names c.args.cache.now) (g.H.ChainMeaning.held c.evaluate.new.chain) (g.H.ChainMeaning.counts c.evaluate.new.chain) (g.H.ChainMeaning.loans c.evaluate.new.chain) in
-    let new = moment (g.S.SourceTiles.facts c.evaluate.new.sources) (g.S.SourceTiles.images c.evaluate.new.sources (g.H.ChainMeaning.held c.keep.new.chain)) (g.S.SourceTiles.names c.evaluate.new.sources) (g.C.PairStore.pairs c.keep.new.self) (g.C.PairStore.sizes c.keep.new.self (g.H.ChainMeaning.held c.keep.new.chain)) (g.C.PairStore.cached c.keep.new.self (g.H.ChainMeaning.held c.keep.new.chain)) (g.C.PairStore.capacity c.keep.new.self) (g.C.PairStore.names c.keep.new.self) (g.H.ChainMeaning.held c.keep.new.chain) (g.H.ChainMeaning.counts c.keep.new.chain) (g.H.ChainMeaning.loans c.keep.new.chain) in
+    let mid = moment (g.S.SourceTiles.facts c.made_or_evaluated.new.sources) (g.S.SourceTiles.images c.made_or_evaluated.new.sources (g.H.ChainMeaning.held c.made_or_evaluated.new.chain)) (g.S.SourceTiles.names c.made_or_evaluated.new.sources) (g.C.PairStore.pairs c.args.cache.now) (g.C.PairStore.sizes c.args.cache.now (g.H.ChainMeaning.held c.made_or_evaluated.new.chain)) (g.C.PairStore.cached c.args.cache.now (g.H.ChainMeaning.held c.made_or_evaluated.new.chain)) (g.C.PairStore.capacity c.args.cache.now) (g.C.PairStore.names c.args.cache.now) (g.H.ChainMeaning.held c.made_or_evaluated.new.chain) (g.H.ChainMeaning.counts c.made_or_evaluated.new.chain) (g.H.ChainMeaning.loans c.made_or_evaluated.new.chain) in
+    let new = moment (g.S.SourceTiles.facts c.made_or_evaluated.new.sources) (g.S.SourceTiles.images c.made_or_evaluated.new.sources (g.H.ChainMeaning.held c.keep.new.chain)) (g.S.SourceTiles.names c.made_or_evaluated.new.sources) (g.C.PairStore.pairs c.keep.new.self) (g.C.PairStore.sizes c.keep.new.self (g.H.ChainMeaning.held c.keep.new.chain)) (g.C.PairStore.cached c.keep.new.self (g.H.ChainMeaning.held c.keep.new.chain)) (g.C.PairStore.capacity c.keep.new.self) (g.C.PairStore.names c.keep.new.self) (g.H.ChainMeaning.held c.keep.new.chain) (g.H.ChainMeaning.counts c.keep.new.chain) (g.H.ChainMeaning.loans c.keep.new.chain) in
     let h0 = g.H.ChainMeaning.held c.args.chain.now in
-    let h1 = g.H.ChainMeaning.held c.evaluate.new.chain in
+    let h1 = g.H.ChainMeaning.held c.made_or_evaluated.new.chain in
     let source = g.S.SourceTiles.names c.args.sources.now in
-    let source1 = g.S.SourceTiles.names c.evaluate.new.sources in
+    let source1 = g.S.SourceTiles.names c.made_or_evaluated.new.sources in
     let cached = g.C.PairStore.names c.args.cache.now in
     let reads : Reads (source_of old) (source_of mid) = c.in_ok-tile.ensures.reads in
     let sizes : mid.sizes ≡ old.sizes = seen-unchanged h0 h1 source source1 (reads-others _ _ reads) cached (g.C.PairStore.sizes c.args.cache.now) (g.met.C.PairStore.framed_sizes c.args.cache.now) c.requires.owned in
@@ -220,3 +221,8 @@ returns-clause-kept g c =
     let pair = named nodes c.args.node fact c.args.at inside c.index-nodes-node.is ∙ ap (λ (f : NodeFact g.row.K-Op.Denot). pair_at f.spec.name c.args.at) c.index-nodes-node.is in
     kept-after old mid new (pair_of (specs_of nodes) (c.args.node, c.args.at)) (pair_at (get_or nodes c.args.node fact).spec.name c.args.at) c.in_ok-tile.tile c.in_ok-share.share pair (sym c.in_ok-share.ensures)
     c.requires.absent refl refl sizes bytes c.in_ok-keep.ensures.pairs c.in_ok-keep.ensures.sizes c.in_ok-keep.ensures.cached
+
+pub returns-in_err-keep-clause-permits : goal.returns-in_err-keep-clause-permits
+returns-in_err-keep-clause-permits g c =
+    matched-err c.from_residual-in_err-keep.result _ _ _ c.from_residual-in_err-keep.ensures.1
+    (refused-after (g.K.OpKit.permits c.args.purse.now) (g.K.OpKit.permits c.made_or_evaluated.new.purse) c.args.made c.in_ok-tile.ensures.permits)

@@ -14,6 +14,7 @@ use Rattle.node_tiles.specs.Stated.{length_at, scene_of}
 use Rattle.strip_renders.specs.Looks.{HasSameCache, IsLookedUp, IsMoved}
 use Rattle.node_tiles.proofs.Places.{ready-inside, shape-at, spec-at}
 use Rattle.strip_renders.specs.Strips.{AreSizedPairs, IsSizedPair}
+use Rattle.strip_renders.proofs.AheadLaws.{found-none, refused-before}
 use Rattle.strip_renders.proofs.Looking.{absent-same, kept-through, looked-all, none-from, none-keyed, right-bytes, same-cached, sized-long}
 use Rattle.strip_renders.proofs.Pairs.{named}
 use Rattle.chain_owners.specs.Owners.{Owns}
@@ -234,7 +235,7 @@ returns-in-Some-clause-length g c =
 
 pub returns-in-Some-clause-bytes : goal.returns-in-Some-clause-bytes
 returns-in-Some-clause-bytes g c =
-    λ images known are right.
+    λ images known are made right.
     let meanings = g.K.Op.OpMeaning.meanings in
     let nodes = c.args.nodes.now in
     let node = c.args.node in
@@ -352,7 +353,7 @@ returns-clause-bytes g c =
     } in
     let images : mid.images ≡ old.images = seen-unchanged h0 h1 cached cached1 c.in_ok-tile.ensures.others source (g.S.SourceTiles.images c.args.sources.now) (g.met.S.SourceTiles.framed c.args.sources.now) owned in
     let looked : Keeps 0 old mid = keeps-turns 0 old mid turns refl images refl in
-    λ all known are right. c.in_ok-tile-2.ensures.bytes all (images ∙ known) are
+    λ all known are made right. c.in_ok-tile-2.ensures.bytes all (images ∙ known) are made
 
 pub returns-clause-looked : goal.returns-clause-looked
 returns-clause-looked g c =
@@ -419,3 +420,12 @@ fresh_tile-requires-clause-absent g c κs within =
     ap (λ (ps : List Pair). find_pair itself ps (pair_of (specs_of nodes) (node, at))) (c.in_ok-tile.ensures.pairs ∙ absent-same itself pairs (pair_at fact.spec.name at) none)
     ∙ ap (find_pair itself pairs) pair
     ∙ none
+
+pub returns-in_err-tile-clause-permits : goal.returns-in_err-tile-clause-permits
+returns-in_err-tile-clause-permits g c =
+    matched-err c.from_residual.result _ _ _ c.from_residual.ensures.1
+    (refused-before (g.K.OpKit.permits c.args.purse.now) (g.K.OpKit.permits c.args.purse.now) c.args.made refl)
+
+pub returns-in-Some-clause-permits : goal.returns-in-Some-clause-permits
+returns-in-Some-clause-permits g c =
+    (refl, found-none c.args.nodes.now (g.C.PairStore.pairs c.args.cache.now) (c.args.node, c.args.at) c.args.made c.requires.made (returns-in-Some-clause-looked g c).there)

@@ -3,22 +3,21 @@ use Rattle.std.specs.Prelude.{slice_get}
 use Rattle.std.proofs.lemmas.List.{map-append, take-append-drop, take_all}
 use Rattle.node_cache.specs.Stores.{AreWithin}
 use Rattle.strip_renders.proofs.Names.{few-names}
-use Rattle.model_graphs.specs.Facts.{shapes_of_facts, specs_of}
+use Rattle.model_graphs.specs.Facts.{specs_of}
 use Rattle.model_states.specs.Cache.{Pair, all_looked_up, itself, pair_of, recent, uncounted}
 use Rattle.model_states.specs.Need.{Needed}
 use Rattle.swap_store.specs.Cause.{HasSwapCause}
 use Rattle.roi_planner.proofs.Widths.{handed-on}
 use Rattle.strip_renders.specs.Moments.{Keeps, moment}
 use Rattle.strip_renders.specs.Strips.{HoldsNeed, IsRendered, list_after, most_names, pairs_needed}
-use Rattle.strip_renders.proofs.HeldTiles.{need-more}
-use Rattle.strip_renders.proofs.Moments.{cause-kept, keeps-both, keeps-most, matched-err}
-use Rattle.strip_renders.proofs.Needs.{strip-pair, strip-ready}
-use Rattle.strip_renders.proofs.Turning.{IsCountedMore, index-more, keeps-none, need-none, needed-at, no-tiles, owned-kept, pairs-more, pairs-take, permits-more, rendered-more, right-list, take-more}
+use Rattle.strip_renders.proofs.Moments.{cause-kept, keeps-both, keeps-most}
+use Rattle.strip_renders.proofs.TurnLaws.{ahead-none, ahead-past, made-none}
+use Rattle.strip_renders.proofs.Turning.{IsCountedMore, index-more, keeps-none, need-none, needed-at, no-tiles, owned-kept, pairs-more, pairs-take, permits-more, rendered-more, right-list}
 use Rattle.strip_renders.proofs.strip.render_strip.Goals.{else-found, then-found}
 use Rattle.strip_renders.proofs.strip.render_strip.Goals as goal
 
-pub loop-entry-init : goal.loop-entry-init
-loop-entry-init g c =
+pub loop-index-init : goal.loop-index-init
+loop-index-init g c =
     let first = moment (g.S.SourceTiles.facts c.args.sources.now) (g.S.SourceTiles.images c.args.sources.now (g.H.ChainMeaning.held c.args.chain.now)) (g.S.SourceTiles.names c.args.sources.now) (g.C.PairStore.pairs c.args.cache.now) (g.C.PairStore.sizes c.args.cache.now (g.H.ChainMeaning.held c.args.chain.now)) (g.C.PairStore.cached c.args.cache.now (g.H.ChainMeaning.held c.args.chain.now)) (g.C.PairStore.capacity c.args.cache.now) (g.C.PairStore.names c.args.cache.now) (g.H.ChainMeaning.held c.args.chain.now) (g.H.ChainMeaning.counts c.args.chain.now) (g.H.ChainMeaning.loans c.args.chain.now) in
     let none : c.reserve.new.self ≡ [] = c.in_ok-reserve.ensures ∙ c.new-tiles.ensures in
     record {
@@ -31,114 +30,92 @@ loop-entry-init g c =
       sized = c.requires.sized;
       pairs = refl;
       held = need-none c.args.nodes.now c.reserve.new.self none;
-      permits = omega arith;
+      ahead = ahead-none c.args.nodes.now (g.C.PairStore.pairs c.args.cache.now) c.args.strip.now.need c.new-ahead.result c.new-ahead.ensures;
+      made = λ images known right. made-none g.K.Op.OpMeaning.meanings c.args.nodes.now images c.new-ahead.result c.new-ahead.ensures;
+      permits = omega (arith, ap length c.new-ahead.ensures);
       right = λ images known right. right;
       bytes = λ images list known cached right. record { cached = cached; tiles = no-tiles g.K.Op.OpMeaning.meanings c.args.nodes.now images c.reserve.new.self none };
     }
 
-pub hold_needed-requires-clause-ready : goal.hold_needed-requires-clause-ready
-hold_needed-requires-clause-ready g c κs within =
-    let mid = moment (g.S.SourceTiles.facts c.loop-entry.sources) (g.S.SourceTiles.images c.loop-entry.sources (g.H.ChainMeaning.held c.loop-entry.chain)) (g.S.SourceTiles.names c.loop-entry.sources) (g.C.PairStore.pairs c.loop-entry.cache) (g.C.PairStore.sizes c.loop-entry.cache (g.H.ChainMeaning.held c.loop-entry.chain)) (g.C.PairStore.cached c.loop-entry.cache (g.H.ChainMeaning.held c.loop-entry.chain)) (g.C.PairStore.capacity c.loop-entry.cache) (g.C.PairStore.names c.loop-entry.cache) (g.H.ChainMeaning.held c.loop-entry.chain) (g.H.ChainMeaning.counts c.loop-entry.chain) (g.H.ChainMeaning.loans c.loop-entry.chain) in
-    let nodes = c.args.nodes.now in
-    let meanings = g.K.Op.OpMeaning.meanings in
-    let need = c.args.strip.now.need in
-    let i = c.loop-entry.entry-index in
-    let n = c.entry-item.result in
-    let found : slice_get need i ≡ Some n = needed-at c.as_slice-entry-items.result.now need i n c.as_slice-entry-items.ensures c.loop-entry-test.true c.entry-item.is in
-    strip-ready meanings nodes (shapes_of_facts (g.S.SourceTiles.facts c.args.sources.now)) c.args.strip.now c.requires.stated c.requires.strip i n c.loop-entry.tiles found c.loop-entry.invariant.held
-
-pub hold_needed-requires-clause-of_nodes : goal.hold_needed-requires-clause-of_nodes
-hold_needed-requires-clause-of_nodes g c κs within =
-    let nodes = c.args.nodes.now in
-    let meanings = g.K.Op.OpMeaning.meanings in
-    let need = c.args.strip.now.need in
-    let i = c.loop-entry.entry-index in
-    let n = c.entry-item.result in
-    let found : slice_get need i ≡ Some n = needed-at c.as_slice-entry-items.result.now need i n c.as_slice-entry-items.ensures c.loop-entry-test.true c.entry-item.is in
-    strip-pair meanings nodes c.args.strip.now g.K.Op.OpMeaning.boxed c.requires.stated.valid.distinct c.requires.strip i n found
+pub hold_next-requires-clause-entry : goal.hold_next-requires-clause-entry
+hold_next-requires-clause-entry g c κs within =
+    needed-at c.as_slice-entry-items.result.now c.args.strip.now.need c.loop-index.index c.entry-item.result c.as_slice-entry-items.ensures c.loop-index-test.true c.entry-item.is
 
 pub returns-in_err-found-clause-right : goal.returns-in_err-found-clause-right
 returns-in_err-found-clause-right g c = λ images known right.
-    let now = c.loop-entry.invariant.right images known right in
-    c.in_err-found.ensures.right images (c.loop-entry.invariant.keeps.images ∙ known)
-    (c.loop-entry.invariant.bytes images right.list known right.known right.right).tiles now
-
-pub returns-in_err-found-clause-permits : goal.returns-in_err-found-clause-permits
-returns-in_err-found-clause-permits g c =
-    let less : c.loop-entry.entry-index + 1 ≤ length c.args.strip.now.need = omega (arith, c.loop-entry-test.true, ap length c.as_slice-entry-items.ensures) in
-    let before : g.K.OpKit.permits c.loop-entry.purse + c.loop-entry.applied ≡ g.K.OpKit.permits c.args.purse.now = c.loop-entry.invariant.permits in
-    matched-err c.from_residual-in_err-found.result _ _ _ c.from_residual-in_err-found.ensures.1
-    (omega (arith, before, c.in_err-found.ensures.permits.0), omega (arith, before, c.in_err-found.ensures.permits.1, c.loop-entry.invariant.index, less))
+    let now = c.loop-index.invariant.right images known right in
+    c.in_err-found.ensures.right images (c.loop-index.invariant.keeps.images ∙ known)
+    (c.loop-index.invariant.bytes images right.list known right.known right.right).tiles (c.loop-index.invariant.made images known right) now
 
 pub returns-in_err-found-clause-keeps : goal.returns-in_err-found-clause-keeps
 returns-in_err-found-clause-keeps g c =
     let first = moment (g.S.SourceTiles.facts c.args.sources.now) (g.S.SourceTiles.images c.args.sources.now (g.H.ChainMeaning.held c.args.chain.now)) (g.S.SourceTiles.names c.args.sources.now) (g.C.PairStore.pairs c.args.cache.now) (g.C.PairStore.sizes c.args.cache.now (g.H.ChainMeaning.held c.args.chain.now)) (g.C.PairStore.cached c.args.cache.now (g.H.ChainMeaning.held c.args.chain.now)) (g.C.PairStore.capacity c.args.cache.now) (g.C.PairStore.names c.args.cache.now) (g.H.ChainMeaning.held c.args.chain.now) (g.H.ChainMeaning.counts c.args.chain.now) (g.H.ChainMeaning.loans c.args.chain.now) in
-    let mid = moment (g.S.SourceTiles.facts c.loop-entry.sources) (g.S.SourceTiles.images c.loop-entry.sources (g.H.ChainMeaning.held c.loop-entry.chain)) (g.S.SourceTiles.names c.loop-entry.sources) (g.C.PairStore.pairs c.loop-entry.cache) (g.C.PairStore.sizes c.loop-entry.cache (g.H.ChainMeaning.held c.loop-entry.chain)) (g.C.PairStore.cached c.loop-entry.cache (g.H.ChainMeaning.held c.loop-entry.chain)) (g.C.PairStore.capacity c.loop-entry.cache) (g.C.PairStore.names c.loop-entry.cache) (g.H.ChainMeaning.held c.loop-entry.chain) (g.H.ChainMeaning.counts c.loop-entry.chain) (g.H.ChainMeaning.loans c.loop-entry.chain) in
-    let last = moment (g.S.SourceTiles.facts c.hold_needed.new.sources) (g.S.SourceTiles.images c.hold_needed.new.sources (g.H.ChainMeaning.held c.hold_needed.new.chain)) (g.S.SourceTiles.names c.hold_needed.new.sources) (g.C.PairStore.pairs c.hold_needed.new.cache) (g.C.PairStore.sizes c.hold_needed.new.cache (g.H.ChainMeaning.held c.hold_needed.new.chain)) (g.C.PairStore.cached c.hold_needed.new.cache (g.H.ChainMeaning.held c.hold_needed.new.chain)) (g.C.PairStore.capacity c.hold_needed.new.cache) (g.C.PairStore.names c.hold_needed.new.cache) (g.H.ChainMeaning.held c.hold_needed.new.chain) (g.H.ChainMeaning.counts c.hold_needed.new.chain) (g.H.ChainMeaning.loans c.hold_needed.new.chain) in
-    let less : c.loop-entry.entry-index + 1 ≤ length c.args.strip.now.need = omega (arith, c.loop-entry-test.true, ap length c.as_slice-entry-items.ensures) in
-    keeps-most (c.loop-entry.entry-index + 1) (length c.args.strip.now.need) first last less
-    (keeps-both c.loop-entry.entry-index 1 first mid last c.loop-entry.invariant.keeps c.in_err-found.ensures.keeps)
+    let mid = moment (g.S.SourceTiles.facts c.loop-index.sources) (g.S.SourceTiles.images c.loop-index.sources (g.H.ChainMeaning.held c.loop-index.chain)) (g.S.SourceTiles.names c.loop-index.sources) (g.C.PairStore.pairs c.loop-index.cache) (g.C.PairStore.sizes c.loop-index.cache (g.H.ChainMeaning.held c.loop-index.chain)) (g.C.PairStore.cached c.loop-index.cache (g.H.ChainMeaning.held c.loop-index.chain)) (g.C.PairStore.capacity c.loop-index.cache) (g.C.PairStore.names c.loop-index.cache) (g.H.ChainMeaning.held c.loop-index.chain) (g.H.ChainMeaning.counts c.loop-index.chain) (g.H.ChainMeaning.loans c.loop-index.chain) in
+    let last = moment (g.S.SourceTiles.facts c.hold_next.new.sources) (g.S.SourceTiles.images c.hold_next.new.sources (g.H.ChainMeaning.held c.hold_next.new.chain)) (g.S.SourceTiles.names c.hold_next.new.sources) (g.C.PairStore.pairs c.hold_next.new.cache) (g.C.PairStore.sizes c.hold_next.new.cache (g.H.ChainMeaning.held c.hold_next.new.chain)) (g.C.PairStore.cached c.hold_next.new.cache (g.H.ChainMeaning.held c.hold_next.new.chain)) (g.C.PairStore.capacity c.hold_next.new.cache) (g.C.PairStore.names c.hold_next.new.cache) (g.H.ChainMeaning.held c.hold_next.new.chain) (g.H.ChainMeaning.counts c.hold_next.new.chain) (g.H.ChainMeaning.loans c.hold_next.new.chain) in
+    let less : c.loop-index.index + 1 ≤ length c.args.strip.now.need = omega (arith, c.loop-index-test.true, ap length c.as_slice-entry-items.ensures) in
+    keeps-most (c.loop-index.index + 1) (length c.args.strip.now.need) first last less
+    (keeps-both c.loop-index.index 1 first mid last c.loop-index.invariant.keeps c.in_err-found.ensures.keeps)
 
 pub returns-in_err-found-clause-valid : goal.returns-in_err-found-clause-valid
-returns-in_err-found-clause-valid g c = λ valid. c.in_err-found.ensures.valid (c.loop-entry.invariant.valid valid)
+returns-in_err-found-clause-valid g c = λ valid. c.in_err-found.ensures.valid (c.loop-index.invariant.valid valid)
 
 pub returns-in_err-found-clause-cause : goal.returns-in_err-found-clause-cause
 returns-in_err-found-clause-cause g c =
     let first = moment (g.S.SourceTiles.facts c.args.sources.now) (g.S.SourceTiles.images c.args.sources.now (g.H.ChainMeaning.held c.args.chain.now)) (g.S.SourceTiles.names c.args.sources.now) (g.C.PairStore.pairs c.args.cache.now) (g.C.PairStore.sizes c.args.cache.now (g.H.ChainMeaning.held c.args.chain.now)) (g.C.PairStore.cached c.args.cache.now (g.H.ChainMeaning.held c.args.chain.now)) (g.C.PairStore.capacity c.args.cache.now) (g.C.PairStore.names c.args.cache.now) (g.H.ChainMeaning.held c.args.chain.now) (g.H.ChainMeaning.counts c.args.chain.now) (g.H.ChainMeaning.loans c.args.chain.now) in
-    let mid = moment (g.S.SourceTiles.facts c.loop-entry.sources) (g.S.SourceTiles.images c.loop-entry.sources (g.H.ChainMeaning.held c.loop-entry.chain)) (g.S.SourceTiles.names c.loop-entry.sources) (g.C.PairStore.pairs c.loop-entry.cache) (g.C.PairStore.sizes c.loop-entry.cache (g.H.ChainMeaning.held c.loop-entry.chain)) (g.C.PairStore.cached c.loop-entry.cache (g.H.ChainMeaning.held c.loop-entry.chain)) (g.C.PairStore.capacity c.loop-entry.cache) (g.C.PairStore.names c.loop-entry.cache) (g.H.ChainMeaning.held c.loop-entry.chain) (g.H.ChainMeaning.counts c.loop-entry.chain) (g.H.ChainMeaning.loans c.loop-entry.chain) in
-    let less : c.loop-entry.entry-index + 1 ≤ length c.args.strip.now.need = omega (arith, c.loop-entry-test.true, ap length c.as_slice-entry-items.ensures) in
-    let keeps : Keeps c.loop-entry.entry-index first mid = c.loop-entry.invariant.keeps in
+    let mid = moment (g.S.SourceTiles.facts c.loop-index.sources) (g.S.SourceTiles.images c.loop-index.sources (g.H.ChainMeaning.held c.loop-index.chain)) (g.S.SourceTiles.names c.loop-index.sources) (g.C.PairStore.pairs c.loop-index.cache) (g.C.PairStore.sizes c.loop-index.cache (g.H.ChainMeaning.held c.loop-index.chain)) (g.C.PairStore.cached c.loop-index.cache (g.H.ChainMeaning.held c.loop-index.chain)) (g.C.PairStore.capacity c.loop-index.cache) (g.C.PairStore.names c.loop-index.cache) (g.H.ChainMeaning.held c.loop-index.chain) (g.H.ChainMeaning.counts c.loop-index.chain) (g.H.ChainMeaning.loans c.loop-index.chain) in
+    let less : c.loop-index.index + 1 ≤ length c.args.strip.now.need = omega (arith, c.loop-index-test.true, ap length c.as_slice-entry-items.ensures) in
+    let keeps : Keeps c.loop-index.index first mid = c.loop-index.invariant.keeps in
     let most = (g.H.ChainMeaning.counts c.args.chain.now).names + length c.args.strip.now.need in
     let refused = c.in_err-found.field-0.0 in
-    let end = g.H.ChainMeaning.counts c.hold_needed.new.chain in
+    let end = g.H.ChainMeaning.counts c.hold_next.new.chain in
     handed-on c.from_residual-in_err-found.result refused (HasSwapCause (g.H.ChainMeaning.counts c.args.chain.now) end most) c.from_residual-in_err-found.ensures.1
-    (cause-kept c.loop-entry.entry-index ((g.H.ChainMeaning.counts c.loop-entry.chain).names + 1) most first mid end refused keeps (omega (arith, keeps.counts.names, less)) c.in_err-found.ensures.cause)
+    (cause-kept c.loop-index.index ((g.H.ChainMeaning.counts c.loop-index.chain).names + 1) most first mid end refused keeps (omega (arith, keeps.counts.names, less)) c.in_err-found.ensures.cause)
 
 pub returns-in_err-found-clause-few_names : goal.returns-in_err-found-clause-few_names
 returns-in_err-found-clause-few_names g c = λ one.
     let first = moment (g.S.SourceTiles.facts c.args.sources.now) (g.S.SourceTiles.images c.args.sources.now (g.H.ChainMeaning.held c.args.chain.now)) (g.S.SourceTiles.names c.args.sources.now) (g.C.PairStore.pairs c.args.cache.now) (g.C.PairStore.sizes c.args.cache.now (g.H.ChainMeaning.held c.args.chain.now)) (g.C.PairStore.cached c.args.cache.now (g.H.ChainMeaning.held c.args.chain.now)) (g.C.PairStore.capacity c.args.cache.now) (g.C.PairStore.names c.args.cache.now) (g.H.ChainMeaning.held c.args.chain.now) (g.H.ChainMeaning.counts c.args.chain.now) (g.H.ChainMeaning.loans c.args.chain.now) in
-    let mid = moment (g.S.SourceTiles.facts c.loop-entry.sources) (g.S.SourceTiles.images c.loop-entry.sources (g.H.ChainMeaning.held c.loop-entry.chain)) (g.S.SourceTiles.names c.loop-entry.sources) (g.C.PairStore.pairs c.loop-entry.cache) (g.C.PairStore.sizes c.loop-entry.cache (g.H.ChainMeaning.held c.loop-entry.chain)) (g.C.PairStore.cached c.loop-entry.cache (g.H.ChainMeaning.held c.loop-entry.chain)) (g.C.PairStore.capacity c.loop-entry.cache) (g.C.PairStore.names c.loop-entry.cache) (g.H.ChainMeaning.held c.loop-entry.chain) (g.H.ChainMeaning.counts c.loop-entry.chain) (g.H.ChainMeaning.loans c.loop-entry.chain) in
-    let keeps : Keeps c.loop-entry.entry-index first mid = c.loop-entry.invariant.keeps in
+    let mid = moment (g.S.SourceTiles.facts c.loop-index.sources) (g.S.SourceTiles.images c.loop-index.sources (g.H.ChainMeaning.held c.loop-index.chain)) (g.S.SourceTiles.names c.loop-index.sources) (g.C.PairStore.pairs c.loop-index.cache) (g.C.PairStore.sizes c.loop-index.cache (g.H.ChainMeaning.held c.loop-index.chain)) (g.C.PairStore.cached c.loop-index.cache (g.H.ChainMeaning.held c.loop-index.chain)) (g.C.PairStore.capacity c.loop-index.cache) (g.C.PairStore.names c.loop-index.cache) (g.H.ChainMeaning.held c.loop-index.chain) (g.H.ChainMeaning.counts c.loop-index.chain) (g.H.ChainMeaning.loans c.loop-index.chain) in
+    let keeps : Keeps c.loop-index.index first mid = c.loop-index.invariant.keeps in
     let nodes = c.args.nodes.now in
     let need = c.args.strip.now.need in
-    let before = pairs_needed nodes (take c.loop-entry.entry-index need) in
-    let after = pairs_needed nodes (drop c.loop-entry.entry-index need) in
+    let before = pairs_needed nodes (take c.loop-index.index need) in
+    let after = pairs_needed nodes (drop c.loop-index.index need) in
     let parts : before ++ after ≡ pairs_needed nodes need =
-    sym (map-append (pair_of (specs_of nodes)) (take c.loop-entry.entry-index need) (drop c.loop-entry.entry-index need)) ∙ ap (pairs_needed nodes) (take-append-drop c.loop-entry.entry-index need) in
+    sym (map-append (pair_of (specs_of nodes)) (take c.loop-index.index need) (drop c.loop-index.index need)) ∙ ap (pairs_needed nodes) (take-append-drop c.loop-index.index need) in
     let within : AreWithin first.capacity mid.pairs =
     subst (λ (o : Option ℕ). AreWithin o mid.pairs) keeps.capacity
-    (g.met.C.PairStore.within c.loop-entry.cache (g.H.ChainMeaning.held c.loop-entry.chain) c.loop-entry.invariant.cache_over) in
+    (g.met.C.PairStore.within c.loop-index.cache (g.H.ChainMeaning.held c.loop-index.chain) c.loop-index.invariant.cache_over) in
     let few : mid.counts.names + 1 ≤ most_names first (pairs_needed nodes need) =
     subst (λ (pairs : List Pair). mid.counts.names + 1 ≤ most_names first pairs) parts
-    (few-names first mid before after c.loop-entry.applied c.loop-entry.reused c.loop-entry.invariant.pairs (keeps.other_names one) (g.met.C.PairStore.few_names c.loop-entry.cache) within) in
+    (few-names first mid before after c.loop-index.applied c.loop-index.reused c.loop-index.invariant.pairs (keeps.other_names one) (g.met.C.PairStore.few_names c.loop-index.cache) within) in
     let most = most_names first (pairs_needed nodes need) in
     let refused = c.in_err-found.field-0.0 in
-    let end = g.H.ChainMeaning.counts c.hold_needed.new.chain in
+    let end = g.H.ChainMeaning.counts c.hold_next.new.chain in
     handed-on c.from_residual-in_err-found.result refused (HasSwapCause (g.H.ChainMeaning.counts c.args.chain.now) end most) c.from_residual-in_err-found.ensures.1
-    (cause-kept c.loop-entry.entry-index (mid.counts.names + 1) most first mid end refused keeps few c.in_err-found.ensures.cause)
+    (cause-kept c.loop-index.index (mid.counts.names + 1) most first mid end refused keeps few c.in_err-found.ensures.cause)
 
-pub loop-entry-preserved : goal.loop-entry-preserved
-loop-entry-preserved g c =
+pub loop-index-preserved : goal.loop-index-preserved
+loop-index-preserved g c =
     let first = moment (g.S.SourceTiles.facts c.args.sources.now) (g.S.SourceTiles.images c.args.sources.now (g.H.ChainMeaning.held c.args.chain.now)) (g.S.SourceTiles.names c.args.sources.now) (g.C.PairStore.pairs c.args.cache.now) (g.C.PairStore.sizes c.args.cache.now (g.H.ChainMeaning.held c.args.chain.now)) (g.C.PairStore.cached c.args.cache.now (g.H.ChainMeaning.held c.args.chain.now)) (g.C.PairStore.capacity c.args.cache.now) (g.C.PairStore.names c.args.cache.now) (g.H.ChainMeaning.held c.args.chain.now) (g.H.ChainMeaning.counts c.args.chain.now) (g.H.ChainMeaning.loans c.args.chain.now) in
-    let mid = moment (g.S.SourceTiles.facts c.loop-entry.sources) (g.S.SourceTiles.images c.loop-entry.sources (g.H.ChainMeaning.held c.loop-entry.chain)) (g.S.SourceTiles.names c.loop-entry.sources) (g.C.PairStore.pairs c.loop-entry.cache) (g.C.PairStore.sizes c.loop-entry.cache (g.H.ChainMeaning.held c.loop-entry.chain)) (g.C.PairStore.cached c.loop-entry.cache (g.H.ChainMeaning.held c.loop-entry.chain)) (g.C.PairStore.capacity c.loop-entry.cache) (g.C.PairStore.names c.loop-entry.cache) (g.H.ChainMeaning.held c.loop-entry.chain) (g.H.ChainMeaning.counts c.loop-entry.chain) (g.H.ChainMeaning.loans c.loop-entry.chain) in
-    let last = moment (g.S.SourceTiles.facts c.hold_needed.new.sources) (g.S.SourceTiles.images c.hold_needed.new.sources (g.H.ChainMeaning.held c.hold_needed.new.chain)) (g.S.SourceTiles.names c.hold_needed.new.sources) (g.C.PairStore.pairs c.hold_needed.new.cache) (g.C.PairStore.sizes c.hold_needed.new.cache (g.H.ChainMeaning.held c.hold_needed.new.chain)) (g.C.PairStore.cached c.hold_needed.new.cache (g.H.ChainMeaning.held c.hold_needed.new.chain)) (g.C.PairStore.capacity c.hold_needed.new.cache) (g.C.PairStore.names c.hold_needed.new.cache) (g.H.ChainMeaning.held c.hold_needed.new.chain) (g.H.ChainMeaning.counts c.hold_needed.new.chain) (g.H.ChainMeaning.loans c.hold_needed.new.chain) in
+    let mid = moment (g.S.SourceTiles.facts c.loop-index.sources) (g.S.SourceTiles.images c.loop-index.sources (g.H.ChainMeaning.held c.loop-index.chain)) (g.S.SourceTiles.names c.loop-index.sources) (g.C.PairStore.pairs c.loop-index.cache) (g.C.PairStore.sizes c.loop-index.cache (g.H.ChainMeaning.held c.loop-index.chain)) (g.C.PairStore.cached c.loop-index.cache (g.H.ChainMeaning.held c.loop-index.chain)) (g.C.PairStore.capacity c.loop-index.cache) (g.C.PairStore.names c.loop-index.cache) (g.H.ChainMeaning.held c.loop-index.chain) (g.H.ChainMeaning.counts c.loop-index.chain) (g.H.ChainMeaning.loans c.loop-index.chain) in
+    let last = moment (g.S.SourceTiles.facts c.hold_next.new.sources) (g.S.SourceTiles.images c.hold_next.new.sources (g.H.ChainMeaning.held c.hold_next.new.chain)) (g.S.SourceTiles.names c.hold_next.new.sources) (g.C.PairStore.pairs c.hold_next.new.cache) (g.C.PairStore.sizes c.hold_next.new.cache (g.H.ChainMeaning.held c.hold_next.new.chain)) (g.C.PairStore.cached c.hold_next.new.cache (g.H.ChainMeaning.held c.hold_next.new.chain)) (g.C.PairStore.capacity c.hold_next.new.cache) (g.C.PairStore.names c.hold_next.new.cache) (g.H.ChainMeaning.held c.hold_next.new.chain) (g.H.ChainMeaning.counts c.hold_next.new.chain) (g.H.ChainMeaning.loans c.hold_next.new.chain) in
     let nodes = c.args.nodes.now in
     let meanings = g.K.Op.OpMeaning.meanings in
     let need = c.args.strip.now.need in
-    let i = c.loop-entry.entry-index in
+    let i = c.loop-index.index in
     let n = c.entry-item.result in
-    let found : slice_get need i ≡ Some n = needed-at c.as_slice-entry-items.result.now need i n c.as_slice-entry-items.ensures c.loop-entry-test.true c.entry-item.is in
+    let found : slice_get need i ≡ Some n = needed-at c.as_slice-entry-items.result.now need i n c.as_slice-entry-items.ensures c.loop-index-test.true c.entry-item.is in
     let pair = pair_of (specs_of nodes) n in
-    let invariant = c.loop-entry.invariant in
+    let invariant = c.loop-index.invariant in
     let does = c.in_ok-found.ensures in
     let keeps : Keeps (i + 1) first last = keeps-both i 1 first mid last invariant.keeps does.keeps in
-    let more : IsCountedMore c.in_ok-found.found c.loop-entry.applied c.loop-entry.reused c.if-found.applied c.if-found.reused = elim c.if-found.branch [
-      | then-found w ↦ subst (λ (b : Bool). IsCountedMore b c.loop-entry.applied c.loop-entry.reused c.if-found.applied c.if-found.reused) (sym w.if-found.true) (w.applied-is, w.reused-is)
-      | else-found w ↦ subst (λ (b : Bool). IsCountedMore b c.loop-entry.applied c.loop-entry.reused c.if-found.applied c.if-found.reused) (sym w.if-found.false) (w.applied-is, w.reused-is)
+    let more : IsCountedMore c.in_ok-found.found c.loop-index.applied c.loop-index.reused c.if-found.applied c.if-found.reused = elim c.if-found.branch [
+      | then-found w ↦ subst (λ (b : Bool). IsCountedMore b c.loop-index.applied c.loop-index.reused c.if-found.applied c.if-found.reused) (sym w.if-found.true) (w.applied-is, w.reused-is)
+      | else-found w ↦ subst (λ (b : Bool). IsCountedMore b c.loop-index.applied c.loop-index.reused c.if-found.applied c.if-found.reused) (sym w.if-found.false) (w.applied-is, w.reused-is)
     ] in
     let capacity : mid.capacity ≡ first.capacity = invariant.keeps.capacity in
     record {
-      index = index-more c.in_ok-found.found c.loop-entry.applied c.loop-entry.reused c.if-found.applied c.if-found.reused i more invariant.index;
+      index = index-more c.in_ok-found.found c.loop-index.applied c.loop-index.reused c.if-found.applied c.if-found.reused i more invariant.index;
       keeps = keeps;
       sources_over = does.sources_over;
       cache_over = does.cache_over;
@@ -146,52 +123,62 @@ loop-entry-preserved g c =
       valid = λ valid. does.valid (invariant.valid valid);
       sized = does.sized;
       pairs =
-          pairs-more first.capacity mid.pairs last.pairs pair c.in_ok-found.found c.loop-entry.applied c.loop-entry.reused c.if-found.applied c.if-found.reused first.pairs
+          pairs-more first.capacity mid.pairs last.pairs pair c.in_ok-found.found c.loop-index.applied c.loop-index.reused c.if-found.applied c.if-found.reused first.pairs
           (pairs_needed nodes (take i need)) invariant.pairs
           (subst (λ (o : Option ℕ). last.pairs ≡ recent itself itself o mid.pairs pair) capacity does.recent.pairs) does.recent.there more
           ∙ ap (all_looked_up itself itself first.capacity (uncounted first.pairs)) (sym (pairs-take nodes need i n found));
-      held = subst (λ (list : List Needed). HoldsNeed nodes list c.hold_needed.new.tiles) (sym (take-more need i n found))
-          (need-more nodes (take i need) n c.loop-entry.tiles c.hold_needed.new.tiles does.held invariant.held);
-      permits = permits-more c.in_ok-found.found c.loop-entry.applied c.loop-entry.reused c.if-found.applied c.if-found.reused
-          (g.K.OpKit.permits c.args.purse.now) (g.K.OpKit.permits c.loop-entry.purse) (g.K.OpKit.permits c.hold_needed.new.purse) more invariant.permits does.permits;
+      held = does.held;
+      ahead = does.ahead;
+      made = λ images known right.
+          does.made images (invariant.keeps.images ∙ known) (invariant.bytes images right.list known right.known right.right).tiles (invariant.made images known right);
+      permits = permits-more c.in_ok-found.found c.loop-index.applied c.loop-index.reused c.if-found.applied c.if-found.reused
+          (g.K.OpKit.permits c.args.purse.now) (g.K.OpKit.permits c.loop-index.purse) (g.K.OpKit.permits c.hold_next.new.purse) (length c.loop-index.ahead) (length c.hold_next.new.ahead)
+          more invariant.permits does.permits;
       right = λ images known right.
-          does.right images (invariant.keeps.images ∙ known) (invariant.bytes images right.list known right.known right.right).tiles (invariant.right images known right);
+          does.right images (invariant.keeps.images ∙ known) (invariant.bytes images right.list known right.known right.right).tiles (invariant.made images known right) (invariant.right images known right);
       bytes = λ images list known cached right.
           let before = invariant.bytes images list known cached right in
           let now = list_after meanings nodes images first.capacity list (pairs_needed nodes (take i need)) in
           let is_right = right-list meanings nodes images mid.cached now (invariant.right images known (record { list = list; known = cached; right = right })) before.cached in
-          subst (λ (pairs : List Pair). IsRendered meanings nodes images first last list pairs c.hold_needed.new.tiles) (sym (pairs-take nodes need i n found))
-          (rendered-more meanings nodes images first mid last list (pairs_needed nodes (take i need)) pair c.hold_needed.new.tiles capacity
-          (does.bytes images now (invariant.keeps.images ∙ known) before.tiles before.cached is_right));
+          subst (λ (pairs : List Pair). IsRendered meanings nodes images first last list pairs c.hold_next.new.tiles) (sym (pairs-take nodes need i n found))
+          (rendered-more meanings nodes images first mid last list (pairs_needed nodes (take i need)) pair c.hold_next.new.tiles capacity
+          (does.bytes images now (invariant.keeps.images ∙ known) before.tiles (invariant.made images known (record { list = list; known = cached; right = right })) before.cached is_right));
     }
 
 pub returns-clause-pairs : goal.returns-clause-pairs
 returns-clause-pairs g c =
     let need = c.args.strip.now.need in
-    let i = c.loop-entry.entry-index in
-    let all : take i need ≡ need = take_all i need (omega (arith, c.loop-entry-test.false, ap length c.as_slice-entry-items.ensures)) in
-    c.loop-entry.invariant.pairs
+    let i = c.loop-index.index in
+    let all : take i need ≡ need = take_all i need (omega (arith, c.loop-index-test.false, ap length c.as_slice-entry-items.ensures)) in
+    c.loop-index.invariant.pairs
     ∙ ap (λ (list : List Needed). all_looked_up itself itself (g.C.PairStore.capacity c.args.cache.now) (uncounted (g.C.PairStore.pairs c.args.cache.now)) (pairs_needed c.args.nodes.now list)) all
 
 pub returns-clause-held : goal.returns-clause-held
 returns-clause-held g c =
     let need = c.args.strip.now.need in
-    let i = c.loop-entry.entry-index in
-    let all : take i need ≡ need = take_all i need (omega (arith, c.loop-entry-test.false, ap length c.as_slice-entry-items.ensures)) in
-    subst (λ (list : List Needed). HoldsNeed c.args.nodes.now list c.loop-entry.tiles) all c.loop-entry.invariant.held
+    let i = c.loop-index.index in
+    let all : take i need ≡ need = take_all i need (omega (arith, c.loop-index-test.false, ap length c.as_slice-entry-items.ensures)) in
+    subst (λ (list : List Needed). HoldsNeed c.args.nodes.now list c.loop-index.tiles) all c.loop-index.invariant.held
 
 pub returns-clause-bytes : goal.returns-clause-bytes
 returns-clause-bytes g c = λ images list known cached right.
     let first = moment (g.S.SourceTiles.facts c.args.sources.now) (g.S.SourceTiles.images c.args.sources.now (g.H.ChainMeaning.held c.args.chain.now)) (g.S.SourceTiles.names c.args.sources.now) (g.C.PairStore.pairs c.args.cache.now) (g.C.PairStore.sizes c.args.cache.now (g.H.ChainMeaning.held c.args.chain.now)) (g.C.PairStore.cached c.args.cache.now (g.H.ChainMeaning.held c.args.chain.now)) (g.C.PairStore.capacity c.args.cache.now) (g.C.PairStore.names c.args.cache.now) (g.H.ChainMeaning.held c.args.chain.now) (g.H.ChainMeaning.counts c.args.chain.now) (g.H.ChainMeaning.loans c.args.chain.now) in
-    let mid = moment (g.S.SourceTiles.facts c.loop-entry.sources) (g.S.SourceTiles.images c.loop-entry.sources (g.H.ChainMeaning.held c.loop-entry.chain)) (g.S.SourceTiles.names c.loop-entry.sources) (g.C.PairStore.pairs c.loop-entry.cache) (g.C.PairStore.sizes c.loop-entry.cache (g.H.ChainMeaning.held c.loop-entry.chain)) (g.C.PairStore.cached c.loop-entry.cache (g.H.ChainMeaning.held c.loop-entry.chain)) (g.C.PairStore.capacity c.loop-entry.cache) (g.C.PairStore.names c.loop-entry.cache) (g.H.ChainMeaning.held c.loop-entry.chain) (g.H.ChainMeaning.counts c.loop-entry.chain) (g.H.ChainMeaning.loans c.loop-entry.chain) in
+    let mid = moment (g.S.SourceTiles.facts c.loop-index.sources) (g.S.SourceTiles.images c.loop-index.sources (g.H.ChainMeaning.held c.loop-index.chain)) (g.S.SourceTiles.names c.loop-index.sources) (g.C.PairStore.pairs c.loop-index.cache) (g.C.PairStore.sizes c.loop-index.cache (g.H.ChainMeaning.held c.loop-index.chain)) (g.C.PairStore.cached c.loop-index.cache (g.H.ChainMeaning.held c.loop-index.chain)) (g.C.PairStore.capacity c.loop-index.cache) (g.C.PairStore.names c.loop-index.cache) (g.H.ChainMeaning.held c.loop-index.chain) (g.H.ChainMeaning.counts c.loop-index.chain) (g.H.ChainMeaning.loans c.loop-index.chain) in
     let need = c.args.strip.now.need in
-    let i = c.loop-entry.entry-index in
-    let all : take i need ≡ need = take_all i need (omega (arith, c.loop-entry-test.false, ap length c.as_slice-entry-items.ensures)) in
-    subst (λ (list' : List Needed). IsRendered g.K.Op.OpMeaning.meanings c.args.nodes.now images first mid list (pairs_needed c.args.nodes.now list') c.loop-entry.tiles) all
-    (c.loop-entry.invariant.bytes images list known cached right)
+    let i = c.loop-index.index in
+    let all : take i need ≡ need = take_all i need (omega (arith, c.loop-index-test.false, ap length c.as_slice-entry-items.ensures)) in
+    subst (λ (list' : List Needed). IsRendered g.K.Op.OpMeaning.meanings c.args.nodes.now images first mid list (pairs_needed c.args.nodes.now list') c.loop-index.tiles) all
+    (c.loop-index.invariant.bytes images list known cached right)
 
 pub returns-clause-keeps : goal.returns-clause-keeps
 returns-clause-keeps g c =
     let first = moment (g.S.SourceTiles.facts c.args.sources.now) (g.S.SourceTiles.images c.args.sources.now (g.H.ChainMeaning.held c.args.chain.now)) (g.S.SourceTiles.names c.args.sources.now) (g.C.PairStore.pairs c.args.cache.now) (g.C.PairStore.sizes c.args.cache.now (g.H.ChainMeaning.held c.args.chain.now)) (g.C.PairStore.cached c.args.cache.now (g.H.ChainMeaning.held c.args.chain.now)) (g.C.PairStore.capacity c.args.cache.now) (g.C.PairStore.names c.args.cache.now) (g.H.ChainMeaning.held c.args.chain.now) (g.H.ChainMeaning.counts c.args.chain.now) (g.H.ChainMeaning.loans c.args.chain.now) in
-    let mid = moment (g.S.SourceTiles.facts c.loop-entry.sources) (g.S.SourceTiles.images c.loop-entry.sources (g.H.ChainMeaning.held c.loop-entry.chain)) (g.S.SourceTiles.names c.loop-entry.sources) (g.C.PairStore.pairs c.loop-entry.cache) (g.C.PairStore.sizes c.loop-entry.cache (g.H.ChainMeaning.held c.loop-entry.chain)) (g.C.PairStore.cached c.loop-entry.cache (g.H.ChainMeaning.held c.loop-entry.chain)) (g.C.PairStore.capacity c.loop-entry.cache) (g.C.PairStore.names c.loop-entry.cache) (g.H.ChainMeaning.held c.loop-entry.chain) (g.H.ChainMeaning.counts c.loop-entry.chain) (g.H.ChainMeaning.loans c.loop-entry.chain) in
-    keeps-most c.loop-entry.entry-index (length c.args.strip.now.need) first mid (omega (arith, c.loop-entry.auto.entry-index-end, ap length c.as_slice-entry-items.ensures)) c.loop-entry.invariant.keeps
+    let mid = moment (g.S.SourceTiles.facts c.loop-index.sources) (g.S.SourceTiles.images c.loop-index.sources (g.H.ChainMeaning.held c.loop-index.chain)) (g.S.SourceTiles.names c.loop-index.sources) (g.C.PairStore.pairs c.loop-index.cache) (g.C.PairStore.sizes c.loop-index.cache (g.H.ChainMeaning.held c.loop-index.chain)) (g.C.PairStore.cached c.loop-index.cache (g.H.ChainMeaning.held c.loop-index.chain)) (g.C.PairStore.capacity c.loop-index.cache) (g.C.PairStore.names c.loop-index.cache) (g.H.ChainMeaning.held c.loop-index.chain) (g.H.ChainMeaning.counts c.loop-index.chain) (g.H.ChainMeaning.loans c.loop-index.chain) in
+    keeps-most c.loop-index.index (length c.args.strip.now.need) first mid (omega (arith, c.loop-index.auto.index-end, ap length c.as_slice-entry-items.ensures)) c.loop-index.invariant.keeps
+
+pub returns-clause-permits : goal.returns-clause-permits
+returns-clause-permits g c =
+    let none : length c.loop-index.ahead ≡ 0 =
+    ahead-past c.args.nodes.now (g.C.PairStore.pairs c.loop-index.cache) c.args.strip.now.need c.loop-index.index c.loop-index.ahead
+    (omega (arith, c.loop-index-test.false, ap length c.as_slice-entry-items.ensures)) c.loop-index.invariant.ahead in
+    omega (arith, none, c.loop-index.invariant.permits)

@@ -8,7 +8,7 @@ use Rattle.test_renders.proofs.ReadyLaws.{ready-taken}
 use Rattle.test_renders.proofs.frozen.invert_frozen.Goals as goal
 
 pub seen-second-requires-clause-ready : goal.seen-second-requires-clause-ready
-seen-second-requires-clause-ready g c =
+seen-second-requires-clause-ready g c κs within =
     let canvas = c.seen-first.new.self in
     let facts = facts_in canvas.sources.buffers.now in
     let nodes = canvas.graph.latest.nodes in

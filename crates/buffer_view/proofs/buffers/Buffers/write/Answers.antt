@@ -10,7 +10,6 @@ use Rattle.pixel_formats.specs.declared.format.Format.{Format}
 use Rattle.plane_rect.specs.Rectangle.{Includes}
 use Rattle.root_tiles.specs.Roots.{IsRootOver, RootTiles, root_image}
 use Rattle.buffer_view.specs.BufferTables.{AreBuffersOver, BufferTable, IsBufferTable, buffers_names, table_of}
-use Rattle.buffer_view.specs.Written.{IsWrittenOver, written_pixels}
 use Rattle.buffer_view.proofs.Added.{held_as}
 use Rattle.buffer_view.proofs.Changed.{others-changed, over-changed, shown-painted, shown-same, table-changed}
 use Rattle.buffer_view.proofs.Parts.{entry-below, entry-holds, format-shown}
@@ -43,7 +42,7 @@ write-requires-clause-written g c =
     let n = c.args.number in
     let here : get_or now.roots n root ≡ root = sym (c.index_mut.ensures.value ∙ ap (λ (b : BufferTable). get_or b.roots n root) c.self.view_is) in
     let below = entry-below now c.requires.over.table n _ c.requires.inside in
-    entry-holds now c.requires.over.table n (λ (s : Shape). IsWrittenOver s.format c.args.rect c.args.samples.now) root here c.requires.samples
+    entry-holds now c.requires.over.table n (λ (s : Shape). g.W.Written.fits c.args.samples.now s.format c.args.rect) root here c.requires.samples
 
 pub invariant_of-self : goal.invariant_of-self
 invariant_of-self g c =
@@ -70,10 +69,10 @@ returns-clause-table g c =
     let last = g.C.ChainMeaning.held c.write.new.chain in
     let after = ap (λ (b : BufferTable). held_as b.layout (set b.roots n new)) c.self.view_is in
     λ name shape there.
-    let paints : Format → RootTiles → Type 0 = λ format r. root_image r last ≡ option_map (λ (image : Image). painted image c.args.rect (written_pixels format c.args.rect c.args.samples.now)) (root_image root first) in
+    let paints : Format → RootTiles → Type 0 = λ format r. root_image r last ≡ option_map (λ (image : Image). painted image c.args.rect (g.W.Written.pixels c.args.samples.now format c.args.rect)) (root_image root first) in
     on_ok_weaker c.write.result
     (λ image. ap (λ (b : BufferTable). table_of b last) after
-    ∙ shown-painted now n root new first last c.requires.over below here c.write.ensures.others c.write.ensures.shape name shape c.args.rect (written_pixels shape.format c.args.rect c.args.samples.now) there
+    ∙ shown-painted now n root new first last c.requires.over below here c.write.ensures.others c.write.ensures.shape name shape c.args.rect (g.W.Written.pixels c.args.samples.now shape.format c.args.rect) there
     (subst (λ (f : Format). paints f new) (format-shown now first c.requires.over.table n root name shape there here) image)) c.write.ensures.image
 
 pub returns-clause-same : goal.returns-clause-same

@@ -1,6 +1,6 @@
 use Rattle.std.proofs.Common.{◌≡◌, Err, inl, refl, ap, ◌∙◌, rules}
 use Rattle.chain_handlers.specs.Overlay.{overlay, overlay_has_same_names}
-use Rattle.chain_handlers.proofs.Moves.{cause-above, crowded-for, known-below, on-full, reads-above, refetched}
+use Rattle.chain_handlers.proofs.Moves.{cause-above, crowded-for, known-below, on-full, read-known, reads-above}
 use Rattle.chain_handlers.proofs.cache_handler.CacheHandler.fetch.Goals as goal
 
 pub get-requires-clause-known : goal.get-requires-clause-known
@@ -27,12 +27,11 @@ returns-clause-read g c =
     reads-above c.args.self.now.tiles.entries c.args.name c.args.len c.in_ok-tile.tile (g.H.ChainMeaning.held c.args.self.now.below)
     (overlay c.args.self.now.tiles.entries (g.H.ChainMeaning.held c.args.self.now.below)) refl c.requires.absent c.requires.known c.in_ok-tile.ensures.read
 
-pub returns-clause-held : goal.returns-clause-held
-returns-clause-held g c =
+pub bring_in-requires-clause-known : goal.bring_in-requires-clause-known
+bring_in-requires-clause-known g c =
     let es = c.args.self.now.tiles.entries in
     let below = g.H.ChainMeaning.held c.args.self.now.below in
-    refetched (overlay es below) (overlay c.make_room.new.self.tiles.entries (g.H.ChainMeaning.held c.make_room.new.self.below))
-    (overlay c.insert.new.self.tiles.entries (g.H.ChainMeaning.held c.insert.new.self.below)) c.args.name c.args.len c.in_ok-tile.tile
-    c.in_ok-insert.ensures.held (c.make_room.ensures.held ∙ ap (overlay es) c.get.ensures.held)
+    read-known (overlay es below) (overlay c.make_room.new.self.tiles.entries (g.H.ChainMeaning.held c.make_room.new.self.below)) c.args.name c.args.len
+    c.in_ok-tile.tile (c.make_room.ensures.held ∙ ap (overlay es) c.get.ensures.held)
     (overlay_has_same_names es below (g.H.ChainMeaning.same_names c.args.self.now.below)) c.requires.known
     (reads-above es c.args.name c.args.len c.in_ok-tile.tile below (overlay es below) refl c.requires.absent c.requires.known c.in_ok-tile.ensures.read)

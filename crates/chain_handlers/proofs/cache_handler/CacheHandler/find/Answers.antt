@@ -2,12 +2,13 @@ use Rattle.chain_handlers.proofs.Moves.{promoted-laws}
 use Rattle.chain_handlers.proofs.Overlays.{overlay-promoted}
 use Rattle.chain_handlers.proofs.cache_handler.CacheHandler.find.Goals as goal
 
+pub invariant_of-self : goal.invariant_of-self
+invariant_of-self g c = record {
+  cached = rw c.promote.ensures.entries
+      (promoted-laws c.args.self.now.tiles.entries c.args.self.now.tiles.cap c.args.name (g.H.ChainMeaning.held c.args.self.now.below)
+      c.args.self.now.cached);
+}
+
 pub returns-clause-held : goal.returns-clause-held
 returns-clause-held g c =
     rw c.promote.ensures.entries (overlay-promoted c.args.name c.args.self.now.tiles.entries (g.H.ChainMeaning.held c.args.self.now.below))
-
-pub returns-clause-laws : goal.returns-clause-laws
-returns-clause-laws g c = λ laws.
-    rw c.promote.ensures.entries
-    (promoted-laws c.args.self.now.tiles.entries c.args.self.now.tiles.cap c.args.name (g.H.ChainMeaning.held c.args.self.now.below) laws
-    (rw c.promote.ensures.entries at c.len.ensures.valid.1))

@@ -14,11 +14,11 @@ returns-in_err-make_room_for-clause-cause g c =
     c.in_err-make_room_for.ensures.cause)
 
 pub returns-in_err-make_room_for-clause-full : goal.returns-in_err-make_room_for-clause-full
-returns-in_err-make_room_for-clause-full g c = λ valid laws.
+returns-in_err-make_room_for-clause-full g c = λ valid.
     let same : c.from_residual.result ≡ Err c.in_err-make_room_for.field-0.0 = search rules in
     rw same
     (put-report (overlay c.args.self.now.tiles.entries (g.H.ChainMeaning.held c.args.self.now.below)) c.args.tile.now
-    (g.H.ChainMeaning.store c.make_room_for.new.self.below) c.in_err-make_room_for.field-0.0 (c.in_err-make_room_for.ensures.full valid laws))
+    (g.H.ChainMeaning.store c.make_room_for.new.self.below) c.in_err-make_room_for.field-0.0 (c.in_err-make_room_for.ensures.full valid))
 
 pub returns-in_err-make_room_for-clause-resident : goal.returns-in_err-make_room_for-clause-resident
 returns-in_err-make_room_for-clause-resident g c =

@@ -1,6 +1,6 @@
 use Rattle.std.proofs.Common.{◌≡◌, length}
 use Rattle.chain_owners.specs.Counts.{Continues}
-use Rattle.chain_handlers.specs.Overlay.{IsCache, overlay}
+use Rattle.chain_handlers.specs.Overlay.{overlay}
 use Rattle.chain_handlers.proofs.cache_handler.CacheHandler.move_all.Given as goal
 
 abbrev pub invariant-loop-self : goal.invariant-loop-self
@@ -10,8 +10,6 @@ invariant-loop-self g l = record {
   continues : Continues (g.H.ChainMeaning.counts l.fn.self.below) (g.H.ChainMeaning.counts l.self.below);
   loans : g.H.ChainMeaning.loans l.self.below ≡ g.H.ChainMeaning.loans l.fn.self.below;
   valid : g.H.ChainMeaning.is_valid l.fn.self.below → g.H.ChainMeaning.is_valid l.self.below;
-  laws : IsCache l.fn.self.tiles.entries l.fn.self.tiles.cap (g.H.ChainMeaning.held l.fn.self.below)
-      → IsCache l.self.tiles.entries l.self.tiles.cap (g.H.ChainMeaning.held l.self.below);
 }
 
 abbrev pub decreases-loop-self : goal.decreases-loop-self

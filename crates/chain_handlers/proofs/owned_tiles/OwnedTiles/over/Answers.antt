@@ -1,5 +1,4 @@
-use Rattle.chain_handlers.proofs.Fresh.{fresh-cache, fresh-counts, fresh-held, fresh-lengths, fresh-owners}
-use Rattle.chain_handlers.specs.DiskTiles.{disk_held}
+use Rattle.chain_handlers.proofs.Fresh.{fresh-counts, fresh-held, fresh-lengths, fresh-owners}
 use Rattle.chain_handlers.proofs.owned_tiles.OwnedTiles.over.Goals as goal
 
 pub invariant_of-result : goal.invariant_of-result
@@ -26,9 +25,6 @@ returns-clause-counts g c =
 pub returns-clause-valid : goal.returns-clause-valid
 returns-clause-valid g c =
     let memory = c.args.memory in
-    rw (c.new.ensures, c.over-cache.ensures.below, c.over-cache.ensures.tiles, c.new-below.ensures.store, c.over.ensures.placement, c.over.ensures.disk) (
-      let valid = rw (c.over.ensures.placement, c.over.ensures.disk) at c.new-below.ensures.valid in
-          valid (fresh-lengths memory.store memory.no_names (g.D.SwapDisk.blocks c.args.disk)),
-      fresh-cache memory.store memory.no_names memory.tiles.entries memory.no_tiles memory.tiles.cap
-          (disk_held memory.store (g.D.SwapDisk.blocks c.args.disk)),
-    )
+    let valid = rw (c.over.ensures.placement, c.over.ensures.disk) at c.new-below.ensures.valid in
+    rw (c.new.ensures, c.over-cache.ensures.below, c.new-below.ensures.store, c.over.ensures.placement, c.over.ensures.disk)
+    (valid (fresh-lengths memory.store memory.no_names (g.D.SwapDisk.blocks c.args.disk)))

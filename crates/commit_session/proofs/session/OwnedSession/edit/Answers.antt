@@ -17,7 +17,7 @@ laws : (g : Given.Over) → KeepsLaws g.K.Op.OpMeaning.meanings
 laws g = record { local = g.K.Op.OpMeaning.local; dual = g.K.Op.OpMeaning.dual }
 
 pub edit-requires-clause-proper : goal.edit-requires-clause-proper
-edit-requires-clause-proper g c =
+edit-requires-clause-proper g c κs within =
     subst (λ (step : HistoryEdit g.row.K-Op.Denot). IsProper step) (sym c.in-Buffer.ensures) c.requires.proper
 
 pub returns-in-Buffer-clause-session : goal.returns-in-Buffer-clause-session

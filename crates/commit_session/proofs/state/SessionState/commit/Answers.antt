@@ -27,343 +27,177 @@ use Rattle.commit_session.proofs.state.SessionState.commit.Goals as goal
 laws : (g : Given.Over) → KeepsLaws g.Op.OpMeaning.meanings
 laws g = record { local = g.Op.OpMeaning.local; dual = g.Op.OpMeaning.dual }
 
-pub share_working-requires : goal.share_working-requires
-share_working-requires g c =
-    subst (λ (p : Parts g.row.Op.Denot). AreVersionsOver p.versions (g.C.ChainMeaning.held c.args.chain.now)) (sym c.self.view_is)
-    (versions-over g.Op.OpMeaning.same g.Op.OpMeaning.meanings c.args.self.now (g.C.ChainMeaning.held c.args.chain.now) c.requires)
+module _ (g : Given.Over) (c : goal.After-from_residual g) where
+  abbrev shared_s0 : ChainState
+  shared_s0 = record { held = g.C.ChainMeaning.held c.args.chain.now; counts = g.C.ChainMeaning.counts c.args.chain.now; loans = g.C.ChainMeaning.loans c.args.chain.now; valid = g.C.ChainMeaning.is_valid c.args.chain.now }
 
-pub returns-in_err-shared-clause-same : goal.returns-in_err-shared-clause-same
-returns-in_err-shared-clause-same g c =
-    let s0 : ChainState = record { held = g.C.ChainMeaning.held c.args.chain.now; counts = g.C.ChainMeaning.counts c.args.chain.now; loans = g.C.ChainMeaning.loans c.args.chain.now; valid = g.C.ChainMeaning.is_valid c.args.chain.now } in
-    let s1 : ChainState = record { held = g.C.ChainMeaning.held c.share_working.new.chain; counts = g.C.ChainMeaning.counts c.share_working.new.chain; loans = g.C.ChainMeaning.loans c.share_working.new.chain; valid = g.C.ChainMeaning.is_valid c.share_working.new.chain } in
-    let v : Parts g.row.Op.Denot = record {
-      versions = c.self.inside.versions;
-      pending = c.self.inside.pending.items;
-      written = rectangles_of c.self.inside.written.items;
-      graph = c.self.inside.graph;
-      entries = c.self.inside.cache.names.entries;
-      most = c.self.inside.cache.names.cap;
-      capacity = c.self.inside.cache.capacity;
-      applied = c.self.inside.counts.applied;
-      reused = c.self.inside.counts.reused;
-    } in
-    let over : IsOver g.Op.OpMeaning.same g.Op.OpMeaning.meanings v s0.held =
-    subst (λ (p : Parts g.row.Op.Denot). IsOver g.Op.OpMeaning.same g.Op.OpMeaning.meanings p s0.held) (sym c.self.view_is) c.requires in
-    λ session of. on-err _ _ (subst (λ (q : Parts g.row.Op.Denot). IsSessionOf g.Op.OpMeaning.same g.Op.OpMeaning.meanings q s1.held session) c.self.view_is
-    (kept-session g.Op.OpMeaning.same g.Op.OpMeaning.meanings v s0 s1 over c.in_err-shared.ensures.left c.share_working.ensures.tables c.share_working.ensures.over session (subst (λ (q : Parts g.row.Op.Denot). IsSessionOf g.Op.OpMeaning.same g.Op.OpMeaning.meanings q s0.held session) (sym c.self.view_is) of)))
+  abbrev shared_s1 : ChainState
+  shared_s1 = record { held = g.C.ChainMeaning.held c.share_working.new.chain; counts = g.C.ChainMeaning.counts c.share_working.new.chain; loans = g.C.ChainMeaning.loans c.share_working.new.chain; valid = g.C.ChainMeaning.is_valid c.share_working.new.chain }
 
-pub returns-in_err-shared-clause-over : goal.returns-in_err-shared-clause-over
-returns-in_err-shared-clause-over g c =
-    let s0 : ChainState = record { held = g.C.ChainMeaning.held c.args.chain.now; counts = g.C.ChainMeaning.counts c.args.chain.now; loans = g.C.ChainMeaning.loans c.args.chain.now; valid = g.C.ChainMeaning.is_valid c.args.chain.now } in
-    let s1 : ChainState = record { held = g.C.ChainMeaning.held c.share_working.new.chain; counts = g.C.ChainMeaning.counts c.share_working.new.chain; loans = g.C.ChainMeaning.loans c.share_working.new.chain; valid = g.C.ChainMeaning.is_valid c.share_working.new.chain } in
-    let v : Parts g.row.Op.Denot = record {
-      versions = c.self.inside.versions;
-      pending = c.self.inside.pending.items;
-      written = rectangles_of c.self.inside.written.items;
-      graph = c.self.inside.graph;
-      entries = c.self.inside.cache.names.entries;
-      most = c.self.inside.cache.names.cap;
-      capacity = c.self.inside.cache.capacity;
-      applied = c.self.inside.counts.applied;
-      reused = c.self.inside.counts.reused;
-    } in
-    let over : IsOver g.Op.OpMeaning.same g.Op.OpMeaning.meanings v s0.held =
-    subst (λ (p : Parts g.row.Op.Denot). IsOver g.Op.OpMeaning.same g.Op.OpMeaning.meanings p s0.held) (sym c.self.view_is) c.requires in
-    subst (λ (q : Parts g.row.Op.Denot). IsOver g.Op.OpMeaning.same g.Op.OpMeaning.meanings q s1.held) c.self.view_is (kept-over g.Op.OpMeaning.same g.Op.OpMeaning.meanings v s0 s1 over c.in_err-shared.ensures.left c.share_working.ensures.tables c.share_working.ensures.over)
+  abbrev shared_v : Parts g.row.Op.Denot
+  shared_v = record {
+    versions = c.self.inside.versions;
+    pending = c.self.inside.pending.items;
+    written = rectangles_of c.self.inside.written.items;
+    graph = c.self.inside.graph;
+    entries = c.self.inside.cache.names.entries;
+    most = c.self.inside.cache.names.cap;
+    capacity = c.self.inside.cache.capacity;
+    applied = c.self.inside.counts.applied;
+    reused = c.self.inside.counts.reused;
+  }
 
-pub returns-in_err-shared-clause-left : goal.returns-in_err-shared-clause-left
-returns-in_err-shared-clause-left g c =
-    let s0 : ChainState = record { held = g.C.ChainMeaning.held c.args.chain.now; counts = g.C.ChainMeaning.counts c.args.chain.now; loans = g.C.ChainMeaning.loans c.args.chain.now; valid = g.C.ChainMeaning.is_valid c.args.chain.now } in
-    let s1 : ChainState = record { held = g.C.ChainMeaning.held c.share_working.new.chain; counts = g.C.ChainMeaning.counts c.share_working.new.chain; loans = g.C.ChainMeaning.loans c.share_working.new.chain; valid = g.C.ChainMeaning.is_valid c.share_working.new.chain } in
-    let v : Parts g.row.Op.Denot = record {
-      versions = c.self.inside.versions;
-      pending = c.self.inside.pending.items;
-      written = rectangles_of c.self.inside.written.items;
-      graph = c.self.inside.graph;
-      entries = c.self.inside.cache.names.entries;
-      most = c.self.inside.cache.names.cap;
-      capacity = c.self.inside.cache.capacity;
-      applied = c.self.inside.counts.applied;
-      reused = c.self.inside.counts.reused;
-    } in
-    let over : IsOver g.Op.OpMeaning.same g.Op.OpMeaning.meanings v s0.held =
-    subst (λ (p : Parts g.row.Op.Denot). IsOver g.Op.OpMeaning.same g.Op.OpMeaning.meanings p s0.held) (sym c.self.view_is) c.requires in
-    subst (λ (q : Parts g.row.Op.Denot). Leaves 0 (session_names q) (session_names q) s0 s1) c.self.view_is (kept-left g.Op.OpMeaning.same g.Op.OpMeaning.meanings v s0 s1 over c.in_err-shared.ensures.left c.share_working.ensures.tables c.share_working.ensures.over)
+  shared_over : IsOver g.Op.OpMeaning.same g.Op.OpMeaning.meanings shared_v shared_s0.held
+  shared_over = subst (λ (p : Parts g.row.Op.Denot). IsOver g.Op.OpMeaning.same g.Op.OpMeaning.meanings p shared_s0.held) (sym c.self.view_is) c.requires
 
-pub commit-requires : goal.commit-requires
-commit-requires g c =
-    let s0 : ChainState = record { held = g.C.ChainMeaning.held c.args.chain.now; counts = g.C.ChainMeaning.counts c.args.chain.now; loans = g.C.ChainMeaning.loans c.args.chain.now; valid = g.C.ChainMeaning.is_valid c.args.chain.now } in
-    let v : Parts g.row.Op.Denot = record {
-      versions = c.self.inside.versions;
-      pending = c.self.inside.pending.items;
-      written = rectangles_of c.self.inside.written.items;
-      graph = c.self.inside.graph;
-      entries = c.self.inside.cache.names.entries;
-      most = c.self.inside.cache.names.cap;
-      capacity = c.self.inside.cache.capacity;
-      applied = c.self.inside.counts.applied;
-      reused = c.self.inside.counts.reused;
-    } in
-    let over : IsOver g.Op.OpMeaning.same g.Op.OpMeaning.meanings v s0.held =
-    subst (λ (p : Parts g.row.Op.Denot). IsOver g.Op.OpMeaning.same g.Op.OpMeaning.meanings p s0.held) (sym c.self.view_is) c.requires in
-    record { still = working-still g.Op.OpMeaning.same g.Op.OpMeaning.meanings v s0.held over c.working.result.now c.facts-facts.result.now c.working.ensures c.facts-facts.ensures.facts }
+module _ (g : Given.Over) (c : goal.After-damage-in-Ok-1 g) where
+  abbrev settle_s0 : ChainState
+  settle_s0 = record { held = g.C.ChainMeaning.held c.args.chain.now; counts = g.C.ChainMeaning.counts c.args.chain.now; loans = g.C.ChainMeaning.loans c.args.chain.now; valid = g.C.ChainMeaning.is_valid c.args.chain.now }
 
-pub settle-requires-clause-cache : goal.settle-requires-clause-cache
-settle-requires-clause-cache g c =
-    let s0 : ChainState = record { held = g.C.ChainMeaning.held c.args.chain.now; counts = g.C.ChainMeaning.counts c.args.chain.now; loans = g.C.ChainMeaning.loans c.args.chain.now; valid = g.C.ChainMeaning.is_valid c.args.chain.now } in
-    let s1 : ChainState = record { held = g.C.ChainMeaning.held c.share_working.new.chain; counts = g.C.ChainMeaning.counts c.share_working.new.chain; loans = g.C.ChainMeaning.loans c.share_working.new.chain; valid = g.C.ChainMeaning.is_valid c.share_working.new.chain } in
-    let s2 : ChainState = record { held = g.C.ChainMeaning.held c.commit-in-Ok.new.chain; counts = g.C.ChainMeaning.counts c.commit-in-Ok.new.chain; loans = g.C.ChainMeaning.loans c.commit-in-Ok.new.chain; valid = g.C.ChainMeaning.is_valid c.commit-in-Ok.new.chain } in
-    let v : Parts g.row.Op.Denot = record {
-      versions = c.self.inside.versions;
-      pending = c.self.inside.pending.items;
-      written = rectangles_of c.self.inside.written.items;
-      graph = c.self.inside.graph;
-      entries = c.self.inside.cache.names.entries;
-      most = c.self.inside.cache.names.cap;
-      capacity = c.self.inside.cache.capacity;
-      applied = c.self.inside.counts.applied;
-      reused = c.self.inside.counts.reused;
-    } in
-    let over : IsOver g.Op.OpMeaning.same g.Op.OpMeaning.meanings v s0.held =
-    subst (λ (p : Parts g.row.Op.Denot). IsOver g.Op.OpMeaning.same g.Op.OpMeaning.meanings p s0.held) (sym c.self.view_is) c.requires in
-    let shared : BufferTable = c.in_ok-shared.shared in
-    let between : List ℕ = buffers_names shared ++ versions_names v.versions in
-    cache-ready v.versions c.commit-in-Ok.new.self v.entries v.entries between s0 s1 s2 over.owned c.in_ok-shared.ensures.left c.commit-in-Ok.ensures.left v.most v.capacity over.cache
+  abbrev settle_s1 : ChainState
+  settle_s1 = record { held = g.C.ChainMeaning.held c.share_working.new.chain; counts = g.C.ChainMeaning.counts c.share_working.new.chain; loans = g.C.ChainMeaning.loans c.share_working.new.chain; valid = g.C.ChainMeaning.is_valid c.share_working.new.chain }
 
-pub settle-requires-clause-alone : goal.settle-requires-clause-alone
-settle-requires-clause-alone g c =
-    let s0 : ChainState = record { held = g.C.ChainMeaning.held c.args.chain.now; counts = g.C.ChainMeaning.counts c.args.chain.now; loans = g.C.ChainMeaning.loans c.args.chain.now; valid = g.C.ChainMeaning.is_valid c.args.chain.now } in
-    let s1 : ChainState = record { held = g.C.ChainMeaning.held c.share_working.new.chain; counts = g.C.ChainMeaning.counts c.share_working.new.chain; loans = g.C.ChainMeaning.loans c.share_working.new.chain; valid = g.C.ChainMeaning.is_valid c.share_working.new.chain } in
-    let s2 : ChainState = record { held = g.C.ChainMeaning.held c.commit-in-Ok.new.chain; counts = g.C.ChainMeaning.counts c.commit-in-Ok.new.chain; loans = g.C.ChainMeaning.loans c.commit-in-Ok.new.chain; valid = g.C.ChainMeaning.is_valid c.commit-in-Ok.new.chain } in
-    let v : Parts g.row.Op.Denot = record {
-      versions = c.self.inside.versions;
-      pending = c.self.inside.pending.items;
-      written = rectangles_of c.self.inside.written.items;
-      graph = c.self.inside.graph;
-      entries = c.self.inside.cache.names.entries;
-      most = c.self.inside.cache.names.cap;
-      capacity = c.self.inside.cache.capacity;
-      applied = c.self.inside.counts.applied;
-      reused = c.self.inside.counts.reused;
-    } in
-    let over : IsOver g.Op.OpMeaning.same g.Op.OpMeaning.meanings v s0.held =
-    subst (λ (p : Parts g.row.Op.Denot). IsOver g.Op.OpMeaning.same g.Op.OpMeaning.meanings p s0.held) (sym c.self.view_is) c.requires in
-    let shared : BufferTable = c.in_ok-shared.shared in
-    let between : List ℕ = buffers_names shared ++ versions_names v.versions in
-    alone-ready v.versions c.commit-in-Ok.new.self v.entries v.entries between s0 s1 s2 over.owned c.in_ok-shared.ensures.left c.commit-in-Ok.ensures.left over.alone
+  abbrev settle_s2 : ChainState
+  settle_s2 = record { held = g.C.ChainMeaning.held c.commit-in-Ok.new.chain; counts = g.C.ChainMeaning.counts c.commit-in-Ok.new.chain; loans = g.C.ChainMeaning.loans c.commit-in-Ok.new.chain; valid = g.C.ChainMeaning.is_valid c.commit-in-Ok.new.chain }
 
-pub returns-in-Ok-clause-committed : goal.returns-in-Ok-clause-committed
-returns-in-Ok-clause-committed g c =
-    let s0 : ChainState = record { held = g.C.ChainMeaning.held c.args.chain.now; counts = g.C.ChainMeaning.counts c.args.chain.now; loans = g.C.ChainMeaning.loans c.args.chain.now; valid = g.C.ChainMeaning.is_valid c.args.chain.now } in
-    let s1 : ChainState = record { held = g.C.ChainMeaning.held c.share_working.new.chain; counts = g.C.ChainMeaning.counts c.share_working.new.chain; loans = g.C.ChainMeaning.loans c.share_working.new.chain; valid = g.C.ChainMeaning.is_valid c.share_working.new.chain } in
-    let s2 : ChainState = record { held = g.C.ChainMeaning.held c.commit-in-Ok.new.chain; counts = g.C.ChainMeaning.counts c.commit-in-Ok.new.chain; loans = g.C.ChainMeaning.loans c.commit-in-Ok.new.chain; valid = g.C.ChainMeaning.is_valid c.commit-in-Ok.new.chain } in
-    let s3 : ChainState = record { held = g.C.ChainMeaning.held c.settle.new.chain; counts = g.C.ChainMeaning.counts c.settle.new.chain; loans = g.C.ChainMeaning.loans c.settle.new.chain; valid = g.C.ChainMeaning.is_valid c.settle.new.chain } in
-    let v : Parts g.row.Op.Denot = record {
-      versions = c.self.inside.versions;
-      pending = c.self.inside.pending.items;
-      written = rectangles_of c.self.inside.written.items;
-      graph = c.self.inside.graph;
-      entries = c.self.inside.cache.names.entries;
-      most = c.self.inside.cache.names.cap;
-      capacity = c.self.inside.cache.capacity;
-      applied = c.self.inside.counts.applied;
-      reused = c.self.inside.counts.reused;
-    } in
-    let over : IsOver g.Op.OpMeaning.same g.Op.OpMeaning.meanings v s0.held =
-    subst (λ (p : Parts g.row.Op.Denot). IsOver g.Op.OpMeaning.same g.Op.OpMeaning.meanings p s0.held) (sym c.self.view_is) c.requires in
-    let shared : BufferTable = c.in_ok-shared.shared in
-    let between : List ℕ = buffers_names shared ++ versions_names v.versions in
-    let next : Graph g.row.Op.Denot = c.commit.new.self in
-    let through : IsThrough g.Op.OpMeaning.same g.Op.OpMeaning.meanings v c.settle.new.self next c.commit-in-Ok.new.self c.in-Ok.damage.rects between s0 s1 s2 s3 = record {
-      shared = c.in_ok-shared.ensures.left;
-      shared_tables = c.share_working.ensures.tables;
-      put = c.commit-in-Ok.ensures.left;
-      put_tables = c.commit-in-Ok.ensures.tables;
-      put_over = c.commit-in-Ok.ensures.over;
-      settled = c.settle.ensures.settled;
-      versions_are = c.settle.ensures.versions;
-      graph_is = c.settle.ensures.graph;
-      sizes = c.settle.ensures.sizes;
-      cached = c.settle.ensures.cached;
-      cache = c.settle.ensures.cache;
-      alone = c.settle.ensures.alone;
-      others = c.settle.ensures.other_names;
-      left = c.settle.ensures.left;
-    } in
-    let facts_are = working-facts g.Op.OpMeaning.same g.Op.OpMeaning.meanings v s0.held over c.working.result.now c.facts-facts.result.now c.working.ensures c.facts-facts.ensures.facts in
-    let is : committed g.Op.OpMeaning.same g.Op.OpMeaning.meanings v.graph v.pending (working_facts v) v.written ≡ Ok (record { next = next; delta = c.in-Ok.damage.rects }) =
-    sym (commit-same g.Op.OpMeaning.same g.Op.OpMeaning.meanings v.graph c.deref.result.now v.pending c.facts-facts.result.now (working_facts v) (rectangles_of c.deref-2.result.now) v.written
-    c.deref.ensures.value facts_are (ap rectangles_of c.deref-2.ensures.value)) ∙ c.in-Ok.ensures.committed in
-    let promise : AreDamagesOf g.Op.OpMeaning.same g.Op.OpMeaning.meanings (change_from g.Op.OpMeaning.same g.Op.OpMeaning.meanings v s1.held next v.written) c.in-Ok.damage.rects =
-    subst (λ (w : Rectangles). AreDamagesOf g.Op.OpMeaning.same g.Op.OpMeaning.meanings (change_from g.Op.OpMeaning.same g.Op.OpMeaning.meanings v s1.held next w) c.in-Ok.damage.rects) (ap rectangles_of c.deref-2.ensures.value) c.in-Ok.ensures.damages in
-    subst (λ (q : Parts g.row.Op.Denot). IsCommitted g.Op.OpMeaning.same g.Op.OpMeaning.meanings q c.settle.new.self) c.self.view_is (commit-done g.Op.OpMeaning.same g.Op.OpMeaning.meanings v c.settle.new.self next c.commit-in-Ok.new.self c.in-Ok.damage.rects between s0 s1 s2 s3 through over is c.commit-in-Ok.ensures.committed promise)
+  abbrev settle_v : Parts g.row.Op.Denot
+  settle_v = record {
+    versions = c.self.inside.versions;
+    pending = c.self.inside.pending.items;
+    written = rectangles_of c.self.inside.written.items;
+    graph = c.self.inside.graph;
+    entries = c.self.inside.cache.names.entries;
+    most = c.self.inside.cache.names.cap;
+    capacity = c.self.inside.cache.capacity;
+    applied = c.self.inside.counts.applied;
+    reused = c.self.inside.counts.reused;
+  }
 
-pub returns-in-Ok-clause-session : goal.returns-in-Ok-clause-session
-returns-in-Ok-clause-session g c =
-    let s0 : ChainState = record { held = g.C.ChainMeaning.held c.args.chain.now; counts = g.C.ChainMeaning.counts c.args.chain.now; loans = g.C.ChainMeaning.loans c.args.chain.now; valid = g.C.ChainMeaning.is_valid c.args.chain.now } in
-    let s1 : ChainState = record { held = g.C.ChainMeaning.held c.share_working.new.chain; counts = g.C.ChainMeaning.counts c.share_working.new.chain; loans = g.C.ChainMeaning.loans c.share_working.new.chain; valid = g.C.ChainMeaning.is_valid c.share_working.new.chain } in
-    let s2 : ChainState = record { held = g.C.ChainMeaning.held c.commit-in-Ok.new.chain; counts = g.C.ChainMeaning.counts c.commit-in-Ok.new.chain; loans = g.C.ChainMeaning.loans c.commit-in-Ok.new.chain; valid = g.C.ChainMeaning.is_valid c.commit-in-Ok.new.chain } in
-    let s3 : ChainState = record { held = g.C.ChainMeaning.held c.settle.new.chain; counts = g.C.ChainMeaning.counts c.settle.new.chain; loans = g.C.ChainMeaning.loans c.settle.new.chain; valid = g.C.ChainMeaning.is_valid c.settle.new.chain } in
-    let v : Parts g.row.Op.Denot = record {
-      versions = c.self.inside.versions;
-      pending = c.self.inside.pending.items;
-      written = rectangles_of c.self.inside.written.items;
-      graph = c.self.inside.graph;
-      entries = c.self.inside.cache.names.entries;
-      most = c.self.inside.cache.names.cap;
-      capacity = c.self.inside.cache.capacity;
-      applied = c.self.inside.counts.applied;
-      reused = c.self.inside.counts.reused;
-    } in
-    let over : IsOver g.Op.OpMeaning.same g.Op.OpMeaning.meanings v s0.held =
-    subst (λ (p : Parts g.row.Op.Denot). IsOver g.Op.OpMeaning.same g.Op.OpMeaning.meanings p s0.held) (sym c.self.view_is) c.requires in
-    let shared : BufferTable = c.in_ok-shared.shared in
-    let between : List ℕ = buffers_names shared ++ versions_names v.versions in
-    let next : Graph g.row.Op.Denot = c.commit.new.self in
-    let through : IsThrough g.Op.OpMeaning.same g.Op.OpMeaning.meanings v c.settle.new.self next c.commit-in-Ok.new.self c.in-Ok.damage.rects between s0 s1 s2 s3 = record {
-      shared = c.in_ok-shared.ensures.left;
-      shared_tables = c.share_working.ensures.tables;
-      put = c.commit-in-Ok.ensures.left;
-      put_tables = c.commit-in-Ok.ensures.tables;
-      put_over = c.commit-in-Ok.ensures.over;
-      settled = c.settle.ensures.settled;
-      versions_are = c.settle.ensures.versions;
-      graph_is = c.settle.ensures.graph;
-      sizes = c.settle.ensures.sizes;
-      cached = c.settle.ensures.cached;
-      cache = c.settle.ensures.cache;
-      alone = c.settle.ensures.alone;
-      others = c.settle.ensures.other_names;
-      left = c.settle.ensures.left;
-    } in
-    let facts_are = working-facts g.Op.OpMeaning.same g.Op.OpMeaning.meanings v s0.held over c.working.result.now c.facts-facts.result.now c.working.ensures c.facts-facts.ensures.facts in
-    let is : committed g.Op.OpMeaning.same g.Op.OpMeaning.meanings v.graph v.pending (working_facts v) v.written ≡ Ok (record { next = next; delta = c.in-Ok.damage.rects }) =
-    sym (commit-same g.Op.OpMeaning.same g.Op.OpMeaning.meanings v.graph c.deref.result.now v.pending c.facts-facts.result.now (working_facts v) (rectangles_of c.deref-2.result.now) v.written
-    c.deref.ensures.value facts_are (ap rectangles_of c.deref-2.ensures.value)) ∙ c.in-Ok.ensures.committed in
-    let promise : AreDamagesOf g.Op.OpMeaning.same g.Op.OpMeaning.meanings (change_from g.Op.OpMeaning.same g.Op.OpMeaning.meanings v s1.held next v.written) c.in-Ok.damage.rects =
-    subst (λ (w : Rectangles). AreDamagesOf g.Op.OpMeaning.same g.Op.OpMeaning.meanings (change_from g.Op.OpMeaning.same g.Op.OpMeaning.meanings v s1.held next w) c.in-Ok.damage.rects) (ap rectangles_of c.deref-2.ensures.value) c.in-Ok.ensures.damages in
-    λ session of. commit-session g.Op.OpMeaning.same g.Op.OpMeaning.meanings v c.settle.new.self next c.commit-in-Ok.new.self c.in-Ok.damage.rects between s0 s1 s2 s3 through over is c.commit-in-Ok.ensures.committed promise session (subst (λ (q : Parts g.row.Op.Denot). IsSessionOf g.Op.OpMeaning.same g.Op.OpMeaning.meanings q s0.held session) (sym c.self.view_is) of)
+  settle_over : IsOver g.Op.OpMeaning.same g.Op.OpMeaning.meanings settle_v settle_s0.held
+  settle_over = subst (λ (p : Parts g.row.Op.Denot). IsOver g.Op.OpMeaning.same g.Op.OpMeaning.meanings p settle_s0.held) (sym c.self.view_is) c.requires
 
-pub returns-in-Ok-clause-over : goal.returns-in-Ok-clause-over
-returns-in-Ok-clause-over g c =
-    let s0 : ChainState = record { held = g.C.ChainMeaning.held c.args.chain.now; counts = g.C.ChainMeaning.counts c.args.chain.now; loans = g.C.ChainMeaning.loans c.args.chain.now; valid = g.C.ChainMeaning.is_valid c.args.chain.now } in
-    let s1 : ChainState = record { held = g.C.ChainMeaning.held c.share_working.new.chain; counts = g.C.ChainMeaning.counts c.share_working.new.chain; loans = g.C.ChainMeaning.loans c.share_working.new.chain; valid = g.C.ChainMeaning.is_valid c.share_working.new.chain } in
-    let s2 : ChainState = record { held = g.C.ChainMeaning.held c.commit-in-Ok.new.chain; counts = g.C.ChainMeaning.counts c.commit-in-Ok.new.chain; loans = g.C.ChainMeaning.loans c.commit-in-Ok.new.chain; valid = g.C.ChainMeaning.is_valid c.commit-in-Ok.new.chain } in
-    let s3 : ChainState = record { held = g.C.ChainMeaning.held c.settle.new.chain; counts = g.C.ChainMeaning.counts c.settle.new.chain; loans = g.C.ChainMeaning.loans c.settle.new.chain; valid = g.C.ChainMeaning.is_valid c.settle.new.chain } in
-    let v : Parts g.row.Op.Denot = record {
-      versions = c.self.inside.versions;
-      pending = c.self.inside.pending.items;
-      written = rectangles_of c.self.inside.written.items;
-      graph = c.self.inside.graph;
-      entries = c.self.inside.cache.names.entries;
-      most = c.self.inside.cache.names.cap;
-      capacity = c.self.inside.cache.capacity;
-      applied = c.self.inside.counts.applied;
-      reused = c.self.inside.counts.reused;
-    } in
-    let over : IsOver g.Op.OpMeaning.same g.Op.OpMeaning.meanings v s0.held =
-    subst (λ (p : Parts g.row.Op.Denot). IsOver g.Op.OpMeaning.same g.Op.OpMeaning.meanings p s0.held) (sym c.self.view_is) c.requires in
-    let shared : BufferTable = c.in_ok-shared.shared in
-    let between : List ℕ = buffers_names shared ++ versions_names v.versions in
-    let next : Graph g.row.Op.Denot = c.commit.new.self in
-    let through : IsThrough g.Op.OpMeaning.same g.Op.OpMeaning.meanings v c.settle.new.self next c.commit-in-Ok.new.self c.in-Ok.damage.rects between s0 s1 s2 s3 = record {
-      shared = c.in_ok-shared.ensures.left;
-      shared_tables = c.share_working.ensures.tables;
-      put = c.commit-in-Ok.ensures.left;
-      put_tables = c.commit-in-Ok.ensures.tables;
-      put_over = c.commit-in-Ok.ensures.over;
-      settled = c.settle.ensures.settled;
-      versions_are = c.settle.ensures.versions;
-      graph_is = c.settle.ensures.graph;
-      sizes = c.settle.ensures.sizes;
-      cached = c.settle.ensures.cached;
-      cache = c.settle.ensures.cache;
-      alone = c.settle.ensures.alone;
-      others = c.settle.ensures.other_names;
-      left = c.settle.ensures.left;
-    } in
-    let facts_are = working-facts g.Op.OpMeaning.same g.Op.OpMeaning.meanings v s0.held over c.working.result.now c.facts-facts.result.now c.working.ensures c.facts-facts.ensures.facts in
-    let is : committed g.Op.OpMeaning.same g.Op.OpMeaning.meanings v.graph v.pending (working_facts v) v.written ≡ Ok (record { next = next; delta = c.in-Ok.damage.rects }) =
-    sym (commit-same g.Op.OpMeaning.same g.Op.OpMeaning.meanings v.graph c.deref.result.now v.pending c.facts-facts.result.now (working_facts v) (rectangles_of c.deref-2.result.now) v.written
-    c.deref.ensures.value facts_are (ap rectangles_of c.deref-2.ensures.value)) ∙ c.in-Ok.ensures.committed in
-    let promise : AreDamagesOf g.Op.OpMeaning.same g.Op.OpMeaning.meanings (change_from g.Op.OpMeaning.same g.Op.OpMeaning.meanings v s1.held next v.written) c.in-Ok.damage.rects =
-    subst (λ (w : Rectangles). AreDamagesOf g.Op.OpMeaning.same g.Op.OpMeaning.meanings (change_from g.Op.OpMeaning.same g.Op.OpMeaning.meanings v s1.held next w) c.in-Ok.damage.rects) (ap rectangles_of c.deref-2.ensures.value) c.in-Ok.ensures.damages in
-    commit-over g.Op.OpMeaning.same g.Op.OpMeaning.meanings v c.settle.new.self next c.commit-in-Ok.new.self c.in-Ok.damage.rects between s0 s1 s2 s3 through over is c.commit-in-Ok.ensures.committed promise (laws g) g.Op.OpMeaning.boxed g.Op.OpMeaning.distinguished.apart
+  abbrev settle_shared : BufferTable
+  settle_shared = c.in_ok-shared.shared
 
-pub returns-in-Ok-clause-left : goal.returns-in-Ok-clause-left
-returns-in-Ok-clause-left g c =
-    let s0 : ChainState = record { held = g.C.ChainMeaning.held c.args.chain.now; counts = g.C.ChainMeaning.counts c.args.chain.now; loans = g.C.ChainMeaning.loans c.args.chain.now; valid = g.C.ChainMeaning.is_valid c.args.chain.now } in
-    let s1 : ChainState = record { held = g.C.ChainMeaning.held c.share_working.new.chain; counts = g.C.ChainMeaning.counts c.share_working.new.chain; loans = g.C.ChainMeaning.loans c.share_working.new.chain; valid = g.C.ChainMeaning.is_valid c.share_working.new.chain } in
-    let s2 : ChainState = record { held = g.C.ChainMeaning.held c.commit-in-Ok.new.chain; counts = g.C.ChainMeaning.counts c.commit-in-Ok.new.chain; loans = g.C.ChainMeaning.loans c.commit-in-Ok.new.chain; valid = g.C.ChainMeaning.is_valid c.commit-in-Ok.new.chain } in
-    let s3 : ChainState = record { held = g.C.ChainMeaning.held c.settle.new.chain; counts = g.C.ChainMeaning.counts c.settle.new.chain; loans = g.C.ChainMeaning.loans c.settle.new.chain; valid = g.C.ChainMeaning.is_valid c.settle.new.chain } in
-    let v : Parts g.row.Op.Denot = record {
-      versions = c.self.inside.versions;
-      pending = c.self.inside.pending.items;
-      written = rectangles_of c.self.inside.written.items;
-      graph = c.self.inside.graph;
-      entries = c.self.inside.cache.names.entries;
-      most = c.self.inside.cache.names.cap;
-      capacity = c.self.inside.cache.capacity;
-      applied = c.self.inside.counts.applied;
-      reused = c.self.inside.counts.reused;
-    } in
-    let over : IsOver g.Op.OpMeaning.same g.Op.OpMeaning.meanings v s0.held =
-    subst (λ (p : Parts g.row.Op.Denot). IsOver g.Op.OpMeaning.same g.Op.OpMeaning.meanings p s0.held) (sym c.self.view_is) c.requires in
-    let shared : BufferTable = c.in_ok-shared.shared in
-    let between : List ℕ = buffers_names shared ++ versions_names v.versions in
-    let next : Graph g.row.Op.Denot = c.commit.new.self in
-    let through : IsThrough g.Op.OpMeaning.same g.Op.OpMeaning.meanings v c.settle.new.self next c.commit-in-Ok.new.self c.in-Ok.damage.rects between s0 s1 s2 s3 = record {
-      shared = c.in_ok-shared.ensures.left;
-      shared_tables = c.share_working.ensures.tables;
-      put = c.commit-in-Ok.ensures.left;
-      put_tables = c.commit-in-Ok.ensures.tables;
-      put_over = c.commit-in-Ok.ensures.over;
-      settled = c.settle.ensures.settled;
-      versions_are = c.settle.ensures.versions;
-      graph_is = c.settle.ensures.graph;
-      sizes = c.settle.ensures.sizes;
-      cached = c.settle.ensures.cached;
-      cache = c.settle.ensures.cache;
-      alone = c.settle.ensures.alone;
-      others = c.settle.ensures.other_names;
-      left = c.settle.ensures.left;
-    } in
-    subst (λ (q : Parts g.row.Op.Denot). Leaves 0 (session_names q) (session_names c.settle.new.self) s0 s3) c.self.view_is (done-left g.Op.OpMeaning.same g.Op.OpMeaning.meanings v c.settle.new.self next c.commit-in-Ok.new.self c.in-Ok.damage.rects between s0 s1 s2 s3 through over)
+  abbrev settle_between : List ℕ
+  settle_between = buffers_names settle_shared ++ versions_names settle_v.versions
 
-pub returns-in-Err-clause-same : goal.returns-in-Err-clause-same
-returns-in-Err-clause-same g c =
-    let s0 : ChainState = record { held = g.C.ChainMeaning.held c.args.chain.now; counts = g.C.ChainMeaning.counts c.args.chain.now; loans = g.C.ChainMeaning.loans c.args.chain.now; valid = g.C.ChainMeaning.is_valid c.args.chain.now } in
-    let s1 : ChainState = record { held = g.C.ChainMeaning.held c.share_working.new.chain; counts = g.C.ChainMeaning.counts c.share_working.new.chain; loans = g.C.ChainMeaning.loans c.share_working.new.chain; valid = g.C.ChainMeaning.is_valid c.share_working.new.chain } in
-    let r : ChainState = record { held = g.C.ChainMeaning.held c.release.new.chain; counts = g.C.ChainMeaning.counts c.release.new.chain; loans = g.C.ChainMeaning.loans c.release.new.chain; valid = g.C.ChainMeaning.is_valid c.release.new.chain } in
-    let v : Parts g.row.Op.Denot = record {
-      versions = c.self.inside.versions;
-      pending = c.self.inside.pending.items;
-      written = rectangles_of c.self.inside.written.items;
-      graph = c.self.inside.graph;
-      entries = c.self.inside.cache.names.entries;
-      most = c.self.inside.cache.names.cap;
-      capacity = c.self.inside.cache.capacity;
-      applied = c.self.inside.counts.applied;
-      reused = c.self.inside.counts.reused;
-    } in
-    let over : IsOver g.Op.OpMeaning.same g.Op.OpMeaning.meanings v s0.held =
-    subst (λ (p : Parts g.row.Op.Denot). IsOver g.Op.OpMeaning.same g.Op.OpMeaning.meanings p s0.held) (sym c.self.view_is) c.requires in
-    let shared : BufferTable = c.in_ok-shared.shared in
-    let between : List ℕ = buffers_names shared ++ versions_names v.versions in
-    let owned : Owns s1.held between =
-    subst (λ (b : BufferTable). Owns s1.held (buffers_names b ++ versions_names v.versions)) (sym c.in_ok-shared.ensures.shared) c.in_ok-shared.ensures.owned in
-    let release : Leaves 0 (buffers_names shared) [] s1 r =
-    record { others = c.release.ensures.others; counts = c.release.ensures.counts; loans = c.release.ensures.loans; valid = c.release.ensures.valid } in
-    let leaves : Leaves 0 (versions_names v.versions) (versions_names v.versions) s0 r =
-    unshared-left v.versions shared s0 s1 r c.in_ok-shared.ensures.left c.share_working.ensures.tables c.share_working.ensures.over owned release in
-    let tables : tables_of v.versions r.held ≡ tables_of v.versions s0.held =
-    unshared-tables v.versions shared s0 s1 r c.in_ok-shared.ensures.left c.share_working.ensures.tables c.share_working.ensures.over owned release in
-    let versions : AreVersionsOver v.versions r.held =
-    unshared-over v.versions shared s0 s1 r c.in_ok-shared.ensures.left c.share_working.ensures.tables c.share_working.ensures.over owned release in
-    let p : Parts g.row.Op.Denot = record v { graph = c.commit.new.self } in
-    let p_is : p ≡ v = ap (λ (graph : Graph g.row.Op.Denot). let q : Parts g.row.Op.Denot = record v { graph = graph } in q) c.in-Err.ensures.unchanged in
-    λ session of. subst (λ (q : Parts g.row.Op.Denot). IsSessionOf g.Op.OpMeaning.same g.Op.OpMeaning.meanings q r.held session) (sym p_is)
-    (kept-session g.Op.OpMeaning.same g.Op.OpMeaning.meanings v s0 r over leaves tables versions session (subst (λ (q : Parts g.row.Op.Denot). IsSessionOf g.Op.OpMeaning.same g.Op.OpMeaning.meanings q s0.held session) (sym c.self.view_is) of))
+module _ (g : Given.Over) (c : goal.After-drop-damage g) where
+  abbrev ok_s0 : ChainState
+  ok_s0 = record { held = g.C.ChainMeaning.held c.args.chain.now; counts = g.C.ChainMeaning.counts c.args.chain.now; loans = g.C.ChainMeaning.loans c.args.chain.now; valid = g.C.ChainMeaning.is_valid c.args.chain.now }
+
+  abbrev ok_s1 : ChainState
+  ok_s1 = record { held = g.C.ChainMeaning.held c.share_working.new.chain; counts = g.C.ChainMeaning.counts c.share_working.new.chain; loans = g.C.ChainMeaning.loans c.share_working.new.chain; valid = g.C.ChainMeaning.is_valid c.share_working.new.chain }
+
+  abbrev ok_s2 : ChainState
+  ok_s2 = record { held = g.C.ChainMeaning.held c.commit-in-Ok.new.chain; counts = g.C.ChainMeaning.counts c.commit-in-Ok.new.chain; loans = g.C.ChainMeaning.loans c.commit-in-Ok.new.chain; valid = g.C.ChainMeaning.is_valid c.commit-in-Ok.new.chain }
+
+  abbrev ok_s3 : ChainState
+  ok_s3 = record { held = g.C.ChainMeaning.held c.settle.new.chain; counts = g.C.ChainMeaning.counts c.settle.new.chain; loans = g.C.ChainMeaning.loans c.settle.new.chain; valid = g.C.ChainMeaning.is_valid c.settle.new.chain }
+
+  abbrev ok_v : Parts g.row.Op.Denot
+  ok_v = record {
+    versions = c.self.inside.versions;
+    pending = c.self.inside.pending.items;
+    written = rectangles_of c.self.inside.written.items;
+    graph = c.self.inside.graph;
+    entries = c.self.inside.cache.names.entries;
+    most = c.self.inside.cache.names.cap;
+    capacity = c.self.inside.cache.capacity;
+    applied = c.self.inside.counts.applied;
+    reused = c.self.inside.counts.reused;
+  }
+
+  ok_over : IsOver g.Op.OpMeaning.same g.Op.OpMeaning.meanings ok_v ok_s0.held
+  ok_over = subst (λ (p : Parts g.row.Op.Denot). IsOver g.Op.OpMeaning.same g.Op.OpMeaning.meanings p ok_s0.held) (sym c.self.view_is) c.requires
+
+  abbrev ok_shared : BufferTable
+  ok_shared = c.in_ok-shared.shared
+
+  abbrev ok_between : List ℕ
+  ok_between = buffers_names ok_shared ++ versions_names ok_v.versions
+
+  abbrev ok_next : Graph g.row.Op.Denot
+  ok_next = c.commit.new.self
+
+  ok_through : IsThrough g.Op.OpMeaning.same g.Op.OpMeaning.meanings ok_v c.settle.new.self ok_next c.commit-in-Ok.new.self c.in-Ok.damage.rects ok_between ok_s0 ok_s1 ok_s2 ok_s3
+  ok_through = record {
+    shared = c.in_ok-shared.ensures.left;
+    shared_tables = c.share_working.ensures.tables;
+    put = c.commit-in-Ok.ensures.left;
+    put_tables = c.commit-in-Ok.ensures.tables;
+    put_over = c.commit-in-Ok.ensures.over;
+    settled = c.settle.ensures.settled;
+    versions_are = c.settle.ensures.versions;
+    graph_is = c.settle.ensures.graph;
+    sizes = c.settle.ensures.sizes;
+    cached = c.settle.ensures.cached;
+    cache = c.settle.ensures.cache;
+    alone = c.settle.ensures.alone;
+    others = c.settle.ensures.other_names;
+    left = c.settle.ensures.left;
+  }
+
+  ok_is : committed g.Op.OpMeaning.same g.Op.OpMeaning.meanings ok_v.graph ok_v.pending (working_facts ok_v) ok_v.written ≡ Ok (record { next = ok_next; delta = c.in-Ok.damage.rects })
+  ok_is =
+      sym (commit-same g.Op.OpMeaning.same g.Op.OpMeaning.meanings ok_v.graph c.deref.result.now ok_v.pending c.facts-facts.result.now (working_facts ok_v) (rectangles_of c.deref-2.result.now) ok_v.written
+      c.deref.ensures.value (working-facts g.Op.OpMeaning.same g.Op.OpMeaning.meanings ok_v ok_s0.held ok_over c.working.result.now c.facts-facts.result.now c.working.ensures c.facts-facts.ensures.facts) (ap rectangles_of c.deref-2.ensures.value)) ∙ c.in-Ok.ensures.committed
+
+  ok_promise : AreDamagesOf g.Op.OpMeaning.same g.Op.OpMeaning.meanings (change_from g.Op.OpMeaning.same g.Op.OpMeaning.meanings ok_v ok_s1.held ok_next ok_v.written) c.in-Ok.damage.rects
+  ok_promise = subst (λ (w : Rectangles). AreDamagesOf g.Op.OpMeaning.same g.Op.OpMeaning.meanings (change_from g.Op.OpMeaning.same g.Op.OpMeaning.meanings ok_v ok_s1.held ok_next w) c.in-Ok.damage.rects) (ap rectangles_of c.deref-2.ensures.value) c.in-Ok.ensures.damages
+
+module _ (g : Given.Over) (c : goal.After-from g) where
+  abbrev err_s0 : ChainState
+  err_s0 = record { held = g.C.ChainMeaning.held c.args.chain.now; counts = g.C.ChainMeaning.counts c.args.chain.now; loans = g.C.ChainMeaning.loans c.args.chain.now; valid = g.C.ChainMeaning.is_valid c.args.chain.now }
+
+  abbrev err_s1 : ChainState
+  err_s1 = record { held = g.C.ChainMeaning.held c.share_working.new.chain; counts = g.C.ChainMeaning.counts c.share_working.new.chain; loans = g.C.ChainMeaning.loans c.share_working.new.chain; valid = g.C.ChainMeaning.is_valid c.share_working.new.chain }
+
+  abbrev err_r : ChainState
+  err_r = record { held = g.C.ChainMeaning.held c.release.new.chain; counts = g.C.ChainMeaning.counts c.release.new.chain; loans = g.C.ChainMeaning.loans c.release.new.chain; valid = g.C.ChainMeaning.is_valid c.release.new.chain }
+
+  abbrev err_v : Parts g.row.Op.Denot
+  err_v = record {
+    versions = c.self.inside.versions;
+    pending = c.self.inside.pending.items;
+    written = rectangles_of c.self.inside.written.items;
+    graph = c.self.inside.graph;
+    entries = c.self.inside.cache.names.entries;
+    most = c.self.inside.cache.names.cap;
+    capacity = c.self.inside.cache.capacity;
+    applied = c.self.inside.counts.applied;
+    reused = c.self.inside.counts.reused;
+  }
+
+  err_over : IsOver g.Op.OpMeaning.same g.Op.OpMeaning.meanings err_v err_s0.held
+  err_over = subst (λ (p : Parts g.row.Op.Denot). IsOver g.Op.OpMeaning.same g.Op.OpMeaning.meanings p err_s0.held) (sym c.self.view_is) c.requires
+
+  abbrev err_shared : BufferTable
+  err_shared = c.in_ok-shared.shared
+
+  abbrev err_between : List ℕ
+  err_between = buffers_names err_shared ++ versions_names err_v.versions
+
+  err_owned : Owns err_s1.held err_between
+  err_owned = subst (λ (b : BufferTable). Owns err_s1.held (buffers_names b ++ versions_names err_v.versions)) (sym c.in_ok-shared.ensures.shared) c.in_ok-shared.ensures.owned
+
+  err_release : Leaves 0 (buffers_names err_shared) [] err_s1 err_r
+  err_release = record { others = c.release.ensures.others; counts = c.release.ensures.counts; loans = c.release.ensures.loans; valid = c.release.ensures.valid }
+
+  err_leaves : Leaves 0 (versions_names err_v.versions) (versions_names err_v.versions) err_s0 err_r
+  err_leaves = unshared-left err_v.versions err_shared err_s0 err_s1 err_r c.in_ok-shared.ensures.left c.share_working.ensures.tables c.share_working.ensures.over err_owned err_release
+
+  err_tables : tables_of err_v.versions err_r.held ≡ tables_of err_v.versions err_s0.held
+  err_tables = unshared-tables err_v.versions err_shared err_s0 err_s1 err_r c.in_ok-shared.ensures.left c.share_working.ensures.tables c.share_working.ensures.over err_owned err_release
+
+  err_versions : AreVersionsOver err_v.versions err_r.held
+  err_versions = unshared-over err_v.versions err_shared err_s0 err_s1 err_r c.in_ok-shared.ensures.left c.share_working.ensures.tables c.share_working.ensures.over err_owned err_release
+
+  abbrev err_p : Parts g.row.Op.Denot
+  err_p = record err_v { graph = c.commit.new.self }
+
+  err_p_is : err_p ≡ err_v
+  err_p_is = ap (λ (graph : Graph g.row.Op.Denot). let q : Parts g.row.Op.Denot = record err_v { graph = graph } in q) c.in-Err.ensures.unchanged
 
 refused : (g : Given.Over) (c : goal.After-from g)
     → IsRefusedAs by_graph (IsRefusalOf (committed g.Op.OpMeaning.same g.Op.OpMeaning.meanings c.args.self.now.graph c.args.self.now.pending (working_facts c.args.self.now) c.args.self.now.written)) c.from.result
@@ -392,8 +226,51 @@ refused g c =
           c.deref.ensures.value facts_are (ap rectangles_of c.deref-2.ensures.value)) c.in-Err.ensures.refused;
     })
 
+pub returns-in_err-shared-clause-same : goal.returns-in_err-shared-clause-same
+returns-in_err-shared-clause-same g c =
+    λ session of. on-err _ _ (subst (λ (q : Parts g.row.Op.Denot). IsSessionOf g.Op.OpMeaning.same g.Op.OpMeaning.meanings q (shared_s1 g c).held session) c.self.view_is
+    (kept-session g.Op.OpMeaning.same g.Op.OpMeaning.meanings (shared_v g c) (shared_s0 g c) (shared_s1 g c) (shared_over g c) c.in_err-shared.ensures.left c.share_working.ensures.tables c.share_working.ensures.over session (subst (λ (q : Parts g.row.Op.Denot). IsSessionOf g.Op.OpMeaning.same g.Op.OpMeaning.meanings q (shared_s0 g c).held session) (sym c.self.view_is) of)))
+
+pub returns-in_err-shared-clause-over : goal.returns-in_err-shared-clause-over
+returns-in_err-shared-clause-over g c =
+    subst (λ (q : Parts g.row.Op.Denot). IsOver g.Op.OpMeaning.same g.Op.OpMeaning.meanings q (shared_s1 g c).held) c.self.view_is (kept-over g.Op.OpMeaning.same g.Op.OpMeaning.meanings (shared_v g c) (shared_s0 g c) (shared_s1 g c) (shared_over g c) c.in_err-shared.ensures.left c.share_working.ensures.tables c.share_working.ensures.over)
+
+pub returns-in_err-shared-clause-left : goal.returns-in_err-shared-clause-left
+returns-in_err-shared-clause-left g c =
+    subst (λ (q : Parts g.row.Op.Denot). Leaves 0 (session_names q) (session_names q) (shared_s0 g c) (shared_s1 g c)) c.self.view_is (kept-left g.Op.OpMeaning.same g.Op.OpMeaning.meanings (shared_v g c) (shared_s0 g c) (shared_s1 g c) (shared_over g c) c.in_err-shared.ensures.left c.share_working.ensures.tables c.share_working.ensures.over)
+
+pub settle-requires-clause-cache : goal.settle-requires-clause-cache
+settle-requires-clause-cache g c =
+    cache-ready (settle_v g c).versions c.commit-in-Ok.new.self (settle_v g c).entries (settle_v g c).entries (settle_between g c) (settle_s0 g c) (settle_s1 g c) (settle_s2 g c) (settle_over g c).owned c.in_ok-shared.ensures.left c.commit-in-Ok.ensures.left (settle_v g c).most (settle_v g c).capacity (settle_over g c).cache
+
+pub settle-requires-clause-alone : goal.settle-requires-clause-alone
+settle-requires-clause-alone g c =
+    alone-ready (settle_v g c).versions c.commit-in-Ok.new.self (settle_v g c).entries (settle_v g c).entries (settle_between g c) (settle_s0 g c) (settle_s1 g c) (settle_s2 g c) (settle_over g c).owned c.in_ok-shared.ensures.left c.commit-in-Ok.ensures.left (settle_over g c).alone
+
+pub returns-in-Ok-clause-committed : goal.returns-in-Ok-clause-committed
+returns-in-Ok-clause-committed g c =
+    subst (λ (q : Parts g.row.Op.Denot). IsCommitted g.Op.OpMeaning.same g.Op.OpMeaning.meanings q c.settle.new.self) c.self.view_is (commit-done g.Op.OpMeaning.same g.Op.OpMeaning.meanings (ok_v g c) c.settle.new.self (ok_next g c) c.commit-in-Ok.new.self c.in-Ok.damage.rects (ok_between g c) (ok_s0 g c) (ok_s1 g c) (ok_s2 g c) (ok_s3 g c) (ok_through g c) (ok_over g c) (ok_is g c) c.commit-in-Ok.ensures.committed (ok_promise g c))
+
+pub returns-in-Ok-clause-session : goal.returns-in-Ok-clause-session
+returns-in-Ok-clause-session g c =
+    λ session of. commit-session g.Op.OpMeaning.same g.Op.OpMeaning.meanings (ok_v g c) c.settle.new.self (ok_next g c) c.commit-in-Ok.new.self c.in-Ok.damage.rects (ok_between g c) (ok_s0 g c) (ok_s1 g c) (ok_s2 g c) (ok_s3 g c) (ok_through g c) (ok_over g c) (ok_is g c) c.commit-in-Ok.ensures.committed (ok_promise g c) session (subst (λ (q : Parts g.row.Op.Denot). IsSessionOf g.Op.OpMeaning.same g.Op.OpMeaning.meanings q (ok_s0 g c).held session) (sym c.self.view_is) of)
+
+pub returns-in-Ok-clause-over : goal.returns-in-Ok-clause-over
+returns-in-Ok-clause-over g c =
+    commit-over g.Op.OpMeaning.same g.Op.OpMeaning.meanings (ok_v g c) c.settle.new.self (ok_next g c) c.commit-in-Ok.new.self c.in-Ok.damage.rects (ok_between g c) (ok_s0 g c) (ok_s1 g c) (ok_s2 g c) (ok_s3 g c) (ok_through g c) (ok_over g c) (ok_is g c) c.commit-in-Ok.ensures.committed (ok_promise g c) (laws g) g.Op.OpMeaning.boxed g.Op.OpMeaning.distinguished.apart
+
+pub returns-in-Ok-clause-left : goal.returns-in-Ok-clause-left
+returns-in-Ok-clause-left g c =
+    subst (λ (q : Parts g.row.Op.Denot). Leaves 0 (session_names q) (session_names c.settle.new.self) (ok_s0 g c) (ok_s3 g c)) c.self.view_is (done-left g.Op.OpMeaning.same g.Op.OpMeaning.meanings (ok_v g c) c.settle.new.self (ok_next g c) c.commit-in-Ok.new.self c.in-Ok.damage.rects (ok_between g c) (ok_s0 g c) (ok_s1 g c) (ok_s2 g c) (ok_s3 g c) (ok_through g c) (ok_over g c))
+
+pub returns-in-Err-clause-same : goal.returns-in-Err-clause-same
+returns-in-Err-clause-same g c =
+    λ session of. subst (λ (q : Parts g.row.Op.Denot). IsSessionOf g.Op.OpMeaning.same g.Op.OpMeaning.meanings q (err_r g c).held session) (sym (err_p_is g c))
+    (kept-session g.Op.OpMeaning.same g.Op.OpMeaning.meanings (err_v g c) (err_s0 g c) (err_r g c) (err_over g c) (err_leaves g c) (err_tables g c) (err_versions g c) session (subst (λ (q : Parts g.row.Op.Denot). IsSessionOf g.Op.OpMeaning.same g.Op.OpMeaning.meanings q (err_s0 g c).held session) (sym c.self.view_is) of))
+
 pub returns-in-Err-clause-refused : goal.returns-in-Err-clause-refused
-returns-in-Err-clause-refused g c = refused g c
+returns-in-Err-clause-refused g c =
+    refused g c
 
 pub returns-in-Err-clause-refused_session : goal.returns-in-Err-clause-refused_session
 returns-in-Err-clause-refused_session g c =
@@ -401,43 +278,21 @@ returns-in-Err-clause-refused_session g c =
 
 pub returns-in-Err-clause-over : goal.returns-in-Err-clause-over
 returns-in-Err-clause-over g c =
-    let s0 : ChainState = record { held = g.C.ChainMeaning.held c.args.chain.now; counts = g.C.ChainMeaning.counts c.args.chain.now; loans = g.C.ChainMeaning.loans c.args.chain.now; valid = g.C.ChainMeaning.is_valid c.args.chain.now } in
-    let s1 : ChainState = record { held = g.C.ChainMeaning.held c.share_working.new.chain; counts = g.C.ChainMeaning.counts c.share_working.new.chain; loans = g.C.ChainMeaning.loans c.share_working.new.chain; valid = g.C.ChainMeaning.is_valid c.share_working.new.chain } in
-    let r : ChainState = record { held = g.C.ChainMeaning.held c.release.new.chain; counts = g.C.ChainMeaning.counts c.release.new.chain; loans = g.C.ChainMeaning.loans c.release.new.chain; valid = g.C.ChainMeaning.is_valid c.release.new.chain } in
-    let v : Parts g.row.Op.Denot = record {
-      versions = c.self.inside.versions;
-      pending = c.self.inside.pending.items;
-      written = rectangles_of c.self.inside.written.items;
-      graph = c.self.inside.graph;
-      entries = c.self.inside.cache.names.entries;
-      most = c.self.inside.cache.names.cap;
-      capacity = c.self.inside.cache.capacity;
-      applied = c.self.inside.counts.applied;
-      reused = c.self.inside.counts.reused;
-    } in
-    let over : IsOver g.Op.OpMeaning.same g.Op.OpMeaning.meanings v s0.held =
-    subst (λ (p : Parts g.row.Op.Denot). IsOver g.Op.OpMeaning.same g.Op.OpMeaning.meanings p s0.held) (sym c.self.view_is) c.requires in
-    let shared : BufferTable = c.in_ok-shared.shared in
-    let between : List ℕ = buffers_names shared ++ versions_names v.versions in
-    let owned : Owns s1.held between =
-    subst (λ (b : BufferTable). Owns s1.held (buffers_names b ++ versions_names v.versions)) (sym c.in_ok-shared.ensures.shared) c.in_ok-shared.ensures.owned in
-    let release : Leaves 0 (buffers_names shared) [] s1 r =
-    record { others = c.release.ensures.others; counts = c.release.ensures.counts; loans = c.release.ensures.loans; valid = c.release.ensures.valid } in
-    let leaves : Leaves 0 (versions_names v.versions) (versions_names v.versions) s0 r =
-    unshared-left v.versions shared s0 s1 r c.in_ok-shared.ensures.left c.share_working.ensures.tables c.share_working.ensures.over owned release in
-    let tables : tables_of v.versions r.held ≡ tables_of v.versions s0.held =
-    unshared-tables v.versions shared s0 s1 r c.in_ok-shared.ensures.left c.share_working.ensures.tables c.share_working.ensures.over owned release in
-    let versions : AreVersionsOver v.versions r.held =
-    unshared-over v.versions shared s0 s1 r c.in_ok-shared.ensures.left c.share_working.ensures.tables c.share_working.ensures.over owned release in
-    let p : Parts g.row.Op.Denot = record v { graph = c.commit.new.self } in
-    let p_is : p ≡ v = ap (λ (graph : Graph g.row.Op.Denot). let q : Parts g.row.Op.Denot = record v { graph = graph } in q) c.in-Err.ensures.unchanged in
-    subst (λ (q : Parts g.row.Op.Denot). IsOver g.Op.OpMeaning.same g.Op.OpMeaning.meanings q r.held) (sym p_is) (kept-over g.Op.OpMeaning.same g.Op.OpMeaning.meanings v s0 r over leaves tables versions)
+    subst (λ (q : Parts g.row.Op.Denot). IsOver g.Op.OpMeaning.same g.Op.OpMeaning.meanings q (err_r g c).held) (sym (err_p_is g c)) (kept-over g.Op.OpMeaning.same g.Op.OpMeaning.meanings (err_v g c) (err_s0 g c) (err_r g c) (err_over g c) (err_leaves g c) (err_tables g c) (err_versions g c))
 
 pub returns-in-Err-clause-left : goal.returns-in-Err-clause-left
 returns-in-Err-clause-left g c =
+    subst (λ (q : Parts g.row.Op.Denot). Leaves 0 (session_names q) (session_names (err_p g c)) (err_s0 g c) (err_r g c)) c.self.view_is
+    (subst (λ (q : Parts g.row.Op.Denot). Leaves 0 (session_names (err_v g c)) (session_names q) (err_s0 g c) (err_r g c)) (sym (err_p_is g c)) (kept-left g.Op.OpMeaning.same g.Op.OpMeaning.meanings (err_v g c) (err_s0 g c) (err_r g c) (err_over g c) (err_leaves g c) (err_tables g c) (err_versions g c)))
+
+pub share_working-requires : goal.share_working-requires
+share_working-requires g c =
+    subst (λ (p : Parts g.row.Op.Denot). AreVersionsOver p.versions (g.C.ChainMeaning.held c.args.chain.now)) (sym c.self.view_is)
+    (versions-over g.Op.OpMeaning.same g.Op.OpMeaning.meanings c.args.self.now (g.C.ChainMeaning.held c.args.chain.now) c.requires)
+
+pub commit-requires : goal.commit-requires
+commit-requires g c =
     let s0 : ChainState = record { held = g.C.ChainMeaning.held c.args.chain.now; counts = g.C.ChainMeaning.counts c.args.chain.now; loans = g.C.ChainMeaning.loans c.args.chain.now; valid = g.C.ChainMeaning.is_valid c.args.chain.now } in
-    let s1 : ChainState = record { held = g.C.ChainMeaning.held c.share_working.new.chain; counts = g.C.ChainMeaning.counts c.share_working.new.chain; loans = g.C.ChainMeaning.loans c.share_working.new.chain; valid = g.C.ChainMeaning.is_valid c.share_working.new.chain } in
-    let r : ChainState = record { held = g.C.ChainMeaning.held c.release.new.chain; counts = g.C.ChainMeaning.counts c.release.new.chain; loans = g.C.ChainMeaning.loans c.release.new.chain; valid = g.C.ChainMeaning.is_valid c.release.new.chain } in
     let v : Parts g.row.Op.Denot = record {
       versions = c.self.inside.versions;
       pending = c.self.inside.pending.items;
@@ -451,19 +306,4 @@ returns-in-Err-clause-left g c =
     } in
     let over : IsOver g.Op.OpMeaning.same g.Op.OpMeaning.meanings v s0.held =
     subst (λ (p : Parts g.row.Op.Denot). IsOver g.Op.OpMeaning.same g.Op.OpMeaning.meanings p s0.held) (sym c.self.view_is) c.requires in
-    let shared : BufferTable = c.in_ok-shared.shared in
-    let between : List ℕ = buffers_names shared ++ versions_names v.versions in
-    let owned : Owns s1.held between =
-    subst (λ (b : BufferTable). Owns s1.held (buffers_names b ++ versions_names v.versions)) (sym c.in_ok-shared.ensures.shared) c.in_ok-shared.ensures.owned in
-    let release : Leaves 0 (buffers_names shared) [] s1 r =
-    record { others = c.release.ensures.others; counts = c.release.ensures.counts; loans = c.release.ensures.loans; valid = c.release.ensures.valid } in
-    let leaves : Leaves 0 (versions_names v.versions) (versions_names v.versions) s0 r =
-    unshared-left v.versions shared s0 s1 r c.in_ok-shared.ensures.left c.share_working.ensures.tables c.share_working.ensures.over owned release in
-    let tables : tables_of v.versions r.held ≡ tables_of v.versions s0.held =
-    unshared-tables v.versions shared s0 s1 r c.in_ok-shared.ensures.left c.share_working.ensures.tables c.share_working.ensures.over owned release in
-    let versions : AreVersionsOver v.versions r.held =
-    unshared-over v.versions shared s0 s1 r c.in_ok-shared.ensures.left c.share_working.ensures.tables c.share_working.ensures.over owned release in
-    let p : Parts g.row.Op.Denot = record v { graph = c.commit.new.self } in
-    let p_is : p ≡ v = ap (λ (graph : Graph g.row.Op.Denot). let q : Parts g.row.Op.Denot = record v { graph = graph } in q) c.in-Err.ensures.unchanged in
-    subst (λ (q : Parts g.row.Op.Denot). Leaves 0 (session_names q) (session_names p) s0 r) c.self.view_is
-    (subst (λ (q : Parts g.row.Op.Denot). Leaves 0 (session_names v) (session_names q) s0 r) (sym p_is) (kept-left g.Op.OpMeaning.same g.Op.OpMeaning.meanings v s0 r over leaves tables versions))
+    record { still = working-still g.Op.OpMeaning.same g.Op.OpMeaning.meanings v s0.held over c.working.result.now c.facts-facts.result.now c.working.ensures c.facts-facts.ensures.facts }

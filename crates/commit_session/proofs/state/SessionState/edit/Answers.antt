@@ -16,7 +16,7 @@ laws : (g : Given.Over) → KeepsLaws g.Op.OpMeaning.meanings
 laws g = record { local = g.Op.OpMeaning.local; dual = g.Op.OpMeaning.dual }
 
 pub edit-requires-clause-over : goal.edit-requires-clause-over
-edit-requires-clause-over g c =
+edit-requires-clause-over g c κs within =
     subst (λ (p : Parts g.row.Op.Denot). AreVersionsOver p.versions (g.C.ChainMeaning.held c.args.chain.now)) (sym c.self.view_is) (versions-over g.Op.OpMeaning.same g.Op.OpMeaning.meanings c.args.self.now (g.C.ChainMeaning.held c.args.chain.now) c.requires.over)
 
 pub returns-in_err-reserve-clause-over : goal.returns-in_err-reserve-clause-over

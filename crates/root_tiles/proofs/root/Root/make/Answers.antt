@@ -23,6 +23,7 @@ loop-at-init g c =
       tt,
       tt,
       record {
+        ready = c.requires.ready;
         format = c.requires.format;
         makes = makes-none root rect (paint_pixels root.tiles.format rect c.args.paint.now) _ c.args.made.now.entries c.requires.none c.requires.over;
         count = omega (arith, ap length c.requires.none, ap length (given ∙ tiles.value));
@@ -32,6 +33,9 @@ loop-at-init g c =
         all = λ tile meets. inr (subst (λ (ts : List Tile). Contains ts tile) (sym given) ((tiles.meeting tile).1 meets));
       },
     )
+
+pub next_tile-requires-clause-ready : goal.next_tile-requires-clause-ready
+next_tile-requires-clause-ready g c = c.loop-at.invariant.2.ready
 
 pub returns-clause-all : goal.returns-clause-all
 returns-clause-all g c = λ tile meets. elim (c.loop-at.invariant.2.all tile meets) [
@@ -51,11 +55,11 @@ loop-at-preserved g c =
     let added = c.in_ok-add.ensures in
     let s0 : ChainState = record { held = g.C.ChainMeaning.held c.args.chain.now; counts = g.C.ChainMeaning.counts c.args.chain.now; loans = g.C.ChainMeaning.loans c.args.chain.now; valid = g.C.ChainMeaning.is_valid c.args.chain.now } in
     let s1 : ChainState = record { held = g.C.ChainMeaning.held c.loop-at.chain; counts = g.C.ChainMeaning.counts c.loop-at.chain; loans = g.C.ChainMeaning.loans c.loop-at.chain; valid = g.C.ChainMeaning.is_valid c.loop-at.chain } in
-    let s2 : ChainState = record { held = g.C.ChainMeaning.held c.painted_tile.new.chain; counts = g.C.ChainMeaning.counts c.painted_tile.new.chain; loans = g.C.ChainMeaning.loans c.painted_tile.new.chain; valid = g.C.ChainMeaning.is_valid c.painted_tile.new.chain } in
+    let s2 : ChainState = record { held = g.C.ChainMeaning.held c.next_tile.new.chain; counts = g.C.ChainMeaning.counts c.next_tile.new.chain; loans = g.C.ChainMeaning.loans c.next_tile.new.chain; valid = g.C.ChainMeaning.is_valid c.next_tile.new.chain } in
     let s3 : ChainState = record { held = g.C.ChainMeaning.held c.add.new.chain; counts = g.C.ChainMeaning.counts c.add.new.chain; loans = g.C.ChainMeaning.loans c.add.new.chain; valid = g.C.ChainMeaning.is_valid c.add.new.chain } in
     let steps : c.loop-at.at-iterator ≡ at ∷ c.next.new.self = c.in-Some.ensures.steps in
     let here = before.left at (subst (λ (ts : List Tile). Contains ts at) (sym steps) (Contains-first at c.next.new.self at refl)) in
-    let mid = makes-read root rect f (length entries) s0 s1 s2 entries before.makes c.painted_tile.ensures.read in
+    let mid = makes-read root rect f (length entries) s0 s1 s2 entries before.makes c.next_tile.ensures.read in
     let painted : IsSome s0.held.content → IsPainted root.tiles.format (bytes_in s0.held root.tiles.put) rect f at c.in_ok-tile.tile =
     λ exposed. painted-first root rect f s0.held s1.held at c.in_ok-tile.tile before.makes.bytes
     (c.in_ok-tile.ensures.painted (before.makes.others.exposed ∙ exposed)) in
@@ -66,6 +70,7 @@ loop-at-preserved g c =
       tt,
       tt,
       record {
+        ready = c.in_ok-tile.ensures.ready;
         format = added.format ∙ before.format;
         makes = subst P (sym one)
             (makes-next root rect f (length entries) s0 s2 s3 entries more at c.in_ok-tile.tile name is mid added.others
@@ -92,16 +97,16 @@ returns-in_err-tile-clause-made g c =
     let entries = c.loop-at.made.entries in
     let s0 : ChainState = record { held = g.C.ChainMeaning.held c.args.chain.now; counts = g.C.ChainMeaning.counts c.args.chain.now; loans = g.C.ChainMeaning.loans c.args.chain.now; valid = g.C.ChainMeaning.is_valid c.args.chain.now } in
     let s1 : ChainState = record { held = g.C.ChainMeaning.held c.loop-at.chain; counts = g.C.ChainMeaning.counts c.loop-at.chain; loans = g.C.ChainMeaning.loans c.loop-at.chain; valid = g.C.ChainMeaning.is_valid c.loop-at.chain } in
-    let s2 : ChainState = record { held = g.C.ChainMeaning.held c.painted_tile.new.chain; counts = g.C.ChainMeaning.counts c.painted_tile.new.chain; loans = g.C.ChainMeaning.loans c.painted_tile.new.chain; valid = g.C.ChainMeaning.is_valid c.painted_tile.new.chain } in
+    let s2 : ChainState = record { held = g.C.ChainMeaning.held c.next_tile.new.chain; counts = g.C.ChainMeaning.counts c.next_tile.new.chain; loans = g.C.ChainMeaning.loans c.next_tile.new.chain; valid = g.C.ChainMeaning.is_valid c.next_tile.new.chain } in
     makes-raise root rect f (length entries) (tile_count rect) s0 s2 entries (omega (arith, before.count))
-    (makes-read root rect f (length entries) s0 s1 s2 entries before.makes c.painted_tile.ensures.read)
+    (makes-read root rect f (length entries) s0 s1 s2 entries before.makes c.next_tile.ensures.read)
 
 pub returns-in_err-tile-clause-cause : goal.returns-in_err-tile-clause-cause
 returns-in_err-tile-clause-cause g c =
     let before = c.loop-at.invariant.2 in
     let p = err_from_is_err_and c.from_residual.result c.from_residual.ensures.1 in
     rw (p.1, p.2) (refused-after (length c.loop-at.made.entries) (tile_count c.args.rect) 0 (g.C.ChainMeaning.counts c.loop-at.chain).names (g.C.ChainMeaning.counts c.args.chain.now) (g.C.ChainMeaning.counts c.loop-at.chain)
-    (g.C.ChainMeaning.counts c.painted_tile.new.chain) c.in_err-tile.field-0.0 (omega (arith, before.count)) (omega arith) before.makes.grows
+    (g.C.ChainMeaning.counts c.next_tile.new.chain) c.in_err-tile.field-0.0 (omega (arith, before.count)) (omega arith) before.makes.grows
     (c.in_err-tile.ensures.cause))
 
 pub returns-in_err-add-clause-made : goal.returns-in_err-add-clause-made
@@ -114,10 +119,10 @@ returns-in_err-add-clause-made g c =
     let refused = c.in_err-add.ensures in
     let s0 : ChainState = record { held = g.C.ChainMeaning.held c.args.chain.now; counts = g.C.ChainMeaning.counts c.args.chain.now; loans = g.C.ChainMeaning.loans c.args.chain.now; valid = g.C.ChainMeaning.is_valid c.args.chain.now } in
     let s1 : ChainState = record { held = g.C.ChainMeaning.held c.loop-at.chain; counts = g.C.ChainMeaning.counts c.loop-at.chain; loans = g.C.ChainMeaning.loans c.loop-at.chain; valid = g.C.ChainMeaning.is_valid c.loop-at.chain } in
-    let s2 : ChainState = record { held = g.C.ChainMeaning.held c.painted_tile.new.chain; counts = g.C.ChainMeaning.counts c.painted_tile.new.chain; loans = g.C.ChainMeaning.loans c.painted_tile.new.chain; valid = g.C.ChainMeaning.is_valid c.painted_tile.new.chain } in
+    let s2 : ChainState = record { held = g.C.ChainMeaning.held c.next_tile.new.chain; counts = g.C.ChainMeaning.counts c.next_tile.new.chain; loans = g.C.ChainMeaning.loans c.next_tile.new.chain; valid = g.C.ChainMeaning.is_valid c.next_tile.new.chain } in
     let s3 : ChainState = record { held = g.C.ChainMeaning.held c.add.new.chain; counts = g.C.ChainMeaning.counts c.add.new.chain; loans = g.C.ChainMeaning.loans c.add.new.chain; valid = g.C.ChainMeaning.is_valid c.add.new.chain } in
     let some : length entries + 1 ≤ tile_count rect = omega (arith, before.count, ap length c.in-Some.ensures.steps) in
-    let mid = makes-read root rect f (length entries) s0 s1 s2 entries before.makes c.painted_tile.ensures.read in
+    let mid = makes-read root rect f (length entries) s0 s1 s2 entries before.makes c.next_tile.ensures.read in
     subst (Makes root rect f (tile_count rect) s0 s3) (sym refused.unchanged)
     (makes-raise root rect f (length entries + 1) (tile_count rect) s0 s3 entries some
     (makes-same root rect f (length entries) 1 s0 s2 s3 entries mid refused.held refused.counts refused.loans refused.valid))
@@ -127,8 +132,8 @@ returns-in_err-add-clause-cause g c =
     let before = c.loop-at.invariant.2 in
     let some : length c.loop-at.made.entries + 1 ≤ tile_count c.args.rect = omega (arith, before.count, ap length c.in-Some.ensures.steps) in
     let p = err_from_is_err_and c.from_residual-in_err-add.result c.from_residual-in_err-add.ensures.1 in
-    rw (p.1, p.2) (refused-after (length c.loop-at.made.entries) (tile_count c.args.rect) 1 ((g.C.ChainMeaning.counts c.painted_tile.new.chain).names + 1) (g.C.ChainMeaning.counts c.args.chain.now) (g.C.ChainMeaning.counts c.painted_tile.new.chain)
+    rw (p.1, p.2) (refused-after (length c.loop-at.made.entries) (tile_count c.args.rect) 1 ((g.C.ChainMeaning.counts c.next_tile.new.chain).names + 1) (g.C.ChainMeaning.counts c.args.chain.now) (g.C.ChainMeaning.counts c.next_tile.new.chain)
     (g.C.ChainMeaning.counts c.add.new.chain) c.in_err-add.field-0.0 some (omega arith)
-    (grows-read (length c.loop-at.made.entries) (g.C.ChainMeaning.counts c.args.chain.now) (g.C.ChainMeaning.counts c.loop-at.chain) (g.C.ChainMeaning.counts c.painted_tile.new.chain)
-    before.makes.grows c.painted_tile.ensures.read.counts)
+    (grows-read (length c.loop-at.made.entries) (g.C.ChainMeaning.counts c.args.chain.now) (g.C.ChainMeaning.counts c.loop-at.chain) (g.C.ChainMeaning.counts c.next_tile.new.chain)
+    before.makes.grows c.next_tile.ensures.read.counts)
     (c.in_err-add.ensures.cause))

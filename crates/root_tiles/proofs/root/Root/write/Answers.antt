@@ -7,6 +7,7 @@ use Rattle.model_images.specs.Paint.{painted}
 use Rattle.model_images.specs.TileCounts.{tile_count}
 use Rattle.plane_rect.specs.Rectangle.{Includes, Rectangle}
 use Rattle.root_tiles.specs.Chains.{ChainState}
+use Rattle.root_tiles.specs.Cutting.{cutting_of}
 use Rattle.root_tiles.specs.Paints.{paint_pixels}
 use Rattle.root_tiles.specs.Roots.{IsRootOver, RootTiles, root_image, root_names}
 use Rattle.root_tiles.proofs.Written.{given-up-image, given-up-others, given-up-over, switched-image, switched-over}
@@ -14,6 +15,11 @@ use Rattle.root_tiles.proofs.root.Root.write.Goals as goal
 
 pub make-requires-clause-inside : goal.make-requires-clause-inside
 make-requires-clause-inside g c = subst (λ (box : Rectangle). Includes box c.args.rect) (sym (ap (λ (root : RootTiles). root.box) c.self.view_is)) c.requires.inside
+
+pub make-requires-clause-ready : goal.make-requires-clause-ready
+make-requires-clause-ready g c =
+    let same : (record { box = c.self.inside.bounds; tiles = c.reserve.new.self.tiles }) ≡ c.args.self.now = ap (λ (tiles : LevelTiles). let r : RootTiles = record { box = c.self.inside.bounds; tiles = tiles } in r) c.reserve.ensures.tiles ∙ c.self.view_is in
+    subst (λ (r : RootTiles). g.T.ReadyTiles.are_cut c.args.ready.now (cutting_of r c.args.rect c.args.paint.now)) (sym same) c.requires.ready
 
 pub returns-in-Err-clause-same : goal.returns-in-Err-clause-same
 returns-in-Err-clause-same g c =

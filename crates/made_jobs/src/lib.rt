@@ -1,0 +1,10 @@
+//! The job that a number makes: a script and the raster that it loads, by draws of a generator.
+#![tactic(auto)]
+
+mod generator;
+mod job;
+mod script;
+#[cfg(test)]
+mod tests;
+
+pub use job::{Job, make_script};

@@ -1,0 +1,168 @@
+//! Tiles of nodes that wait to be made.
+
+ghost use Rattle.std.specs.Prelude.{◌≡◌, ℕ, ◌+◌, ◌<◌, IfErr, IfOk, MatchResult, Some};
+ghost use Rattle.chain_owners.specs.Counts.{Grows};
+ghost use Rattle.model_graphs.specs.Evaluation.{Buffers};
+ghost use Rattle.model_graphs.specs.Facts.{shapes_of_facts};
+ghost use Rattle.model_graphs.specs.Permits.{Spent};
+ghost use Rattle.model_states.specs.Valid.{AreStated};
+ghost use Rattle.swap_store.specs.Cause.{HasSwapCause};
+ghost use Rattle.roi_planner.specs.Inputs.{all_inputs};
+ghost use Rattle.node_tiles.specs.Jobs.{IsTileJob, job_bytes};
+ghost use Rattle.node_tiles.specs.Reads.{Reads, seen};
+ghost use Rattle.node_tiles.specs.Stated.{AreTilesOf, HaveLengths, IsReady, bytes_at};
+
+use crate::input_windows::input_windows;
+use crate::strip_tiles::StripTiles;
+use chain_owners::ChainMeaning;
+use model_graphs::{Body, NodeFact};
+use no_memory::NoMemory;
+use op_contracts::{OpKit, SourceTiles, Window};
+use plane_rect::{Rect, TileAt};
+use roi_planner::{NodeInputs, tile_part};
+use std::alloc::Global;
+use std::marker::Model;
+use swap_store::SwapRefused;
+use tile_cow::Tile;
+
+/// How many pixels a tile has.
+const TILE_PIXELS: u64 = 64 * 64;
+
+/// How many bytes a pixel of the tile that a job makes has, as one has in most formats.
+const MADE_BYTES: u64 = 4;
+
+/// How many bytes of its windows and of its tile an operation goes through in a nanosecond, at least: an area operation
+/// takes some 0.1 ns for each byte of its windows, and a pointwise one less.
+const BYTES_PER_NANOSECOND: u64 = 10;
+
+/// A tile of a node that waits to be made, with all that this takes: the windows of its inputs and a permit. So jobs
+/// are carried out in any order, and on any thread. A clause sees the job without its permit.
+#[derive(Drop)]
+pub struct TileJob<P> {
+    /// The position of the node among the nodes.
+    pub node: u32,
+    /// The tile.
+    pub at: TileAt,
+    part: Rect,
+    windows: Vec<Window>,
+    permit: P,
+}
+
+impl<P> Model for TileJob<P> {
+    ghost use Rattle.node_tiles.specs.Jobs.{Job};
+
+    ghost Value = { Job };
+
+    ghost view = { λ job. record {
+      node = job.node;
+      at = job.at;
+      part = job.part;
+      windows = job.windows.items;
+    } };
+}
+
+impl<P> TileJob<P> {
+    /// Returns about how many nanoseconds it takes to carry the job out. Takes time in proportion to the number of
+    /// inputs.
+    pub fn nanoseconds(&self) -> u64 {
+        let mut bytes: u64 = TILE_PIXELS * MADE_BYTES;
+        for window in &self.windows {
+            let tiles = window.tiles.as_slice().len() as u64;
+            let tile_bytes = TILE_PIXELS * window.format.pixel_bytes() as u64;
+            bytes = bytes.saturating_add(tiles.saturating_mul(tile_bytes));
+        }
+        bytes / BYTES_PER_NANOSECOND
+    }
+}
+
+/// Makes the job of a tile of the node at a position, which is an operation: reads its inputs from the tiles that are
+/// held and from the sources, and takes a permit. Over images that are known the job makes the tile of the node's
+/// image, if the held tiles are those of theirs. Takes time in proportion to the tiles that it requires.
+///
+/// # Errors
+///
+/// `SwapFault` only where the swap's count of I/O errors rose in this call, `SwapFull` only where the chain's names can
+/// fill the swap, and `NoMemory` if memory runs out. No permit is then spent.
+pub fn tile_job<H: ChainMeaning, S: SourceTiles<H>, K: OpKit>(
+    kit: &K,
+    alloc: Global,
+    nodes: &[NodeFact<K::Op>],
+    inputs: &[NodeInputs],
+    held: &StripTiles,
+    sources: &mut S,
+    chain: &mut H,
+    purse: &mut K::Purse,
+    node: u32,
+    at: TileAt,
+) -> Result<TileJob<K::Permit>, SwapRefused>
+    requires stated { AreStated K.Op.meanings (shapes_of_facts (S.facts sources.old)) nodes.now }
+    requires inputs { inputs.now ≡ all_inputs nodes.now }
+    requires ready { IsReady K.Op.meanings nodes.now held.now node at }
+    requires lengths { HaveLengths nodes.now held.now }
+    requires over { S.is_over sources.old (H.held chain.old) }
+    requires permits { 0 < K.permits purse.old }
+    ensures node { IfOk result (λ job. job.node ≡ node) }
+    ensures tile { IfOk result (λ job. job.at ≡ at) }
+    ensures job { IfOk result (IsTileJob K.Op.meanings nodes.now) }
+    ensures bytes { (images : Buffers) → S.images sources.old (H.held chain.old) ≡ Some images →
+        AreTilesOf K.Op.meanings nodes.now images held.now →
+        IfOk result (λ job. job_bytes K.Op.meanings nodes.now job ≡ bytes_at K.Op.meanings nodes.now images node at) }
+    ensures permits { MatchResult result (λ _. Spent (K.permits purse.old) (K.permits purse.new) 1)
+        (λ _. K.permits purse.new ≡ K.permits purse.old) }
+    ensures over { S.is_over sources.new (H.held chain.new) }
+    ensures reads { Reads
+        (seen (S.facts sources.old) (S.images sources.old (H.held chain.old)) (S.names sources.old) (H.held chain.old) (H.counts chain.old) (H.loans chain.old))
+        (seen (S.facts sources.new) (S.images sources.new (H.held chain.new)) (S.names sources.new) (H.held chain.new) (H.counts chain.new) (H.loans chain.new)) }
+    ensures cause { IfErr result (HasSwapCause (H.counts chain.old) (H.counts chain.new) (H.counts chain.old).names) }
+    ensures valid { H.is_valid chain.old → H.is_valid chain.new }
+{
+    let fact = &nodes[node as usize];
+    let Body::Compute { op, .. } = &fact.spec.body else {
+        unreachable!()
+    };
+    let inputs = &inputs[node as usize];
+    let part = tile_part(&at, &fact.bounds);
+    let windows = input_windows(kit, alloc, nodes, inputs, held, sources, chain, op, part)?;
+    let permit = kit.take(purse).unwrap();
+    Ok(TileJob {
+        node,
+        at,
+        part,
+        windows,
+        permit,
+    })
+}
+
+/// Carries a job out: applies its node's operation to its windows, by its permit. Returns the whole tile, zero outside
+/// the node's box.
+///
+/// # Errors
+///
+/// `NoMemory` if memory runs out.
+pub fn apply_job<K: OpKit>(
+    kit: &K,
+    alloc: Global,
+    nodes: &[NodeFact<K::Op>],
+    inputs: &[NodeInputs],
+    job: TileJob<K::Permit>,
+) -> Result<Tile, NoMemory>
+    requires inputs { inputs.now ≡ all_inputs nodes.now }
+    requires job { IsTileJob K.Op.meanings nodes.now job }
+    ensures { IfOk result (λ tile. tile ≡ job_bytes K.Op.meanings nodes.now job) }
+{
+    let node = job.node as usize;
+    let fact = &nodes[node];
+    let Body::Compute { op, .. } = &fact.spec.body else {
+        unreachable!()
+    };
+    let inputs = &inputs[node];
+    let patch = kit.apply(
+        alloc,
+        job.permit,
+        op,
+        inputs.boxes(),
+        &job.windows,
+        job.part,
+    )?;
+    patch.tile(alloc, job.at)
+}

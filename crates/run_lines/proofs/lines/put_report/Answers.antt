@@ -1,9 +1,0 @@
-use Rattle.std.proofs.Common.{◌≡◌, ◌∙◌}
-use Rattle.run_events.proofs.Leaving.{Leaves-same_text}
-use Rattle.run_texts.specs.Texts.{report_text}
-use Rattle.run_lines.proofs.lines.put_report.Goals as goal
-
-pub returns-clause-leaves : goal.returns-clause-leaves
-returns-clause-leaves g c = λ files.
-    let text : c.deref.result.now ≡ report_text c.args.counts.applied c.args.counts.reused = c.deref.ensures ∙ c.in_ok-text.ensures in
-    Leaves-same_text _ _ _ _ _ text (c.put_text.ensures.leaves files)

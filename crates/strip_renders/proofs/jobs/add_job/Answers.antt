@@ -1,0 +1,27 @@
+use Rattle.model_states.specs.Cache.{pair_of}
+use Rattle.model_graphs.specs.Facts.{specs_of}
+use Rattle.node_cache.specs.Stores.{pair_at}
+use Rattle.node_tiles.proofs.Places.{ready-inside}
+use Rattle.strip_renders.proofs.JobLists.{jobs-more, jobs-past, jobs_of-more, not-there}
+use Rattle.strip_renders.proofs.Pairs.{named}
+use Rattle.strip_renders.proofs.jobs.add_job.Goals as goal
+
+pub returns-then-has-clause-jobs : goal.returns-then-has-clause-jobs
+returns-then-has-clause-jobs g c = λ needed are.
+    jobs-past g.K.Op.OpMeaning.meanings c.args.nodes.now (g.C.PairStore.pairs c.args.cache.now) needed (c.args.node, c.args.at) c.args.jobs.now.items are
+
+pub returns-clause-jobs : goal.returns-clause-jobs
+returns-clause-jobs g c = λ needed are.
+    let nodes = c.args.nodes.now in
+    let name = c.index-nodes-node.result.spec.name in
+    let pairs = g.C.PairStore.pairs c.args.cache.now in
+    let inside = ready-inside nodes g.K.Op.OpMeaning.meanings c.args.held.now c.args.node c.args.at c.requires.ready in
+    let absent = not-there pairs (pair_of (specs_of nodes) (c.args.node, c.args.at)) (pair_at name c.args.at) c.has.result c.has.ensures c.if-has.false
+    (named nodes c.args.node c.index-nodes-node.result c.args.at inside c.index-nodes-node.is) in
+    jobs-more g.K.Op.OpMeaning.meanings nodes c.args.node c.args.at c.args.jobs.now.items c.push.new.self.items c.in_ok-job.job c.in_ok-push.ensures.items
+    c.in_ok-job.ensures.node c.in_ok-job.ensures.tile pairs needed absent c.in_ok-job.ensures.job are
+
+pub returns-clause-bytes : goal.returns-clause-bytes
+returns-clause-bytes g c = λ images known tiles are.
+    jobs_of-more g.K.Op.OpMeaning.meanings c.args.nodes.now c.args.node c.args.at c.args.jobs.now.items c.push.new.self.items c.in_ok-job.job c.in_ok-push.ensures.items
+    c.in_ok-job.ensures.node c.in_ok-job.ensures.tile images (c.in_ok-job.ensures.bytes images known tiles) are

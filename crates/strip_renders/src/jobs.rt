@@ -1,0 +1,174 @@
+//! Jobs of needed tiles that the cache hasn't, and what they make.
+
+ghost use Rattle.std.specs.Prelude.{◌≡◌, ℕ, ◌+◌, ◌<◌, ◌≤◌, ◌++◌, [], ◌∷◌, IfErr, IfOk, List, MatchResult, Some, length, map};
+ghost use Rattle.std.specs.List.{AllByRecursion};
+ghost use Rattle.model_graphs.specs.Evaluation.{Buffers};
+ghost use Rattle.model_graphs.specs.Facts.{shapes_of_facts};
+ghost use Rattle.model_graphs.specs.Permits.{Spent};
+ghost use Rattle.model_states.specs.Need.{Needed};
+ghost use Rattle.model_states.specs.Valid.{AreStated};
+ghost use Rattle.swap_store.specs.Cause.{HasSwapCause};
+ghost use Rattle.roi_planner.specs.Inputs.{all_inputs};
+ghost use Rattle.node_tiles.specs.Jobs.{IsTileJob};
+ghost use Rattle.node_tiles.specs.Reads.{Reads, seen};
+ghost use Rattle.node_tiles.specs.Stated.{AreTilesOf, HaveLengths, IsReady};
+ghost use Rattle.strip_renders.specs.Ahead.{AreJobs, AreJobsOf, AreReady, made_of};
+
+use chain_owners::ChainMeaning;
+use model_graphs::NodeFact;
+use no_memory::NoMemory;
+use node_cache::PairStore;
+use node_tiles::{StripTiles, TileJob, apply_job, tile_job};
+use op_contracts::{OpKit, SourceTiles};
+use plane_rect::TileAt;
+use roi_planner::NodeInputs;
+use std::alloc::Global;
+use std::thread::Threads;
+use swap_store::SwapRefused;
+use tile_cow::Tile;
+use worker_pieces::Workers;
+
+/// Adds the job of a needed tile, if the cache hasn't its pair.
+///
+/// # Errors
+///
+/// `SwapFault` only where the swap's count of I/O errors rose in this call, `SwapFull` only where the chain's names can
+/// fill the swap, and `NoMemory` if memory runs out. A permit may then be spent.
+fn add_job<H: ChainMeaning, S: SourceTiles<H>, C: PairStore<H>, K: OpKit>(
+    kit: &K,
+    alloc: Global,
+    nodes: &[NodeFact<K::Op>],
+    inputs: &[NodeInputs],
+    held: &StripTiles,
+    sources: &mut S,
+    cache: &C,
+    chain: &mut H,
+    purse: &mut K::Purse,
+    node: u32,
+    at: TileAt,
+    jobs: &mut Vec<TileJob<K::Permit>>,
+) -> Result<(), SwapRefused>
+    requires stated { AreStated K.Op.meanings (shapes_of_facts (S.facts sources.old)) nodes.now }
+    requires inputs { inputs.now ≡ all_inputs nodes.now }
+    requires ready { IsReady K.Op.meanings nodes.now held.now node at }
+    requires lengths { HaveLengths nodes.now held.now }
+    requires over { S.is_over sources.old (H.held chain.old) }
+    requires permits { 0 < K.permits purse.old }
+    ensures jobs { (needed : List Needed) → AreJobs K.Op.meanings nodes.now (C.pairs cache.now) needed jobs.old.items →
+        IfOk result (λ _. AreJobs K.Op.meanings nodes.now (C.pairs cache.now) (needed ++ (node, at) ∷ []) jobs.new.items) }
+    ensures bytes { (images : Buffers) → S.images sources.old (H.held chain.old) ≡ Some images →
+        AreTilesOf K.Op.meanings nodes.now images held.now → AreJobsOf K.Op.meanings nodes.now images jobs.old.items →
+        IfOk result (λ _. AreJobsOf K.Op.meanings nodes.now images jobs.new.items) }
+    ensures permits { MatchResult result
+        (λ _. K.permits purse.new + length jobs.new.items ≡ K.permits purse.old + length jobs.old.items)
+        (λ _. (K.permits purse.new ≤ K.permits purse.old) × (K.permits purse.old ≤ K.permits purse.new + 1)) }
+    ensures over { S.is_over sources.new (H.held chain.new) }
+    ensures reads { Reads
+        (seen (S.facts sources.old) (S.images sources.old (H.held chain.old)) (S.names sources.old) (H.held chain.old) (H.counts chain.old) (H.loans chain.old))
+        (seen (S.facts sources.new) (S.images sources.new (H.held chain.new)) (S.names sources.new) (H.held chain.new) (H.counts chain.new) (H.loans chain.new)) }
+    ensures cause { IfErr result (HasSwapCause (H.counts chain.old) (H.counts chain.new) (H.counts chain.old).names) }
+    ensures valid { H.is_valid chain.old → H.is_valid chain.new }
+{
+    let fact = &nodes[node as usize];
+    if cache.has(fact.spec.name, at) {
+        return Ok(());
+    }
+    let job = tile_job(
+        kit, alloc, nodes, inputs, held, sources, chain, purse, node, at,
+    )?;
+    jobs.push(job)?;
+    Ok(())
+}
+
+/// Makes a job of each of these needed tiles that the cache hasn't, in their order. Takes a permit for each, and time in
+/// proportion to the tiles that they require.
+///
+/// # Errors
+///
+/// `SwapFault` only where the swap's count of I/O errors rose in this call, `SwapFull` only where the chain's names can
+/// fill the swap, and `NoMemory` if memory runs out. Some of the permits may then be spent.
+pub(crate) fn tile_jobs<H: ChainMeaning, S: SourceTiles<H>, C: PairStore<H>, K: OpKit>(
+    kit: &K,
+    alloc: Global,
+    nodes: &[NodeFact<K::Op>],
+    inputs: &[NodeInputs],
+    held: &StripTiles,
+    sources: &mut S,
+    cache: &C,
+    chain: &mut H,
+    purse: &mut K::Purse,
+    batch: &[(u32, TileAt)],
+) -> Result<Vec<TileJob<K::Permit>>, SwapRefused>
+    requires stated { AreStated K.Op.meanings (shapes_of_facts (S.facts sources.old)) nodes.now }
+    requires inputs { inputs.now ≡ all_inputs nodes.now }
+    requires ready { AreReady K.Op.meanings nodes.now held.now batch.now }
+    requires lengths { HaveLengths nodes.now held.now }
+    requires over { S.is_over sources.old (H.held chain.old) }
+    requires permits { length batch.now ≤ K.permits purse.old }
+    ensures jobs { IfOk result (λ jobs. AreJobs K.Op.meanings nodes.now (C.pairs cache.now) batch.now jobs.items) }
+    ensures bytes { (images : Buffers) → S.images sources.old (H.held chain.old) ≡ Some images →
+        AreTilesOf K.Op.meanings nodes.now images held.now →
+        IfOk result (λ jobs. AreJobsOf K.Op.meanings nodes.now images jobs.items) }
+    ensures permits { MatchResult result (λ jobs. Spent (K.permits purse.old) (K.permits purse.new) (length jobs.items))
+        (λ _. (K.permits purse.new ≤ K.permits purse.old) × (K.permits purse.old ≤ K.permits purse.new + length batch.now)) }
+    ensures over { S.is_over sources.new (H.held chain.new) }
+    ensures reads { Reads
+        (seen (S.facts sources.old) (S.images sources.old (H.held chain.old)) (S.names sources.old) (H.held chain.old) (H.counts chain.old) (H.loans chain.old))
+        (seen (S.facts sources.new) (S.images sources.new (H.held chain.new)) (S.names sources.new) (H.held chain.new) (H.counts chain.new) (H.loans chain.new)) }
+    ensures cause { IfErr result (HasSwapCause (H.counts chain.old) (H.counts chain.new) (H.counts chain.old).names) }
+    ensures valid { H.is_valid chain.old → H.is_valid chain.new }
+{
+    let mut jobs = Vec::new(alloc);
+    for entry in batch {
+        add_job(
+            kit, alloc, nodes, inputs, held, sources, cache, chain, purse, entry.0, entry.1,
+            &mut jobs,
+        )?;
+    }
+    Ok(jobs)
+}
+
+/// Returns about how many nanoseconds it takes to carry these jobs out.
+fn work_of<P>(jobs: &[TileJob<P>]) -> u64 {
+    let mut work: u64 = 0;
+    for job in jobs {
+        work = work.saturating_add(job.nanoseconds());
+    }
+    work
+}
+
+/// Carries jobs out, split among as many workers as they are worth. Returns the tiles that they make, in their order.
+///
+/// # Errors
+///
+/// `NoMemory` if memory runs out.
+pub(crate) fn apply_jobs<K: OpKit + Sync, R: Threads + Sync>(
+    kit: &K,
+    alloc: Global,
+    nodes: &[NodeFact<K::Op>],
+    inputs: &[NodeInputs],
+    jobs: Vec<TileJob<K::Permit>>,
+    workers: Workers<'_, R>,
+) -> Result<Vec<((u32, TileAt), Tile)>, NoMemory>
+where
+    K::Op: Sync,
+    K::Permit: Send,
+    requires inputs { inputs.now ≡ all_inputs nodes.now }
+    requires jobs { AllByRecursion (IsTileJob K.Op.meanings nodes.now) jobs.items }
+    ensures { IfOk result (λ made. made.items ≡ map (made_of K.Op.meanings nodes.now) jobs.items) }
+{
+    let workers = workers.for_work(work_of(&jobs));
+    workers.map(
+        alloc,
+        jobs,
+        |job: TileJob<K::Permit>| -> Result<((u32, TileAt), Tile), NoMemory>
+            requires inputs { inputs.now ≡ all_inputs nodes.now }
+            requires job { IsTileJob K.Op.meanings nodes.now job }
+            ensures { IfOk result (λ made. made ≡ made_of K.Op.meanings nodes.entry.now job) }
+        {
+            let needed = (job.node, job.at);
+            let tile = apply_job(kit, alloc, nodes, inputs, job)?;
+            Ok((needed, tile))
+        },
+    )
+}

@@ -1,0 +1,75 @@
+//! How many threads work is split among.
+
+ghost use Rattle.std.specs.Prelude.{◌≡◌, All, IfOk, Ok, length};
+ghost use Rattle.std.specs.List.{AllZip};
+
+use no_memory::NoMemory;
+use rayon::prelude::*;
+use std::alloc::{AllocError, Global};
+use std::thread::Threads;
+
+/// How much work a piece is worth at least, in nanoseconds: some times what it takes to start its thread.
+const LEAST_PIECE: u64 = 150_000;
+
+/// How many threads work may be split among, with the leave to start them. There is no pool of threads: each piece
+/// of a call's work but one starts a thread of its own, which takes 13 to 50 us. So work is split only where it is
+/// worth more than that.
+pub struct Workers<'r, R: Threads + Sync> {
+    threads: &'r R,
+    count: u32,
+}
+
+// A derive would ask that the leave itself can be copied, and not only the reference to it.
+impl<'r, R: Threads + Sync> Clone for Workers<'r, R> {
+    fn clone(&self) -> Result<Workers<'r, R>, AllocError> {
+        Ok(*self)
+    }
+}
+
+impl<'r, R: Threads + Sync> Copy for Workers<'r, R> {}
+
+impl<'r, R: Threads + Sync> Workers<'r, R> {
+    /// Makes the leave to split work into at most so many pieces; none and one both leave it whole.
+    pub fn new(threads: &'r R, count: u32) -> Workers<'r, R> {
+        Workers { threads, count }
+    }
+
+    /// Returns whether there is more than one.
+    pub fn are_several(self) -> bool {
+        self.count > 1
+    }
+
+    /// Returns as many of these workers as work of about so many nanoseconds is worth, each of a piece of it that is
+    /// longer than it takes to start its thread. Work of less than two such pieces is left whole.
+    pub fn for_work(self, nanoseconds: u64) -> Workers<'r, R> {
+        let pieces = nanoseconds / LEAST_PIECE;
+        let count = pieces.min(self.count as u64) as u32;
+        Workers {
+            threads: self.threads,
+            count,
+        }
+    }
+
+    /// Does each of these jobs once, in pieces of consecutive ones, each piece on a thread of its own, and at most
+    /// as many as there are workers. Returns what the jobs made, in their order.
+    ///
+    /// # Errors
+    ///
+    /// `NoMemory` if memory runs out, in a job or around it.
+    pub fn map<
+        T: Send + Drop,
+        U: Send + Drop,
+        F: Fn(T) -> Result<U, NoMemory> + Copy + Send + Sync,
+    >(self, alloc: Global, jobs: Vec<T>, job: F) -> Result<Vec<U>, NoMemory>
+        requires { All (F.pre job) jobs.items }
+        ensures { IfOk result (λ made. AllZip (λ x y. F.post job x (Ok y)) jobs.items made.items) }
+    {
+        let least = jobs.len().div_ceil(self.count.max(1) as usize);
+        let made: Result<Vec<U>, NoMemory> = jobs
+            .into_par_iter()
+            .with_min_len(least)
+            .map(job)
+            .collect(self.threads, alloc)?;
+        made
+    }
+}
