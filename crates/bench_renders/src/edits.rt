@@ -6,9 +6,9 @@ ghost use Rattle.model_operations.specs.Meanings.{int_meanings};
 ghost use Rattle.buffer_view.specs.BufferTables.{AreBuffersOver, buffers_names};
 ghost use Rattle.test_renders.specs.Ready.{AreOver, AreReady};
 
+use crate::jobs::{Job, name, node, ready, rect, request, source};
 use crate::pairs::{MANY, show_again};
 use crate::report::{Report, least};
-use crate::scenes::{Job, name, node, ready, rect, request, source};
 use anyhow::Result;
 use buffer_view::Buffers;
 use chain_contracts::TileChain;

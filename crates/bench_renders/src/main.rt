@@ -7,13 +7,13 @@
 
 mod copies;
 mod edits;
+mod jobs;
 mod pairs;
 mod report;
-mod scenes;
 
 use anyhow::Result;
+use jobs::Job;
 use report::Report;
-use scenes::Job;
 use std::alloc::Global;
 use std::rt::Env;
 

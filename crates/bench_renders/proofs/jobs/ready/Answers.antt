@@ -1,6 +1,6 @@
 use Rattle.std.proofs.Common.{sym, subst}
 use Rattle.buffer_view.specs.BufferTables.{AreBuffersOver, BufferTable}
-use Rattle.bench_renders.proofs.scenes.ready.Goals as goal
+use Rattle.bench_renders.proofs.jobs.ready.Goals as goal
 
 pub fill-requires : goal.fill-requires
 fill-requires g c =
