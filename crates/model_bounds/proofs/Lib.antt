@@ -1,4 +1,2 @@
-mod TileCounts
-mod NeedCounts
 mod ValidNodes
 pub mod RunCounts

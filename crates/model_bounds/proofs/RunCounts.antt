@@ -47,7 +47,7 @@ use Rattle.model_runs.specs.Run.{effects, effects_of, files_after_all, state_aft
 use Rattle.model_runs.specs.State.{Effect, Numbers, RunState, Watching, first_state, in_workspace, leaves, refuses, scene_in, workspace_of}
 use Rattle.model_runs.specs.Watching.{ends}
 use Rattle.model_bounds.specs.Counts.{HasTrueCounts}
-use Rattle.model_bounds.proofs.NeedCounts.{request_few}
+use Rattle.model_states.proofs.NeedCounts.{request_few}
 use Rattle.model_bounds.proofs.ValidNodes.{IsKept, commit_kept, none_valid, redo_kept, undo_kept, valid_over_images}
 
 -- ---- what a render needs

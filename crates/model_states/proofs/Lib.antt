@@ -13,7 +13,11 @@ pub mod RightPairs
 pub mod CacheLaws
 pub mod Renders
 pub mod NeedLaws
+pub mod AskedInside
 pub mod NeededRight
+pub mod TileCounts
+pub mod NeedCounts
+pub mod Rows
 pub mod Steady
 pub mod RetainedLaws
 pub mod HistoryLaws

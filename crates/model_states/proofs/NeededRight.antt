@@ -1,15 +1,14 @@
 -- What is needed in a valid state are right pairs.
-use Rattle.std.proofs.Common.{◌≡◌, ℕ, zero, suc, ◌+◌, ◌<◌, ◌≤◌, Bool, true, false, ◌||◌, cond, eqb, List, [], ◌∷◌, ◌++◌, map, filter, reverse, take, length, get_or, inl, inr, IsTrue, IsSomeAnd, refl, sym, ap, ◌∙◌, subst, arith, Option, Some, None}
+use Rattle.std.proofs.Common.{◌≡◌, ℕ, zero, suc, ◌<◌, Bool, true, false, ◌||◌, cond, List, [], ◌∷◌, ◌++◌, map, filter, reverse, take, length, get_or, inl, inr, IsTrue, IsSomeAnd, refl, sym, ap, ◌∙◌, subst, arith, Option, Some, None}
 use Rattle.std.specs.Prelude.{option_map, slice_get}
-use Rattle.std.specs.List.{AllByRecursion, IsDistinct, enumerate_from, flat_map, list_any}
+use Rattle.std.specs.List.{AllByRecursion, IsDistinct, flat_map, list_any}
 use Rattle.std.specs.Str.{bytes_eq}
 use Rattle.std.proofs.Math.Seq.{take-suc}
 use Rattle.std.proofs.lemmas.Bool.{cases_lt}
-use Rattle.std.proofs.lemmas.Bool.Decides.{nat_tests}
-use Rattle.std.proofs.lemmas.List.{get_or-map, length-reverse, length-take-le, reverse-append, take_all}
+use Rattle.std.proofs.lemmas.List.{length-reverse, length-take-le, reverse-append, take_all}
 use Rattle.std.proofs.lemmas.Option.{get_or_from_slice_get, same_Some, slice_get-get_or, slice_get-map}
-use Rattle.plane_rect.specs.Rectangle.{Rectangle, Includes, empty, meet}
-use Rattle.plane_rect.specs.Tile.{Tile, tile_square, tiles}
+use Rattle.plane_rect.specs.Rectangle.{Rectangle, Includes, meet}
+use Rattle.plane_rect.specs.Tile.{Tile, tiles}
 use Rattle.plane_rect.proofs.Rectangles.{Inside-meet}
 use Rattle.model_graphs.specs.Node.{Node, Step, FromBuffer, Apply, index_of, step_of}
 use Rattle.model_graphs.specs.declared.node.Body.{Body}
@@ -17,23 +16,20 @@ use Rattle.model_graphs.specs.declared.node.Body.TheVariants.{Source, Compute}
 use Rattle.model_states.specs.Cache.{AreRightPairs, IsComputed, IsPairOf, IsRight, needed_pairs, pair_of, with_bytes}
 use Rattle.model_graphs.specs.Laws.{IsBoxed}
 use Rattle.model_graphs.specs.Meanings.{Meanings}
-use Rattle.model_states.specs.Need.{Asked, Needed, asked_by, asked_by_part, asked_of, need, needed, needed_of, strip_of, strip_rectangles}
+use Rattle.model_states.specs.Need.{Asked, Needed, asked_by, asked_of, need, needed, needed_of, strip_of, strip_rectangles}
 use Rattle.model_states.specs.declared.strip.Strip.{Strip}
 use Rattle.model_states.specs.Regions.{hull_of, meets, tiles_of_any}
 use Rattle.model_states.specs.State.{IsValidScene, Scene, node_shapes, stated_nodes}
 use Rattle.model_graphs.specs.declared.node.NodeFact.{NodeFact}
 use Rattle.model_graphs.specs.Facts.{specs_of, stated_shapes}
 use Rattle.model_states.proofs.Stated.{stated-nodes, stated-shapes}
-use Rattle.model_states.specs.Valid.{input_boxes, node_names, steps_of}
+use Rattle.model_states.specs.Valid.{node_names, steps_of}
 use Rattle.model_graphs.specs.Shapes.{Shape, no_shape, shapes_of_images}
 use Rattle.model_states.proofs.Indices.{index_of_name}
+use Rattle.model_states.proofs.AskedInside.{InsideBox, all-append, asked_by_inside, asked_inside}
 use Rattle.model_states.proofs.RightPairs.{meets_no_part}
 
 -- ---- lists
-
-all-append : {X : Type 0} (P : X → Type 0) (xs ys : List X) → AllByRecursion P xs → AllByRecursion P ys → AllByRecursion P (xs ++ ys)
-all-append P [] ys p q = q
-all-append P (x ∷ xs) ys p q = (p.0, all-append P xs ys p.1 q)
 
 all-filter : {X : Type 0} (P : X → Type 0) (test : X → Bool) (xs : List X) → ((x : X) → test x ≡ true → P x) → AllByRecursion P (filter test xs)
 all-filter P test [] each = tt
@@ -46,10 +42,6 @@ all-filter P test (x ∷ xs) each = by (test x) refl (all-filter P test xs each)
 all-map : {X Y : Type 0} (P : Y → Type 0) (f : X → Y) (xs : List X) → AllByRecursion (λ x. P (f x)) xs → AllByRecursion P (map f xs)
 all-map P f [] all = tt
 all-map P f (x ∷ xs) all = (all.0, all-map P f xs all.1)
-
-all-flat_map : {X Y : Type 0} (P : Y → Type 0) (f : X → List Y) (xs : List X) → ((x : X) → AllByRecursion P (f x)) → AllByRecursion P (flat_map f xs)
-all-flat_map P f [] each = tt
-all-flat_map P f (x ∷ xs) each = all-append P (f x) (flat_map f xs) (each x) (all-flat_map P f xs each)
 
 all_of : {X : Type 0} (P Q : X → Type 0) (xs : List X) → ((x : X) → P x → Q x) → AllByRecursion P xs → AllByRecursion Q xs
 all_of P Q [] step all = tt
@@ -79,26 +71,6 @@ any_meets t box (r ∷ rs) inside some =
 tiles_meet : (box : Rectangle) (rs : List Rectangle) → AllByRecursion (Includes box) rs → AllByRecursion (λ t. meets t box ≡ true) (tiles_of_any rs)
 tiles_meet box rs inside = all-filter (λ t. meets t box ≡ true) (λ t. list_any (meets t) rs) (tiles (hull_of rs)) (λ t some. any_meets t box rs inside some)
 
--- ---- what is asked
-
--- what is asked of a node is in its box
-abbrev InsideBox : List Shape → Asked → Type 0
-InsideBox shapes asked = Includes (get_or shapes asked.0 no_shape).box asked.1
-
-asked_inside : (shapes : List Shape) (node : ℕ) (asked : List Asked) → AllByRecursion (InsideBox shapes) asked → AllByRecursion (Includes (get_or shapes node no_shape).box) (asked_of asked node)
-asked_inside shapes node [] all = tt
-asked_inside shapes node (a ∷ asked) all = by (eqb a.0 node) refl (asked_inside shapes node asked all.1)
-  where
-    rest : List Asked
-    rest = filter (λ (a : Asked). eqb a.0 node) asked
-
-    by : (b : Bool) → eqb a.0 node ≡ b → AllByRecursion (Includes (get_or shapes node no_shape).box) (map (λ (a : Asked). a.1) rest) →
-        AllByRecursion (Includes (get_or shapes node no_shape).box) (map (λ (a : Asked). a.1) (cond b (a ∷ rest) rest))
-    by true e others =
-        let here : a.0 ≡ node = grind (arith, nat_tests) in
-        (subst (λ n. Includes (get_or shapes n no_shape).box a.1) here all.0, others)
-    by false e others = others
-
 module _ {Op : Type 0} where
   -- these steps, from the last to the first, are the first of all
   abbrev pub AreFirst : List (Step Op) → List (Step Op) → Type 0
@@ -124,27 +96,6 @@ module _ {Op : Type 0} where
           subst (AreFirst all) (sym is) (here, rest)
 
 module _ {Op : Type 0} (meanings : Meanings Op) (boxed : IsBoxed meanings) where
-  -- what a part asks of the inputs from one on
-  inputs_asked : (shapes : List Shape) (operation : Op) (all rest : List ℕ) (part : Rectangle) (n : ℕ) → ((i : ℕ) → i < length rest → get_or all (n + i) 0 ≡ get_or rest i 0) → n + length rest ≤ length all →
-      AllByRecursion (InsideBox shapes) (map (λ (input : ℕ × ℕ). (input.1, meanings.required operation (input_boxes shapes all) input.0 part)) (enumerate_from n rest))
-  inputs_asked shapes operation all [] part n same few = tt
-  inputs_asked shapes operation all (input ∷ rest) part n same few =
-      let start : n ≡ n + 0 = omega arith in
-      let here : get_or all n 0 ≡ input = ap (λ k. get_or all k 0) start ∙ same 0 (omega arith) in
-      let box : get_or (input_boxes shapes all) n empty ≡ (get_or shapes input no_shape).box =
-      get_or-map (λ i. (get_or shapes i no_shape).box) all n 0 empty (omega (arith, few)) ∙ ap (λ i. (get_or shapes i no_shape).box) here in (
-        subst (λ r. Includes r (meanings.required operation (input_boxes shapes all) n part)) box (boxed.required operation (input_boxes shapes all) n part),
-        inputs_asked shapes operation all rest part (n + 1)
-            (λ i less. let next : n + 1 + i ≡ n + suc i = omega arith in ap (λ k. get_or all k 0) next ∙ same (suc i) (omega arith))
-            (omega (arith, few)),
-      )
-
-  asked_by_inside : (shapes : List Shape) (step : Step Op) (box : Rectangle) (ts : List Tile) → AllByRecursion (InsideBox shapes) (asked_by meanings shapes step box ts)
-  asked_by_inside shapes (FromBuffer buffer) box ts = tt
-  asked_by_inside shapes (Apply operation inputs) box ts =
-      all-flat_map (InsideBox shapes) (λ t. asked_by_part meanings shapes operation inputs (meet (tile_square t) box)) ts
-      (λ t. inputs_asked shapes operation inputs inputs (meet (tile_square t) box) 0 (λ i less. ap (λ k. get_or inputs k 0) (let e : 0 + i ≡ i = omega arith in e)) (omega arith))
-
   -- ---- what is needed
 
   -- A tile of an operation, which meets the box at its place.
@@ -171,7 +122,7 @@ module _ {Op : Type 0} (meanings : Meanings Op) (boxed : IsBoxed meanings) where
       let ts = tiles_of_any (asked_of asked node) in
       let more = asked_by meanings shapes step box ts in
       all-append (IsWanted shapes all) (needed meanings shapes (asked ++ more) before) (needed_of node step ts)
-      (needed_wanted shapes all (asked ++ more) before first.1 (all-append (InsideBox shapes) asked more inside (asked_by_inside shapes step box ts)))
+      (needed_wanted shapes all (asked ++ more) before first.1 (all-append (InsideBox shapes) asked more inside (asked_by_inside meanings boxed shapes step box ts)))
       (wanted_of_node shapes all node step ts first.0 (tiles_meet box (asked_of asked node) (asked_inside shapes node asked inside)))
 
   -- ---- pairs

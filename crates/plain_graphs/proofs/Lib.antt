@@ -1,5 +1,4 @@
 pub mod Steps
 pub mod EditLaws
-pub mod Rows
 pub mod NeedLaws
 pub mod Named

@@ -3,7 +3,6 @@ pub mod Joined
 pub mod Strip
 pub mod Held
 pub mod Needs
-pub mod Few
 pub mod Shown
 pub mod HandedOn
 pub mod Turns

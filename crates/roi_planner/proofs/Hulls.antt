@@ -6,15 +6,7 @@ use Rattle.std.proofs.lemmas.List.Sums.{fold-append}
 use Rattle.plane_rect.specs.Rectangle.{Rectangle, empty, end_column, end_row, hull, is_empty, spanning}
 use Rattle.plane_rect.proofs.Rectangles.{rectangle-some}
 use Rattle.model_states.specs.Regions.{hull_of}
-
--- a rectangle that has positions has columns and rows
-pub has-sides : (r : Rectangle) → is_empty r ≡ false → (0 < r.width) × (0 < r.height)
-has-sides r some = by (eqb r.width 0) (eqb r.height 0) refl refl some
-  where
-    by : (a b : Bool) → eqb r.width 0 ≡ a → eqb r.height 0 ≡ b → (a || b) ≡ false → (0 < r.width) × (0 < r.height)
-    by true b e f none = absurd (cc)
-    by false true e f none = absurd (cc)
-    by false false e f none = (grind (arith, nat_tests), grind (arith, nat_tests))
+use Rattle.model_states.proofs.TileCounts.{has-sides}
 
 some-sides : (r : Rectangle) → 0 < r.width → 0 < r.height → is_empty r ≡ false
 some-sides r wide high = grind (arith, nat_tests)
@@ -110,16 +102,6 @@ hull-associative a b c = by (is_empty a) (is_empty b) (is_empty c) refl refl ref
 pub hull_of-append : (xs ys : List Rectangle) → hull_of (xs ++ ys) ≡ hull (hull_of xs) (hull_of ys)
 hull_of-append [] ys = refl
 hull_of-append (x ∷ xs) ys = ap (hull x) (hull_of-append xs ys) ∙ sym (hull-associative x (hull_of xs) (hull_of ys))
-
--- an empty hull is the empty rectangle
-pub hull_of-empty : (xs : List Rectangle) → is_empty (hull_of xs) ≡ true → hull_of xs ≡ empty
-hull_of-empty [] none = refl
-hull_of-empty (x ∷ xs) none = by (is_empty x) (is_empty (hull_of xs)) refl refl (hull_of-empty xs)
-  where
-    by : (s t : Bool) → is_empty x ≡ s → is_empty (hull_of xs) ≡ t → (is_empty (hull_of xs) ≡ true → hull_of xs ≡ empty) → hull x (hull_of xs) ≡ empty
-    by true t e f rest = hull-left_empty x (hull_of xs) e ∙ rest (ap is_empty (sym (hull-left_empty x (hull_of xs) e)) ∙ none)
-    by false true e f rest = absurd (let here : is_empty (hull x (hull_of xs)) ≡ false = ap is_empty (hull-right_empty x (hull_of xs) e f) ∙ e in cc)
-    by false false e f rest = absurd (let here : is_empty (hull x (hull_of xs)) ≡ false = hull-not_empty x (hull_of xs) e f in cc)
 
 -- taken from the last on
 pub hull_of-folded : (xs : List Rectangle) → fold (λ (h r : Rectangle). hull r h) empty (reverse xs) ≡ hull_of xs

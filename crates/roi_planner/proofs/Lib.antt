@@ -4,7 +4,4 @@ pub mod Named
 pub mod AskedLaws
 pub mod StatedLaws
 pub mod NeedLaws
-pub mod Rows
-pub mod TileCounts
-pub mod NeedCounts
 pub mod Widths

@@ -1,4 +1,4 @@
-use Rattle.model_bounds.proofs.NeedCounts as laws
+use Rattle.model_states.proofs.NeedCounts as laws
 use Rattle.model_bounds.proofs.needed_pairs_are_few.Goals as goal
 
 pub returns-clause-strips : goal.returns-clause-strips

@@ -1,7 +1,7 @@
 use Rattle.std.proofs.Common.{ℕ}
 use Rattle.plane_rect.specs.Rectangle.{meet}
 use Rattle.model_states.specs.Need.{tile_line}
-use Rattle.plain_graphs.proofs.Rows.{rows_more}
+use Rattle.model_states.proofs.Rows.{rows_more}
 use Rattle.plain_graphs.proofs.needs.strip_rectangles.Goals as goal
 
 pub loop-row-preserved : goal.loop-row-preserved

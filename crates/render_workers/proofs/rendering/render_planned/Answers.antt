@@ -1,17 +1,21 @@
-use Rattle.std.proofs.Common.{◌≡◌, ℕ, length, Option, Some, None, unwrap_or, sym, ap, ◌∙◌, subst}
+use Rattle.std.proofs.Common.{◌≡◌, ◌<◌, ◌^◌, ℕ, length, Option, Some, None, unwrap_or, sym, ap, ◌∙◌, subst}
 use Rattle.std.specs.Prelude.{IfSome}
+use Rattle.std.specs.List.{flat_map}
+use Rattle.std.proofs.lemmas.List.{length-map}
 use Rattle.std.proofs.lemmas.Option.{same_Some}
 use Rattle.plane_rect.specs.Rectangle.{InLimits, IsRectangle, Rectangle, empty, scaled}
 use Rattle.model_images.specs.Level.{level}
 use Rattle.model_images.specs.Paint.{cut}
-use Rattle.model_graphs.specs.Facts.{AreImagesOf}
+use Rattle.model_graphs.specs.Facts.{AreImagesOf, shapes_of_facts, specs_of}
 use Rattle.model_graphs.specs.Shapes.{Shape, shape_of_image}
-use Rattle.model_states.specs.Need.{strip_rectangles}
+use Rattle.model_states.specs.Cache.{pair_of}
+use Rattle.model_states.specs.Need.{need, strip_rectangles}
+use Rattle.model_states.specs.declared.strip.Strip.{Strip}
+use Rattle.model_states.proofs.NeedCounts.{request_few}
 use Rattle.node_tiles.specs.Stated.{shape_at}
 use Rattle.strip_patches.specs.LevelStrips.{AreOfOne, HasStrips, source_of}
 use Rattle.strip_patches.specs.Nodes.{image_at}
 use Rattle.strip_patches.proofs.Served.{member-at, shape-shown}
-use Rattle.render_workers.proofs.Few.{request-few}
 use Rattle.render_workers.proofs.Turns.{source-kept}
 use Rattle.render_workers.proofs.rendering.render_planned.Goals as goal
 
@@ -21,8 +25,13 @@ its-limits (Some s) r is limits = subst InLimits (same_Some s r is) limits
 
 pub render_strips-requires-clause-few : goal.render_strips-requires-clause-few
 render_strips-requires-clause-few g c κs within =
-    request-few g.K.Op.OpMeaning.meanings (g.S.SourceTiles.facts c.args.sources.now) c.args.nodes.now c.requires.stated c.args.node c.unwrap-source.result g.K.Op.OpMeaning.boxed
-    (its-limits c.scaled.result c.unwrap-source.result c.unwrap-source.ensures c.scaled.ensures.limits)
+    let meanings = g.K.Op.OpMeaning.meanings in
+    let nodes = c.args.nodes.now in
+    let source = c.unwrap-source.result in
+    let limits = its-limits c.scaled.result source c.unwrap-source.ensures c.scaled.ensures.limits in
+    let needed = flat_map (λ (strip : Strip). strip.need) (need meanings nodes c.args.node source) in
+    let few = request_few meanings g.K.Op.OpMeaning.boxed (shapes_of_facts (g.S.SourceTiles.facts c.args.sources.now)) nodes c.args.node source c.requires.stated limits in
+    subst (λ (n : ℕ). n < 2 ^ 32) (sym (length-map needed (pair_of (specs_of nodes)))) few
 
 pub returns-clause-image : goal.returns-clause-image
 returns-clause-image g c = λ images known right.

@@ -5,7 +5,7 @@ use Rattle.model_states.specs.Need.{Asked, Needed}
 use Rattle.model_states.specs.declared.strip.Strip.{Strip}
 use Rattle.roi_planner.specs.Asked.{AreAsked}
 use Rattle.roi_planner.specs.Inputs.{box_at}
-use Rattle.roi_planner.proofs.NeedCounts.{strip_few}
+use Rattle.model_states.proofs.NeedCounts.{strip_few}
 use Rattle.roi_planner.proofs.StatedLaws.{box_at-is}
 use Rattle.roi_planner.proofs.need.strip_of.Goals as goal
 
@@ -29,5 +29,6 @@ returns-clause-strip g c =
 
 pub returns-clause-few : goal.returns-clause-few
 returns-clause-few g c =
-    subst (λ (strip : Strip). length strip.need < 2 ^ 32) (sym (returns-clause-strip g c))
-    (strip_few g.K.Op.OpMeaning.meanings g.K.Op.OpMeaning.boxed c.args.nodes.now c.args.node c.args.rect c.requires.stated)
+    let stated = c.requires.stated in
+    let few = strip_few g.K.Op.OpMeaning.meanings g.K.Op.OpMeaning.boxed stated.0 c.args.nodes.now c.args.node c.args.rect stated.1 in
+    subst (λ (strip : Strip). length strip.need < 2 ^ 32) (sym (returns-clause-strip g c)) (omega (arith, few))

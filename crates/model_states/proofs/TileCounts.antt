@@ -34,7 +34,7 @@ between-included box r inside wide high =
     }
 
 -- a rectangle that has positions has columns and rows
-has-sides : (r : Rectangle) → is_empty r ≡ false → (0 < r.width) × (0 < r.height)
+pub has-sides : (r : Rectangle) → is_empty r ≡ false → (0 < r.width) × (0 < r.height)
 has-sides r some = by (eqb r.width 0) (eqb r.height 0) refl refl some
   where
     by : (a b : Bool) → eqb r.width 0 ≡ a → eqb r.height 0 ≡ b → (a || b) ≡ false → (0 < r.width) × (0 < r.height)
