@@ -166,10 +166,10 @@ fn several_blocks_in_one_call(rt: HostRuntime) -> Result<(), Fail> {
     );
     let mut all = [1u8; 16384];
     disk.read_blocks(0, &mut all)?;
-    assert_eq!(rt; all[..4096], [0; 4096]);
-    assert_eq!(rt; all[4096..8192], [7; 4096]);
-    assert_eq!(rt; all[8192..12288], [7; 4096]);
-    assert_eq!(rt; all[12288..], [0xEE; 4096]);
+    assert_eq!(rt; &all[..4096], [0; 4096].as_slice());
+    assert_eq!(rt; &all[4096..8192], [7; 4096].as_slice());
+    assert_eq!(rt; &all[8192..12288], [7; 4096].as_slice());
+    assert_eq!(rt; &all[12288..], [0xEE; 4096].as_slice());
     assert_eq!(rt;
         disk.read_blocks(0, &mut all),
         Err(SwapAnswer::Failed),
@@ -241,8 +241,8 @@ fn a_lent_swap_disk(rt: HostRuntime) -> Result<(), Fail> {
     Lent { disk: &mut disk }.write_blocks(1, &[8; 4096])?;
     let mut both = [1u8; 8192];
     Lent { disk: &mut disk }.read_blocks(0, &mut both)?;
-    assert_eq!(rt; both[..4096], [7; 4096]);
-    assert_eq!(rt; both[4096..], [8; 4096]);
+    assert_eq!(rt; &both[..4096], [7; 4096].as_slice());
+    assert_eq!(rt; &both[4096..], [8; 4096].as_slice());
     Ok(())
 }
 
@@ -329,8 +329,8 @@ fn a_swap_disk_in_a_file(rt: HostRuntime) -> Result<(), Fail> {
     let mut three = [1u8; 12288];
     disk.write_blocks(1, &three[4096..])?;
     disk.read_blocks(0, &mut three)?;
-    assert_eq!(rt; three[..4096], [8; 4096]);
-    assert_eq!(rt; three[4096..], [1; 8192]);
+    assert_eq!(rt; &three[..4096], [8; 4096].as_slice());
+    assert_eq!(rt; &three[4096..], [1; 8192].as_slice());
     assert!(rt; !fs::exists(&rt, ".tilegraph-swap")?);
     Ok(())
 }
