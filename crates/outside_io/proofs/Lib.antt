@@ -1,2 +1,3 @@
 pub mod StoredFilesLemmas
 pub mod BlockLemmas
+pub mod BlockRanges

@@ -1,6 +1,6 @@
 //! A swap disk in a file.
 
-ghost use Rattle.std.specs.Prelude.{◌≡◌, ◌<◌, ◌≤◌, ◌^◌, [], None, length};
+ghost use Rattle.std.specs.Prelude.{◌≡◌, ◌+◌, ◌/◌, ◌%◌, ◌<◌, ◌≤◌, ◌^◌, [], None, length};
 ghost use Rattle.outside_io.specs.Faults.{faults_after};
 ghost use Rattle.outside_io.specs.Swap.{has_failed};
 
@@ -66,6 +66,35 @@ impl<R: Files + Drop> FileSwap<R> {
     }
 }
 
+impl<R: Files + Drop> FileSwap<R>
+where
+    R::File: FileExt,
+{
+    /// Reads the file's bytes from block `first` on, as many as the slice has room for.
+    fn read_at(&mut self, first: u32, into: &mut [u8]) -> Result<(), SwapAnswer>
+        ensures later { self.old.faults ≤ self.new.faults }
+        ensures counted { self.new ≡ record self.old { faults = faults_after (has_failed result) self.old.faults } }
+    {
+        let done = self
+            .file
+            .get_or_try_insert_with(|| make_file(&self.rt, self.blocks))
+            .and_then(|file| file.read_exact_at(into, offset(first)));
+        self.answer(done)
+    }
+
+    /// Writes these bytes to the file, from block `first` on.
+    fn write_at(&mut self, first: u32, bytes: &[u8]) -> Result<(), SwapAnswer>
+        ensures later { self.old.faults ≤ self.new.faults }
+        ensures counted { self.new ≡ record self.old { faults = faults_after (has_failed result) self.old.faults } }
+    {
+        let done = self
+            .file
+            .get_or_try_insert_with(|| make_file(&self.rt, self.blocks))
+            .and_then(|file| file.write_all_at(bytes, offset(first)));
+        self.answer(done)
+    }
+}
+
 impl<R: Files + Drop> SwapDisk for FileSwap<R>
 where
     R::File: FileExt,
@@ -92,11 +121,7 @@ where
         // A call that failed is counted, and no other.
         ensures counted { self.new ≡ record self.old { faults = faults_after (has_failed result) self.old.faults } }
     {
-        let done = self
-            .file
-            .get_or_try_insert_with(|| make_file(&self.rt, self.blocks))
-            .and_then(|file| file.read_exact_at(into, offset(n)));
-        self.answer(done)
+        self.read_at(n, into)
     }
 
     fn write_block(&mut self, n: u32, bytes: &[u8]) -> Result<(), SwapAnswer>
@@ -107,11 +132,31 @@ where
         // A call that failed is counted, and no other.
         ensures counted { self.new ≡ record self.old { faults = faults_after (has_failed result) self.old.faults } }
     {
-        let done = self
-            .file
-            .get_or_try_insert_with(|| make_file(&self.rt, self.blocks))
-            .and_then(|file| file.write_all_at(bytes, offset(n)));
-        self.answer(done)
+        self.write_at(n, bytes)
+    }
+
+    fn read_blocks(&mut self, first: u32, into: &mut [u8]) -> Result<(), SwapAnswer>
+        requires known { first + length into.old / 4096 ≤ self.old.block_count }
+        requires bound { first + length into.old / 4096 ≤ 2 ^ 20 }
+        requires whole { length into.old % 4096 ≡ 0 }
+        ensures later { self.old.faults ≤ self.new.faults }
+
+        // A call that failed is counted once, however many blocks it has, and no other.
+        ensures counted { self.new ≡ record self.old { faults = faults_after (has_failed result) self.old.faults } }
+    {
+        self.read_at(first, into)
+    }
+
+    fn write_blocks(&mut self, first: u32, bytes: &[u8]) -> Result<(), SwapAnswer>
+        requires known { first + length bytes.now / 4096 ≤ self.old.block_count }
+        requires bound { first + length bytes.now / 4096 ≤ 2 ^ 20 }
+        requires whole { length bytes.now % 4096 ≡ 0 }
+        ensures later { self.old.faults ≤ self.new.faults }
+
+        // A call that failed is counted once, however many blocks it has, and no other.
+        ensures counted { self.new ≡ record self.old { faults = faults_after (has_failed result) self.old.faults } }
+    {
+        self.write_at(first, bytes)
     }
 }
 

@@ -33,4 +33,12 @@ impl<D: SwapDisk> SwapDisk for Lent<'_, D> {
     fn write_block(&mut self, n: u32, bytes: &[u8]) -> Result<(), SwapAnswer> {
         self.disk.write_block(n, bytes)
     }
+
+    fn read_blocks(&mut self, first: u32, into: &mut [u8]) -> Result<(), SwapAnswer> {
+        self.disk.read_blocks(first, into)
+    }
+
+    fn write_blocks(&mut self, first: u32, bytes: &[u8]) -> Result<(), SwapAnswer> {
+        self.disk.write_blocks(first, bytes)
+    }
 }

@@ -3,15 +3,15 @@ use Rattle.std.proofs.Common.{◌≡◌, ℕ, ◌+◌, ◌≤◌, List, take, Op
 use Rattle.std.specs.Option.{option_map}
 use Rattle.std.specs.FinMap as map
 use Rattle.std.proofs.lemmas.Bool.{cases_lt}
-use Rattle.outside_io.specs.Swap.{Blocks}
+use Rattle.outside_io.specs.Swap.{Blocks, UnchangedOutside}
 use Rattle.swap_store.specs.declared.block_map.Extent.{Extent}
 use Rattle.swap_store.specs.Run.{blocks_for, InBlocks, HasBlock}
 use Rattle.chain_owners.specs.Values.{Named, map_values}
 use Rattle.swap_store.specs.Placement.{Placement, IsPlacement, InExtent}
-use Rattle.swap_store.specs.Content.{UnchangedOutside, bytes_in, content_of, lengths_of}
+use Rattle.swap_store.specs.Content.{bytes_in, content_of, lengths_of}
 use Rattle.chain_owners.proofs.MapValues.{get-map_values, map_values-insert, map_values-remove, map_values-same}
 use Rattle.swap_store.proofs.PlacementLaws.{blocks_for-some}
-use Rattle.swap_store.proofs.Exposed.{prefix-unchanged}
+use Rattle.swap_store.proofs.Exposed.{bytes-unchanged_outside}
 
 -- ---- extents that are apart
 
@@ -34,7 +34,7 @@ pub bytes-unchanged : (p : Placement) → IsPlacement p → (first count : ℕ) 
     → (q : ℕ) (e : Extent) → map.get p.extents q ≡ Some e → bytes_in new e ≡ bytes_in old e
 bytes-unchanged p laws first count some free old new unchanged q e known =
     ap (take e.len)
-    (prefix-unchanged old new e.first (blocks_for e.len) first count unchanged
+    (bytes-unchanged_outside old new e.first (blocks_for e.len) first count unchanged
     (extents_apart first count e some (blocks_for-some e.len (laws.fits q e known).0.0)
     (λ b is_inside in_e. ((laws.exact b).0 (free b is_inside)).1 q e known in_e)))
 

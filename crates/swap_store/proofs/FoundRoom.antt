@@ -1,11 +1,11 @@
 -- The free run that was found for a tile.
 use Rattle.std.proofs.Common.{◌≡◌, ℕ, suc, zero, ◌+◌, ◌-◌, ◌<◌, ◌≤◌, List, [], ◌∷◌, Option, length, get_or, arith}
-use Rattle.outside_io.specs.Swap.{Blocks}
+use Rattle.outside_io.specs.Swap.{Blocks, UnchangedOutside}
 use Rattle.tile_cow.specs.Tile.{IsTileLength}
 use Rattle.chain_owners.specs.declared.run.Run.{Run}
 use Rattle.swap_store.specs.Run.{blocks_for, InBlocks, HasBlock, IsFirstFit, longest}
 use Rattle.swap_store.specs.Placement.{Placement, IsPlacement}
-use Rattle.swap_store.specs.Content.{UnchangedOutside, content_of}
+use Rattle.swap_store.specs.Content.{content_of}
 use Rattle.swap_store.proofs.Contents.{content-unchanged}
 use Rattle.swap_store.proofs.RunLists.{HasBlock-at}
 use Rattle.swap_store.proofs.PlacementLaws.{blocks_for-some}

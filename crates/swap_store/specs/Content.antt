@@ -1,19 +1,14 @@
 -- The bytes of names.
-use Rattle.std.specs.Prelude.{◌≡◌, ℕ, ◌+◌, List, Option, Some, None, ⊤, take, drop, length, slice_get}
-use Rattle.std.specs.List.{concat}
+use Rattle.std.specs.Prelude.{◌≡◌, ℕ, List, Option, Some, take, length, slice_get}
 use Rattle.std.specs.Option.{option_map}
-use Rattle.outside_io.specs.Swap.{Blocks}
+use Rattle.outside_io.specs.Swap.{Blocks, bytes_of_blocks}
 use Rattle.swap_store.specs.declared.block_map.Extent.{Extent}
 use Rattle.swap_store.specs.Run.{blocks_for}
 use Rattle.chain_owners.specs.Values.{Named, map_values}
 
--- the bytes of so many blocks from `first` on, one block after another
-abbrev pub prefix_of : Blocks → ℕ → ℕ → List ℕ
-prefix_of blocks first count = concat (take count (drop first blocks))
-
 -- the bytes that are in an extent: the first of those that its blocks have
 abbrev pub bytes_in : Blocks → Extent → List ℕ
-bytes_in blocks extent = take extent.len (prefix_of blocks extent.first (blocks_for extent.len))
+bytes_in blocks extent = take extent.len (bytes_of_blocks blocks extent.first (blocks_for extent.len))
 
 -- the map from names to bytes, where the disk exposes its blocks
 abbrev pub content_of : Named Extent → Option Blocks → Option (Named (List ℕ))
@@ -22,14 +17,6 @@ content_of extents exposed = option_map (λ blocks. map_values (bytes_in blocks)
 -- how many bytes each name has
 abbrev pub lengths_of : Named Extent → Named ℕ
 lengths_of extents = map_values (λ extent. extent.len) extents
-
--- the known blocks are the same but for `count` of them from `first` on
-abbrev pub UnchangedOutside : ℕ → ℕ → Option Blocks → Option Blocks → Type 0
-UnchangedOutside first count None None = ⊤
-UnchangedOutside first count None (Some new) = ⊥
-UnchangedOutside first count (Some old) None = ⊥
-UnchangedOutside first count (Some old) (Some new) =
-    (take first new ≡ take first old) × (drop (first + count) new ≡ drop (first + count) old)
 
 -- block n begins with these bytes
 pub record BeginsAt (n : ℕ) (bytes : List ℕ) (blocks : Blocks) : Type 0 where

@@ -3,7 +3,8 @@
 ghost use Rattle.std.specs.Prelude.{◌≡◌, ◌+◌, ◌*◌, ◌/◌, ◌<◌, ◌≤◌, ◌^◌, IfErr, IfSome, OnOk, length, take};
 ghost use Rattle.tile_cow.specs.Tile.{IsTileLength};
 ghost use Rattle.swap_store.specs.Run.{blocks_for};
-ghost use Rattle.swap_store.specs.Content.{BeginsAt, UnchangedOutside, bytes_in, prefix_of};
+ghost use Rattle.outside_io.specs.Swap.{UnchangedOutside, bytes_of_blocks};
+ghost use Rattle.swap_store.specs.Content.{BeginsAt, bytes_in};
 ghost use Rattle.swap_store.specs.Store.{HasDiskCause};
 
 use crate::block_map::{BLOCK_BYTES, blocks_for};
@@ -20,17 +21,15 @@ fn write_whole_blocks<D: SwapDisk>(
     requires known { first + length bytes.now / 4096 ≤ D.block_count disk.old }
     requires bound { first + length bytes.now / 4096 ≤ 2 ^ 20 }
     ensures written { OnOk result (IfSome (D.blocks disk.new)
-        (λ blocks. prefix_of blocks first (length bytes.now / 4096) ≡ take (4096 * (length bytes.now / 4096)) bytes.now)) }
+        (λ blocks. bytes_of_blocks blocks first (length bytes.now / 4096) ≡ take (4096 * (length bytes.now / 4096)) bytes.now)) }
     ensures others { UnchangedOutside first (length bytes.now / 4096) (D.blocks disk.old) (D.blocks disk.new) }
     ensures cause { IfErr result (HasDiskCause (D.faults disk.old) (D.faults disk.new)) }
     ensures later { D.faults disk.old ≤ D.faults disk.new }
     ensures block_count { D.block_count disk.new ≡ D.block_count disk.old }
     ensures loans { D.loans disk.new ≡ D.loans disk.old }
 {
-    for k in 0..bytes.len() / BLOCK_BYTES {
-        let at = k * BLOCK_BYTES;
-        disk.write_block(first + k as u32, &bytes[at..at + BLOCK_BYTES])?;
-    }
+    let end = BLOCK_BYTES * (bytes.len() / BLOCK_BYTES);
+    disk.write_blocks(first, &bytes[..end])?;
     Ok(())
 }
 
@@ -115,9 +114,7 @@ pub(crate) fn read_extent<D: SwapDisk>(
     ensures block_count { D.block_count disk.new ≡ D.block_count disk.old }
     ensures loans { D.loans disk.new ≡ D.loans disk.old }
 {
-    for k in 0..blocks_for(len) {
-        let at = BLOCK_BYTES * k as usize;
-        disk.read_block(first + k, &mut into[at..at + BLOCK_BYTES])?;
-    }
+    let end = BLOCK_BYTES * blocks_for(len) as usize;
+    disk.read_blocks(first, &mut into[..end])?;
     Ok(())
 }

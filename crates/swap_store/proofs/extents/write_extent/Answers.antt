@@ -1,10 +1,11 @@
 use Rattle.std.proofs.Common.{◌+◌, ◌*◌, ◌<◌, ◌≡◌, ◌/◌, refl, arith, ◌∙◌, length, take, drop, sym, IfSome}
 use Rattle.std.proofs.lemmas.Bool.{eqb-false}
 use Rattle.std.proofs.lemmas.List.{length-drop, take_rest}
-use Rattle.outside_io.specs.Swap.{Blocks}
+use Rattle.outside_io.specs.Swap.{Blocks, bytes_of_blocks}
 use Rattle.swap_store.specs.Run.{blocks_for}
-use Rattle.swap_store.specs.Content.{BeginsAt, bytes_in, prefix_of}
-use Rattle.swap_store.proofs.Exposed.{unchanged-wider, unchanged-trans, extent_written, OnOk-weaker, exposed_weaker}
+use Rattle.swap_store.specs.Content.{BeginsAt, bytes_in}
+use Rattle.outside_io.proofs.BlockRanges.{unchanged-wider, unchanged-trans}
+use Rattle.swap_store.proofs.Exposed.{extent_written, OnOk-weaker, exposed_weaker}
 use Rattle.swap_store.proofs.extents.write_extent.Goals as goal
 
 pub returns-in_err-write_whole_blocks-clause-others : goal.returns-in_err-write_whole_blocks-clause-others
@@ -29,7 +30,7 @@ returns-clause-written g c =
     let rest = length-drop (4096 * (len / 4096)) c.args.bytes.now in
     let more : 4096 * (len / 4096) < len = omega (arith, rest, eqb-false _ 0 (sym c.is_empty.ensures ∙ c.if-is_empty.false)) in
     let count : blocks_for len ≡ len / 4096 + 1 = omega (arith, more) in
-    let P : Blocks → Type 0 = λ blocks. take len (prefix_of blocks first (len / 4096 + 1)) ≡ c.args.bytes.now in
+    let P : Blocks → Type 0 = λ blocks. take len (bytes_of_blocks blocks first (len / 4096 + 1)) ≡ c.args.bytes.now in
     let Q : Blocks → Type 0 = λ blocks. bytes_in blocks (record { first = first; len = len }) ≡ c.args.bytes.now in
     let exposed = g.D.SwapDisk.blocks c.write_padded.new.disk in
     let begins : Type 0 = IfSome exposed (BeginsAt (first + len / 4096) (drop (4096 * (len / 4096)) c.args.bytes.now)) in

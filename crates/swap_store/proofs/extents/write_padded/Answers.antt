@@ -1,6 +1,7 @@
 use Rattle.std.proofs.Common.{Ok, arith}
 use Rattle.std.proofs.lemmas.List.{length-take-le}
-use Rattle.swap_store.proofs.Exposed.{unchanged-written, unchanged-refused, begins-written}
+use Rattle.outside_io.proofs.BlockRanges.{unchanged-written, unchanged-refused}
+use Rattle.swap_store.proofs.Exposed.{begins-written}
 use Rattle.swap_store.proofs.extents.write_padded.Goals as goal
 
 pub returns-in_err-write_block-clause-others : goal.returns-in_err-write_block-clause-others

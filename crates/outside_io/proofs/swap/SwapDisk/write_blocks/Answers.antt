@@ -1,10 +1,10 @@
 use Rattle.std.proofs.Common.{Ok, ◌+◌, ◌/◌, refl, arith, ◌∙◌, length}
-use Rattle.swap_store.proofs.Exposed.{unchanged-same, unchanged-written, unchanged-refused, unchanged-wider, unchanged-trans, written-more, exposed_always, next_part}
-use Rattle.swap_store.proofs.extents.write_whole_blocks.Goals as goal
+use Rattle.outside_io.proofs.BlockRanges.{unchanged-same, unchanged-written, unchanged-refused, unchanged-wider, unchanged-trans, written-more, exposed_always, next_part}
+use Rattle.outside_io.proofs.swap.SwapDisk.write_blocks.Goals as goal
 
 pub loop-k-init : goal.loop-k-init
 loop-k-init g c = record {
-  others = unchanged-same c.args.first 0 (g.D.SwapDisk.blocks c.args.disk.now);
+  others = unchanged-same c.args.first 0 (g.Self.SwapDisk.blocks c.args.self.now);
   written = exposed_always _ _ (λ blocks. refl);
   later = omega arith;
   block_count = refl;
@@ -30,8 +30,8 @@ loop-k-preserved g c =
           (unchanged-wider first k first (k + 1) _ _ (omega arith) (omega arith) was.others)
           (unchanged-wider (first + k) 1 first (k + 1) _ _ (omega arith) (omega arith)
           (unchanged-written _ _ (first + k) _ (Ok tt) c.in_ok-write_block.ensures.leaves));
-      written = written-more _ _ first k (g.D.SwapDisk.block_count c.loop-k.disk) _ _ _ c.in_ok-write_block.ensures.leaves
-          (g.met.D.SwapDisk.exposes_all c.loop-k.disk) (omega (arith, was.block_count))
+      written = written-more _ _ first k (g.Self.SwapDisk.block_count c.loop-k.self) _ _ _ c.in_ok-write_block.ensures.leaves
+          (g.met.Self.SwapDisk.exposes_all c.loop-k.self) (omega (arith, was.block_count))
           (next_part k _ _ c.args.bytes.now (omega arith) (omega arith)) was.written;
       later = omega (arith, was.later, c.in_ok-write_block.ensures.later);
       block_count = c.in_ok-write_block.ensures.block_count ∙ was.block_count;

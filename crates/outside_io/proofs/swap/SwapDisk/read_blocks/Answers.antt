@@ -1,8 +1,8 @@
 use Rattle.std.proofs.Common.{◌+◌, ◌*◌, ◌≡◌, refl, arith, ◌∙◌, length}
 use Rattle.std.proofs.lemmas.Slice.{take-put_mid}
 use Rattle.std.proofs.lemmas.List.{length-take, length-drop}
-use Rattle.swap_store.proofs.Exposed.{exposed_always, read-more}
-use Rattle.swap_store.proofs.extents.read_extent.Goals as goal
+use Rattle.outside_io.proofs.BlockRanges.{exposed_always, read-more}
+use Rattle.outside_io.proofs.swap.SwapDisk.read_blocks.Goals as goal
 
 pub loop-k-init : goal.loop-k-init
 loop-k-init g c = record {
@@ -20,7 +20,7 @@ loop-k-preserved g c =
     let k = c.loop-k.k in
     let part = c.read_block.new.into in
     let size : length part ≡ 4096 =
-    omega (arith, simp (length-take, length-drop) at c.read_block.auto.into, c.loop-k.auto.into, c.requires.room, c.requires.size, c.blocks_for-k-end.ensures) in
+    omega (arith, simp (length-take, length-drop) at c.read_block.auto.into, c.loop-k.auto.into) in
     record {
       read = read-more _ c.args.first k (4096 * k) (4096 * (k + 1)) c.loop-k.into _ part
           (take-put_mid (4096 * k) _ c.loop-k.into part (4096 * (k + 1)) (omega (arith, size)) (omega arith))
