@@ -47,7 +47,8 @@ impl FourTiles {
             && self.lower_right.is_none()
     }
 
-    /// Returns the tile of the next level at a position: each of its pixels is the mean of four.
+    /// Returns the tile of the next level at a position: each of its pixels is the mean of four. They are
+    /// written into `spare` first, whatever that has, which takes memory only where it is too short.
     ///
     /// # Errors
     ///
@@ -57,14 +58,15 @@ impl FourTiles {
         alloc: Global,
         format: Format,
         at: TileAt,
+        spare: &mut Vec<u8>,
     ) -> Result<Tile, NoMemory>
         requires half { IsInHalf at }
         requires lengths { HaveTileLength format self.now }
         ensures { IfOk result (λ tile. tile ≡ tile_bytes (halved_image (image_of_four format at self.now)) at) }
     {
-        let mut bytes = vec![in alloc; 0; TILE_PIXELS * format.pixel_bytes() as usize]?;
-        self.average_rows(format, &mut bytes);
-        let tile = Tile::from_vec(alloc, bytes)?;
+        spare.resize(TILE_PIXELS * format.pixel_bytes() as usize, 0)?;
+        self.average_rows(format, spare);
+        let tile = Tile::of(alloc, spare)?;
         bytes_of(&tile);
         Ok(tile)
     }

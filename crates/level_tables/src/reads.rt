@@ -57,7 +57,8 @@ impl LevelTable {
         ensures loans { C.loans chain.new ≡ C.loans chain.old }
         ensures valid { C.is_valid chain.old → C.is_valid chain.new }
     {
-        match self.find(chain, level, at)? {
+        let mut spare = Vec::new(self.allocator());
+        match self.find(chain, level, at, &mut spare)? {
             Some(tile) => Ok(tile),
             None => Ok(chain.zero(self.tile_len())?),
         }
@@ -103,13 +104,15 @@ impl LevelTable {
         Ok(Some(tile))
     }
 
-    /// Returns the mean of four tiles and holds it, if one of them is there.
+    /// Returns the mean of four tiles and holds it, if one of them is there. It is written into `spare`
+    /// first.
     fn hold_average<C: TileChain>(
         &mut self,
         chain: &mut C,
         level: u32,
         at: TileAt,
         four: &FourTiles,
+        spare: &mut Vec<u8>,
     ) -> Result<Option<Tile>, SwapRefused>
         requires over { IsOver self.old.tiles (C.held chain.old) }
         requires some_level { 1 ≤ level }
@@ -131,7 +134,7 @@ impl LevelTable {
         if four.is_empty() {
             return Ok(None);
         }
-        let tile = four.average(self.allocator(), self.format(), at)?;
+        let tile = four.average(self.allocator(), self.format(), at, spare)?;
         self.reserve_level()?;
         let copy = tile.share(self.allocator())?;
         bytes_of(&copy);
@@ -162,12 +165,14 @@ impl LevelTable {
         false
     }
 
-    /// Returns a tile of a level, or none where nothing was put that is averaged for it.
+    /// Returns a tile of a level, or none where nothing was put that is averaged for it. What is averaged
+    /// is written into `spare` first, one tile after another.
     fn find<C: TileChain>(
         &mut self,
         chain: &mut C,
         level: u32,
         at: TileAt,
+        spare: &mut Vec<u8>,
     ) -> Result<Option<Tile>, SwapRefused>
         requires over { IsOver self.old.tiles (C.held chain.old) }
         requires level { level ≤ max_level }
@@ -191,17 +196,17 @@ impl LevelTable {
         if !self.may_have_below(level, at) {
             return Ok(None);
         }
-        let upper_left = self.find(chain, level - 1, tile_below(at, 0, 0))?;
-        let upper_right = self.find(chain, level - 1, tile_below(at, 1, 0))?;
-        let lower_left = self.find(chain, level - 1, tile_below(at, 0, 1))?;
-        let lower_right = self.find(chain, level - 1, tile_below(at, 1, 1))?;
+        let upper_left = self.find(chain, level - 1, tile_below(at, 0, 0), spare)?;
+        let upper_right = self.find(chain, level - 1, tile_below(at, 1, 0), spare)?;
+        let lower_left = self.find(chain, level - 1, tile_below(at, 0, 1), spare)?;
+        let lower_right = self.find(chain, level - 1, tile_below(at, 1, 1), spare)?;
         let four = FourTiles {
             upper_left,
             upper_right,
             lower_left,
             lower_right,
         };
-        self.hold_average(chain, level, at, &four)
+        self.hold_average(chain, level, at, &four, spare)
     }
 }
 

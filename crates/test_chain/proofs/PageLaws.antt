@@ -1,13 +1,19 @@
 -- Chains of pages stay chains of pages.
 use Rattle.std.proofs.Common.{◌≡◌, ◌≢◌, ℕ, List, length, Option, Some, None, IfSome, is_some, true, false, refl, sym, ap, ◌∙◌, inl, inr}
-use Rattle.std.specs.FinMap.{get-empty}
+use Rattle.std.specs.FinMap as map
 use Rattle.std.specs.Ordering.{nat_cmp}
 use Rattle.std.proofs.lemmas.Bool.{cases_eq}
 use Rattle.outside_io.specs.Swap.{Blocks}
 use Rattle.chain_owners.specs.Held.{Held, disowned, length_of, owned, with_tile, without_name}
 use Rattle.chain_owners.proofs.HeldLaws.{after-disowned, after-owned}
 use Rattle.chain_owners.proofs.Names.{get_elsewhere, get_gone, get_here, get_left}
+use Rattle.chain_owners.proofs.MapValues.{map_values-empty}
+use Rattle.chain_owners.specs.Values.{Named}
+use Rattle.chain_handlers.specs.DiskTiles.{disk_held}
 use Rattle.chain_handlers.specs.OwnedTiles.{nothing_over}
+use Rattle.swap_store.specs.Content.{lengths_of}
+use Rattle.swap_store.specs.Placement.{Placement}
+use Rattle.swap_store.specs.declared.block_map.Extent.{Extent}
 use Rattle.test_chain.specs.Pages.{ArePages}
 
 same-some : (m n : ℕ) → Some m ≡ Some n → m ≡ n
@@ -22,7 +28,7 @@ module _ (held : Held) (name : ℕ) (pages : ArePages held) where
     | inr ne ↦ pages q len (sym (get_elsewhere held.lengths name (length bytes) q ne) ∙ is)
   ]
 
-  pages-removed : ArePages (without_name held name)
+  pub pages-removed : ArePages (without_name held name)
   pages-removed q len is = elim (cases_eq q name) [
     | inl same ↦ absurd (none-some len (sym (ap (length_of (without_name held name)) same ∙ get_gone held.lengths name) ∙ is))
     | inr ne ↦ pages q len (sym (get_left held.lengths name q ne) ∙ is)
@@ -60,8 +66,16 @@ module _ (held : Held) (name : ℕ) (pages : ArePages held) where
       there None is = absurd (some (absent is))
       there (Some len) is = refl
 
-pub no_pages : (held : Held) (blocks : Option Blocks) → held ≡ nothing_over blocks → ArePages held
-no_pages held blocks fresh q len is = absurd (none-some (sym (ap (λ (h : Held). length_of h q) fresh ∙ get-empty nat_cmp q) ∙ is))
+-- without a name there is no page
+pub no_lengths : (held : Held) → held.lengths ≡ map.empty → ArePages held
+no_lengths held none q len is = absurd (none-some (sym (ap (λ (lengths : Named ℕ). map.get lengths q) none ∙ map.get-empty nat_cmp q) ∙ is))
   where
     none-some : None ≡ Some len → ⊥
     none-some wrong = cc
+
+pub no_pages : (held : Held) (blocks : Option Blocks) → held ≡ nothing_over blocks → ArePages held
+no_pages held blocks fresh = no_lengths held (ap (λ (h : Held). h.lengths) fresh)
+
+pub no_extents : (placement : Placement) (blocks : Option Blocks) → placement.extents ≡ map.empty → ArePages (disk_held placement blocks)
+no_extents placement blocks none =
+    no_lengths (disk_held placement blocks) (ap lengths_of none ∙ map_values-empty (λ (extent : Extent). extent.len))

@@ -4,6 +4,8 @@
 #[cfg(test)]
 mod examples;
 #[cfg(test)]
+mod handlers;
+#[cfg(test)]
 mod pages;
 #[cfg(test)]
 mod plain;

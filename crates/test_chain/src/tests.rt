@@ -1,6 +1,7 @@
 //! Expected values are worked out by hand from the doc comments, or are those of a plain list.
 
 use crate::examples::{fill, give_a_block_up, name_two, read_by_turns};
+use crate::handlers::put_in_each;
 use crate::pages::chain_over;
 use crate::play::play;
 use chain_handlers::TileChain;
@@ -18,6 +19,12 @@ fn names_keep_their_bytes_and_owners(rt: HostRuntime) -> Result<(), Fail> {
     assert!(rt; chain.zero(8_192)?.bytes().iter().all(|byte| *byte == 0));
     let _disk = chain.end();
     Ok(())
+}
+
+#[test]
+fn each_handler_answers_as_its_map(rt: HostRuntime) -> Result<(), Fail> {
+    let mut disk = SureSwap::new(rt.alloc(), 4)?;
+    put_in_each(&rt, rt.alloc(), &mut disk)
 }
 
 #[test]

@@ -6,8 +6,8 @@ use Rattle.level_tables.proofs.Finding.{zero-exact}
 use Rattle.level_tables.proofs.Keeping.{kept-format, kept-image}
 use Rattle.level_tables.proofs.table.LevelTable.tile.Goals as goal
 
-pub returns-in_ok-zero-in-None-clause-bytes : goal.returns-in_ok-zero-in-None-clause-bytes
-returns-in_ok-zero-in-None-clause-bytes g c =
+pub returns-clause-bytes : goal.returns-clause-bytes
+returns-clause-bytes g c =
     let old = state c.args.self.now.tiles (g.C.ChainMeaning.held c.args.chain.now) (g.C.ChainMeaning.counts c.args.chain.now) in
     let now = state c.find.new.self.tiles (g.C.ChainMeaning.held c.find.new.chain) (g.C.ChainMeaning.counts c.find.new.chain) in
     zero-exact old.tiles old.held c.args.level c.args.at c.in_ok-zero-in-None.field-0
