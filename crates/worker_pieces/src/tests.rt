@@ -1,0 +1,43 @@
+//! Expected values are worked out by hand.
+
+use crate::workers::Workers;
+use no_memory::NoMemory;
+use std::alloc::Global;
+use std::test::Fail;
+use std::thread::Threads;
+
+/// Returns the squares of the numbers below 6, made by these workers. Memory runs out at the job of one number, if
+/// that is below 6.
+fn squares<R: Threads + Sync>(
+    workers: Workers<'_, R>,
+    alloc: Global,
+    scarce: u32,
+) -> Result<Vec<u32>, NoMemory> {
+    let jobs = vec![in alloc; 0, 1, 2, 3, 4, 5]?;
+    workers.map(alloc, jobs, |number: u32| -> Result<u32, NoMemory> {
+        if number == scarce {
+            return Err(NoMemory);
+        }
+        Ok(number.wrapping_mul(number))
+    })
+}
+
+#[test]
+fn jobs_are_done_once_and_in_their_order(rt: HostRuntime) -> Result<(), Fail> {
+    for count in [0, 1, 2, 3, 16] {
+        let made = squares(Workers::new(&rt, count), rt.alloc(), 6)?;
+        assert_eq!(rt; made.as_slice(), [0, 1, 4, 9, 16, 25].as_slice());
+    }
+    Ok(())
+}
+
+#[test]
+fn memory_that_runs_out_in_one_piece_refuses_all(rt: HostRuntime) -> Result<(), Fail> {
+    for count in [1, 2, 3, 16] {
+        for scarce in 0..6 {
+            let made = squares(Workers::new(&rt, count), rt.alloc(), scarce);
+            assert!(rt; made.is_err());
+        }
+    }
+    Ok(())
+}
