@@ -1,3 +1,4 @@
 pub mod Applying
+pub mod HeldBytes
 pub mod Sources
 pub mod TileList

@@ -1,6 +1,7 @@
 //! What carries out operations: kits, the windows that they read, and where the tiles of buffers come from.
 #![tactic(auto)]
 
+mod held_bytes;
 mod kit;
 pub mod laws;
 mod source_tiles;

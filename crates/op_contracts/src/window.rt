@@ -9,6 +9,7 @@ ghost use Rattle.model_images.specs.Image.{at};
 ghost use Rattle.model_images.specs.Paint.{cut};
 ghost use Rattle.model_graphs.specs.Windows.{IsWholeWindow, tiles_of, window_image};
 
+use crate::held_bytes::held_bytes;
 use crate::window_tiles::WindowTiles;
 use no_memory::NoMemory;
 use patch_abyss::{Patch, sample_at};
@@ -19,6 +20,10 @@ use std::marker::Model;
 
 /// How many pixels a tile has.
 const TILE_PIXELS: usize = 64 * 64;
+
+/// From how many bytes on a part is large: zeros that are written before its tiles no longer stay in
+/// the processor's nearest cache, and cost more than calls for short rows.
+const LARGE_PART: u64 = 32768;
 
 /// Shows an input of an operation by tiles, of which it owns its shares: wherever the input is needed,
 /// if the window is whole.
@@ -137,8 +142,26 @@ impl Window {
         inner.part(alloc, rect)
     }
 
-    /// Returns what the window shows over a part of the input's box.
+    /// Returns what the window shows over a part of the input's box. Where the part is large, its memory
+    /// is written once.
     fn inner_part(&self, alloc: Global, part: Rect) -> Result<Patch, NoMemory>
+        requires whole { IsWholeWindow self.now }
+        requires limits { InLimits part }
+        requires inside { Includes self.now.bounds part }
+        ensures { IfOk result (λ patch. patch ≡ cut (window_image self.now) part) }
+    {
+        if part.area() * u64::from(self.format.pixel_bytes()) < LARGE_PART {
+            return self.put_part(alloc, part);
+        }
+        match held_bytes(alloc, self, &part)? {
+            Some(bytes) => Ok(Patch::from_vec(part, self.format, bytes)),
+            None => self.put_part(alloc, part),
+        }
+    }
+
+    /// Returns what the window shows over a part of the input's box, by its tiles put one after another
+    /// into zeros.
+    fn put_part(&self, alloc: Global, part: Rect) -> Result<Patch, NoMemory>
         requires whole { IsWholeWindow self.now }
         requires limits { InLimits part }
         requires inside { Includes self.now.bounds part }

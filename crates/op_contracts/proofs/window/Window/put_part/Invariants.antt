@@ -1,6 +1,6 @@
 use Rattle.std.proofs.Common.{◌≡◌, drop}
 use Rattle.op_contracts.proofs.Painted.{put_tiles}
-use Rattle.op_contracts.proofs.window.Window.inner_part.Given as goal
+use Rattle.op_contracts.proofs.window.Window.put_part.Given as goal
 
 abbrev pub invariant-loop-entry : goal.invariant-loop-entry
 invariant-loop-entry l =
