@@ -83,8 +83,8 @@ impl LevelTable {
     }
 
     /// Puts a tile at a position, in place of the one that it had. The image has these bytes there
-    /// afterwards, and what was averaged from the old ones isn't held any more. After an error the table,
-    /// the names and their bytes are as before.
+    /// afterwards, and what was averaged from the old ones isn't held any more: it looks at one tile of
+    /// each level. After an error the table, the names and their bytes are as before.
     ///
     /// # Errors
     ///

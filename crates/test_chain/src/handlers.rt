@@ -35,7 +35,8 @@ fn put<H: TileHandler>(
     ensures { ArePages (H.held handler.new) }
 {
     let tile = page(alloc, byte)?;
-    handler.put(name, &tile)
+    handler.put(name, &tile)?;
+    Ok(())
 }
 
 /// Checks that a name is there, with a page of this byte.
