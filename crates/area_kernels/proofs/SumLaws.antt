@@ -70,13 +70,6 @@ abbrev pub slid : ℕ → ℕ → ℕ → ℕ → ℕ
 slid w sum coming leaving = ((sum + coming) % w + (w - leaving)) % w
 
 -- the numbers of samples that are counted from a block's first one
-pub added_here : (w : ℕ) (s lane : ℕ → ℕ) (from at : ℕ) (old new : ℕ → ℕ) → ((j : ℕ) → j < 16 → lane j ≡ s (from + at + j))
-    → ((j : ℕ) → j < 16 → new (at + j) ≡ added w (old (at + j)) (lane j))
-    → (j : ℕ) → j < 16 → new (at + j) ≡ added w (old (at + j)) (s (from + (at + j)))
-added_here w s lane from at old new loaded made j lt =
-    let coming : from + at + j ≡ from + (at + j) = omega arith in
-    made j lt ∙ ap (added w (old (at + j))) (loaded j lt ∙ ap s coming)
-
 pub slid_here : (w : ℕ) (s lane last : ℕ → ℕ) (from out at : ℕ) (old new : ℕ → ℕ) → ((j : ℕ) → j < 16 → lane j ≡ s (from + at + j)) → ((j : ℕ) → j < 16 → last j ≡ s (out + at + j))
     → ((j : ℕ) → j < 16 → new (at + j) ≡ slid w (old (at + j)) (lane j) (last j))
     → (j : ℕ) → j < 16 → new (at + j) ≡ slid w (old (at + j)) (s (from + (at + j))) (s (out + (at + j)))
@@ -94,20 +87,6 @@ slid_fits w m sum coming leaving new few enters leaves room is =
     ap (λ n. (n + (w - leaving)) % w) whole ∙ ap (λ n. n % w) moved ∙ mod-mul-add 1 w new (omega arith)
 
 module _ (d stride side first w m : ℕ) (samples : List ℕ) (old new : ℕ → ℕ) (below : (i : ℕ) → sample_at d samples i ≤ m) (room : 130 * m < w) where
-  -- a row more in each sum
-  pub HoldsColumns-added : (row next : ℕ) → row ≡ first + side → next ≡ suc side → side < 129 → HoldsColumns d stride side first samples old
-      → ((i : ℕ) → i < stride → new i ≡ added w (old i) (sample_at d samples (row * stride + i)))
-      → HoldsColumns d stride next first samples new
-  HoldsColumns-added row next is more few held made = record {
-    columns = λ i lt.
-        let f : ℕ → ℕ = λ j. sample_at d samples ((first + j) * stride + i) in
-        let small : sum_of side f ≤ side * m = sum_of-below side m f (λ k _. below ((first + k) * stride + i)) in
-        let few_rows : side * m ≤ 128 * m = mul-le-mul_right m (omega arith) in
-        let fits : (sum_of side f + f side) % w ≡ sum_of side f + f side = mod-eq_of_lt (omega (arith, small, few_rows, below ((first + side) * stride + i), room)) in
-        made i lt ∙ (λ t. added w (held.columns i lt t) (sample_at d samples (is t * stride + i)))
-        ∙ fits ∙ ap (λ n. sum_of n f) (sym more);
-  }
-
   -- the row after the last in each sum, without the first
   pub HoldsColumns-slid : side ≤ 129 → HoldsColumns d stride side first samples old
       → ((i : ℕ) → i < stride → new i ≡ slid w (old i) (sample_at d samples ((first + side) * stride + i)) (sample_at d samples (first * stride + i)))
@@ -125,8 +104,30 @@ module _ (d stride side first w m : ℕ) (samples : List ℕ) (old new : ℕ →
         (λ k _. ap (λ n. sample_at d samples (n * stride + i)) (omega arith));
   }
 
-pub HoldsColumns-none : (d stride first : ℕ) (samples : List ℕ) (sums : ℕ → ℕ) → ((i : ℕ) → sums i ≡ 0) → HoldsColumns d stride 0 first samples sums
-HoldsColumns-none d stride first samples sums zeros = record { columns = λ i lt. zeros i }
+-- sixteen sums have become those of columns of so many rows, and the others are unchanged
+pub record BlockSums (d stride rows at : ℕ) (samples : List ℕ) (old new : ℕ → ℕ) : Type 0 where
+  pub here : (j : ℕ) → j < 16 → new (at + j) ≡ sum_of rows (λ row. sample_at d samples (row * stride + (at + j)))
+  pub before : (i : ℕ) → i < at → new i ≡ old i
+  pub after : (i : ℕ) → at + 16 ≤ i → new i ≡ old i
+
+-- with a row more
+pub BlockSums-more : (d stride row next at w m : ℕ) (samples : List ℕ) (lane old new newer : ℕ → ℕ) → ((i : ℕ) → sample_at d samples i ≤ m) → 130 * m < w → next ≡ suc row → row < 129
+    → BlockSums d stride row at samples old new
+    → ((j : ℕ) → j < 16 → lane j ≡ sample_at d samples (row * stride + at + j))
+    → ((j : ℕ) → j < 16 → newer (at + j) ≡ added w (new (at + j)) (lane j))
+    → ((i : ℕ) → i < at → newer i ≡ new i) → ((i : ℕ) → at + 16 ≤ i → newer i ≡ new i)
+    → BlockSums d stride next at samples old newer
+BlockSums-more d stride row next at w m samples lane old new newer below room more few held loaded made before after = record {
+  here = λ j lt.
+      let f : ℕ → ℕ = λ k. sample_at d samples (k * stride + (at + j)) in
+      let small : sum_of row f ≤ row * m = sum_of-below row m f (λ k _. below (k * stride + (at + j))) in
+      let few_rows : row * m ≤ 128 * m = mul-le-mul_right m (omega arith) in
+      let fits : (sum_of row f + f row) % w ≡ sum_of row f + f row = mod-eq_of_lt (omega (arith, small, few_rows, below (row * stride + (at + j)), room)) in
+      let coming : lane j ≡ f row = loaded j lt ∙ ap (sample_at d samples) (omega arith) in
+      made j lt ∙ (λ t. added w (held.here j lt t) (coming t)) ∙ fits ∙ ap (λ n. sum_of n f) (sym more);
+  before = λ i lt. before i lt ∙ held.before i lt;
+  after = λ i le. after i le ∙ held.after i le;
+}
 
 -- ---- sums that slide along a row
 

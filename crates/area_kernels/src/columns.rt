@@ -2,6 +2,7 @@
 
 ghost use Rattle.std.specs.Prelude.{◌≡◌, ℕ, ◌+◌, ◌-◌, ◌*◌, ◌%◌, ◌<◌, ◌≤◌, length, slice_index};
 ghost use Rattle.area_kernels.specs.Columns.{HoldsColumns};
+ghost use Rattle.area_kernels.specs.Sequences.{sum_of};
 ghost use Rattle.pixel_formats.specs.Sample.{max_sample_of, sample_at};
 
 use simd_samples::{FourLanes, Lanes, load_at};
@@ -46,20 +47,6 @@ pub(crate) trait ColumnSums<L: Lanes> {
     ghost room: { 130 * max_sample_of L.depth < limit };
 }
 
-/// Adds a row of `count` samples, from number `coming` on, to the sums of columns. Up to fifteen
-/// sums after them are overwritten.
-fn add_row<L: Lanes, C: ColumnSums<L>>(samples: &[u8], coming: usize, columns: &mut C, count: usize)
-    requires samples { L.depth * (coming + count + 16) ≤ length samples.now }
-    requires few { count ≤ 768 }
-    ensures { (i : ℕ) → i < count → C.sum columns.new i
-        ≡ (C.sum columns.old i + sample_at L.depth samples.now (coming + i)) % C.limit }
-{
-    for block in 0..count.div_ceil(16) {
-        let at = 16 * block;
-        columns.add(at, load_at(samples, coming + at));
-    }
-}
-
 /// Adds a row of `count` samples to the sums of columns and takes another away, of which the numbers
 /// of the first samples are given. Up to fifteen sums after them are overwritten.
 fn slide_row<L: Lanes, C: ColumnSums<L>>(
@@ -84,6 +71,31 @@ fn slide_row<L: Lanes, C: ColumnSums<L>>(
     }
 }
 
+/// Makes sixteen sums that are 0, from number `at` on, those of the columns of the first `side` rows. All
+/// others are unchanged. The rows are read down a block of columns, so that its sums need not be
+/// written after each row.
+fn sum_block<L: Lanes, C: ColumnSums<L>>(
+    samples: &[u8],
+    stride: usize,
+    side: usize,
+    at: usize,
+    columns: &mut C,
+)
+    requires few { side ≤ 129 }
+    requires narrow { stride ≤ 768 }
+    requires inside { at < stride }
+    requires samples { L.depth * (side * stride + 16) ≤ length samples.now }
+    requires clear { (j : ℕ) → j < 16 → C.sum columns.old (at + j) ≡ 0 }
+    ensures here { (j : ℕ) → j < 16 → C.sum columns.new (at + j)
+        ≡ sum_of side (λ row. sample_at L.depth samples.now (row * stride + (at + j))) }
+    ensures before { (i : ℕ) → i < at → C.sum columns.new i ≡ C.sum columns.old i }
+    ensures after { (i : ℕ) → at + 16 ≤ i → C.sum columns.new i ≡ C.sum columns.old i }
+{
+    for row in 0..side {
+        columns.add(at, load_at(samples, row * stride + at));
+    }
+}
+
 /// Returns the sums of the columns of the first `side` rows.
 pub(crate) fn sum_rows<L: Lanes, C: ColumnSums<L>>(samples: &[u8], stride: usize, side: usize) -> C
     requires few { side ≤ 129 }
@@ -92,8 +104,8 @@ pub(crate) fn sum_rows<L: Lanes, C: ColumnSums<L>>(samples: &[u8], stride: usize
     ensures { HoldsColumns L.depth stride side 0 samples.now (C.sum result) }
 {
     let mut columns = C::zeros();
-    for row in 0..side {
-        add_row(samples, row * stride, &mut columns, stride);
+    for block in 0..stride.div_ceil(16) {
+        sum_block(samples, stride, side, 16 * block, &mut columns);
     }
     columns
 }
