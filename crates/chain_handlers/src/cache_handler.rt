@@ -336,7 +336,7 @@ impl<H: TileHandler + Drop> CacheHandler<H> {
     }
 
     /// Gives the handler below back, with every tile that it has; those in memory are lost.
-    pub(crate) fn into_below(self) -> H
+    pub fn into_below(self) -> H
         ensures { result ≡ self.below }
     {
         let CacheHandler {

@@ -90,7 +90,7 @@ impl<H: TileHandler + Drop> EmptyHandler<H> {
     }
 
     /// Gives the handler below back.
-    pub(crate) fn into_below(self) -> H
+    pub fn into_below(self) -> H
         ensures { result ≡ self.below }
     {
         let EmptyHandler { zeros: _, below } = self;

@@ -7,7 +7,7 @@ use crate::pages::page;
 use chain_handlers::{CacheHandler, EmptyHandler, SwapHandler, SwapRefused, TileHandler};
 use chain_owners::ChainMeaning;
 use no_memory::NoMemory;
-use outside_io::SwapDisk;
+use outside_io::{Lent, SwapDisk};
 use std::alloc::Global;
 use std::process::Abort;
 use std::test::Fail;
@@ -102,5 +102,9 @@ pub fn put_in_each<D: SwapDisk>(rt: &impl Abort, alloc: Global, disk: &mut D) ->
     forget(rt, &mut cache, 1);
     let mut empty = EmptyHandler::new(alloc, cache);
     put_three(rt, &mut empty, alloc)?;
+    let mut again = empty.into_below().into_below();
+    check(rt, &mut again, alloc, 1, 40)?;
+    check(rt, &mut again, alloc, 3, 30)?;
+    let Lent { disk: _back } = again.end();
     Ok(())
 }
