@@ -8,12 +8,9 @@ ghost use Rattle.op_contracts.specs.HeldBytes.{HasFirstPixels, HasLine};
 
 use crate::window::Window;
 use no_memory::NoMemory;
-use plane_rect::{Rect, TileAt};
+use plane_rect::{Rect, TILE_SIDE, TileAt};
 use std::alloc::Global;
 use std::ops::Range;
-
-/// How many columns, and rows, a tile has.
-const TILE_SIDE: u32 = 64;
 
 /// Returns the raw bytes of what a window shows over a part of the input's box, and None where it
 /// lacks a tile there. Takes time in proportion to the part's pixels and to the number of tiles.
