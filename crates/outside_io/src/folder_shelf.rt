@@ -1,6 +1,6 @@
 //! The files of the current folder as a shelf.
 
-ghost use Rattle.std.specs.Prelude.{◌≡◌, ◌≤◌, ◌⊎◌, None, IfOk, IsTrue, length, vec_len};
+ghost use Rattle.std.specs.Prelude.{◌≡◌, ◌<◌, ◌≤◌, ◌⊎◌, None, IfOk, IsTrue, length, vec_len};
 ghost use Rattle.outside_io.specs.Faults.{faults_after};
 ghost use Rattle.outside_io.specs.FileName.{is_file_name};
 ghost use Rattle.outside_io.specs.Shelf.{TakesAtMost, WriteLeaves, has_failed};
@@ -15,6 +15,10 @@ use std::{fs, io};
 
 /// How often a read is made again that a signal interrupted.
 const MAX_INTERRUPTIONS: u32 = 1000;
+
+/// How many bytes a turn reads of a file of the length that the system says. So many stay in the processor's nearer
+/// caches from when new memory is made zero until they are read into it.
+const READ_BYTES: usize = 128 << 10;
 
 /// The files of the current folder. It doesn't expose what they hold.
 #[derive(Drop)]
@@ -121,15 +125,15 @@ fn read_prefix<F: Read + OpenFile + Drop>(
     ensures { IfOk result (λ bytes. vec_len bytes ≤ most) }
 {
     let room = file.metadata()?.len().saturating_add(1).min(most);
-    let mut bytes = vec![in alloc; 0; room as usize]?;
+    let mut bytes = Vec::with_capacity(alloc, room as usize)?;
     let filled = fill(&mut file, &mut bytes, most as usize)?;
     bytes.truncate(filled);
     Ok(bytes)
 }
 
 /// Reads a file into the first of `bytes`, to the file's end or until `most` bytes are read, and
-/// returns how many were. `bytes` grows where the file is longer than it. Each turn but the last takes
-/// at least one byte.
+/// returns how many were. `bytes` grows turn by turn, and past its capacity where the file is longer than that.
+/// Each turn but the last takes at least one byte.
 fn fill<F: Read>(file: &mut F, bytes: &mut Vec<u8>, most: usize) -> io::Result<usize>
     requires { vec_len bytes.old ≤ most }
     ensures filled { IfOk result (λ filled. filled ≤ vec_len bytes.new) }
@@ -138,7 +142,8 @@ fn fill<F: Read>(file: &mut F, bytes: &mut Vec<u8>, most: usize) -> io::Result<u
     let mut filled = 0;
     while filled < most {
         if filled >= bytes.len() {
-            bytes.resize(filled.saturating_mul(2).clamp(1, most), 0)?;
+            let len = grown_length(filled, bytes.capacity(), most);
+            bytes.resize(len, 0)?;
         }
         let count = read_some(file, &mut bytes[filled..])?;
         if count == 0 {
@@ -147,6 +152,21 @@ fn fill<F: Read>(file: &mut F, bytes: &mut Vec<u8>, most: usize) -> io::Result<u
         filled += count;
     }
     Ok(filled)
+}
+
+/// Returns how long a vector of this capacity is to be once so many of its bytes are filled: within the capacity
+/// by `READ_BYTES` at most, and past it twice as long.
+fn grown_length(filled: usize, capacity: usize, most: usize) -> usize
+    requires { filled < most }
+    ensures more { filled < result }
+    ensures most { result ≤ most }
+{
+    let grown = if filled < capacity {
+        filled.saturating_add(READ_BYTES).min(capacity)
+    } else {
+        filled.saturating_mul(2).max(1)
+    };
+    grown.min(most)
 }
 
 /// Reads once, and again where a signal interrupted it, at most `MAX_INTERRUPTIONS` times.
