@@ -5,7 +5,8 @@ ghost use Rattle.model_operations.specs.Meanings.{int_meanings, same_operation};
 ghost use Rattle.commit_session.specs.Seen.{IsOver};
 
 use crate::calls::{
-    Fields, commit, create, grabbed, load, make, name, node, paint, redo, render, shown, source, undo,
+    Fields, commit, create, grabbed, load, make, name, node, paint, redo, render, shown, source,
+    undo,
 };
 use chain_contracts::TileChain;
 use commit_session::{OwnedSession, SessionRefused};
