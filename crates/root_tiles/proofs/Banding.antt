@@ -16,7 +16,7 @@ use Rattle.model_images.specs.TileCounts.{tile_count}
 use Rattle.model_images.specs.Tiles.{HeldTiles, held_pixels}
 use Rattle.model_images.proofs.Positions.{not_inside}
 use Rattle.model_images.proofs.Samples.{Inside_from, inside_where}
-use Rattle.root_tiles.specs.Bands.{BeginsBand, above_band, last_band}
+use Rattle.root_tiles.specs.Bands.{BeginsBand, above_band, last_band, rows_between}
 use Rattle.root_tiles.specs.Paints.{IsPainted}
 use Rattle.root_tiles.proofs.Solid.{length-taken, sample-taken, within}
 
@@ -154,6 +154,25 @@ module _ (left : Rectangle) (row : ℕ) (is : IsRectangle left) (begins : Begins
       let below = offset-below u v above there in
       sample-taken format bytes n (o * channels format + c) (omega (arith, count, within format (area above) o c below known))
       ∙ ap (λ (o : ℕ). sample_at (depth format) bytes (o * channels format + c)) (same-offset u v there)
+
+-- a band that is the rows from one up to the end
+module _ (left : Rectangle) (row end : ℕ) (band : Rectangle) (is : IsRectangle left) (begins : BeginsBand left row)
+    (band_is : band ≡ rows_between left row end) (end_is : end ≡ end_row left) where
+  is-last : band ≡ last_band left row
+  is-last = band_is ∙ ap (rows_between left row) end_is
+
+  pub band-inside : Includes left band
+  band-inside u v there = inside-band left row is begins u v (subst (λ (r : Rectangle). Inside u v r) is-last there)
+
+  pub band-counted : tile_count (above_band left row) + tile_count band ≤ tile_count left
+  band-counted =
+      subst (λ (r : Rectangle). tile_count (above_band left row) + tile_count r ≤ tile_count left) (sym is-last) (counted left row is begins)
+
+  pub band-met : (tile : Tile) → Meets tile left → Meets tile band ⊎ Meets tile (above_band left row)
+  band-met tile meets = elim (band-or-above left row is begins tile meets) [
+    | inl here ↦ inl (subst (λ (r : Rectangle). Meets tile r) (sym is-last) here)
+    | inr later ↦ inr later
+  ]
 
 -- what is painted over a tile of a part is painted by the whole rectangle
 module _ (r part : Rectangle) (format : Format) (held : HeldTiles) (f g : ℕ → ℕ → ℕ → ℕ) (inside : Includes r part) (whole : HasWholeTiles r part)

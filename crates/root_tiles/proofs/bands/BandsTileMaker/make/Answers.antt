@@ -1,7 +1,6 @@
 use Rattle.std.proofs.Common.{◌≡◌, ℕ, ◌+◌, ◌*◌, ◌<◌, ◌≤◌, ◌⊎◌, ◌^◌, inl, inr, Contains, List, length, take, refl, sym, ap, subst, ◌∙◌, arith}
 use Rattle.std.proofs.lemmas.Result.{err_from_is_err_and}
 use Rattle.std.specs.Map.{keys_of}
-use Rattle.chain_owners.proofs.Ownership.{respects-both}
 use Rattle.level_tables.specs.LevelTiles.{bytes_in}
 use Rattle.model_images.specs.FromRaw.{byte_count, pixels_from_raw}
 use Rattle.model_images.specs.TileCounts.{tile_count}
@@ -10,13 +9,12 @@ use Rattle.pixel_formats.specs.declared.format.Format.{Format}
 use Rattle.plane_rect.specs.Rectangle.{Includes, Inside, Rectangle, empty, end_row}
 use Rattle.plane_rect.specs.Tile.{Meets, Tile}
 use Rattle.root_tiles.specs.Bands.{above_band, last_band, rows_between}
-use Rattle.root_tiles.specs.Chains.{ChainState}
 use Rattle.root_tiles.specs.Made.{Makes}
-use Rattle.root_tiles.specs.Roots.{RootTiles}
-use Rattle.root_tiles.proofs.Banding.{HasWholeTiles, above-bytes, above-fewer, above-lower, above-samples, above-whole, band-or-above, counted, inside-above, inside-band, painted-by-all}
+use Rattle.root_tiles.proofs.Banding.{HasWholeTiles, above-bytes, above-fewer, above-lower, above-samples, above-whole, band-counted, band-inside, band-met, inside-above, painted-by-all}
 use Rattle.root_tiles.proofs.ChainReads.{refused-after}
 use Rattle.root_tiles.proofs.Making.{makes-none, makes-raise, makes-then}
 use Rattle.root_tiles.proofs.bands.BandsTileMaker.make.Given
+use Rattle.root_tiles.proofs.bands.BandsTileMaker.make.Goals.{After-deref, After-make_raw, After-rows_between-left}
 use Rattle.root_tiles.proofs.bands.BandsTileMaker.make.Goals as goal
 
 pub loop-left-init : goal.loop-left-init
@@ -38,19 +36,16 @@ loop-left-init g c =
     }
 
 -- a band, of which the tiles are made
-module _ (g : Given.Over) (c : goal.After-deref g) where
-  band-is : c.rows_between-band.result ≡ last_band c.loop-left.left c.band_row-row.result
-  band-is = c.rows_between-band.ensures ∙ ap (rows_between c.loop-left.left c.band_row-row.result) c.end_row.ensures.value
-
+module _ (g : Given.Over) (c : After-deref g) where
   in-left : Includes c.loop-left.left c.rows_between-band.result
-  in-left u v there =
-      inside-band c.loop-left.left c.band_row-row.result c.end_row.ensures.rectangle c.band_row-row.ensures u v
-      (subst (λ (r : Rectangle). Inside u v r) band-is there)
+  in-left =
+      band-inside c.loop-left.left c.band_row-row.result c.end_row.result c.rows_between-band.result c.end_row.ensures.rectangle c.band_row-row.ensures
+      c.rows_between-band.ensures c.end_row.ensures.value
 
   less : tile_count (above_band c.loop-left.left c.band_row-row.result) + tile_count c.rows_between-band.result ≤ tile_count c.loop-left.left
   less =
-      subst (λ (r : Rectangle). tile_count (above_band c.loop-left.left c.band_row-row.result) + tile_count r ≤ tile_count c.loop-left.left) (sym band-is)
-      (counted c.loop-left.left c.band_row-row.result c.end_row.ensures.rectangle c.band_row-row.ensures)
+      band-counted c.loop-left.left c.band_row-row.result c.end_row.result c.rows_between-band.result c.end_row.ensures.rectangle c.band_row-row.ensures
+      c.rows_between-band.ensures c.end_row.ensures.value
 
 pub make_raw-requires-clause-inside : goal.make_raw-requires-clause-inside
 make_raw-requires-clause-inside g c κs within = λ u v there. c.requires.inside u v (c.loop-left.invariant.within u v there)
@@ -59,20 +54,7 @@ pub make_raw-requires-clause-part : goal.make_raw-requires-clause-part
 make_raw-requires-clause-part g c κs within = in-left g (goal.at.make_raw-requires-clause-part g c).After-deref
 
 -- the tiles that are made once those of the band are
-module _ (g : Given.Over) (c : goal.After-make_raw g) where
-  format : Format
-  format = c.args.root.now.tiles.format
-
-  f : ℕ → ℕ → ℕ → ℕ
-  f = pixels_from_raw c.args.rect c.args.root.now.tiles.format c.args.self.now.bytes.items
-
-  s0 : ChainState
-  s0 = record { held = g.C.ChainMeaning.held c.args.chain.now; counts = g.C.ChainMeaning.counts c.args.chain.now; loans = g.C.ChainMeaning.loans c.args.chain.now; valid = g.C.ChainMeaning.is_valid c.args.chain.now }
-  s1 : ChainState
-  s1 = record { held = g.C.ChainMeaning.held c.loop-left.chain; counts = g.C.ChainMeaning.counts c.loop-left.chain; loans = g.C.ChainMeaning.loans c.loop-left.chain; valid = g.C.ChainMeaning.is_valid c.loop-left.chain }
-  s2 : ChainState
-  s2 = record { held = g.C.ChainMeaning.held c.make_raw.new.chain; counts = g.C.ChainMeaning.counts c.make_raw.new.chain; loans = g.C.ChainMeaning.loans c.make_raw.new.chain; valid = g.C.ChainMeaning.is_valid c.make_raw.new.chain }
-
+module _ (g : Given.Over) (c : After-make_raw g) where
   same : (u v k : ℕ) → Inside u v c.loop-left.left → k < channels c.args.root.now.tiles.format
       → pixels_from_raw c.loop-left.left c.args.root.now.tiles.format c.deref.result.now u v k
       ≡ pixels_from_raw c.args.rect c.args.root.now.tiles.format c.args.self.now.bytes.items u v k
@@ -89,7 +71,9 @@ module _ (g : Given.Over) (c : goal.After-make_raw g) where
       let root = c.args.root.now in
       let left = c.loop-left.left in
       let inv = c.loop-left.invariant in
-      let part = in-left g c.After-deref in
+      let part : Includes left c.rows_between-band.result =
+      band-inside left c.band_row-row.result c.end_row.result c.rows_between-band.result c.end_row.ensures.rectangle c.band_row-row.ensures
+      c.rows_between-band.ensures c.end_row.ensures.value in
       let held = g.C.ChainMeaning.held c.args.chain.now in
       makes-then root c.args.rect c.rows_between-band.result left
       (pixels_from_raw c.args.rect root.tiles.format c.args.self.now.bytes.items) (pixels_from_raw left root.tiles.format c.deref.result.now)
@@ -101,21 +85,21 @@ module _ (g : Given.Over) (c : goal.After-make_raw g) where
 
 pub returns-in_err-make_raw-clause-made : goal.returns-in_err-make_raw-clause-made
 returns-in_err-make_raw-clause-made g c =
-    let at = (goal.at.returns-in_err-make_raw-clause-made g c).After-make_raw in
+    let at = goal.at.returns-in_err-make_raw-clause-made g c in
     let root = c.args.root.now in
     let rect = c.args.rect in
     let inv = c.loop-left.invariant in
     makes-raise root rect (pixels_from_raw rect root.tiles.format c.args.self.now.bytes.items) (inv.added + tile_count c.rows_between-band.result) (tile_count rect) _ _
-    c.make_raw.new.made.entries (omega (arith, less g at.After-deref, inv.count)) (makes g at)
+    c.make_raw.new.made.entries (omega (arith, less g at.After-deref, inv.count)) (makes g at.After-make_raw)
 
 pub returns-in_err-make_raw-clause-few : goal.returns-in_err-make_raw-clause-few
 returns-in_err-make_raw-clause-few g c =
-    let at = (goal.at.returns-in_err-make_raw-clause-few g c).After-make_raw in
+    let at = goal.at.returns-in_err-make_raw-clause-few g c in
     omega (arith, less g at.After-deref, c.loop-left.invariant.few, c.make_raw.ensures.few)
 
 pub returns-in_err-make_raw-clause-cause : goal.returns-in_err-make_raw-clause-cause
 returns-in_err-make_raw-clause-cause g c =
-    let at = (goal.at.returns-in_err-make_raw-clause-cause g c).After-make_raw in
+    let at = goal.at.returns-in_err-make_raw-clause-cause g c in
     let inv = c.loop-left.invariant in
     let part = tile_count c.rows_between-band.result in
     let first = g.C.ChainMeaning.counts c.args.chain.now in
@@ -126,7 +110,7 @@ returns-in_err-make_raw-clause-cause g c =
     (c.in_err-make_raw.ensures.cause))
 
 -- what is left after the band
-module _ (g : Given.Over) (c : goal.After-rows_between-left g) where
+module _ (g : Given.Over) (c : After-rows_between-left g) where
   above-is : c.rows_between-left.result ≡ above_band c.loop-left.left c.band_row-row.result
   above-is = c.rows_between-left.ensures ∙ ap (λ (first : ℕ). rows_between c.loop-left.left first c.band_row-row.result) c.first_row.ensures.value
 
@@ -149,8 +133,7 @@ loop-left-smaller g c =
 
 pub loop-left-preserved : goal.loop-left-preserved
 loop-left-preserved g c =
-    let at = (goal.at.loop-left-preserved g c).After-rows_between-left in
-    let after = at.After-make_raw in
+    let at = goal.at.loop-left-preserved g c in
     let root = c.args.root.now in
     let rect = c.args.rect in
     let format = root.tiles.format in
@@ -160,7 +143,7 @@ loop-left-preserved g c =
     let begins = c.band_row-row.ensures in
     let inv = c.loop-left.invariant in
     let above = above_band left row in
-    let now : c.rows_between-left.result ≡ above = above-is g at in
+    let now : c.rows_between-left.result ≡ above = above-is g at.After-rows_between-left in
     let count : c.byte_len.result ≡ byte_count above format =
     c.byte_len.ensures ∙ ap (byte_count c.rows_between-left.result) c.format.ensures ∙ ap (λ (r : Rectangle). byte_count r format) now in
     let taken : c.give_back.new.bytes.items ≡ take c.byte_len.result c.loop-left.self.bytes.items = c.give_back.ensures in
@@ -174,14 +157,14 @@ loop-left-preserved g c =
     ap (λ (bs : List ℕ). pixels_from_raw above format bs u v k) taken
     ∙ above-samples left row is begins format c.loop-left.self.bytes.items c.byte_len.result u v k count there known
     ∙ inv.samples u v k (inside-above left row is begins u v there).0 known in
-    let fewer = less g after.After-deref in
+    let fewer = less g at.After-deref in
     let few : length c.make_raw.new.made.entries + tile_count above ≤ tile_count rect = omega (arith, fewer, inv.few, c.make_raw.ensures.few) in
     let sum : (inv.added + tile_count c.rows_between-band.result) + tile_count above ≤ tile_count rect = omega (arith, fewer, inv.count) in
     let all : (tile : Tile) → Meets tile rect → Contains (keys_of c.make_raw.new.made.entries) tile ⊎ Meets tile above =
     λ tile meets. elim (inv.all tile meets) [
       | inl before ↦ inl (c.make_raw.ensures.made.kept tile before)
-      | inr there ↦ elim (band-or-above left row is begins tile there) [
-        | inl here ↦ inl (c.in_ok-make_raw.ensures.all tile (subst (λ (r : Rectangle). Meets tile r) (sym (band-is g after.After-deref)) here))
+      | inr there ↦ elim (band-met left row c.end_row.result c.rows_between-band.result is begins c.rows_between-band.ensures c.end_row.ensures.value tile there) [
+        | inl here ↦ inl (c.in_ok-make_raw.ensures.all tile here)
         | inr later ↦ inr later
       ]
     ] in
@@ -193,7 +176,7 @@ loop-left-preserved g c =
       samples = subst (λ (r : Rectangle). (u v k : ℕ) → Inside u v r → k < channels format
           → pixels_from_raw r format c.give_back.new.bytes.items u v k ≡ pixels_from_raw rect format c.args.self.now.bytes.items u v k) (sym now) samples;
       added = inv.added + tile_count c.rows_between-band.result;
-      makes = makes g after;
+      makes = makes g at.After-make_raw;
       count = subst (λ (r : Rectangle). (inv.added + tile_count c.rows_between-band.result) + tile_count r ≤ tile_count rect) (sym now) sum;
       few = subst (λ (r : Rectangle). length c.make_raw.new.made.entries + tile_count r ≤ tile_count rect) (sym now) few;
       all = subst (λ (r : Rectangle). (tile : Tile) → Meets tile rect → Contains (keys_of c.make_raw.new.made.entries) tile ⊎ Meets tile r) (sym now) all;
@@ -202,5 +185,5 @@ loop-left-preserved g c =
 pub returns-clause-all : goal.returns-clause-all
 returns-clause-all g c = λ tile meets. elim (c.loop-left.invariant.all tile meets) [
   | inl there ↦ there
-  | inr left ↦ absurd (c.loop-left-test.ensures.positions.0 (c.loop-left-test.false) left.0 left.1 left.2)
+  | inr left ↦ absurd (c.loop-left-test.ensures.positions.0 refl left.0 left.1 left.2)
 ]
