@@ -36,13 +36,20 @@ use op_contracts::OpKit;
 use patch_abyss::Patch;
 use plane_rect::{Name, Rect};
 use render_workers::laws::requests_need_what_renders_need;
+use std::mem;
 use std::thread::Threads;
 use worker_pieces::Workers;
 
+/// How many bytes of memory may lie idle between two renders, as room for the patch of the next one: those of
+/// 4,096 by 4,096 pixels of four bytes each, and a page more, since who reads such a raster asks for room beyond
+/// its end.
+const IDLE_BYTES: usize = (64 << 20) + 4096;
+
 impl<Op: OpMeaning + Drop> SessionState<Op> {
     /// Returns a rectangle of a level of the image of a node of the last state. Each tile that it needs is looked
-    /// up in the cache, or else evaluated, kept there, and paid for by one permit. Takes time in proportion to
-    /// the needed tiles and to the rectangle at level 0.
+    /// up in the cache, or else evaluated, kept there, and paid for by one permit. The patch takes the memory that
+    /// the session was given for it, where that has room. Takes time in proportion to the needed tiles and to the
+    /// rectangle at level 0.
     ///
     /// # Errors
     ///
@@ -107,6 +114,7 @@ impl<Op: OpMeaning + Drop> SessionState<Op> {
         requests_need_what_renders_need::<Op>();
         let capacity = PairStore::<C>::bound(&self.cache).unwrap();
         let mut sources = BufferTiles::new(self.versions.latest());
+        let memory = mem::replace(&mut self.memory, Vec::new(self.alloc));
         let done = render_workers::render(
             kit,
             self.alloc,
@@ -119,10 +127,22 @@ impl<Op: OpMeaning + Drop> SessionState<Op> {
             level,
             rect,
             capacity,
+            memory,
             workers,
         )?;
         self.counts.applied = self.counts.applied.saturating_add(done.applied);
         self.counts.reused = self.counts.reused.saturating_add(done.reused);
         Ok(done.patch)
+    }
+    /// Gives the session memory that the patch of its next render may take, whatever that memory has. Keeps the
+    /// one of this and what is kept that has room for more, and drops the other; never keeps more than 64 MiB and
+    /// a page. Takes no memory.
+    pub fn reuse(&mut self, memory: Vec<u8>)
+        ensures { self.new ≡ self.old }
+    {
+        let room = memory.capacity();
+        if self.memory.capacity() < room && room <= IDLE_BYTES {
+            self.memory = memory;
+        }
     }
 }

@@ -36,8 +36,9 @@ use worker_pieces::Workers;
 
 impl<K: OpKit + Sync, C: TileChain> OwnedSession<K, C> {
     /// Returns a rectangle of a level of the image of a node of the last state. Each tile that it needs is looked
-    /// up in the cache, or else evaluated, kept there, and paid for by one permit. Takes time in proportion to
-    /// the needed tiles and to the rectangle at level 0.
+    /// up in the cache, or else evaluated, kept there, and paid for by one permit. The patch takes the memory that
+    /// the session was given for it, where that has room. Takes time in proportion to the needed tiles and to the
+    /// rectangle at level 0.
     ///
     /// # Errors
     ///
@@ -106,5 +107,11 @@ impl<K: OpKit + Sync, C: TileChain> OwnedSession<K, C> {
             rect,
             workers,
         )
+    }
+    /// Gives the session memory that the patch of its next render may take, as [`SessionState::reuse`](crate::SessionState::reuse).
+    pub fn reuse(&mut self, memory: Vec<u8>)
+        ensures { self.new ≡ self.old }
+    {
+        self.state.reuse(memory);
     }
 }

@@ -38,6 +38,8 @@ pub struct SessionState<Op: OpMeaning> {
     pub(crate) cache: NodeCache,
     pub(crate) counts: Counts,
     pub(crate) alloc: Global,
+    /// What the next render's patch may take, whatever it has.
+    pub(crate) memory: Vec<u8>,
 }
 
 impl<Op: OpMeaning> Model for SessionState<Op> {
@@ -85,6 +87,7 @@ impl<Op: OpMeaning + Drop> SessionState<Op> {
                 reused: 0,
             },
             alloc,
+            memory: Vec::new(alloc),
         })
     }
 

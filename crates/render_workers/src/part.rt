@@ -3,7 +3,6 @@
 ghost use Rattle.std.specs.Prelude.{◌≡◌, ℕ, ◌+◌, ◌<◌, ◌≤◌, ◌++◌, IfErr, IfOk, OnOk, Some, length, slice_get};
 ghost use Rattle.plane_rect.specs.Rectangle.{InLimits};
 ghost use Rattle.chain_owners.specs.Owners.{Owns};
-ghost use Rattle.model_images.specs.Paint.{cut};
 ghost use Rattle.model_graphs.specs.Evaluation.{Buffers};
 ghost use Rattle.model_graphs.specs.Facts.{shapes_of_facts};
 ghost use Rattle.model_states.specs.Need.{strip_of, strip_rectangles};
@@ -20,24 +19,14 @@ use chain_owners::ChainMeaning;
 use model_graphs::NodeFact;
 use node_cache::PairStore;
 use op_contracts::{OpKit, SourceTiles};
-use patch_abyss::Patch;
 use plane_rect::Rect;
 use roi_planner::{NodeInputs, strip_of};
 use std::alloc::Global;
 use std::thread::Threads;
-use strip_patches::{LevelPatch, strip_patch};
+use strip_patches::LevelPatch;
 use strip_renders::{StripDone, render_strip};
 use swap_store::SwapRefused;
 use worker_pieces::Workers;
-
-/// The part of a node's image over a strip, how many of the tiles that it needs were evaluated and how
-/// many the cache had.
-#[derive(Drop)]
-struct Part {
-    patch: Patch,
-    applied: u64,
-    reused: u64,
-}
 
 /// How many of the needed tiles were evaluated and how many the cache had.
 #[derive(Clone, Copy, Debug, PartialEq, Eq)]
@@ -109,75 +98,6 @@ where
     Ok(done)
 }
 
-/// Renders the part of the image of the node at a position over a rectangle: a request cut to one row of
-/// tiles.
-///
-/// # Errors
-///
-/// As [`render_strip`].
-fn rendered_part<
-    H: ChainMeaning,
-    S: SourceTiles<H>,
-    C: PairStore<H>,
-    K: OpKit + Sync,
-    R: Threads + Sync,
->(
-    kit: &K,
-    alloc: Global,
-    nodes: &[NodeFact<K::Op>],
-    inputs: &[NodeInputs],
-    sources: &mut S,
-    cache: &mut C,
-    chain: &mut H,
-    purse: &mut K::Purse,
-    node: u32,
-    rect: Rect,
-    workers: Workers<'_, R>,
-) -> Result<Part, SwapRefused>
-where
-    K::Op: Sync,
-    K::Permit: Send,
-    requires stated { AreStated K.Op.meanings (shapes_of_facts (S.facts sources.old)) nodes.now }
-    requires node { node < length nodes.now }
-    requires inputs { inputs.now ≡ all_inputs nodes.now }
-    requires strip { IsStripOf K.Op.meanings nodes.now (strip_of K.Op.meanings nodes.now node rect) }
-    requires limits { InLimits rect }
-    requires sources_over { S.is_over sources.old (H.held chain.old) }
-    requires cache_over { C.is_over cache.old (H.held chain.old) }
-    requires owned { Owns (H.held chain.old) (S.names sources.old ++ C.names cache.old) }
-    requires sized { AreSizedPairs nodes.now (C.sizes cache.old (H.held chain.old)) }
-    requires permits { length (strip_of K.Op.meanings nodes.now node rect).need ≤ K.permits purse.old }
-    ensures looks { IfOk result (λ part. LooksUp K.Op.meanings nodes.now (pairs_needed nodes.now (strip_of K.Op.meanings nodes.now node rect).need) part.applied part.reused
-        (moment (S.facts sources.old) (S.images sources.old (H.held chain.old)) (S.names sources.old) (C.pairs cache.old) (C.sizes cache.old (H.held chain.old)) (C.cached cache.old (H.held chain.old)) (C.capacity cache.old) (C.names cache.old) (H.held chain.old) (H.counts chain.old) (H.loans chain.old))
-        (moment (S.facts sources.new) (S.images sources.new (H.held chain.new)) (S.names sources.new) (C.pairs cache.new) (C.sizes cache.new (H.held chain.new)) (C.cached cache.new (H.held chain.new)) (C.capacity cache.new) (C.names cache.new) (H.held chain.new) (H.counts chain.new) (H.loans chain.new))
-        (K.permits purse.old) (K.permits purse.new)) }
-    ensures rect { IfOk result (λ part. part.patch.box ≡ rect) }
-    ensures format { IfOk result (λ part. part.patch.format ≡ (shape_at nodes.now node).format) }
-    ensures image { (images : Buffers) → S.images sources.old (H.held chain.old) ≡ Some images →
-        AreKnownRight K.Op.meanings nodes.now images (C.cached cache.old (H.held chain.old)) →
-        IfOk result (λ part. part.patch ≡ cut (image_at K.Op.meanings nodes.now images node) rect) }
-    ensures leaves { Leaves K.Op.meanings nodes.now (pairs_needed nodes.now (strip_of K.Op.meanings nodes.now node rect).need)
-        (moment (S.facts sources.old) (S.images sources.old (H.held chain.old)) (S.names sources.old) (C.pairs cache.old) (C.sizes cache.old (H.held chain.old)) (C.cached cache.old (H.held chain.old)) (C.capacity cache.old) (C.names cache.old) (H.held chain.old) (H.counts chain.old) (H.loans chain.old))
-        (moment (S.facts sources.new) (S.images sources.new (H.held chain.new)) (S.names sources.new) (C.pairs cache.new) (C.sizes cache.new (H.held chain.new)) (C.cached cache.new (H.held chain.new)) (C.capacity cache.new) (C.names cache.new) (H.held chain.new) (H.counts chain.new) (H.loans chain.new))
-        (K.permits purse.old) (K.permits purse.new) }
-    ensures sources_over { S.is_over sources.new (H.held chain.new) }
-    ensures cache_over { C.is_over cache.new (H.held chain.new) }
-    ensures valid { H.is_valid chain.old → H.is_valid chain.new }
-    ensures excused { IfErr result (IsExcused (pairs_needed nodes.now (strip_of K.Op.meanings nodes.now node rect).need)
-        (moment (S.facts sources.old) (S.images sources.old (H.held chain.old)) (S.names sources.old) (C.pairs cache.old) (C.sizes cache.old (H.held chain.old)) (C.cached cache.old (H.held chain.old)) (C.capacity cache.old) (C.names cache.old) (H.held chain.old) (H.counts chain.old) (H.loans chain.old))
-        (moment (S.facts sources.new) (S.images sources.new (H.held chain.new)) (S.names sources.new) (C.pairs cache.new) (C.sizes cache.new (H.held chain.new)) (C.cached cache.new (H.held chain.new)) (C.capacity cache.new) (C.names cache.new) (H.held chain.new) (H.counts chain.new) (H.loans chain.new))) }
-{
-    let done = held_strip(
-        kit, alloc, nodes, inputs, sources, cache, chain, purse, node, rect, workers,
-    )?;
-    let patch = strip_patch(alloc, nodes, &done.tiles, sources, chain, node, rect)?;
-    Ok(Part {
-        patch,
-        applied: done.applied,
-        reused: done.reused,
-    })
-}
-
 /// Renders a strip of a request for the node at a position, and adds it to the patch of the request.
 /// Returns how many of its tiles were evaluated and how many the cache had.
 ///
@@ -239,12 +159,12 @@ where
         (moment (S.facts sources.old) (S.images sources.old (H.held chain.old)) (S.names sources.old) (C.pairs cache.old) (C.sizes cache.old (H.held chain.old)) (C.cached cache.old (H.held chain.old)) (C.capacity cache.old) (C.names cache.old) (H.held chain.old) (H.counts chain.old) (H.loans chain.old))
         (moment (S.facts sources.new) (S.images sources.new (H.held chain.new)) (S.names sources.new) (C.pairs cache.new) (C.sizes cache.new (H.held chain.new)) (C.cached cache.new (H.held chain.new)) (C.capacity cache.new) (C.names cache.new) (H.held chain.new) (H.counts chain.new) (H.loans chain.new))) }
 {
-    let part = rendered_part(
+    let done = held_strip(
         kit, alloc, nodes, inputs, sources, cache, chain, purse, node, rect, workers,
     )?;
-    level_patch.add(alloc, part.patch)?;
+    level_patch.add_strip(alloc, nodes, &done.tiles, sources, chain, node, rect)?;
     Ok(LookCounts {
-        applied: part.applied,
-        reused: part.reused,
+        applied: done.applied,
+        reused: done.reused,
     })
 }

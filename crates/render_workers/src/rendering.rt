@@ -61,7 +61,8 @@ fn format_of<Op>(nodes: &[NodeFact<Op>], node: u32) -> Format
     fact.format
 }
 
-/// Renders a request that can be: one for a rectangle of a level of the node at a position.
+/// Renders a request that can be: one for a rectangle of a level of the node at a position. The patch may take
+/// the memory.
 ///
 /// # Errors
 ///
@@ -83,6 +84,7 @@ fn render_planned<
     node: u32,
     level: u32,
     rect: Rect,
+    memory: Vec<u8>,
     workers: Workers<'_, R>,
 ) -> Result<Rendered, SwapRefused>
 where
@@ -119,7 +121,7 @@ where
 {
     let source = rect.scaled(level).unwrap();
     let format = format_of(nodes, node);
-    let mut level_patch = LevelPatch::new(alloc, rect, level, format)?;
+    let mut level_patch = LevelPatch::new(alloc, memory, rect, level, format)?;
     let counts = render_strips(
         kit,
         alloc,
@@ -147,7 +149,8 @@ where
 /// the cached pairs are right, the patch is that rectangle of the level of the node's image, whatever the
 /// cache had; the cached pairs and both counts are those of the list after these pairs are looked up, also
 /// where no bytes are known. No strip may need more tiles than the capacity, which is tested before
-/// anything is looked up. Takes time in proportion to the needed tiles, to the rectangle at level 0, and to
+/// anything is looked up. The patch takes `memory`, whatever it has, where that has room for its bytes, and
+/// else new memory. Takes time in proportion to the needed tiles, to the rectangle at level 0, and to
 /// the inputs times the nodes for each strip.
 ///
 /// # Errors
@@ -177,6 +180,7 @@ pub fn render<
     level: u32,
     rect: Rect,
     capacity: u32,
+    memory: Vec<u8>,
     workers: Workers<'_, R>,
 ) -> Result<Rendered, RenderRefused>
 where
@@ -232,7 +236,7 @@ where
 {
     let position = planned_position(kit, alloc, nodes, node, level, rect, capacity)?;
     let done = render_planned(
-        kit, alloc, nodes, sources, cache, chain, purse, position, level, rect, workers,
+        kit, alloc, nodes, sources, cache, chain, purse, position, level, rect, memory, workers,
     )?;
     Ok(done)
 }

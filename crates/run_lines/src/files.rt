@@ -124,6 +124,7 @@ pub(crate) fn grab<C: TileChain, F: Shelf, O: Sink>(
     };
     let patch = session.grab(chain, *name, *level, *abyss, *rect)?;
     write_grab(alloc, line.number, patch.raw_bytes(), file, shelf, out)?;
+    session.reuse(patch.into_raw());
     Ok(())
 }
 

@@ -80,6 +80,7 @@ pub(crate) fn render<C: TileChain, F: Shelf, O: Sink, R: Threads + Sync>(
         shelf,
         out,
     )?;
+    session.reuse(patch.into_raw());
     Ok(())
 }
 

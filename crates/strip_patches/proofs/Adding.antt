@@ -24,6 +24,7 @@ use Rattle.model_images.proofs.Positions.{by_positions, not_inside}
 use Rattle.model_images.proofs.Samples.{inside_where}
 use Rattle.model_states.specs.Need.{strip_rectangles, tile_line}
 use Rattle.strip_patches.specs.LevelStrips.{AreOfOne, HasStrips, IsRequest, LevelStrips, halves, source_of, strip_level}
+use Rattle.strip_patches.specs.Nodes.{HasPart}
 use Rattle.strip_patches.proofs.Halves.{box-more, box-positions, halves-more, level-more, same-line, source-positions}
 use Rattle.strip_patches.proofs.Scaled.{scaled-back, scaled-positions}
 
@@ -261,6 +262,47 @@ strip-added image part k r old new is one_request has found is_part is_new =
     (is_part ∙ ap (λ (x : Rectangle). level (cut image x) b) (sym strip)) is_new u v c there known
     (λ before. has.samples u v c there before known) below)
 
+-- At level 0 the strips are in the patch as they are.
+pub strip-put : (image : Image) (k : ℕ) (r rect : Rectangle) (z : ℕ) (patch new : Image) → z ≡ 0
+    → IsRequest (record { rect = rect; at_level = z; patch = patch }) → new.box ≡ patch.box → new.format ≡ patch.format
+    → HasStrips image k (record { rect = rect; at_level = z; patch = patch })
+    → slice_get (strip_rectangles (source_of (record { rect = rect; at_level = z; patch = patch }))) k ≡ Some r
+    → ((u v : ℕ) → Inside u v r → Inside u v image.box) → HasPart image r patch new
+    → HasStrips image (k + 1) (record { rect = rect; at_level = z; patch = new })
+unfolding halves level
+strip-put image k r rect (suc z) patch new e = absurd (omega (arith, e))
+strip-put image k r rect zero patch new e is box format has found within part = record {
+  rectangle = has.rectangle;
+  format = format ∙ has.format;
+  samples = λ u v c there below known. elim (part.samples u v c (here u v there) (known-here c known)) [
+    | inl same ↦ same
+    | inr kept ↦ kept.0 ∙ before u v c there below known kept.1
+  ];
+}
+  where
+    abbrev strips : LevelStrips
+    strips = record { rect = rect; at_level = 0; patch = patch }
+
+    abbrev s : Rectangle
+    s = source_of strips
+
+    here : (u v : ℕ) → Inside u v s → Inside u v new.box
+    here u v there = subst (λ (x : Rectangle). Inside u v x) (sym (box ∙ is.box)) there
+
+    known-here : (c : ℕ) → c < channels image.format → c < channels new.format
+    known-here c known = subst (λ (f : Format). c < channels f) (sym (format ∙ has.format)) known
+
+    -- a row of this strip has only positions that the tiles have
+    before : (u v c : ℕ) → Inside u v s → tile_of v < tile_of s.first_row + (k + 1) → c < channels image.format
+        → (¬ Inside u v (meet r image.box)) → at patch u v c ≡ at image u v c
+    before u v c there below known out = elim (cases_lt (tile_of v) (tile_of s.first_row + k)) [
+      | inl old ↦ has.samples u v c there old known
+      | inr past ↦
+          let inside = subst (λ (x : Rectangle). Inside u v x) (strip-is s k r found)
+          (strip-positions s (tile_of s.first_row + k) u v is.source_rectangle there (omega (arith, past, below))) in
+          absurd (out ((Inside-meet u v r image.box).1 (inside, within u v inside)))
+    ]
+
 pub request-finished : (image patch : Image) (strips : LevelStrips) (rest : ℕ) → IsRequest strips
     → HasStrips image (length (strip_rectangles (source_of strips))) strips → rest + strip_level strips.at_level ≡ strips.at_level
     → patch ≡ level strips.patch rest → patch ≡ cut (level image strips.at_level) strips.rect
@@ -316,17 +358,29 @@ request-still rect z patch new part is is_new = record {
   whole = subst IsImage (sym is_new) (IsImage-image_from_fn patch.box patch.format (λ u v c. cond (is_inside u v part.box) (at part u v c) (at patch u v c)));
 }
 
-pub request-first : (rect source : Rectangle) (z : ℕ) (patch : Image) (format : Format) → z ≤ 8 → scaled z rect ≡ Some source → IsRectangle rect → IsRectangle source
-    → patch ≡ blank (level_box source (strip_level z)) format → IsRequest (record { rect = rect; at_level = z; patch = patch })
-request-first rect source z patch format small is is_rect is_source blank_is =
+-- a request whose patch is whole
+pub request-whole : (rect : Rectangle) (z : ℕ) (patch new : Image) → IsRequest (record { rect = rect; at_level = z; patch = patch })
+    → new.box ≡ patch.box → IsImage new → IsRequest (record { rect = rect; at_level = z; patch = new })
+request-whole rect z patch new is box whole = record {
+  small = is.small;
+  source = is.source;
+  rectangle = is.rectangle;
+  source_rectangle = is.source_rectangle;
+  box = box ∙ is.box;
+  whole = whole;
+}
+
+pub request-first : (rect source : Rectangle) (z : ℕ) (patch : Image) → z ≤ 8 → scaled z rect ≡ Some source → IsRectangle rect → IsRectangle source
+    → patch.box ≡ level_box source (strip_level z) → IsImage patch → IsRequest (record { rect = rect; at_level = z; patch = patch })
+request-first rect source z patch small is is_rect is_source box whole =
     let its : unwrap_or (scaled z rect) empty ≡ source = ap (λ (o : Option Rectangle). unwrap_or o empty) is in
     record {
       small = small;
       source = subst (λ (o : Option Rectangle). IsSome o) (sym is) refl;
       rectangle = is_rect;
       source_rectangle = subst IsRectangle (sym its) is_source;
-      box = ap (λ (x : Image). x.box) blank_is ∙ sym (ap (λ (r : Rectangle). level_box r (strip_level z)) its);
-      whole = subst IsImage (sym blank_is) (IsImage-image_from_fn (level_box source (strip_level z)) format (λ u v c. 0));
+      box = box ∙ sym (ap (λ (r : Rectangle). level_box r (strip_level z)) its);
+      whole = whole;
     }
 
 -- ---- one halving more

@@ -1,8 +1,9 @@
 -- Parts of the images of nodes, by the positions of the nodes.
-use Rattle.std.specs.Prelude.{ℕ, [], ◌⊎◌, IsSome, List, slice_index_or}
-use Rattle.plane_rect.specs.Rectangle.{Rectangle, meet}
+use Rattle.std.specs.Prelude.{◌≡◌, ℕ, [], ◌<◌, ◌⊎◌, IsSome, List, slice_index_or}
+use Rattle.plane_rect.specs.Rectangle.{Inside, Rectangle, meet}
 use Rattle.plane_rect.specs.Tile.{Meets, Tile}
-use Rattle.model_images.specs.Image.{Image}
+use Rattle.pixel_formats.specs.Format.{channels}
+use Rattle.model_images.specs.Image.{Image, at}
 use Rattle.model_graphs.specs.declared.node.NodeFact.{NodeFact}
 use Rattle.model_graphs.specs.Evaluation.{Buffers}
 use Rattle.model_graphs.specs.Facts.{specs_of}
@@ -25,3 +26,9 @@ image_at meanings facts images node = image_of meanings (scene_of facts images) 
 pub record HoldsPart {Op : Type 0} (facts : List (NodeFact Op)) (held : HeldTiles) (node : ℕ) (rect : Rectangle) : Type 0 where
   pub each : (tile : Tile) → Meets tile (meet rect (shape_at facts node).box) →
       IsSourceAt (steps_of (specs_of facts)) node ⊎ IsSome (held_bytes held node tile)
+
+-- Each sample is the image's, or the one that was there before; and it is the image's where the rectangle has a position
+-- of the image's box.
+pub record HasPart (image : Image) (rect : Rectangle) (old new : Image) : Type 0 where
+  pub samples : (u v c : ℕ) → Inside u v new.box → c < channels new.format →
+      (at new u v c ≡ at image u v c) ⊎ ((at new u v c ≡ at old u v c) × (¬ Inside u v (meet rect image.box)))

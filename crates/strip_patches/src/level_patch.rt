@@ -1,19 +1,33 @@
 //! The patch of a request of a level, made of strips of level 0.
 
-ghost use Rattle.std.specs.Prelude.{◌≡◌, ℕ, ◌+◌, ◌≤◌, IfOk, IsSome, OnErr, OnOk, Some, length, min, slice_get};
+ghost use Rattle.std.specs.Prelude.{◌≡◌, ℕ, ◌+◌, ◌<◌, ◌≤◌, IfErr, IfOk, IsSome, OnErr, OnOk, Some, length, min, slice_get};
 ghost use Rattle.plane_rect.specs.Rectangle.{InLimits, IsRectangle, Rectangle, scaled};
+ghost use Rattle.model_graphs.specs.Evaluation.{Buffers};
+ghost use Rattle.model_graphs.specs.Facts.{shapes_of_facts};
 ghost use Rattle.model_images.specs.Image.{Image, at};
 ghost use Rattle.model_images.specs.Level.{level as image_level, level_box};
 ghost use Rattle.model_images.specs.Paint.{cut, painted};
 ghost use Rattle.model_states.specs.Need.{strip_rectangles};
+ghost use Rattle.model_states.specs.Valid.{AreStated};
+ghost use Rattle.swap_store.specs.Cause.{HasSwapCause};
+ghost use Rattle.node_tiles.specs.Reads.{Reads, seen};
+ghost use Rattle.node_tiles.specs.Stated.{AreTilesOf, HaveLengths, shape_at};
 ghost use Rattle.strip_patches.specs.LevelStrips.{AreOfOne, HasStrips, LevelStrips, source_of};
+ghost use Rattle.strip_patches.specs.Nodes.{HoldsPart, image_at};
 
+use crate::patching::{put_tiles, strip_patch};
+use crate::used_memory::patch_in;
+use chain_owners::ChainMeaning;
+use model_graphs::NodeFact;
 use no_memory::NoMemory;
+use node_tiles::StripTiles;
+use op_contracts::{OpMeaning, SourceTiles};
 use patch_abyss::{Patch, halve};
 use pixel_formats::Format;
 use plane_rect::Rect;
 use std::alloc::Global;
 use std::marker::Model;
+use swap_store::SwapRefused;
 
 /// How many times a strip is halved by itself. Strips are cut at multiples of 64 rows, so up to here no
 /// row of a level is averaged of rows of two strips.
@@ -40,13 +54,15 @@ impl Model for LevelPatch {
 }
 
 impl LevelPatch {
-    /// Returns the patch to which no strip was added.
+    /// Returns the patch to which no strip was added. It takes memory that was used before where that has
+    /// room for its bytes, and writes none of them; else it takes new memory.
     ///
     /// # Errors
     ///
     /// `NoMemory` if memory runs out.
     pub fn new(
         alloc: Global,
+        memory: Vec<u8>,
         rect: Rect,
         level: u32,
         format: Format,
@@ -63,7 +79,7 @@ impl LevelPatch {
         // Both are rectangles of the plane, as these calls say.
         let _areas = (rect.area(), source.area());
         let over = halved_rect(source, level.min(STRIP_LEVELS));
-        let patch = Patch::zero(alloc, over, format)?;
+        let patch = patch_in(alloc, memory, over, format)?;
         Ok(LevelPatch { rect, level, patch })
     }
 
@@ -82,6 +98,52 @@ impl LevelPatch {
     {
         let part = halved_patch(alloc, strip, self.level.min(STRIP_LEVELS))?;
         lay(&mut self.patch, part);
+        Ok(())
+    }
+
+    /// Adds the strip over a rectangle of the image of the node at a position, as [`strip_patch`] makes it and
+    /// [`add`](LevelPatch::add) adds it. At level 0, where the rectangle is in the node's box, the tiles are put
+    /// into the patch as they are, and no strip is made.
+    ///
+    /// # Errors
+    ///
+    /// As [`strip_patch`]. Nothing is known of the samples then.
+    pub fn add_strip<H: ChainMeaning, S: SourceTiles<H>, Op: OpMeaning>(
+        &mut self,
+        alloc: Global,
+        nodes: &[NodeFact<Op>],
+        held: &StripTiles,
+        sources: &mut S,
+        chain: &mut H,
+        node: u32,
+        rect: Rect,
+    ) -> Result<(), SwapRefused>
+        requires stated { AreStated Op.meanings (shapes_of_facts (S.facts sources.old)) nodes.now }
+        requires node { node < length nodes.now }
+        requires there { HoldsPart nodes.now held.now node rect }
+        requires lengths { HaveLengths nodes.now held.now }
+        requires limits { InLimits rect }
+        requires over { S.is_over sources.old (H.held chain.old) }
+        requires format { self.old.patch.format ≡ (shape_at nodes.now node).format }
+        ensures request { AreOfOne self.old self.new }
+        ensures added { (images : Buffers) → S.images sources.old (H.held chain.old) ≡ Some images →
+            AreTilesOf Op.meanings nodes.now images held.now →
+            (k : ℕ) → HasStrips (image_at Op.meanings nodes.now images node) k self.old →
+            slice_get (strip_rectangles (source_of self.old)) k ≡ Some rect →
+            OnOk result (HasStrips (image_at Op.meanings nodes.now images node) (k + 1) self.new) }
+        ensures over { S.is_over sources.new (H.held chain.new) }
+        ensures reads { Reads
+            (seen (S.facts sources.old) (S.images sources.old (H.held chain.old)) (S.names sources.old) (H.held chain.old) (H.counts chain.old) (H.loans chain.old))
+            (seen (S.facts sources.new) (S.images sources.new (H.held chain.new)) (S.names sources.new) (H.held chain.new) (H.counts chain.new) (H.loans chain.new)) }
+        ensures cause { IfErr result (HasSwapCause (H.counts chain.old) (H.counts chain.new) (H.counts chain.old).names) }
+        ensures valid { H.is_valid chain.old → H.is_valid chain.new }
+    {
+        if self.level == 0 && nodes[node as usize].bounds.contains(&rect) {
+            let patch = &mut self.patch;
+            return put_tiles(alloc, nodes, held, sources, chain, node, rect, patch);
+        }
+        let strip = strip_patch(alloc, nodes, held, sources, chain, node, rect)?;
+        self.add(alloc, strip)?;
         Ok(())
     }
 

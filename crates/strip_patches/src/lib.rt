@@ -4,6 +4,7 @@
 pub mod laws;
 mod level_patch;
 mod patching;
+mod used_memory;
 
 pub use level_patch::LevelPatch;
 pub use patching::strip_patch;

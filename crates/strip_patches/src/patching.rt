@@ -1,16 +1,17 @@
-//! The patch of a strip, from the tiles that it holds and those of sources.
+//! Tiles that are held, and those of sources, put into patches.
 
-ghost use Rattle.std.specs.Prelude.{◌≡◌, ℕ, ◌<◌, IfErr, IfOk, Some, length};
+ghost use Rattle.std.specs.Prelude.{◌≡◌, ℕ, ◌<◌, IfErr, IfOk, OnOk, Some, length};
 ghost use Rattle.chain_owners.specs.Counts.{Grows};
 ghost use Rattle.model_graphs.specs.Evaluation.{Buffers};
 ghost use Rattle.model_graphs.specs.Facts.{shapes_of_facts};
+ghost use Rattle.model_images.specs.Image.{IsImage};
 ghost use Rattle.model_images.specs.Paint.{cut};
 ghost use Rattle.model_states.specs.Valid.{AreStated};
 ghost use Rattle.plane_rect.specs.Rectangle.{InLimits};
 ghost use Rattle.swap_store.specs.Cause.{HasSwapCause};
 ghost use Rattle.node_tiles.specs.Reads.{Reads, seen};
 ghost use Rattle.node_tiles.specs.Stated.{AreTilesOf, HaveLengths, shape_at};
-ghost use Rattle.strip_patches.specs.Nodes.{HoldsPart, image_at};
+ghost use Rattle.strip_patches.specs.Nodes.{HasPart, HoldsPart, image_at};
 
 use chain_owners::ChainMeaning;
 use model_graphs::NodeFact;
@@ -56,11 +57,54 @@ pub fn strip_patch<H: ChainMeaning, S: SourceTiles<H>, Op: OpMeaning>(
     ensures cause { IfErr result (HasSwapCause (H.counts chain.old) (H.counts chain.new) (H.counts chain.old).names) }
     ensures valid { H.is_valid chain.old → H.is_valid chain.new }
 {
+    let mut patch = Patch::zero(alloc, rect, nodes[node as usize].format)?;
+    put_tiles(
+        alloc, nodes, held, sources, chain, node, rect, &mut patch,
+    )?;
+    Ok(patch)
+}
+
+/// Puts each tile of the node at a position that meets a rectangle within the node's box into a patch, as
+/// much of it as the patch has positions. So the patch has the image's samples at the rectangle's positions
+/// in the box; its other samples are these or those that it had. Takes time in proportion to the tiles' pixels.
+///
+/// # Errors
+///
+/// As [`strip_patch`]. Some of the tiles may be in the patch then.
+pub(crate) fn put_tiles<H: ChainMeaning, S: SourceTiles<H>, Op: OpMeaning>(
+    alloc: Global,
+    nodes: &[NodeFact<Op>],
+    held: &StripTiles,
+    sources: &mut S,
+    chain: &mut H,
+    node: u32,
+    rect: Rect,
+    patch: &mut Patch,
+) -> Result<(), SwapRefused>
+    requires stated { AreStated Op.meanings (shapes_of_facts (S.facts sources.old)) nodes.now }
+    requires node { node < length nodes.now }
+    requires there { HoldsPart nodes.now held.now node rect }
+    requires lengths { HaveLengths nodes.now held.now }
+    requires over { S.is_over sources.old (H.held chain.old) }
+    requires format { patch.old.format ≡ (shape_at nodes.now node).format }
+    requires whole { IsImage patch.old }
+    ensures rect { patch.new.box ≡ patch.old.box }
+    ensures format { patch.new.format ≡ patch.old.format }
+    ensures whole { IsImage patch.new }
+    ensures image { (images : Buffers) → S.images sources.old (H.held chain.old) ≡ Some images →
+        AreTilesOf Op.meanings nodes.now images held.now →
+        OnOk result (HasPart (image_at Op.meanings nodes.now images node) rect patch.old patch.new) }
+    ensures over { S.is_over sources.new (H.held chain.new) }
+    ensures reads { Reads
+        (seen (S.facts sources.old) (S.images sources.old (H.held chain.old)) (S.names sources.old) (H.held chain.old) (H.counts chain.old) (H.loans chain.old))
+        (seen (S.facts sources.new) (S.images sources.new (H.held chain.new)) (S.names sources.new) (H.held chain.new) (H.counts chain.new) (H.loans chain.new)) }
+    ensures cause { IfErr result (HasSwapCause (H.counts chain.old) (H.counts chain.new) (H.counts chain.old).names) }
+    ensures valid { H.is_valid chain.old → H.is_valid chain.new }
+{
     let fact = &nodes[node as usize];
-    let mut patch = Patch::zero(alloc, rect, fact.format)?;
     for at in rect.meet(&fact.bounds).tiles() {
         let tile = input_tile(alloc, &fact.spec.body, held, sources, chain, node, at)?;
         patch.put_tile(at, &tile);
     }
-    Ok(patch)
+    Ok(())
 }

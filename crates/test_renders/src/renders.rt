@@ -70,6 +70,7 @@ where
         level,
         rect,
         request.capacity,
+        Vec::new(alloc),
         workers,
     )?;
     Ok(shown)

@@ -1,11 +1,11 @@
 //! Jobs of edits, commits and renders. The results are worked out by hand.
 
-ghost use Rattle.std.specs.Prelude.{◌≡◌};
+ghost use Rattle.std.specs.Prelude.{◌≡◌, ◌≤◌};
 ghost use Rattle.model_operations.specs.Meanings.{int_meanings, same_operation};
 ghost use Rattle.commit_session.specs.Seen.{IsOver};
 
 use crate::calls::{
-    commit, create, grabbed, load, make, name, node, paint, redo, render, shown, source, undo,
+    Fields, commit, create, grabbed, load, make, name, node, paint, redo, render, shown, source, undo,
 };
 use chain_contracts::TileChain;
 use commit_session::{OwnedSession, SessionRefused};
@@ -162,4 +162,51 @@ pub fn cache_one_pair<C: TileChain>(
     let large = render(rt, session, "b", 8, [0, 0, 129, 1]).err();
     assert!(rt; large == Some(SessionRefused::Render(RenderRefused::Rect)));
     shown(rt, session, "b", [0, 64, 64, 64], (4, 3));
+}
+
+/// Renders a rectangle of a level of the mean in new memory, and again in memory of other bytes. Both are the same.
+fn render_again<C: TileChain>(
+    rt: &(impl Abort + Threads + Sync),
+    session: &mut OwnedSession<IntKit, C>,
+    alloc: Global,
+    level: u32,
+    fields: Fields,
+)
+    requires over { IsOver same_operation int_meanings session.old.state (C.held session.old.chain) }
+    requires level { level ≤ 8 }
+    ensures { IsOver same_operation int_meanings session.new.state (C.held session.new.chain) }
+{
+    let first = render(rt, session, "b", level, fields);
+    let first = first.expect(rt, "a request that is not refused");
+    let memory = vec![in alloc; 99; 30_000].expect(rt, "memory");
+    session.reuse(memory);
+    let again = render(rt, session, "b", level, fields);
+    let again = again.expect(rt, "a request that is not refused");
+    check_all(rt, &again, first.raw_bytes());
+}
+
+/// Renders parts of a mean in memory that was used before: within its box, across its border and past it, at levels
+/// 0, 2 and 7; and at last in the memory of a render before it, of which the mean has only a part.
+pub fn render_in_used_memory<C: TileChain>(
+    rt: &(impl Abort + Threads + Sync),
+    session: &mut OwnedSession<IntKit, C>,
+    alloc: Global,
+)
+    requires { IsOver same_operation int_meanings session.old.state (C.held session.old.chain) }
+    ensures { IsOver same_operation int_meanings session.new.state (C.held session.new.chain) }
+{
+    commit_a_mean(rt, session, alloc);
+    render_again(rt, session, alloc, 0, [0, 0, 128, 128]);
+    render_again(rt, session, alloc, 0, [5, 62, 70, 3]);
+    render_again(rt, session, alloc, 0, [-9, 100, 150, 40]);
+    render_again(rt, session, alloc, 0, [300, 60, 9, 9]);
+    render_again(rt, session, alloc, 2, [-3, 14, 40, 20]);
+    render_again(rt, session, alloc, 7, [0, 0, 2, 1]);
+    let inner = render(rt, session, "b", 0, [10, 10, 4, 1]);
+    let inner = inner.expect(rt, "a request that is not refused");
+    check_all(rt, &inner, &[100; 4]);
+    session.reuse(inner.into_raw());
+    let corner = render(rt, session, "b", 0, [127, 5, 4, 1]);
+    let corner = corner.expect(rt, "a request that is not refused");
+    check_all(rt, &corner, &[67, 33, 0, 0]);
 }

@@ -3,7 +3,7 @@
 ghost use Rattle.std.specs.Prelude.{◌≤◌};
 
 use crate::faults::invert_and_paint;
-use crate::jobs::{average_and_undo, cache_one_pair, load_and_gain};
+use crate::jobs::{average_and_undo, cache_one_pair, load_and_gain, render_in_used_memory};
 use commit_session::Session;
 use int_ops::IntKit;
 use outside_io::{MemSwap, SwapDisk};
@@ -36,6 +36,15 @@ fn a_cache_of_one_pair_is_enough(rt: HostRuntime) -> Result<(), Fail> {
     let mut disk = MemSwap::new(alloc, 64, Vec::new(alloc), Vec::new(alloc))?;
     let mut session = Session::new(alloc, IntKit, &mut disk, 64, 1, 1, 3)?;
     cache_one_pair(&rt, &mut session, alloc);
+    Ok(())
+}
+
+#[test]
+fn patches_take_memory_that_was_used(rt: HostRuntime) -> Result<(), Fail> {
+    let alloc = rt.alloc();
+    let mut disk = MemSwap::new(alloc, 64, Vec::new(alloc), Vec::new(alloc))?;
+    let mut session = Session::new(alloc, IntKit, &mut disk, 64, 1, 100, 3)?;
+    render_in_used_memory(&rt, &mut session, alloc);
     Ok(())
 }
 

@@ -1,6 +1,5 @@
 use Rattle.std.proofs.Common.{◌≡◌, Some, ap, sym, ◌∙◌}
-use Rattle.plane_rect.specs.Rectangle.{Rectangle, scaled}
-use Rattle.model_images.specs.Paint.{blank}
+use Rattle.plane_rect.specs.Rectangle.{scaled}
 use Rattle.model_images.specs.Level.{level_box}
 use Rattle.strip_patches.specs.LevelStrips.{strip_level}
 use Rattle.strip_patches.proofs.Adding.{request-first}
@@ -11,6 +10,5 @@ invariant_of-result c =
     let source : scaled c.args.level c.args.rect ≡ Some c.unwrap-source.result = sym c.scaled.ensures.value ∙ c.unwrap-source.ensures in
     let over : c.halved_rect-over.result ≡ level_box c.unwrap-source.result (strip_level c.args.level) =
     c.halved_rect-over.ensures.value ∙ ap (level_box c.unwrap-source.result) c.min.ensures in
-    request-first c.args.rect c.unwrap-source.result c.args.level c.in_ok-patch.patch c.args.format c.requires.level source
-    c.area.ensures.rectangle c.area-2.ensures.rectangle
-    (c.in_ok-patch.ensures ∙ ap (λ (r : Rectangle). blank r c.args.format) over)
+    request-first c.args.rect c.unwrap-source.result c.args.level c.in_ok-patch.patch c.requires.level source
+    c.area.ensures.rectangle c.area-2.ensures.rectangle (c.in_ok-patch.ensures.rect ∙ over) c.in_ok-patch.ensures.whole

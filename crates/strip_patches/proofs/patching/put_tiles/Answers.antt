@@ -3,12 +3,11 @@ use Rattle.std.specs.Prelude.{slice_get}
 use Rattle.std.proofs.lemmas.Option.{slice_get-get_or}
 use Rattle.std.proofs.lemmas.Result.{err_from_is_err_and}
 use Rattle.plane_rect.specs.Rectangle.{Rectangle, meet}
-use Rattle.plane_rect.specs.Tile.{Meets, Tile}
+use Rattle.plane_rect.specs.Tile.{Meets, Tile, tile_square}
 use Rattle.plane_rect.proofs.Lists.{Contains-first, Contains-later}
 use Rattle.pixel_formats.specs.Format.{pixel_bytes}
 use Rattle.pixel_formats.specs.declared.format.Format.{Format}
-use Rattle.model_images.specs.Image.{Image}
-use Rattle.model_images.specs.Paint.{blank, cut}
+use Rattle.model_images.specs.Image.{Image, IsImage}
 use Rattle.model_graphs.specs.Evaluation.{Buffers}
 use Rattle.model_graphs.specs.Facts.{AreImagesOf}
 use Rattle.model_graphs.specs.Shapes.{Shape}
@@ -19,9 +18,9 @@ use Rattle.node_tiles.proofs.Places.{shape-at}
 use Rattle.node_tiles.proofs.Reading.{cause-then, reads-both, reads-none}
 use Rattle.node_tiles.proofs.Whole.{tile-long}
 use Rattle.strip_patches.specs.Nodes.{image_at}
-use Rattle.strip_patches.proofs.Filling.{IsFilled, filled-first, filled-last, filled-next}
+use Rattle.strip_patches.proofs.Filling.{filled-first, filled-last, filled-next, whole-put}
 use Rattle.strip_patches.proofs.Served.{box-shown, format-shown, part-there, tile-shown}
-use Rattle.strip_patches.proofs.patching.strip_patch.Goals as goal
+use Rattle.strip_patches.proofs.patching.put_tiles.Goals as goal
 
 pub loop-at-init : goal.loop-at-init
 loop-at-init g c =
@@ -38,21 +37,20 @@ loop-at-init g c =
     let all : (t : Tile) → Meets t (meet c.args.rect fact.bounds) → Contains c.into_iter-at-iterator.result t =
     λ t h. subst (λ (ts : List Tile). Contains ts t) (sym given)
     ((c.tiles-at-items.ensures.meeting t).1 (subst (λ (r : Rectangle). Meets t r) (sym c.meet.ensures.value) h)) in
-    let is : c.in_ok-patch.patch ≡ blank c.args.rect fact.format = c.in_ok-patch.ensures in
+    let format : c.args.patch.now.format ≡ fact.format =
+    c.requires.format ∙ ap (λ (shape : Shape). shape.format) (shape-at nodes c.args.node fact found) in
     record {
       can = tt;
       finite = tt;
       meeting = meeting;
-      box = ap (λ (image : Image). image.box) is;
-      format = ap (λ (image : Image). image.format) is;
+      box = refl;
+      format = format;
+      whole = c.requires.whole;
       filled = λ images known are.
           let shown : AreImagesOf facts images = rw known at (g.met.S.SourceTiles.exposed c.args.sources.now held c.requires.over).shapes in
           let image = image_at meanings nodes images c.args.node in
-          let format : fact.format ≡ image.format = format-shown meanings facts nodes c.requires.stated c.args.node fact found images shown in
-          subst (λ (patch : Image). IsFilled image patch c.into_iter-at-iterator.result)
-          (sym (is ∙ ap (blank c.args.rect) format))
-          (filled-first image c.args.rect fact.bounds c.into_iter-at-iterator.result
-          (box-shown meanings facts nodes c.requires.stated c.args.node fact found images shown) all);
+          filled-first image c.args.patch.now (meet c.args.rect fact.bounds) c.into_iter-at-iterator.result c.requires.whole
+          (format ∙ format-shown meanings facts nodes c.requires.stated c.args.node fact found images shown) all;
       over = c.requires.over;
       reads = reads-none _;
       valid = λ is. is;
@@ -103,6 +101,7 @@ loop-at-preserved g c =
       meeting = λ t h. before.meeting t (subst (λ (ts : List Tile). Contains ts t) (sym steps) (Contains-later at rest t h));
       box = ap (λ (image : Image). image.box) c.put_tile.ensures ∙ before.box;
       format = ap (λ (image : Image). image.format) c.put_tile.ensures ∙ before.format;
+      whole = subst IsImage (sym c.put_tile.ensures) (whole-put c.loop-at.patch (tile_square at) c.in_ok-tile.tile);
       filled = λ images known are.
           let shown : AreImagesOf facts images = rw known at (g.met.S.SourceTiles.exposed c.args.sources.now chain_held c.requires.over).shapes in
           let input =
@@ -110,7 +109,7 @@ loop-at-preserved g c =
           (input-from facts (g.S.SourceTiles.facts c.loop-at.sources) before.reads.facts c.args.held.now fact.spec.body c.args.node at
           (g.S.SourceTiles.images c.args.sources.now chain_held) (g.S.SourceTiles.images c.loop-at.sources (g.H.ChainMeaning.held c.loop-at.chain))
           c.in_ok-tile.tile before.reads.images c.in_ok-tile.ensures.tile) in
-          filled-next (image_at meanings nodes images c.args.node) c.loop-at.patch c.put_tile.new.self at c.in_ok-tile.tile rest c.loop-at.at-iterator steps
+          filled-next (image_at meanings nodes images c.args.node) c.args.patch.now (meet c.args.rect fact.bounds) c.loop-at.patch c.put_tile.new.self at c.in_ok-tile.tile rest c.loop-at.at-iterator steps
           (tile-shown meanings facts nodes c.requires.stated c.args.node fact found images shown c.args.held.now are at c.in_ok-tile.tile input)
           c.put_tile.ensures (before.filled images known are);
       over = c.in_ok-tile.ensures.over;
@@ -120,16 +119,21 @@ loop-at-preserved g c =
 
 pub returns-clause-image : goal.returns-clause-image
 returns-clause-image g c = λ images known are.
-    let image = image_at g.Op.OpMeaning.meanings c.args.nodes.now images c.args.node in
-    filled-last image c.loop-at.patch c.loop-at.at-iterator c.in-None.ensures.steps.0 (c.loop-at.invariant.filled images known are)
-    ∙ ap (cut image) c.loop-at.invariant.box
+    let nodes = c.args.nodes.now in
+    let fact = c.index-nodes-node.result in
+    let meanings = g.Op.OpMeaning.meanings in
+    let facts = g.S.SourceTiles.facts c.args.sources.now in
+    let found : slice_get nodes c.args.node ≡ Some fact = slice_get-get_or nodes c.args.node fact c.requires.node ∙ ap Some (sym c.index-nodes-node.is) in
+    let shown : AreImagesOf facts images = rw known at (g.met.S.SourceTiles.exposed c.args.sources.now (g.H.ChainMeaning.held c.args.chain.now) c.requires.over).shapes in
+    filled-last (image_at meanings nodes images c.args.node) c.args.patch.now c.args.rect fact.bounds c.loop-at.patch c.loop-at.at-iterator
+    c.in-None.ensures.steps.0 (box-shown meanings facts nodes c.requires.stated c.args.node fact found images shown) (c.loop-at.invariant.filled images known are)
 
 pub returns-clause-format : goal.returns-clause-format
 returns-clause-format g c =
     let nodes = c.args.nodes.now in
     let fact = c.index-nodes-node.result in
     let found : slice_get nodes c.args.node ≡ Some fact = slice_get-get_or nodes c.args.node fact c.requires.node ∙ ap Some (sym c.index-nodes-node.is) in
-    c.loop-at.invariant.format ∙ ap (λ (shape : Shape). shape.format) (sym (shape-at nodes c.args.node fact found))
+    c.loop-at.invariant.format ∙ ap (λ (shape : Shape). shape.format) (sym (shape-at nodes c.args.node fact found)) ∙ sym c.requires.format
 
 pub returns-in_err-tile-clause-reads : goal.returns-in_err-tile-clause-reads
 returns-in_err-tile-clause-reads g c = reads-both _ _ _ c.loop-at.invariant.reads c.in_err-tile.ensures.reads
