@@ -270,7 +270,7 @@ pub strip-put : (image : Image) (k : ℕ) (r rect : Rectangle) (z : ℕ) (patch 
     → ((u v : ℕ) → Inside u v r → Inside u v image.box) → HasPart image r patch new
     → HasStrips image (k + 1) (record { rect = rect; at_level = z; patch = new })
 unfolding halves level
-strip-put image k r rect (suc z) patch new e = absurd (omega (arith, e))
+strip-put image k r rect (suc z) patch new e is box format has found within part = absurd (omega (arith, e))
 strip-put image k r rect zero patch new e is box format has found within part = record {
   rectangle = has.rectangle;
   format = format ∙ has.format;
@@ -280,11 +280,8 @@ strip-put image k r rect zero patch new e is box format has found within part = 
   ];
 }
   where
-    abbrev strips : LevelStrips
-    strips = record { rect = rect; at_level = 0; patch = patch }
-
-    abbrev s : Rectangle
-    s = source_of strips
+    s : Rectangle
+    s = source_of (record { rect = rect; at_level = 0; patch = patch })
 
     here : (u v : ℕ) → Inside u v s → Inside u v new.box
     here u v there = subst (λ (x : Rectangle). Inside u v x) (sym (box ∙ is.box)) there

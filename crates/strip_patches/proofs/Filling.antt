@@ -96,10 +96,13 @@ pub filled-last : (image old : Image) (rect box : Rectangle) (patch : Image) (re
 filled-last image old rect box patch rest none is filled = record {
   samples = λ u v c there known. elim (filled.pixels u v c there known) [
     | inl same ↦ inl same
-    | inr kept ↦ inr (kept.0, λ inside.
-        none-left (tile_at u v)
-        (subst (λ (tiles : List Tile). Contains tiles (tile_at u v)) none
-        (kept.1 (subst (λ (r : Rectangle). Inside u v (meet rect r)) (sym is) inside))))
+    | inr kept ↦ inr (
+      kept.0,
+      λ inside.
+          none-left (tile_at u v)
+          (subst (λ (tiles : List Tile). Contains tiles (tile_at u v)) none
+          (kept.1 (subst (λ (r : Rectangle). Inside u v (meet rect r)) (sym is) inside))),
+    )
   ];
 }
 

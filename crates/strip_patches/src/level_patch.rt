@@ -138,7 +138,8 @@ impl LevelPatch {
         ensures cause { IfErr result (HasSwapCause (H.counts chain.old) (H.counts chain.new) (H.counts chain.old).names) }
         ensures valid { H.is_valid chain.old → H.is_valid chain.new }
     {
-        if self.level == 0 && nodes[node as usize].bounds.contains(&rect) {
+        let fact = &nodes[node as usize];
+        if self.level == 0 && fact.bounds.contains(&rect) {
             let patch = &mut self.patch;
             return put_tiles(alloc, nodes, held, sources, chain, node, rect, patch);
         }

@@ -57,10 +57,9 @@ pub fn strip_patch<H: ChainMeaning, S: SourceTiles<H>, Op: OpMeaning>(
     ensures cause { IfErr result (HasSwapCause (H.counts chain.old) (H.counts chain.new) (H.counts chain.old).names) }
     ensures valid { H.is_valid chain.old → H.is_valid chain.new }
 {
-    let mut patch = Patch::zero(alloc, rect, nodes[node as usize].format)?;
-    put_tiles(
-        alloc, nodes, held, sources, chain, node, rect, &mut patch,
-    )?;
+    let fact = &nodes[node as usize];
+    let mut patch = Patch::zero(alloc, rect, fact.format)?;
+    put_tiles(alloc, nodes, held, sources, chain, node, rect, &mut patch)?;
     Ok(patch)
 }
 

@@ -143,5 +143,5 @@ returns-in_err-tile-clause-cause g c =
     let start = seen (g.S.SourceTiles.facts c.args.sources.now) (g.S.SourceTiles.images c.args.sources.now (g.H.ChainMeaning.held c.args.chain.now)) (g.S.SourceTiles.names c.args.sources.now) (g.H.ChainMeaning.held c.args.chain.now) (g.H.ChainMeaning.counts c.args.chain.now) (g.H.ChainMeaning.loans c.args.chain.now) in
     let now = seen (g.S.SourceTiles.facts c.loop-at.sources) (g.S.SourceTiles.images c.loop-at.sources (g.H.ChainMeaning.held c.loop-at.chain)) (g.S.SourceTiles.names c.loop-at.sources) (g.H.ChainMeaning.held c.loop-at.chain) (g.H.ChainMeaning.counts c.loop-at.chain) (g.H.ChainMeaning.loans c.loop-at.chain) in
     let next = seen (g.S.SourceTiles.facts c.input_tile.new.sources) (g.S.SourceTiles.images c.input_tile.new.sources (g.H.ChainMeaning.held c.input_tile.new.chain)) (g.S.SourceTiles.names c.input_tile.new.sources) (g.H.ChainMeaning.held c.input_tile.new.chain) (g.H.ChainMeaning.counts c.input_tile.new.chain) (g.H.ChainMeaning.loans c.input_tile.new.chain) in
-    let p = err_from_is_err_and c.from_residual-in_err-tile.result c.from_residual-in_err-tile.ensures.1 in
+    let p = err_from_is_err_and c.from_residual.result c.from_residual.ensures.1 in
     rw (p.1, p.2) (cause-then start now next c.in_err-tile.field-0.0 c.loop-at.invariant.reads c.in_err-tile.ensures.cause)

@@ -2,7 +2,7 @@ use Rattle.std.proofs.Common.{◌≡◌, Some, ap, sym, ◌∙◌}
 use Rattle.plane_rect.specs.Rectangle.{scaled}
 use Rattle.model_images.specs.Level.{level_box}
 use Rattle.strip_patches.specs.LevelStrips.{strip_level}
-use Rattle.strip_patches.proofs.Adding.{request-first}
+use Rattle.strip_patches.proofs.Adding.{none-added, request-first}
 use Rattle.strip_patches.proofs.level_patch.LevelPatch.new.Goals as goal
 
 pub invariant_of-result : goal.invariant_of-result
@@ -12,3 +12,8 @@ invariant_of-result c =
     c.halved_rect-over.ensures.value ∙ ap (level_box c.unwrap-source.result) c.min.ensures in
     request-first c.args.rect c.unwrap-source.result c.args.level c.in_ok-patch.patch c.requires.level source
     c.area.ensures.rectangle c.area-2.ensures.rectangle (c.in_ok-patch.ensures.rect ∙ over) c.in_ok-patch.ensures.whole
+
+pub returns-clause-none : goal.returns-clause-none
+returns-clause-none c = λ image rectangle format.
+    none-added image (record { rect = c.args.rect; at_level = c.args.level; patch = c.in_ok-patch.patch }) rectangle
+    (c.in_ok-patch.ensures.format ∙ sym format)
