@@ -6,7 +6,6 @@ use Rattle.model_states.specs.Cache.{AreRight, Counted, Pair, all_looked_up, by_
 use Rattle.model_states.proofs.CacheLaws.{counts_add_up}
 use Rattle.swap_store.specs.Cause.{HasSwapCause}
 use Rattle.swap_store.specs.declared.refusal.SwapRefused.{SwapRefused}
-use Rattle.swap_store.specs.declared.refusal.SwapRefused.TheVariants as refusals
 use Rattle.node_cache.specs.Stores.{AddsNoOther, AreWithin}
 use Rattle.node_tiles.specs.Reads.{Reads}
 use Rattle.node_tiles.specs.Stated.{scene_of}
@@ -19,9 +18,6 @@ use Rattle.render_workers.specs.Parts.{IsExcused, Leaves, LooksUp}
 use Rattle.render_workers.proofs.Folds.{few-listed, list-both, looked-both, most-more, pairs-both}
 
 -- ---- why it is refused
-
-pub excused-no-memory : (pairs : List Pair) (a b : Moment) → IsExcused pairs a b refusals.NoMemory
-excused-no-memory pairs a b = record { each = tt; few = λ one. tt }
 
 -- the names of a later part, and of a part, are few
 most-later : (a b : Moment) (first second rest : List Pair) (applied reused : ℕ) → b.capacity ≡ a.capacity

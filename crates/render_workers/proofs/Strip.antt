@@ -1,7 +1,5 @@
 -- What a strip of a render does, in the words of a part of a request.
 use Rattle.std.proofs.Common.{◌≡◌, ℕ, ◌+◌, ◌≤◌, List, [], length, Some, sym, ap, ◌∙◌, subst, arith}
-use Rattle.std.specs.Prelude.{IfErr, Result}
-use Rattle.std.specs.Result.{IsErrAnd}
 use Rattle.std.proofs.lemmas.List.{length-map}
 use Rattle.model_graphs.specs.declared.node.NodeFact.{NodeFact}
 use Rattle.model_graphs.specs.Evaluation.{Buffers}
@@ -13,8 +11,6 @@ use Rattle.model_states.specs.Need.{Needed}
 use Rattle.model_states.proofs.CacheLaws.{counts_add_up}
 use Rattle.swap_store.specs.Cause.{HasSwapCause}
 use Rattle.swap_store.specs.declared.refusal.SwapRefused.{SwapRefused}
-use Rattle.swap_store.specs.declared.refusal.SwapRefused.TheVariants as refusals
-use Rattle.roi_planner.proofs.Widths.{handed-on}
 use Rattle.node_cache.specs.Stores.{HaveOneOwner}
 use Rattle.node_tiles.specs.Held.{HeldTiles}
 use Rattle.node_tiles.specs.Stated.{scene_of}
@@ -22,11 +18,7 @@ use Rattle.strip_renders.specs.Moments.{Keeps, Moment}
 use Rattle.strip_renders.specs.Strips.{AreKnownRight, AreSizedPairs, IsRendered, counted, most_names, pairs_needed}
 use Rattle.strip_renders.proofs.Moments.{keeps-most}
 use Rattle.render_workers.specs.Parts.{IsExcused, Leaves, LooksUp}
-use Rattle.render_workers.proofs.Joined.{excused-no-memory, leaves-more, leaves-none}
-
--- a refusal for want of memory has a cause at any time
-pub no_memory-excused : {T : Type 0} (r : Result T SwapRefused) (pairs : List Pair) (a b : Moment) → IsErrAnd r (λ e. e ≡ refusals.NoMemory) → IfErr r (IsExcused pairs a b)
-no_memory-excused r pairs a b is = handed-on r refusals.NoMemory (IsExcused pairs a b) is (excused-no-memory pairs a b)
+use Rattle.render_workers.proofs.Joined.{leaves-more, leaves-none}
 
 module _ {Op : Type 0} (meanings : Meanings Op) (nodes : List (NodeFact Op)) where
   -- nothing was done

@@ -76,6 +76,9 @@ returns-in_err-add_strip-clause-excused g c =
     (excused-reads meanings nodes pairs old mid end before after c.in_err-add_strip.ensures.reads refl done.applied done.reused refused c.in_ok-done.ensures.leaves c.in_ok-done.ensures.looks
     (g.met.C.PairStore.within c.held_strip.new.cache mid.held c.in_ok-done.ensures.cache_over) (g.met.C.PairStore.few_names c.held_strip.new.cache) c.in_err-add_strip.ensures.cause)
 
+pub returns-in_err-add_strip-clause-valid : goal.returns-in_err-add_strip-clause-valid
+returns-in_err-add_strip-clause-valid g c = λ is. c.in_err-add_strip.ensures.valid (c.in_ok-done.ensures.valid is)
+
 pub returns-clause-looks : goal.returns-clause-looks
 returns-clause-looks g c =
     let meanings = g.K.Op.OpMeaning.meanings in
