@@ -27,6 +27,7 @@ ghost use Rattle.commit_session.specs.Steps.{HasSameStates, IsEditedBy};
 ghost use Rattle.commit_session.specs.declared.refused.SessionRefused.TheVariants.{Buffer, NoMemory};
 
 use crate::refused::SessionRefused;
+use crate::renders::keep_larger;
 use crate::state::SessionState;
 use crate::written::{Target, note_target, note_written};
 use chain_contracts::TileChain;
@@ -116,7 +117,7 @@ impl<Op: OpMeaning + Drop> SessionState<Op> {
         let left = self.versions.put(chain, name, rect, bytes, workers)?;
         let target = Target { buffer: name, rect };
         note_target(&mut self.written, self.versions.working(), target);
-        self.reuse(left);
+        keep_larger(&mut self.memory, left);
         Ok(())
     }
 

@@ -16,7 +16,9 @@ write-requires-clause-inside g c =
     let now = c.args.self.now in
     let seen = c.in-Ok.view in
     let target : root_view now.layout c.args.name ≡ Some seen = ap (λ (b : BufferTable). root_view b.layout c.args.name) (sym c.self.view_is) ∙ c.in-Ok.ensures.target in
-    let none : edit_refused now.layout e ≡ None = ap (λ (b : BufferTable). edit_refused b.layout e) (sym c.self.view_is) ∙ c.in-Ok.ensures.carried_out in
+    let none : edit_refused now.layout e ≡ None =
+    ap (λ (bytes : List ℕ). edit_refused now.layout (Put c.args.name c.args.rect bytes)) (sym c.deref.ensures.value)
+    ∙ ap (λ (b : BufferTable). edit_refused b.layout (Put c.args.name c.args.rect c.deref.result.now)) (sym c.self.view_is) ∙ c.in-Ok.ensures.carried_out in
     (put-can now.layout c.requires.table.layout c.args.name seen target c.args.rect c.args.bytes.items none).0
 
 pub write-requires-clause-samples : goal.write-requires-clause-samples
@@ -25,7 +27,9 @@ write-requires-clause-samples g c =
     let now = c.args.self.now in
     let seen = c.in-Ok.view in
     let target : root_view now.layout c.args.name ≡ Some seen = ap (λ (b : BufferTable). root_view b.layout c.args.name) (sym c.self.view_is) ∙ c.in-Ok.ensures.target in
-    let none : edit_refused now.layout e ≡ None = ap (λ (b : BufferTable). edit_refused b.layout e) (sym c.self.view_is) ∙ c.in-Ok.ensures.carried_out in
+    let none : edit_refused now.layout e ≡ None =
+    ap (λ (bytes : List ℕ). edit_refused now.layout (Put c.args.name c.args.rect bytes)) (sym c.deref.ensures.value)
+    ∙ ap (λ (b : BufferTable). edit_refused b.layout (Put c.args.name c.args.rect c.deref.result.now)) (sym c.self.view_is) ∙ c.in-Ok.ensures.carried_out in
     there-weaker (λ (entry : List ℕ × Shape). length c.args.bytes.items ≡ byte_count c.args.rect entry.1.format) _ (slice_get now.layout.roots seen.root)
     (λ entry long. (record { shared = c.type_bounds.sync-R.shared }, long))
     (put-can now.layout c.requires.table.layout c.args.name seen target c.args.rect c.args.bytes.items none).1
