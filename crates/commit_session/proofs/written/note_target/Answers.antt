@@ -6,8 +6,8 @@ use Rattle.commit_session.specs.Steps.{after_writing}
 use Rattle.commit_session.proofs.Hulls.{pair_of, written-is}
 use Rattle.commit_session.proofs.written.note_target.Goals as goal
 
-pub returns-in_default-fact : goal.returns-in_default-fact
-returns-in_default-fact c =
+pub returns-in_default : goal.returns-in_default
+returns-in_default c =
     let layout = c.args.buffers.now.layout in
     let target = c.args.target in
     let is = written-is layout (Put target.buffer target.rect []) (Some target) target c.fact.result refl refl c.fact.ensures in
