@@ -87,7 +87,7 @@ returns-clause-did g c = λ exposed capacity state files holds.
       continues = ensures.left.counts.continues;
       others = ensures.other_names;
     } in
-    rw c.in-Render.is
+    rw (c.in-Render.is, c.reuse.ensures)
     (render-done exposed capacity line state files parts c.render.new.self held later
     c.in-Render.name c.in-Render.level c.in-Render.rect c.in-Render.file before after holds ensures.stated ensures.can c.in_ok-patch.patch c.raw_bytes-bytes.result.now shown c.number.result number
     _ c.in_ok-write_render.ensures.cause.room c.in_ok-write_render.ensures.leaves refl left)
