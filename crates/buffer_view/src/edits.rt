@@ -149,4 +149,5 @@ impl Buffers {
         let mut written = OwnedRaw { bytes, workers };
         self.write(chain, view.root, rect, &mut written)?;
         Ok(written.bytes)
-    }}
+    }
+}

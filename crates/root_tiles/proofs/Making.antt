@@ -244,7 +244,7 @@ makes-none root r f state entries none over =
 module _ (root : RootTiles) (whole part r : Rectangle) (f g : ℕ → ℕ → ℕ → ℕ) (added more : ℕ) (old now new : ChainState) (before after : List (Tile × ℕ))
     (makes : Makes root whole f added old now before) (next : MakesMore root part r g more now new before after) (inside : Includes whole part)
     (painted : (tile : Tile) (bytes : List ℕ) → Meets tile part → IsPainted root.tiles.format (bytes_in old.held root.tiles.put) r g tile bytes
-        → IsPainted root.tiles.format (bytes_in old.held root.tiles.put) whole f tile bytes) where
+    → IsPainted root.tiles.format (bytes_in old.held root.tiles.put) whole f tile bytes) where
   painted-whole : (tile : Tile) (found : Option (List ℕ)) → Meets tile part → IsSomeAnd found (IsPainted root.tiles.format (bytes_in now.held root.tiles.put) r g tile)
       → IsSomeAnd found (IsPainted root.tiles.format (bytes_in old.held root.tiles.put) whole f tile)
   painted-whole tile None meets is = absurd is

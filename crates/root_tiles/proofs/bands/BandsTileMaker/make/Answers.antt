@@ -1,14 +1,13 @@
-use Rattle.std.proofs.Common.{◌≡◌, ℕ, ◌+◌, ◌*◌, ◌<◌, ◌≤◌, ◌⊎◌, ◌^◌, inl, inr, Contains, List, length, take, refl, sym, ap, subst, ◌∙◌, arith}
+use Rattle.std.proofs.Common.{◌≡◌, ℕ, ◌+◌, ◌<◌, ◌≤◌, ◌⊎◌, ◌^◌, inl, inr, Contains, List, length, take, refl, sym, ap, subst, ◌∙◌, arith}
 use Rattle.std.proofs.lemmas.Result.{err_from_is_err_and}
 use Rattle.std.specs.Map.{keys_of}
 use Rattle.level_tables.specs.LevelTiles.{bytes_in}
 use Rattle.model_images.specs.FromRaw.{byte_count, pixels_from_raw}
 use Rattle.model_images.specs.TileCounts.{tile_count}
 use Rattle.pixel_formats.specs.Format.{channels}
-use Rattle.pixel_formats.specs.declared.format.Format.{Format}
-use Rattle.plane_rect.specs.Rectangle.{Includes, Inside, Rectangle, empty, end_row}
+use Rattle.plane_rect.specs.Rectangle.{Includes, Inside, Rectangle}
 use Rattle.plane_rect.specs.Tile.{Meets, Tile}
-use Rattle.root_tiles.specs.Bands.{above_band, last_band, rows_between}
+use Rattle.root_tiles.specs.Bands.{above_band, rows_between}
 use Rattle.root_tiles.specs.Made.{Makes}
 use Rattle.root_tiles.proofs.Banding.{HasWholeTiles, above-bytes, above-fewer, above-lower, above-samples, above-whole, band-counted, band-inside, band-met, inside-above, painted-by-all}
 use Rattle.root_tiles.proofs.ChainReads.{refused-after}
@@ -152,7 +151,7 @@ loop-left-preserved g c =
     let bytes : length c.give_back.new.bytes.items ≡ byte_count above format =
     ap length taken ∙ above-bytes left row is begins format c.loop-left.self.bytes.items c.byte_len.result inv.bytes count in
     let samples : (u v k : ℕ) → Inside u v above → k < channels format
-        → pixels_from_raw above format c.give_back.new.bytes.items u v k ≡ pixels_from_raw rect format c.args.self.now.bytes.items u v k =
+    → pixels_from_raw above format c.give_back.new.bytes.items u v k ≡ pixels_from_raw rect format c.args.self.now.bytes.items u v k =
     λ u v k there known.
     ap (λ (bs : List ℕ). pixels_from_raw above format bs u v k) taken
     ∙ above-samples left row is begins format c.loop-left.self.bytes.items c.byte_len.result u v k count there known
