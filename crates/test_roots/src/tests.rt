@@ -101,7 +101,10 @@ fn a_write_that_fails_in_a_later_band_leaves_the_image(rt: HostRuntime) -> Resul
     let alloc = rt.alloc();
     for failing in 5..8 {
         let mut disk = MemSwap::new(alloc, 16, Vec::new(alloc), vec![in alloc; failing]?)?;
-        assert!(rt; refuse_over(&rt, alloc, &mut disk, 16)?, "write {failing} fails");
+        assert!(rt;
+            refuse_over(&rt, alloc, &mut disk, 16)?,
+            "write {failing} fails"
+        );
     }
     Ok(())
 }
