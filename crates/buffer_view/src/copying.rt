@@ -73,8 +73,8 @@ impl Buffers {
         // `first_column` is called for its clause that the rectangle is one of the plane.
         let _ = rect.first_column();
         let bytes = self.read(chain, parts.source.root, rect)?;
-        let written = Raw { bytes: &bytes };
-        self.write(chain, parts.target.root, parts.moved, &written)?;
+        let mut written = Raw { bytes: &bytes };
+        self.write(chain, parts.target.root, parts.moved, &mut written)?;
         Ok(())
     }
 

@@ -24,15 +24,15 @@ impl Buffers {
         chain: &mut C,
         number: usize,
         rect: Rect,
-        samples: &W,
+        samples: &mut W,
     ) -> Result<(), SwapRefused>
         requires over { AreBuffersOver self.old (C.held chain.old) }
         requires inside { IsSomeAnd (slice_get self.old.layout.roots number) (λ (entry : List ℕ × Shape). Includes entry.1.box rect) }
-        requires samples { IsSomeAnd (slice_get self.old.layout.roots number) (λ (entry : List ℕ × Shape). W.fits samples.now entry.1.format rect) }
+        requires samples { IsSomeAnd (slice_get self.old.layout.roots number) (λ (entry : List ℕ × Shape). W.fits samples.old entry.1.format rect) }
         ensures layout { self.new.layout ≡ self.old.layout }
         ensures table { (root : List ℕ) (shape : Shape) → slice_get self.old.layout.roots number ≡ Some (root, shape) →
             OnOk result (table_of self.new (C.held chain.new) ≡ option_map
-            (λ table. written table root rect (W.pixels samples.now shape.format rect))
+            (λ table. written table root rect (W.pixels samples.old shape.format rect))
             (table_of self.old (C.held chain.old))) }
         ensures same { OnErr result (table_of self.new (C.held chain.new) ≡ table_of self.old (C.held chain.old)) }
         ensures over { AreBuffersOver self.new (C.held chain.new) }

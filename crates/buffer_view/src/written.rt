@@ -19,6 +19,7 @@ ghost use Rattle.swap_store.specs.Cause.{HasSwapCause};
 use chain_contracts::TileChain;
 use plane_rect::Rect;
 use root_tiles::Root;
+use std::mem::replace;
 use std::thread::Threads;
 use swap_store::SwapRefused;
 use worker_pieces::Workers;
@@ -33,16 +34,16 @@ pub(crate) trait Written {
 
     /// Writes over a rectangle of a root's box. After an error the root and its image are as before.
     fn write<C: TileChain>(
-        &self,
+        &mut self,
         root: &mut Root,
         chain: &mut C,
         rect: Rect,
     ) -> Result<(), SwapRefused>
         requires over { IsRootOver root.old (C.held chain.old) }
         requires inside { Includes root.old.box rect }
-        requires written { fits self.now root.old.tiles.format rect }
+        requires written { fits self.old root.old.tiles.format rect }
         ensures image { OnOk result (root_image root.new (C.held chain.new) ≡ option_map
-            (λ image. painted image rect (pixels self.now root.old.tiles.format rect))
+            (λ image. painted image rect (pixels self.old root.old.tiles.format rect))
             (root_image root.old (C.held chain.old))) }
         ensures shape { root_shape root.new ≡ root_shape root.old }
         ensures unchanged { OnErr result (root.new ≡ root.old) }
@@ -68,7 +69,7 @@ impl Written for Even<'_> {
     ghost pixels = { λ written _ _. evenly written.samples.now };
 
     fn write<C: TileChain>(
-        &self,
+        &mut self,
         root: &mut Root,
         chain: &mut C,
         rect: Rect,
@@ -89,7 +90,7 @@ impl Written for Raw<'_> {
     ghost pixels = { λ written format r. pixels_from_raw r format written.bytes.now };
 
     fn write<C: TileChain>(
-        &self,
+        &mut self,
         root: &mut Root,
         chain: &mut C,
         rect: Rect,
@@ -111,11 +112,36 @@ impl<R: Threads + Sync> Written for SplitRaw<'_, R> {
     ghost pixels = { λ written format r. pixels_from_raw r format written.bytes.now };
 
     fn write<C: TileChain>(
-        &self,
+        &mut self,
         root: &mut Root,
         chain: &mut C,
         rect: Rect,
     ) -> Result<(), SwapRefused> {
         root.put_raw(chain, rect, self.bytes, self.workers)
+    }
+}
+
+/// The raw bytes of the rectangle, row by row, of which several workers may cut the tiles, and whose memory may be
+/// given back meanwhile. Once they are written it has memory that is left, of which nothing is known.
+#[derive(Drop)]
+pub(crate) struct OwnedRaw<'a, R: Threads + Sync> {
+    pub bytes: Vec<u8>,
+    pub workers: Workers<'a, R>,
+}
+
+impl<R: Threads + Sync> Written for OwnedRaw<'_, R> {
+    ghost fits = { λ written format r. IsSync R.row × (length written.bytes.items ≡ byte_count r format) };
+
+    ghost pixels = { λ written format r. pixels_from_raw r format written.bytes.items };
+
+    fn write<C: TileChain>(
+        &mut self,
+        root: &mut Root,
+        chain: &mut C,
+        rect: Rect,
+    ) -> Result<(), SwapRefused> {
+        let bytes = replace(&mut self.bytes, Vec::new(root.allocator()));
+        self.bytes = root.put_vec(chain, rect, bytes, self.workers)?;
+        Ok(())
     }
 }

@@ -140,9 +140,14 @@ impl<Op: OpMeaning + Drop> SessionState<Op> {
     pub fn reuse(&mut self, memory: Vec<u8>)
         ensures { self.new ≡ self.old }
     {
-        let room = memory.capacity();
-        if self.memory.capacity() < room && room <= IDLE_BYTES {
-            self.memory = memory;
-        }
+        keep_larger(&mut self.memory, memory);
+    }
+}
+
+/// Keeps the memory that has more room, if it isn't more than may lie idle, and drops the other.
+pub(crate) fn keep_larger(kept: &mut Vec<u8>, memory: Vec<u8>) {
+    let room = memory.capacity();
+    if kept.capacity() < room && room <= IDLE_BYTES {
+        *kept = memory;
     }
 }

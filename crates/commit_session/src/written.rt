@@ -15,9 +15,9 @@ use plane_rect::{Name, Rect};
 
 /// A rectangle of a buffer that an edit writes.
 #[derive(Clone, Copy)]
-struct Target {
-    buffer: Name,
-    rect: Rect,
+pub(crate) struct Target {
+    pub buffer: Name,
+    pub rect: Rect,
 }
 
 /// Returns the buffer that an edit writes to, and where; None for one that adds a buffer, and where the copied
@@ -74,9 +74,17 @@ pub(crate) fn note_written(written: &mut Vec<Edited>, buffers: &Buffers, edit: &
     ensures { rectangles_of written.new.items
         ≡ after_writing (rectangles_of written.old.items) (written_by buffers.now.layout edit.now) }
 {
-    let Some(target) = target_of(edit) else {
-        return;
-    };
+    if let Some(target) = target_of(edit) {
+        note_target(written, buffers, target);
+    }
+}
+
+/// Notes the rectangle of a root that a rectangle of one of these buffers is. There is room for one more.
+pub(crate) fn note_target(written: &mut Vec<Edited>, buffers: &Buffers, target: Target)
+    requires { vec_len written.old < vec_capacity written.old }
+    ensures { rectangles_of written.new.items
+        ≡ after_writing (rectangles_of written.old.items) (on_root buffers.now.layout target.buffer (Ok target.rect)) }
+{
     if let Some(fact) = buffers.fact(target.buffer) {
         add_written(written, fact.root, target.rect);
     }

@@ -1,3 +1,4 @@
+pub mod Banding
 pub mod Blitting
 pub mod ChainReads
 pub mod Solid

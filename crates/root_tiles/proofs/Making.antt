@@ -1,5 +1,5 @@
 -- Painted tiles that are made beside a root, one after another.
-use Rattle.std.proofs.Common.{◌≡◌, ℕ, ◌+◌, ◌≤◌, ◌⊎◌, inl, inr, List, [], ◌∷◌, ◌++◌, Contains, length, Option, Some, cond, refl, sym, ap, subst, ◌∙◌, arith}
+use Rattle.std.proofs.Common.{◌≡◌, ℕ, ◌+◌, ◌≤◌, ◌⊎◌, inl, inr, List, [], ◌∷◌, ◌++◌, Contains, length, Option, Some, None, cond, refl, sym, ap, subst, ◌∙◌, arith}
 use Rattle.std.specs.Prelude.{IfSome, IsSome, IsSomeAnd}
 use Rattle.std.specs.Map.{keys_of, values_of}
 use Rattle.std.specs.Option.{option_map_or}
@@ -18,7 +18,7 @@ use Rattle.plane_rect.specs.Rectangle.{Includes, IsRectangle, Rectangle}
 use Rattle.plane_rect.specs.Tile.{IsWhole, Meets, Tile, tile_at, tile_square}
 use Rattle.plane_rect.proofs.Lists.{Contains-cases, Contains-first, Contains-later}
 use Rattle.root_tiles.specs.Chains.{ChainState, IsRead}
-use Rattle.root_tiles.specs.Made.{ArePainted, Makes}
+use Rattle.root_tiles.specs.Made.{IsPaintedOrThere, Makes, MakesMore}
 use Rattle.root_tiles.specs.Paints.{IsPainted}
 use Rattle.root_tiles.specs.Roots.{IsRootOver, RootTiles, root_names}
 use Rattle.root_tiles.proofs.ChainReads.{grows-both, grows-same}
@@ -54,23 +54,22 @@ pub length-last : (entries : List (Tile × ℕ)) (e : Tile × ℕ) → length (e
 length-last [] e = refl
 length-last (first ∷ entries) e = omega (arith, length-last entries e)
 
-pub makes-none : (root : RootTiles) (r : Rectangle) (f : ℕ → ℕ → ℕ → ℕ) (state : ChainState) (entries : List (Tile × ℕ)) → entries ≡ []
-    → IsRootOver root state.held → Makes root r f (length entries) state state entries
-makes-none root r f state entries none over =
-    let P : List (Tile × ℕ) → Type 0 = λ es. Makes root r f (length es) state state es in
-    subst P (sym none) (record {
-      made = made-none root.tiles.format state.held;
-      owned = owns-fewer state.held (root_names root) (root_names root ++ []) (λ q. omega (arith, times-append (root_names root) [] q)) over.table.owned;
-      others = respects-beside state.held state.held [] [] (respects-same state.held []) (root_names root) (root_names root ++ []) (root_names root)
-          (λ q. omega arith) (λ q. omega (arith, times-append (root_names root) [] q));
-      over = over;
-      bytes = λ tile. refl;
-      painted = λ exposed tile bytes there. absurd (none-in (tile, bytes) there);
-      meeting = λ tile there. absurd (none-in tile there);
-      grows = grows-same state.counts;
-      loans = refl;
-      valid = λ is. is;
-    })
+pub more-none : (root : RootTiles) (part r : Rectangle) (f : ℕ → ℕ → ℕ → ℕ) (state : ChainState) (entries : List (Tile × ℕ))
+    → AreNewTiles root.tiles.format entries state.held → Owns state.held (root_names root ++ values_of entries) → IsRootOver root state.held
+    → MakesMore root part r f 0 state state entries entries
+more-none root part r f state entries made owned over = record {
+  made = made;
+  owned = owned;
+  others = respects-same state.held (root_names root ++ values_of entries);
+  over = over;
+  bytes = λ tile. refl;
+  painted = λ exposed tile bytes there. inl there;
+  meeting = λ tile there. inl there;
+  kept = λ tile there. there;
+  grows = grows-same state.counts;
+  loans = refl;
+  valid = λ is. is;
+}
 
 -- a tile that meets a part of a box is within the plane
 pub whole-met : (box r : Rectangle) (tile : Tile) → IsRectangle box → Includes box r → Meets tile r → IsWhole tile
@@ -100,28 +99,46 @@ module _ (root : RootTiles) (old new : Held) (before after : List ℕ) (respects
   }
 
 -- what changes no name leaves what was made
-pub makes-same : (root : RootTiles) (r : Rectangle) (f : ℕ → ℕ → ℕ → ℕ) (added more : ℕ) (old now new : ChainState) (entries : List (Tile × ℕ))
-    → Makes root r f added old now entries → new.held ≡ now.held → Grows more now.counts new.counts → new.loans ≡ now.loans → (now.valid → new.valid)
-    → Makes root r f (added + more) old new entries
-makes-same root r f added more old now new entries makes held counts loans valid =
+pub more-same : (root : RootTiles) (part r : Rectangle) (f : ℕ → ℕ → ℕ → ℕ) (added more : ℕ) (old now new : ChainState) (before after : List (Tile × ℕ))
+    → MakesMore root part r f added old now before after → new.held ≡ now.held → Grows more now.counts new.counts → new.loans ≡ now.loans → (now.valid → new.valid)
+    → MakesMore root part r f (added + more) old new before after
+more-same root part r f added more old now new before after makes held counts loans valid =
     let same : now.held ≡ new.held = sym held in record {
-      made = subst (AreNewTiles root.tiles.format entries) same makes.made;
-      owned = subst (λ (h : Held). Owns h (root_names root ++ values_of entries)) same makes.owned;
-      others = subst (λ (h : Held). Respects old.held h (root_names root) (root_names root ++ values_of entries)) same makes.others;
+      made = subst (AreNewTiles root.tiles.format after) same makes.made;
+      owned = subst (λ (h : Held). Owns h (root_names root ++ values_of after)) same makes.owned;
+      others = subst (λ (h : Held). Respects old.held h (root_names root ++ values_of before) (root_names root ++ values_of after)) same makes.others;
       over = subst (IsRootOver root) same makes.over;
       bytes = λ tile. ap (λ (h : Held). bytes_in h root.tiles.put tile) held ∙ makes.bytes tile;
-      painted = λ exposed. subst (λ (h : Held). ArePainted root.tiles.format (bytes_in old.held root.tiles.put) r f (tiles_in h entries)) same (makes.painted exposed);
+      painted = λ exposed tile bytes there. makes.painted exposed tile bytes
+          (subst (λ (h : Held). Contains (tiles_in h after) (tile, bytes)) held there);
       meeting = makes.meeting;
+      kept = makes.kept;
       grows = grows-both added more old.counts now.counts new.counts makes.grows counts;
       loans = loans ∙ makes.loans;
       valid = λ is. valid (makes.valid is);
     }
 
-pub makes-read : (root : RootTiles) (r : Rectangle) (f : ℕ → ℕ → ℕ → ℕ) (added : ℕ) (old now new : ChainState) (entries : List (Tile × ℕ))
-    → Makes root r f added old now entries → IsRead now new → Makes root r f added old new entries
-makes-read root r f added old now new entries makes read =
+pub more-read : (root : RootTiles) (part r : Rectangle) (f : ℕ → ℕ → ℕ → ℕ) (added : ℕ) (old now new : ChainState) (before after : List (Tile × ℕ))
+    → MakesMore root part r f added old now before after → IsRead now new → MakesMore root part r f added old new before after
+more-read root part r f added old now new before after makes read =
     let none : added + 0 ≡ added = omega arith in
-    subst (λ n. Makes root r f n old new entries) none (makes-same root r f added 0 old now new entries makes read.held read.counts read.loans read.valid)
+    subst (λ n. MakesMore root part r f n old new before after) none (more-same root part r f added 0 old now new before after makes read.held read.counts read.loans read.valid)
+
+pub more-raise : (root : RootTiles) (part r : Rectangle) (f : ℕ → ℕ → ℕ → ℕ) (added most : ℕ) (old now : ChainState) (before after : List (Tile × ℕ))
+    → added ≤ most → MakesMore root part r f added old now before after → MakesMore root part r f most old now before after
+more-raise root part r f added most old now before after less makes = record {
+  made = makes.made;
+  owned = makes.owned;
+  others = makes.others;
+  over = makes.over;
+  bytes = makes.bytes;
+  painted = makes.painted;
+  meeting = makes.meeting;
+  kept = makes.kept;
+  grows = record { continues = makes.grows.continues; names = omega (arith, makes.grows.names, less) };
+  loans = makes.loans;
+  valid = makes.valid;
+}
 
 pub makes-raise : (root : RootTiles) (r : Rectangle) (f : ℕ → ℕ → ℕ → ℕ) (added most : ℕ) (old now : ChainState) (entries : List (Tile × ℕ))
     → added ≤ most → Makes root r f added old now entries → Makes root r f most old now entries
@@ -147,10 +164,10 @@ painted-first root r f old now at bytes same painted = λ u v c there known.
     ∙ ap (λ (n : ℕ). cond (is_inside u v r) (f u v c) n)
     (ap (λ (o : Option (List ℕ)). option_map_or (λ bytes. pixels_from_raw (tile_square (tile_at u v)) root.tiles.format bytes u v c) o 0) (same (tile_at u v)))
 
--- a tile that meets the rectangle is made, painted
-module _ (root : RootTiles) (r : Rectangle) (f : ℕ → ℕ → ℕ → ℕ) (added : ℕ) (old now new : ChainState) (entries more : List (Tile × ℕ))
-    (at : Tile) (bytes : List ℕ) (name : ℕ) (is : more ≡ entries ++ (at, name) ∷ []) (makes : Makes root r f added old now entries)
-    (respects : Respects now.held new.held (values_of entries) (values_of more)) where
+-- a tile that meets the part is made, painted
+module _ (root : RootTiles) (part r : Rectangle) (f : ℕ → ℕ → ℕ → ℕ) (added : ℕ) (old now new : ChainState) (before entries more : List (Tile × ℕ))
+    (at : Tile) (bytes : List ℕ) (name : ℕ) (is : more ≡ entries ++ (at, name) ∷ []) (makes : MakesMore root part r f added old now before entries)
+    (respects : Respects now.held new.held (values_of entries) (values_of more)) (meets : Meets at part) where
   owns : Owns now.held (values_of entries ++ root_names root)
   owns =
       owns-fewer now.held (root_names root ++ values_of entries) (values_of entries ++ root_names root)
@@ -162,41 +179,109 @@ module _ (root : RootTiles) (r : Rectangle) (f : ℕ → ℕ → ℕ → ℕ) (a
       (λ q. omega (arith, times-append (root_names root) (values_of more) q, times-append (values_of more) (root_names root) q))
       (others-own now.held new.held (values_of entries) (values_of more) respects (root_names root) owns)
 
-  others-next : Respects old.held new.held (root_names root) (root_names root ++ values_of more)
+  others-next : Respects old.held new.held (root_names root ++ values_of before) (root_names root ++ values_of more)
   others-next =
-      respects-both old.held now.held (root_names root) (root_names root ++ values_of entries) makes.others new.held (root_names root ++ values_of more)
+      respects-both old.held now.held (root_names root ++ values_of before) (root_names root ++ values_of entries) makes.others new.held (root_names root ++ values_of more)
       (respects-beside now.held new.held (values_of entries) (values_of more) respects (root_names root ++ values_of entries) (root_names root ++ values_of more) (root_names root)
       (λ q. omega (arith, times-append (root_names root) (values_of entries) q)) (λ q. omega (arith, times-append (root_names root) (values_of more) q)))
 
   painted-next : IsSome old.held.content → tiles_in new.held more ≡ tiles_in now.held entries ++ (at, Some bytes) ∷ []
       → IsPainted root.tiles.format (bytes_in old.held root.tiles.put) r f at bytes
-      → ArePainted root.tiles.format (bytes_in old.held root.tiles.put) r f (tiles_in new.held more)
+      → (tile : Tile) (found : Option (List ℕ)) → Contains (tiles_in new.held more) (tile, found)
+      → IsPaintedOrThere root.tiles.format (bytes_in old.held root.tiles.put) part r f (tiles_in old.held before) tile found
   painted-next exposed tiles painted tile found there =
       elim (last-cases (tiles_in now.held entries) (at, Some bytes) (tile, found) (subst (λ (es : List (Tile × Option (List ℕ))). Contains es (tile, found)) tiles there)) [
-        | inl before ↦ makes.painted exposed tile found before
-        | inr here ↦ subst (λ (e : Tile × Option (List ℕ)). IsSomeAnd e.1 (IsPainted root.tiles.format (bytes_in old.held root.tiles.put) r f e.0)) here painted
+        | inl first ↦ makes.painted exposed tile found first
+        | inr here ↦ subst (λ (e : Tile × Option (List ℕ)). IsPaintedOrThere root.tiles.format (bytes_in old.held root.tiles.put) part r f (tiles_in old.held before) e.0 e.1)
+            here (inr (meets, painted))
       ]
 
-  meeting-next : Meets at r → (tile : Tile) → Contains (keys_of more) tile → Meets tile r
-  meeting-next meets tile there =
+  meeting-next : (tile : Tile) → Contains (keys_of more) tile → Contains (keys_of before) tile ⊎ Meets tile part
+  meeting-next tile there =
       elim (last-cases (keys_of entries) at tile (subst (λ (ks : List Tile). Contains ks tile) (ap keys_of is ∙ keys-last entries (at, name)) there)) [
-        | inl before ↦ makes.meeting tile before
-        | inr here ↦ subst (λ (t : Tile). Meets t r) here meets
+        | inl first ↦ makes.meeting tile first
+        | inr here ↦ inr (subst (λ (t : Tile). Meets t part) here meets)
       ]
 
-  pub makes-next : AreNewTiles root.tiles.format more new.held
+  pub more-next : AreNewTiles root.tiles.format more new.held
       → (IsSome now.held.content → tiles_in new.held more ≡ tiles_in now.held entries ++ (at, Some bytes) ∷ [])
       → (IsSome old.held.content → IsPainted root.tiles.format (bytes_in old.held root.tiles.put) r f at bytes)
-      → Meets at r → Grows 1 now.counts new.counts → new.loans ≡ now.loans → (now.valid → new.valid) → Makes root r f (added + 1) old new more
-  makes-next made tiles painted meets counts loans valid = record {
+      → Grows 1 now.counts new.counts → new.loans ≡ now.loans → (now.valid → new.valid) → MakesMore root part r f (added + 1) old new before more
+  more-next made tiles painted counts loans valid = record {
     made = made;
     owned = owned-next;
     others = others-next;
     over = root-beside root now.held new.held (values_of entries) (values_of more) respects owns makes.over;
     bytes = λ tile. bytes-beside now.held new.held (values_of entries) (values_of more) respects root.tiles owns tile ∙ makes.bytes tile;
     painted = λ exposed. painted-next exposed (tiles (makes.others.exposed ∙ exposed)) (painted exposed);
-    meeting = meeting-next meets;
+    meeting = meeting-next;
+    kept = λ tile there. keys-more entries more at name is tile (inl (makes.kept tile there));
     grows = grows-both added 1 old.counts now.counts new.counts makes.grows counts;
     loans = loans ∙ makes.loans;
     valid = λ is. valid (makes.valid is);
   }
+
+-- nothing is made beside a root yet
+pub makes-none : (root : RootTiles) (r : Rectangle) (f : ℕ → ℕ → ℕ → ℕ) (state : ChainState) (entries : List (Tile × ℕ)) → entries ≡ []
+    → IsRootOver root state.held → Makes root r f 0 state state entries
+makes-none root r f state entries none over =
+    let P : List (Tile × ℕ) → Type 0 = λ es. Makes root r f 0 state state es in
+    subst P (sym none) (record {
+      made = made-none root.tiles.format state.held;
+      owned = owns-fewer state.held (root_names root) (root_names root ++ []) (λ q. omega (arith, times-append (root_names root) [] q)) over.table.owned;
+      others = respects-beside state.held state.held [] [] (respects-same state.held []) (root_names root) (root_names root ++ []) (root_names root)
+          (λ q. omega arith) (λ q. omega (arith, times-append (root_names root) [] q));
+      over = over;
+      bytes = λ tile. refl;
+      painted = λ exposed tile bytes there. absurd (none-in (tile, bytes) there);
+      meeting = λ tile there. absurd (none-in tile there);
+      grows = grows-same state.counts;
+      loans = refl;
+      valid = λ is. is;
+    })
+
+-- tiles of a part are made after others, as they are painted over the whole
+module _ (root : RootTiles) (whole part r : Rectangle) (f g : ℕ → ℕ → ℕ → ℕ) (added more : ℕ) (old now new : ChainState) (before after : List (Tile × ℕ))
+    (makes : Makes root whole f added old now before) (next : MakesMore root part r g more now new before after) (inside : Includes whole part)
+    (painted : (tile : Tile) (bytes : List ℕ) → Meets tile part → IsPainted root.tiles.format (bytes_in old.held root.tiles.put) r g tile bytes
+    → IsPainted root.tiles.format (bytes_in old.held root.tiles.put) whole f tile bytes) where
+  painted-whole : (tile : Tile) (found : Option (List ℕ)) → Meets tile part → IsSomeAnd found (IsPainted root.tiles.format (bytes_in now.held root.tiles.put) r g tile)
+      → IsSomeAnd found (IsPainted root.tiles.format (bytes_in old.held root.tiles.put) whole f tile)
+  painted-whole tile None meets is = absurd is
+  painted-whole tile (Some bytes) meets is = painted tile bytes meets (painted-first root r g old.held now.held tile bytes makes.bytes is)
+
+  pub makes-then : Makes root whole f (added + more) old new after
+  makes-then = record {
+    made = next.made;
+    owned = next.owned;
+    others = respects-both old.held now.held (root_names root) (root_names root ++ values_of before) makes.others new.held (root_names root ++ values_of after) next.others;
+    over = next.over;
+    bytes = λ tile. next.bytes tile ∙ makes.bytes tile;
+    painted = λ exposed tile bytes there. elim (next.painted (makes.others.exposed ∙ exposed) tile bytes there) [
+      | inl first ↦ makes.painted exposed tile bytes first
+      | inr here ↦ painted-whole tile bytes here.0 here.1
+    ];
+    meeting = λ tile there. elim (next.meeting tile there) [
+      | inl first ↦ makes.meeting tile first
+      | inr meets ↦ (meets.0, meets.1, inside meets.0 meets.1 meets.2, meets.3)
+    ];
+    grows = grows-both added more old.counts now.counts new.counts makes.grows next.grows;
+    loans = next.loans ∙ makes.loans;
+    valid = λ is. next.valid (makes.valid is);
+  }
+
+-- all of a rectangle at once
+pub makes-all : (root : RootTiles) (r : Rectangle) (f : ℕ → ℕ → ℕ → ℕ) (added : ℕ) (old new : ChainState) (before after : List (Tile × ℕ)) → before ≡ []
+    → IsRootOver root old.held → MakesMore root r r f added old new before after → Makes root r f added old new after
+makes-all root r f added old new before after none over next =
+    let sum : 0 + added ≡ added = omega arith in
+    subst (λ n. Makes root r f n old new after) sum
+    (makes-then root r r r f f 0 added old old new before after (makes-none root r f old before none over) next (λ u v there. there) (λ tile bytes meets is. is))
+
+-- what a list of no tile asks of a chain
+pub none-made : (root : RootTiles) (held : Held) (entries : List (Tile × ℕ)) → entries ≡ [] → IsRootOver root held
+    → AreNewTiles root.tiles.format entries held × Owns held (root_names root ++ values_of entries)
+none-made root held entries none over =
+    let P : List (Tile × ℕ) → Type 0 = λ es. AreNewTiles root.tiles.format es held × Owns held (root_names root ++ values_of es) in
+    subst P (sym none)
+    (made-none root.tiles.format held, owns-fewer held (root_names root) (root_names root ++ []) (λ q. omega (arith, times-append (root_names root) [] q)) over.table.owned)

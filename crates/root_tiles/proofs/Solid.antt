@@ -22,7 +22,7 @@ get-taken [] (suc n) i less = refl
 get-taken (x ∷ xs) (suc n) zero less = refl
 get-taken (x ∷ xs) (suc n) (suc i) less = get-taken xs n i (omega (arith, less))
 
-length-taken : (xs : List ℕ) (n : ℕ) → n ≤ length xs → length (take n xs) ≡ n
+pub length-taken : (xs : List ℕ) (n : ℕ) → n ≤ length xs → length (take n xs) ≡ n
 length-taken xs zero less = refl
 length-taken [] (suc n) less = absurd (omega (arith, less))
 length-taken (x ∷ xs) (suc n) less = ap suc (length-taken xs n (omega (arith, less)))
@@ -31,7 +31,7 @@ length-taken (x ∷ xs) (suc n) less = ap suc (length-taken xs n (omega (arith, 
 abbrev IsTaken : ℕ → Type 0
 IsTaken d = (xs : List ℕ) (n i : ℕ) → d * (i + 1) ≤ n → sample_at d (take n xs) i ≡ sample_at d xs i
 
-sample-taken : (format : Format) → IsTaken (depth format)
+pub sample-taken : (format : Format) → IsTaken (depth format)
 sample-taken format =
     by_depth IsTaken
     (λ xs n i less. get-taken xs n i (omega (arith, less)))
@@ -39,7 +39,7 @@ sample-taken format =
     format
 
 -- a sample of one of the first pixels is in their bytes
-within : (format : Format) (count o c : ℕ) → o < count → c < channels format → depth format * ((o * channels format + c) + 1) ≤ count * pixel_bytes format
+pub within : (format : Format) (count o c : ℕ) → o < count → c < channels format → depth format * ((o * channels format + c) + 1) ≤ count * pixel_bytes format
 within Y8 count o c below known = omega (arith, below, known)
 within YA8 count o c below known = omega (arith, below, known)
 within RGB8 count o c below known = omega (arith, below, known)

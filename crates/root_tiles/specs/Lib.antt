@@ -1,3 +1,4 @@
+pub mod Bands
 pub mod Chains
 pub mod Cutting
 pub mod Growth

@@ -8,7 +8,7 @@ ghost use Rattle.root_tiles.specs.Cutting.{AreCutFrom, IsRaster, raster_cutting}
 use crate::cutting::{CutTile, Raster};
 use crate::ready::ReadyTiles;
 use no_memory::NoMemory;
-use plane_rect::{TileAt, Tiles};
+use plane_rect::{Rect, TileAt, Tiles};
 use std::alloc::Global;
 use std::thread::Threads;
 use std::vec::IntoIter;
@@ -16,13 +16,13 @@ use tile_cow::Tile;
 use worker_pieces::Workers;
 
 /// How many bytes of tiles a batch has at most, which is how much of a raster is held a second time.
-const BATCH_BYTES: usize = 4 << 20;
+pub(crate) const BATCH_BYTES: usize = 4 << 20;
 
 /// How many bytes of covered tiles make a batch worth splitting. One thread writes so many in 310 us into memory
 /// that was in use before, and in 550 into new memory, at best, and the threads of four workers start in 40 to 150.
 const SPLIT_BYTES: usize = 2 << 20;
 
-/// The tiles of a raster, a batch of which several threads cut when the first of it is asked for.
+/// The tiles of a part of a raster, a batch of which several threads cut when the first of it is asked for.
 #[derive(Drop)]
 pub(crate) struct CutTiles<'a, R: Threads + Sync> {
     raster: &'a Raster<'a>,
@@ -36,13 +36,13 @@ pub(crate) struct CutTiles<'a, R: Threads + Sync> {
 }
 
 impl<'a, R: Threads + Sync> CutTiles<'a, R> {
-    /// Returns the tiles of a raster. None is cut yet.
-    pub fn new(raster: &'a Raster<'a>, workers: Workers<'a, R>) -> CutTiles<'a, R>
+    /// Returns the tiles of a part of a raster. None is cut yet.
+    pub fn new(raster: &'a Raster<'a>, part: &Rect, workers: Workers<'a, R>) -> CutTiles<'a, R>
         requires { IsRaster raster.now }
         ensures raster { result.raster.now ≡ raster.now }
         ensures cut { AreCutFrom result.raster.now result.left (into_iter_items result.batch) }
     {
-        let left = raster.rect.tiles();
+        let left = part.tiles();
         let batch = Vec::new(raster.alloc).into_iter();
         CutTiles {
             raster,

@@ -1,6 +1,6 @@
 //! Rectangles of a root that are written, all or nothing.
 
-ghost use Rattle.std.specs.Prelude.{◌≡◌, ℕ, ◌+◌, ◌<◌, ◌≤◌, [], All, IfErr, IfOk, OnErr, OnOk, length, slice_index};
+ghost use Rattle.std.specs.Prelude.{◌≡◌, ℕ, ◌+◌, ◌<◌, All, IfErr, IfOk, OnErr, OnOk, length, slice_index};
 ghost use Rattle.std.specs.Option.{option_map};
 ghost use Rattle.chain_owners.specs.Counts.{Grows};
 ghost use Rattle.chain_owners.specs.Owners.{Respects};
@@ -12,15 +12,13 @@ ghost use Rattle.pixel_formats.specs.Row.{sample_at};
 ghost use Rattle.plane_rect.specs.Rectangle.{Includes};
 ghost use Rattle.solid_patches.specs.Samples.{IsSampleOf};
 ghost use Rattle.swap_store.specs.Cause.{HasSwapCause};
-ghost use Rattle.root_tiles.specs.Cutting.{cutting_of};
-ghost use Rattle.root_tiles.specs.Made.{HasAll, Makes};
-ghost use Rattle.root_tiles.specs.Paints.{IsPaint, IsSolid, paint_pixels};
+ghost use Rattle.root_tiles.specs.Paints.{IsSolid};
 ghost use Rattle.root_tiles.specs.Roots.{IsRootOver, root_image, root_names, root_shape};
 
-use crate::cut_tiles::CutTiles;
-use crate::cutting::Raster;
+use crate::bands::Bands;
+use crate::cut_tiles::BATCH_BYTES;
+use crate::makers::{SplitRaw, TileMaker};
 use crate::paint::Paint;
-use crate::ready::{NoneReady, ReadyTiles};
 use crate::root::Root;
 use chain_contracts::TileChain;
 use level_tables::NewTiles;
@@ -31,6 +29,10 @@ use std::thread::Threads;
 use swap_store::SwapRefused;
 use tile_cow::Tile;
 use worker_pieces::Workers;
+
+/// How many bytes of memory may lie idle, to be used again: the pages of new memory take as long as the bytes
+/// are copied, and more than these are a large part of what a job may take.
+pub const IDLE_BYTES: usize = 64 << 20;
 
 impl Root {
     /// Writes raw bytes over a rectangle of the box: its pixels row by row, each row from the left. Several workers
@@ -66,18 +68,92 @@ impl Root {
         ensures loans { C.loans chain.new ≡ C.loans chain.old }
         ensures valid { C.is_valid chain.old → C.is_valid chain.new }
     {
-        if !workers.are_several() {
-            return self.put_raw_alone(chain, rect, bytes);
+        self.write(chain, rect, &mut SplitRaw { bytes, workers })
+    }
+
+    /// Writes raw bytes over a rectangle of the box as [`Root::put_raw`] does, and returns memory that is left of
+    /// them, of which nothing is known: all of them up to [`IDLE_BYTES`]. The memory of more is given back while the
+    /// tiles are made, so that the raster and its tiles together take little more than one of them.
+    ///
+    /// # Errors
+    ///
+    /// As [`Root::put_raw`].
+    pub fn put_vec<C: TileChain, R: Threads + Sync>(
+        &mut self,
+        chain: &mut C,
+        rect: Rect,
+        bytes: Vec<u8>,
+        workers: Workers<'_, R>,
+    ) -> Result<Vec<u8>, SwapRefused>
+        requires over { IsRootOver self.old (C.held chain.old) }
+        requires inside { Includes self.old.box rect }
+        requires count { length bytes.items ≡ byte_count rect self.old.tiles.format }
+        ensures image { OnOk result (root_image self.new (C.held chain.new) ≡ option_map
+            (λ image. painted image rect (pixels_from_raw rect self.old.tiles.format bytes.items))
+            (root_image self.old (C.held chain.old))) }
+        ensures shape { root_shape self.new ≡ root_shape self.old }
+        ensures unchanged { OnErr result (self.new ≡ self.old) }
+        ensures same { OnErr result (root_image self.new (C.held chain.new) ≡ root_image self.old (C.held chain.old)) }
+        ensures over { IsRootOver self.new (C.held chain.new) }
+        ensures others { Respects (C.held chain.old) (C.held chain.new) (root_names self.old) (root_names self.new) }
+        ensures counts { Grows (tile_count rect) (C.counts chain.old) (C.counts chain.new) }
+        ensures cause { IfErr result (HasSwapCause (C.counts chain.old) (C.counts chain.new)
+            ((C.counts chain.old).names + tile_count rect)) }
+        ensures loans { C.loans chain.new ≡ C.loans chain.old }
+        ensures valid { C.is_valid chain.old → C.is_valid chain.new }
+    {
+        if bytes.len() <= IDLE_BYTES {
+            self.put_raw(chain, rect, &bytes, workers)?;
+            return Ok(bytes);
         }
-        let raster = Raster {
-            alloc: self.alloc,
-            format: self.format(),
-            bounds: self.bounds(),
-            rect,
+        let lines = self.lines_of_batch(&rect);
+        self.put_bands(chain, rect, bytes, lines, workers)?;
+        Ok(Vec::new(self.alloc))
+    }
+
+    /// Writes raw bytes over a rectangle of the box as [`Root::put_raw`] does, in bands of so many rows of tiles, or of
+    /// one if none is asked for, from the last on. The memory of a band is given back once its tiles are made.
+    ///
+    /// # Errors
+    ///
+    /// As [`Root::put_raw`].
+    pub fn put_bands<C: TileChain, R: Threads + Sync>(
+        &mut self,
+        chain: &mut C,
+        rect: Rect,
+        bytes: Vec<u8>,
+        lines: u32,
+        workers: Workers<'_, R>,
+    ) -> Result<(), SwapRefused>
+        requires over { IsRootOver self.old (C.held chain.old) }
+        requires inside { Includes self.old.box rect }
+        requires count { length bytes.items ≡ byte_count rect self.old.tiles.format }
+        ensures image { OnOk result (root_image self.new (C.held chain.new) ≡ option_map
+            (λ image. painted image rect (pixels_from_raw rect self.old.tiles.format bytes.items))
+            (root_image self.old (C.held chain.old))) }
+        ensures shape { root_shape self.new ≡ root_shape self.old }
+        ensures unchanged { OnErr result (self.new ≡ self.old) }
+        ensures same { OnErr result (root_image self.new (C.held chain.new) ≡ root_image self.old (C.held chain.old)) }
+        ensures over { IsRootOver self.new (C.held chain.new) }
+        ensures others { Respects (C.held chain.old) (C.held chain.new) (root_names self.old) (root_names self.new) }
+        ensures counts { Grows (tile_count rect) (C.counts chain.old) (C.counts chain.new) }
+        ensures cause { IfErr result (HasSwapCause (C.counts chain.old) (C.counts chain.new)
+            ((C.counts chain.old).names + tile_count rect)) }
+        ensures loans { C.loans chain.new ≡ C.loans chain.old }
+        ensures valid { C.is_valid chain.old → C.is_valid chain.new }
+    {
+        let mut bands = Bands {
             bytes,
+            lines,
+            workers,
         };
-        let mut ready = CutTiles::new(&raster, workers);
-        self.write(chain, rect, &Paint::Raw(bytes), &mut ready)
+        self.write(chain, rect, &mut bands)
+    }
+
+    /// Returns how many rows of tiles of a rectangle make a batch that several workers cut, or 0 if one is more.
+    fn lines_of_batch(&self, rect: &Rect) -> u32 {
+        let tiles = BATCH_BYTES as u32 / self.table.tile_len();
+        tiles / (rect.w / TILE_SIDE + 1)
     }
 
     /// Writes raw bytes over a rectangle of the box as [`Root::put_raw`] does, on the caller's thread alone.
@@ -108,7 +184,7 @@ impl Root {
         ensures loans { C.loans chain.new ≡ C.loans chain.old }
         ensures valid { C.is_valid chain.old → C.is_valid chain.new }
     {
-        self.write(chain, rect, &Paint::Raw(bytes), &mut NoneReady)
+        self.write(chain, rect, &mut Paint::Raw(bytes))
     }
 
     /// Writes one pixel at each position of a rectangle of the box: a sample for each channel. After an error
@@ -142,7 +218,7 @@ impl Root {
         ensures valid { C.is_valid chain.old → C.is_valid chain.new }
     {
         let tile = self.solid_tile(samples)?;
-        self.write(chain, rect, &Paint::Solid(&tile), &mut NoneReady)
+        self.write(chain, rect, &mut Paint::Solid(&tile))
     }
 
     /// Returns a tile of one pixel everywhere.
@@ -159,19 +235,17 @@ impl Root {
     }
 
     /// Writes over a rectangle of the box. After an error the tiles and the image are as before.
-    fn write<C: TileChain, T: ReadyTiles>(
+    fn write<C: TileChain, M: TileMaker>(
         &mut self,
         chain: &mut C,
         rect: Rect,
-        paint: &Paint,
-        ready: &mut T,
+        maker: &mut M,
     ) -> Result<(), SwapRefused>
         requires over { IsRootOver self.old (C.held chain.old) }
         requires inside { Includes self.old.box rect }
-        requires paint { IsPaint self.old.tiles.format rect paint.now }
-        requires ready { T.are_cut ready.old (cutting_of self.old rect paint.now) }
+        requires fits { M.fits maker.old self.old rect }
         ensures image { OnOk result (root_image self.new (C.held chain.new) ≡ option_map
-            (λ image. painted image rect (paint_pixels self.old.tiles.format rect paint.now))
+            (λ image. painted image rect (M.pixels maker.old self.old.tiles.format rect))
             (root_image self.old (C.held chain.old))) }
         ensures shape { root_shape self.new ≡ root_shape self.old }
         ensures unchanged { OnErr result (self.new ≡ self.old) }
@@ -186,43 +260,11 @@ impl Root {
     {
         self.table.reserve(rect.tiles().count())?;
         let mut made = NewTiles::new(self.alloc, self.format());
-        if let Err(refused) = self.make(chain, rect, paint, ready, &mut made) {
+        if let Err(refused) = maker.make(self, chain, rect, &mut made) {
             made.discard(chain);
             return Err(refused);
         }
         self.table.switch(chain, made);
-        Ok(())
-    }
-
-    /// Makes the tiles beside the root as they are once something is written over a rectangle of the box.
-    fn make<C: TileChain, T: ReadyTiles>(
-        &self,
-        chain: &mut C,
-        rect: Rect,
-        paint: &Paint,
-        ready: &mut T,
-        made: &mut NewTiles,
-    ) -> Result<(), SwapRefused>
-        requires over { IsRootOver self.now (C.held chain.old) }
-        requires inside { Includes self.now.box rect }
-        requires paint { IsPaint self.now.tiles.format rect paint.now }
-        requires ready { T.are_cut ready.old (cutting_of self.now rect paint.now) }
-        requires format { made.old.format ≡ self.now.tiles.format }
-        requires none { made.old.entries ≡ [] }
-        ensures format { made.new.format ≡ self.now.tiles.format }
-        ensures made { Makes self.now rect (paint_pixels self.now.tiles.format rect paint.now) (tile_count rect)
-            (record { held = C.held chain.old; counts = C.counts chain.old; loans = C.loans chain.old; valid = C.is_valid chain.old })
-            (record { held = C.held chain.new; counts = C.counts chain.new; loans = C.loans chain.new; valid = C.is_valid chain.new })
-            made.new.entries }
-        ensures few { length made.new.entries ≤ tile_count rect }
-        ensures all { OnOk result (HasAll rect made.new.entries) }
-        ensures cause { IfErr result (HasSwapCause (C.counts chain.old) (C.counts chain.new)
-            ((C.counts chain.old).names + tile_count rect)) }
-    {
-        for at in rect.tiles() {
-            let tile = self.next_tile(chain, at, rect, paint, ready)?;
-            made.add(chain, at, tile)?;
-        }
         Ok(())
     }
 }

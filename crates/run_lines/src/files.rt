@@ -21,7 +21,6 @@ ghost use Rattle.script_read.specs.Limits.{IsInLimits};
 use crate::stop::Stop;
 use chain_contracts::TileChain;
 use commit_session::SessionState;
-use model_buffers::{BufferEdit, RawBytes};
 use model_operations::IntOp;
 use model_runs::End;
 use outside_io::{Shelf, ShelfAnswer, Sink};
@@ -67,12 +66,7 @@ pub(crate) fn load<C: TileChain, F: Shelf, R: Threads + Sync>(
     }
     let wanted = rect.area() * u64::from(fact.format.pixel_bytes());
     let raster = read_raster(file, wanted, shelf)?;
-    let put = BufferEdit::Put {
-        name: *name,
-        rect: *rect,
-        bytes: RawBytes::new(raster),
-    };
-    session.edit(chain, &put, workers)?;
+    session.put(chain, *name, *rect, raster, workers)?;
     Ok(())
 }
 

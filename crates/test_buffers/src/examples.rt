@@ -43,11 +43,11 @@ pub fn write_to_parts<C: TileChain>(
     check(rt, &mut buffers, chain, "p", 1, 0)?;
     check(rt, &mut buffers, chain, "p", 7, 5)?;
     check(rt, &mut buffers, chain, "p", 8, 0)?;
-    buffers.put_raw(
+    buffers.put_vec(
         chain,
         name("p")?,
         rect([2, 0, 3, 1]),
-        &[1, 2, 3],
+        [1, 2, 3].to_vec(alloc)?,
         Workers::new(rt, 2),
     )?;
     check(rt, &mut buffers, chain, "a", 3, 2)?;

@@ -1,22 +1,15 @@
-use Rattle.std.proofs.Common.{◌≡◌, None, sym, ap, ◌∙◌, rules}
+use Rattle.std.proofs.Common.{sym, ap, ◌∙◌}
+use Rattle.std.specs.Option.{option_and_then}
+use Rattle.std.specs.Prelude.{Ok}
+use Rattle.model_buffers.specs.BufferEdit.{on_root}
 use Rattle.model_graphs.specs.Facts.{rectangles_of}
-use Rattle.std.specs.Option.{option_map}
 use Rattle.commit_session.specs.Steps.{after_writing}
-use Rattle.commit_session.proofs.Hulls.{pair_of, written-is}
+use Rattle.commit_session.specs.declared.written.Target.{Target}
 use Rattle.commit_session.proofs.written.note_written.Goals as goal
 
-pub returns-in-Some-fact : goal.returns-in-Some-fact
-returns-in-Some-fact c =
+pub returns-in-Some : goal.returns-in-Some
+returns-in-Some c =
     let layout = c.args.buffers.now.layout in
-    let target = c.in-Some.target in
-    let is = written-is layout c.args.edit.now c.target_of.result target c.fact.result (c.target_of.ensures layout) c.in-Some.is c.fact.ensures in
-    c.add_written.ensures
-    ∙ sym (ap (after_writing (rectangles_of c.args.written.now.items)) (is ∙ ap (option_map (pair_of target.rect)) c.in-Some-fact.is))
-
-pub returns-in_default-fact : goal.returns-in_default-fact
-returns-in_default-fact c =
-    let layout = c.args.buffers.now.layout in
-    let target = c.in-Some.target in
-    let is = written-is layout c.args.edit.now c.target_of.result target c.fact.result (c.target_of.ensures layout) c.in-Some.is c.fact.ensures in
-    let none : c.fact.result ≡ None = search rules in
-    sym (ap (after_writing (rectangles_of c.args.written.now.items)) (is ∙ ap (option_map (pair_of target.rect)) none))
+    c.note_target.ensures
+    ∙ sym (ap (after_writing (rectangles_of c.args.written.now.items))
+    (c.target_of.ensures layout ∙ ap (option_and_then (λ (t : Target). on_root layout t.buffer (Ok t.rect))) c.in-Some.is))

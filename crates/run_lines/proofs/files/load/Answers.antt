@@ -65,46 +65,46 @@ pub returns-in_err-raster-clause-faults : goal.returns-in_err-raster-clause-faul
 returns-in_err-raster-clause-faults g c = λ text puts.
     same_stop_faults c.read_raster.result c.in_err-raster.field-0.0 _ _ _ c.in_err-raster.was c.from_residual.ensures.1 (c.read_raster.ensures.faults text puts (g.C.ChainMeaning.counts c.args.chain.now))
 
-pub returns-in_err-edit-clause-did : goal.returns-in_err-edit-clause-did
-returns-in_err-edit-clause-did g c = λ text puts exposed capacity state files holds.
+pub returns-in_err-put-clause-did : goal.returns-in_err-put-clause-did
+returns-in_err-put-clause-did g c = λ text puts exposed capacity state files holds.
     let line = c.args.line.now.number in
     let shelf = g.F.Shelf.files c.args.shelf.now in
     let old : SessionOver = record { parts = c.args.session.now; held = g.C.ChainMeaning.held c.args.chain.now; counts = g.C.ChainMeaning.counts c.args.chain.now } in
-    let new : SessionOver = record { parts = c.edit.new.self; held = g.C.ChainMeaning.held c.edit.new.chain; counts = g.C.ChainMeaning.counts c.edit.new.chain } in
-    let bytes = c.new.result in
-    let refused = c.in_err-edit.field-0.0 in
+    let new : SessionOver = record { parts = c.put.new.self; held = g.C.ChainMeaning.held c.put.new.chain; counts = g.C.ChainMeaning.counts c.put.new.chain } in
+    let bytes = c.in_ok-raster.raster.items in
+    let refused = c.in_err-put.field-0.0 in
     let edited : IsEdited (Put c.in-Load.name c.in-Load.rect bytes) (Err refused) old new = record {
       carried_out = tt;
       session = λ before of. tt;
-      exact = c.in_err-edit.ensures.exact;
-      cause = c.in_err-edit.ensures.cause;
-      capacity = c.in_err-edit.ensures.states.capacity;
-      content = c.in_err-edit.ensures.left.others.exposed;
-      counts = c.in_err-edit.ensures.left.counts;
+      exact = c.in_err-put.ensures.exact;
+      cause = c.in_err-put.ensures.cause;
+      capacity = c.in_err-put.ensures.states.capacity;
+      content = c.in_err-put.ensures.left.others.exposed;
+      counts = c.in_err-put.ensures.left.counts;
     } in
-    let read = subst (λ (b : List ℕ). IfSome shelf (λ (actual : Files). file actual c.in-Load.file ≡ Some b)) (sym c.new.ensures) c.in_ok-raster.ensures.raster in
+    let read = c.in_ok-raster.ensures.raster in
     rw c.in-Load.is
-    (same_stop exposed capacity line state files _ (stop_of refused) _ _ _ new.parts new.held c.from_residual-in_err-edit.ensures.1
+    (same_stop exposed capacity line state files _ (stop_of refused) _ _ _ new.parts new.held c.from_residual-in_err-put.ensures.1
     (load_stopped exposed capacity line state files old new shelf c.in-Load.name c.in-Load.rect c.in-Load.file bytes c.in-Some.fact text _ _ _ _ _ _ _ c.in_ok-raster.ensures.files holds
     (sym c.extent.ensures ∙ c.in-Some.is) read refused edited))
 
-pub returns-in_err-edit-clause-faults : goal.returns-in_err-edit-clause-faults
-returns-in_err-edit-clause-faults g c = λ text puts.
+pub returns-in_err-put-clause-faults : goal.returns-in_err-put-clause-faults
+returns-in_err-put-clause-faults g c = λ text puts.
     let old : SessionOver = record { parts = c.args.session.now; held = g.C.ChainMeaning.held c.args.chain.now; counts = g.C.ChainMeaning.counts c.args.chain.now } in
-    let new : SessionOver = record { parts = c.edit.new.self; held = g.C.ChainMeaning.held c.edit.new.chain; counts = g.C.ChainMeaning.counts c.edit.new.chain } in
-    let put = Put c.in-Load.name c.in-Load.rect c.new.result in
-    let refused = c.in_err-edit.field-0.0 in
+    let new : SessionOver = record { parts = c.put.new.self; held = g.C.ChainMeaning.held c.put.new.chain; counts = g.C.ChainMeaning.counts c.put.new.chain } in
+    let put = Put c.in-Load.name c.in-Load.rect c.in_ok-raster.raster.items in
+    let refused = c.in_err-put.field-0.0 in
     let edited : IsEdited put (Err refused) old new = record {
       carried_out = tt;
       session = λ before of. tt;
-      exact = c.in_err-edit.ensures.exact;
-      cause = c.in_err-edit.ensures.cause;
-      capacity = c.in_err-edit.ensures.states.capacity;
-      content = c.in_err-edit.ensures.left.others.exposed;
-      counts = c.in_err-edit.ensures.left.counts;
+      exact = c.in_err-put.ensures.exact;
+      cause = c.in_err-put.ensures.cause;
+      capacity = c.in_err-put.ensures.states.capacity;
+      content = c.in_err-put.ensures.left.others.exposed;
+      counts = c.in_err-put.ensures.left.counts;
     } in
     let stopped : Result (Unit {0}) Stop = Err (stop_of refused) in
-    same_stop_faults stopped (stop_of refused) _ _ _ refl c.from_residual-in_err-edit.ensures.1
+    same_stop_faults stopped (stop_of refused) _ _ _ refl c.from_residual-in_err-put.ensures.1
     (faults_then (Ok tt) _ _ _ _ (c.in_ok-raster.ensures.faults text puts (g.C.ChainMeaning.counts c.args.chain.now))
     (stopped_faults put old new _ text _ _ puts refused edited))
 
@@ -113,18 +113,18 @@ returns-clause-did g c = λ text puts exposed capacity state files holds.
     let line = c.args.line.now.number in
     let shelf = g.F.Shelf.files c.args.shelf.now in
     let old : SessionOver = record { parts = c.args.session.now; held = g.C.ChainMeaning.held c.args.chain.now; counts = g.C.ChainMeaning.counts c.args.chain.now } in
-    let new : SessionOver = record { parts = c.edit.new.self; held = g.C.ChainMeaning.held c.edit.new.chain; counts = g.C.ChainMeaning.counts c.edit.new.chain } in
-    let bytes = c.new.result in
+    let new : SessionOver = record { parts = c.put.new.self; held = g.C.ChainMeaning.held c.put.new.chain; counts = g.C.ChainMeaning.counts c.put.new.chain } in
+    let bytes = c.in_ok-raster.raster.items in
     let edited : IsEdited (Put c.in-Load.name c.in-Load.rect bytes) (Ok tt) old new = record {
-      carried_out = c.in_ok-edit.ensures.edited.carried_out;
-      session = c.in_ok-edit.ensures.session;
-      exact = c.in_ok-edit.ensures.exact;
+      carried_out = c.in_ok-put.ensures.edited.carried_out;
+      session = c.in_ok-put.ensures.session;
+      exact = c.in_ok-put.ensures.exact;
       cause = tt;
-      capacity = c.in_ok-edit.ensures.states.capacity;
-      content = c.in_ok-edit.ensures.left.others.exposed;
-      counts = c.in_ok-edit.ensures.left.counts;
+      capacity = c.in_ok-put.ensures.states.capacity;
+      content = c.in_ok-put.ensures.left.others.exposed;
+      counts = c.in_ok-put.ensures.left.counts;
     } in
-    let read = subst (λ (b : List ℕ). IfSome shelf (λ (actual : Files). file actual c.in-Load.file ≡ Some b)) (sym c.new.ensures) c.in_ok-raster.ensures.raster in
+    let read = c.in_ok-raster.ensures.raster in
     rw c.in-Load.is
     (load_done exposed capacity line state files old new shelf c.in-Load.name c.in-Load.rect c.in-Load.file bytes c.in-Some.fact text _ _ _ _ _ _ _ c.in_ok-raster.ensures.files holds
     (sym c.extent.ensures ∙ c.in-Some.is) read edited)
@@ -132,4 +132,4 @@ returns-clause-did g c = λ text puts exposed capacity state files holds.
 pub returns-clause-faults : goal.returns-clause-faults
 returns-clause-faults g c = λ text puts.
     faults_then (Ok tt) _ _ _ _ (c.in_ok-raster.ensures.faults text puts (g.C.ChainMeaning.counts c.args.chain.now))
-    (chain_faults _ _ c.in_ok-edit.ensures.left.counts.continues)
+    (chain_faults _ _ c.in_ok-put.ensures.left.counts.continues)

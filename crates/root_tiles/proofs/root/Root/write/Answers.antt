@@ -7,8 +7,6 @@ use Rattle.model_images.specs.Paint.{painted}
 use Rattle.model_images.specs.TileCounts.{tile_count}
 use Rattle.plane_rect.specs.Rectangle.{Includes, Rectangle}
 use Rattle.root_tiles.specs.Chains.{ChainState}
-use Rattle.root_tiles.specs.Cutting.{cutting_of}
-use Rattle.root_tiles.specs.Paints.{paint_pixels}
 use Rattle.root_tiles.specs.Roots.{IsRootOver, RootTiles, root_image, root_names}
 use Rattle.root_tiles.proofs.Written.{given-up-image, given-up-others, given-up-over, switched-image, switched-over}
 use Rattle.root_tiles.proofs.root.Root.write.Goals as goal
@@ -16,10 +14,10 @@ use Rattle.root_tiles.proofs.root.Root.write.Goals as goal
 pub make-requires-clause-inside : goal.make-requires-clause-inside
 make-requires-clause-inside g c = subst (λ (box : Rectangle). Includes box c.args.rect) (sym (ap (λ (root : RootTiles). root.box) c.self.view_is)) c.requires.inside
 
-pub make-requires-clause-ready : goal.make-requires-clause-ready
-make-requires-clause-ready g c =
+pub make-requires-clause-fits : goal.make-requires-clause-fits
+make-requires-clause-fits g c =
     let same : (record { box = c.self.inside.bounds; tiles = c.reserve.new.self.tiles }) ≡ c.args.self.now = ap (λ (tiles : LevelTiles). let r : RootTiles = record { box = c.self.inside.bounds; tiles = tiles } in r) c.reserve.ensures.tiles ∙ c.self.view_is in
-    subst (λ (r : RootTiles). g.T.ReadyTiles.are_cut c.args.ready.now (cutting_of r c.args.rect c.args.paint.now)) (sym same) c.requires.ready
+    subst (λ (r : RootTiles). g.M.TileMaker.fits c.args.maker.now r c.args.rect) (sym same) c.requires.fits
 
 pub returns-in-Err-clause-same : goal.returns-in-Err-clause-same
 returns-in-Err-clause-same g c =
@@ -28,7 +26,7 @@ returns-in-Err-clause-same g c =
     let held = g.C.ChainMeaning.held c.args.chain.now in
     let s0 : ChainState = record { held = held; counts = g.C.ChainMeaning.counts c.args.chain.now; loans = g.C.ChainMeaning.loans c.args.chain.now; valid = g.C.ChainMeaning.is_valid c.args.chain.now } in
     let s2 : ChainState = record { held = g.C.ChainMeaning.held c.make.new.chain; counts = g.C.ChainMeaning.counts c.make.new.chain; loans = g.C.ChainMeaning.loans c.make.new.chain; valid = g.C.ChainMeaning.is_valid c.make.new.chain } in
-    given-up-image root c.args.rect (paint_pixels root.tiles.format c.args.rect c.args.paint.now) (tile_count c.args.rect) s0 s2 c.make.new.made.entries c.make.ensures.made
+    given-up-image root c.args.rect (g.M.TileMaker.pixels c.args.maker.now root.tiles.format c.args.rect) (tile_count c.args.rect) s0 s2 c.make.new.made.entries c.make.ensures.made
     (g.C.ChainMeaning.held c.discard.new.chain) c.discard.ensures.others
     ∙ ap (λ (r : RootTiles). root_image r held) same
 
@@ -37,7 +35,7 @@ returns-in-Err-clause-over g c =
     let root : RootTiles = record { box = c.self.inside.bounds; tiles = c.reserve.new.self.tiles } in
     let s0 : ChainState = record { held = g.C.ChainMeaning.held c.args.chain.now; counts = g.C.ChainMeaning.counts c.args.chain.now; loans = g.C.ChainMeaning.loans c.args.chain.now; valid = g.C.ChainMeaning.is_valid c.args.chain.now } in
     let s2 : ChainState = record { held = g.C.ChainMeaning.held c.make.new.chain; counts = g.C.ChainMeaning.counts c.make.new.chain; loans = g.C.ChainMeaning.loans c.make.new.chain; valid = g.C.ChainMeaning.is_valid c.make.new.chain } in
-    given-up-over root c.args.rect (paint_pixels root.tiles.format c.args.rect c.args.paint.now) (tile_count c.args.rect) s0 s2 c.make.new.made.entries c.make.ensures.made
+    given-up-over root c.args.rect (g.M.TileMaker.pixels c.args.maker.now root.tiles.format c.args.rect) (tile_count c.args.rect) s0 s2 c.make.new.made.entries c.make.ensures.made
     (g.C.ChainMeaning.held c.discard.new.chain) c.discard.ensures.others
 
 pub returns-in-Err-clause-others : goal.returns-in-Err-clause-others
@@ -49,7 +47,7 @@ returns-in-Err-clause-others g c =
     let s0 : ChainState = record { held = held; counts = g.C.ChainMeaning.counts c.args.chain.now; loans = g.C.ChainMeaning.loans c.args.chain.now; valid = g.C.ChainMeaning.is_valid c.args.chain.now } in
     let s2 : ChainState = record { held = g.C.ChainMeaning.held c.make.new.chain; counts = g.C.ChainMeaning.counts c.make.new.chain; loans = g.C.ChainMeaning.loans c.make.new.chain; valid = g.C.ChainMeaning.is_valid c.make.new.chain } in
     subst (λ (r : RootTiles). Respects held new (root_names r) (root_names root)) same
-    (given-up-others root c.args.rect (paint_pixels root.tiles.format c.args.rect c.args.paint.now) (tile_count c.args.rect) s0 s2 c.make.new.made.entries c.make.ensures.made
+    (given-up-others root c.args.rect (g.M.TileMaker.pixels c.args.maker.now root.tiles.format c.args.rect) (tile_count c.args.rect) s0 s2 c.make.new.made.entries c.make.ensures.made
     new c.discard.ensures.others)
 
 pub returns-clause-image : goal.returns-clause-image
@@ -62,9 +60,9 @@ returns-clause-image g c =
     let s0 : ChainState = record { held = held; counts = g.C.ChainMeaning.counts c.args.chain.now; loans = g.C.ChainMeaning.loans c.args.chain.now; valid = g.C.ChainMeaning.is_valid c.args.chain.now } in
     let s2 : ChainState = record { held = g.C.ChainMeaning.held c.make.new.chain; counts = g.C.ChainMeaning.counts c.make.new.chain; loans = g.C.ChainMeaning.loans c.make.new.chain; valid = g.C.ChainMeaning.is_valid c.make.new.chain } in
     let all = c.in_default.ensures.all in
-    let f = paint_pixels root.tiles.format rect c.args.paint.now in
+    let f = g.M.TileMaker.pixels c.args.maker.now root.tiles.format rect in
     let P : RootTiles → Type 0 = λ r. root_image (record { box = root.box; tiles = c.switch.new.self.tiles }) new
-    ≡ option_map (λ image. painted image rect (paint_pixels r.tiles.format rect c.args.paint.now)) (root_image r held) in
+    ≡ option_map (λ image. painted image rect (g.M.TileMaker.pixels c.args.maker.now r.tiles.format rect)) (root_image r held) in
     subst P same
     (switched-image root rect f (tile_count rect) s0 s2 c.make.new.made.entries c.make.ensures.made c.switch.new.self.tiles new
     c.switch.ensures.format c.switch.ensures.bytes c.switch.ensures.others.exposed
@@ -80,7 +78,7 @@ returns-clause-over g c =
     let new = g.C.ChainMeaning.held c.switch.new.chain in
     let s0 : ChainState = record { held = held; counts = g.C.ChainMeaning.counts c.args.chain.now; loans = g.C.ChainMeaning.loans c.args.chain.now; valid = g.C.ChainMeaning.is_valid c.args.chain.now } in
     let s2 : ChainState = record { held = g.C.ChainMeaning.held c.make.new.chain; counts = g.C.ChainMeaning.counts c.make.new.chain; loans = g.C.ChainMeaning.loans c.make.new.chain; valid = g.C.ChainMeaning.is_valid c.make.new.chain } in
-    switched-over root rect (paint_pixels root.tiles.format rect c.args.paint.now) (tile_count rect) s0 s2 c.make.new.made.entries c.make.ensures.made c.switch.new.self.tiles new
+    switched-over root rect (g.M.TileMaker.pixels c.args.maker.now root.tiles.format rect) (tile_count rect) s0 s2 c.make.new.made.entries c.make.ensures.made c.switch.new.self.tiles new
     c.switch.ensures.format c.switch.ensures.bytes c.switch.ensures.others.exposed
     (subst (λ (r : RootTiles). IsRootOver r held) (sym same) c.requires.over)
     (subst (λ (r : RootTiles). Includes r.box rect) (sym same) c.requires.inside) c.in_default.ensures.all

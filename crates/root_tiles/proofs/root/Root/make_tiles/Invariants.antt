@@ -1,11 +1,11 @@
-use Rattle.std.proofs.Common.{◌≡◌, ◌+◌, ◌⊎◌, Contains, length}
+use Rattle.std.proofs.Common.{◌≡◌, ℕ, ◌+◌, ◌⊎◌, Contains, length}
 use Rattle.std.specs.Map.{keys_of}
 use Rattle.model_images.specs.TileCounts.{tile_count}
 use Rattle.plane_rect.specs.Tile.{IsWhole, Meets, Tile}
 use Rattle.root_tiles.specs.Cutting.{cutting_of}
-use Rattle.root_tiles.specs.Made.{Makes}
+use Rattle.root_tiles.specs.Made.{MakesMore}
 use Rattle.root_tiles.specs.Paints.{paint_pixels}
-use Rattle.root_tiles.proofs.root.Root.make.Given as goal
+use Rattle.root_tiles.proofs.root.Root.make_tiles.Given as goal
 
 abbrev pub invariant-loop-at : goal.invariant-loop-at
 invariant-loop-at g l =
@@ -13,11 +13,13 @@ invariant-loop-at g l =
     × record {
       ready : g.T.ReadyTiles.are_cut l.ready (cutting_of l.fn.self l.fn.rect l.fn.paint);
       format : l.made.format ≡ l.fn.self.tiles.format;
-      makes : Makes l.fn.self l.fn.rect (paint_pixels l.fn.self.tiles.format l.fn.rect l.fn.paint) (length l.made.entries)
+      added : ℕ;
+      grown : length l.made.entries ≡ length l.initial.made.entries + added;
+      makes : MakesMore l.fn.self l.fn.part l.fn.rect (paint_pixels l.fn.self.tiles.format l.fn.rect l.fn.paint) added
           (record { held = g.C.ChainMeaning.held l.initial.chain; counts = g.C.ChainMeaning.counts l.initial.chain; loans = g.C.ChainMeaning.loans l.initial.chain; valid = g.C.ChainMeaning.is_valid l.initial.chain })
           (record { held = g.C.ChainMeaning.held l.chain; counts = g.C.ChainMeaning.counts l.chain; loans = g.C.ChainMeaning.loans l.chain; valid = g.C.ChainMeaning.is_valid l.chain })
-          l.made.entries;
-      count : length l.made.entries + length l.at-iterator ≡ tile_count l.fn.rect;
-      left : (tile : Tile) → Contains l.at-iterator tile → Meets tile l.fn.rect × IsWhole tile;
-      all : (tile : Tile) → Meets tile l.fn.rect → Contains (keys_of l.made.entries) tile ⊎ Contains l.at-iterator tile;
+          l.initial.made.entries l.made.entries;
+      count : added + length l.at-iterator ≡ tile_count l.fn.part;
+      left : (tile : Tile) → Contains l.at-iterator tile → Meets tile l.fn.part × IsWhole tile;
+      all : (tile : Tile) → Meets tile l.fn.part → Contains (keys_of l.made.entries) tile ⊎ Contains l.at-iterator tile;
     }

@@ -3,10 +3,10 @@ use Rattle.pixel_formats.specs.declared.format.Format.{Format}
 use Rattle.plane_rect.specs.Rectangle.{Rectangle}
 use Rattle.root_tiles.specs.Cutting.{Cutting, raster_cutting}
 use Rattle.model_images.specs.FromRaw.{pixels_from_raw}
-use Rattle.root_tiles.proofs.root.Root.put_raw.Goals as goal
+use Rattle.root_tiles.proofs.root.Root.make_raw.Goals as goal
 
-pub write-requires-clause-ready : goal.write-requires-clause-ready
-write-requires-clause-ready g c =
+pub make_tiles-requires-2-clause-ready : goal.make_tiles-requires-2-clause-ready
+make_tiles-requires-2-clause-ready g c =
     let rect = c.args.rect in
     let cutting : Format → Rectangle → Cutting = λ format box. record { format = format; box = box; rect = rect; pixels = pixels_from_raw rect format c.args.bytes.now } in (
       record { shared = c.type_bounds.sync-R.shared },

@@ -1,4 +1,4 @@
-use Rattle.std.proofs.Common.{◌≡◌, ℕ, ◌+◌, ◌≤◌, ◌∷◌, inl, inr, List, Contains, length, refl, sym, ap, subst, ◌∙◌, arith}
+use Rattle.std.proofs.Common.{◌≡◌, ◌+◌, ◌≤◌, ◌∷◌, inl, inr, List, Contains, length, refl, sym, ap, subst, ◌∙◌, arith}
 use Rattle.std.proofs.lemmas.Result.{err_from_is_err_and}
 use Rattle.std.specs.Prelude.{IsSome}
 use Rattle.level_tables.specs.LevelTiles.{bytes_in}
@@ -9,15 +9,17 @@ use Rattle.plane_rect.specs.Tile.{Tile}
 use Rattle.plane_rect.proofs.Lists.{Contains-cases, Contains-first, Contains-later}
 use Rattle.root_tiles.specs.Chains.{ChainState}
 use Rattle.root_tiles.specs.Paints.{IsPainted, paint_pixels}
-use Rattle.root_tiles.specs.Made.{Makes}
+use Rattle.root_tiles.specs.Made.{MakesMore}
 use Rattle.root_tiles.proofs.ChainReads.{grows-read, refused-after}
-use Rattle.root_tiles.proofs.Making.{keys-more, length-last, makes-next, makes-none, makes-raise, makes-read, makes-same, none-in, painted-first, whole-met}
-use Rattle.root_tiles.proofs.root.Root.make.Goals as goal
+use Rattle.root_tiles.proofs.Making.{keys-more, length-last, more-next, more-none, more-raise, more-read, more-same, none-in, painted-first, whole-met}
+use Rattle.root_tiles.proofs.root.Root.make_tiles.Goals as goal
 
 pub loop-at-init : goal.loop-at-init
 loop-at-init g c =
     let root = c.args.self.now in
+    let part = c.args.part in
     let rect = c.args.rect in
+    let first = c.args.made.now.entries in
     let given : c.into_iter-at-iterator.result ≡ c.tiles-at-items.result = c.into_iter-at-iterator.ensures.into_iter_gives in
     let tiles = c.tiles-at-items.ensures in (
       tt,
@@ -25,17 +27,29 @@ loop-at-init g c =
       record {
         ready = c.requires.ready;
         format = c.requires.format;
-        makes = makes-none root rect (paint_pixels root.tiles.format rect c.args.paint.now) _ c.args.made.now.entries c.requires.none c.requires.over;
-        count = omega (arith, ap length c.requires.none, ap length (given ∙ tiles.value));
+        added = 0;
+        grown = omega arith;
+        makes = more-none root c.args.part rect (paint_pixels root.tiles.format rect c.args.paint.now) _ c.args.made.now.entries c.requires.made c.requires.owned c.requires.over;
+        count = omega (arith, ap length (given ∙ tiles.value));
         left = λ tile there.
             let meets = (tiles.meeting tile).0 (subst (λ (ts : List Tile). Contains ts tile) given there) in
-            (meets, whole-met root.box rect tile c.requires.over.rectangle c.requires.inside meets);
+            (meets, whole-met root.box c.args.part tile c.requires.over.rectangle (λ u v within. c.requires.inside u v (c.requires.part u v within)) meets);
         all = λ tile meets. inr (subst (λ (ts : List Tile). Contains ts tile) (sym given) ((tiles.meeting tile).1 meets));
       },
     )
 
 pub next_tile-requires-clause-ready : goal.next_tile-requires-clause-ready
 next_tile-requires-clause-ready g c = c.loop-at.invariant.2.ready
+
+pub next_tile-requires-clause-whole : goal.next_tile-requires-clause-whole
+next_tile-requires-clause-whole g c =
+    (c.loop-at.invariant.2.left c.in-Some.at
+    (subst (λ (ts : List Tile). Contains ts c.in-Some.at) (sym c.in-Some.ensures.steps) (Contains-first c.in-Some.at c.next.new.self c.in-Some.at refl))).1
+
+pub add-requires-clause-whole : goal.add-requires-clause-whole
+add-requires-clause-whole g c =
+    (c.loop-at.invariant.2.left c.in-Some.at
+    (subst (λ (ts : List Tile). Contains ts c.in-Some.at) (sym c.in-Some.ensures.steps) (Contains-first c.in-Some.at c.next.new.self c.in-Some.at refl))).1
 
 pub returns-clause-all : goal.returns-clause-all
 returns-clause-all g c = λ tile meets. elim (c.loop-at.invariant.2.all tile meets) [
@@ -46,7 +60,9 @@ returns-clause-all g c = λ tile meets. elim (c.loop-at.invariant.2.all tile mee
 pub loop-at-preserved : goal.loop-at-preserved
 loop-at-preserved g c =
     let root = c.args.self.now in
+    let part = c.args.part in
     let rect = c.args.rect in
+    let first = c.args.made.now.entries in
     let f = paint_pixels root.tiles.format rect c.args.paint.now in
     let before = c.loop-at.invariant.2 in
     let at = c.in-Some.at in
@@ -59,24 +75,24 @@ loop-at-preserved g c =
     let s3 : ChainState = record { held = g.C.ChainMeaning.held c.add.new.chain; counts = g.C.ChainMeaning.counts c.add.new.chain; loans = g.C.ChainMeaning.loans c.add.new.chain; valid = g.C.ChainMeaning.is_valid c.add.new.chain } in
     let steps : c.loop-at.at-iterator ≡ at ∷ c.next.new.self = c.in-Some.ensures.steps in
     let here = before.left at (subst (λ (ts : List Tile). Contains ts at) (sym steps) (Contains-first at c.next.new.self at refl)) in
-    let mid = makes-read root rect f (length entries) s0 s1 s2 entries before.makes c.next_tile.ensures.read in
+    let mid = more-read root part rect f before.added s0 s1 s2 first entries before.makes c.next_tile.ensures.read in
     let painted : IsSome s0.held.content → IsPainted root.tiles.format (bytes_in s0.held root.tiles.put) rect f at c.in_ok-tile.tile =
     λ exposed. painted-first root rect f s0.held s1.held at c.in_ok-tile.tile before.makes.bytes
     (c.in_ok-tile.ensures.painted (before.makes.others.exposed ∙ exposed)) in
     let is = added.added.entries in
     let name = added.added.name in
-    let one : length more ≡ length entries + 1 = ap length is ∙ length-last entries (at, name) in
-    let P : ℕ → Type 0 = λ n. Makes root rect f n s0 s3 more in (
+    let one : length more ≡ length entries + 1 = ap length is ∙ length-last entries (at, name) in (
       tt,
       tt,
       record {
         ready = c.in_ok-tile.ensures.ready;
         format = added.format ∙ before.format;
-        makes = subst P (sym one)
-            (makes-next root rect f (length entries) s0 s2 s3 entries more at c.in_ok-tile.tile name is mid added.others
+        added = before.added + 1;
+        grown = omega (arith, before.grown, one);
+        makes = more-next root part rect f before.added s0 s2 s3 first entries more at c.in_ok-tile.tile name is mid added.others here.0
             (subst (λ (format : Format). AreNewTiles format more s3.held) (added.format ∙ before.format) added.over)
-            added.tiles painted here.0 added.counts added.loans added.valid);
-        count = omega (arith, before.count, one, ap length steps);
+            added.tiles painted added.counts added.loans added.valid;
+        count = omega (arith, before.count, ap length steps);
         left = λ tile there. before.left tile (subst (λ (ts : List Tile). Contains ts tile) (sym steps) (Contains-later at c.next.new.self tile there));
         all = λ tile meets. elim (before.all tile meets) [
           | inl there ↦ inl (keys-more entries more at name is tile (inl there))
@@ -91,28 +107,32 @@ loop-at-preserved g c =
 pub returns-in_err-tile-clause-made : goal.returns-in_err-tile-clause-made
 returns-in_err-tile-clause-made g c =
     let root = c.args.self.now in
+    let part = c.args.part in
     let rect = c.args.rect in
+    let first = c.args.made.now.entries in
     let f = paint_pixels root.tiles.format rect c.args.paint.now in
     let before = c.loop-at.invariant.2 in
     let entries = c.loop-at.made.entries in
     let s0 : ChainState = record { held = g.C.ChainMeaning.held c.args.chain.now; counts = g.C.ChainMeaning.counts c.args.chain.now; loans = g.C.ChainMeaning.loans c.args.chain.now; valid = g.C.ChainMeaning.is_valid c.args.chain.now } in
     let s1 : ChainState = record { held = g.C.ChainMeaning.held c.loop-at.chain; counts = g.C.ChainMeaning.counts c.loop-at.chain; loans = g.C.ChainMeaning.loans c.loop-at.chain; valid = g.C.ChainMeaning.is_valid c.loop-at.chain } in
     let s2 : ChainState = record { held = g.C.ChainMeaning.held c.next_tile.new.chain; counts = g.C.ChainMeaning.counts c.next_tile.new.chain; loans = g.C.ChainMeaning.loans c.next_tile.new.chain; valid = g.C.ChainMeaning.is_valid c.next_tile.new.chain } in
-    makes-raise root rect f (length entries) (tile_count rect) s0 s2 entries (omega (arith, before.count))
-    (makes-read root rect f (length entries) s0 s1 s2 entries before.makes c.next_tile.ensures.read)
+    more-raise root part rect f before.added (tile_count part) s0 s2 first entries (omega (arith, before.count))
+    (more-read root part rect f before.added s0 s1 s2 first entries before.makes c.next_tile.ensures.read)
 
 pub returns-in_err-tile-clause-cause : goal.returns-in_err-tile-clause-cause
 returns-in_err-tile-clause-cause g c =
     let before = c.loop-at.invariant.2 in
     let p = err_from_is_err_and c.from_residual.result c.from_residual.ensures.1 in
-    rw (p.1, p.2) (refused-after (length c.loop-at.made.entries) (tile_count c.args.rect) 0 (g.C.ChainMeaning.counts c.loop-at.chain).names (g.C.ChainMeaning.counts c.args.chain.now) (g.C.ChainMeaning.counts c.loop-at.chain)
+    rw (p.1, p.2) (refused-after before.added (tile_count c.args.part) 0 (g.C.ChainMeaning.counts c.loop-at.chain).names (g.C.ChainMeaning.counts c.args.chain.now) (g.C.ChainMeaning.counts c.loop-at.chain)
     (g.C.ChainMeaning.counts c.next_tile.new.chain) c.in_err-tile.field-0.0 (omega (arith, before.count)) (omega arith) before.makes.grows
     (c.in_err-tile.ensures.cause))
 
 pub returns-in_err-add-clause-made : goal.returns-in_err-add-clause-made
 returns-in_err-add-clause-made g c =
     let root = c.args.self.now in
+    let part = c.args.part in
     let rect = c.args.rect in
+    let first = c.args.made.now.entries in
     let f = paint_pixels root.tiles.format rect c.args.paint.now in
     let before = c.loop-at.invariant.2 in
     let entries = c.loop-at.made.entries in
@@ -121,19 +141,19 @@ returns-in_err-add-clause-made g c =
     let s1 : ChainState = record { held = g.C.ChainMeaning.held c.loop-at.chain; counts = g.C.ChainMeaning.counts c.loop-at.chain; loans = g.C.ChainMeaning.loans c.loop-at.chain; valid = g.C.ChainMeaning.is_valid c.loop-at.chain } in
     let s2 : ChainState = record { held = g.C.ChainMeaning.held c.next_tile.new.chain; counts = g.C.ChainMeaning.counts c.next_tile.new.chain; loans = g.C.ChainMeaning.loans c.next_tile.new.chain; valid = g.C.ChainMeaning.is_valid c.next_tile.new.chain } in
     let s3 : ChainState = record { held = g.C.ChainMeaning.held c.add.new.chain; counts = g.C.ChainMeaning.counts c.add.new.chain; loans = g.C.ChainMeaning.loans c.add.new.chain; valid = g.C.ChainMeaning.is_valid c.add.new.chain } in
-    let some : length entries + 1 ≤ tile_count rect = omega (arith, before.count, ap length c.in-Some.ensures.steps) in
-    let mid = makes-read root rect f (length entries) s0 s1 s2 entries before.makes c.next_tile.ensures.read in
-    subst (Makes root rect f (tile_count rect) s0 s3) (sym refused.unchanged)
-    (makes-raise root rect f (length entries + 1) (tile_count rect) s0 s3 entries some
-    (makes-same root rect f (length entries) 1 s0 s2 s3 entries mid refused.held refused.counts refused.loans refused.valid))
+    let some : before.added + 1 ≤ tile_count part = omega (arith, before.count, ap length c.in-Some.ensures.steps) in
+    let mid = more-read root part rect f before.added s0 s1 s2 first entries before.makes c.next_tile.ensures.read in
+    subst (MakesMore root part rect f (tile_count part) s0 s3 first) (sym refused.unchanged)
+    (more-raise root part rect f (before.added + 1) (tile_count part) s0 s3 first entries some
+    (more-same root part rect f before.added 1 s0 s2 s3 first entries mid refused.held refused.counts refused.loans refused.valid))
 
 pub returns-in_err-add-clause-cause : goal.returns-in_err-add-clause-cause
 returns-in_err-add-clause-cause g c =
     let before = c.loop-at.invariant.2 in
-    let some : length c.loop-at.made.entries + 1 ≤ tile_count c.args.rect = omega (arith, before.count, ap length c.in-Some.ensures.steps) in
+    let some : before.added + 1 ≤ tile_count c.args.part = omega (arith, before.count, ap length c.in-Some.ensures.steps) in
     let p = err_from_is_err_and c.from_residual-in_err-add.result c.from_residual-in_err-add.ensures.1 in
-    rw (p.1, p.2) (refused-after (length c.loop-at.made.entries) (tile_count c.args.rect) 1 ((g.C.ChainMeaning.counts c.next_tile.new.chain).names + 1) (g.C.ChainMeaning.counts c.args.chain.now) (g.C.ChainMeaning.counts c.next_tile.new.chain)
+    rw (p.1, p.2) (refused-after before.added (tile_count c.args.part) 1 ((g.C.ChainMeaning.counts c.next_tile.new.chain).names + 1) (g.C.ChainMeaning.counts c.args.chain.now) (g.C.ChainMeaning.counts c.next_tile.new.chain)
     (g.C.ChainMeaning.counts c.add.new.chain) c.in_err-add.field-0.0 some (omega arith)
-    (grows-read (length c.loop-at.made.entries) (g.C.ChainMeaning.counts c.args.chain.now) (g.C.ChainMeaning.counts c.loop-at.chain) (g.C.ChainMeaning.counts c.next_tile.new.chain)
+    (grows-read before.added (g.C.ChainMeaning.counts c.args.chain.now) (g.C.ChainMeaning.counts c.loop-at.chain) (g.C.ChainMeaning.counts c.next_tile.new.chain)
     before.makes.grows c.next_tile.ensures.read.counts)
     (c.in_err-add.ensures.cause))
