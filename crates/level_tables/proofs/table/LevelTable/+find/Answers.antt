@@ -1,4 +1,4 @@
-use Rattle.std.proofs.Common.{◌≡◌, ℕ, List, Option, ◌-◌, ◌≤◌, ◌∙◌, None, inl, inr, true≢false, sym, subst, arith, rules}
+use Rattle.std.proofs.Common.{◌≡◌, ℕ, List, Option, ◌-◌, ◌≤◌, ◌∙◌, None, inl, inr, true≢false, sym, arith, rules}
 use Rattle.std.proofs.lemmas.Bool.{not-true}
 use Rattle.std.proofs.lemmas.Grind.{common_steps}
 use Rattle.std.proofs.lemmas.Result.{IfErr-weaker, IfOk-weaker, err_from_is_err_and}
