@@ -1,11 +1,12 @@
 -- Renders of sessions, by what the lower call is handed and answers.
 use Rattle.std.proofs.Common.{◌≡◌, ℕ, ◌+◌, Bool, true, false, cond, List, ◌++◌, Option, None, Some, Result, Ok, Err, refl, sym, ap, ◌∙◌, subst, arith}
-use Rattle.std.specs.Prelude.{◌&&◌, IfErr, IsSome, is_none, min}
+use Rattle.std.specs.Prelude.{◌&&◌, IfErr, IsSome, is_none, is_some, min}
 use Rattle.std.specs.Map.{values_of}
 use Rattle.std.specs.Result.{IsErrAnd}
 use Rattle.std.proofs.lemmas.Option.{same_Some}
 use Rattle.chain_owners.specs.Counts.{Grows}
-use Rattle.chain_owners.specs.Owners.{Owns, Respects}
+use Rattle.chain_owners.specs.Held.{Held}
+use Rattle.chain_owners.specs.Owners.{Owns, Respects, times}
 use Rattle.chain_owners.proofs.Ownership.{owns-fewer, times-append}
 use Rattle.root_tiles.specs.Chains.{ChainState}
 use Rattle.model_buffers.specs.Layout.{facts_of}
@@ -19,6 +20,7 @@ use Rattle.model_images.specs.Level.{level}
 use Rattle.model_images.specs.Paint.{cut}
 use Rattle.model_states.specs.Cache.{AreRight, Cached}
 use Rattle.model_states.specs.Damage.{IsStated}
+use Rattle.model_states.specs.Edits.{has_node}
 use Rattle.model_states.specs.Need.{wide}
 use Rattle.model_states.specs.State.{Scene, image_of}
 use Rattle.model_states.specs.Valid.{AreStated}
