@@ -9,12 +9,7 @@ use Rattle.session_states.proofs.steps.release_last.Goals as goal
 
 module _ (g : Given.Over) where
   abbrev state : g.row.C.Denot → ChainState
-  state chain = record {
-    held = g.C.ChainMeaning.held chain;
-    counts = g.C.ChainMeaning.counts chain;
-    loans = g.C.ChainMeaning.loans chain;
-    valid = g.C.ChainMeaning.is_valid chain;
-  }
+  state chain = record { held = g.C.ChainMeaning.held chain; counts = g.C.ChainMeaning.counts chain; loans = g.C.ChainMeaning.loans chain; valid = g.C.ChainMeaning.is_valid chain }
 
   parts : (c : After-unwrap-last g) → c.args.states.now.items ≡ c.pop_back.new.self.items ++ c.unwrap-last.result ∷ []
   parts c = c.pop_back.ensures.items ∙ ap (λ (o : Option BufferTable). c.pop_back.new.self.items ++ option_to_list o) c.unwrap-last.ensures

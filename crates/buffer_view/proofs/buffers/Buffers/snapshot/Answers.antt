@@ -18,12 +18,7 @@ release_each-requires-clause-owned g c = shared-owned c.deref.result.now c.share
 
 module _ (g : Given.Over) where
   abbrev state : g.row.C.Denot → ChainState
-  state chain = record {
-    held = g.C.ChainMeaning.held chain;
-    counts = g.C.ChainMeaning.counts chain;
-    loans = g.C.ChainMeaning.loans chain;
-    valid = g.C.ChainMeaning.is_valid chain;
-  }
+  state chain = record { held = g.C.ChainMeaning.held chain; counts = g.C.ChainMeaning.counts chain; loans = g.C.ChainMeaning.loans chain; valid = g.C.ChainMeaning.is_valid chain }
 
   shares : (c : After-share_each g) → Shares c.args.self.now.roots c.share_each.new.shared.items (state c.args.chain.now) (state c.share_each.new.chain)
   shares c =

@@ -14,12 +14,7 @@ use Rattle.session_states.proofs.versions.BufferVersions.commit.Goals as goal
 
 module _ (g : Given.Over) where
   abbrev state : g.row.C.Denot → ChainState
-  state chain = record {
-    held = g.C.ChainMeaning.held chain;
-    counts = g.C.ChainMeaning.counts chain;
-    loans = g.C.ChainMeaning.loans chain;
-    valid = g.C.ChainMeaning.is_valid chain;
-  }
+  state chain = record { held = g.C.ChainMeaning.held chain; counts = g.C.ChainMeaning.counts chain; loans = g.C.ChainMeaning.loans chain; valid = g.C.ChainMeaning.is_valid chain }
 
   -- ---- the last state was put before those that can be undone to
 

@@ -8,12 +8,7 @@ use Rattle.session_states.proofs.versions.BufferVersions.edit.Goals as goal
 
 module _ (g : Given.Over) where
   abbrev state : g.row.C.Denot → ChainState
-  state chain = record {
-    held = g.C.ChainMeaning.held chain;
-    counts = g.C.ChainMeaning.counts chain;
-    loans = g.C.ChainMeaning.loans chain;
-    valid = g.C.ChainMeaning.is_valid chain;
-  }
+  state chain = record { held = g.C.ChainMeaning.held chain; counts = g.C.ChainMeaning.counts chain; loans = g.C.ChainMeaning.loans chain; valid = g.C.ChainMeaning.is_valid chain }
 
   module _ (c : After-edit_buffers g) where
     done : IsWorkedOn c.args.self.now (four c.edit_buffers.new.buffers c.self.inside.latest c.self.inside.undoable.items c.self.inside.redoable.items) (tiles_added c.args.edit.now)

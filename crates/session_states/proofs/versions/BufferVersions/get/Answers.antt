@@ -13,12 +13,7 @@ use Rattle.session_states.proofs.versions.BufferVersions.get.Goals as goal
 
 module _ (g : Given.Over) where
   abbrev state : g.row.C.Denot → ChainState
-  state chain = record {
-    held = g.C.ChainMeaning.held chain;
-    counts = g.C.ChainMeaning.counts chain;
-    loans = g.C.ChainMeaning.loans chain;
-    valid = g.C.ChainMeaning.is_valid chain;
-  }
+  state chain = record { held = g.C.ChainMeaning.held chain; counts = g.C.ChainMeaning.counts chain; loans = g.C.ChainMeaning.loans chain; valid = g.C.ChainMeaning.is_valid chain }
 
   module _ (c : After-get g) where
     abbrev added : BufferTable → ℕ

@@ -10,12 +10,7 @@ use Rattle.session_states.proofs.versions.BufferVersions.share_undoable.Goals as
 
 module _ (g : Given.Over) where
   abbrev state : g.row.C.Denot → ChainState
-  state chain = record {
-    held = g.C.ChainMeaning.held chain;
-    counts = g.C.ChainMeaning.counts chain;
-    loans = g.C.ChainMeaning.loans chain;
-    valid = g.C.ChainMeaning.is_valid chain;
-  }
+  state chain = record { held = g.C.ChainMeaning.held chain; counts = g.C.ChainMeaning.counts chain; loans = g.C.ChainMeaning.loans chain; valid = g.C.ChainMeaning.is_valid chain }
 
   none_shared : (c : In_err-shared g) → IsShared c.args.self.now [] (state c.args.chain.now) (state c.snapshot.new.chain)
   none_shared c =

@@ -1,73 +1,33 @@
-use Rattle.std.proofs.Common.{◌≡◌, List, [], ◌∷◌, ◌++◌, sym, ap, subst, ◌∙◌}
+use Rattle.std.proofs.Common.{◌++◌}
 use Rattle.root_tiles.specs.Chains.{ChainState}
-use Rattle.buffer_view.specs.BufferTables.{BufferTable, buffers_names}
-use Rattle.session_states.specs.OverChains.{Leaves, versions_names}
-use Rattle.session_states.specs.Versions.{Versions, after_undo}
-use Rattle.session_states.proofs.Released.{IsReleased, one-released, undo-counts, undo-over}
-use Rattle.session_states.proofs.Returned.{four, leaves-of, taken-first, undoable-is, undone-is}
+use Rattle.buffer_view.specs.BufferTables.{buffers_names}
+use Rattle.session_states.specs.OverChains.{versions_names}
+use Rattle.session_states.proofs.Released.{IsReleased}
+use Rattle.session_states.proofs.Returned.{four}
+use Rattle.session_states.proofs.Stepping.{undone}
 use Rattle.session_states.proofs.versions.BufferVersions.undo.Given
 use Rattle.session_states.proofs.versions.BufferVersions.undo.Goals.{After-release}
 use Rattle.session_states.proofs.versions.BufferVersions.undo.Goals as goal
 
 module _ (g : Given.Over) where
   abbrev state : g.row.C.Denot → ChainState
-  state chain = record {
-    held = g.C.ChainMeaning.held chain;
-    counts = g.C.ChainMeaning.counts chain;
-    loans = g.C.ChainMeaning.loans chain;
-    valid = g.C.ChainMeaning.is_valid chain;
-  }
+  state chain = record { held = g.C.ChainMeaning.held chain; counts = g.C.ChainMeaning.counts chain; loans = g.C.ChainMeaning.loans chain; valid = g.C.ChainMeaning.is_valid chain }
 
-  module _ (c : After-release g) where
-    abbrev v : Versions BufferTable
-    v = record {
-      working = c.self.inside.working;
-      latest = c.self.inside.latest;
-      undoable = c.self.inside.undoable.items;
-      redoable = c.self.inside.redoable.items;
-    }
-
-    abbrev now : Versions BufferTable
-    now = c.args.self.now
-
-    abbrev rest : List BufferTable
-    rest = c.pop_front.new.self.items
-
-    abbrev put : List BufferTable
-    put = c.push_front_reserved.new.self.items
-
-    list : v.undoable ≡ c.unwrap-first.result ∷ rest
-    list = taken-first v.undoable rest c.pop_front.result c.unwrap-first.result c.pop_front.ensures.items c.unwrap-first.ensures
-
-    there : now.undoable ≡ c.args.shared ∷ rest
-    there =
-        undoable-is v now c.self.view_is c.args.shared c.unwrap-first.result c.replace-left.result c.replace-edited.new.dest c.replace-left.new.dest rest
-        c.replace-edited.ensures.after c.replace-left.ensures.after c.replace-left.ensures.value list c.requires.shared
-
-    is : four c.replace-edited.new.dest c.replace-left.new.dest rest put ≡ after_undo now c.args.shared rest
-    is =
-        undone-is v now c.self.view_is c.args.shared c.unwrap-first.result c.replace-left.result c.replace-edited.new.dest c.replace-left.new.dest rest
-        c.replace-edited.ensures.after c.replace-left.ensures.after c.replace-left.ensures.value list c.requires.shared put c.push_front_reserved.ensures.items
-
-    leaves : Leaves 0 (buffers_names now.working) [] (state c.args.chain.now) (state c.release.new.chain)
-    leaves =
-        leaves-of c.replace-edited.result now.working (state c.args.chain.now) (state c.release.new.chain)
-        (c.replace-edited.ensures.value ∙ ap (λ (x : Versions BufferTable). x.working) c.self.view_is)
-        (record { others = c.release.ensures.others; counts = c.release.ensures.counts; loans = c.release.ensures.loans; valid = c.release.ensures.valid })
-
-    undone : IsReleased (buffers_names c.args.shared ++ versions_names now) (four c.replace-edited.new.dest c.replace-left.new.dest rest put) (state c.args.chain.now) (state c.release.new.chain)
-    undone =
-        let before = buffers_names c.args.shared ++ versions_names now in
-        subst (λ (f : Versions BufferTable). IsReleased before f (state c.args.chain.now) (state c.release.new.chain)) (sym is)
-        (one-released before now.working (after_undo now c.args.shared rest) (state c.args.chain.now) (state c.release.new.chain) leaves c.requires.owned
-        (undo-counts now c.args.shared rest there)
-        (undo-over now c.args.shared rest (g.C.ChainMeaning.held c.args.chain.now) c.requires.over.over c.requires.shared_over there))
+  done : (c : After-release g) → IsReleased (buffers_names c.args.shared ++ versions_names c.args.self.now)
+      (four c.replace-edited.new.dest c.replace-left.new.dest c.pop_front.new.self.items c.push_front_reserved.new.self.items) (state c.args.chain.now) (state c.release.new.chain)
+  done c =
+      undone _ c.args.self.now c.self.view_is (state c.args.chain.now) (state c.release.new.chain) c.requires.over c.args.shared c.requires.shared_over c.requires.owned
+      c.replace-edited.result c.replace-edited.new.dest c.replace-edited.ensures.value c.replace-edited.ensures.after
+      (record { others = c.release.ensures.others; counts = c.release.ensures.counts; loans = c.release.ensures.loans; valid = c.release.ensures.valid })
+      c.unwrap-first.result c.replace-left.result c.replace-left.new.dest c.replace-left.ensures.value c.replace-left.ensures.after
+      c.pop_front.new.self.items c.push_front_reserved.new.self.items c.pop_front.result c.unwrap-first.ensures
+      c.pop_front.ensures.items c.push_front_reserved.ensures.items c.requires.shared
 
 pub returns-clause-tables : goal.returns-clause-tables
-returns-clause-tables g c = (undone g (goal.at.returns-clause-tables g c).After-release).tables
+returns-clause-tables g c = (done g (goal.at.returns-clause-tables g c).After-release).tables
 
 pub returns-clause-over : goal.returns-clause-over
-returns-clause-over g c = (undone g (goal.at.returns-clause-over g c).After-release).over
+returns-clause-over g c = (done g (goal.at.returns-clause-over g c).After-release).over
 
 pub returns-clause-left : goal.returns-clause-left
-returns-clause-left g c = (undone g (goal.at.returns-clause-left g c).After-release).left
+returns-clause-left g c = (done g (goal.at.returns-clause-left g c).After-release).left
