@@ -17,12 +17,7 @@ use Rattle.commit_session.proofs.state.SessionState.redo.Goals as goal
 
 module _ (g : Given.Over) where
   abbrev state : g.row.C.Denot → ChainState
-  state chain = record {
-    held = g.C.ChainMeaning.held chain;
-    counts = g.C.ChainMeaning.counts chain;
-    loans = g.C.ChainMeaning.loans chain;
-    valid = g.C.ChainMeaning.is_valid chain;
-  }
+  state chain = record { held = g.C.ChainMeaning.held chain; counts = g.C.ChainMeaning.counts chain; loans = g.C.ChainMeaning.loans chain; valid = g.C.ChainMeaning.is_valid chain }
 
   laws : KeepsLaws g.Op.OpMeaning.meanings
   laws = record { local = g.Op.OpMeaning.local; dual = g.Op.OpMeaning.dual }
