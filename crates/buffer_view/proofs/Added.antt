@@ -25,6 +25,7 @@ use Rattle.pixel_formats.specs.declared.format.Format.{Format}
 use Rattle.plane_rect.specs.Rectangle.{Rectangle}
 use Rattle.root_tiles.specs.Roots.{IsRootOver, RootTiles, empty_root, root_names, root_shape}
 use Rattle.buffer_view.specs.BufferTables.{AreBuffersOver, BufferTable, IsBufferTable, buffers_names, image_over, images_over, names_of_roots, table_of}
+use Rattle.buffer_view.proofs.Changed.{held_as}
 use Rattle.buffer_view.proofs.RootLists.{entry_shape, names-append, names-blank, names-without, shapes-added, without}
 use Rattle.buffer_view.proofs.Sharing.{owned-others, roots-shared}
 use Rattle.buffer_view.proofs.Shown.{images-added, table-content}
@@ -209,9 +210,6 @@ module _ (buffers : BufferTable) (name from : List ℕ) (seen : RootView) (root 
           shown-table held = record { roots = images_over held buffers.layout.roots buffers.roots; buffers = buffers.layout.buffers }
 
 -- ---- tables as they are held, once a buffer is added
-
-abbrev pub held_as : TableLayout → List RootTiles → BufferTable
-held_as layout roots = record { layout = layout; roots = roots }
 
 pub created-new : (old now : BufferTable) → old ≡ now → (name : List ℕ) (format : Format) (extent : Rectangle) (middle layout : TableLayout) (roots : List RootTiles) (root : RootTiles)
     → middle ≡ old.layout → layout ≡ layout_with middle (Create name format extent) → roots ≡ old.roots ++ root ∷ [] → root ≡ empty_root extent format

@@ -8,7 +8,7 @@ use Rattle.chain_owners.specs.Held.{Held}
 use Rattle.chain_owners.specs.Owners.{Owns, Respects}
 use Rattle.chain_owners.proofs.Ownership.{others-own, owns-fewer, respects-beside, times-append}
 use Rattle.model_buffers.specs.Edits.{written}
-use Rattle.model_buffers.specs.Layout.{AreDistinct}
+use Rattle.model_buffers.specs.Layout.{AreDistinct, TableLayout}
 use Rattle.model_buffers.specs.Table.{Table}
 use Rattle.model_buffers.proofs.FindLaws.{apart_test, same_name}
 use Rattle.model_graphs.specs.Shapes.{Shape}
@@ -96,6 +96,25 @@ module _ (old new : Held) (root : List ℕ) (r : Rectangle) (f : ℕ → ℕ →
 
 -- ---- one root of a table is changed
 
+-- a table by its parts
+abbrev pub held_as : TableLayout → List RootTiles → BufferTable
+held_as layout roots = record { layout = layout; roots = roots }
+
+-- the root of a number in a table that is this one
+pub root-here : (v now : BufferTable) → v ≡ now → (n : ℕ) (root : RootTiles) → root ≡ get_or v.roots n root → get_or now.roots n root ≡ root
+root-here v now is n root at = sym (at ∙ ap (λ (b : BufferTable). get_or b.roots n root) is)
+
+-- what holds of a table with another root holds of it where the table is given another way
+pub changed-of : (v now : BufferTable) → v ≡ now → (n : ℕ) (after : RootTiles) (P : BufferTable → Type 0) → P (held_as now.layout (set now.roots n after))
+    → P (held_as v.layout (set v.roots n after))
+changed-of v now is n after P holds = subst (λ (b : BufferTable). P (held_as b.layout (set b.roots n after))) (sym is) holds
+
+-- what a change of one root leaves
+pub record IsChanged (buffers final : BufferTable) (old new : Held) : Type 0 where
+  pub table : IsBufferTable final
+  pub over : AreBuffersOver final new
+  pub others : Respects old new (buffers_names buffers) (buffers_names final)
+
 module _ (buffers : BufferTable) (n : ℕ) (before after : RootTiles) (old new : Held) (over : AreBuffersOver buffers old)
     (below : n < length buffers.roots) (is : get_or buffers.roots n before ≡ before)
     (respects : Respects old new (root_names before) (root_names after)) (shape : root_shape after ≡ root_shape before) where
@@ -110,13 +129,13 @@ module _ (buffers : BufferTable) (n : ℕ) (before after : RootTiles) (old new :
       owns-fewer old (names_of_roots buffers.roots) (root_names before ++ names_of_roots others)
       (λ q. omega (arith, times-append (root_names before) (names_of_roots others) q, names-without n buffers.roots before below is q)) over.owned
 
-  pub table-changed : IsBufferTable changed
+  table-changed : IsBufferTable changed
   table-changed = record {
     layout = over.table.layout;
     shapes = shapes-set n buffers.roots before after is shape ∙ over.table.shapes;
   }
 
-  pub over-changed : IsRootOver after new → AreBuffersOver changed new
+  over-changed : IsRootOver after new → AreBuffersOver changed new
   over-changed is_over = record {
     table = table-changed;
     owned =
@@ -128,10 +147,13 @@ module _ (buffers : BufferTable) (n : ℕ) (before after : RootTiles) (old new :
         (All-without (λ (root : RootTiles). IsRootOver root old) n buffers.roots over.roots)) is_over;
   }
 
-  pub others-changed : Respects old new (buffers_names buffers) (buffers_names changed)
+  others-changed : Respects old new (buffers_names buffers) (buffers_names changed)
   others-changed =
       respects-beside old new (root_names before) (root_names after) respects (names_of_roots buffers.roots) (names_of_roots (set buffers.roots n after)) (names_of_roots others)
       (names-without n buffers.roots before below is) (names-set n buffers.roots after below)
+
+  pub root-changed : IsRootOver after new → IsChanged buffers (held_as buffers.layout (set buffers.roots n after)) old new
+  root-changed is_over = record { table = table-changed; over = over-changed is_over; others = others-changed }
 
   same-others : All (IsSameOver old new) others
   same-others = images-beside old new (root_names before) (root_names after) respects others owned-others

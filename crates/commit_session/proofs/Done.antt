@@ -32,9 +32,10 @@ use Rattle.commit_session.specs.Seen.{AreOfTable, AreRetained, IsOver, IsSession
 use Rattle.commit_session.specs.Steps.{IsCommitted, IsRedone, IsSettled, IsUndone, LeadsTo}
 use Rattle.commit_session.proofs.CommitStep.{CommitLeads, commit-leads}
 use Rattle.commit_session.proofs.Led.{IsAfter, history_after, leads-to, or-before, session-led, valid-led}
+use Rattle.commit_session.proofs.Kept.{over-here}
 use Rattle.commit_session.proofs.Moved.{retained-moved, working-moved}
 use Rattle.commit_session.proofs.Stepped.{DamagesBack, DamagesOn, GraphStep, IsStep, Leads, StatesStep, change_from, parts_with, redo-leads, undo-leads}
-use Rattle.commit_session.proofs.Through.{cached-ready, left-through, others-through, over-through, owned-through, sizes-ready, tables-through}
+use Rattle.commit_session.proofs.Through.{alone-ready, cache-ready, cached-ready, left-through, others-through, over-through, owned-through, sizes-ready, tables-through}
 use Rattle.commit_session.proofs.Voided.{voids-leave}
 
 module _ {Op : Type 0} (same : Op → Op → Bool) (meanings : Meanings Op) where
@@ -62,7 +63,7 @@ module _ {Op : Type 0} (same : Op → Op → Bool) (meanings : Meanings Op) wher
     pub done-others : AddsNoOther s0.counts s3.counts (values_of now.entries) (values_of new.entries)
     done-others = others-through now.versions versions now.entries new.entries between s0 s1 s2 over.owned through.shared through.put s3 through.left through.put_over through.others
 
-    pub done-left : Leaves 0 (session_names now) (session_names new) s0 s3
+    done-left : Leaves 0 (session_names now) (session_names new) s0 s3
     done-left =
         subst (λ (v : Versions BufferTable). Leaves 0 (session_names now) (versions_names v ++ values_of new.entries) s0 s3) (sym through.versions_are)
         (left-through now.versions versions now.entries new.entries between s0 s1 s2 over.owned through.shared through.put s3 through.left through.put_over)
@@ -137,7 +138,7 @@ module _ {Op : Type 0} (same : Op → Op → Bool) (meanings : Meanings Op) wher
       commit-of session of =
           commit-leads same meanings now s0.held session of s1.held (shared-states session of) (shared-working session of) next delta versions is versions_are promise
 
-      pub commit-session : (session : Session Table Op) → IsSessionOf same meanings now s0.held session
+      commit-session : (session : Session Table Op) → IsSessionOf same meanings now s0.held session
           → LeadsTo (history.committed meanings table_shapes session.history) (λ (next : History Table Op). IsSessionOf same meanings new s3.held (with_state same meanings session next))
       commit-session session of =
           let leads = commit-of session of in
@@ -145,13 +146,13 @@ module _ {Op : Type 0} (same : Op → Op → Bool) (meanings : Meanings Op) wher
           (λ (next : History Table Op). IsSessionOf same meanings new s3.held (with_state same meanings session next)) leads.is
           (done-session session of leads.stepped leads.step)
 
-      pub commit-over : KeepsLaws meanings → IsBoxed meanings → Distinguishes same → IsOver same meanings new s3.held
+      commit-over : KeepsLaws meanings → IsBoxed meanings → Distinguishes same → IsOver same meanings new s3.held
       commit-over laws boxed apart =
           let leads = commit-of over.session over.is in
           done-over laws boxed apart Commit leads.stepped leads.step tt
           (or-before (history.committed meanings table_shapes over.session.history) (history_after same meanings over.session.history leads.stepped) over.session.history leads.is)
 
-      pub commit-done : IsCommitted same meanings now new
+      commit-done : IsCommitted same meanings now new
       commit-done =
           let leads = commit-of over.session over.is in
           record {
@@ -180,7 +181,7 @@ module _ {Op : Type 0} (same : Op → Op → Bool) (meanings : Meanings Op) wher
           → history.undone session.history ≡ Ok (history_after same meanings session.history (undo-of session of).stepped)
       undone-is session of = ap (λ (r : Result (StatesStep Op) StateRefused). appended session.history (settled_step r)) (undo-of session of).is
 
-      pub undo-session : (session : Session Table Op) → IsSessionOf same meanings now s0.held session
+      undo-session : (session : Session Table Op) → IsSessionOf same meanings now s0.held session
           → LeadsTo (history.undone session.history) (λ (next : History Table Op). IsSessionOf same meanings new s3.held (with_state same meanings session next))
       undo-session session of =
           let leads = undo-of session of in
@@ -188,7 +189,7 @@ module _ {Op : Type 0} (same : Op → Op → Bool) (meanings : Meanings Op) wher
           (λ (next : History Table Op). IsSessionOf same meanings new s3.held (with_state same meanings session next)) (undone-is session of)
           (done-session session of leads.stepped leads.step)
 
-      pub undo-over : KeepsLaws meanings → IsBoxed meanings → Distinguishes same → IsOver same meanings new s3.held
+      undo-over : KeepsLaws meanings → IsBoxed meanings → Distinguishes same → IsOver same meanings new s3.held
       undo-over laws boxed apart =
           let leads = undo-of over.session over.is in
           done-over laws boxed apart Undo leads.stepped leads.step tt
@@ -215,7 +216,7 @@ module _ {Op : Type 0} (same : Op → Op → Bool) (meanings : Meanings Op) wher
           → history.redone session.history ≡ Ok (history_after same meanings session.history (redo-of session of).stepped)
       redone-is session of = ap (λ (r : Result (StatesStep Op) StateRefused). appended session.history (settled_step r)) (redo-of session of).is
 
-      pub redo-session : (session : Session Table Op) → IsSessionOf same meanings now s0.held session
+      redo-session : (session : Session Table Op) → IsSessionOf same meanings now s0.held session
           → LeadsTo (history.redone session.history) (λ (next : History Table Op). IsSessionOf same meanings new s3.held (with_state same meanings session next))
       redo-session session of =
           let leads = redo-of session of in
@@ -223,7 +224,7 @@ module _ {Op : Type 0} (same : Op → Op → Bool) (meanings : Meanings Op) wher
           (λ (next : History Table Op). IsSessionOf same meanings new s3.held (with_state same meanings session next)) (redone-is session of)
           (done-session session of leads.stepped leads.step)
 
-      pub redo-over : KeepsLaws meanings → IsBoxed meanings → Distinguishes same → IsOver same meanings new s3.held
+      redo-over : KeepsLaws meanings → IsBoxed meanings → Distinguishes same → IsOver same meanings new s3.held
       redo-over laws boxed apart =
           let leads = redo-of over.session over.is in
           done-over laws boxed apart Redo leads.stepped leads.step tt
@@ -236,6 +237,81 @@ module _ {Op : Type 0} (same : Op → Op → Bool) (meanings : Meanings Op) wher
         versions = λ on rest first. through.versions_are ∙ made on rest first;
         settled = done-settled;
       }
+
+-- ---- what a step leaves
+
+module _ {Op : Type 0} (same : Op → Op → Bool) (meanings : Meanings Op) where
+  -- The session is one of the definitions' next history.
+  pub record IsStepped (now new : Parts Op) (step : History Table Op → Result (History Table Op) StateRefused) (s0 s3 : ChainState) : Type 0 where
+    pub session : (session : Session Table Op) → IsSessionOf same meanings now s0.held session
+        → LeadsTo (step session.history) (λ (next : History Table Op). IsSessionOf same meanings new s3.held (with_state same meanings session next))
+    pub over : IsOver same meanings new s3.held
+    pub left : Leaves 0 (session_names now) (session_names new) s0 s3
+
+  -- what is asked where the cached pairs are voided
+  pub record IsReady (now : Parts Op) (s2 : ChainState) : Type 0 where
+    pub cache : IsNodeCache now.entries now.most now.capacity s2.held
+    pub alone : HaveOneOwner s2.held (values_of now.entries)
+
+  module _ (v now : Parts Op) (here : v ≡ now) (s0 s1 s2 : ChainState) (requires : IsOver same meanings now s0.held) (versions : Versions BufferTable) (between : List ℕ) where
+    over : IsOver same meanings v s0.held
+    over = over-here same meanings v now here s0.held requires
+
+    pub ready : Leaves 0 (versions_names v.versions) between s0 s1 → Leaves 0 between (versions_names versions) s1 s2 → IsReady v s2
+    ready share put = record {
+      cache = cache-ready v.versions versions v.entries v.entries between s0 s1 s2 over.owned share put v.most v.capacity over.cache;
+      alone = alone-ready v.versions versions v.entries v.entries between s0 s1 s2 over.owned share put over.alone;
+    }
+
+    module _ (s3 : ChainState) (new : Parts Op) (next : Graph Op) (delta : Rectangles) (through : IsThrough same meanings v new next versions delta between s0 s1 s2 s3)
+        (laws : KeepsLaws meanings) (boxed : IsBoxed meanings) (apart : Distinguishes same) where
+      left : Leaves 0 (session_names v) (session_names new) s0 s3
+      left = done-left same meanings v new next versions delta between s0 s1 s2 s3 through over
+
+      -- a commit of its edits, by the facts of its buffers and its rectangles
+      module _ (is : committed same meanings now.graph now.pending (working_facts now) now.written ≡ Ok (record { next = next; delta = delta }))
+          (made : versions ≡ after_commit v.versions) (written : Rectangles) (written_is : written ≡ v.written)
+          (damages : AreDamagesOf same meanings (change_from same meanings v s1.held next written) delta) where
+        commit_is : committed same meanings v.graph v.pending (working_facts v) v.written ≡ Ok (record { next = next; delta = delta })
+        commit_is = ap (λ (p : Parts Op). committed same meanings p.graph p.pending (working_facts p) p.written) here ∙ is
+
+        promise : AreDamagesOf same meanings (change_from same meanings v s1.held next v.written) delta
+        promise = subst (λ (w : Rectangles). AreDamagesOf same meanings (change_from same meanings v s1.held next w) delta) written_is damages
+
+        commit-stepped : IsStepped now new (history.committed meanings table_shapes) s0 s3
+        commit-stepped =
+            subst (λ (p : Parts Op). IsStepped p new (history.committed meanings table_shapes) s0 s3) here
+            (record {
+              session = commit-session same meanings v new next versions delta between s0 s1 s2 s3 through over commit_is made promise;
+              over = commit-over same meanings v new next versions delta between s0 s1 s2 s3 through over commit_is made promise laws boxed apart;
+              left = left;
+            })
+
+        commit-made : IsCommitted same meanings now new
+        commit-made = subst (λ (p : Parts Op). IsCommitted same meanings p new) here (commit-done same meanings v new next versions delta between s0 s1 s2 s3 through over commit_is made promise)
+
+        pub commit-both-made : IsStepped now new (history.committed meanings table_shapes) s0 s3 × IsCommitted same meanings now new
+        commit-both-made = (commit-stepped, commit-made)
+
+      pub undo-stepped : undone v.graph ≡ Ok (record { next = next; delta = delta })
+          → ((b : BufferTable) (rest : List BufferTable) → v.versions.undoable ≡ b ∷ rest → versions ≡ after_undo v.versions b rest) → DamagesBack same meanings v s1.held next delta → IsStepped now new history.undone s0 s3
+      undo-stepped is made promise =
+          subst (λ (p : Parts Op). IsStepped p new history.undone s0 s3) here
+          (record {
+            session = undo-session same meanings v new next versions delta between s0 s1 s2 s3 through over is made promise;
+            over = undo-over same meanings v new next versions delta between s0 s1 s2 s3 through over is made promise laws boxed apart;
+            left = left;
+          })
+
+      pub redo-stepped : redone v.graph ≡ Ok (record { next = next; delta = delta })
+          → ((b : BufferTable) (rest : List BufferTable) → v.versions.redoable ≡ b ∷ rest → versions ≡ after_redo v.versions b rest) → DamagesOn same meanings v s1.held next delta → IsStepped now new history.redone s0 s3
+      redo-stepped is made promise =
+          subst (λ (p : Parts Op). IsStepped p new history.redone s0 s3) here
+          (record {
+            session = redo-session same meanings v new next versions delta between s0 s1 s2 s3 through over is made promise;
+            over = redo-over same meanings v new next versions delta between s0 s1 s2 s3 through over is made promise laws boxed apart;
+            left = left;
+          })
 
 -- ---- the states to which buffers go
 

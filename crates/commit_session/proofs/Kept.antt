@@ -1,50 +1,27 @@
 -- Sessions that a refused step leaves as they were, and why it is refused.
-use Rattle.std.proofs.Common.{◌≡◌, Bool, [], ◌++◌, refl, sym, ap, ◌∙◌, Option, Result, Err, arith}
-use Rattle.std.specs.Map.{values_of}
+use Rattle.std.proofs.Common.{◌≡◌, ℕ, Bool, [], ◌++◌, refl, sym, ap, subst, ◌∙◌, Option, Result, Err}
+use Rattle.chain_owners.specs.Held.{Held}
 use Rattle.chain_owners.specs.Owners.{Owns}
 use Rattle.chain_owners.proofs.Ownership.{times-append}
 use Rattle.model_buffers.specs.Table.{Table}
 use Rattle.model_graphs.specs.Meanings.{Meanings}
+use Rattle.model_states.specs.Commits.{Graph}
 use Rattle.model_states.specs.declared.refused.StateRefused.{StateRefused}
 use Rattle.model_sessions.specs.Sessions.{Session}
 use Rattle.root_tiles.specs.Chains.{ChainState}
 use Rattle.graph_edits.specs.declared.refused.GraphRefused.{GraphRefused}
 use Rattle.graph_edits.specs.declared.refused.GraphRefused.TheVariants as graphs
 use Rattle.graph_edits.specs.Refusals.{IsRefusalOf}
-use Rattle.node_cache.specs.Stores.{AddsNoOther}
-use Rattle.buffer_view.specs.BufferTables.{BufferTable, buffers_names}
+use Rattle.buffer_view.specs.BufferTables.{BufferTable, buffers_names, table_of}
 use Rattle.session_states.specs.OverChains.{AreShownAgain, AreVersionsOver, Leaves, tables_of, versions_names}
 use Rattle.session_states.specs.Versions.{Versions}
 use Rattle.session_states.proofs.Names.{leaves-both}
-use Rattle.session_states.proofs.Released.{released-left, released-over, released-tables}
+use Rattle.session_states.proofs.Released.{IsReleased, one-released}
 use Rattle.commit_session.specs.declared.refused.SessionRefused.{SessionRefused}
 use Rattle.commit_session.specs.Parts.{Parts, session_names}
 use Rattle.commit_session.specs.Refusals.{IsRefusedAs, by_graph}
 use Rattle.commit_session.specs.Seen.{IsOver, IsSessionOf}
 use Rattle.commit_session.proofs.Changed.{final-left, over-shown, shown-again}
-
-module _ {Op : Type 0} (same : Op → Op → Bool) (meanings : Meanings Op) (now : Parts Op) (s0 s1 : ChainState) (over : IsOver same meanings now s0.held)
-    (leaves : Leaves 0 (versions_names now.versions) (versions_names now.versions) s0 s1) (tables : tables_of now.versions s1.held ≡ tables_of now.versions s0.held)
-    (versions : AreVersionsOver now.versions s1.held) where
-  again : AreShownAgain now.versions.working now.versions.working s0.held s1.held
-  again = record { layout = refl; table = ap (λ (t : Versions (Option Table)). t.working) tables }
-
-  tables-again : tables_of now.versions s1.held ≡ (let t : Versions (Option Table) = tables_of now.versions s0.held in record t { working = (tables_of now.versions s1.held).working })
-  tables-again =
-      tables ∙ ap (λ (t : Option Table). let all : Versions (Option Table) = record (tables_of now.versions s0.held) { working = t } in all)
-      (sym (ap (λ (t : Versions (Option Table)). t.working) tables))
-
-  pub kept-over : IsOver same meanings now s1.held
-  kept-over = over-shown same meanings now now refl s0 s1 over 0 now.versions refl leaves tables-again versions again
-
-  pub kept-session : (session : Session Table Op) → IsSessionOf same meanings now s0.held session → IsSessionOf same meanings now s1.held session
-  kept-session session of = shown-again same meanings now now refl s0 s1 over 0 now.versions refl leaves tables-again versions again session of
-
-  pub kept-left : Leaves 0 (session_names now) (session_names now) s0 s1
-  kept-left = final-left same meanings now now refl s0 s1 over 0 now.versions refl leaves tables-again versions now.written
-
-  pub kept-others : AddsNoOther s0.counts s1.counts (values_of now.entries) (values_of now.entries)
-  kept-others = record { names = omega (arith, leaves.counts.names) }
 
 -- ---- buffers that were shared for a step, and released again
 
@@ -52,18 +29,72 @@ module _ (now : Versions BufferTable) (shared : BufferTable) (s0 s1 s2 : ChainSt
     (share : Leaves 0 (versions_names now) (buffers_names shared ++ versions_names now) s0 s1) (tables : tables_of now s1.held ≡ tables_of now s0.held)
     (over : AreVersionsOver now s1.held) (owned : Owns s1.held (buffers_names shared ++ versions_names now))
     (release : Leaves 0 (buffers_names shared) [] s1 s2) where
-  pub unshared-over : AreVersionsOver now s2.held
-  unshared-over =
-      released-over (buffers_names shared ++ versions_names now) shared now s1 s2 release owned (times-append (buffers_names shared) (versions_names now)) over.over
+  unshared-all : IsReleased (buffers_names shared ++ versions_names now) now s1 s2
+  unshared-all =
+      one-released (buffers_names shared ++ versions_names now) shared now s1 s2 release owned (times-append (buffers_names shared) (versions_names now)) over.over
 
-  pub unshared-tables : tables_of now s2.held ≡ tables_of now s0.held
-  unshared-tables =
-      released-tables (buffers_names shared ++ versions_names now) shared now s1 s2 release owned (times-append (buffers_names shared) (versions_names now)) over.over ∙ tables
+  unshared-left : Leaves 0 (versions_names now) (versions_names now) s0 s2
+  unshared-left = leaves-both (versions_names now) (buffers_names shared ++ versions_names now) (versions_names now) s0 s1 s2 share unshared-all.left
 
-  pub unshared-left : Leaves 0 (versions_names now) (versions_names now) s0 s2
-  unshared-left =
-      leaves-both (versions_names now) (buffers_names shared ++ versions_names now) (versions_names now) s0 s1 s2 share
-      (released-left (buffers_names shared ++ versions_names now) shared now s1 s2 release owned (times-append (buffers_names shared) (versions_names now)) over.over)
+-- ---- sessions that are the same of the definitions
+
+module _ {Op : Type 0} (same : Op → Op → Bool) (meanings : Meanings Op) where
+  -- what a call leaves that changes nothing of the session of the definitions
+  pub record IsKept (added : ℕ) (now new : Parts Op) (s0 s1 : ChainState) : Type 0 where
+    pub session : (session : Session Table Op) → IsSessionOf same meanings now s0.held session → IsSessionOf same meanings new s1.held session
+    pub over : IsOver same meanings new s1.held
+    pub left : Leaves added (session_names now) (session_names new) s0 s1
+
+  module _ (v now : Parts Op) (is : v ≡ now) where
+    pub over-here : (held : Held) → IsOver same meanings now held → IsOver same meanings v held
+    over-here held requires = subst (λ (p : Parts Op). IsOver same meanings p held) (sym is) requires
+
+    -- what is kept with another graph, or with other versions, is kept in a session that is this one
+    pub regraphed : (added : ℕ) (graph : Graph Op) (s0 s1 : ChainState) → IsKept added now (record now { graph = graph }) s0 s1 → IsKept added now (record v { graph = graph }) s0 s1
+    regraphed added graph s0 s1 kept = subst (λ (p : Parts Op). IsKept added now (record p { graph = graph }) s0 s1) (sym is) kept
+
+    pub reversioned : (added : ℕ) (versions : Versions BufferTable) (s0 s1 : ChainState) → IsKept added now (record now { versions = versions }) s0 s1
+        → IsKept added now (record v { versions = versions }) s0 s1
+    reversioned added versions s0 s1 kept = subst (λ (p : Parts Op). IsKept added now (record p { versions = versions }) s0 s1) (sym is) kept
+
+    module _ (s0 s1 : ChainState) (requires : IsOver same meanings now s0.held) where
+      -- the buffers show what they showed
+      read-parts : (added : ℕ) (edited : Versions BufferTable) → edited ≡ record v.versions { working = edited.working }
+          → Leaves added (versions_names v.versions) (versions_names edited) s0 s1 → edited.working.layout ≡ v.versions.working.layout
+          → tables_of edited s1.held ≡ tables_of v.versions s0.held → AreVersionsOver edited s1.held → IsKept added now (record v { versions = edited }) s0 s1
+      read-parts added edited states leaves layout shown versions =
+          let first : table_of edited.working s1.held ≡ table_of v.versions.working s0.held = ap (λ (t : Versions (Option Table)). t.working) shown in
+          let again : AreShownAgain v.versions.working edited.working s0.held s1.held = record { layout = layout; table = first } in
+          let tables : tables_of edited s1.held ≡ record (tables_of v.versions s0.held) { working = table_of edited.working s1.held } =
+          shown ∙ ap (λ (t : Option Table). let all : Versions (Option Table) = record (tables_of v.versions s0.held) { working = t } in all) (sym first) in
+          record {
+            session = shown-again same meanings v now is s0 s1 requires added edited states leaves tables versions again;
+            over = over-shown same meanings v now is s0 s1 requires added edited states leaves tables versions again;
+            left = final-left same meanings v now is s0 s1 requires added edited states leaves tables versions v.written;
+          }
+
+      -- buffers were read
+      pub read : (added : Parts Op → ℕ) (edited : Versions BufferTable) → edited ≡ record v.versions { working = edited.working }
+          → Leaves (added v) (versions_names v.versions) (versions_names edited) s0 s1 → edited.working.layout ≡ v.versions.working.layout
+          → tables_of edited s1.held ≡ tables_of v.versions s0.held → AreVersionsOver edited s1.held → IsKept (added now) now (record now { versions = edited }) s0 s1
+      read added edited states leaves layout tables versions =
+          subst (λ (p : Parts Op). IsKept (added p) now (record p { versions = edited }) s0 s1) is (read-parts (added v) edited states leaves layout tables versions)
+
+      -- they couldn't be shared
+      pub kept : Leaves 0 (versions_names v.versions) (versions_names v.versions) s0 s1 → tables_of v.versions s1.held ≡ tables_of v.versions s0.held
+          → AreVersionsOver v.versions s1.held → IsKept 0 now now s0 s1
+      kept leaves tables versions = subst (λ (p : Parts Op). IsKept 0 now p s0 s1) is (read-parts 0 v.versions refl leaves refl tables versions)
+
+      -- they were shared and released again, and the graph is unchanged
+      pub unshared : (shared : BufferTable) (s : ChainState) → Leaves 0 (versions_names v.versions) (buffers_names shared ++ versions_names v.versions) s0 s
+          → tables_of v.versions s.held ≡ tables_of v.versions s0.held → AreVersionsOver v.versions s.held → Owns s.held (buffers_names shared ++ versions_names v.versions)
+          → Leaves 0 (buffers_names shared) [] s s1 → (graph : Graph Op) → graph ≡ v.graph → IsKept 0 now (record now { graph = graph }) s0 s1
+      unshared shared s share tables versions owned release graph unchanged =
+          let again = unshared-all v.versions shared s0 s s1 share tables versions owned release in
+          let leaves = unshared-left v.versions shared s0 s s1 share tables versions owned release in
+          let all : IsKept 0 now v s0 s1 = read-parts 0 v.versions refl leaves refl (again.tables ∙ tables) again.over in
+          subst (λ (p : Parts Op). IsKept 0 now (record p { graph = graph }) s0 s1) is
+          (subst (λ (g : Graph Op). IsKept 0 now (record v { graph = g }) s0 s1) (sym unchanged) all)
 
 -- ---- why a step is refused
 

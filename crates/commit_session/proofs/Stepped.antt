@@ -100,6 +100,30 @@ module _ {Op : Type 0} (same : Op → Op → Bool) (meanings : Meanings Op) (now
   graph_on step steps =
       record { number = now.graph.number + 1; latest = step.state; undoable = left_state now.graph step.delta ∷ now.graph.undoable; redoable = steps }
 
+  -- ---- a step by what its list begins with
+
+  -- the step to a graph and to versions that are these
+  leads-at : (to : GraphStep Op) (v : Versions BufferTable) (next : Graph Op) (versions : Versions BufferTable) (delta : Rectangles) (retained : States Op)
+      (result : Result (StatesStep Op) StateRefused) → to ≡ record { next = next; delta = delta } → versions ≡ v → Leads to.next v to.delta retained result
+      → Leads next versions delta retained result
+  leads-at to v next versions delta retained result whole made found =
+      subst (λ (s : GraphStep Op). Leads s.next versions s.delta retained result) whole
+      (subst (λ (w : Versions BufferTable). Leads to.next w to.delta retained result) (sym made) found)
+
+  -- a step that there is a number for
+  leads-open : (next : Graph Op) (versions : Versions BufferTable) (delta : Rectangles) (retained : States Op) (first : Result (GraphStep Op) StateRefused)
+      (result : Result (StatesStep Op) StateRefused) → retained.number ≡ now.graph.number → unless_last now.graph.number first ≡ Ok (record { next = next; delta = delta })
+      → (first ≡ Ok (record { next = next; delta = delta }) → Leads next versions delta retained result)
+      → Leads next versions delta retained (unless_last retained.number result)
+  leads-open next versions delta retained first result number is leads =
+      let opened = open-ok now.graph.number first (record { next = next; delta = delta }) is in
+      let lists = leads opened.is in
+      record {
+        stepped = lists.stepped;
+        is = open-is now.graph.number retained.number result lists.stepped number opened.open_number lists.is;
+        step = lists.step;
+      }
+
   -- ---- an undo
 
   module _ (retained : States Op) (are : AreRetained same meanings now held retained) where
@@ -146,23 +170,15 @@ module _ {Op : Type 0} (same : Op → Op → Bool) (meanings : Meanings Op) (now
           let to : GraphStep Op = record { next = graph_back step steps; delta = step.delta } in
           let final : GraphStep Op = record { next = next; delta = delta } in
           let whole : to ≡ final = cc in
-          let found : Leads to.next (after_undo now.versions b buffers) to.delta retained (undo_to retained (state ∷ states)) =
-          undo-states step steps b buffers state states before (subst (λ (s : GraphStep Op). DamagesBack s.next s.delta) (sym whole) promised) in
-          subst (λ (s : GraphStep Op). Leads s.next versions s.delta retained (undo_to retained (state ∷ states))) whole
-          (subst (λ (v : Versions BufferTable). Leads to.next v to.delta retained (undo_to retained (state ∷ states))) (sym (made b buffers refl)) found)
+          leads-at to (after_undo now.versions b buffers) next versions delta retained (undo_to retained (state ∷ states)) whole (made b buffers refl)
+          (undo-states step steps b buffers state states before (subst (λ (s : GraphStep Op). DamagesBack s.next s.delta) (sym whole) promised))
 
       pub undo-leads : undone now.graph ≡ Ok (record { next = next; delta = delta })
           → ((back : BufferTable) (rest : List BufferTable) → now.versions.undoable ≡ back ∷ rest → versions ≡ after_undo now.versions back rest)
           → DamagesBack next delta → Leads next versions delta retained (undone retained)
       undo-leads is made promised =
-          let final : GraphStep Op = record { next = next; delta = delta } in
-          let opened = open-ok now.graph.number (undo_to now.graph now.graph.undoable) final is in
-          let lists = undo-lists now.graph.undoable now.versions.undoable retained.undoable are.undoable opened.is made promised in
-          record {
-            stepped = lists.stepped;
-            is = open-is now.graph.number retained.number (undo_to retained retained.undoable) lists.stepped are.number opened.open_number lists.is;
-            step = lists.step;
-          }
+          leads-open next versions delta retained (undo_to now.graph now.graph.undoable) (undo_to retained retained.undoable) are.number is
+          (λ opened. undo-lists now.graph.undoable now.versions.undoable retained.undoable are.undoable opened made promised)
 
     undo-none : (why : StateRefused) (steps : List (Separated (Side Op) Rectangles)) (buffers : List BufferTable) (states : List (Committed Table Op))
         → AreBefore same meanings now.graph.latest steps buffers held states → undo_to now.graph steps ≡ Err why → undo_to retained states ≡ Err why
@@ -229,23 +245,15 @@ module _ {Op : Type 0} (same : Op → Op → Bool) (meanings : Meanings Op) (now
           let to : GraphStep Op = record { next = graph_on step steps; delta = step.delta } in
           let final : GraphStep Op = record { next = next; delta = delta } in
           let whole : to ≡ final = cc in
-          let found : Leads to.next (after_redo now.versions b buffers) to.delta retained (redo_to retained (state ∷ states)) =
-          redo-states step steps b buffers state states after (subst (λ (s : GraphStep Op). DamagesOn s.next s.delta) (sym whole) promised) in
-          subst (λ (s : GraphStep Op). Leads s.next versions s.delta retained (redo_to retained (state ∷ states))) whole
-          (subst (λ (v : Versions BufferTable). Leads to.next v to.delta retained (redo_to retained (state ∷ states))) (sym (made b buffers refl)) found)
+          leads-at to (after_redo now.versions b buffers) next versions delta retained (redo_to retained (state ∷ states)) whole (made b buffers refl)
+          (redo-states step steps b buffers state states after (subst (λ (s : GraphStep Op). DamagesOn s.next s.delta) (sym whole) promised))
 
       pub redo-leads : redone now.graph ≡ Ok (record { next = next; delta = delta })
           → ((on : BufferTable) (rest : List BufferTable) → now.versions.redoable ≡ on ∷ rest → versions ≡ after_redo now.versions on rest)
           → DamagesOn next delta → Leads next versions delta retained (redone retained)
       redo-leads is made promised =
-          let final : GraphStep Op = record { next = next; delta = delta } in
-          let opened = open-ok now.graph.number (redo_to now.graph now.graph.redoable) final is in
-          let lists = redo-lists now.graph.redoable now.versions.redoable retained.redoable are.redoable opened.is made promised in
-          record {
-            stepped = lists.stepped;
-            is = open-is now.graph.number retained.number (redo_to retained retained.redoable) lists.stepped are.number opened.open_number lists.is;
-            step = lists.step;
-          }
+          leads-open next versions delta retained (redo_to now.graph now.graph.redoable) (redo_to retained retained.redoable) are.number is
+          (λ opened. redo-lists now.graph.redoable now.versions.redoable retained.redoable are.redoable opened made promised)
 
     redo-none : (why : StateRefused) (steps : List (Separated (Side Op) Rectangles)) (buffers : List BufferTable) (states : List (Committed Table Op))
         → AreAfter same meanings now.graph.latest steps buffers held states → redo_to now.graph steps ≡ Err why → redo_to retained states ≡ Err why

@@ -54,7 +54,7 @@ still-there table next written continued = λ name a found.
 module _ {Op : Type 0} (same : Op → Op → Bool) (meanings : Meanings Op) (now : Parts Op) (held : Held) (over : IsOver same meanings now held)
     (working : BufferTable) (facts : Facts) (working_is : working ≡ now.versions.working) (facts_are : facts ≡ facts_of working.layout) where
   -- the facts are those of the working buffers
-  pub working-facts : facts ≡ working_facts now
+  working-facts : facts ≡ working_facts now
   working-facts = facts_are ∙ ap (λ (b : BufferTable). facts_of b.layout) working_is
 
   -- and each buffer of the last state is among them
@@ -71,8 +71,17 @@ module _ {Op : Type 0} (same : Op → Op → Bool) (meanings : Meanings Op) (now
 -- the same commit, of edits, facts and rectangles that are these
 module _ {Op : Type 0} (same : Op → Op → Bool) (meanings : Meanings Op) (graph : Graph Op) (edits edits' : List (NodeEdit Op)) (facts facts' : Facts) (written written' : Rectangles)
     (edits_are : edits ≡ edits') (facts_are : facts ≡ facts') (written_is : written ≡ written') where
-  pub commit-same : committed same meanings graph edits facts written ≡ committed same meanings graph edits' facts' written'
+  commit-same : committed same meanings graph edits facts written ≡ committed same meanings graph edits' facts' written'
   commit-same =
       ap (λ (es : List (NodeEdit Op)). committed same meanings graph es facts written) edits_are
       ∙ ap (λ (f : Facts). committed same meanings graph edits' f written) facts_are
       ∙ ap (λ (w : Rectangles). committed same meanings graph edits' facts' w) written_is
+
+-- so a commit of the edits, facts and rectangles of a session is the session's
+module _ {Op : Type 0} (same : Op → Op → Bool) (meanings : Meanings Op) (v now : Parts Op) (is : v ≡ now) (working : BufferTable) (facts : Facts) (edits : List (NodeEdit Op)) (written : Rectangles)
+    (working_is : working ≡ v.versions.working) (facts_are : facts ≡ facts_of working.layout) (edits_are : edits ≡ v.pending) (written_is : written ≡ v.written) where
+  pub commit-here : committed same meanings v.graph edits facts written ≡ committed same meanings now.graph now.pending (working_facts now) now.written
+  commit-here =
+      commit-same same meanings v.graph edits v.pending facts (working_facts v) written v.written edits_are
+      (facts_are ∙ ap (λ (b : BufferTable). facts_of b.layout) working_is) written_is
+      ∙ ap (λ (p : Parts Op). committed same meanings p.graph p.pending (working_facts p) p.written) is

@@ -40,6 +40,12 @@ pub holds-none : (z : ℕ) (now : State) → IsOver now.tiles now.held → Holds
 holds-none z now over =
     holds-same z now.tiles now.held now.counts now.counts over (record { used = refl; capacity = refl; later = omega arith }) (omega arith)
 
+-- a tile was read
+pub holds-read : (z : ℕ) (tiles : LevelTiles) (held held' : Held) (counts counts' : Counts) → IsOver tiles held → held' ≡ held → Grows 0 counts counts'
+    → HoldsMore z (state tiles held counts) (state tiles held' counts')
+holds-read z tiles held held' counts counts' over same grows =
+    rw same (holds-same z tiles held counts counts' over grows.continues (omega (arith, grows.names)))
+
 pub holds-both : (z : ℕ) (a b c : State) → HoldsMore z a b → HoldsMore z b c → HoldsMore z a c
 holds-both z a b c first second = record {
   kept = keeps-both a b c first.kept second.kept;
@@ -77,6 +83,13 @@ found-after a b z at found kept is =
     let Q : List (Tile × ℕ) → Type 0 = λ put. IsFound (image_of a.tiles a.held) (keys_of put) b.tiles.format z at found in
     let R : Format → Type 0 = λ f. IsFound (image_of a.tiles a.held) (positions a.tiles) f z at found in
     subst P (sym (kept-image a b kept)) (subst Q (sym (kept-put a b kept)) (subst R (sym (kept-format a b kept)) is))
+
+-- what was found after some calls is still found after more
+pub found-still : (start a b : State) (z : ℕ) (at other : Tile) (found : Option (List ℕ)) → at ≡ other → KeepsTiles start a → KeepsTiles start b
+    → IsFound (image_of a.tiles a.held) (positions a.tiles) a.tiles.format z at found → IsFound (image_of b.tiles b.held) (positions b.tiles) b.tiles.format z other found
+found-still start a b z at other found same first second is =
+    found-after start b z other found second
+    (found-before start a z other found first (subst (λ (tile : Tile). IsFound (image_of a.tiles a.held) (positions a.tiles) a.tiles.format z tile found) same is))
 
 -- a chain that holds the same has as many names
 pub same-names : (held held' : Held) (counts counts' : Counts) (store store' : Option Room) → AreCounts counts held store → AreCounts counts' held' store' → held' ≡ held

@@ -196,6 +196,11 @@ other-way a b apart = by (same_key b a) refl
     by true is =
         absurd (let same : same_key a b ≡ true = (Decides-same_pair (pair_of a) (pair_of b)).1 (sym (same_pair-true (pair_of b) (pair_of a) is)) in cc)
 
+-- a key is the last one, and the others are other keys
+record IsLastPair (k : PairKey) (others : List PairKey) (last : PairKey) : Type 0 where
+  key : last ≡ k
+  apart : AllByRecursion (λ b. same_key last b ≡ false) others
+
 module _ {V : Type 0} where
   all-last : (P : PairKey → Type 0) (rest : List (PairKey × V)) (e : PairKey × V) → AllByRecursion P (keys_of (rest ++ e ∷ [])) → P e.0
   all-last P [] e all = all.0
@@ -227,32 +232,36 @@ module _ {V : Type 0} where
       ap (λ o. option_map_or (λ (f : PairKey × V). f ∷ remove_entry (same_key e.0) (rest ++ e ∷ [])) o (rest ++ e ∷ [])) (entry-last rest e all)
       ∙ ap (λ (ys : List (PairKey × V)). e ∷ ys) (removed-last rest e all)
 
+  -- the last pair of a list of pairs with other keys
+  last-pair : (es : List (PairKey × V)) (k : PairKey) (v : V) → IsDistinct same_key (keys_of es) → slice_get es (length es - 1) ≡ Some (k, v)
+      → (rest : List (PairKey × V)) (e : PairKey × V) → es ≡ rest ++ e ∷ [] → IsLastPair k (keys_of rest) e.0
+  last-pair es k v is last rest e whole =
+      let found : slice_get (rest ++ e ∷ []) (length (rest ++ e ∷ []) - 1) ≡ Some (k, v) = subst (λ (ys : List (PairKey × V)). slice_get ys (length ys - 1) ≡ Some (k, v)) whole last in
+      let end = last-of rest e in
+      let same : e ≡ (k, v) = cc in
+      record {
+        key = ap (λ (x : PairKey × V). x.0) same;
+        apart = last-apart rest e (subst (λ (ys : List (PairKey × V)). IsDistinct same_key (keys_of ys)) whole is);
+      }
+
   -- a void takes the last pair out, or it goes to the front
   pub turned-out : (node : List ℕ) (rectangle : Rectangle) (es : List (PairKey × V)) (k : PairKey) (v : V)
       → IsDistinct same_key (keys_of es) → slice_get es (length es - 1) ≡ Some (k, v) → is_voided node rectangle k ≡ true
       → (rest : List (PairKey × V)) (e : PairKey × V) → es ≡ rest ++ e ∷ []
       → remove_entry (same_key k) es ≡ entries_left node rectangle (e ∷ []) ++ rest
   turned-out node rectangle es k v is last gone rest e whole =
-      let found : slice_get (rest ++ e ∷ []) (length (rest ++ e ∷ []) - 1) ≡ Some (k, v) = subst (λ (ys : List (PairKey × V)). slice_get ys (length ys - 1) ≡ Some (k, v)) whole last in
-      let end = last-of rest e in
-      let same : e ≡ (k, v) = cc in
-      let key : e.0 ≡ k = ap (λ (x : PairKey × V). x.0) same in
-      let apart = last-apart rest e (subst (λ (ys : List (PairKey × V)). IsDistinct same_key (keys_of ys)) whole is) in
-      ap (λ (j : PairKey). remove_entry (same_key j) es) (sym key) ∙ ap (remove_entry (same_key e.0)) whole ∙ removed-last rest e apart
-      ∙ ap (λ b. cond (not b) (e ∷ []) [] ++ rest) (sym (ap (is_voided node rectangle) key ∙ gone))
+      let at = last-pair es k v is last rest e whole in
+      ap (λ (j : PairKey). remove_entry (same_key j) es) (sym at.key) ∙ ap (remove_entry (same_key e.0)) whole ∙ removed-last rest e at.apart
+      ∙ ap (λ b. cond (not b) (e ∷ []) [] ++ rest) (sym (ap (is_voided node rectangle) at.key ∙ gone))
 
   pub turned-front : (node : List ℕ) (rectangle : Rectangle) (es : List (PairKey × V)) (k : PairKey) (v : V)
       → IsDistinct same_key (keys_of es) → slice_get es (length es - 1) ≡ Some (k, v) → is_voided node rectangle k ≡ false
       → (rest : List (PairKey × V)) (e : PairKey × V) → es ≡ rest ++ e ∷ []
       → promoted (same_key k) es ≡ entries_left node rectangle (e ∷ []) ++ rest
   turned-front node rectangle es k v is last kept rest e whole =
-      let found : slice_get (rest ++ e ∷ []) (length (rest ++ e ∷ []) - 1) ≡ Some (k, v) = subst (λ (ys : List (PairKey × V)). slice_get ys (length ys - 1) ≡ Some (k, v)) whole last in
-      let end = last-of rest e in
-      let same : e ≡ (k, v) = cc in
-      let key : e.0 ≡ k = ap (λ (x : PairKey × V). x.0) same in
-      let apart = last-apart rest e (subst (λ (ys : List (PairKey × V)). IsDistinct same_key (keys_of ys)) whole is) in
-      ap (λ (j : PairKey). promoted (same_key j) es) (sym key) ∙ ap (promoted (same_key e.0)) whole ∙ promoted-last rest e apart
-      ∙ ap (λ b. cond (not b) (e ∷ []) [] ++ rest) (sym (ap (is_voided node rectangle) key ∙ kept))
+      let at = last-pair es k v is last rest e whole in
+      ap (λ (j : PairKey). promoted (same_key j) es) (sym at.key) ∙ ap (promoted (same_key e.0)) whole ∙ promoted-last rest e at.apart
+      ∙ ap (λ b. cond (not b) (e ∷ []) [] ++ rest) (sym (ap (is_voided node rectangle) at.key ∙ kept))
 
   pub none-last : (es : List (PairKey × V)) → slice_get es (length es - 1) ≡ None → (rest : List (PairKey × V)) (e : PairKey × V)
       → es ≡ rest ++ e ∷ [] → ⊥

@@ -286,6 +286,23 @@ named-bytes : (content : Option (Named (List ℕ))) (name : ℕ) (tile : List �
 named-bytes None name tile known = absurd (true≢false (sym known))
 named-bytes (Some content) name tile known = get_here content name tile
 
+-- what a name that was made for a tile leaves of the cached ones
+pub record IsNamedBeside (held new : Held) (name : ℕ) (tile : List ℕ) (es : Entries) (most capacity : ℕ) : Type 0 where
+  pub unchanged : (q : ℕ) → 0 < times (values_of es) q → Unchanged held new q
+  pub respects : Respects held new (values_of es) (name ∷ values_of es)
+  pub owns : Owns new (name ∷ values_of es)
+  pub len : length_of new name ≡ Some (length tile)
+  pub bytes : is_some new.content ≡ true → bytes_of new name ≡ Some tile
+  pub named : IsTileLength (length tile) → IsTileName new name
+  pub over : IsNodeCache es most capacity new
+
+-- what is left once the cache was handed it
+pub record IsHanded (held last : Held) (first third : Counts) (names names' : List ℕ) : Type 0 where
+  pub others : Respects held last names names'
+  pub one_owner : HaveOneOwner held names → HaveOneOwner last names'
+  pub other_names : HaveOneOwner held names → AddsNoOther first third names names'
+  pub counts : Grows 1 first third
+
 module _ (held new : Held) (name : ℕ) (tile : List ℕ) (es : Entries) (most capacity : ℕ) (is : IsNodeCache es most capacity held)
     (absent : length_of held name ≡ None) (unowned : owners_of held name ≡ 0) (named : new ≡ with_name held name tile) where
   abbrev names : List ℕ
@@ -294,26 +311,26 @@ module _ (held new : Held) (name : ℕ) (tile : List ℕ) (es : Entries) (most c
   not-new : (q : ℕ) → 0 < times names q → q ≢ name
   not-new q some same = let there = (is.tiles.named q some).there in let none : length_of held q ≡ None = ap (length_of held) same ∙ absent in absurd (cc)
 
-  pub new-unchanged : (q : ℕ) → 0 < times names q → Unchanged held new q
+  new-unchanged : (q : ℕ) → 0 < times names q → Unchanged held new q
   new-unchanged q some =
       let u = put-unchanged held name tile q (not-new q some) in
       subst (λ (h : Held). Unchanged held h q) (sym named) (record { length = u.length; bytes = u.bytes })
 
-  pub new-respects : Respects held new names (name ∷ names)
+  new-respects : Respects held new names (name ∷ names)
   new-respects = subst (λ (h : Held). Respects held h names (name ∷ names)) (sym named) (new_name-respects held names name tile unowned)
 
-  pub new-owns : Owns new (name ∷ names)
+  new-owns : Owns new (name ∷ names)
   new-owns = owns-all held new names (name ∷ names) new-respects is.owned
 
-  pub new-length : length_of new name ≡ Some (length tile)
+  new-length : length_of new name ≡ Some (length tile)
   new-length = ap (λ (h : Held). length_of h name) named ∙ get_here held.lengths name (length tile)
 
-  pub new-bytes : is_some new.content ≡ true → bytes_of new name ≡ Some tile
+  new-bytes : is_some new.content ≡ true → bytes_of new name ≡ Some tile
   new-bytes known =
       ap (λ (h : Held). bytes_of h name) named
       ∙ named-bytes held.content name tile (ap (λ (h : Held). is_some h.content) (sym named) ∙ known)
 
-  pub new-tile : IsTileLength (length tile) → IsTileName new name
+  new-tile : IsTileLength (length tile) → IsTileName new name
   new-tile size = record {
     len = length tile;
     there = new-length;
@@ -321,7 +338,7 @@ module _ (held new : Held) (name : ℕ) (tile : List ℕ) (es : Entries) (most c
     bytes = λ known. subst (λ o. IsSomeAnd o (λ (bytes : List ℕ). length bytes ≡ length tile)) (sym (new-bytes known)) refl;
   }
 
-  pub new-over : IsNodeCache es most capacity new
+  new-over : IsNodeCache es most capacity new
   new-over = node_framed_condition es most capacity held new is (new-respects).exposed new-unchanged
       (owns-fewer new (name ∷ names) names (λ q. omega arith) new-owns)
 
@@ -335,16 +352,16 @@ module _ (held new : Held) (name : ℕ) (tile : List ℕ) (es : Entries) (most c
 
   module _ (last : Held) (first second third : Counts) (es' : Entries) (grows : Grows 1 first second)
       (given : GivesUp new last second third (name ∷ names) (values_of es')) where
-    pub keep-others : Respects held last names (values_of es')
+    keep-others : Respects held last names (values_of es')
     keep-others = respects-both held new names (name ∷ names) new-respects last (values_of es') given.others
 
-    pub keep-one : HaveOneOwner held names → HaveOneOwner last (values_of es')
+    keep-one : HaveOneOwner held names → HaveOneOwner last (values_of es')
     keep-one one = given.one_owner (new-one one)
 
-    pub keep-names : HaveOneOwner held names → AddsNoOther first third names (values_of es')
+    keep-names : HaveOneOwner held names → AddsNoOther first third names (values_of es')
     keep-names one = record { names = omega (arith, grows.names, (given.other_names (new-one one)).names) }
 
-    pub keep-grows : Grows 1 first third
+    keep-grows : Grows 1 first third
     keep-grows = record {
       continues = record {
         used = given.grows.continues.used ∙ grows.continues.used;
@@ -353,6 +370,20 @@ module _ (held new : Held) (name : ℕ) (tile : List ℕ) (es : Entries) (most c
       };
       names = omega (arith, grows.names, given.grows.names);
     }
+
+    pub handed : IsHanded held last first third names (values_of es')
+    handed = record { others = keep-others; one_owner = keep-one; other_names = keep-names; counts = keep-grows }
+
+  pub named-beside : IsNamedBeside held new name tile es most capacity
+  named-beside = record {
+    unchanged = new-unchanged;
+    respects = new-respects;
+    owns = new-owns;
+    len = new-length;
+    bytes = new-bytes;
+    named = new-tile;
+    over = new-over;
+  }
 
 -- ---- the new name goes in, and another may go
 

@@ -36,185 +36,143 @@ watched_area words viewers frames numbers rest are_viewers are_frames are = rw (
 
 -- ---- commands
 
--- `buffer B FORMAT X Y W H`
-pub buffer-outcome : (words : List (List ℕ)) (next : Command → Verdict) (rest : Verdict)
-    → ((name : List ℕ) (format : Format) (rect : Rectangle) → next (Buffer name format rect) ≡ rest)
-    → outcome next (buffer words) ≡ lowest_by buffer_grammar words rest
-buffer-outcome words next rest same =
-    let grammar : Grammar = buffer_grammar in
-    let area : Verdict = guard (not (area_refused grammar.area words)) causes.Rect rest in
-    let names : Verdict = guard (names_fit grammar words) causes.Name area in
-    outcome-step (count 7 words) _ _ _ next _ (guards-count 7 words) (λ _ _.
-    outcome-step (rect_numbers_at words 3) _ _ _ next _ (guards-numbers words 3) (λ numbers are.
-    outcome-step (name_at words 1) _ _ _ next _ (guards-name words 1) (λ name _.
-    outcome-step (format_at words 2) _ _ _ next _ (guards-format words 2) (λ format _.
-    outcome-step (rect_of numbers) _ _ _ next _ (guards-rect numbers) (λ rect _.
-    same name format rect)
-    ∙ plain_area words 3 numbers rest are))
-    ∙ two_fields ((name 1).fits (word_at words 1)) ((format 2).fits (word_at words 2)) causes.Name area)
-    ∙ all_of (all_fit (coordinates 3) words) causes.Number names)
+module _ (words : List (List ℕ)) (next : Command → Verdict) (rest : Verdict) where
+  -- what is left once the names are read, and once the numbers are
+  abbrev area_left : Grammar → Verdict
+  area_left grammar = guard (not (area_refused grammar.area words)) causes.Rect rest
 
--- `sub B PARENT X Y W H`
-pub sub-outcome : (words : List (List ℕ)) (next : Command → Verdict) (rest : Verdict)
-    → ((name parent : List ℕ) (rect : Rectangle) → next (Sub name parent rect) ≡ rest)
-    → outcome next (sub words) ≡ lowest_by sub_grammar words rest
-sub-outcome words next rest same =
-    let grammar : Grammar = sub_grammar in
-    let area : Verdict = guard (not (area_refused grammar.area words)) causes.Rect rest in
-    let names : Verdict = guard (names_fit grammar words) causes.Name area in
-    outcome-step (count 7 words) _ _ _ next _ (guards-count 7 words) (λ _ _.
-    outcome-step (rect_numbers_at words 3) _ _ _ next _ (guards-numbers words 3) (λ numbers are.
-    outcome-step (name_at words 1) _ _ _ next _ (guards-name words 1) (λ name _.
-    outcome-step (name_at words 2) _ _ _ next _ (guards-name words 2) (λ parent _.
-    outcome-step (rect_of numbers) _ _ _ next _ (guards-rect numbers) (λ rect _.
-    same name parent rect)
-    ∙ plain_area words 3 numbers rest are))
-    ∙ two_fields ((name 1).fits (word_at words 1)) ((name 2).fits (word_at words 2)) causes.Name area)
-    ∙ all_of (all_fit (coordinates 3) words) causes.Number names)
+  abbrev names_left : Grammar → Verdict
+  names_left grammar = guard (names_fit grammar words) causes.Name (area_left grammar)
 
--- `dup B FROM`
-pub dup-outcome : (words : List (List ℕ)) (next : Command → Verdict) (rest : Verdict)
-    → ((name from : List ℕ) → next (Dup name from) ≡ rest)
-    → outcome next (dup words) ≡ lowest_by dup_grammar words rest
-dup-outcome words next rest same =
-    let grammar : Grammar = dup_grammar in
-    let area : Verdict = guard (not (area_refused grammar.area words)) causes.Rect rest in
-    let names : Verdict = guard (names_fit grammar words) causes.Name area in
-    outcome-step (count 3 words) _ _ _ next _ (guards-count 3 words) (λ _ _.
-    outcome-step (name_at words 1) _ _ _ next _ (guards-name words 1) (λ name _.
-    outcome-step (name_at words 2) _ _ _ next _ (guards-name words 2) (λ from _.
-    same name from
-    ))
-    ∙ two_fields ((name 1).fits (word_at words 1)) ((name 2).fits (word_at words 2)) causes.Name area)
+  -- `buffer B FORMAT X Y W H`
+  pub buffer-outcome : ((name : List ℕ) (format : Format) (rect : Rectangle) → next (Buffer name format rect) ≡ rest) → outcome next (buffer words) ≡ lowest_by buffer_grammar words rest
+  buffer-outcome same =
+      outcome-step (count 7 words) _ _ _ next _ (guards-count 7 words) (λ _ _.
+      outcome-step (rect_numbers_at words 3) _ _ _ next _ (guards-numbers words 3) (λ numbers are.
+      outcome-step (name_at words 1) _ _ _ next _ (guards-name words 1) (λ name _.
+      outcome-step (format_at words 2) _ _ _ next _ (guards-format words 2) (λ format _.
+      outcome-step (rect_of numbers) _ _ _ next _ (guards-rect numbers) (λ rect _.
+      same name format rect)
+      ∙ plain_area words 3 numbers rest are))
+      ∙ two_fields ((name 1).fits (word_at words 1)) ((format 2).fits (word_at words 2)) causes.Name (area_left buffer_grammar))
+      ∙ all_of (all_fit (coordinates 3) words) causes.Number (names_left buffer_grammar))
 
--- `load B X Y W H FILE`
-pub load-outcome : (words : List (List ℕ)) (next : Command → Verdict) (rest : Verdict)
-    → ((name : List ℕ) (rect : Rectangle) (file : List ℕ) → next (Load name rect file) ≡ rest)
-    → outcome next (load words) ≡ lowest_by load_grammar words rest
-load-outcome words next rest same =
-    let grammar : Grammar = load_grammar in
-    let area : Verdict = guard (not (area_refused grammar.area words)) causes.Rect rest in
-    let names : Verdict = guard (names_fit grammar words) causes.Name area in
-    outcome-step (count 7 words) _ _ _ next _ (guards-count 7 words) (λ _ _.
-    outcome-step (rect_numbers_at words 2) _ _ _ next _ (guards-numbers words 2) (λ numbers are.
-    outcome-step (name_at words 1) _ _ _ next _ (guards-name words 1) (λ name _.
-    outcome-step (file_at words 6) _ _ _ next _ (guards-file words 6) (λ file _.
-    outcome-step (rect_of numbers) _ _ _ next _ (guards-rect numbers) (λ rect _.
-    same name rect file)
-    ∙ plain_area words 2 numbers rest are))
-    ∙ two_fields ((name 1).fits (word_at words 1)) ((file 6).fits (word_at words 6)) causes.Name area)
-    ∙ all_of (all_fit (coordinates 2) words) causes.Number names)
+  -- `sub B PARENT X Y W H`
+  pub sub-outcome : ((name parent : List ℕ) (rect : Rectangle) → next (Sub name parent rect) ≡ rest) → outcome next (sub words) ≡ lowest_by sub_grammar words rest
+  sub-outcome same =
+      outcome-step (count 7 words) _ _ _ next _ (guards-count 7 words) (λ _ _.
+      outcome-step (rect_numbers_at words 3) _ _ _ next _ (guards-numbers words 3) (λ numbers are.
+      outcome-step (name_at words 1) _ _ _ next _ (guards-name words 1) (λ name _.
+      outcome-step (name_at words 2) _ _ _ next _ (guards-name words 2) (λ parent _.
+      outcome-step (rect_of numbers) _ _ _ next _ (guards-rect numbers) (λ rect _.
+      same name parent rect)
+      ∙ plain_area words 3 numbers rest are))
+      ∙ two_fields ((name 1).fits (word_at words 1)) ((name 2).fits (word_at words 2)) causes.Name (area_left sub_grammar))
+      ∙ all_of (all_fit (coordinates 3) words) causes.Number (names_left sub_grammar))
 
--- `fill B X Y W H S..`
-pub fill-outcome : (words : List (List ℕ)) (next : Command → Verdict) (rest : Verdict)
-    → ((name : List ℕ) (rect : Rectangle) (samples : List ℕ) → next (Fill name rect samples) ≡ rest)
-    → outcome next (fill words) ≡ lowest_by fill_grammar words rest
-fill-outcome words next rest same =
-    let grammar : Grammar = fill_grammar in
-    let area : Verdict = guard (not (area_refused grammar.area words)) causes.Rect rest in
-    let names : Verdict = guard (names_fit grammar words) causes.Name area in
-    outcome-step (count_in 7 10 words) _ _ _ next _ (guards-count_in 7 10 words) (λ _ _.
-    outcome-step (rect_numbers_at words 2) _ _ _ next _ (guards-numbers words 2) (λ numbers are.
-    outcome-step (samples_from 6 words) _ _ _ next _ (guards-samples words 6) (λ samples _.
-    outcome-step (name_at words 1) _ _ _ next _ (guards-name words 1) (λ name _.
-    outcome-step (rect_of numbers) _ _ _ next _ (guards-rect numbers) (λ rect _.
-    same name rect samples)
-    ∙ plain_area words 2 numbers rest are)
-    ∙ one_field ((name 1).fits (word_at words 1)) causes.Name area))
-    ∙ rest_after (all_fit (coordinates 2) words) (list_all (samples_on 6).fits (drop 6 words)) causes.Number names)
+  -- `dup B FROM`
+  pub dup-outcome : ((name from : List ℕ) → next (Dup name from) ≡ rest) → outcome next (dup words) ≡ lowest_by dup_grammar words rest
+  dup-outcome same =
+      outcome-step (count 3 words) _ _ _ next _ (guards-count 3 words) (λ _ _.
+      outcome-step (name_at words 1) _ _ _ next _ (guards-name words 1) (λ name _.
+      outcome-step (name_at words 2) _ _ _ next _ (guards-name words 2) (λ from _.
+      same name from
+      ))
+      ∙ two_fields ((name 1).fits (word_at words 1)) ((name 2).fits (word_at words 2)) causes.Name (area_left dup_grammar))
 
--- `copy FROM TO X Y W H DX DY`
-pub copy-outcome : (words : List (List ℕ)) (next : Command → Verdict) (rest : Verdict)
-    → ((from to : List ℕ) (rect : Rectangle) (dx dy : ℤ) → next (Copy from to rect dx dy) ≡ rest)
-    → outcome next (copy words) ≡ lowest_by copy_grammar words rest
-copy-outcome words next rest same =
-    let grammar : Grammar = copy_grammar in
-    let area : Verdict = guard (not (area_refused grammar.area words)) causes.Rect rest in
-    let names : Verdict = guard (names_fit grammar words) causes.Name area in
-    outcome-step (count 9 words) _ _ _ next _ (guards-count 9 words) (λ _ _.
-    outcome-step (rect_numbers_at words 3) _ _ _ next _ (guards-numbers words 3) (λ numbers are.
-    outcome-step (move_at words 7) _ _ _ next _ (guards-move words 7) (λ dx _.
-    outcome-step (move_at words 8) _ _ _ next _ (guards-move words 8) (λ dy _.
-    outcome-step (name_at words 1) _ _ _ next _ (guards-name words 1) (λ from _.
-    outcome-step (name_at words 2) _ _ _ next _ (guards-name words 2) (λ to _.
-    outcome-step (rect_of numbers) _ _ _ next _ (guards-rect numbers) (λ rect _.
-    same from to rect dx dy)
-    ∙ plain_area words 3 numbers rest are))
-    ∙ two_fields ((name 1).fits (word_at words 1)) ((name 2).fits (word_at words 2)) causes.Name area)))
-    ∙ two_after (all_fit (coordinates 3) words) ((move 7).fits (word_at words 7)) ((move 8).fits (word_at words 8)) causes.Number names)
+  -- `load B X Y W H FILE`
+  pub load-outcome : ((name : List ℕ) (rect : Rectangle) (file : List ℕ) → next (Load name rect file) ≡ rest) → outcome next (load words) ≡ lowest_by load_grammar words rest
+  load-outcome same =
+      outcome-step (count 7 words) _ _ _ next _ (guards-count 7 words) (λ _ _.
+      outcome-step (rect_numbers_at words 2) _ _ _ next _ (guards-numbers words 2) (λ numbers are.
+      outcome-step (name_at words 1) _ _ _ next _ (guards-name words 1) (λ name _.
+      outcome-step (file_at words 6) _ _ _ next _ (guards-file words 6) (λ file _.
+      outcome-step (rect_of numbers) _ _ _ next _ (guards-rect numbers) (λ rect _.
+      same name rect file)
+      ∙ plain_area words 2 numbers rest are))
+      ∙ two_fields ((name 1).fits (word_at words 1)) ((file 6).fits (word_at words 6)) causes.Name (area_left load_grammar))
+      ∙ all_of (all_fit (coordinates 2) words) causes.Number (names_left load_grammar))
 
--- `drop N`
-pub drop_node-outcome : (words : List (List ℕ)) (next : Command → Verdict) (rest : Verdict)
-    → ((name : List ℕ) → next (Drop name) ≡ rest)
-    → outcome next (drop_node words) ≡ lowest_by drop_node_grammar words rest
-drop_node-outcome words next rest same =
-    let grammar : Grammar = drop_node_grammar in
-    let area : Verdict = guard (not (area_refused grammar.area words)) causes.Rect rest in
-    let names : Verdict = guard (names_fit grammar words) causes.Name area in
-    outcome-step (count 2 words) _ _ _ next _ (guards-count 2 words) (λ _ _.
-    outcome-step (name_at words 1) _ _ _ next _ (guards-name words 1) (λ name _.
-    same name
-    )
-    ∙ one_field ((name 1).fits (word_at words 1)) causes.Name area)
+  -- `fill B X Y W H S..`
+  pub fill-outcome : ((name : List ℕ) (rect : Rectangle) (samples : List ℕ) → next (Fill name rect samples) ≡ rest) → outcome next (fill words) ≡ lowest_by fill_grammar words rest
+  fill-outcome same =
+      outcome-step (count_in 7 10 words) _ _ _ next _ (guards-count_in 7 10 words) (λ _ _.
+      outcome-step (rect_numbers_at words 2) _ _ _ next _ (guards-numbers words 2) (λ numbers are.
+      outcome-step (samples_from 6 words) _ _ _ next _ (guards-samples words 6) (λ samples _.
+      outcome-step (name_at words 1) _ _ _ next _ (guards-name words 1) (λ name _.
+      outcome-step (rect_of numbers) _ _ _ next _ (guards-rect numbers) (λ rect _.
+      same name rect samples)
+      ∙ plain_area words 2 numbers rest are)
+      ∙ one_field ((name 1).fits (word_at words 1)) causes.Name (area_left fill_grammar)))
+      ∙ rest_after (all_fit (coordinates 2) words) (list_all (samples_on 6).fits (drop 6 words)) causes.Number (names_left fill_grammar))
 
--- `render N LEVEL X Y W H FILE`
-pub render-outcome : (words : List (List ℕ)) (next : Command → Verdict) (rest : Verdict)
-    → ((name : List ℕ) (level : ℕ) (rect : Rectangle) (file : List ℕ) → next (Render name level rect file) ≡ rest)
-    → outcome next (render words) ≡ lowest_by render_grammar words rest
-render-outcome words next rest same =
-    let grammar : Grammar = render_grammar in
-    let area : Verdict = guard (not (area_refused grammar.area words)) causes.Rect rest in
-    let names : Verdict = guard (names_fit grammar words) causes.Name area in
-    outcome-step (count 8 words) _ _ _ next _ (guards-count 8 words) (λ _ _.
-    outcome-step (natural_at 0 max_level words 2) _ _ _ next _ (guards-natural 0 max_level words 2) (λ level is_level.
-    outcome-step (rect_numbers_at words 3) _ _ _ next _ (guards-numbers words 3) (λ numbers are.
-    outcome-step (name_at words 1) _ _ _ next _ (guards-name words 1) (λ name _.
-    outcome-step (file_at words 7) _ _ _ next _ (guards-file words 7) (λ file _.
-    outcome-step (level_rect_of level numbers) _ _ _ next _ (guards-level_rect level numbers) (λ rect _.
-    same name level rect file)
-    ∙ level_area words 2 3 level numbers rest is_level are))
-    ∙ two_fields ((name 1).fits (word_at words 1)) ((file 7).fits (word_at words 7)) causes.Name area))
-    ∙ field_before ((natural 0 max_level 2).fits (word_at words 2)) (all_fit (coordinates 3) words) causes.Number names)
+  -- `copy FROM TO X Y W H DX DY`
+  pub copy-outcome : ((from to : List ℕ) (rect : Rectangle) (dx dy : ℤ) → next (Copy from to rect dx dy) ≡ rest) → outcome next (copy words) ≡ lowest_by copy_grammar words rest
+  copy-outcome same =
+      outcome-step (count 9 words) _ _ _ next _ (guards-count 9 words) (λ _ _.
+      outcome-step (rect_numbers_at words 3) _ _ _ next _ (guards-numbers words 3) (λ numbers are.
+      outcome-step (move_at words 7) _ _ _ next _ (guards-move words 7) (λ dx _.
+      outcome-step (move_at words 8) _ _ _ next _ (guards-move words 8) (λ dy _.
+      outcome-step (name_at words 1) _ _ _ next _ (guards-name words 1) (λ from _.
+      outcome-step (name_at words 2) _ _ _ next _ (guards-name words 2) (λ to _.
+      outcome-step (rect_of numbers) _ _ _ next _ (guards-rect numbers) (λ rect _.
+      same from to rect dx dy)
+      ∙ plain_area words 3 numbers rest are))
+      ∙ two_fields ((name 1).fits (word_at words 1)) ((name 2).fits (word_at words 2)) causes.Name (area_left copy_grammar))))
+      ∙ two_after (all_fit (coordinates 3) words) ((move 7).fits (word_at words 7)) ((move 8).fits (word_at words 8)) causes.Number (names_left copy_grammar))
 
--- `grab B LEVEL ABYSS X Y W H FILE`
-pub grab-outcome : (words : List (List ℕ)) (next : Command → Verdict) (rest : Verdict)
-    → ((name : List ℕ) (level : ℕ) (policy : Abyss) (rect : Rectangle) (file : List ℕ) → next (Grab name level policy rect file) ≡ rest)
-    → outcome next (grab words) ≡ lowest_by grab_grammar words rest
-grab-outcome words next rest same =
-    let grammar : Grammar = grab_grammar in
-    let area : Verdict = guard (not (area_refused grammar.area words)) causes.Rect rest in
-    let names : Verdict = guard (names_fit grammar words) causes.Name area in
-    outcome-step (count 9 words) _ _ _ next _ (guards-count 9 words) (λ _ _.
-    outcome-step (natural_at 0 max_level words 2) _ _ _ next _ (guards-natural 0 max_level words 2) (λ level is_level.
-    outcome-step (rect_numbers_at words 4) _ _ _ next _ (guards-numbers words 4) (λ numbers are.
-    outcome-step (name_at words 1) _ _ _ next _ (guards-name words 1) (λ name _.
-    outcome-step (policy_at words 3) _ _ _ next _ (guards-policy words 3) (λ policy _.
-    outcome-step (file_at words 8) _ _ _ next _ (guards-file words 8) (λ file _.
-    outcome-step (level_rect_of level numbers) _ _ _ next _ (guards-level_rect level numbers) (λ rect _.
-    same name level policy rect file)
-    ∙ level_area words 2 4 level numbers rest is_level are)))
-    ∙ three_fields ((name 1).fits (word_at words 1)) ((policy 3).fits (word_at words 3)) ((file 8).fits (word_at words 8)) causes.Name area))
-    ∙ field_before ((natural 0 max_level 2).fits (word_at words 2)) (all_fit (coordinates 4) words) causes.Number names)
+  -- `drop N`
+  pub drop_node-outcome : ((name : List ℕ) → next (Drop name) ≡ rest) → outcome next (drop_node words) ≡ lowest_by drop_node_grammar words rest
+  drop_node-outcome same =
+      outcome-step (count 2 words) _ _ _ next _ (guards-count 2 words) (λ _ _.
+      outcome-step (name_at words 1) _ _ _ next _ (guards-name words 1) (λ name _.
+      same name
+      )
+      ∙ one_field ((name 1).fits (word_at words 1)) causes.Name (area_left drop_node_grammar))
 
--- `watch N X Y W H VIEWERS FRAMES PREFIX`
-pub watch-outcome : (words : List (List ℕ)) (next : Command → Verdict) (rest : Verdict)
-    → ((name : List ℕ) (rect : Rectangle) (viewers frames : ℕ) (prefix : List ℕ) → next (Watch name rect viewers frames prefix) ≡ rest)
-    → outcome next (watch words) ≡ lowest_by watch_grammar words rest
-watch-outcome words next rest same =
-    let grammar : Grammar = watch_grammar in
-    let area : Verdict = guard (not (area_refused grammar.area words)) causes.Rect rest in
-    let names : Verdict = guard (names_fit grammar words) causes.Name area in
-    outcome-step (count 9 words) _ _ _ next _ (guards-count 9 words) (λ _ _.
-    outcome-step (rect_numbers_at words 2) _ _ _ next _ (guards-numbers words 2) (λ numbers are.
-    outcome-step (natural_at 1 max_viewers words 6) _ _ _ next _ (guards-natural 1 max_viewers words 6) (λ viewers are_viewers.
-    outcome-step (natural_at 1 max_frames words 7) _ _ _ next _ (guards-natural 1 max_frames words 7) (λ frames are_frames.
-    outcome-step (name_at words 1) _ _ _ next _ (guards-name words 1) (λ name _.
-    outcome-step (prefix_at words 8) _ _ _ next _ (guards-prefix words 8) (λ prefix _.
-    outcome-step (watched_rect_of viewers frames numbers) _ _ _ next _ (guards-watched_rect viewers frames numbers) (λ rect _.
-    same name rect viewers frames prefix)
-    ∙ watched_area words viewers frames numbers rest are_viewers are_frames are))
-    ∙ two_fields ((name 1).fits (word_at words 1)) ((prefix 8).fits (word_at words 8)) causes.Name area)))
-    ∙ two_after (all_fit (coordinates 2) words) ((natural 1 max_viewers 6).fits (word_at words 6)) ((natural 1 max_frames 7).fits (word_at words 7)) causes.Number names)
+  -- `render N LEVEL X Y W H FILE`
+  pub render-outcome : ((name : List ℕ) (level : ℕ) (rect : Rectangle) (file : List ℕ) → next (Render name level rect file) ≡ rest) → outcome next (render words) ≡ lowest_by render_grammar words rest
+  render-outcome same =
+      outcome-step (count 8 words) _ _ _ next _ (guards-count 8 words) (λ _ _.
+      outcome-step (natural_at 0 max_level words 2) _ _ _ next _ (guards-natural 0 max_level words 2) (λ level is_level.
+      outcome-step (rect_numbers_at words 3) _ _ _ next _ (guards-numbers words 3) (λ numbers are.
+      outcome-step (name_at words 1) _ _ _ next _ (guards-name words 1) (λ name _.
+      outcome-step (file_at words 7) _ _ _ next _ (guards-file words 7) (λ file _.
+      outcome-step (level_rect_of level numbers) _ _ _ next _ (guards-level_rect level numbers) (λ rect _.
+      same name level rect file)
+      ∙ level_area words 2 3 level numbers rest is_level are))
+      ∙ two_fields ((name 1).fits (word_at words 1)) ((file 7).fits (word_at words 7)) causes.Name (area_left render_grammar)))
+      ∙ field_before ((natural 0 max_level 2).fits (word_at words 2)) (all_fit (coordinates 3) words) causes.Number (names_left render_grammar))
+
+  -- `grab B LEVEL ABYSS X Y W H FILE`
+  pub grab-outcome : ((name : List ℕ) (level : ℕ) (policy : Abyss) (rect : Rectangle) (file : List ℕ) → next (Grab name level policy rect file) ≡ rest) → outcome next (grab words) ≡ lowest_by grab_grammar words rest
+  grab-outcome same =
+      outcome-step (count 9 words) _ _ _ next _ (guards-count 9 words) (λ _ _.
+      outcome-step (natural_at 0 max_level words 2) _ _ _ next _ (guards-natural 0 max_level words 2) (λ level is_level.
+      outcome-step (rect_numbers_at words 4) _ _ _ next _ (guards-numbers words 4) (λ numbers are.
+      outcome-step (name_at words 1) _ _ _ next _ (guards-name words 1) (λ name _.
+      outcome-step (policy_at words 3) _ _ _ next _ (guards-policy words 3) (λ policy _.
+      outcome-step (file_at words 8) _ _ _ next _ (guards-file words 8) (λ file _.
+      outcome-step (level_rect_of level numbers) _ _ _ next _ (guards-level_rect level numbers) (λ rect _.
+      same name level policy rect file)
+      ∙ level_area words 2 4 level numbers rest is_level are)))
+      ∙ three_fields ((name 1).fits (word_at words 1)) ((policy 3).fits (word_at words 3)) ((file 8).fits (word_at words 8)) causes.Name (area_left grab_grammar)))
+      ∙ field_before ((natural 0 max_level 2).fits (word_at words 2)) (all_fit (coordinates 4) words) causes.Number (names_left grab_grammar))
+
+  -- `watch N X Y W H VIEWERS FRAMES PREFIX`
+  pub watch-outcome : ((name : List ℕ) (rect : Rectangle) (viewers frames : ℕ) (prefix : List ℕ) → next (Watch name rect viewers frames prefix) ≡ rest) → outcome next (watch words) ≡ lowest_by watch_grammar words rest
+  watch-outcome same =
+      outcome-step (count 9 words) _ _ _ next _ (guards-count 9 words) (λ _ _.
+      outcome-step (rect_numbers_at words 2) _ _ _ next _ (guards-numbers words 2) (λ numbers are.
+      outcome-step (natural_at 1 max_viewers words 6) _ _ _ next _ (guards-natural 1 max_viewers words 6) (λ viewers are_viewers.
+      outcome-step (natural_at 1 max_frames words 7) _ _ _ next _ (guards-natural 1 max_frames words 7) (λ frames are_frames.
+      outcome-step (name_at words 1) _ _ _ next _ (guards-name words 1) (λ name _.
+      outcome-step (prefix_at words 8) _ _ _ next _ (guards-prefix words 8) (λ prefix _.
+      outcome-step (watched_rect_of viewers frames numbers) _ _ _ next _ (guards-watched_rect viewers frames numbers) (λ rect _.
+      same name rect viewers frames prefix)
+      ∙ watched_area words viewers frames numbers rest are_viewers are_frames are))
+      ∙ two_fields ((name 1).fits (word_at words 1)) ((prefix 8).fits (word_at words 8)) causes.Name (area_left watch_grammar))))
+      ∙ two_after (all_fit (coordinates 2) words) ((natural 1 max_viewers 6).fits (word_at words 6)) ((natural 1 max_frames 7).fits (word_at words 7)) causes.Number (names_left watch_grammar))
 
 -- a command alone
 pub alone-outcome : (command : Command) (words : List (List ℕ)) (next : Command → Verdict) (rest : Verdict) → next command ≡ rest

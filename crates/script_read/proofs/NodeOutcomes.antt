@@ -21,163 +21,11 @@ use Rattle.script_read.proofs.FieldGuards.{guards-area_policy, guards-direction,
 use Rattle.script_read.proofs.Merges.{all_of, ends_alone, ends_before, one_field, rest_after, three_after, two_fields}
 use Rattle.script_read.proofs.Outcomes.{Verdict, guard, guards-count, guards-count_in, lowest_by, outcome, outcome-bind, outcome-step}
 
--- `node N source BUFFER`
-pub source-outcome : (words : List (List ℕ)) (next : Command → Verdict) (rest : Verdict)
-    → ((name : List ℕ) (op : OpWords) (inputs : List (List ℕ)) → next (Node name op inputs) ≡ rest)
-    → outcome next (source words) ≡ lowest_by (node_of_count 4 [] (name 3 ∷ []) 4 NoArea) words rest
-source-outcome words next rest same =
-    let grammar : Grammar = (node_of_count 4 [] (name 3 ∷ []) 4 NoArea) in
-    let area : Verdict = guard (not (area_refused grammar.area words)) causes.Rect rest in
-    let names : Verdict = guard (names_fit grammar words) causes.Name area in
-    outcome-step (count 4 words) _ _ _ next _ (guards-count 4 words) (λ _ _.
-    outcome-step (ends_from 4 words) _ _ _ next _ (guards-ends words 4) (λ ends _.
-    outcome-step (name_at words 3) _ _ _ next _ (guards-name words 3) (λ buffer _.
-    same ends.name (Source buffer) ends.inputs
-    ))
-    ∙ ends_before (is_name (word_at words 1)) (list_all is_name (drop 4 words)) ((name 3).fits (word_at words 3)) causes.Name area)
-
--- `node N checker FORMAT X Y W H SIZE V1 V2`
-pub checker-outcome : (words : List (List ℕ)) (next : Command → Verdict) (rest : Verdict)
-    → ((name : List ℕ) (op : OpWords) (inputs : List (List ℕ)) → next (Node name op inputs) ≡ rest)
-    → outcome next (checker words) ≡ lowest_by (node_of_count 11 (natural 1 max_checker_size 8 ∷ sample 9 ∷ sample 10 ∷ coordinates 4) (format 3 ∷ []) 11 (Plain 4)) words rest
-checker-outcome words next rest same =
-    let grammar : Grammar = (node_of_count 11 (natural 1 max_checker_size 8 ∷ sample 9 ∷ sample 10 ∷ coordinates 4) (format 3 ∷ []) 11 (Plain 4)) in
-    let area : Verdict = guard (not (area_refused grammar.area words)) causes.Rect rest in
-    let names : Verdict = guard (names_fit grammar words) causes.Name area in
-    outcome-step (count 11 words) _ _ _ next _ (guards-count 11 words) (λ _ _.
-    outcome-step (rect_numbers_at words 4) _ _ _ next _ (guards-numbers words 4) (λ numbers are.
-    outcome-step (natural_at 1 max_checker_size words 8) _ _ _ next _ (guards-natural 1 max_checker_size words 8) (λ size _.
-    outcome-step (sample_at words 9) _ _ _ next _ (guards-sample words 9) (λ v1 _.
-    outcome-step (sample_at words 10) _ _ _ next _ (guards-sample words 10) (λ v2 _.
-    outcome-step (ends_from 11 words) _ _ _ next _ (guards-ends words 11) (λ ends _.
-    outcome-step (format_at words 3) _ _ _ next _ (guards-format words 3) (λ format _.
-    outcome-step (rect_of numbers) _ _ _ next _ (guards-rect numbers) (λ rect _.
-    same ends.name (Checker format rect size v1 v2) ends.inputs)
-    ∙ plain_area words 4 numbers rest are))
-    ∙ ends_before (is_name (word_at words 1)) (list_all is_name (drop 11 words)) ((format 3).fits (word_at words 3)) causes.Name area))))
-    ∙ three_after (all_fit (coordinates 4) words) ((natural 1 max_checker_size 8).fits (word_at words 8)) ((sample 9).fits (word_at words 9)) ((sample 10).fits (word_at words 10)) causes.Number names)
-
--- `node N convert FORMAT IN`
-pub convert-outcome : (words : List (List ℕ)) (next : Command → Verdict) (rest : Verdict)
-    → ((name : List ℕ) (op : OpWords) (inputs : List (List ℕ)) → next (Node name op inputs) ≡ rest)
-    → outcome next (convert words) ≡ lowest_by (node_of_count 5 [] (format 3 ∷ []) 4 NoArea) words rest
-convert-outcome words next rest same =
-    let grammar : Grammar = (node_of_count 5 [] (format 3 ∷ []) 4 NoArea) in
-    let area : Verdict = guard (not (area_refused grammar.area words)) causes.Rect rest in
-    let names : Verdict = guard (names_fit grammar words) causes.Name area in
-    outcome-step (count 5 words) _ _ _ next _ (guards-count 5 words) (λ _ _.
-    outcome-step (ends_from 4 words) _ _ _ next _ (guards-ends words 4) (λ ends _.
-    outcome-step (format_at words 3) _ _ _ next _ (guards-format words 3) (λ format _.
-    same ends.name (Convert format) ends.inputs
-    ))
-    ∙ ends_before (is_name (word_at words 1)) (list_all is_name (drop 4 words)) ((format 3).fits (word_at words 3)) causes.Name area)
-
--- `node N threshold T IN`
-pub threshold-outcome : (words : List (List ℕ)) (next : Command → Verdict) (rest : Verdict)
-    → ((name : List ℕ) (op : OpWords) (inputs : List (List ℕ)) → next (Node name op inputs) ≡ rest)
-    → outcome next (threshold words) ≡ lowest_by (node_of_count 5 (sample 3 ∷ []) [] 4 NoArea) words rest
-threshold-outcome words next rest same =
-    let grammar : Grammar = (node_of_count 5 (sample 3 ∷ []) [] 4 NoArea) in
-    let area : Verdict = guard (not (area_refused grammar.area words)) causes.Rect rest in
-    let names : Verdict = guard (names_fit grammar words) causes.Name area in
-    outcome-step (count 5 words) _ _ _ next _ (guards-count 5 words) (λ _ _.
-    outcome-step (sample_at words 3) _ _ _ next _ (guards-sample words 3) (λ level _.
-    outcome-step (ends_from 4 words) _ _ _ next _ (guards-ends words 4) (λ ends _.
-    same ends.name (Threshold level) ends.inputs
-    )
-    ∙ ends_alone (is_name (word_at words 1)) (list_all is_name (drop 4 words)) causes.Name area)
-    ∙ one_field ((sample 3).fits (word_at words 3)) causes.Number names)
-
--- `node N gain NUM DEN IN`
-pub gain-outcome : (words : List (List ℕ)) (next : Command → Verdict) (rest : Verdict)
-    → ((name : List ℕ) (op : OpWords) (inputs : List (List ℕ)) → next (Node name op inputs) ≡ rest)
-    → outcome next (gain words) ≡ lowest_by (node_of_count 6 (sample 3 ∷ natural 1 max_sample 4 ∷ []) [] 5 NoArea) words rest
-gain-outcome words next rest same =
-    let grammar : Grammar = (node_of_count 6 (sample 3 ∷ natural 1 max_sample 4 ∷ []) [] 5 NoArea) in
-    let area : Verdict = guard (not (area_refused grammar.area words)) causes.Rect rest in
-    let names : Verdict = guard (names_fit grammar words) causes.Name area in
-    outcome-step (count 6 words) _ _ _ next _ (guards-count 6 words) (λ _ _.
-    outcome-step (sample_at words 3) _ _ _ next _ (guards-sample words 3) (λ num _.
-    outcome-step (natural_at 1 max_sample words 4) _ _ _ next _ (guards-natural 1 max_sample words 4) (λ den _.
-    outcome-step (ends_from 5 words) _ _ _ next _ (guards-ends words 5) (λ ends _.
-    same ends.name (Gain num den) ends.inputs
-    )
-    ∙ ends_alone (is_name (word_at words 1)) (list_all is_name (drop 5 words)) causes.Name area))
-    ∙ two_fields ((sample 3).fits (word_at words 3)) ((natural 1 max_sample 4).fits (word_at words 4)) causes.Number names)
-
--- `node N translate DX DY IN`
-pub translate-outcome : (words : List (List ℕ)) (next : Command → Verdict) (rest : Verdict)
-    → ((name : List ℕ) (op : OpWords) (inputs : List (List ℕ)) → next (Node name op inputs) ≡ rest)
-    → outcome next (translate words) ≡ lowest_by (node_of_count 6 (move 3 ∷ move 4 ∷ []) [] 5 NoArea) words rest
-translate-outcome words next rest same =
-    let grammar : Grammar = (node_of_count 6 (move 3 ∷ move 4 ∷ []) [] 5 NoArea) in
-    let area : Verdict = guard (not (area_refused grammar.area words)) causes.Rect rest in
-    let names : Verdict = guard (names_fit grammar words) causes.Name area in
-    outcome-step (count 6 words) _ _ _ next _ (guards-count 6 words) (λ _ _.
-    outcome-step (move_at words 3) _ _ _ next _ (guards-move words 3) (λ dx _.
-    outcome-step (move_at words 4) _ _ _ next _ (guards-move words 4) (λ dy _.
-    outcome-step (ends_from 5 words) _ _ _ next _ (guards-ends words 5) (λ ends _.
-    same ends.name (Translate dx dy) ends.inputs
-    )
-    ∙ ends_alone (is_name (word_at words 1)) (list_all is_name (drop 5 words)) causes.Name area))
-    ∙ two_fields ((move 3).fits (word_at words 3)) ((move 4).fits (word_at words 4)) causes.Number names)
-
--- `node N crop X Y W H IN`
-pub crop-outcome : (words : List (List ℕ)) (next : Command → Verdict) (rest : Verdict)
-    → ((name : List ℕ) (op : OpWords) (inputs : List (List ℕ)) → next (Node name op inputs) ≡ rest)
-    → outcome next (crop words) ≡ lowest_by (node_of_count 8 (coordinates 3) [] 7 (Plain 3)) words rest
-crop-outcome words next rest same =
-    let grammar : Grammar = (node_of_count 8 (coordinates 3) [] 7 (Plain 3)) in
-    let area : Verdict = guard (not (area_refused grammar.area words)) causes.Rect rest in
-    let names : Verdict = guard (names_fit grammar words) causes.Name area in
-    outcome-step (count 8 words) _ _ _ next _ (guards-count 8 words) (λ _ _.
-    outcome-step (rect_numbers_at words 3) _ _ _ next _ (guards-numbers words 3) (λ numbers are.
-    outcome-step (ends_from 7 words) _ _ _ next _ (guards-ends words 7) (λ ends _.
-    outcome-step (rect_of numbers) _ _ _ next _ (guards-rect numbers) (λ rect _.
-    same ends.name (Crop rect) ends.inputs)
-    ∙ plain_area words 3 numbers rest are)
-    ∙ ends_alone (is_name (word_at words 1)) (list_all is_name (drop 7 words)) causes.Name area)
-    ∙ all_of (all_fit (coordinates 3) words) causes.Number names)
-
--- `node N flip h IN` and `node N flip v IN`
-pub flip-outcome : (words : List (List ℕ)) (next : Command → Verdict) (rest : Verdict)
-    → ((name : List ℕ) (op : OpWords) (inputs : List (List ℕ)) → next (Node name op inputs) ≡ rest)
-    → outcome next (flip words) ≡ lowest_by (node_of_count 5 [] (direction 3 ∷ []) 4 NoArea) words rest
-flip-outcome words next rest same =
-    let grammar : Grammar = (node_of_count 5 [] (direction 3 ∷ []) 4 NoArea) in
-    let area : Verdict = guard (not (area_refused grammar.area words)) causes.Rect rest in
-    let names : Verdict = guard (names_fit grammar words) causes.Name area in
-    outcome-step (count 5 words) _ _ _ next _ (guards-count 5 words) (λ _ _.
-    outcome-step (ends_from 4 words) _ _ _ next _ (guards-ends words 4) (λ ends _.
-    outcome-step (sideways_at words 3) _ _ _ next _ (guards-direction words 3) (λ sideways _.
-    same ends.name (Flip sideways) ends.inputs
-    ))
-    ∙ ends_before (is_name (word_at words 1)) (list_all is_name (drop 4 words)) ((direction 3).fits (word_at words 3)) causes.Name area)
-
 -- a node whose inputs begin after the last word has none
 no_inputs : (words : List (List ℕ)) (a : Bool) (rest : Verdict)
     → guard (is_name (word_at words 1) && (list_all is_name (drop (length words) words) && true)) causes.Name (guard a causes.Name rest)
     ≡ guard ((is_name (word_at words 1) && (a && true)) && true) causes.Name rest
 no_inputs words a rest = rw (drop_all (length words) words (omega arith)) (ends_before (is_name (word_at words 1)) true a causes.Name rest)
-
--- `node N color FORMAT X Y W H S..`
-pub color-outcome : (words : List (List ℕ)) (next : Command → Verdict) (rest : Verdict)
-    → ((name : List ℕ) (op : OpWords) (inputs : List (List ℕ)) → next (Node name op inputs) ≡ rest)
-    → outcome next (color words) ≡ lowest_by color_grammar words rest
-color-outcome words next rest same =
-    let grammar : Grammar = color_grammar in
-    let area : Verdict = guard (not (area_refused grammar.area words)) causes.Rect rest in
-    let names : Verdict = guard (names_fit grammar words) causes.Name area in
-    outcome-step (count_in 9 12 words) _ _ _ next _ (guards-count_in 9 12 words) (λ _ _.
-    outcome-step (rect_numbers_at words 4) _ _ _ next _ (guards-numbers words 4) (λ numbers are.
-    outcome-step (samples_from 8 words) _ _ _ next _ (guards-samples words 8) (λ samples _.
-    outcome-step (ends_from (length words) words) _ _ _ next _ (guards-ends words (length words)) (λ ends _.
-    outcome-step (format_at words 3) _ _ _ next _ (guards-format words 3) (λ format _.
-    outcome-step (rect_of numbers) _ _ _ next _ (guards-rect numbers) (λ rect _.
-    same ends.name (Color format rect samples) ends.inputs)
-    ∙ plain_area words 4 numbers rest are))
-    ∙ no_inputs words ((format 3).fits (word_at words 3)) area))
-    ∙ rest_after (all_fit (coordinates 4) words) (list_all (samples_on 8).fits (drop 8 words)) causes.Number names)
 
 -- `node N OP R ABYSS IN` of an area operation
 area-outcome : (words : List (List ℕ)) (next : Area → Verdict) (rest : Verdict) → ((area : Area) → next area ≡ rest)
@@ -193,14 +41,139 @@ area-outcome words next rest same =
     ∙ ends_before (is_name (word_at words 1)) (list_all is_name (drop 5 words)) ((area_policy 4).fits (word_at words 4)) causes.Name rest)
     ∙ one_field ((natural 1 max_radius 3).fits (word_at words 3)) causes.Number names)
 
--- an operation without arguments, of so many inputs
-bare-outcome : (op : OpWords) (number : ℕ) (words : List (List ℕ)) (next : Command → Verdict) (rest : Verdict)
-    → ((name : List ℕ) (op : OpWords) (inputs : List (List ℕ)) → next (Node name op inputs) ≡ rest)
-    → outcome next (bare op number words) ≡ lowest_by (node_of_count number [] [] 3 NoArea) words rest
-bare-outcome op number words next rest same =
-    outcome-step (count number words) _ _ _ next _ (guards-count number words) (λ _ _.
-    outcome-step (ends_from 3 words) _ _ _ next _ (guards-ends words 3) (λ ends _. same ends.name op ends.inputs)
-    ∙ ends_alone (is_name (word_at words 1)) (list_all is_name (drop 3 words)) causes.Name rest)
+-- ---- nodes
+
+module _ (words : List (List ℕ)) (next : Command → Verdict) (rest : Verdict)
+    (same : (name : List ℕ) (op : OpWords) (inputs : List (List ℕ)) → next (Node name op inputs) ≡ rest) where
+  -- what is left once the names are read, and once the numbers are
+  abbrev area_left : Grammar → Verdict
+  area_left grammar = guard (not (area_refused grammar.area words)) causes.Rect rest
+
+  abbrev names_left : Grammar → Verdict
+  names_left grammar = guard (names_fit grammar words) causes.Name (area_left grammar)
+
+  -- `node N source BUFFER`
+  source-outcome : outcome next (source words) ≡ lowest_by (node_of_count 4 [] (name 3 ∷ []) 4 NoArea) words rest
+  source-outcome =
+      let grammar : Grammar = node_of_count 4 [] (name 3 ∷ []) 4 NoArea in
+      outcome-step (count 4 words) _ _ _ next _ (guards-count 4 words) (λ _ _.
+      outcome-step (ends_from 4 words) _ _ _ next _ (guards-ends words 4) (λ ends _.
+      outcome-step (name_at words 3) _ _ _ next _ (guards-name words 3) (λ buffer _.
+      same ends.name (Source buffer) ends.inputs
+      ))
+      ∙ ends_before (is_name (word_at words 1)) (list_all is_name (drop 4 words)) ((name 3).fits (word_at words 3)) causes.Name (area_left grammar))
+
+  -- `node N checker FORMAT X Y W H SIZE V1 V2`
+  checker-outcome : outcome next (checker words) ≡ lowest_by (node_of_count 11 (natural 1 max_checker_size 8 ∷ sample 9 ∷ sample 10 ∷ coordinates 4) (format 3 ∷ []) 11 (Plain 4)) words rest
+  checker-outcome =
+      let grammar : Grammar = node_of_count 11 (natural 1 max_checker_size 8 ∷ sample 9 ∷ sample 10 ∷ coordinates 4) (format 3 ∷ []) 11 (Plain 4) in
+      outcome-step (count 11 words) _ _ _ next _ (guards-count 11 words) (λ _ _.
+      outcome-step (rect_numbers_at words 4) _ _ _ next _ (guards-numbers words 4) (λ numbers are.
+      outcome-step (natural_at 1 max_checker_size words 8) _ _ _ next _ (guards-natural 1 max_checker_size words 8) (λ size _.
+      outcome-step (sample_at words 9) _ _ _ next _ (guards-sample words 9) (λ v1 _.
+      outcome-step (sample_at words 10) _ _ _ next _ (guards-sample words 10) (λ v2 _.
+      outcome-step (ends_from 11 words) _ _ _ next _ (guards-ends words 11) (λ ends _.
+      outcome-step (format_at words 3) _ _ _ next _ (guards-format words 3) (λ format _.
+      outcome-step (rect_of numbers) _ _ _ next _ (guards-rect numbers) (λ rect _.
+      same ends.name (Checker format rect size v1 v2) ends.inputs)
+      ∙ plain_area words 4 numbers rest are))
+      ∙ ends_before (is_name (word_at words 1)) (list_all is_name (drop 11 words)) ((format 3).fits (word_at words 3)) causes.Name (area_left grammar)))))
+      ∙ three_after (all_fit (coordinates 4) words) ((natural 1 max_checker_size 8).fits (word_at words 8)) ((sample 9).fits (word_at words 9)) ((sample 10).fits (word_at words 10)) causes.Number (names_left grammar))
+
+  -- `node N convert FORMAT IN`
+  convert-outcome : outcome next (convert words) ≡ lowest_by (node_of_count 5 [] (format 3 ∷ []) 4 NoArea) words rest
+  convert-outcome =
+      let grammar : Grammar = node_of_count 5 [] (format 3 ∷ []) 4 NoArea in
+      outcome-step (count 5 words) _ _ _ next _ (guards-count 5 words) (λ _ _.
+      outcome-step (ends_from 4 words) _ _ _ next _ (guards-ends words 4) (λ ends _.
+      outcome-step (format_at words 3) _ _ _ next _ (guards-format words 3) (λ format _.
+      same ends.name (Convert format) ends.inputs
+      ))
+      ∙ ends_before (is_name (word_at words 1)) (list_all is_name (drop 4 words)) ((format 3).fits (word_at words 3)) causes.Name (area_left grammar))
+
+  -- `node N threshold T IN`
+  threshold-outcome : outcome next (threshold words) ≡ lowest_by (node_of_count 5 (sample 3 ∷ []) [] 4 NoArea) words rest
+  threshold-outcome =
+      let grammar : Grammar = node_of_count 5 (sample 3 ∷ []) [] 4 NoArea in
+      outcome-step (count 5 words) _ _ _ next _ (guards-count 5 words) (λ _ _.
+      outcome-step (sample_at words 3) _ _ _ next _ (guards-sample words 3) (λ level _.
+      outcome-step (ends_from 4 words) _ _ _ next _ (guards-ends words 4) (λ ends _.
+      same ends.name (Threshold level) ends.inputs
+      )
+      ∙ ends_alone (is_name (word_at words 1)) (list_all is_name (drop 4 words)) causes.Name (area_left grammar))
+      ∙ one_field ((sample 3).fits (word_at words 3)) causes.Number (names_left grammar))
+
+  -- `node N gain NUM DEN IN`
+  gain-outcome : outcome next (gain words) ≡ lowest_by (node_of_count 6 (sample 3 ∷ natural 1 max_sample 4 ∷ []) [] 5 NoArea) words rest
+  gain-outcome =
+      let grammar : Grammar = node_of_count 6 (sample 3 ∷ natural 1 max_sample 4 ∷ []) [] 5 NoArea in
+      outcome-step (count 6 words) _ _ _ next _ (guards-count 6 words) (λ _ _.
+      outcome-step (sample_at words 3) _ _ _ next _ (guards-sample words 3) (λ num _.
+      outcome-step (natural_at 1 max_sample words 4) _ _ _ next _ (guards-natural 1 max_sample words 4) (λ den _.
+      outcome-step (ends_from 5 words) _ _ _ next _ (guards-ends words 5) (λ ends _.
+      same ends.name (Gain num den) ends.inputs
+      )
+      ∙ ends_alone (is_name (word_at words 1)) (list_all is_name (drop 5 words)) causes.Name (area_left grammar)))
+      ∙ two_fields ((sample 3).fits (word_at words 3)) ((natural 1 max_sample 4).fits (word_at words 4)) causes.Number (names_left grammar))
+
+  -- `node N translate DX DY IN`
+  translate-outcome : outcome next (translate words) ≡ lowest_by (node_of_count 6 (move 3 ∷ move 4 ∷ []) [] 5 NoArea) words rest
+  translate-outcome =
+      let grammar : Grammar = node_of_count 6 (move 3 ∷ move 4 ∷ []) [] 5 NoArea in
+      outcome-step (count 6 words) _ _ _ next _ (guards-count 6 words) (λ _ _.
+      outcome-step (move_at words 3) _ _ _ next _ (guards-move words 3) (λ dx _.
+      outcome-step (move_at words 4) _ _ _ next _ (guards-move words 4) (λ dy _.
+      outcome-step (ends_from 5 words) _ _ _ next _ (guards-ends words 5) (λ ends _.
+      same ends.name (Translate dx dy) ends.inputs
+      )
+      ∙ ends_alone (is_name (word_at words 1)) (list_all is_name (drop 5 words)) causes.Name (area_left grammar)))
+      ∙ two_fields ((move 3).fits (word_at words 3)) ((move 4).fits (word_at words 4)) causes.Number (names_left grammar))
+
+  -- `node N crop X Y W H IN`
+  crop-outcome : outcome next (crop words) ≡ lowest_by (node_of_count 8 (coordinates 3) [] 7 (Plain 3)) words rest
+  crop-outcome =
+      let grammar : Grammar = node_of_count 8 (coordinates 3) [] 7 (Plain 3) in
+      outcome-step (count 8 words) _ _ _ next _ (guards-count 8 words) (λ _ _.
+      outcome-step (rect_numbers_at words 3) _ _ _ next _ (guards-numbers words 3) (λ numbers are.
+      outcome-step (ends_from 7 words) _ _ _ next _ (guards-ends words 7) (λ ends _.
+      outcome-step (rect_of numbers) _ _ _ next _ (guards-rect numbers) (λ rect _.
+      same ends.name (Crop rect) ends.inputs)
+      ∙ plain_area words 3 numbers rest are)
+      ∙ ends_alone (is_name (word_at words 1)) (list_all is_name (drop 7 words)) causes.Name (area_left grammar))
+      ∙ all_of (all_fit (coordinates 3) words) causes.Number (names_left grammar))
+
+  -- `node N flip h IN` and `node N flip v IN`
+  flip-outcome : outcome next (flip words) ≡ lowest_by (node_of_count 5 [] (direction 3 ∷ []) 4 NoArea) words rest
+  flip-outcome =
+      let grammar : Grammar = node_of_count 5 [] (direction 3 ∷ []) 4 NoArea in
+      outcome-step (count 5 words) _ _ _ next _ (guards-count 5 words) (λ _ _.
+      outcome-step (ends_from 4 words) _ _ _ next _ (guards-ends words 4) (λ ends _.
+      outcome-step (sideways_at words 3) _ _ _ next _ (guards-direction words 3) (λ sideways _.
+      same ends.name (Flip sideways) ends.inputs
+      ))
+      ∙ ends_before (is_name (word_at words 1)) (list_all is_name (drop 4 words)) ((direction 3).fits (word_at words 3)) causes.Name (area_left grammar))
+
+  -- `node N color FORMAT X Y W H S..`
+  color-outcome : outcome next (color words) ≡ lowest_by color_grammar words rest
+  color-outcome =
+      let grammar : Grammar = color_grammar in
+      outcome-step (count_in 9 12 words) _ _ _ next _ (guards-count_in 9 12 words) (λ _ _.
+      outcome-step (rect_numbers_at words 4) _ _ _ next _ (guards-numbers words 4) (λ numbers are.
+      outcome-step (samples_from 8 words) _ _ _ next _ (guards-samples words 8) (λ samples _.
+      outcome-step (ends_from (length words) words) _ _ _ next _ (guards-ends words (length words)) (λ ends _.
+      outcome-step (format_at words 3) _ _ _ next _ (guards-format words 3) (λ format _.
+      outcome-step (rect_of numbers) _ _ _ next _ (guards-rect numbers) (λ rect _.
+      same ends.name (Color format rect samples) ends.inputs)
+      ∙ plain_area words 4 numbers rest are))
+      ∙ no_inputs words ((format 3).fits (word_at words 3)) (area_left grammar)))
+      ∙ rest_after (all_fit (coordinates 4) words) (list_all (samples_on 8).fits (drop 8 words)) causes.Number (names_left grammar))
+
+  -- an operation without arguments, of so many inputs
+  bare-outcome : (op : OpWords) (number : ℕ) → outcome next (bare op number words) ≡ lowest_by (node_of_count number [] [] 3 NoArea) words rest
+  bare-outcome op number =
+      outcome-step (count number words) _ _ _ next _ (guards-count number words) (λ _ _.
+      outcome-step (ends_from 3 words) _ _ _ next _ (guards-ends words 3) (λ ends _. same ends.name op ends.inputs)
+      ∙ ends_alone (is_name (word_at words 1)) (list_all is_name (drop 3 words)) causes.Name rest)
 
 -- the node of an operation
 pub node_by-outcome : (operation : OperationWord) (words : List (List ℕ)) (next : Command → Verdict) (rest : Verdict)
@@ -211,7 +184,7 @@ node_by-outcome operations.Source words next rest same = source-outcome words ne
 node_by-outcome operations.Color words next rest same = color-outcome words next rest same
 node_by-outcome operations.Checker words next rest same = checker-outcome words next rest same
 node_by-outcome operations.Convert words next rest same = convert-outcome words next rest same
-node_by-outcome operations.Invert words next rest same = bare-outcome Invert 4 words next rest same
+node_by-outcome operations.Invert words next rest same = bare-outcome words next rest same Invert 4
 node_by-outcome operations.Threshold words next rest same = threshold-outcome words next rest same
 node_by-outcome operations.Gain words next rest same = gain-outcome words next rest same
 node_by-outcome operations.Translate words next rest same = translate-outcome words next rest same
@@ -226,6 +199,6 @@ node_by-outcome operations.Dilate words next rest same =
 node_by-outcome operations.Erode words next rest same =
     outcome-bind (area_of words) _ next
     ∙ area-outcome words (λ area. next (node_of area.ends (Erode area.radius area.abyss))) rest (λ area. same _ _ _)
-node_by-outcome operations.Add words next rest same = bare-outcome Add 5 words next rest same
-node_by-outcome operations.Over words next rest same = bare-outcome Over 5 words next rest same
-node_by-outcome operations.Mask words next rest same = bare-outcome Mask 5 words next rest same
+node_by-outcome operations.Add words next rest same = bare-outcome words next rest same Add 5
+node_by-outcome operations.Over words next rest same = bare-outcome words next rest same Over 5
+node_by-outcome operations.Mask words next rest same = bare-outcome words next rest same Mask 5

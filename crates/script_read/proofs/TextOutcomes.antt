@@ -40,27 +40,16 @@ ranked causes.Order = refl
 same_rank : (a b : ScriptCause) → rank a ≡ rank b → a ≡ b
 same_rank a b same = ranked a ∙ ap cause_of_rank same ∙ sym (ranked b)
 
-few_ranks : (cause : ScriptCause) → rank cause ≤ 9
-few_ranks causes.NotAscii = omega arith
-few_ranks causes.LineTooLong = omega arith
-few_ranks causes.TooManyLines = omega arith
-few_ranks causes.UnknownCommand = omega arith
-few_ranks causes.Words = omega arith
-few_ranks causes.Number = omega arith
-few_ranks causes.Name = omega arith
-few_ranks causes.Rect = omega arith
-few_ranks causes.Order = omega arith
-
-some_rank : (cause : ScriptCause) → 0 < rank cause
-some_rank causes.NotAscii = omega arith
-some_rank causes.LineTooLong = omega arith
-some_rank causes.TooManyLines = omega arith
-some_rank causes.UnknownCommand = omega arith
-some_rank causes.Words = omega arith
-some_rank causes.Number = omega arith
-some_rank causes.Name = omega arith
-some_rank causes.Rect = omega arith
-some_rank causes.Order = omega arith
+rank_bounds : (cause : ScriptCause) → (0 < rank cause) × (rank cause ≤ 9)
+rank_bounds causes.NotAscii = (omega arith, omega arith)
+rank_bounds causes.LineTooLong = (omega arith, omega arith)
+rank_bounds causes.TooManyLines = (omega arith, omega arith)
+rank_bounds causes.UnknownCommand = (omega arith, omega arith)
+rank_bounds causes.Words = (omega arith, omega arith)
+rank_bounds causes.Number = (omega arith, omega arith)
+rank_bounds causes.Name = (omega arith, omega arith)
+rank_bounds causes.Rect = (omega arith, omega arith)
+rank_bounds causes.Order = (omega arith, omega arith)
 
 -- ---- the lowest of the causes past a rank
 
@@ -101,7 +90,7 @@ module _ (has : ScriptCause → Bool) (after : Option ℕ) where
       one_more causes.Rect 7 refl (has causes.Rect) refl _ (
       one_more causes.Order 8 refl (has causes.Order) refl (Ok after) (
         refl,
-        λ other past. absurd (omega (arith, past, few_ranks other)),
+        λ other past. absurd (omega (arith, past, (rank_bounds other).1)),
       )))))))))
 
 line-says : (number : ℕ) (watching : Option ℕ) (line : List ℕ)
@@ -186,11 +175,11 @@ step-told : (number : ℕ) (watching : Option ℕ) (line : List ℕ) (lines : Li
 step-told number watching line lines (Err cause) later says =
     inl (first_refused number watching line lines cause (record {
       has_it = says.0;
-      no_lower = λ other below. says.2 other (some_rank other) below;
+      no_lower = λ other below. says.2 other (rank_bounds other).0 below;
     }))
 step-told number watching line lines (Ok step) later says =
     told-before number step.command number watching (line ∷ lines) (script_from (number + 1) step.watching lines)
-    (told-later number watching line lines (λ cause. says.1 cause (some_rank cause)) (script_from (number + 1) step.watching lines)
+    (told-later number watching line lines (λ cause. says.1 cause (rank_bounds cause).0) (script_from (number + 1) step.watching lines)
     (subst (λ after. Told (number + 1) after lines (script_from (number + 1) step.watching lines)) says.0
     (later step.watching)))
 

@@ -15,6 +15,12 @@ use Rattle.session_states.proofs.Seen.{states-same}
 abbrev pub with_working : Versions BufferTable → BufferTable → Versions BufferTable
 with_working v edited = record { working = edited; latest = v.latest; undoable = v.undoable; redoable = v.redoable }
 
+-- what is left of the versions where others are edited
+pub record IsWorkedOn (now final : Versions BufferTable) (added : ℕ) (s0 s1 : ChainState) : Type 0 where
+  pub tables : tables_of final s1.held ≡ record (tables_of now s0.held) { working = table_of final.working s1.held }
+  pub over : AreVersionsOver final s1.held
+  pub left : Leaves added (versions_names now) (versions_names final) s0 s1
+
 module _ (v now : Versions BufferTable) (is : v ≡ now) (edited : BufferTable) (added : ℕ) (s0 s1 : ChainState)
     (leaves : Leaves added (buffers_names v.working) (buffers_names edited) s0 s1) (requires : AreVersionsOver now s0.held) where
   over : AreVersionsOver v s0.held
@@ -35,7 +41,7 @@ module _ (v now : Versions BufferTable) (is : v ≡ now) (edited : BufferTable) 
     over = (first, over-again s0.held s1.held (buffers_names v.working) (buffers_names edited) leaves.others (committed_versions v) owns over.over.1);
   }
 
-  pub edited-tables : tables_of (with_working v edited) s1.held ≡ record (tables_of now s0.held) { working = table_of edited s1.held }
+  edited-tables : tables_of (with_working v edited) s1.held ≡ record (tables_of now s0.held) { working = table_of edited s1.held }
   edited-tables =
       states-same s0.held s1.held (with_working v edited) same
       ∙ ap (λ (v : Versions BufferTable). let all : Versions (Option Table) = record (tables_of v s0.held) { working = table_of edited s1.held } in all) is
@@ -51,3 +57,6 @@ module _ (v now : Versions BufferTable) (is : v ≡ now) (edited : BufferTable) 
       subst (λ (v' : Versions BufferTable). Leaves added (versions_names v') (versions_names (with_working v edited)) s0 s1) is
       (leaves-beside added (buffers_names v.working) (buffers_names edited) (versions_names v) (versions_names (with_working v edited)) (names_of_all (committed_versions v)) s0 s1 leaves
       (times-append (buffers_names v.working) (names_of_all (committed_versions v))) (times-append (buffers_names edited) (names_of_all (committed_versions v))))
+
+  pub worked-on : AreBuffersOver edited s1.held → IsWorkedOn now (with_working v edited) added s0 s1
+  worked-on first = record { tables = edited-tables; over = edited-over first; left = edited-left }

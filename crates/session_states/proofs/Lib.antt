@@ -5,3 +5,4 @@ pub mod Edited
 pub mod Shared
 pub mod Released
 pub mod Returned
+pub mod Stepping

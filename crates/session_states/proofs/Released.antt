@@ -14,6 +14,12 @@ use Rattle.session_states.proofs.Seen.{versions-same}
 
 -- ---- one is released, and the others are kept
 
+-- what calls that released some of these names left of the versions
+pub record IsReleased (before : List ℕ) (final : Versions BufferTable) (s0 s1 : ChainState) : Type 0 where
+  pub tables : tables_of final s1.held ≡ tables_of final s0.held
+  pub over : AreVersionsOver final s1.held
+  pub left : Leaves 0 before (versions_names final) s0 s1
+
 module _ (before : List ℕ) (released : BufferTable) (final : Versions BufferTable) (s0 s1 : ChainState)
     (leaves : Leaves 0 (buffers_names released) [] s0 s1) (owned : Owns s0.held before)
     (counts : (q : ℕ) → times before q ≡ times (buffers_names released) q + times (versions_names final) q)
@@ -23,18 +29,21 @@ module _ (before : List ℕ) (released : BufferTable) (final : Versions BufferTa
       owns-fewer s0.held before (buffers_names released ++ versions_names final)
       (λ q. omega (arith, counts q, times-append (buffers_names released) (versions_names final) q)) owned
 
-  pub released-over : AreVersionsOver final s1.held
+  released-over : AreVersionsOver final s1.held
   released-over = record {
     owned = owned-again s0.held s1.held (buffers_names released) [] leaves.others (all_versions final) owns;
     over = over-again s0.held s1.held (buffers_names released) [] leaves.others (all_versions final) owns over;
   }
 
-  pub released-tables : tables_of final s1.held ≡ tables_of final s0.held
+  released-tables : tables_of final s1.held ≡ tables_of final s0.held
   released-tables =
       versions-same s0.held s1.held final (same-again s0.held s1.held (buffers_names released) [] leaves.others (all_versions final) owns)
 
-  pub released-left : Leaves 0 before (versions_names final) s0 s1
+  released-left : Leaves 0 before (versions_names final) s0 s1
   released-left = leaves-beside 0 (buffers_names released) [] before (versions_names final) (versions_names final) s0 s1 leaves counts (λ q. omega arith)
+
+  pub one-released : IsReleased before final s0 s1
+  one-released = record { tables = released-tables; over = released-over; left = released-left }
 
 -- ---- undo and redo
 
@@ -94,6 +103,12 @@ module _ (now : Versions BufferTable) (shared : BufferTable) (rest : List Buffer
         (first, (first, (over.1.0, all-append P now.undoable rest (all-first P now.undoable now.redoable states) on.1)))
 
 -- ---- commit
+
+-- what the release of a state that can't be undone to any more left of the others that can
+pub record IsCut (now : Versions BufferTable) (s0 s1 : ChainState) : Type 0 where
+  pub left : Leaves 0 (names_of_all (now.latest ∷ now.undoable)) (names_of_all (take max_undoable (now.latest ∷ now.undoable))) s0 s1
+  pub over : AreAllOver (take max_undoable (now.latest ∷ now.undoable)) s1.held
+  pub same : AreAllSame s0.held s1.held (take max_undoable (now.latest ∷ now.undoable))
 
 module _ (now : Versions BufferTable) (shared : BufferTable) (same : shared ≡ now.working) (s0 s1 s2 : ChainState)
     (over : AreVersionsOver now s0.held) (shared_over : AreBuffersOver shared s0.held) (owned : Owns s0.held (buffers_names shared ++ versions_names now)) where
@@ -190,18 +205,18 @@ module _ (now : Versions BufferTable) (shared : BufferTable) (same : shared ≡ 
       final-same : AreAllSame s0.held s1.held (all_versions final)
       final-same = (still-same.0, (still-same.0, all-append (λ (b : BufferTable). table_of b s1.held ≡ table_of b s0.held) kept [] kept_same tt))
 
-      pub committed-over : AreVersionsOver final s2.held
+      committed-over : AreVersionsOver final s2.held
       committed-over = record {
         owned = owned-again s1.held s2.held (names_of_all now.redoable) [] second.others (all_versions final) final-owned;
         over = over-again s1.held s2.held (names_of_all now.redoable) [] second.others (all_versions final) final-owned final-over;
       }
 
-      pub committed-tables : tables_of final s2.held ≡ tables_of final s0.held
+      committed-tables : tables_of final s2.held ≡ tables_of final s0.held
       committed-tables =
           versions-same s1.held s2.held final (same-again s1.held s2.held (names_of_all now.redoable) [] second.others (all_versions final) final-owned)
           ∙ versions-same s0.held s1.held final final-same
 
-      pub committed-left : Leaves 0 (buffers_names shared ++ versions_names now) (versions_names final) s0 s2
+      committed-left : Leaves 0 (buffers_names shared ++ versions_names now) (versions_names final) s0 s2
       committed-left =
           leaves-both (buffers_names shared ++ versions_names now) (names_of_all kept ++ names_of_all held_still) (versions_names final) s0 s1 s2
           (leaves-beside 0 (names_of_all left) (names_of_all kept) (buffers_names shared ++ versions_names now) (names_of_all kept ++ names_of_all held_still)
@@ -209,7 +224,21 @@ module _ (now : Versions BufferTable) (shared : BufferTable) (same : shared ≡ 
           (leaves-beside 0 (names_of_all now.redoable) [] (names_of_all kept ++ names_of_all held_still) (versions_names final) (versions_names final) s1 s2 second second-counts
           (λ q. omega arith))
 
+  pub committed : IsCut now s0 s1 → Leaves 0 (names_of_all now.redoable) [] s1 s2 → IsReleased (buffers_names shared ++ versions_names now) (after_commit now) s0 s2
+  committed first second = record {
+    tables = committed-tables first.left first.over first.same second;
+    over = committed-over first.left first.over first.same second;
+    left = committed-left first.left first.over first.same second;
+  }
+
 -- ---- the last of a list
+
+-- what is left of a list after its last was released
+pub record IsLastReleased (states xs : List BufferTable) (s0 s1 : ChainState) : Type 0 where
+  pub over : AreAllOver xs s1.held
+  pub owned : Owns s1.held (names_of_all xs)
+  pub same : AreAllSame s0.held s1.held xs
+  pub left : Leaves 0 (names_of_all states) (names_of_all xs) s0 s1
 
 module _ (states : List BufferTable) (xs : List BufferTable) (b : BufferTable) (is : states ≡ xs ++ b ∷ []) (s0 s1 : ChainState) where
   last-counts : (q : ℕ) → times (names_of_all states) q ≡ times (buffers_names b) q + times (names_of_all xs) q
@@ -230,16 +259,19 @@ module _ (states : List BufferTable) (xs : List BufferTable) (b : BufferTable) (
         (λ q. omega (arith, last-counts q, times-append (buffers_names b) (names_of_all xs) q)) owned
 
     module _ (leaves : Leaves 0 (buffers_names b) [] s0 s1) where
-      pub last-over : AreAllOver xs s1.held
+      last-over : AreAllOver xs s1.held
       last-over =
           over-again s0.held s1.held (buffers_names b) [] leaves.others xs last-owns
           (all-first (λ (x : BufferTable). AreBuffersOver x s0.held) xs (b ∷ []) both-over)
 
-      pub last-owned : Owns s1.held (names_of_all xs)
+      last-owned : Owns s1.held (names_of_all xs)
       last-owned = owned-again s0.held s1.held (buffers_names b) [] leaves.others xs last-owns
 
-      pub last-same : AreAllSame s0.held s1.held xs
+      last-same : AreAllSame s0.held s1.held xs
       last-same = same-again s0.held s1.held (buffers_names b) [] leaves.others xs last-owns
 
-      pub last-left : Leaves 0 (names_of_all states) (names_of_all xs) s0 s1
+      last-left : Leaves 0 (names_of_all states) (names_of_all xs) s0 s1
       last-left = leaves-beside 0 (buffers_names b) [] (names_of_all states) (names_of_all xs) (names_of_all xs) s0 s1 leaves last-counts (λ q. omega arith)
+
+      pub last-released : IsLastReleased states xs s0 s1
+      last-released = record { over = last-over; owned = last-owned; same = last-same; left = last-left }

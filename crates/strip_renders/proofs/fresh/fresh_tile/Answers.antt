@@ -1,226 +1,180 @@
 use Rattle.std.proofs.Common.{◌≡◌, ◌+◌, ◌++◌, get_or, refl, sym, ap, ◌∙◌, arith}
-use Rattle.chain_owners.specs.Owners.{Owns}
+use Rattle.chain_owners.specs.Owners.{Owns, Respects}
 use Rattle.chain_owners.proofs.Ownership.{others-own, others-unchanged, seen-unchanged}
 use Rattle.model_graphs.specs.declared.node.NodeFact.{NodeFact}
 use Rattle.model_graphs.specs.Facts.{specs_of}
 use Rattle.model_states.specs.Cache.{Pair, find_pair, itself, pair_of}
 use Rattle.swap_store.specs.Cause.{HasSwapCause}
 use Rattle.node_cache.specs.Stores.{pair_at}
-use Rattle.node_tiles.specs.Reads.{Reads}
 use Rattle.node_tiles.proofs.Places.{ready-inside}
 use Rattle.node_tiles.proofs.Reading.{reads-others}
 use Rattle.roi_planner.proofs.Widths.{handed-on}
 use Rattle.strip_renders.specs.Looks.{HasSameCache, IsKept}
-use Rattle.strip_renders.specs.Moments.{moment}
+use Rattle.strip_renders.specs.Moments.{Keeps, Moment, moment}
 use Rattle.strip_renders.proofs.Moments.{Turns, cause-kept, keeps-both, keeps-most, keeps-reads, keeps-turns, matched-err, owns-last, owns-turned, source_of}
 use Rattle.strip_renders.proofs.AheadLaws.{refused-after}
 use Rattle.strip_renders.proofs.Pairs.{kept-after, named}
+use Rattle.strip_renders.proofs.fresh.fresh_tile.Given
+use Rattle.strip_renders.proofs.fresh.fresh_tile.Goals.{After-keep, After-made_or_evaluated}
 use Rattle.strip_renders.proofs.fresh.fresh_tile.Goals as goal
+
+module _ (g : Given.Over) where
+  abbrev seen : g.row.S.Denot → g.row.C.Denot → g.row.H.Denot → Moment
+  seen sources cache chain = moment (g.S.SourceTiles.facts sources) (g.S.SourceTiles.images sources (g.H.ChainMeaning.held chain)) (g.S.SourceTiles.names sources)
+      (g.C.PairStore.pairs cache) (g.C.PairStore.sizes cache (g.H.ChainMeaning.held chain)) (g.C.PairStore.cached cache (g.H.ChainMeaning.held chain)) (g.C.PairStore.capacity cache) (g.C.PairStore.names cache)
+      (g.H.ChainMeaning.held chain) (g.H.ChainMeaning.counts chain) (g.H.ChainMeaning.loans chain)
+
+  -- ---- the tile was made: the cache is unchanged
+
+  module _ (c : After-made_or_evaluated g) where
+    abbrev old : Moment
+    old = seen c.args.sources.now c.args.cache.now c.args.chain.now
+
+    abbrev mid : Moment
+    mid = seen c.made_or_evaluated.new.sources c.args.cache.now c.made_or_evaluated.new.chain
+
+    others : Respects old.held mid.held old.source_names mid.source_names
+    others = reads-others (source_of old) (source_of mid) c.made_or_evaluated.ensures.reads
+
+    same : HasSameCache old mid
+    same = record {
+      pairs = refl;
+      sizes = seen-unchanged old.held mid.held old.source_names mid.source_names others old.cache_names (g.C.PairStore.sizes c.args.cache.now) (g.met.C.PairStore.framed_sizes c.args.cache.now) c.requires.owned;
+      cached = seen-unchanged old.held mid.held old.source_names mid.source_names others old.cache_names (g.C.PairStore.cached c.args.cache.now) (g.met.C.PairStore.framed c.args.cache.now) c.requires.owned;
+    }
+
+    read : Keeps 0 old mid
+    read = keeps-reads old mid c.made_or_evaluated.ensures.reads refl refl
+
+    owned : Owns mid.held (mid.source_names ++ old.cache_names)
+    owned = others-own old.held mid.held old.source_names mid.source_names others old.cache_names c.requires.owned
+
+    cache_over : g.C.PairStore.is_over c.args.cache.now mid.held
+    cache_over =
+        g.met.C.PairStore.framed_condition c.args.cache.now old.held mid.held c.requires.cache_over c.made_or_evaluated.ensures.reads.others.exposed
+        (others-unchanged old.held mid.held old.source_names mid.source_names others old.cache_names c.requires.owned)
+        (owns-last mid.held mid.source_names old.cache_names owned)
+
+  -- the pair is that of the name
+  module _ (c : After-made_or_evaluated g) where
+    pair : pair_of (specs_of c.args.nodes.now) (c.args.node, c.args.at) ≡ pair_at (get_or c.args.nodes.now c.args.node c.index-nodes-node.result).spec.name c.args.at
+    pair =
+        named c.args.nodes.now c.args.node c.index-nodes-node.result c.args.at
+        (ready-inside c.args.nodes.now g.K.Op.OpMeaning.meanings c.args.held.now c.args.node c.args.at c.requires.ready) c.index-nodes-node.is
+        ∙ ap (λ (f : NodeFact g.row.K-Op.Denot). pair_at f.spec.name c.args.at) c.index-nodes-node.is
+
+  -- ---- it was kept: the source is unchanged
+
+  module _ (c : After-keep g) (before : Owns (g.H.ChainMeaning.held c.made_or_evaluated.new.chain) (g.S.SourceTiles.names c.made_or_evaluated.new.sources ++ g.C.PairStore.names c.args.cache.now)) where
+    abbrev then : Moment
+    then = seen c.made_or_evaluated.new.sources c.args.cache.now c.made_or_evaluated.new.chain
+
+    abbrev new : Moment
+    new = seen c.made_or_evaluated.new.sources c.keep.new.self c.keep.new.chain
+
+    turns : Turns 1 then new
+    turns = record {
+      others = c.keep.ensures.others;
+      one_owner = c.keep.ensures.one_owner;
+      other_names = c.keep.ensures.other_names;
+      counts = c.keep.ensures.counts;
+      loans = c.keep.ensures.loans;
+      capacity = c.keep.ensures.capacity;
+    }
+
+    turned : Owns then.held (then.cache_names ++ then.source_names)
+    turned = owns-turned then.held then.source_names then.cache_names before
+
+    kept : Keeps 1 then new
+    kept =
+        let images : new.images ≡ then.images = seen-unchanged then.held new.held then.cache_names new.cache_names turns.others then.source_names (g.S.SourceTiles.images c.made_or_evaluated.new.sources) (g.met.S.SourceTiles.framed c.made_or_evaluated.new.sources) turned in
+        keeps-turns 1 then new turns refl images refl
+
+    sources_over : g.S.SourceTiles.is_over c.made_or_evaluated.new.sources new.held
+    sources_over =
+        g.met.S.SourceTiles.framed_condition c.made_or_evaluated.new.sources then.held new.held c.made_or_evaluated.ensures.over turns.others.exposed
+        (others-unchanged then.held new.held then.cache_names new.cache_names turns.others then.source_names turned)
+        (owns-last new.held new.cache_names then.source_names (others-own then.held new.held then.cache_names new.cache_names turns.others then.source_names turned))
+
+-- ---- none was made, or there was no room for its share
 
 pub returns-in_err-tile-clause-kept : goal.returns-in_err-tile-clause-kept
 returns-in_err-tile-clause-kept g c =
-    let old = moment (g.S.SourceTiles.facts c.args.sources.now) (g.S.SourceTiles.images c.args.sources.now (g.H.ChainMeaning.held c.args.chain.now)) (g.S.SourceTiles.names c.args.sources.now) (g.C.PairStore.pairs c.args.cache.now) (g.C.PairStore.sizes c.args.cache.now (g.H.ChainMeaning.held c.args.chain.now)) (g.C.PairStore.cached c.args.cache.now (g.H.ChainMeaning.held c.args.chain.now)) (g.C.PairStore.capacity c.args.cache.now) (g.C.PairStore.names c.args.cache.now) (g.H.ChainMeaning.held c.args.chain.now) (g.H.ChainMeaning.counts c.args.chain.now) (g.H.ChainMeaning.loans c.args.chain.now) in
-    let mid = moment (g.S.SourceTiles.facts c.made_or_evaluated.new.sources) (g.S.SourceTiles.images c.made_or_evaluated.new.sources (g.H.ChainMeaning.held c.made_or_evaluated.new.chain)) (g.S.SourceTiles.names c.made_or_evaluated.new.sources) (g.C.PairStore.pairs c.args.cache.now) (g.C.PairStore.sizes c.args.cache.now (g.H.ChainMeaning.held c.made_or_evaluated.new.chain)) (g.C.PairStore.cached c.args.cache.now (g.H.ChainMeaning.held c.made_or_evaluated.new.chain)) (g.C.PairStore.capacity c.args.cache.now) (g.C.PairStore.names c.args.cache.now) (g.H.ChainMeaning.held c.made_or_evaluated.new.chain) (g.H.ChainMeaning.counts c.made_or_evaluated.new.chain) (g.H.ChainMeaning.loans c.made_or_evaluated.new.chain) in
-    let h0 = g.H.ChainMeaning.held c.args.chain.now in
-    let h1 = g.H.ChainMeaning.held c.made_or_evaluated.new.chain in
-    let source = g.S.SourceTiles.names c.args.sources.now in
-    let source1 = g.S.SourceTiles.names c.made_or_evaluated.new.sources in
-    let cached = g.C.PairStore.names c.args.cache.now in
-    let reads : Reads (source_of old) (source_of mid) = c.in_err-tile.ensures.reads in
-    let sizes : mid.sizes ≡ old.sizes = seen-unchanged h0 h1 source source1 (reads-others _ _ reads) cached (g.C.PairStore.sizes c.args.cache.now) (g.met.C.PairStore.framed_sizes c.args.cache.now) c.requires.owned in
-    let bytes : mid.cached ≡ old.cached = seen-unchanged h0 h1 source source1 (reads-others _ _ reads) cached (g.C.PairStore.cached c.args.cache.now) (g.met.C.PairStore.framed c.args.cache.now) c.requires.owned in
-    matched-err c.from_residual.result (λ tile. IsKept old mid (pair_of (specs_of c.args.nodes.now) (c.args.node, c.args.at)) tile) (HasSameCache old mid) _ c.from_residual.ensures.1
-    (record { pairs = refl; sizes = sizes; cached = bytes })
+    let at = (goal.at.returns-in_err-tile-clause-kept g c).After-made_or_evaluated in
+    matched-err c.from_residual.result (λ tile. IsKept (old g at) (mid g at) (pair_of (specs_of c.args.nodes.now) (c.args.node, c.args.at)) tile) (HasSameCache (old g at) (mid g at)) _
+    c.from_residual.ensures.1 (same g at)
 
 pub returns-in_err-tile-clause-keeps : goal.returns-in_err-tile-clause-keeps
-returns-in_err-tile-clause-keeps g c =
-    let old = moment (g.S.SourceTiles.facts c.args.sources.now) (g.S.SourceTiles.images c.args.sources.now (g.H.ChainMeaning.held c.args.chain.now)) (g.S.SourceTiles.names c.args.sources.now) (g.C.PairStore.pairs c.args.cache.now) (g.C.PairStore.sizes c.args.cache.now (g.H.ChainMeaning.held c.args.chain.now)) (g.C.PairStore.cached c.args.cache.now (g.H.ChainMeaning.held c.args.chain.now)) (g.C.PairStore.capacity c.args.cache.now) (g.C.PairStore.names c.args.cache.now) (g.H.ChainMeaning.held c.args.chain.now) (g.H.ChainMeaning.counts c.args.chain.now) (g.H.ChainMeaning.loans c.args.chain.now) in
-    let mid = moment (g.S.SourceTiles.facts c.made_or_evaluated.new.sources) (g.S.SourceTiles.images c.made_or_evaluated.new.sources (g.H.ChainMeaning.held c.made_or_evaluated.new.chain)) (g.S.SourceTiles.names c.made_or_evaluated.new.sources) (g.C.PairStore.pairs c.args.cache.now) (g.C.PairStore.sizes c.args.cache.now (g.H.ChainMeaning.held c.made_or_evaluated.new.chain)) (g.C.PairStore.cached c.args.cache.now (g.H.ChainMeaning.held c.made_or_evaluated.new.chain)) (g.C.PairStore.capacity c.args.cache.now) (g.C.PairStore.names c.args.cache.now) (g.H.ChainMeaning.held c.made_or_evaluated.new.chain) (g.H.ChainMeaning.counts c.made_or_evaluated.new.chain) (g.H.ChainMeaning.loans c.made_or_evaluated.new.chain) in
-    keeps-most 0 1 old mid (omega arith) (keeps-reads old mid c.in_err-tile.ensures.reads refl refl)
+returns-in_err-tile-clause-keeps g c = keeps-most 0 1 _ _ (omega arith) (read g (goal.at.returns-in_err-tile-clause-keeps g c).After-made_or_evaluated)
 
 pub returns-in_err-tile-clause-cache_over : goal.returns-in_err-tile-clause-cache_over
-returns-in_err-tile-clause-cache_over g c =
-    let h0 = g.H.ChainMeaning.held c.args.chain.now in
-    let h1 = g.H.ChainMeaning.held c.made_or_evaluated.new.chain in
-    let source = g.S.SourceTiles.names c.args.sources.now in
-    let source1 = g.S.SourceTiles.names c.made_or_evaluated.new.sources in
-    let cached = g.C.PairStore.names c.args.cache.now in
-    g.met.C.PairStore.framed_condition c.args.cache.now h0 h1 c.requires.cache_over c.in_err-tile.ensures.reads.others.exposed
-    (others-unchanged h0 h1 source source1 (reads-others _ _ c.in_err-tile.ensures.reads) cached c.requires.owned)
-    (owns-last h1 source1 cached (others-own h0 h1 source source1 (reads-others _ _ c.in_err-tile.ensures.reads) cached c.requires.owned))
+returns-in_err-tile-clause-cache_over g c = cache_over g (goal.at.returns-in_err-tile-clause-cache_over g c).After-made_or_evaluated
 
 pub returns-in_err-share-clause-kept : goal.returns-in_err-share-clause-kept
 returns-in_err-share-clause-kept g c =
-    let old = moment (g.S.SourceTiles.facts c.args.sources.now) (g.S.SourceTiles.images c.args.sources.now (g.H.ChainMeaning.held c.args.chain.now)) (g.S.SourceTiles.names c.args.sources.now) (g.C.PairStore.pairs c.args.cache.now) (g.C.PairStore.sizes c.args.cache.now (g.H.ChainMeaning.held c.args.chain.now)) (g.C.PairStore.cached c.args.cache.now (g.H.ChainMeaning.held c.args.chain.now)) (g.C.PairStore.capacity c.args.cache.now) (g.C.PairStore.names c.args.cache.now) (g.H.ChainMeaning.held c.args.chain.now) (g.H.ChainMeaning.counts c.args.chain.now) (g.H.ChainMeaning.loans c.args.chain.now) in
-    let mid = moment (g.S.SourceTiles.facts c.made_or_evaluated.new.sources) (g.S.SourceTiles.images c.made_or_evaluated.new.sources (g.H.ChainMeaning.held c.made_or_evaluated.new.chain)) (g.S.SourceTiles.names c.made_or_evaluated.new.sources) (g.C.PairStore.pairs c.args.cache.now) (g.C.PairStore.sizes c.args.cache.now (g.H.ChainMeaning.held c.made_or_evaluated.new.chain)) (g.C.PairStore.cached c.args.cache.now (g.H.ChainMeaning.held c.made_or_evaluated.new.chain)) (g.C.PairStore.capacity c.args.cache.now) (g.C.PairStore.names c.args.cache.now) (g.H.ChainMeaning.held c.made_or_evaluated.new.chain) (g.H.ChainMeaning.counts c.made_or_evaluated.new.chain) (g.H.ChainMeaning.loans c.made_or_evaluated.new.chain) in
-    let h0 = g.H.ChainMeaning.held c.args.chain.now in
-    let h1 = g.H.ChainMeaning.held c.made_or_evaluated.new.chain in
-    let source = g.S.SourceTiles.names c.args.sources.now in
-    let source1 = g.S.SourceTiles.names c.made_or_evaluated.new.sources in
-    let cached = g.C.PairStore.names c.args.cache.now in
-    let reads : Reads (source_of old) (source_of mid) = c.in_ok-tile.ensures.reads in
-    let sizes : mid.sizes ≡ old.sizes = seen-unchanged h0 h1 source source1 (reads-others _ _ reads) cached (g.C.PairStore.sizes c.args.cache.now) (g.met.C.PairStore.framed_sizes c.args.cache.now) c.requires.owned in
-    let bytes : mid.cached ≡ old.cached = seen-unchanged h0 h1 source source1 (reads-others _ _ reads) cached (g.C.PairStore.cached c.args.cache.now) (g.met.C.PairStore.framed c.args.cache.now) c.requires.owned in
-    matched-err c.from_residual-in_err-share.result (λ tile. IsKept old mid (pair_of (specs_of c.args.nodes.now) (c.args.node, c.args.at)) tile) (HasSameCache old mid) _ c.from_residual-in_err-share.ensures.1
-    (record { pairs = refl; sizes = sizes; cached = bytes })
+    let at = (goal.at.returns-in_err-share-clause-kept g c).After-made_or_evaluated in
+    matched-err c.from_residual-in_err-share.result (λ tile. IsKept (old g at) (mid g at) (pair_of (specs_of c.args.nodes.now) (c.args.node, c.args.at)) tile) (HasSameCache (old g at) (mid g at)) _
+    c.from_residual-in_err-share.ensures.1 (same g at)
 
 pub returns-in_err-share-clause-keeps : goal.returns-in_err-share-clause-keeps
-returns-in_err-share-clause-keeps g c =
-    let old = moment (g.S.SourceTiles.facts c.args.sources.now) (g.S.SourceTiles.images c.args.sources.now (g.H.ChainMeaning.held c.args.chain.now)) (g.S.SourceTiles.names c.args.sources.now) (g.C.PairStore.pairs c.args.cache.now) (g.C.PairStore.sizes c.args.cache.now (g.H.ChainMeaning.held c.args.chain.now)) (g.C.PairStore.cached c.args.cache.now (g.H.ChainMeaning.held c.args.chain.now)) (g.C.PairStore.capacity c.args.cache.now) (g.C.PairStore.names c.args.cache.now) (g.H.ChainMeaning.held c.args.chain.now) (g.H.ChainMeaning.counts c.args.chain.now) (g.H.ChainMeaning.loans c.args.chain.now) in
-    let mid = moment (g.S.SourceTiles.facts c.made_or_evaluated.new.sources) (g.S.SourceTiles.images c.made_or_evaluated.new.sources (g.H.ChainMeaning.held c.made_or_evaluated.new.chain)) (g.S.SourceTiles.names c.made_or_evaluated.new.sources) (g.C.PairStore.pairs c.args.cache.now) (g.C.PairStore.sizes c.args.cache.now (g.H.ChainMeaning.held c.made_or_evaluated.new.chain)) (g.C.PairStore.cached c.args.cache.now (g.H.ChainMeaning.held c.made_or_evaluated.new.chain)) (g.C.PairStore.capacity c.args.cache.now) (g.C.PairStore.names c.args.cache.now) (g.H.ChainMeaning.held c.made_or_evaluated.new.chain) (g.H.ChainMeaning.counts c.made_or_evaluated.new.chain) (g.H.ChainMeaning.loans c.made_or_evaluated.new.chain) in
-    keeps-most 0 1 old mid (omega arith) (keeps-reads old mid c.in_ok-tile.ensures.reads refl refl)
+returns-in_err-share-clause-keeps g c = keeps-most 0 1 _ _ (omega arith) (read g (goal.at.returns-in_err-share-clause-keeps g c).After-made_or_evaluated)
 
 pub returns-in_err-share-clause-cache_over : goal.returns-in_err-share-clause-cache_over
-returns-in_err-share-clause-cache_over g c =
-    let h0 = g.H.ChainMeaning.held c.args.chain.now in
-    let h1 = g.H.ChainMeaning.held c.made_or_evaluated.new.chain in
-    let source = g.S.SourceTiles.names c.args.sources.now in
-    let source1 = g.S.SourceTiles.names c.made_or_evaluated.new.sources in
-    let cached = g.C.PairStore.names c.args.cache.now in
-    g.met.C.PairStore.framed_condition c.args.cache.now h0 h1 c.requires.cache_over c.in_ok-tile.ensures.reads.others.exposed
-    (others-unchanged h0 h1 source source1 (reads-others _ _ c.in_ok-tile.ensures.reads) cached c.requires.owned)
-    (owns-last h1 source1 cached (others-own h0 h1 source source1 (reads-others _ _ c.in_ok-tile.ensures.reads) cached c.requires.owned))
+returns-in_err-share-clause-cache_over g c = cache_over g (goal.at.returns-in_err-share-clause-cache_over g c).After-made_or_evaluated
+
+-- ---- the share is kept
 
 pub keep-requires-clause-over : goal.keep-requires-clause-over
-keep-requires-clause-over g c =
-    let h0 = g.H.ChainMeaning.held c.args.chain.now in
-    let h1 = g.H.ChainMeaning.held c.made_or_evaluated.new.chain in
-    let source = g.S.SourceTiles.names c.args.sources.now in
-    let source1 = g.S.SourceTiles.names c.made_or_evaluated.new.sources in
-    let cached = g.C.PairStore.names c.args.cache.now in
-    g.met.C.PairStore.framed_condition c.args.cache.now h0 h1 c.requires.cache_over c.in_ok-tile.ensures.reads.others.exposed
-    (others-unchanged h0 h1 source source1 (reads-others _ _ c.in_ok-tile.ensures.reads) cached c.requires.owned)
-    (owns-last h1 source1 cached (others-own h0 h1 source source1 (reads-others _ _ c.in_ok-tile.ensures.reads) cached c.requires.owned))
+keep-requires-clause-over g c = cache_over g (goal.at.keep-requires-clause-over g c).After-made_or_evaluated
 
 pub keep-requires-clause-absent : goal.keep-requires-clause-absent
 keep-requires-clause-absent g c =
-    let nodes = c.args.nodes.now in
-    let fact = c.index-nodes-node.result in
-    let inside = ready-inside nodes g.K.Op.OpMeaning.meanings c.args.held.now c.args.node c.args.at c.requires.ready in
-    let pair = named nodes c.args.node fact c.args.at inside c.index-nodes-node.is ∙ ap (λ (f : NodeFact g.row.K-Op.Denot). pair_at f.spec.name c.args.at) c.index-nodes-node.is in
-    ap (λ (p : Pair). find_pair itself (g.C.PairStore.pairs c.args.cache.now) p) (sym pair) ∙ c.requires.absent
+    ap (λ (p : Pair). find_pair itself (g.C.PairStore.pairs c.args.cache.now) p) (sym (pair g (goal.at.keep-requires-clause-absent g c).After-made_or_evaluated)) ∙ c.requires.absent
 
 pub returns-in_err-keep-clause-keeps : goal.returns-in_err-keep-clause-keeps
 returns-in_err-keep-clause-keeps g c =
-    let old = moment (g.S.SourceTiles.facts c.args.sources.now) (g.S.SourceTiles.images c.args.sources.now (g.H.ChainMeaning.held c.args.chain.now)) (g.S.SourceTiles.names c.args.sources.now) (g.C.PairStore.pairs c.args.cache.now) (g.C.PairStore.sizes c.args.cache.now (g.H.ChainMeaning.held c.args.chain.now)) (g.C.PairStore.cached c.args.cache.now (g.H.ChainMeaning.held c.args.chain.now)) (g.C.PairStore.capacity c.args.cache.now) (g.C.PairStore.names c.args.cache.now) (g.H.ChainMeaning.held c.args.chain.now) (g.H.ChainMeaning.counts c.args.chain.now) (g.H.ChainMeaning.loans c.args.chain.now) in
-    let mid = moment (g.S.SourceTiles.facts c.made_or_evaluated.new.sources) (g.S.SourceTiles.images c.made_or_evaluated.new.sources (g.H.ChainMeaning.held c.made_or_evaluated.new.chain)) (g.S.SourceTiles.names c.made_or_evaluated.new.sources) (g.C.PairStore.pairs c.args.cache.now) (g.C.PairStore.sizes c.args.cache.now (g.H.ChainMeaning.held c.made_or_evaluated.new.chain)) (g.C.PairStore.cached c.args.cache.now (g.H.ChainMeaning.held c.made_or_evaluated.new.chain)) (g.C.PairStore.capacity c.args.cache.now) (g.C.PairStore.names c.args.cache.now) (g.H.ChainMeaning.held c.made_or_evaluated.new.chain) (g.H.ChainMeaning.counts c.made_or_evaluated.new.chain) (g.H.ChainMeaning.loans c.made_or_evaluated.new.chain) in
-    let new = moment (g.S.SourceTiles.facts c.made_or_evaluated.new.sources) (g.S.SourceTiles.images c.made_or_evaluated.new.sources (g.H.ChainMeaning.held c.keep.new.chain)) (g.S.SourceTiles.names c.made_or_evaluated.new.sources) (g.C.PairStore.pairs c.keep.new.self) (g.C.PairStore.sizes c.keep.new.self (g.H.ChainMeaning.held c.keep.new.chain)) (g.C.PairStore.cached c.keep.new.self (g.H.ChainMeaning.held c.keep.new.chain)) (g.C.PairStore.capacity c.keep.new.self) (g.C.PairStore.names c.keep.new.self) (g.H.ChainMeaning.held c.keep.new.chain) (g.H.ChainMeaning.counts c.keep.new.chain) (g.H.ChainMeaning.loans c.keep.new.chain) in
-    let h0 = g.H.ChainMeaning.held c.args.chain.now in
-    let h1 = g.H.ChainMeaning.held c.made_or_evaluated.new.chain in
-    let source = g.S.SourceTiles.names c.args.sources.now in
-    let source1 = g.S.SourceTiles.names c.made_or_evaluated.new.sources in
-    let cached = g.C.PairStore.names c.args.cache.now in
-    let h2 = g.H.ChainMeaning.held c.keep.new.chain in
-    let cached2 = g.C.PairStore.names c.keep.new.self in
-    let turns : Turns 1 mid new = record {
-      others = c.in_err-keep.ensures.others;
-      one_owner = c.in_err-keep.ensures.one_owner;
-      other_names = c.in_err-keep.ensures.other_names;
-      counts = c.in_err-keep.ensures.counts;
-      loans = c.in_err-keep.ensures.loans;
-      capacity = c.in_err-keep.ensures.capacity;
-    } in
-    let owned : Owns h1 (cached ++ source1) = owns-turned h1 source1 cached (others-own h0 h1 source source1 (reads-others _ _ c.in_ok-tile.ensures.reads) cached c.requires.owned) in
-    let images : new.images ≡ mid.images = seen-unchanged h1 h2 cached cached2 c.in_err-keep.ensures.others source1 (g.S.SourceTiles.images c.made_or_evaluated.new.sources) (g.met.S.SourceTiles.framed c.made_or_evaluated.new.sources) owned in
-    keeps-both 0 1 old mid new (keeps-reads old mid c.in_ok-tile.ensures.reads refl refl) (keeps-turns 1 mid new turns refl images refl)
+    let at = goal.at.returns-in_err-keep-clause-keeps g c in
+    keeps-both 0 1 _ _ _ (read g at.After-made_or_evaluated) (kept g at.After-keep (owned g at.After-made_or_evaluated))
 
 pub returns-in_err-keep-clause-sources_over : goal.returns-in_err-keep-clause-sources_over
-returns-in_err-keep-clause-sources_over g c =
-    let h0 = g.H.ChainMeaning.held c.args.chain.now in
-    let h1 = g.H.ChainMeaning.held c.made_or_evaluated.new.chain in
-    let source = g.S.SourceTiles.names c.args.sources.now in
-    let source1 = g.S.SourceTiles.names c.made_or_evaluated.new.sources in
-    let cached = g.C.PairStore.names c.args.cache.now in
-    let h2 = g.H.ChainMeaning.held c.keep.new.chain in
-    let cached2 = g.C.PairStore.names c.keep.new.self in
-    let owned : Owns h1 (cached ++ source1) = owns-turned h1 source1 cached (others-own h0 h1 source source1 (reads-others _ _ c.in_ok-tile.ensures.reads) cached c.requires.owned) in
-    g.met.S.SourceTiles.framed_condition c.made_or_evaluated.new.sources h1 h2 c.in_ok-tile.ensures.over c.in_err-keep.ensures.others.exposed
-    (others-unchanged h1 h2 cached cached2 c.in_err-keep.ensures.others source1 owned)
-    (owns-last h2 cached2 source1 (others-own h1 h2 cached cached2 c.in_err-keep.ensures.others source1 owned))
+returns-in_err-keep-clause-sources_over g c = let at = goal.at.returns-in_err-keep-clause-sources_over g c in sources_over g at.After-keep (owned g at.After-made_or_evaluated)
 
 pub returns-clause-keeps : goal.returns-clause-keeps
 returns-clause-keeps g c =
-    let old = moment (g.S.SourceTiles.facts c.args.sources.now) (g.S.SourceTiles.images c.args.sources.now (g.H.ChainMeaning.held c.args.chain.now)) (g.S.SourceTiles.names c.args.sources.now) (g.C.PairStore.pairs c.args.cache.now) (g.C.PairStore.sizes c.args.cache.now (g.H.ChainMeaning.held c.args.chain.now)) (g.C.PairStore.cached c.args.cache.now (g.H.ChainMeaning.held c.args.chain.now)) (g.C.PairStore.capacity c.args.cache.now) (g.C.PairStore.names c.args.cache.now) (g.H.ChainMeaning.held c.args.chain.now) (g.H.ChainMeaning.counts c.args.chain.now) (g.H.ChainMeaning.loans c.args.chain.now) in
-    let mid = moment (g.S.SourceTiles.facts c.made_or_evaluated.new.sources) (g.S.SourceTiles.images c.made_or_evaluated.new.sources (g.H.ChainMeaning.held c.made_or_evaluated.new.chain)) (g.S.SourceTiles.names c.made_or_evaluated.new.sources) (g.C.PairStore.pairs c.args.cache.now) (g.C.PairStore.sizes c.args.cache.now (g.H.ChainMeaning.held c.made_or_evaluated.new.chain)) (g.C.PairStore.cached c.args.cache.now (g.H.ChainMeaning.held c.made_or_evaluated.new.chain)) (g.C.PairStore.capacity c.args.cache.now) (g.C.PairStore.names c.args.cache.now) (g.H.ChainMeaning.held c.made_or_evaluated.new.chain) (g.H.ChainMeaning.counts c.made_or_evaluated.new.chain) (g.H.ChainMeaning.loans c.made_or_evaluated.new.chain) in
-    let new = moment (g.S.SourceTiles.facts c.made_or_evaluated.new.sources) (g.S.SourceTiles.images c.made_or_evaluated.new.sources (g.H.ChainMeaning.held c.keep.new.chain)) (g.S.SourceTiles.names c.made_or_evaluated.new.sources) (g.C.PairStore.pairs c.keep.new.self) (g.C.PairStore.sizes c.keep.new.self (g.H.ChainMeaning.held c.keep.new.chain)) (g.C.PairStore.cached c.keep.new.self (g.H.ChainMeaning.held c.keep.new.chain)) (g.C.PairStore.capacity c.keep.new.self) (g.C.PairStore.names c.keep.new.self) (g.H.ChainMeaning.held c.keep.new.chain) (g.H.ChainMeaning.counts c.keep.new.chain) (g.H.ChainMeaning.loans c.keep.new.chain) in
-    let h0 = g.H.ChainMeaning.held c.args.chain.now in
-    let h1 = g.H.ChainMeaning.held c.made_or_evaluated.new.chain in
-    let source = g.S.SourceTiles.names c.args.sources.now in
-    let source1 = g.S.SourceTiles.names c.made_or_evaluated.new.sources in
-    let cached = g.C.PairStore.names c.args.cache.now in
-    let h2 = g.H.ChainMeaning.held c.keep.new.chain in
-    let cached2 = g.C.PairStore.names c.keep.new.self in
-    let turns : Turns 1 mid new = record {
-      others = c.in_ok-keep.ensures.others;
-      one_owner = c.in_ok-keep.ensures.one_owner;
-      other_names = c.in_ok-keep.ensures.other_names;
-      counts = c.in_ok-keep.ensures.counts;
-      loans = c.in_ok-keep.ensures.loans;
-      capacity = c.in_ok-keep.ensures.capacity;
-    } in
-    let owned : Owns h1 (cached ++ source1) = owns-turned h1 source1 cached (others-own h0 h1 source source1 (reads-others _ _ c.in_ok-tile.ensures.reads) cached c.requires.owned) in
-    let images : new.images ≡ mid.images = seen-unchanged h1 h2 cached cached2 c.in_ok-keep.ensures.others source1 (g.S.SourceTiles.images c.made_or_evaluated.new.sources) (g.met.S.SourceTiles.framed c.made_or_evaluated.new.sources) owned in
-    keeps-both 0 1 old mid new (keeps-reads old mid c.in_ok-tile.ensures.reads refl refl) (keeps-turns 1 mid new turns refl images refl)
+    let at = goal.at.returns-clause-keeps g c in
+    keeps-both 0 1 _ _ _ (read g at.After-made_or_evaluated) (kept g at.After-keep (owned g at.After-made_or_evaluated))
 
 pub returns-clause-sources_over : goal.returns-clause-sources_over
-returns-clause-sources_over g c =
-    let h0 = g.H.ChainMeaning.held c.args.chain.now in
-    let h1 = g.H.ChainMeaning.held c.made_or_evaluated.new.chain in
-    let source = g.S.SourceTiles.names c.args.sources.now in
-    let source1 = g.S.SourceTiles.names c.made_or_evaluated.new.sources in
-    let cached = g.C.PairStore.names c.args.cache.now in
-    let h2 = g.H.ChainMeaning.held c.keep.new.chain in
-    let cached2 = g.C.PairStore.names c.keep.new.self in
-    let owned : Owns h1 (cached ++ source1) = owns-turned h1 source1 cached (others-own h0 h1 source source1 (reads-others _ _ c.in_ok-tile.ensures.reads) cached c.requires.owned) in
-    g.met.S.SourceTiles.framed_condition c.made_or_evaluated.new.sources h1 h2 c.in_ok-tile.ensures.over c.in_ok-keep.ensures.others.exposed
-    (others-unchanged h1 h2 cached cached2 c.in_ok-keep.ensures.others source1 owned)
-    (owns-last h2 cached2 source1 (others-own h1 h2 cached cached2 c.in_ok-keep.ensures.others source1 owned))
+returns-clause-sources_over g c = let at = goal.at.returns-clause-sources_over g c in sources_over g at.After-keep (owned g at.After-made_or_evaluated)
 
 pub returns-in_err-keep-clause-kept : goal.returns-in_err-keep-clause-kept
 returns-in_err-keep-clause-kept g c =
-    let old = moment (g.S.SourceTiles.facts c.args.sources.now) (g.S.SourceTiles.images c.args.sources.now (g.H.ChainMeaning.held c.args.chain.now)) (g.S.SourceTiles.names c.args.sources.now) (g.C.PairStore.pairs c.args.cache.now) (g.C.PairStore.sizes c.args.cache.now (g.H.ChainMeaning.held c.args.chain.now)) (g.C.PairStore.cached c.args.cache.now (g.H.ChainMeaning.held c.args.chain.now)) (g.C.PairStore.capacity c.args.cache.now) (g.C.PairStore.names c.args.cache.now) (g.H.ChainMeaning.held c.args.chain.now) (g.H.ChainMeaning.counts c.args.chain.now) (g.H.ChainMeaning.loans c.args.chain.now) in
-    let mid = moment (g.S.SourceTiles.facts c.made_or_evaluated.new.sources) (g.S.SourceTiles.images c.made_or_evaluated.new.sources (g.H.ChainMeaning.held c.made_or_evaluated.new.chain)) (g.S.SourceTiles.names c.made_or_evaluated.new.sources) (g.C.PairStore.pairs c.args.cache.now) (g.C.PairStore.sizes c.args.cache.now (g.H.ChainMeaning.held c.made_or_evaluated.new.chain)) (g.C.PairStore.cached c.args.cache.now (g.H.ChainMeaning.held c.made_or_evaluated.new.chain)) (g.C.PairStore.capacity c.args.cache.now) (g.C.PairStore.names c.args.cache.now) (g.H.ChainMeaning.held c.made_or_evaluated.new.chain) (g.H.ChainMeaning.counts c.made_or_evaluated.new.chain) (g.H.ChainMeaning.loans c.made_or_evaluated.new.chain) in
-    let new = moment (g.S.SourceTiles.facts c.made_or_evaluated.new.sources) (g.S.SourceTiles.images c.made_or_evaluated.new.sources (g.H.ChainMeaning.held c.keep.new.chain)) (g.S.SourceTiles.names c.made_or_evaluated.new.sources) (g.C.PairStore.pairs c.keep.new.self) (g.C.PairStore.sizes c.keep.new.self (g.H.ChainMeaning.held c.keep.new.chain)) (g.C.PairStore.cached c.keep.new.self (g.H.ChainMeaning.held c.keep.new.chain)) (g.C.PairStore.capacity c.keep.new.self) (g.C.PairStore.names c.keep.new.self) (g.H.ChainMeaning.held c.keep.new.chain) (g.H.ChainMeaning.counts c.keep.new.chain) (g.H.ChainMeaning.loans c.keep.new.chain) in
-    let h0 = g.H.ChainMeaning.held c.args.chain.now in
-    let h1 = g.H.ChainMeaning.held c.made_or_evaluated.new.chain in
-    let source = g.S.SourceTiles.names c.args.sources.now in
-    let source1 = g.S.SourceTiles.names c.made_or_evaluated.new.sources in
-    let cached = g.C.PairStore.names c.args.cache.now in
-    let reads : Reads (source_of old) (source_of mid) = c.in_ok-tile.ensures.reads in
-    let sizes : mid.sizes ≡ old.sizes = seen-unchanged h0 h1 source source1 (reads-others _ _ reads) cached (g.C.PairStore.sizes c.args.cache.now) (g.met.C.PairStore.framed_sizes c.args.cache.now) c.requires.owned in
-    let bytes : mid.cached ≡ old.cached = seen-unchanged h0 h1 source source1 (reads-others _ _ reads) cached (g.C.PairStore.cached c.args.cache.now) (g.met.C.PairStore.framed c.args.cache.now) c.requires.owned in
-    matched-err c.from_residual-in_err-keep.result (λ tile. IsKept old new (pair_of (specs_of c.args.nodes.now) (c.args.node, c.args.at)) tile) (HasSameCache old new) _ c.from_residual-in_err-keep.ensures.1
-    (record { pairs = c.in_err-keep.ensures.pairs; sizes = c.in_err-keep.ensures.sizes ∙ sizes; cached = c.in_err-keep.ensures.cached ∙ bytes })
+    let at = goal.at.returns-in_err-keep-clause-kept g c in
+    let before = same g at.After-made_or_evaluated in
+    let start = old g at.After-made_or_evaluated in
+    let last = seen g c.made_or_evaluated.new.sources c.keep.new.self c.keep.new.chain in
+    matched-err c.from_residual-in_err-keep.result (λ tile. IsKept start last (pair_of (specs_of c.args.nodes.now) (c.args.node, c.args.at)) tile) (HasSameCache start last) _ c.from_residual-in_err-keep.ensures.1
+    (record { pairs = c.in_err-keep.ensures.pairs; sizes = c.in_err-keep.ensures.sizes ∙ before.sizes; cached = c.in_err-keep.ensures.cached ∙ before.cached })
 
 pub returns-in_err-keep-clause-cause : goal.returns-in_err-keep-clause-cause
 returns-in_err-keep-clause-cause g c =
-    let old = moment (g.S.SourceTiles.facts c.args.sources.now) (g.S.SourceTiles.images c.args.sources.now (g.H.ChainMeaning.held c.args.chain.now)) (g.S.SourceTiles.names c.args.sources.now) (g.C.PairStore.pairs c.args.cache.now) (g.C.PairStore.sizes c.args.cache.now (g.H.ChainMeaning.held c.args.chain.now)) (g.C.PairStore.cached c.args.cache.now (g.H.ChainMeaning.held c.args.chain.now)) (g.C.PairStore.capacity c.args.cache.now) (g.C.PairStore.names c.args.cache.now) (g.H.ChainMeaning.held c.args.chain.now) (g.H.ChainMeaning.counts c.args.chain.now) (g.H.ChainMeaning.loans c.args.chain.now) in
-    let mid = moment (g.S.SourceTiles.facts c.made_or_evaluated.new.sources) (g.S.SourceTiles.images c.made_or_evaluated.new.sources (g.H.ChainMeaning.held c.made_or_evaluated.new.chain)) (g.S.SourceTiles.names c.made_or_evaluated.new.sources) (g.C.PairStore.pairs c.args.cache.now) (g.C.PairStore.sizes c.args.cache.now (g.H.ChainMeaning.held c.made_or_evaluated.new.chain)) (g.C.PairStore.cached c.args.cache.now (g.H.ChainMeaning.held c.made_or_evaluated.new.chain)) (g.C.PairStore.capacity c.args.cache.now) (g.C.PairStore.names c.args.cache.now) (g.H.ChainMeaning.held c.made_or_evaluated.new.chain) (g.H.ChainMeaning.counts c.made_or_evaluated.new.chain) (g.H.ChainMeaning.loans c.made_or_evaluated.new.chain) in
-    handed-on c.from_residual-in_err-keep.result c.in_err-keep.field-0.0
-    (HasSwapCause (g.H.ChainMeaning.counts c.args.chain.now) (g.H.ChainMeaning.counts c.keep.new.chain) ((g.H.ChainMeaning.counts c.args.chain.now).names + 1))
-    c.from_residual-in_err-keep.ensures.1
-    (cause-kept 0 ((g.H.ChainMeaning.counts c.made_or_evaluated.new.chain).names + 1) ((g.H.ChainMeaning.counts c.args.chain.now).names + 1) old mid (g.H.ChainMeaning.counts c.keep.new.chain) c.in_err-keep.field-0.0
-    (keeps-reads old mid c.in_ok-tile.ensures.reads refl refl) (omega (arith, c.in_ok-tile.ensures.reads.counts.names)) c.in_err-keep.ensures.cause)
+    let at = (goal.at.returns-in_err-keep-clause-cause g c).After-made_or_evaluated in
+    let before = g.H.ChainMeaning.counts c.args.chain.now in
+    let now = g.H.ChainMeaning.counts c.made_or_evaluated.new.chain in
+    let last = g.H.ChainMeaning.counts c.keep.new.chain in
+    handed-on c.from_residual-in_err-keep.result c.in_err-keep.field-0.0 (HasSwapCause before last (before.names + 1)) c.from_residual-in_err-keep.ensures.1
+    (cause-kept 0 (now.names + 1) (before.names + 1) (old g at) (mid g at) last c.in_err-keep.field-0.0 (read g at) (omega (arith, c.in_ok-tile.ensures.reads.counts.names)) c.in_err-keep.ensures.cause)
 
 pub returns-clause-kept : goal.returns-clause-kept
 returns-clause-kept g c =
-    let old = moment (g.S.SourceTiles.facts c.args.sources.now) (g.S.SourceTiles.images c.args.sources.now (g.H.ChainMeaning.held c.args.chain.now)) (g.S.SourceTiles.names c.args.sources.now) (g.C.PairStore.pairs c.args.cache.now) (g.C.PairStore.sizes c.args.cache.now (g.H.ChainMeaning.held c.args.chain.now)) (g.C.PairStore.cached c.args.cache.now (g.H.ChainMeaning.held c.args.chain.now)) (g.C.PairStore.capacity c.args.cache.now) (g.C.PairStore.names c.args.cache.now) (g.H.ChainMeaning.held c.args.chain.now) (g.H.ChainMeaning.counts c.args.chain.now) (g.H.ChainMeaning.loans c.args.chain.now) in
-    let mid = moment (g.S.SourceTiles.facts c.made_or_evaluated.new.sources) (g.S.SourceTiles.images c.made_or_evaluated.new.sources (g.H.ChainMeaning.held c.made_or_evaluated.new.chain)) (g.S.SourceTiles.names c.made_or_evaluated.new.sources) (g.C.PairStore.pairs c.args.cache.now) (g.C.PairStore.sizes c.args.cache.now (g.H.ChainMeaning.held c.made_or_evaluated.new.chain)) (g.C.PairStore.cached c.args.cache.now (g.H.ChainMeaning.held c.made_or_evaluated.new.chain)) (g.C.PairStore.capacity c.args.cache.now) (g.C.PairStore.names c.args.cache.now) (g.H.ChainMeaning.held c.made_or_evaluated.new.chain) (g.H.ChainMeaning.counts c.made_or_evaluated.new.chain) (g.H.ChainMeaning.loans c.made_or_evaluated.new.chain) in
-    let new = moment (g.S.SourceTiles.facts c.made_or_evaluated.new.sources) (g.S.SourceTiles.images c.made_or_evaluated.new.sources (g.H.ChainMeaning.held c.keep.new.chain)) (g.S.SourceTiles.names c.made_or_evaluated.new.sources) (g.C.PairStore.pairs c.keep.new.self) (g.C.PairStore.sizes c.keep.new.self (g.H.ChainMeaning.held c.keep.new.chain)) (g.C.PairStore.cached c.keep.new.self (g.H.ChainMeaning.held c.keep.new.chain)) (g.C.PairStore.capacity c.keep.new.self) (g.C.PairStore.names c.keep.new.self) (g.H.ChainMeaning.held c.keep.new.chain) (g.H.ChainMeaning.counts c.keep.new.chain) (g.H.ChainMeaning.loans c.keep.new.chain) in
-    let h0 = g.H.ChainMeaning.held c.args.chain.now in
-    let h1 = g.H.ChainMeaning.held c.made_or_evaluated.new.chain in
-    let source = g.S.SourceTiles.names c.args.sources.now in
-    let source1 = g.S.SourceTiles.names c.made_or_evaluated.new.sources in
-    let cached = g.C.PairStore.names c.args.cache.now in
-    let reads : Reads (source_of old) (source_of mid) = c.in_ok-tile.ensures.reads in
-    let sizes : mid.sizes ≡ old.sizes = seen-unchanged h0 h1 source source1 (reads-others _ _ reads) cached (g.C.PairStore.sizes c.args.cache.now) (g.met.C.PairStore.framed_sizes c.args.cache.now) c.requires.owned in
-    let bytes : mid.cached ≡ old.cached = seen-unchanged h0 h1 source source1 (reads-others _ _ reads) cached (g.C.PairStore.cached c.args.cache.now) (g.met.C.PairStore.framed c.args.cache.now) c.requires.owned in
-    let nodes = c.args.nodes.now in
-    let fact = c.index-nodes-node.result in
-    let inside = ready-inside nodes g.K.Op.OpMeaning.meanings c.args.held.now c.args.node c.args.at c.requires.ready in
-    let pair = named nodes c.args.node fact c.args.at inside c.index-nodes-node.is ∙ ap (λ (f : NodeFact g.row.K-Op.Denot). pair_at f.spec.name c.args.at) c.index-nodes-node.is in
-    kept-after old mid new (pair_of (specs_of nodes) (c.args.node, c.args.at)) (pair_at (get_or nodes c.args.node fact).spec.name c.args.at) c.in_ok-tile.tile c.in_ok-share.share pair (sym c.in_ok-share.ensures)
-    c.requires.absent refl refl sizes bytes c.in_ok-keep.ensures.pairs c.in_ok-keep.ensures.sizes c.in_ok-keep.ensures.cached
+    let at = (goal.at.returns-clause-kept g c).After-made_or_evaluated in
+    let before = same g at in
+    let last = seen g c.made_or_evaluated.new.sources c.keep.new.self c.keep.new.chain in
+    kept-after (old g at) (mid g at) last (pair_of (specs_of c.args.nodes.now) (c.args.node, c.args.at))
+    (pair_at (get_or c.args.nodes.now c.args.node c.index-nodes-node.result).spec.name c.args.at) c.in_ok-tile.tile c.in_ok-share.share (pair g at) (sym c.in_ok-share.ensures)
+    c.requires.absent refl refl before.sizes before.cached c.in_ok-keep.ensures.pairs c.in_ok-keep.ensures.sizes c.in_ok-keep.ensures.cached
+
+-- ---- permits
 
 pub returns-in_err-keep-clause-permits : goal.returns-in_err-keep-clause-permits
 returns-in_err-keep-clause-permits g c =

@@ -23,172 +23,101 @@ use Rattle.buffer_view.specs.BufferTables.{AreBuffersOver, BufferTable, buffers_
 use Rattle.buffer_view.proofs.Copies.{copy-shown, source-can, target-can}
 use Rattle.buffer_view.proofs.Refusals.{exact-none, grows-after, swap-cause}
 use Rattle.buffer_view.proofs.Tables.{is-table}
+use Rattle.buffer_view.proofs.buffers.Buffers.copy.Given
+use Rattle.buffer_view.proofs.buffers.Buffers.copy.Goals.{After-deref, In-Ok}
 use Rattle.buffer_view.proofs.buffers.Buffers.copy.Goals as goal
+
+-- ---- the edit can be carried out, on these parts
+
+module _ (g : Given.Over) (c : In-Ok g) where
+  x : to_z w64 (of_z w64 c.args.dx) ≡ c.args.dx
+  x = to_z-of_z w64 c.args.dx c.ranges.dx
+
+  y : to_z w64 (of_z w64 c.args.dy) ≡ c.args.dy
+  y = to_z-of_z w64 c.args.dy c.ranges.dy
+
+  are : AreCopyParts c.args.self.now.layout c.args.from c.args.to c.args.rect c.args.dx c.args.dy c.in-Ok.parts
+  are =
+      subst (λ (b : BufferTable). AreCopyParts b.layout c.args.from c.args.to c.args.rect c.args.dx c.args.dy c.in-Ok.parts) c.self.view_is
+      (rw (x, y) at c.in-Ok.ensures.parts)
+
+  none : edit_refused c.args.self.now.layout (Copy c.args.from c.args.to c.args.rect c.args.dx c.args.dy) ≡ None
+  none =
+      ap (λ (b : BufferTable). edit_refused b.layout (Copy c.args.from c.args.to c.args.rect c.args.dx c.args.dy)) (sym c.self.view_is)
+      ∙ (rw (x, y) at c.in-Ok.ensures.carried_out)
 
 pub read-requires-clause-inside : goal.read-requires-clause-inside
 read-requires-clause-inside g c =
-    let now = c.args.self.now in
-    let parts = c.in-Ok.parts in
-    let e = Copy c.args.from c.args.to c.args.rect c.args.dx c.args.dy in
-    let x : to_z w64 (of_z w64 c.args.dx) ≡ c.args.dx = to_z-of_z w64 c.args.dx c.ranges.dx in
-    let y : to_z w64 (of_z w64 c.args.dy) ≡ c.args.dy = to_z-of_z w64 c.args.dy c.ranges.dy in
-    let are : AreCopyParts now.layout c.args.from c.args.to c.args.rect c.args.dx c.args.dy parts =
-    subst (λ (b : BufferTable). AreCopyParts b.layout c.args.from c.args.to c.args.rect c.args.dx c.args.dy parts) c.self.view_is (rw (x, y) at c.in-Ok.ensures.parts) in
-    let none : edit_refused now.layout e ≡ None =
-    ap (λ (b : BufferTable). edit_refused b.layout e) (sym c.self.view_is) ∙ (rw (x, y) at c.in-Ok.ensures.carried_out) in
-    source-can now.layout c.requires.table.layout c.args.from c.args.to c.args.rect c.args.dx c.args.dy parts are none c.first_column.ensures.rectangle
-
-pub returns-in_err-bytes-clause-exact : goal.returns-in_err-bytes-clause-exact
-returns-in_err-bytes-clause-exact g c =
-    let now = c.args.self.now in
-    let parts = c.in-Ok.parts in
-    let e = Copy c.args.from c.args.to c.args.rect c.args.dx c.args.dy in
-    let x : to_z w64 (of_z w64 c.args.dx) ≡ c.args.dx = to_z-of_z w64 c.args.dx c.ranges.dx in
-    let y : to_z w64 (of_z w64 c.args.dy) ≡ c.args.dy = to_z-of_z w64 c.args.dy c.ranges.dy in
-    let are : AreCopyParts now.layout c.args.from c.args.to c.args.rect c.args.dx c.args.dy parts =
-    subst (λ (b : BufferTable). AreCopyParts b.layout c.args.from c.args.to c.args.rect c.args.dx c.args.dy parts) c.self.view_is (rw (x, y) at c.in-Ok.ensures.parts) in
-    let none : edit_refused now.layout e ≡ None =
-    ap (λ (b : BufferTable). edit_refused b.layout e) (sym c.self.view_is) ∙ (rw (x, y) at c.in-Ok.ensures.carried_out) in
-    λ cause is. exact-none _ (edit_refused now.layout e) cause none is
+    let at = (goal.at.read-requires-clause-inside g c).In-Ok in
+    source-can c.args.self.now.layout c.requires.table.layout c.args.from c.args.to c.args.rect c.args.dx c.args.dy c.in-Ok.parts (are g at) (none g at) c.first_column.ensures.rectangle
 
 pub write-requires-clause-over : goal.write-requires-clause-over
 write-requires-clause-over g c = subst (AreBuffersOver c.args.self.now) (sym c.read.ensures.read.held) c.requires
 
+module _ (g : Given.Over) (c : After-deref g) where
+  -- the bytes are as many as the part has
+  count : (name : List ℕ) (shape : Shape) → slice_get c.args.self.now.layout.roots c.in-Ok.parts.source.root ≡ Some (name, shape)
+      → length c.deref.result.now ≡ byte_count c.args.rect shape.format
+  count name shape there = ap length c.deref.ensures.value ∙ c.in_ok-bytes.ensures.count name shape there
+
 pub write-requires-clause-inside : goal.write-requires-clause-inside
 write-requires-clause-inside g c =
-    let now = c.args.self.now in
-    let parts = c.in-Ok.parts in
-    let e = Copy c.args.from c.args.to c.args.rect c.args.dx c.args.dy in
-    let x : to_z w64 (of_z w64 c.args.dx) ≡ c.args.dx = to_z-of_z w64 c.args.dx c.ranges.dx in
-    let y : to_z w64 (of_z w64 c.args.dy) ≡ c.args.dy = to_z-of_z w64 c.args.dy c.ranges.dy in
-    let are : AreCopyParts now.layout c.args.from c.args.to c.args.rect c.args.dx c.args.dy parts =
-    subst (λ (b : BufferTable). AreCopyParts b.layout c.args.from c.args.to c.args.rect c.args.dx c.args.dy parts) c.self.view_is (rw (x, y) at c.in-Ok.ensures.parts) in
-    let none : edit_refused now.layout e ≡ None =
-    ap (λ (b : BufferTable). edit_refused b.layout e) (sym c.self.view_is) ∙ (rw (x, y) at c.in-Ok.ensures.carried_out) in
-    let count : (name : List ℕ) (shape : Shape) → slice_get now.layout.roots parts.source.root ≡ Some (name, shape) → length c.deref.result.now ≡ byte_count c.args.rect shape.format =
-    λ name shape there. ap length c.deref.ensures.value ∙ c.in_ok-bytes.ensures.count name shape there in
-    (target-can now.layout c.requires.table.layout c.args.from c.args.to c.args.rect c.args.dx c.args.dy parts are none c.first_column.ensures.rectangle c.deref.result.now count).0
+    let at = goal.at.write-requires-clause-inside g c in
+    (target-can c.args.self.now.layout c.requires.table.layout c.args.from c.args.to c.args.rect c.args.dx c.args.dy c.in-Ok.parts (are g at.In-Ok) (none g at.In-Ok) c.first_column.ensures.rectangle
+    c.deref.result.now (count g at.After-deref)).0
 
 pub write-requires-clause-samples : goal.write-requires-clause-samples
 write-requires-clause-samples g c =
-    let now = c.args.self.now in
-    let parts = c.in-Ok.parts in
-    let e = Copy c.args.from c.args.to c.args.rect c.args.dx c.args.dy in
-    let x : to_z w64 (of_z w64 c.args.dx) ≡ c.args.dx = to_z-of_z w64 c.args.dx c.ranges.dx in
-    let y : to_z w64 (of_z w64 c.args.dy) ≡ c.args.dy = to_z-of_z w64 c.args.dy c.ranges.dy in
-    let are : AreCopyParts now.layout c.args.from c.args.to c.args.rect c.args.dx c.args.dy parts =
-    subst (λ (b : BufferTable). AreCopyParts b.layout c.args.from c.args.to c.args.rect c.args.dx c.args.dy parts) c.self.view_is (rw (x, y) at c.in-Ok.ensures.parts) in
-    let none : edit_refused now.layout e ≡ None =
-    ap (λ (b : BufferTable). edit_refused b.layout e) (sym c.self.view_is) ∙ (rw (x, y) at c.in-Ok.ensures.carried_out) in
-    let count : (name : List ℕ) (shape : Shape) → slice_get now.layout.roots parts.source.root ≡ Some (name, shape) → length c.deref.result.now ≡ byte_count c.args.rect shape.format =
-    λ name shape there. ap length c.deref.ensures.value ∙ c.in_ok-bytes.ensures.count name shape there in
-    (target-can now.layout c.requires.table.layout c.args.from c.args.to c.args.rect c.args.dx c.args.dy parts are none c.first_column.ensures.rectangle c.deref.result.now count).1
+    let at = goal.at.write-requires-clause-samples g c in
+    (target-can c.args.self.now.layout c.requires.table.layout c.args.from c.args.to c.args.rect c.args.dx c.args.dy c.in-Ok.parts (are g at.In-Ok) (none g at.In-Ok) c.first_column.ensures.rectangle
+    c.deref.result.now (count g at.After-deref)).1
+
+-- ---- what is left
+
+pub returns-in_err-bytes-clause-exact : goal.returns-in_err-bytes-clause-exact
+returns-in_err-bytes-clause-exact g c = λ cause is. exact-none _ _ cause (none g (goal.at.returns-in_err-bytes-clause-exact g c).In-Ok) is
 
 pub returns-in_err-write-clause-exact : goal.returns-in_err-write-clause-exact
-returns-in_err-write-clause-exact g c =
-    let now = c.args.self.now in
-    let parts = c.in-Ok.parts in
-    let e = Copy c.args.from c.args.to c.args.rect c.args.dx c.args.dy in
-    let x : to_z w64 (of_z w64 c.args.dx) ≡ c.args.dx = to_z-of_z w64 c.args.dx c.ranges.dx in
-    let y : to_z w64 (of_z w64 c.args.dy) ≡ c.args.dy = to_z-of_z w64 c.args.dy c.ranges.dy in
-    let are : AreCopyParts now.layout c.args.from c.args.to c.args.rect c.args.dx c.args.dy parts =
-    subst (λ (b : BufferTable). AreCopyParts b.layout c.args.from c.args.to c.args.rect c.args.dx c.args.dy parts) c.self.view_is (rw (x, y) at c.in-Ok.ensures.parts) in
-    let none : edit_refused now.layout e ≡ None =
-    ap (λ (b : BufferTable). edit_refused b.layout e) (sym c.self.view_is) ∙ (rw (x, y) at c.in-Ok.ensures.carried_out) in
-    λ cause is. exact-none _ (edit_refused now.layout e) cause none is
+returns-in_err-write-clause-exact g c = λ cause is. exact-none _ _ cause (none g (goal.at.returns-in_err-write-clause-exact g c).In-Ok) is
+
+pub returns-clause-exact : goal.returns-clause-exact
+returns-clause-exact g c = λ cause is. exact-none _ _ cause (none g (goal.at.returns-clause-exact g c).In-Ok) is
+
+pub returns-clause-carried_out : goal.returns-clause-carried_out
+returns-clause-carried_out g c = none g (goal.at.returns-clause-carried_out g c).In-Ok
 
 pub returns-in_err-write-clause-cause : goal.returns-in_err-write-clause-cause
 returns-in_err-write-clause-cause g c =
-    let now = c.args.self.now in
-    let parts = c.in-Ok.parts in
-    let e = Copy c.args.from c.args.to c.args.rect c.args.dx c.args.dy in
-    let x : to_z w64 (of_z w64 c.args.dx) ≡ c.args.dx = to_z-of_z w64 c.args.dx c.ranges.dx in
-    let y : to_z w64 (of_z w64 c.args.dy) ≡ c.args.dy = to_z-of_z w64 c.args.dy c.ranges.dy in
-    let are : AreCopyParts now.layout c.args.from c.args.to c.args.rect c.args.dx c.args.dy parts =
-    subst (λ (b : BufferTable). AreCopyParts b.layout c.args.from c.args.to c.args.rect c.args.dx c.args.dy parts) c.self.view_is (rw (x, y) at c.in-Ok.ensures.parts) in
-    let none : edit_refused now.layout e ≡ None =
-    ap (λ (b : BufferTable). edit_refused b.layout e) (sym c.self.view_is) ∙ (rw (x, y) at c.in-Ok.ensures.carried_out) in
+    let moved = are g (goal.at.returns-in_err-write-clause-cause g c).In-Ok in
     let first = g.C.ChainMeaning.counts c.args.chain.now in
     let second = g.C.ChainMeaning.counts c.read.new.chain in
     let last = g.C.ChainMeaning.counts c.write.new.chain in
-    let n = tile_count parts.moved in
+    let n = tile_count c.in-Ok.parts.moved in
     let p = err_from_is_err_and c.from_residual-in_err-write.result c.from_residual-in_err-write.ensures.1 in
-    rw (p.1, p.2) (swap-cause now.layout e first last (first.names + n) c.in_err-write.field-0.0 (ap (λ (m : ℕ). first.names + m) (sym (ap moved_count are.moved)))
+    rw (p.1, p.2) (swap-cause c.args.self.now.layout (Copy c.args.from c.args.to c.args.rect c.args.dx c.args.dy) first last (first.names + n) c.in_err-write.field-0.0 (ap (λ (m : ℕ). first.names + m) (sym (ap moved_count moved.moved)))
     (refused-after 0 n n (second.names + n) first second last c.in_err-write.field-0.0 (omega arith) (omega arith) c.read.ensures.read.counts c.in_err-write.ensures.cause))
 
 pub returns-in_err-write-clause-counts : goal.returns-in_err-write-clause-counts
 returns-in_err-write-clause-counts g c =
-    let now = c.args.self.now in
-    let parts = c.in-Ok.parts in
-    let e = Copy c.args.from c.args.to c.args.rect c.args.dx c.args.dy in
-    let x : to_z w64 (of_z w64 c.args.dx) ≡ c.args.dx = to_z-of_z w64 c.args.dx c.ranges.dx in
-    let y : to_z w64 (of_z w64 c.args.dy) ≡ c.args.dy = to_z-of_z w64 c.args.dy c.ranges.dy in
-    let are : AreCopyParts now.layout c.args.from c.args.to c.args.rect c.args.dx c.args.dy parts =
-    subst (λ (b : BufferTable). AreCopyParts b.layout c.args.from c.args.to c.args.rect c.args.dx c.args.dy parts) c.self.view_is (rw (x, y) at c.in-Ok.ensures.parts) in
-    let none : edit_refused now.layout e ≡ None =
-    ap (λ (b : BufferTable). edit_refused b.layout e) (sym c.self.view_is) ∙ (rw (x, y) at c.in-Ok.ensures.carried_out) in
-    grows-after _ (tile_count parts.moved) _ _ _ (ap moved_count are.moved) c.read.ensures.read.counts c.write.ensures.counts
-
-pub returns-clause-table : goal.returns-clause-table
-returns-clause-table g c =
-    let now = c.args.self.now in
-    let parts = c.in-Ok.parts in
-    let e = Copy c.args.from c.args.to c.args.rect c.args.dx c.args.dy in
-    let x : to_z w64 (of_z w64 c.args.dx) ≡ c.args.dx = to_z-of_z w64 c.args.dx c.ranges.dx in
-    let y : to_z w64 (of_z w64 c.args.dy) ≡ c.args.dy = to_z-of_z w64 c.args.dy c.ranges.dy in
-    let are : AreCopyParts now.layout c.args.from c.args.to c.args.rect c.args.dx c.args.dy parts =
-    subst (λ (b : BufferTable). AreCopyParts b.layout c.args.from c.args.to c.args.rect c.args.dx c.args.dy parts) c.self.view_is (rw (x, y) at c.in-Ok.ensures.parts) in
-    let none : edit_refused now.layout e ≡ None =
-    ap (λ (b : BufferTable). edit_refused b.layout e) (sym c.self.view_is) ∙ (rw (x, y) at c.in-Ok.ensures.carried_out) in
-    let first = g.C.ChainMeaning.held c.args.chain.now in
-    let bytes = c.deref.result.now in
-    copy-shown now.layout c.requires.table.layout c.args.from c.args.to c.args.rect c.args.dx c.args.dy parts are none c.first_column.ensures.rectangle first.content (images_over first now.layout.roots now.roots) _ bytes
-    (layout-shown now first c.requires.table) (is-table now first c.requires.table)
-    (λ name shape there.
-    c.in_ok-write.ensures.table name shape there
-    ∙ ap (λ (h : Held). option_map (λ (t : Table). written t name parts.moved (pixels_from_raw parts.moved shape.format bytes)) (table_of now h)) c.read.ensures.read.held)
-    (λ name shape there.
-    subst (λ (bs : List ℕ). IfSome (table_of now first) (λ (t : Table). bs ≡ raw (cut (root_image t name) c.args.rect) c.args.rect)) (sym c.deref.ensures.value)
-    (c.in_ok-bytes.ensures.bytes name shape there))
-
-pub returns-clause-exact : goal.returns-clause-exact
-returns-clause-exact g c =
-    let now = c.args.self.now in
-    let parts = c.in-Ok.parts in
-    let e = Copy c.args.from c.args.to c.args.rect c.args.dx c.args.dy in
-    let x : to_z w64 (of_z w64 c.args.dx) ≡ c.args.dx = to_z-of_z w64 c.args.dx c.ranges.dx in
-    let y : to_z w64 (of_z w64 c.args.dy) ≡ c.args.dy = to_z-of_z w64 c.args.dy c.ranges.dy in
-    let are : AreCopyParts now.layout c.args.from c.args.to c.args.rect c.args.dx c.args.dy parts =
-    subst (λ (b : BufferTable). AreCopyParts b.layout c.args.from c.args.to c.args.rect c.args.dx c.args.dy parts) c.self.view_is (rw (x, y) at c.in-Ok.ensures.parts) in
-    let none : edit_refused now.layout e ≡ None =
-    ap (λ (b : BufferTable). edit_refused b.layout e) (sym c.self.view_is) ∙ (rw (x, y) at c.in-Ok.ensures.carried_out) in
-    λ cause is. exact-none _ (edit_refused now.layout e) cause none is
-
-pub returns-clause-carried_out : goal.returns-clause-carried_out
-returns-clause-carried_out g c =
-    let now = c.args.self.now in
-    let parts = c.in-Ok.parts in
-    let e = Copy c.args.from c.args.to c.args.rect c.args.dx c.args.dy in
-    let x : to_z w64 (of_z w64 c.args.dx) ≡ c.args.dx = to_z-of_z w64 c.args.dx c.ranges.dx in
-    let y : to_z w64 (of_z w64 c.args.dy) ≡ c.args.dy = to_z-of_z w64 c.args.dy c.ranges.dy in
-    let are : AreCopyParts now.layout c.args.from c.args.to c.args.rect c.args.dx c.args.dy parts =
-    subst (λ (b : BufferTable). AreCopyParts b.layout c.args.from c.args.to c.args.rect c.args.dx c.args.dy parts) c.self.view_is (rw (x, y) at c.in-Ok.ensures.parts) in
-    let none : edit_refused now.layout e ≡ None =
-    ap (λ (b : BufferTable). edit_refused b.layout e) (sym c.self.view_is) ∙ (rw (x, y) at c.in-Ok.ensures.carried_out) in
-    none
+    grows-after _ (tile_count c.in-Ok.parts.moved) _ _ _ (ap moved_count (are g (goal.at.returns-in_err-write-clause-counts g c).In-Ok).moved) c.read.ensures.read.counts c.write.ensures.counts
 
 pub returns-clause-counts : goal.returns-clause-counts
 returns-clause-counts g c =
-    let now = c.args.self.now in
-    let parts = c.in-Ok.parts in
-    let e = Copy c.args.from c.args.to c.args.rect c.args.dx c.args.dy in
-    let x : to_z w64 (of_z w64 c.args.dx) ≡ c.args.dx = to_z-of_z w64 c.args.dx c.ranges.dx in
-    let y : to_z w64 (of_z w64 c.args.dy) ≡ c.args.dy = to_z-of_z w64 c.args.dy c.ranges.dy in
-    let are : AreCopyParts now.layout c.args.from c.args.to c.args.rect c.args.dx c.args.dy parts =
-    subst (λ (b : BufferTable). AreCopyParts b.layout c.args.from c.args.to c.args.rect c.args.dx c.args.dy parts) c.self.view_is (rw (x, y) at c.in-Ok.ensures.parts) in
-    let none : edit_refused now.layout e ≡ None =
-    ap (λ (b : BufferTable). edit_refused b.layout e) (sym c.self.view_is) ∙ (rw (x, y) at c.in-Ok.ensures.carried_out) in
-    grows-after _ (tile_count parts.moved) _ _ _ (ap moved_count are.moved) c.read.ensures.read.counts c.write.ensures.counts
+    grows-after _ (tile_count c.in-Ok.parts.moved) _ _ _ (ap moved_count (are g (goal.at.returns-clause-counts g c).In-Ok).moved) c.read.ensures.read.counts c.write.ensures.counts
+
+pub returns-clause-table : goal.returns-clause-table
+returns-clause-table g c =
+    let at = (goal.at.returns-clause-table g c).In-Ok in
+    let first = g.C.ChainMeaning.held c.args.chain.now in
+    let bytes = c.deref.result.now in
+    copy-shown c.args.self.now.layout c.requires.table.layout c.args.from c.args.to c.args.rect c.args.dx c.args.dy c.in-Ok.parts (are g at) (none g at) c.first_column.ensures.rectangle first.content (images_over first c.args.self.now.layout.roots c.args.self.now.roots) _ bytes
+    (layout-shown c.args.self.now first c.requires.table) (is-table c.args.self.now first c.requires.table)
+    (λ name shape there.
+    c.in_ok-write.ensures.table name shape there
+    ∙ ap (λ (h : Held). option_map (λ (t : Table). written t name c.in-Ok.parts.moved (pixels_from_raw c.in-Ok.parts.moved shape.format bytes)) (table_of c.args.self.now h)) c.read.ensures.read.held)
+    (λ name shape there.
+    subst (λ (bs : List ℕ). IfSome (table_of c.args.self.now first) (λ (t : Table). bs ≡ raw (cut (root_image t name) c.args.rect) c.args.rect)) (sym c.deref.ensures.value)
+    (c.in_ok-bytes.ensures.bytes name shape there))
 
 pub returns-clause-valid : goal.returns-clause-valid
 returns-clause-valid g c = λ is. c.write.ensures.valid (c.read.ensures.read.valid is)

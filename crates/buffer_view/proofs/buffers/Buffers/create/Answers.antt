@@ -4,7 +4,8 @@ use Rattle.model_buffers.specs.declared.edit.BufferEdit.TheVariants.{Create}
 use Rattle.model_buffers.specs.Layout.{TableLayout}
 use Rattle.root_tiles.specs.Roots.{RootTiles, empty_root}
 use Rattle.buffer_view.specs.BufferTables.{AreBuffersOver, BufferTable, IsBufferTable, buffers_names, table_of}
-use Rattle.buffer_view.proofs.Added.{created-new, held_as, names-created, over-created, shown-created, table-created, with_new}
+use Rattle.buffer_view.proofs.Changed.{held_as}
+use Rattle.buffer_view.proofs.Added.{created-new, names-created, over-created, shown-created, table-created, with_new}
 use Rattle.buffer_view.proofs.Refusals.{exact-none, exact-some}
 use Rattle.buffer_view.proofs.buffers.Buffers.create.Goals as goal
 

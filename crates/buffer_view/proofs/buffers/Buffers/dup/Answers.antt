@@ -6,7 +6,8 @@ use Rattle.model_buffers.specs.BufferEdit.{edit_refused, layout_with}
 use Rattle.model_buffers.specs.declared.edit.BufferEdit.TheVariants.{Duplicate}
 use Rattle.root_tiles.specs.Roots.{IsRootOver, RootTiles}
 use Rattle.buffer_view.specs.BufferTables.{AreBuffersOver, BufferTable, IsBufferTable, buffers_names, table_of}
-use Rattle.buffer_view.proofs.Added.{duplicated-new, held_as, others-duplicated, over-duplicated, shown-duplicated, table-duplicated, target-below}
+use Rattle.buffer_view.proofs.Changed.{held_as}
+use Rattle.buffer_view.proofs.Added.{duplicated-new, others-duplicated, over-duplicated, shown-duplicated, table-duplicated, target-below}
 use Rattle.buffer_view.proofs.RootLists.{All-at}
 use Rattle.buffer_view.proofs.buffers.Buffers.dup.Given
 use Rattle.buffer_view.proofs.buffers.Buffers.dup.Goals as goal

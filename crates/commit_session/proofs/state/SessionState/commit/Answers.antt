@@ -1,289 +1,140 @@
-use Rattle.std.proofs.Common.{◌≡◌, List, [], ◌++◌, sym, ap, subst, ◌∙◌, Ok}
+use Rattle.std.proofs.Common.{◌≡◌, ◌++◌, sym, ap, subst, ◌∙◌}
 use Rattle.root_tiles.specs.Chains.{ChainState}
 use Rattle.model_graphs.specs.Facts.{rectangles_of}
 use Rattle.model_graphs.specs.Laws.{KeepsLaws}
-use Rattle.model_states.specs.Commits.{Graph, committed}
-use Rattle.model_states.specs.Rectangles.{Rectangles}
-use Rattle.session_states.specs.OverChains.{AreVersionsOver, Leaves, tables_of, versions_names}
+use Rattle.model_states.specs.Commits.{committed}
+use Rattle.model_states.specs.History as history
+use Rattle.model_sessions.specs.Tables.{table_shapes}
+use Rattle.session_states.specs.OverChains.{AreVersionsOver, versions_names}
 use Rattle.buffer_view.specs.BufferTables.{BufferTable, buffers_names}
-use Rattle.std.proofs.Common.{ℕ}
 use Rattle.chain_owners.specs.Owners.{Owns}
-use Rattle.graph_commits.specs.Graphs.{AreDamagesOf}
 use Rattle.graph_edits.specs.Refusals.{IsRefusalOf}
-use Rattle.commit_session.specs.Parts.{Parts, session_names, working_facts}
+use Rattle.commit_session.specs.Parts.{Parts, working_facts}
 use Rattle.commit_session.specs.Refusals.{IsRefusedAs, by_graph}
-use Rattle.commit_session.specs.Seen.{IsOver, IsSessionOf}
 use Rattle.commit_session.specs.Steps.{IsCommitted}
 use Rattle.commit_session.proofs.CommitStep.{commit-refused-too}
-use Rattle.commit_session.proofs.Still.{commit-same, working-facts, working-still}
-use Rattle.commit_session.proofs.Stepped.{change_from}
+use Rattle.commit_session.proofs.Still.{commit-here, working-still}
 use Rattle.commit_session.proofs.Changed.{on-err, versions-over}
-use Rattle.commit_session.proofs.Done.{IsThrough, done-left, commit-done, commit-over, commit-session}
-use Rattle.commit_session.proofs.Kept.{kept-left, kept-over, kept-session, refused-too, unshared-left, unshared-over, unshared-tables}
-use Rattle.commit_session.proofs.Through.{alone-ready, cache-ready}
+use Rattle.commit_session.proofs.Done.{IsStepped, commit-both-made, ready}
+use Rattle.commit_session.proofs.Kept.{IsKept, kept, over-here, refused-too, regraphed, unshared}
 use Rattle.commit_session.proofs.state.SessionState.commit.Given
+use Rattle.commit_session.proofs.state.SessionState.commit.Goals.{After-deref-2}
 use Rattle.commit_session.proofs.state.SessionState.commit.Goals as goal
 
-laws : (g : Given.Over) → KeepsLaws g.Op.OpMeaning.meanings
-laws g = record { local = g.Op.OpMeaning.local; dual = g.Op.OpMeaning.dual }
+module _ (g : Given.Over) where
+  abbrev state : g.row.C.Denot → ChainState
+  state chain = record { held = g.C.ChainMeaning.held chain; counts = g.C.ChainMeaning.counts chain; loans = g.C.ChainMeaning.loans chain; valid = g.C.ChainMeaning.is_valid chain }
 
-module _ (g : Given.Over) (c : goal.After-from_residual g) where
-  abbrev shared_s0 : ChainState
-  shared_s0 = record { held = g.C.ChainMeaning.held c.args.chain.now; counts = g.C.ChainMeaning.counts c.args.chain.now; loans = g.C.ChainMeaning.loans c.args.chain.now; valid = g.C.ChainMeaning.is_valid c.args.chain.now }
+  laws : KeepsLaws g.Op.OpMeaning.meanings
+  laws = record { local = g.Op.OpMeaning.local; dual = g.Op.OpMeaning.dual }
 
-  abbrev shared_s1 : ChainState
-  shared_s1 = record { held = g.C.ChainMeaning.held c.share_working.new.chain; counts = g.C.ChainMeaning.counts c.share_working.new.chain; loans = g.C.ChainMeaning.loans c.share_working.new.chain; valid = g.C.ChainMeaning.is_valid c.share_working.new.chain }
+  -- ---- the buffers couldn't be shared
 
-  abbrev shared_v : Parts g.row.Op.Denot
-  shared_v = record {
-    versions = c.self.inside.versions;
-    pending = c.self.inside.pending.items;
-    written = rectangles_of c.self.inside.written.items;
-    graph = c.self.inside.graph;
-    entries = c.self.inside.cache.names.entries;
-    most = c.self.inside.cache.names.cap;
-    capacity = c.self.inside.cache.capacity;
-    applied = c.self.inside.counts.applied;
-    reused = c.self.inside.counts.reused;
-  }
+  unshared_still : (c : goal.After-from_residual g) → IsKept g.Op.OpMeaning.same g.Op.OpMeaning.meanings 0 c.args.self.now c.args.self.now (state c.args.chain.now) (state c.share_working.new.chain)
+  unshared_still c =
+      kept g.Op.OpMeaning.same g.Op.OpMeaning.meanings _ c.args.self.now c.self.view_is (state c.args.chain.now) (state c.share_working.new.chain) c.requires
+      c.in_err-shared.ensures.left c.share_working.ensures.tables c.share_working.ensures.over
 
-  shared_over : IsOver g.Op.OpMeaning.same g.Op.OpMeaning.meanings shared_v shared_s0.held
-  shared_over = subst (λ (p : Parts g.row.Op.Denot). IsOver g.Op.OpMeaning.same g.Op.OpMeaning.meanings p shared_s0.held) (sym c.self.view_is) c.requires
+  -- ---- the graph refused
 
-module _ (g : Given.Over) (c : goal.After-damage-in-Ok-1 g) where
-  abbrev settle_s0 : ChainState
-  settle_s0 = record { held = g.C.ChainMeaning.held c.args.chain.now; counts = g.C.ChainMeaning.counts c.args.chain.now; loans = g.C.ChainMeaning.loans c.args.chain.now; valid = g.C.ChainMeaning.is_valid c.args.chain.now }
+  refused_still : (c : goal.After-from g) → IsKept g.Op.OpMeaning.same g.Op.OpMeaning.meanings 0 c.args.self.now (record c.args.self.now { graph = c.commit.new.self }) (state c.args.chain.now) (state c.release.new.chain)
+  refused_still c =
+      unshared g.Op.OpMeaning.same g.Op.OpMeaning.meanings _ c.args.self.now c.self.view_is (state c.args.chain.now) (state c.release.new.chain) c.requires c.in_ok-shared.shared (state c.share_working.new.chain)
+      c.in_ok-shared.ensures.left c.share_working.ensures.tables c.share_working.ensures.over
+      (subst (λ (b : BufferTable). Owns (g.C.ChainMeaning.held c.share_working.new.chain) (buffers_names b ++ versions_names c.self.inside.versions)) (sym c.in_ok-shared.ensures.shared) c.in_ok-shared.ensures.owned)
+      (record { others = c.release.ensures.others; counts = c.release.ensures.counts; loans = c.release.ensures.loans; valid = c.release.ensures.valid })
+      c.commit.new.self c.in-Err.ensures.unchanged
 
-  abbrev settle_s1 : ChainState
-  settle_s1 = record { held = g.C.ChainMeaning.held c.share_working.new.chain; counts = g.C.ChainMeaning.counts c.share_working.new.chain; loans = g.C.ChainMeaning.loans c.share_working.new.chain; valid = g.C.ChainMeaning.is_valid c.share_working.new.chain }
+  -- ---- what is committed
 
-  abbrev settle_s2 : ChainState
-  settle_s2 = record { held = g.C.ChainMeaning.held c.commit-in-Ok.new.chain; counts = g.C.ChainMeaning.counts c.commit-in-Ok.new.chain; loans = g.C.ChainMeaning.loans c.commit-in-Ok.new.chain; valid = g.C.ChainMeaning.is_valid c.commit-in-Ok.new.chain }
+  commit_is : (c : goal.After-deref-2 g) → committed g.Op.OpMeaning.same g.Op.OpMeaning.meanings c.self.inside.graph c.deref.result.now c.facts-facts.result.now (rectangles_of c.deref-2.result.now)
+      ≡ committed g.Op.OpMeaning.same g.Op.OpMeaning.meanings c.args.self.now.graph c.args.self.now.pending (working_facts c.args.self.now) c.args.self.now.written
+  commit_is c =
+      commit-here g.Op.OpMeaning.same g.Op.OpMeaning.meanings _ c.args.self.now c.self.view_is c.working.result.now c.facts-facts.result.now c.deref.result.now (rectangles_of c.deref-2.result.now)
+      c.working.ensures c.facts-facts.ensures.facts c.deref.ensures.value (ap rectangles_of c.deref-2.ensures.value)
 
-  abbrev settle_v : Parts g.row.Op.Denot
-  settle_v = record {
-    versions = c.self.inside.versions;
-    pending = c.self.inside.pending.items;
-    written = rectangles_of c.self.inside.written.items;
-    graph = c.self.inside.graph;
-    entries = c.self.inside.cache.names.entries;
-    most = c.self.inside.cache.names.cap;
-    capacity = c.self.inside.cache.capacity;
-    applied = c.self.inside.counts.applied;
-    reused = c.self.inside.counts.reused;
-  }
+  refusal : (c : goal.After-from g)
+      → committed g.Op.OpMeaning.same g.Op.OpMeaning.meanings c.self.inside.graph c.deref.result.now c.facts-facts.result.now (rectangles_of c.deref-2.result.now)
+      ≡ committed g.Op.OpMeaning.same g.Op.OpMeaning.meanings c.args.self.now.graph c.args.self.now.pending (working_facts c.args.self.now) c.args.self.now.written
+      → IsRefusedAs by_graph (IsRefusalOf (committed g.Op.OpMeaning.same g.Op.OpMeaning.meanings c.args.self.now.graph c.args.self.now.pending (working_facts c.args.self.now) c.args.self.now.written)) c.from.result
+  refusal c is = record { lower = c.in-Err.refused; is = c.from.ensures; by_cause = subst (λ s. IsRefusalOf s c.in-Err.refused) is c.in-Err.ensures.refused }
 
-  settle_over : IsOver g.Op.OpMeaning.same g.Op.OpMeaning.meanings settle_v settle_s0.held
-  settle_over = subst (λ (p : Parts g.row.Op.Denot). IsOver g.Op.OpMeaning.same g.Op.OpMeaning.meanings p settle_s0.held) (sym c.self.view_is) c.requires
+  -- ---- the step was made
 
-  abbrev settle_shared : BufferTable
-  settle_shared = c.in_ok-shared.shared
-
-  abbrev settle_between : List ℕ
-  settle_between = buffers_names settle_shared ++ versions_names settle_v.versions
-
-module _ (g : Given.Over) (c : goal.After-drop-damage g) where
-  abbrev ok_s0 : ChainState
-  ok_s0 = record { held = g.C.ChainMeaning.held c.args.chain.now; counts = g.C.ChainMeaning.counts c.args.chain.now; loans = g.C.ChainMeaning.loans c.args.chain.now; valid = g.C.ChainMeaning.is_valid c.args.chain.now }
-
-  abbrev ok_s1 : ChainState
-  ok_s1 = record { held = g.C.ChainMeaning.held c.share_working.new.chain; counts = g.C.ChainMeaning.counts c.share_working.new.chain; loans = g.C.ChainMeaning.loans c.share_working.new.chain; valid = g.C.ChainMeaning.is_valid c.share_working.new.chain }
-
-  abbrev ok_s2 : ChainState
-  ok_s2 = record { held = g.C.ChainMeaning.held c.commit-in-Ok.new.chain; counts = g.C.ChainMeaning.counts c.commit-in-Ok.new.chain; loans = g.C.ChainMeaning.loans c.commit-in-Ok.new.chain; valid = g.C.ChainMeaning.is_valid c.commit-in-Ok.new.chain }
-
-  abbrev ok_s3 : ChainState
-  ok_s3 = record { held = g.C.ChainMeaning.held c.settle.new.chain; counts = g.C.ChainMeaning.counts c.settle.new.chain; loans = g.C.ChainMeaning.loans c.settle.new.chain; valid = g.C.ChainMeaning.is_valid c.settle.new.chain }
-
-  abbrev ok_v : Parts g.row.Op.Denot
-  ok_v = record {
-    versions = c.self.inside.versions;
-    pending = c.self.inside.pending.items;
-    written = rectangles_of c.self.inside.written.items;
-    graph = c.self.inside.graph;
-    entries = c.self.inside.cache.names.entries;
-    most = c.self.inside.cache.names.cap;
-    capacity = c.self.inside.cache.capacity;
-    applied = c.self.inside.counts.applied;
-    reused = c.self.inside.counts.reused;
-  }
-
-  ok_over : IsOver g.Op.OpMeaning.same g.Op.OpMeaning.meanings ok_v ok_s0.held
-  ok_over = subst (λ (p : Parts g.row.Op.Denot). IsOver g.Op.OpMeaning.same g.Op.OpMeaning.meanings p ok_s0.held) (sym c.self.view_is) c.requires
-
-  abbrev ok_shared : BufferTable
-  ok_shared = c.in_ok-shared.shared
-
-  abbrev ok_between : List ℕ
-  ok_between = buffers_names ok_shared ++ versions_names ok_v.versions
-
-  abbrev ok_next : Graph g.row.Op.Denot
-  ok_next = c.commit.new.self
-
-  ok_through : IsThrough g.Op.OpMeaning.same g.Op.OpMeaning.meanings ok_v c.settle.new.self ok_next c.commit-in-Ok.new.self c.in-Ok.damage.rects ok_between ok_s0 ok_s1 ok_s2 ok_s3
-  ok_through = record {
-    shared = c.in_ok-shared.ensures.left;
-    shared_tables = c.share_working.ensures.tables;
-    put = c.commit-in-Ok.ensures.left;
-    put_tables = c.commit-in-Ok.ensures.tables;
-    put_over = c.commit-in-Ok.ensures.over;
-    settled = c.settle.ensures.settled;
-    versions_are = c.settle.ensures.versions;
-    graph_is = c.settle.ensures.graph;
-    sizes = c.settle.ensures.sizes;
-    cached = c.settle.ensures.cached;
-    cache = c.settle.ensures.cache;
-    alone = c.settle.ensures.alone;
-    others = c.settle.ensures.other_names;
-    left = c.settle.ensures.left;
-  }
-
-  ok_is : committed g.Op.OpMeaning.same g.Op.OpMeaning.meanings ok_v.graph ok_v.pending (working_facts ok_v) ok_v.written ≡ Ok (record { next = ok_next; delta = c.in-Ok.damage.rects })
-  ok_is =
-      sym (commit-same g.Op.OpMeaning.same g.Op.OpMeaning.meanings ok_v.graph c.deref.result.now ok_v.pending c.facts-facts.result.now (working_facts ok_v) (rectangles_of c.deref-2.result.now) ok_v.written
-      c.deref.ensures.value (working-facts g.Op.OpMeaning.same g.Op.OpMeaning.meanings ok_v ok_s0.held ok_over c.working.result.now c.facts-facts.result.now c.working.ensures c.facts-facts.ensures.facts) (ap rectangles_of c.deref-2.ensures.value)) ∙ c.in-Ok.ensures.committed
-
-  ok_promise : AreDamagesOf g.Op.OpMeaning.same g.Op.OpMeaning.meanings (change_from g.Op.OpMeaning.same g.Op.OpMeaning.meanings ok_v ok_s1.held ok_next ok_v.written) c.in-Ok.damage.rects
-  ok_promise = subst (λ (w : Rectangles). AreDamagesOf g.Op.OpMeaning.same g.Op.OpMeaning.meanings (change_from g.Op.OpMeaning.same g.Op.OpMeaning.meanings ok_v ok_s1.held ok_next w) c.in-Ok.damage.rects) (ap rectangles_of c.deref-2.ensures.value) c.in-Ok.ensures.damages
-
-module _ (g : Given.Over) (c : goal.After-from g) where
-  abbrev err_s0 : ChainState
-  err_s0 = record { held = g.C.ChainMeaning.held c.args.chain.now; counts = g.C.ChainMeaning.counts c.args.chain.now; loans = g.C.ChainMeaning.loans c.args.chain.now; valid = g.C.ChainMeaning.is_valid c.args.chain.now }
-
-  abbrev err_s1 : ChainState
-  err_s1 = record { held = g.C.ChainMeaning.held c.share_working.new.chain; counts = g.C.ChainMeaning.counts c.share_working.new.chain; loans = g.C.ChainMeaning.loans c.share_working.new.chain; valid = g.C.ChainMeaning.is_valid c.share_working.new.chain }
-
-  abbrev err_r : ChainState
-  err_r = record { held = g.C.ChainMeaning.held c.release.new.chain; counts = g.C.ChainMeaning.counts c.release.new.chain; loans = g.C.ChainMeaning.loans c.release.new.chain; valid = g.C.ChainMeaning.is_valid c.release.new.chain }
-
-  abbrev err_v : Parts g.row.Op.Denot
-  err_v = record {
-    versions = c.self.inside.versions;
-    pending = c.self.inside.pending.items;
-    written = rectangles_of c.self.inside.written.items;
-    graph = c.self.inside.graph;
-    entries = c.self.inside.cache.names.entries;
-    most = c.self.inside.cache.names.cap;
-    capacity = c.self.inside.cache.capacity;
-    applied = c.self.inside.counts.applied;
-    reused = c.self.inside.counts.reused;
-  }
-
-  err_over : IsOver g.Op.OpMeaning.same g.Op.OpMeaning.meanings err_v err_s0.held
-  err_over = subst (λ (p : Parts g.row.Op.Denot). IsOver g.Op.OpMeaning.same g.Op.OpMeaning.meanings p err_s0.held) (sym c.self.view_is) c.requires
-
-  abbrev err_shared : BufferTable
-  err_shared = c.in_ok-shared.shared
-
-  abbrev err_between : List ℕ
-  err_between = buffers_names err_shared ++ versions_names err_v.versions
-
-  err_owned : Owns err_s1.held err_between
-  err_owned = subst (λ (b : BufferTable). Owns err_s1.held (buffers_names b ++ versions_names err_v.versions)) (sym c.in_ok-shared.ensures.shared) c.in_ok-shared.ensures.owned
-
-  err_release : Leaves 0 (buffers_names err_shared) [] err_s1 err_r
-  err_release = record { others = c.release.ensures.others; counts = c.release.ensures.counts; loans = c.release.ensures.loans; valid = c.release.ensures.valid }
-
-  err_leaves : Leaves 0 (versions_names err_v.versions) (versions_names err_v.versions) err_s0 err_r
-  err_leaves = unshared-left err_v.versions err_shared err_s0 err_s1 err_r c.in_ok-shared.ensures.left c.share_working.ensures.tables c.share_working.ensures.over err_owned err_release
-
-  err_tables : tables_of err_v.versions err_r.held ≡ tables_of err_v.versions err_s0.held
-  err_tables = unshared-tables err_v.versions err_shared err_s0 err_s1 err_r c.in_ok-shared.ensures.left c.share_working.ensures.tables c.share_working.ensures.over err_owned err_release
-
-  err_versions : AreVersionsOver err_v.versions err_r.held
-  err_versions = unshared-over err_v.versions err_shared err_s0 err_s1 err_r c.in_ok-shared.ensures.left c.share_working.ensures.tables c.share_working.ensures.over err_owned err_release
-
-  abbrev err_p : Parts g.row.Op.Denot
-  err_p = record err_v { graph = c.commit.new.self }
-
-  err_p_is : err_p ≡ err_v
-  err_p_is = ap (λ (graph : Graph g.row.Op.Denot). let q : Parts g.row.Op.Denot = record err_v { graph = graph } in q) c.in-Err.ensures.unchanged
-
-refused : (g : Given.Over) (c : goal.After-from g)
-    → IsRefusedAs by_graph (IsRefusalOf (committed g.Op.OpMeaning.same g.Op.OpMeaning.meanings c.args.self.now.graph c.args.self.now.pending (working_facts c.args.self.now) c.args.self.now.written)) c.from.result
-refused g c =
-    let s0 : ChainState = record { held = g.C.ChainMeaning.held c.args.chain.now; counts = g.C.ChainMeaning.counts c.args.chain.now; loans = g.C.ChainMeaning.loans c.args.chain.now; valid = g.C.ChainMeaning.is_valid c.args.chain.now } in
-    let v : Parts g.row.Op.Denot = record {
-      versions = c.self.inside.versions;
-      pending = c.self.inside.pending.items;
-      written = rectangles_of c.self.inside.written.items;
-      graph = c.self.inside.graph;
-      entries = c.self.inside.cache.names.entries;
-      most = c.self.inside.cache.names.cap;
-      capacity = c.self.inside.cache.capacity;
-      applied = c.self.inside.counts.applied;
-      reused = c.self.inside.counts.reused;
-    } in
-    let over : IsOver g.Op.OpMeaning.same g.Op.OpMeaning.meanings v s0.held =
-    subst (λ (p : Parts g.row.Op.Denot). IsOver g.Op.OpMeaning.same g.Op.OpMeaning.meanings p s0.held) (sym c.self.view_is) c.requires in
-    let facts_are = working-facts g.Op.OpMeaning.same g.Op.OpMeaning.meanings v s0.held over c.working.result.now c.facts-facts.result.now c.working.ensures c.facts-facts.ensures.facts in
-    subst (λ (q : Parts g.row.Op.Denot). IsRefusedAs by_graph (IsRefusalOf (committed g.Op.OpMeaning.same g.Op.OpMeaning.meanings q.graph q.pending (working_facts q) q.written)) c.from.result) c.self.view_is
-    (record {
-      lower = c.in-Err.refused;
-      is = c.from.ensures;
-      by_cause = subst (λ s. IsRefusalOf s c.in-Err.refused)
-          (commit-same g.Op.OpMeaning.same g.Op.OpMeaning.meanings v.graph c.deref.result.now v.pending c.facts-facts.result.now (working_facts v) (rectangles_of c.deref-2.result.now) v.written
-          c.deref.ensures.value facts_are (ap rectangles_of c.deref-2.ensures.value)) c.in-Err.ensures.refused;
-    })
+  module _ (c : goal.After-drop-damage g)
+      (is : committed g.Op.OpMeaning.same g.Op.OpMeaning.meanings c.self.inside.graph c.deref.result.now c.facts-facts.result.now (rectangles_of c.deref-2.result.now)
+      ≡ committed g.Op.OpMeaning.same g.Op.OpMeaning.meanings c.args.self.now.graph c.args.self.now.pending (working_facts c.args.self.now) c.args.self.now.written) where
+    step : IsStepped g.Op.OpMeaning.same g.Op.OpMeaning.meanings c.args.self.now c.settle.new.self (history.committed g.Op.OpMeaning.meanings table_shapes) (state c.args.chain.now) (state c.settle.new.chain)
+        × IsCommitted g.Op.OpMeaning.same g.Op.OpMeaning.meanings c.args.self.now c.settle.new.self
+    step =
+        commit-both-made g.Op.OpMeaning.same g.Op.OpMeaning.meanings _ c.args.self.now c.self.view_is (state c.args.chain.now) (state c.share_working.new.chain) (state c.commit-in-Ok.new.chain) c.requires
+        c.commit-in-Ok.new.self _ (state c.settle.new.chain) c.settle.new.self c.commit.new.self c.in-Ok.damage.rects
+        (record {
+          shared = c.in_ok-shared.ensures.left;
+          shared_tables = c.share_working.ensures.tables;
+          put = c.commit-in-Ok.ensures.left;
+          put_tables = c.commit-in-Ok.ensures.tables;
+          put_over = c.commit-in-Ok.ensures.over;
+          settled = c.settle.ensures.settled;
+          versions_are = c.settle.ensures.versions;
+          graph_is = c.settle.ensures.graph;
+          sizes = c.settle.ensures.sizes;
+          cached = c.settle.ensures.cached;
+          cache = c.settle.ensures.cache;
+          alone = c.settle.ensures.alone;
+          others = c.settle.ensures.other_names;
+          left = c.settle.ensures.left;
+        })
+        laws g.Op.OpMeaning.boxed g.Op.OpMeaning.distinguished.apart (sym is ∙ c.in-Ok.ensures.committed) c.commit-in-Ok.ensures.committed
+        (rectangles_of c.deref-2.result.now) (ap rectangles_of c.deref-2.ensures.value) c.in-Ok.ensures.damages
 
 pub returns-in_err-shared-clause-same : goal.returns-in_err-shared-clause-same
-returns-in_err-shared-clause-same g c =
-    λ session of. on-err _ _ (subst (λ (q : Parts g.row.Op.Denot). IsSessionOf g.Op.OpMeaning.same g.Op.OpMeaning.meanings q (shared_s1 g c).held session) c.self.view_is
-    (kept-session g.Op.OpMeaning.same g.Op.OpMeaning.meanings (shared_v g c) (shared_s0 g c) (shared_s1 g c) (shared_over g c) c.in_err-shared.ensures.left c.share_working.ensures.tables c.share_working.ensures.over session (subst (λ (q : Parts g.row.Op.Denot). IsSessionOf g.Op.OpMeaning.same g.Op.OpMeaning.meanings q (shared_s0 g c).held session) (sym c.self.view_is) of)))
+returns-in_err-shared-clause-same g c = λ session of. on-err _ _ ((unshared_still g c).session session of)
 
 pub returns-in_err-shared-clause-over : goal.returns-in_err-shared-clause-over
-returns-in_err-shared-clause-over g c =
-    subst (λ (q : Parts g.row.Op.Denot). IsOver g.Op.OpMeaning.same g.Op.OpMeaning.meanings q (shared_s1 g c).held) c.self.view_is (kept-over g.Op.OpMeaning.same g.Op.OpMeaning.meanings (shared_v g c) (shared_s0 g c) (shared_s1 g c) (shared_over g c) c.in_err-shared.ensures.left c.share_working.ensures.tables c.share_working.ensures.over)
+returns-in_err-shared-clause-over g c = (unshared_still g c).over
 
 pub returns-in_err-shared-clause-left : goal.returns-in_err-shared-clause-left
-returns-in_err-shared-clause-left g c =
-    subst (λ (q : Parts g.row.Op.Denot). Leaves 0 (session_names q) (session_names q) (shared_s0 g c) (shared_s1 g c)) c.self.view_is (kept-left g.Op.OpMeaning.same g.Op.OpMeaning.meanings (shared_v g c) (shared_s0 g c) (shared_s1 g c) (shared_over g c) c.in_err-shared.ensures.left c.share_working.ensures.tables c.share_working.ensures.over)
+returns-in_err-shared-clause-left g c = (unshared_still g c).left
 
 pub settle-requires-clause-cache : goal.settle-requires-clause-cache
 settle-requires-clause-cache g c =
-    cache-ready (settle_v g c).versions c.commit-in-Ok.new.self (settle_v g c).entries (settle_v g c).entries (settle_between g c) (settle_s0 g c) (settle_s1 g c) (settle_s2 g c) (settle_over g c).owned c.in_ok-shared.ensures.left c.commit-in-Ok.ensures.left (settle_v g c).most (settle_v g c).capacity (settle_over g c).cache
+    (ready g.Op.OpMeaning.same g.Op.OpMeaning.meanings _ c.args.self.now c.self.view_is (state g c.args.chain.now) (state g c.share_working.new.chain) (state g c.commit-in-Ok.new.chain) c.requires
+    c.commit-in-Ok.new.self _ c.in_ok-shared.ensures.left c.commit-in-Ok.ensures.left).cache
 
 pub settle-requires-clause-alone : goal.settle-requires-clause-alone
 settle-requires-clause-alone g c =
-    alone-ready (settle_v g c).versions c.commit-in-Ok.new.self (settle_v g c).entries (settle_v g c).entries (settle_between g c) (settle_s0 g c) (settle_s1 g c) (settle_s2 g c) (settle_over g c).owned c.in_ok-shared.ensures.left c.commit-in-Ok.ensures.left (settle_over g c).alone
+    (ready g.Op.OpMeaning.same g.Op.OpMeaning.meanings _ c.args.self.now c.self.view_is (state g c.args.chain.now) (state g c.share_working.new.chain) (state g c.commit-in-Ok.new.chain) c.requires
+    c.commit-in-Ok.new.self _ c.in_ok-shared.ensures.left c.commit-in-Ok.ensures.left).alone
 
 pub returns-in-Ok-clause-committed : goal.returns-in-Ok-clause-committed
-returns-in-Ok-clause-committed g c =
-    subst (λ (q : Parts g.row.Op.Denot). IsCommitted g.Op.OpMeaning.same g.Op.OpMeaning.meanings q c.settle.new.self) c.self.view_is (commit-done g.Op.OpMeaning.same g.Op.OpMeaning.meanings (ok_v g c) c.settle.new.self (ok_next g c) c.commit-in-Ok.new.self c.in-Ok.damage.rects (ok_between g c) (ok_s0 g c) (ok_s1 g c) (ok_s2 g c) (ok_s3 g c) (ok_through g c) (ok_over g c) (ok_is g c) c.commit-in-Ok.ensures.committed (ok_promise g c))
+returns-in-Ok-clause-committed g c = (step g c (commit_is g (goal.at.returns-in-Ok-clause-committed g c).After-deref-2)).1
 
 pub returns-in-Ok-clause-session : goal.returns-in-Ok-clause-session
-returns-in-Ok-clause-session g c =
-    λ session of. commit-session g.Op.OpMeaning.same g.Op.OpMeaning.meanings (ok_v g c) c.settle.new.self (ok_next g c) c.commit-in-Ok.new.self c.in-Ok.damage.rects (ok_between g c) (ok_s0 g c) (ok_s1 g c) (ok_s2 g c) (ok_s3 g c) (ok_through g c) (ok_over g c) (ok_is g c) c.commit-in-Ok.ensures.committed (ok_promise g c) session (subst (λ (q : Parts g.row.Op.Denot). IsSessionOf g.Op.OpMeaning.same g.Op.OpMeaning.meanings q (ok_s0 g c).held session) (sym c.self.view_is) of)
+returns-in-Ok-clause-session g c = (step g c (commit_is g (goal.at.returns-in-Ok-clause-session g c).After-deref-2)).0.session
 
 pub returns-in-Ok-clause-over : goal.returns-in-Ok-clause-over
-returns-in-Ok-clause-over g c =
-    commit-over g.Op.OpMeaning.same g.Op.OpMeaning.meanings (ok_v g c) c.settle.new.self (ok_next g c) c.commit-in-Ok.new.self c.in-Ok.damage.rects (ok_between g c) (ok_s0 g c) (ok_s1 g c) (ok_s2 g c) (ok_s3 g c) (ok_through g c) (ok_over g c) (ok_is g c) c.commit-in-Ok.ensures.committed (ok_promise g c) (laws g) g.Op.OpMeaning.boxed g.Op.OpMeaning.distinguished.apart
+returns-in-Ok-clause-over g c = (step g c (commit_is g (goal.at.returns-in-Ok-clause-over g c).After-deref-2)).0.over
 
 pub returns-in-Ok-clause-left : goal.returns-in-Ok-clause-left
-returns-in-Ok-clause-left g c =
-    subst (λ (q : Parts g.row.Op.Denot). Leaves 0 (session_names q) (session_names c.settle.new.self) (ok_s0 g c) (ok_s3 g c)) c.self.view_is (done-left g.Op.OpMeaning.same g.Op.OpMeaning.meanings (ok_v g c) c.settle.new.self (ok_next g c) c.commit-in-Ok.new.self c.in-Ok.damage.rects (ok_between g c) (ok_s0 g c) (ok_s1 g c) (ok_s2 g c) (ok_s3 g c) (ok_through g c) (ok_over g c))
+returns-in-Ok-clause-left g c = (step g c (commit_is g (goal.at.returns-in-Ok-clause-left g c).After-deref-2)).0.left
 
 pub returns-in-Err-clause-same : goal.returns-in-Err-clause-same
-returns-in-Err-clause-same g c =
-    λ session of. subst (λ (q : Parts g.row.Op.Denot). IsSessionOf g.Op.OpMeaning.same g.Op.OpMeaning.meanings q (err_r g c).held session) (sym (err_p_is g c))
-    (kept-session g.Op.OpMeaning.same g.Op.OpMeaning.meanings (err_v g c) (err_s0 g c) (err_r g c) (err_over g c) (err_leaves g c) (err_tables g c) (err_versions g c) session (subst (λ (q : Parts g.row.Op.Denot). IsSessionOf g.Op.OpMeaning.same g.Op.OpMeaning.meanings q (err_s0 g c).held session) (sym c.self.view_is) of))
-
-pub returns-in-Err-clause-refused : goal.returns-in-Err-clause-refused
-returns-in-Err-clause-refused g c =
-    refused g c
-
-pub returns-in-Err-clause-refused_session : goal.returns-in-Err-clause-refused_session
-returns-in-Err-clause-refused_session g c =
-    λ session of. refused-too _ _ (commit-refused-too g.Op.OpMeaning.same g.Op.OpMeaning.meanings c.args.self.now (g.C.ChainMeaning.held c.args.chain.now) session of) c.from.result (refused g c)
+returns-in-Err-clause-same g c = (regraphed g.Op.OpMeaning.same g.Op.OpMeaning.meanings _ c.args.self.now c.self.view_is 0 c.commit.new.self _ _ (refused_still g c)).session
 
 pub returns-in-Err-clause-over : goal.returns-in-Err-clause-over
-returns-in-Err-clause-over g c =
-    subst (λ (q : Parts g.row.Op.Denot). IsOver g.Op.OpMeaning.same g.Op.OpMeaning.meanings q (err_r g c).held) (sym (err_p_is g c)) (kept-over g.Op.OpMeaning.same g.Op.OpMeaning.meanings (err_v g c) (err_s0 g c) (err_r g c) (err_over g c) (err_leaves g c) (err_tables g c) (err_versions g c))
+returns-in-Err-clause-over g c = (regraphed g.Op.OpMeaning.same g.Op.OpMeaning.meanings _ c.args.self.now c.self.view_is 0 c.commit.new.self _ _ (refused_still g c)).over
 
 pub returns-in-Err-clause-left : goal.returns-in-Err-clause-left
-returns-in-Err-clause-left g c =
-    subst (λ (q : Parts g.row.Op.Denot). Leaves 0 (session_names q) (session_names (err_p g c)) (err_s0 g c) (err_r g c)) c.self.view_is
-    (subst (λ (q : Parts g.row.Op.Denot). Leaves 0 (session_names (err_v g c)) (session_names q) (err_s0 g c) (err_r g c)) (sym (err_p_is g c)) (kept-left g.Op.OpMeaning.same g.Op.OpMeaning.meanings (err_v g c) (err_s0 g c) (err_r g c) (err_over g c) (err_leaves g c) (err_tables g c) (err_versions g c)))
+returns-in-Err-clause-left g c = (regraphed g.Op.OpMeaning.same g.Op.OpMeaning.meanings _ c.args.self.now c.self.view_is 0 c.commit.new.self _ _ (refused_still g c)).left
+
+pub returns-in-Err-clause-refused : goal.returns-in-Err-clause-refused
+returns-in-Err-clause-refused g c = refusal g c (commit_is g (goal.at.returns-in-Err-clause-refused g c).After-deref-2)
+
+pub returns-in-Err-clause-refused_session : goal.returns-in-Err-clause-refused_session
+returns-in-Err-clause-refused_session g c = λ session of.
+    refused-too _ _ (commit-refused-too g.Op.OpMeaning.same g.Op.OpMeaning.meanings c.args.self.now (g.C.ChainMeaning.held c.args.chain.now) session of) c.from.result
+    (refusal g c (commit_is g (goal.at.returns-in-Err-clause-refused_session g c).After-deref-2))
 
 pub share_working-requires : goal.share_working-requires
 share_working-requires g c =
@@ -292,18 +143,5 @@ share_working-requires g c =
 
 pub commit-requires : goal.commit-requires
 commit-requires g c =
-    let s0 : ChainState = record { held = g.C.ChainMeaning.held c.args.chain.now; counts = g.C.ChainMeaning.counts c.args.chain.now; loans = g.C.ChainMeaning.loans c.args.chain.now; valid = g.C.ChainMeaning.is_valid c.args.chain.now } in
-    let v : Parts g.row.Op.Denot = record {
-      versions = c.self.inside.versions;
-      pending = c.self.inside.pending.items;
-      written = rectangles_of c.self.inside.written.items;
-      graph = c.self.inside.graph;
-      entries = c.self.inside.cache.names.entries;
-      most = c.self.inside.cache.names.cap;
-      capacity = c.self.inside.cache.capacity;
-      applied = c.self.inside.counts.applied;
-      reused = c.self.inside.counts.reused;
-    } in
-    let over : IsOver g.Op.OpMeaning.same g.Op.OpMeaning.meanings v s0.held =
-    subst (λ (p : Parts g.row.Op.Denot). IsOver g.Op.OpMeaning.same g.Op.OpMeaning.meanings p s0.held) (sym c.self.view_is) c.requires in
-    record { still = working-still g.Op.OpMeaning.same g.Op.OpMeaning.meanings v s0.held over c.working.result.now c.facts-facts.result.now c.working.ensures c.facts-facts.ensures.facts }
+    let over = over-here g.Op.OpMeaning.same g.Op.OpMeaning.meanings _ c.args.self.now c.self.view_is (g.C.ChainMeaning.held c.args.chain.now) c.requires in
+    record { still = working-still g.Op.OpMeaning.same g.Op.OpMeaning.meanings _ (g.C.ChainMeaning.held c.args.chain.now) over c.working.result.now c.facts-facts.result.now c.working.ensures c.facts-facts.ensures.facts }

@@ -4,173 +4,112 @@ use Rattle.pixel_formats.specs.Limits.{max_undoable}
 use Rattle.chain_owners.specs.Owners.{Owns}
 use Rattle.root_tiles.specs.Chains.{ChainState}
 use Rattle.buffer_view.specs.BufferTables.{BufferTable, buffers_names}
-use Rattle.session_states.specs.OverChains.{AreAllOver, AreAllSame, AreVersionsOver, Leaves, names_of_all, tables_of, versions_names}
+use Rattle.session_states.specs.OverChains.{AreAllOver, AreAllSame, Leaves, names_of_all, versions_names}
 use Rattle.session_states.specs.Versions.{Versions, after_commit}
-use Rattle.session_states.proofs.Released.{committed-left, committed-over, committed-tables, past-over, past-owned, redo-handed, redo-owned}
+use Rattle.session_states.proofs.Released.{IsCut, IsReleased, committed, past-over, past-owned, redo-handed, redo-owned}
 use Rattle.session_states.proofs.Returned.{committed-is, four, pushed-is}
+use Rattle.session_states.proofs.versions.BufferVersions.commit.Given
+use Rattle.session_states.proofs.versions.BufferVersions.commit.Goals.{After-push_front_reserved, After-release_past, After-release_all}
 use Rattle.session_states.proofs.versions.BufferVersions.commit.Goals as goal
+
+module _ (g : Given.Over) where
+  abbrev state : g.row.C.Denot → ChainState
+  state chain = record { held = g.C.ChainMeaning.held chain; counts = g.C.ChainMeaning.counts chain; loans = g.C.ChainMeaning.loans chain; valid = g.C.ChainMeaning.is_valid chain }
+
+  -- ---- the last state was put before those that can be undone to
+
+  module _ (c : After-push_front_reserved g) where
+    pushed : c.push_front_reserved.new.self.items ≡ c.args.self.now.latest ∷ c.args.self.now.undoable
+    pushed =
+        pushed-is _ c.args.self.now c.self.view_is c.args.shared c.replace-left.result c.replace-left.new.dest c.push_front_reserved.new.self.items
+        c.requires.shared c.replace-left.ensures.after c.replace-left.ensures.value c.push_front_reserved.ensures.items
+
+  -- ---- the oldest one may have been released
+
+  module _ (c : After-release_past g) (is : c.push_front_reserved.new.self.items ≡ c.args.self.now.latest ∷ c.args.self.now.undoable) where
+    abbrev s0 : ChainState
+    s0 = state c.args.chain.now
+
+    abbrev s1 : ChainState
+    s1 = state c.release_past.new.chain
+
+    abbrev all : List BufferTable
+    all = c.args.self.now.latest ∷ c.args.self.now.undoable
+
+    kept : c.release_past.new.states.items ≡ take max_undoable all
+    kept = c.release_past.ensures.items ∙ ap (λ (bs : List BufferTable). take max_undoable bs) is
+
+    cut : IsCut c.args.self.now s0 s1
+    cut = record {
+      left = subst (λ (bs : List BufferTable). Leaves 0 (names_of_all bs) (names_of_all (take max_undoable bs)) s0 s1) is
+          (subst (λ (bs : List BufferTable). Leaves 0 (names_of_all c.push_front_reserved.new.self.items) (names_of_all bs) s0 s1) c.release_past.ensures.items c.release_past.ensures.left);
+      over = subst (λ (bs : List BufferTable). AreAllOver bs s1.held) kept c.release_past.ensures.over;
+      same = subst (λ (bs : List BufferTable). AreAllSame s0.held s1.held bs) kept c.release_past.ensures.same;
+    }
+
+  -- ---- those that could be redone are released
+
+  module _ (c : After-release_all g) where
+    final : four c.self.inside.working c.replace-left.new.dest c.release_past.new.states.items c.release_all.new.states.items ≡ after_commit c.args.self.now
+    final =
+        committed-is _ c.args.self.now c.self.view_is c.args.shared c.replace-left.result c.replace-left.new.dest c.push_front_reserved.new.self.items
+        c.requires.shared c.replace-left.ensures.after c.replace-left.ensures.value c.push_front_reserved.ensures.items
+        c.release_past.new.states.items c.release_all.new.states.items c.release_past.ensures.items c.release_all.ensures.items
+
+    done : IsCut c.args.self.now (state c.args.chain.now) (state c.release_past.new.chain)
+        → IsReleased (buffers_names c.args.shared ++ versions_names c.args.self.now)
+        (four c.self.inside.working c.replace-left.new.dest c.release_past.new.states.items c.release_all.new.states.items) (state c.args.chain.now) (state c.release_all.new.chain)
+    done first =
+        let names = buffers_names c.args.shared ++ versions_names c.args.self.now in
+        let second : Leaves 0 (names_of_all c.args.self.now.redoable) [] (state c.release_past.new.chain) (state c.release_all.new.chain) =
+        subst (λ (x : Versions BufferTable). Leaves 0 (names_of_all x.redoable) [] (state c.release_past.new.chain) (state c.release_all.new.chain)) c.self.view_is c.release_all.ensures.left in
+        subst (λ (f : Versions BufferTable). IsReleased names f (state c.args.chain.now) (state c.release_all.new.chain)) (sym final)
+        (committed c.args.self.now c.args.shared c.requires.shared (state c.args.chain.now) (state c.release_past.new.chain) (state c.release_all.new.chain)
+        c.requires.over c.requires.shared_over c.requires.owned first second)
+
+-- ---- what is asked
 
 pub release_past-requires-clause-over : goal.release_past-requires-clause-over
 release_past-requires-clause-over g c =
-    let s0 : ChainState = record { held = g.C.ChainMeaning.held c.args.chain.now; counts = g.C.ChainMeaning.counts c.args.chain.now; loans = g.C.ChainMeaning.loans c.args.chain.now; valid = g.C.ChainMeaning.is_valid c.args.chain.now } in
-    let v : Versions BufferTable = record { working = c.self.inside.working; latest = c.self.inside.latest; undoable = c.self.inside.undoable.items; redoable = c.self.inside.redoable.items } in
-    let now : Versions BufferTable = c.args.self.now in
-    let shared : BufferTable = c.args.shared in
-    let pushed : List BufferTable = c.push_front_reserved.new.self.items in
-    let is : pushed ≡ now.latest ∷ now.undoable =
-    pushed-is v now c.self.view_is shared c.replace-left.result c.replace-left.new.dest pushed c.requires.shared c.replace-left.ensures.after c.replace-left.ensures.value c.push_front_reserved.ensures.items in
-    subst (λ (bs : List BufferTable). AreAllOver bs s0.held) (sym is) (past-over now shared c.requires.shared s0 s0 s0 c.requires.over c.requires.shared_over c.requires.owned)
+    let s0 = state g c.args.chain.now in
+    subst (λ (bs : List BufferTable). AreAllOver bs s0.held) (sym (pushed g (goal.at.release_past-requires-clause-over g c).After-push_front_reserved))
+    (past-over c.args.self.now c.args.shared c.requires.shared s0 s0 s0 c.requires.over c.requires.shared_over c.requires.owned)
 
 pub release_past-requires-clause-owned : goal.release_past-requires-clause-owned
 release_past-requires-clause-owned g c =
-    let s0 : ChainState = record { held = g.C.ChainMeaning.held c.args.chain.now; counts = g.C.ChainMeaning.counts c.args.chain.now; loans = g.C.ChainMeaning.loans c.args.chain.now; valid = g.C.ChainMeaning.is_valid c.args.chain.now } in
-    let v : Versions BufferTable = record { working = c.self.inside.working; latest = c.self.inside.latest; undoable = c.self.inside.undoable.items; redoable = c.self.inside.redoable.items } in
-    let now : Versions BufferTable = c.args.self.now in
-    let shared : BufferTable = c.args.shared in
-    let pushed : List BufferTable = c.push_front_reserved.new.self.items in
-    let is : pushed ≡ now.latest ∷ now.undoable =
-    pushed-is v now c.self.view_is shared c.replace-left.result c.replace-left.new.dest pushed c.requires.shared c.replace-left.ensures.after c.replace-left.ensures.value c.push_front_reserved.ensures.items in
-    subst (λ (bs : List BufferTable). Owns s0.held (names_of_all bs)) (sym is) (past-owned now shared c.requires.shared s0 s0 s0 c.requires.over c.requires.shared_over c.requires.owned)
+    let s0 = state g c.args.chain.now in
+    subst (λ (bs : List BufferTable). Owns s0.held (names_of_all bs)) (sym (pushed g (goal.at.release_past-requires-clause-owned g c).After-push_front_reserved))
+    (past-owned c.args.self.now c.args.shared c.requires.shared s0 s0 s0 c.requires.over c.requires.shared_over c.requires.owned)
 
 pub release_all-requires-clause-over : goal.release_all-requires-clause-over
 release_all-requires-clause-over g c =
-    let s0 : ChainState = record { held = g.C.ChainMeaning.held c.args.chain.now; counts = g.C.ChainMeaning.counts c.args.chain.now; loans = g.C.ChainMeaning.loans c.args.chain.now; valid = g.C.ChainMeaning.is_valid c.args.chain.now } in
-    let v : Versions BufferTable = record { working = c.self.inside.working; latest = c.self.inside.latest; undoable = c.self.inside.undoable.items; redoable = c.self.inside.redoable.items } in
-    let now : Versions BufferTable = c.args.self.now in
-    let shared : BufferTable = c.args.shared in
-    let pushed : List BufferTable = c.push_front_reserved.new.self.items in
-    let is : pushed ≡ now.latest ∷ now.undoable =
-    pushed-is v now c.self.view_is shared c.replace-left.result c.replace-left.new.dest pushed c.requires.shared c.replace-left.ensures.after c.replace-left.ensures.value c.push_front_reserved.ensures.items in
-    let s1 : ChainState = record { held = g.C.ChainMeaning.held c.release_past.new.chain; counts = g.C.ChainMeaning.counts c.release_past.new.chain; loans = g.C.ChainMeaning.loans c.release_past.new.chain; valid = g.C.ChainMeaning.is_valid c.release_past.new.chain } in
-    let past : Leaves 0 (names_of_all (now.latest ∷ now.undoable)) (names_of_all (take max_undoable (now.latest ∷ now.undoable))) s0 s1 =
-    subst (λ (bs : List BufferTable). Leaves 0 (names_of_all bs) (names_of_all (take max_undoable bs)) s0 s1) is
-    (subst (λ (bs : List BufferTable). Leaves 0 (names_of_all pushed) (names_of_all bs) s0 s1) c.release_past.ensures.items c.release_past.ensures.left) in
-    let redone : v.redoable ≡ now.redoable = ap (λ (x : Versions BufferTable). x.redoable) c.self.view_is in
-    subst (λ (bs : List BufferTable). AreAllOver bs s1.held) (sym redone) (redo-handed now shared c.requires.shared s0 s1 s1 c.requires.over c.requires.shared_over c.requires.owned past)
+    let at = goal.at.release_all-requires-clause-over g c in
+    let s1 = state g c.release_past.new.chain in
+    subst (λ (x : Versions BufferTable). AreAllOver x.redoable s1.held) (sym c.self.view_is)
+    (redo-handed c.args.self.now c.args.shared c.requires.shared (state g c.args.chain.now) s1 s1 c.requires.over c.requires.shared_over c.requires.owned
+    (cut g at.After-release_past (pushed g at.After-push_front_reserved)).left)
 
 pub release_all-requires-clause-owned : goal.release_all-requires-clause-owned
 release_all-requires-clause-owned g c =
-    let s0 : ChainState = record { held = g.C.ChainMeaning.held c.args.chain.now; counts = g.C.ChainMeaning.counts c.args.chain.now; loans = g.C.ChainMeaning.loans c.args.chain.now; valid = g.C.ChainMeaning.is_valid c.args.chain.now } in
-    let v : Versions BufferTable = record { working = c.self.inside.working; latest = c.self.inside.latest; undoable = c.self.inside.undoable.items; redoable = c.self.inside.redoable.items } in
-    let now : Versions BufferTable = c.args.self.now in
-    let shared : BufferTable = c.args.shared in
-    let pushed : List BufferTable = c.push_front_reserved.new.self.items in
-    let is : pushed ≡ now.latest ∷ now.undoable =
-    pushed-is v now c.self.view_is shared c.replace-left.result c.replace-left.new.dest pushed c.requires.shared c.replace-left.ensures.after c.replace-left.ensures.value c.push_front_reserved.ensures.items in
-    let s1 : ChainState = record { held = g.C.ChainMeaning.held c.release_past.new.chain; counts = g.C.ChainMeaning.counts c.release_past.new.chain; loans = g.C.ChainMeaning.loans c.release_past.new.chain; valid = g.C.ChainMeaning.is_valid c.release_past.new.chain } in
-    let past : Leaves 0 (names_of_all (now.latest ∷ now.undoable)) (names_of_all (take max_undoable (now.latest ∷ now.undoable))) s0 s1 =
-    subst (λ (bs : List BufferTable). Leaves 0 (names_of_all bs) (names_of_all (take max_undoable bs)) s0 s1) is
-    (subst (λ (bs : List BufferTable). Leaves 0 (names_of_all pushed) (names_of_all bs) s0 s1) c.release_past.ensures.items c.release_past.ensures.left) in
-    let redone : v.redoable ≡ now.redoable = ap (λ (x : Versions BufferTable). x.redoable) c.self.view_is in
-    subst (λ (bs : List BufferTable). Owns s1.held (names_of_all bs)) (sym redone) (redo-owned now shared c.requires.shared s0 s1 s1 c.requires.over c.requires.shared_over c.requires.owned past)
+    let at = goal.at.release_all-requires-clause-owned g c in
+    let s1 = state g c.release_past.new.chain in
+    subst (λ (x : Versions BufferTable). Owns s1.held (names_of_all x.redoable)) (sym c.self.view_is)
+    (redo-owned c.args.self.now c.args.shared c.requires.shared (state g c.args.chain.now) s1 s1 c.requires.over c.requires.shared_over c.requires.owned
+    (cut g at.After-release_past (pushed g at.After-push_front_reserved)).left)
 
-pub returns-clause-tables : goal.returns-clause-tables
-returns-clause-tables g c =
-    let s0 : ChainState = record { held = g.C.ChainMeaning.held c.args.chain.now; counts = g.C.ChainMeaning.counts c.args.chain.now; loans = g.C.ChainMeaning.loans c.args.chain.now; valid = g.C.ChainMeaning.is_valid c.args.chain.now } in
-    let v : Versions BufferTable = record { working = c.self.inside.working; latest = c.self.inside.latest; undoable = c.self.inside.undoable.items; redoable = c.self.inside.redoable.items } in
-    let now : Versions BufferTable = c.args.self.now in
-    let shared : BufferTable = c.args.shared in
-    let pushed : List BufferTable = c.push_front_reserved.new.self.items in
-    let is : pushed ≡ now.latest ∷ now.undoable =
-    pushed-is v now c.self.view_is shared c.replace-left.result c.replace-left.new.dest pushed c.requires.shared c.replace-left.ensures.after c.replace-left.ensures.value c.push_front_reserved.ensures.items in
-    let s1 : ChainState = record { held = g.C.ChainMeaning.held c.release_past.new.chain; counts = g.C.ChainMeaning.counts c.release_past.new.chain; loans = g.C.ChainMeaning.loans c.release_past.new.chain; valid = g.C.ChainMeaning.is_valid c.release_past.new.chain } in
-    let past : Leaves 0 (names_of_all (now.latest ∷ now.undoable)) (names_of_all (take max_undoable (now.latest ∷ now.undoable))) s0 s1 =
-    subst (λ (bs : List BufferTable). Leaves 0 (names_of_all bs) (names_of_all (take max_undoable bs)) s0 s1) is
-    (subst (λ (bs : List BufferTable). Leaves 0 (names_of_all pushed) (names_of_all bs) s0 s1) c.release_past.ensures.items c.release_past.ensures.left) in
-    let redone : v.redoable ≡ now.redoable = ap (λ (x : Versions BufferTable). x.redoable) c.self.view_is in
-    let s2 : ChainState = record { held = g.C.ChainMeaning.held c.release_all.new.chain; counts = g.C.ChainMeaning.counts c.release_all.new.chain; loans = g.C.ChainMeaning.loans c.release_all.new.chain; valid = g.C.ChainMeaning.is_valid c.release_all.new.chain } in
-    let cut : c.release_past.new.states.items ≡ take max_undoable (now.latest ∷ now.undoable) =
-    c.release_past.ensures.items ∙ ap (λ (bs : List BufferTable). take max_undoable bs) is in
-    let kept_over = subst (λ (bs : List BufferTable). AreAllOver bs (g.C.ChainMeaning.held c.release_past.new.chain)) cut c.release_past.ensures.over in
-    let kept_same = subst (λ (bs : List BufferTable). AreAllSame (g.C.ChainMeaning.held c.args.chain.now) (g.C.ChainMeaning.held c.release_past.new.chain) bs) cut c.release_past.ensures.same in
-    let second : Leaves 0 (names_of_all now.redoable) [] s1 s2 =
-    subst (λ (bs : List BufferTable). Leaves 0 (names_of_all bs) [] s1 s2) redone c.release_all.ensures.left in
-    let final : Versions BufferTable = four v.working c.replace-left.new.dest c.release_past.new.states.items c.release_all.new.states.items in
-    let final_is : final ≡ after_commit now =
-    committed-is v now c.self.view_is shared c.replace-left.result c.replace-left.new.dest pushed c.requires.shared c.replace-left.ensures.after c.replace-left.ensures.value c.push_front_reserved.ensures.items
-    c.release_past.new.states.items c.release_all.new.states.items c.release_past.ensures.items c.release_all.ensures.items in
-    subst (λ (f : Versions BufferTable). tables_of f s2.held ≡ tables_of f s0.held) (sym final_is) (committed-tables now shared c.requires.shared s0 s1 s2 c.requires.over c.requires.shared_over c.requires.owned past kept_over kept_same second)
-
-pub returns-clause-over : goal.returns-clause-over
-returns-clause-over g c =
-    let s0 : ChainState = record { held = g.C.ChainMeaning.held c.args.chain.now; counts = g.C.ChainMeaning.counts c.args.chain.now; loans = g.C.ChainMeaning.loans c.args.chain.now; valid = g.C.ChainMeaning.is_valid c.args.chain.now } in
-    let v : Versions BufferTable = record { working = c.self.inside.working; latest = c.self.inside.latest; undoable = c.self.inside.undoable.items; redoable = c.self.inside.redoable.items } in
-    let now : Versions BufferTable = c.args.self.now in
-    let shared : BufferTable = c.args.shared in
-    let pushed : List BufferTable = c.push_front_reserved.new.self.items in
-    let is : pushed ≡ now.latest ∷ now.undoable =
-    pushed-is v now c.self.view_is shared c.replace-left.result c.replace-left.new.dest pushed c.requires.shared c.replace-left.ensures.after c.replace-left.ensures.value c.push_front_reserved.ensures.items in
-    let s1 : ChainState = record { held = g.C.ChainMeaning.held c.release_past.new.chain; counts = g.C.ChainMeaning.counts c.release_past.new.chain; loans = g.C.ChainMeaning.loans c.release_past.new.chain; valid = g.C.ChainMeaning.is_valid c.release_past.new.chain } in
-    let past : Leaves 0 (names_of_all (now.latest ∷ now.undoable)) (names_of_all (take max_undoable (now.latest ∷ now.undoable))) s0 s1 =
-    subst (λ (bs : List BufferTable). Leaves 0 (names_of_all bs) (names_of_all (take max_undoable bs)) s0 s1) is
-    (subst (λ (bs : List BufferTable). Leaves 0 (names_of_all pushed) (names_of_all bs) s0 s1) c.release_past.ensures.items c.release_past.ensures.left) in
-    let redone : v.redoable ≡ now.redoable = ap (λ (x : Versions BufferTable). x.redoable) c.self.view_is in
-    let s2 : ChainState = record { held = g.C.ChainMeaning.held c.release_all.new.chain; counts = g.C.ChainMeaning.counts c.release_all.new.chain; loans = g.C.ChainMeaning.loans c.release_all.new.chain; valid = g.C.ChainMeaning.is_valid c.release_all.new.chain } in
-    let cut : c.release_past.new.states.items ≡ take max_undoable (now.latest ∷ now.undoable) =
-    c.release_past.ensures.items ∙ ap (λ (bs : List BufferTable). take max_undoable bs) is in
-    let kept_over = subst (λ (bs : List BufferTable). AreAllOver bs (g.C.ChainMeaning.held c.release_past.new.chain)) cut c.release_past.ensures.over in
-    let kept_same = subst (λ (bs : List BufferTable). AreAllSame (g.C.ChainMeaning.held c.args.chain.now) (g.C.ChainMeaning.held c.release_past.new.chain) bs) cut c.release_past.ensures.same in
-    let second : Leaves 0 (names_of_all now.redoable) [] s1 s2 =
-    subst (λ (bs : List BufferTable). Leaves 0 (names_of_all bs) [] s1 s2) redone c.release_all.ensures.left in
-    let final : Versions BufferTable = four v.working c.replace-left.new.dest c.release_past.new.states.items c.release_all.new.states.items in
-    let final_is : final ≡ after_commit now =
-    committed-is v now c.self.view_is shared c.replace-left.result c.replace-left.new.dest pushed c.requires.shared c.replace-left.ensures.after c.replace-left.ensures.value c.push_front_reserved.ensures.items
-    c.release_past.new.states.items c.release_all.new.states.items c.release_past.ensures.items c.release_all.ensures.items in
-    subst (λ (f : Versions BufferTable). AreVersionsOver f s2.held) (sym final_is) (committed-over now shared c.requires.shared s0 s1 s2 c.requires.over c.requires.shared_over c.requires.owned past kept_over kept_same second)
-
-pub returns-clause-left : goal.returns-clause-left
-returns-clause-left g c =
-    let s0 : ChainState = record { held = g.C.ChainMeaning.held c.args.chain.now; counts = g.C.ChainMeaning.counts c.args.chain.now; loans = g.C.ChainMeaning.loans c.args.chain.now; valid = g.C.ChainMeaning.is_valid c.args.chain.now } in
-    let v : Versions BufferTable = record { working = c.self.inside.working; latest = c.self.inside.latest; undoable = c.self.inside.undoable.items; redoable = c.self.inside.redoable.items } in
-    let now : Versions BufferTable = c.args.self.now in
-    let shared : BufferTable = c.args.shared in
-    let pushed : List BufferTable = c.push_front_reserved.new.self.items in
-    let is : pushed ≡ now.latest ∷ now.undoable =
-    pushed-is v now c.self.view_is shared c.replace-left.result c.replace-left.new.dest pushed c.requires.shared c.replace-left.ensures.after c.replace-left.ensures.value c.push_front_reserved.ensures.items in
-    let s1 : ChainState = record { held = g.C.ChainMeaning.held c.release_past.new.chain; counts = g.C.ChainMeaning.counts c.release_past.new.chain; loans = g.C.ChainMeaning.loans c.release_past.new.chain; valid = g.C.ChainMeaning.is_valid c.release_past.new.chain } in
-    let past : Leaves 0 (names_of_all (now.latest ∷ now.undoable)) (names_of_all (take max_undoable (now.latest ∷ now.undoable))) s0 s1 =
-    subst (λ (bs : List BufferTable). Leaves 0 (names_of_all bs) (names_of_all (take max_undoable bs)) s0 s1) is
-    (subst (λ (bs : List BufferTable). Leaves 0 (names_of_all pushed) (names_of_all bs) s0 s1) c.release_past.ensures.items c.release_past.ensures.left) in
-    let redone : v.redoable ≡ now.redoable = ap (λ (x : Versions BufferTable). x.redoable) c.self.view_is in
-    let s2 : ChainState = record { held = g.C.ChainMeaning.held c.release_all.new.chain; counts = g.C.ChainMeaning.counts c.release_all.new.chain; loans = g.C.ChainMeaning.loans c.release_all.new.chain; valid = g.C.ChainMeaning.is_valid c.release_all.new.chain } in
-    let cut : c.release_past.new.states.items ≡ take max_undoable (now.latest ∷ now.undoable) =
-    c.release_past.ensures.items ∙ ap (λ (bs : List BufferTable). take max_undoable bs) is in
-    let kept_over = subst (λ (bs : List BufferTable). AreAllOver bs (g.C.ChainMeaning.held c.release_past.new.chain)) cut c.release_past.ensures.over in
-    let kept_same = subst (λ (bs : List BufferTable). AreAllSame (g.C.ChainMeaning.held c.args.chain.now) (g.C.ChainMeaning.held c.release_past.new.chain) bs) cut c.release_past.ensures.same in
-    let second : Leaves 0 (names_of_all now.redoable) [] s1 s2 =
-    subst (λ (bs : List BufferTable). Leaves 0 (names_of_all bs) [] s1 s2) redone c.release_all.ensures.left in
-    let final : Versions BufferTable = four v.working c.replace-left.new.dest c.release_past.new.states.items c.release_all.new.states.items in
-    let final_is : final ≡ after_commit now =
-    committed-is v now c.self.view_is shared c.replace-left.result c.replace-left.new.dest pushed c.requires.shared c.replace-left.ensures.after c.replace-left.ensures.value c.push_front_reserved.ensures.items
-    c.release_past.new.states.items c.release_all.new.states.items c.release_past.ensures.items c.release_all.ensures.items in
-    subst (λ (f : Versions BufferTable). Leaves 0 (buffers_names shared ++ versions_names now) (versions_names f) s0 s2) (sym final_is) (committed-left now shared c.requires.shared s0 s1 s2 c.requires.over c.requires.shared_over c.requires.owned past kept_over kept_same second)
+-- ---- what is left
 
 pub returns-clause-committed : goal.returns-clause-committed
-returns-clause-committed g c =
-    let s0 : ChainState = record { held = g.C.ChainMeaning.held c.args.chain.now; counts = g.C.ChainMeaning.counts c.args.chain.now; loans = g.C.ChainMeaning.loans c.args.chain.now; valid = g.C.ChainMeaning.is_valid c.args.chain.now } in
-    let v : Versions BufferTable = record { working = c.self.inside.working; latest = c.self.inside.latest; undoable = c.self.inside.undoable.items; redoable = c.self.inside.redoable.items } in
-    let now : Versions BufferTable = c.args.self.now in
-    let shared : BufferTable = c.args.shared in
-    let pushed : List BufferTable = c.push_front_reserved.new.self.items in
-    let is : pushed ≡ now.latest ∷ now.undoable =
-    pushed-is v now c.self.view_is shared c.replace-left.result c.replace-left.new.dest pushed c.requires.shared c.replace-left.ensures.after c.replace-left.ensures.value c.push_front_reserved.ensures.items in
-    let s1 : ChainState = record { held = g.C.ChainMeaning.held c.release_past.new.chain; counts = g.C.ChainMeaning.counts c.release_past.new.chain; loans = g.C.ChainMeaning.loans c.release_past.new.chain; valid = g.C.ChainMeaning.is_valid c.release_past.new.chain } in
-    let past : Leaves 0 (names_of_all (now.latest ∷ now.undoable)) (names_of_all (take max_undoable (now.latest ∷ now.undoable))) s0 s1 =
-    subst (λ (bs : List BufferTable). Leaves 0 (names_of_all bs) (names_of_all (take max_undoable bs)) s0 s1) is
-    (subst (λ (bs : List BufferTable). Leaves 0 (names_of_all pushed) (names_of_all bs) s0 s1) c.release_past.ensures.items c.release_past.ensures.left) in
-    let redone : v.redoable ≡ now.redoable = ap (λ (x : Versions BufferTable). x.redoable) c.self.view_is in
-    let s2 : ChainState = record { held = g.C.ChainMeaning.held c.release_all.new.chain; counts = g.C.ChainMeaning.counts c.release_all.new.chain; loans = g.C.ChainMeaning.loans c.release_all.new.chain; valid = g.C.ChainMeaning.is_valid c.release_all.new.chain } in
-    let cut : c.release_past.new.states.items ≡ take max_undoable (now.latest ∷ now.undoable) =
-    c.release_past.ensures.items ∙ ap (λ (bs : List BufferTable). take max_undoable bs) is in
-    let kept_over = subst (λ (bs : List BufferTable). AreAllOver bs (g.C.ChainMeaning.held c.release_past.new.chain)) cut c.release_past.ensures.over in
-    let kept_same = subst (λ (bs : List BufferTable). AreAllSame (g.C.ChainMeaning.held c.args.chain.now) (g.C.ChainMeaning.held c.release_past.new.chain) bs) cut c.release_past.ensures.same in
-    let second : Leaves 0 (names_of_all now.redoable) [] s1 s2 =
-    subst (λ (bs : List BufferTable). Leaves 0 (names_of_all bs) [] s1 s2) redone c.release_all.ensures.left in
-    let final : Versions BufferTable = four v.working c.replace-left.new.dest c.release_past.new.states.items c.release_all.new.states.items in
-    let final_is : final ≡ after_commit now =
-    committed-is v now c.self.view_is shared c.replace-left.result c.replace-left.new.dest pushed c.requires.shared c.replace-left.ensures.after c.replace-left.ensures.value c.push_front_reserved.ensures.items
-    c.release_past.new.states.items c.release_all.new.states.items c.release_past.ensures.items c.release_all.ensures.items in
-    final_is
+returns-clause-committed g c = final g (goal.at.returns-clause-committed g c).After-release_all
+
+pub returns-clause-tables : goal.returns-clause-tables
+returns-clause-tables g c = let at = goal.at.returns-clause-tables g c in (done g at.After-release_all (cut g at.After-release_past (pushed g at.After-push_front_reserved))).tables
+
+pub returns-clause-over : goal.returns-clause-over
+returns-clause-over g c = let at = goal.at.returns-clause-over g c in (done g at.After-release_all (cut g at.After-release_past (pushed g at.After-push_front_reserved))).over
+
+pub returns-clause-left : goal.returns-clause-left
+returns-clause-left g c = let at = goal.at.returns-clause-left g c in (done g at.After-release_all (cut g at.After-release_past (pushed g at.After-push_front_reserved))).left
 
 pub invariant_of-self : goal.invariant_of-self
 invariant_of-self g c =

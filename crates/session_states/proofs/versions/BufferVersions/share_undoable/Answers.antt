@@ -1,141 +1,50 @@
-use Rattle.std.proofs.Common.{◌≡◌, ℕ, ◌+◌, ◌<◌, List, [], ◌∷◌, ◌++◌, length, drop, sym, ap, subst, ◌∙◌, arith}
-use Rattle.chain_owners.specs.Owners.{times}
-use Rattle.chain_owners.proofs.Ownership.{times-append}
+use Rattle.std.proofs.Common.{[], ◌++◌}
 use Rattle.root_tiles.specs.Chains.{ChainState}
-use Rattle.buffer_view.specs.BufferTables.{BufferTable, buffers_names}
+use Rattle.buffer_view.specs.BufferTables.{buffers_names}
 use Rattle.session_states.specs.OverChains.{Leaves, versions_names}
-use Rattle.session_states.specs.Versions.{Versions, all_versions}
-use Rattle.session_states.proofs.Returned.{err-match, list-first}
-use Rattle.session_states.proofs.Shared.{shared-first, shared-left, shared-over, shared-owned, shared-tables}
+use Rattle.session_states.proofs.Returned.{err-match}
+use Rattle.session_states.proofs.Shared.{IsShared, asked, given, refused, undoable-one}
+use Rattle.session_states.proofs.versions.BufferVersions.share_undoable.Given
+use Rattle.session_states.proofs.versions.BufferVersions.share_undoable.Goals.{In_err-shared, In_ok-shared}
 use Rattle.session_states.proofs.versions.BufferVersions.share_undoable.Goals as goal
 
+module _ (g : Given.Over) where
+  abbrev state : g.row.C.Denot → ChainState
+  state chain = record { held = g.C.ChainMeaning.held chain; counts = g.C.ChainMeaning.counts chain; loans = g.C.ChainMeaning.loans chain; valid = g.C.ChainMeaning.is_valid chain }
+
+  none_shared : (c : In_err-shared g) → IsShared c.args.self.now [] (state c.args.chain.now) (state c.snapshot.new.chain)
+  none_shared c =
+      refused _ c.index.result.now (undoable-one _ _ c.self.view_is c.index.result.now c.requires.some c.index.ensures) _ c.requires.over _ c.snapshot.ensures.over c.snapshot.ensures.table
+      (record { others = c.in_err-shared.ensures.others; counts = c.snapshot.ensures.counts; loans = c.snapshot.ensures.loans; valid = c.snapshot.ensures.valid })
+
+  one_shared : (c : In_ok-shared g) → IsShared c.args.self.now (buffers_names c.in_ok-shared.shared) (state c.args.chain.now) (state c.snapshot.new.chain)
+  one_shared c =
+      given _ c.index.result.now (undoable-one _ _ c.self.view_is c.index.result.now c.requires.some c.index.ensures) _ c.requires.over _ c.snapshot.ensures.over c.snapshot.ensures.table c.in_ok-shared.shared c.in_ok-shared.ensures.buffers
+      (record { others = c.in_ok-shared.ensures.others; counts = c.snapshot.ensures.counts; loans = c.snapshot.ensures.loans; valid = c.snapshot.ensures.valid })
+
 pub snapshot-requires : goal.snapshot-requires
-snapshot-requires g c =
-    let s0 : ChainState = record { held = g.C.ChainMeaning.held c.args.chain.now; counts = g.C.ChainMeaning.counts c.args.chain.now; loans = g.C.ChainMeaning.loans c.args.chain.now; valid = g.C.ChainMeaning.is_valid c.args.chain.now } in
-    let v : Versions BufferTable = record { working = c.self.inside.working; latest = c.self.inside.latest; undoable = c.self.inside.undoable.items; redoable = c.self.inside.redoable.items } in
-    let now : Versions BufferTable = c.args.self.now in
-    let b : BufferTable = c.index.result.now in
-    let rest : List BufferTable = drop 1 v.undoable in
-    let list : v.undoable ≡ b ∷ rest = list-first v.undoable b (subst (λ (x : Versions BufferTable). 0 < length x.undoable) (sym c.self.view_is) c.requires.some) c.index.ensures in
-    let parts : all_versions now ≡ (v.working ∷ v.latest ∷ []) ++ b ∷ (rest ++ v.redoable) =
-    ap (λ (w : Versions BufferTable). all_versions w) (sym c.self.view_is)
-    ∙ ap (λ (bs : List BufferTable). v.working ∷ v.latest ∷ (bs ++ v.redoable)) list in
-    shared-first now (v.working ∷ v.latest ∷ []) (rest ++ v.redoable) b parts s0 c.requires.over
+snapshot-requires g c = asked _ c.index.result.now (undoable-one _ _ c.self.view_is c.index.result.now c.requires.some c.index.ensures) (state g c.args.chain.now) c.requires.over
 
 pub returns-in_err-shared-clause-tables : goal.returns-in_err-shared-clause-tables
-returns-in_err-shared-clause-tables g c =
-    let s0 : ChainState = record { held = g.C.ChainMeaning.held c.args.chain.now; counts = g.C.ChainMeaning.counts c.args.chain.now; loans = g.C.ChainMeaning.loans c.args.chain.now; valid = g.C.ChainMeaning.is_valid c.args.chain.now } in
-    let s1 : ChainState = record { held = g.C.ChainMeaning.held c.snapshot.new.chain; counts = g.C.ChainMeaning.counts c.snapshot.new.chain; loans = g.C.ChainMeaning.loans c.snapshot.new.chain; valid = g.C.ChainMeaning.is_valid c.snapshot.new.chain } in
-    let v : Versions BufferTable = record { working = c.self.inside.working; latest = c.self.inside.latest; undoable = c.self.inside.undoable.items; redoable = c.self.inside.redoable.items } in
-    let now : Versions BufferTable = c.args.self.now in
-    let b : BufferTable = c.index.result.now in
-    let rest : List BufferTable = drop 1 v.undoable in
-    let list : v.undoable ≡ b ∷ rest = list-first v.undoable b (subst (λ (x : Versions BufferTable). 0 < length x.undoable) (sym c.self.view_is) c.requires.some) c.index.ensures in
-    let parts : all_versions now ≡ (v.working ∷ v.latest ∷ []) ++ b ∷ (rest ++ v.redoable) =
-    ap (λ (w : Versions BufferTable). all_versions w) (sym c.self.view_is)
-    ∙ ap (λ (bs : List BufferTable). v.working ∷ v.latest ∷ (bs ++ v.redoable)) list in
-    let leaves : Leaves 0 (buffers_names b) (buffers_names b) s0 s1 = record { others = c.in_err-shared.ensures.others; counts = c.snapshot.ensures.counts; loans = c.snapshot.ensures.loans; valid = c.snapshot.ensures.valid } in
-    shared-tables now (v.working ∷ v.latest ∷ []) (rest ++ v.redoable) b parts s0 c.requires.over s1 (buffers_names b) leaves c.snapshot.ensures.table
+returns-in_err-shared-clause-tables g c = (none_shared g (goal.at.returns-in_err-shared-clause-tables g c).In_err-shared).tables
 
 pub returns-in_err-shared-clause-over : goal.returns-in_err-shared-clause-over
-returns-in_err-shared-clause-over g c =
-    let s0 : ChainState = record { held = g.C.ChainMeaning.held c.args.chain.now; counts = g.C.ChainMeaning.counts c.args.chain.now; loans = g.C.ChainMeaning.loans c.args.chain.now; valid = g.C.ChainMeaning.is_valid c.args.chain.now } in
-    let s1 : ChainState = record { held = g.C.ChainMeaning.held c.snapshot.new.chain; counts = g.C.ChainMeaning.counts c.snapshot.new.chain; loans = g.C.ChainMeaning.loans c.snapshot.new.chain; valid = g.C.ChainMeaning.is_valid c.snapshot.new.chain } in
-    let v : Versions BufferTable = record { working = c.self.inside.working; latest = c.self.inside.latest; undoable = c.self.inside.undoable.items; redoable = c.self.inside.redoable.items } in
-    let now : Versions BufferTable = c.args.self.now in
-    let b : BufferTable = c.index.result.now in
-    let rest : List BufferTable = drop 1 v.undoable in
-    let list : v.undoable ≡ b ∷ rest = list-first v.undoable b (subst (λ (x : Versions BufferTable). 0 < length x.undoable) (sym c.self.view_is) c.requires.some) c.index.ensures in
-    let parts : all_versions now ≡ (v.working ∷ v.latest ∷ []) ++ b ∷ (rest ++ v.redoable) =
-    ap (λ (w : Versions BufferTable). all_versions w) (sym c.self.view_is)
-    ∙ ap (λ (bs : List BufferTable). v.working ∷ v.latest ∷ (bs ++ v.redoable)) list in
-    let leaves : Leaves 0 (buffers_names b) (buffers_names b) s0 s1 = record { others = c.in_err-shared.ensures.others; counts = c.snapshot.ensures.counts; loans = c.snapshot.ensures.loans; valid = c.snapshot.ensures.valid } in
-    shared-over now (v.working ∷ v.latest ∷ []) (rest ++ v.redoable) b parts s0 c.requires.over s1 (buffers_names b) leaves [] (λ q. omega arith) c.snapshot.ensures.over
+returns-in_err-shared-clause-over g c = (none_shared g (goal.at.returns-in_err-shared-clause-over g c).In_err-shared).over
 
 pub returns-in_err-shared-clause-left : goal.returns-in_err-shared-clause-left
 returns-in_err-shared-clause-left g c =
-    let s0 : ChainState = record { held = g.C.ChainMeaning.held c.args.chain.now; counts = g.C.ChainMeaning.counts c.args.chain.now; loans = g.C.ChainMeaning.loans c.args.chain.now; valid = g.C.ChainMeaning.is_valid c.args.chain.now } in
-    let s1 : ChainState = record { held = g.C.ChainMeaning.held c.snapshot.new.chain; counts = g.C.ChainMeaning.counts c.snapshot.new.chain; loans = g.C.ChainMeaning.loans c.snapshot.new.chain; valid = g.C.ChainMeaning.is_valid c.snapshot.new.chain } in
-    let v : Versions BufferTable = record { working = c.self.inside.working; latest = c.self.inside.latest; undoable = c.self.inside.undoable.items; redoable = c.self.inside.redoable.items } in
-    let now : Versions BufferTable = c.args.self.now in
-    let b : BufferTable = c.index.result.now in
-    let rest : List BufferTable = drop 1 v.undoable in
-    let list : v.undoable ≡ b ∷ rest = list-first v.undoable b (subst (λ (x : Versions BufferTable). 0 < length x.undoable) (sym c.self.view_is) c.requires.some) c.index.ensures in
-    let parts : all_versions now ≡ (v.working ∷ v.latest ∷ []) ++ b ∷ (rest ++ v.redoable) =
-    ap (λ (w : Versions BufferTable). all_versions w) (sym c.self.view_is)
-    ∙ ap (λ (bs : List BufferTable). v.working ∷ v.latest ∷ (bs ++ v.redoable)) list in
-    let leaves : Leaves 0 (buffers_names b) (buffers_names b) s0 s1 = record { others = c.in_err-shared.ensures.others; counts = c.snapshot.ensures.counts; loans = c.snapshot.ensures.loans; valid = c.snapshot.ensures.valid } in
-    let left : Leaves 0 (versions_names now) (versions_names now) s0 s1 = shared-left now (v.working ∷ v.latest ∷ []) (rest ++ v.redoable) b parts s0 c.requires.over s1 (buffers_names b) leaves [] (λ q. omega arith) in
-    err-match c.from_residual.result (λ shared. Leaves 0 (versions_names now) (buffers_names shared ++ versions_names now) s0 s1) (Leaves 0 (versions_names now) (versions_names now) s0 s1) c.from_residual.ensures.0 left
+    let names = versions_names c.args.self.now in
+    err-match c.from_residual.result (λ shared. Leaves 0 names (buffers_names shared ++ names) (state g c.args.chain.now) (state g c.snapshot.new.chain))
+    (Leaves 0 names names (state g c.args.chain.now) (state g c.snapshot.new.chain)) c.from_residual.ensures.0 (none_shared g (goal.at.returns-in_err-shared-clause-left g c).In_err-shared).left
 
 pub returns-clause-tables : goal.returns-clause-tables
-returns-clause-tables g c =
-    let s0 : ChainState = record { held = g.C.ChainMeaning.held c.args.chain.now; counts = g.C.ChainMeaning.counts c.args.chain.now; loans = g.C.ChainMeaning.loans c.args.chain.now; valid = g.C.ChainMeaning.is_valid c.args.chain.now } in
-    let s1 : ChainState = record { held = g.C.ChainMeaning.held c.snapshot.new.chain; counts = g.C.ChainMeaning.counts c.snapshot.new.chain; loans = g.C.ChainMeaning.loans c.snapshot.new.chain; valid = g.C.ChainMeaning.is_valid c.snapshot.new.chain } in
-    let v : Versions BufferTable = record { working = c.self.inside.working; latest = c.self.inside.latest; undoable = c.self.inside.undoable.items; redoable = c.self.inside.redoable.items } in
-    let now : Versions BufferTable = c.args.self.now in
-    let b : BufferTable = c.index.result.now in
-    let rest : List BufferTable = drop 1 v.undoable in
-    let list : v.undoable ≡ b ∷ rest = list-first v.undoable b (subst (λ (x : Versions BufferTable). 0 < length x.undoable) (sym c.self.view_is) c.requires.some) c.index.ensures in
-    let parts : all_versions now ≡ (v.working ∷ v.latest ∷ []) ++ b ∷ (rest ++ v.redoable) =
-    ap (λ (w : Versions BufferTable). all_versions w) (sym c.self.view_is)
-    ∙ ap (λ (bs : List BufferTable). v.working ∷ v.latest ∷ (bs ++ v.redoable)) list in
-    let leaves : Leaves 0 (buffers_names b) (buffers_names b ++ buffers_names b) s0 s1 = record { others = c.in_ok-shared.ensures.others; counts = c.snapshot.ensures.counts; loans = c.snapshot.ensures.loans; valid = c.snapshot.ensures.valid } in
-    let more : List ℕ = buffers_names c.in_ok-shared.shared in
-    let twice : (q : ℕ) → times (buffers_names b ++ buffers_names b) q ≡ times (buffers_names b) q + times more q =
-    λ q. times-append (buffers_names b) (buffers_names b) q ∙ ap (λ (x : BufferTable). times (buffers_names b) q + times (buffers_names x) q) (sym c.in_ok-shared.ensures.buffers) in
-    shared-tables now (v.working ∷ v.latest ∷ []) (rest ++ v.redoable) b parts s0 c.requires.over s1 (buffers_names b ++ buffers_names b) leaves c.snapshot.ensures.table
+returns-clause-tables g c = (one_shared g (goal.at.returns-clause-tables g c).In_ok-shared).tables
 
 pub returns-clause-over : goal.returns-clause-over
-returns-clause-over g c =
-    let s0 : ChainState = record { held = g.C.ChainMeaning.held c.args.chain.now; counts = g.C.ChainMeaning.counts c.args.chain.now; loans = g.C.ChainMeaning.loans c.args.chain.now; valid = g.C.ChainMeaning.is_valid c.args.chain.now } in
-    let s1 : ChainState = record { held = g.C.ChainMeaning.held c.snapshot.new.chain; counts = g.C.ChainMeaning.counts c.snapshot.new.chain; loans = g.C.ChainMeaning.loans c.snapshot.new.chain; valid = g.C.ChainMeaning.is_valid c.snapshot.new.chain } in
-    let v : Versions BufferTable = record { working = c.self.inside.working; latest = c.self.inside.latest; undoable = c.self.inside.undoable.items; redoable = c.self.inside.redoable.items } in
-    let now : Versions BufferTable = c.args.self.now in
-    let b : BufferTable = c.index.result.now in
-    let rest : List BufferTable = drop 1 v.undoable in
-    let list : v.undoable ≡ b ∷ rest = list-first v.undoable b (subst (λ (x : Versions BufferTable). 0 < length x.undoable) (sym c.self.view_is) c.requires.some) c.index.ensures in
-    let parts : all_versions now ≡ (v.working ∷ v.latest ∷ []) ++ b ∷ (rest ++ v.redoable) =
-    ap (λ (w : Versions BufferTable). all_versions w) (sym c.self.view_is)
-    ∙ ap (λ (bs : List BufferTable). v.working ∷ v.latest ∷ (bs ++ v.redoable)) list in
-    let leaves : Leaves 0 (buffers_names b) (buffers_names b ++ buffers_names b) s0 s1 = record { others = c.in_ok-shared.ensures.others; counts = c.snapshot.ensures.counts; loans = c.snapshot.ensures.loans; valid = c.snapshot.ensures.valid } in
-    let more : List ℕ = buffers_names c.in_ok-shared.shared in
-    let twice : (q : ℕ) → times (buffers_names b ++ buffers_names b) q ≡ times (buffers_names b) q + times more q =
-    λ q. times-append (buffers_names b) (buffers_names b) q ∙ ap (λ (x : BufferTable). times (buffers_names b) q + times (buffers_names x) q) (sym c.in_ok-shared.ensures.buffers) in
-    shared-over now (v.working ∷ v.latest ∷ []) (rest ++ v.redoable) b parts s0 c.requires.over s1 (buffers_names b ++ buffers_names b) leaves more twice c.snapshot.ensures.over
+returns-clause-over g c = (one_shared g (goal.at.returns-clause-over g c).In_ok-shared).over
 
 pub returns-clause-owned : goal.returns-clause-owned
-returns-clause-owned g c =
-    let s0 : ChainState = record { held = g.C.ChainMeaning.held c.args.chain.now; counts = g.C.ChainMeaning.counts c.args.chain.now; loans = g.C.ChainMeaning.loans c.args.chain.now; valid = g.C.ChainMeaning.is_valid c.args.chain.now } in
-    let s1 : ChainState = record { held = g.C.ChainMeaning.held c.snapshot.new.chain; counts = g.C.ChainMeaning.counts c.snapshot.new.chain; loans = g.C.ChainMeaning.loans c.snapshot.new.chain; valid = g.C.ChainMeaning.is_valid c.snapshot.new.chain } in
-    let v : Versions BufferTable = record { working = c.self.inside.working; latest = c.self.inside.latest; undoable = c.self.inside.undoable.items; redoable = c.self.inside.redoable.items } in
-    let now : Versions BufferTable = c.args.self.now in
-    let b : BufferTable = c.index.result.now in
-    let rest : List BufferTable = drop 1 v.undoable in
-    let list : v.undoable ≡ b ∷ rest = list-first v.undoable b (subst (λ (x : Versions BufferTable). 0 < length x.undoable) (sym c.self.view_is) c.requires.some) c.index.ensures in
-    let parts : all_versions now ≡ (v.working ∷ v.latest ∷ []) ++ b ∷ (rest ++ v.redoable) =
-    ap (λ (w : Versions BufferTable). all_versions w) (sym c.self.view_is)
-    ∙ ap (λ (bs : List BufferTable). v.working ∷ v.latest ∷ (bs ++ v.redoable)) list in
-    let leaves : Leaves 0 (buffers_names b) (buffers_names b ++ buffers_names b) s0 s1 = record { others = c.in_ok-shared.ensures.others; counts = c.snapshot.ensures.counts; loans = c.snapshot.ensures.loans; valid = c.snapshot.ensures.valid } in
-    let more : List ℕ = buffers_names c.in_ok-shared.shared in
-    let twice : (q : ℕ) → times (buffers_names b ++ buffers_names b) q ≡ times (buffers_names b) q + times more q =
-    λ q. times-append (buffers_names b) (buffers_names b) q ∙ ap (λ (x : BufferTable). times (buffers_names b) q + times (buffers_names x) q) (sym c.in_ok-shared.ensures.buffers) in
-    shared-owned now (v.working ∷ v.latest ∷ []) (rest ++ v.redoable) b parts s0 c.requires.over s1 (buffers_names b ++ buffers_names b) leaves more twice
+returns-clause-owned g c = (one_shared g (goal.at.returns-clause-owned g c).In_ok-shared).owned
 
 pub returns-clause-left : goal.returns-clause-left
-returns-clause-left g c =
-    let s0 : ChainState = record { held = g.C.ChainMeaning.held c.args.chain.now; counts = g.C.ChainMeaning.counts c.args.chain.now; loans = g.C.ChainMeaning.loans c.args.chain.now; valid = g.C.ChainMeaning.is_valid c.args.chain.now } in
-    let s1 : ChainState = record { held = g.C.ChainMeaning.held c.snapshot.new.chain; counts = g.C.ChainMeaning.counts c.snapshot.new.chain; loans = g.C.ChainMeaning.loans c.snapshot.new.chain; valid = g.C.ChainMeaning.is_valid c.snapshot.new.chain } in
-    let v : Versions BufferTable = record { working = c.self.inside.working; latest = c.self.inside.latest; undoable = c.self.inside.undoable.items; redoable = c.self.inside.redoable.items } in
-    let now : Versions BufferTable = c.args.self.now in
-    let b : BufferTable = c.index.result.now in
-    let rest : List BufferTable = drop 1 v.undoable in
-    let list : v.undoable ≡ b ∷ rest = list-first v.undoable b (subst (λ (x : Versions BufferTable). 0 < length x.undoable) (sym c.self.view_is) c.requires.some) c.index.ensures in
-    let parts : all_versions now ≡ (v.working ∷ v.latest ∷ []) ++ b ∷ (rest ++ v.redoable) =
-    ap (λ (w : Versions BufferTable). all_versions w) (sym c.self.view_is)
-    ∙ ap (λ (bs : List BufferTable). v.working ∷ v.latest ∷ (bs ++ v.redoable)) list in
-    let leaves : Leaves 0 (buffers_names b) (buffers_names b ++ buffers_names b) s0 s1 = record { others = c.in_ok-shared.ensures.others; counts = c.snapshot.ensures.counts; loans = c.snapshot.ensures.loans; valid = c.snapshot.ensures.valid } in
-    let more : List ℕ = buffers_names c.in_ok-shared.shared in
-    let twice : (q : ℕ) → times (buffers_names b ++ buffers_names b) q ≡ times (buffers_names b) q + times more q =
-    λ q. times-append (buffers_names b) (buffers_names b) q ∙ ap (λ (x : BufferTable). times (buffers_names b) q + times (buffers_names x) q) (sym c.in_ok-shared.ensures.buffers) in
-    shared-left now (v.working ∷ v.latest ∷ []) (rest ++ v.redoable) b parts s0 c.requires.over s1 (buffers_names b ++ buffers_names b) leaves more twice
+returns-clause-left g c = (one_shared g (goal.at.returns-clause-left g c).In_ok-shared).left

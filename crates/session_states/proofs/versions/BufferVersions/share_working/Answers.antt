@@ -1,100 +1,51 @@
-use Rattle.std.proofs.Common.{◌≡◌, ℕ, ◌+◌, List, [], ◌∷◌, ◌++◌, sym, ap, subst, ◌∙◌, arith}
-use Rattle.chain_owners.specs.Owners.{Owns, times}
-use Rattle.chain_owners.proofs.Ownership.{times-append}
+use Rattle.std.proofs.Common.{[], ◌++◌, ap, subst, ◌∙◌}
+use Rattle.chain_owners.specs.Owners.{Owns}
 use Rattle.root_tiles.specs.Chains.{ChainState}
 use Rattle.buffer_view.specs.BufferTables.{BufferTable, buffers_names}
 use Rattle.session_states.specs.OverChains.{Leaves, versions_names}
-use Rattle.session_states.specs.Versions.{Versions, all_versions, committed_versions}
+use Rattle.session_states.specs.Versions.{Versions}
 use Rattle.session_states.proofs.Returned.{err-match}
-use Rattle.session_states.proofs.Shared.{shared-left, shared-over, shared-owned, shared-tables}
+use Rattle.session_states.proofs.Shared.{IsShared, given, refused, working-one}
+use Rattle.session_states.proofs.versions.BufferVersions.share_working.Given
+use Rattle.session_states.proofs.versions.BufferVersions.share_working.Goals.{In_err-shared, In_ok-shared}
 use Rattle.session_states.proofs.versions.BufferVersions.share_working.Goals as goal
 
+module _ (g : Given.Over) where
+  abbrev state : g.row.C.Denot → ChainState
+  state chain = record { held = g.C.ChainMeaning.held chain; counts = g.C.ChainMeaning.counts chain; loans = g.C.ChainMeaning.loans chain; valid = g.C.ChainMeaning.is_valid chain }
+
+  none_shared : (c : In_err-shared g) → IsShared c.args.self.now [] (state c.args.chain.now) (state c.snapshot.new.chain)
+  none_shared c =
+      refused _ c.self.inside.working (working-one _ _ c.self.view_is) _ c.requires _ c.snapshot.ensures.over c.snapshot.ensures.table
+      (record { others = c.in_err-shared.ensures.others; counts = c.snapshot.ensures.counts; loans = c.snapshot.ensures.loans; valid = c.snapshot.ensures.valid })
+
+  one_shared : (c : In_ok-shared g) → IsShared c.args.self.now (buffers_names c.in_ok-shared.shared) (state c.args.chain.now) (state c.snapshot.new.chain)
+  one_shared c =
+      given _ c.self.inside.working (working-one _ _ c.self.view_is) _ c.requires _ c.snapshot.ensures.over c.snapshot.ensures.table c.in_ok-shared.shared c.in_ok-shared.ensures.buffers
+      (record { others = c.in_ok-shared.ensures.others; counts = c.snapshot.ensures.counts; loans = c.snapshot.ensures.loans; valid = c.snapshot.ensures.valid })
+
 pub returns-in_err-shared-clause-tables : goal.returns-in_err-shared-clause-tables
-returns-in_err-shared-clause-tables g c =
-    let s0 : ChainState = record { held = g.C.ChainMeaning.held c.args.chain.now; counts = g.C.ChainMeaning.counts c.args.chain.now; loans = g.C.ChainMeaning.loans c.args.chain.now; valid = g.C.ChainMeaning.is_valid c.args.chain.now } in
-    let s1 : ChainState = record { held = g.C.ChainMeaning.held c.snapshot.new.chain; counts = g.C.ChainMeaning.counts c.snapshot.new.chain; loans = g.C.ChainMeaning.loans c.snapshot.new.chain; valid = g.C.ChainMeaning.is_valid c.snapshot.new.chain } in
-    let v : Versions BufferTable = record { working = c.self.inside.working; latest = c.self.inside.latest; undoable = c.self.inside.undoable.items; redoable = c.self.inside.redoable.items } in
-    let now : Versions BufferTable = c.args.self.now in
-    let b = v.working in
-    let parts : all_versions now ≡ [] ++ b ∷ committed_versions v = ap (λ (w : Versions BufferTable). all_versions w) (sym c.self.view_is) in
-    let leaves : Leaves 0 (buffers_names b) (buffers_names b) s0 s1 = record { others = c.in_err-shared.ensures.others; counts = c.snapshot.ensures.counts; loans = c.snapshot.ensures.loans; valid = c.snapshot.ensures.valid } in
-    shared-tables now [] (committed_versions v) b parts s0 c.requires s1 (buffers_names b) leaves c.snapshot.ensures.table
+returns-in_err-shared-clause-tables g c = (none_shared g (goal.at.returns-in_err-shared-clause-tables g c).In_err-shared).tables
 
 pub returns-in_err-shared-clause-over : goal.returns-in_err-shared-clause-over
-returns-in_err-shared-clause-over g c =
-    let s0 : ChainState = record { held = g.C.ChainMeaning.held c.args.chain.now; counts = g.C.ChainMeaning.counts c.args.chain.now; loans = g.C.ChainMeaning.loans c.args.chain.now; valid = g.C.ChainMeaning.is_valid c.args.chain.now } in
-    let s1 : ChainState = record { held = g.C.ChainMeaning.held c.snapshot.new.chain; counts = g.C.ChainMeaning.counts c.snapshot.new.chain; loans = g.C.ChainMeaning.loans c.snapshot.new.chain; valid = g.C.ChainMeaning.is_valid c.snapshot.new.chain } in
-    let v : Versions BufferTable = record { working = c.self.inside.working; latest = c.self.inside.latest; undoable = c.self.inside.undoable.items; redoable = c.self.inside.redoable.items } in
-    let now : Versions BufferTable = c.args.self.now in
-    let b = v.working in
-    let parts : all_versions now ≡ [] ++ b ∷ committed_versions v = ap (λ (w : Versions BufferTable). all_versions w) (sym c.self.view_is) in
-    let leaves : Leaves 0 (buffers_names b) (buffers_names b) s0 s1 = record { others = c.in_err-shared.ensures.others; counts = c.snapshot.ensures.counts; loans = c.snapshot.ensures.loans; valid = c.snapshot.ensures.valid } in
-    shared-over now [] (committed_versions v) b parts s0 c.requires s1 (buffers_names b) leaves [] (λ q. omega arith) c.snapshot.ensures.over
+returns-in_err-shared-clause-over g c = (none_shared g (goal.at.returns-in_err-shared-clause-over g c).In_err-shared).over
 
 pub returns-in_err-shared-clause-left : goal.returns-in_err-shared-clause-left
 returns-in_err-shared-clause-left g c =
-    let s0 : ChainState = record { held = g.C.ChainMeaning.held c.args.chain.now; counts = g.C.ChainMeaning.counts c.args.chain.now; loans = g.C.ChainMeaning.loans c.args.chain.now; valid = g.C.ChainMeaning.is_valid c.args.chain.now } in
-    let s1 : ChainState = record { held = g.C.ChainMeaning.held c.snapshot.new.chain; counts = g.C.ChainMeaning.counts c.snapshot.new.chain; loans = g.C.ChainMeaning.loans c.snapshot.new.chain; valid = g.C.ChainMeaning.is_valid c.snapshot.new.chain } in
-    let v : Versions BufferTable = record { working = c.self.inside.working; latest = c.self.inside.latest; undoable = c.self.inside.undoable.items; redoable = c.self.inside.redoable.items } in
-    let now : Versions BufferTable = c.args.self.now in
-    let b = v.working in
-    let parts : all_versions now ≡ [] ++ b ∷ committed_versions v = ap (λ (w : Versions BufferTable). all_versions w) (sym c.self.view_is) in
-    let leaves : Leaves 0 (buffers_names b) (buffers_names b) s0 s1 = record { others = c.in_err-shared.ensures.others; counts = c.snapshot.ensures.counts; loans = c.snapshot.ensures.loans; valid = c.snapshot.ensures.valid } in
-    let left : Leaves 0 (versions_names now) (versions_names now) s0 s1 = shared-left now [] (committed_versions v) b parts s0 c.requires s1 (buffers_names b) leaves [] (λ q. omega arith) in
-    err-match c.from_residual.result (λ shared. Leaves 0 (versions_names now) (buffers_names shared ++ versions_names now) s0 s1) (Leaves 0 (versions_names now) (versions_names now) s0 s1) c.from_residual.ensures.0 left
+    let names = versions_names c.args.self.now in
+    err-match c.from_residual.result (λ shared. Leaves 0 names (buffers_names shared ++ names) (state g c.args.chain.now) (state g c.snapshot.new.chain))
+    (Leaves 0 names names (state g c.args.chain.now) (state g c.snapshot.new.chain)) c.from_residual.ensures.0 (none_shared g (goal.at.returns-in_err-shared-clause-left g c).In_err-shared).left
 
 pub returns-clause-tables : goal.returns-clause-tables
-returns-clause-tables g c =
-    let s0 : ChainState = record { held = g.C.ChainMeaning.held c.args.chain.now; counts = g.C.ChainMeaning.counts c.args.chain.now; loans = g.C.ChainMeaning.loans c.args.chain.now; valid = g.C.ChainMeaning.is_valid c.args.chain.now } in
-    let s1 : ChainState = record { held = g.C.ChainMeaning.held c.snapshot.new.chain; counts = g.C.ChainMeaning.counts c.snapshot.new.chain; loans = g.C.ChainMeaning.loans c.snapshot.new.chain; valid = g.C.ChainMeaning.is_valid c.snapshot.new.chain } in
-    let v : Versions BufferTable = record { working = c.self.inside.working; latest = c.self.inside.latest; undoable = c.self.inside.undoable.items; redoable = c.self.inside.redoable.items } in
-    let now : Versions BufferTable = c.args.self.now in
-    let b = v.working in
-    let parts : all_versions now ≡ [] ++ b ∷ committed_versions v = ap (λ (w : Versions BufferTable). all_versions w) (sym c.self.view_is) in
-    let leaves : Leaves 0 (buffers_names b) (buffers_names b ++ buffers_names b) s0 s1 = record { others = c.in_ok-shared.ensures.others; counts = c.snapshot.ensures.counts; loans = c.snapshot.ensures.loans; valid = c.snapshot.ensures.valid } in
-    let more : List ℕ = buffers_names c.in_ok-shared.shared in
-    let twice : (q : ℕ) → times (buffers_names b ++ buffers_names b) q ≡ times (buffers_names b) q + times more q =
-    λ q. times-append (buffers_names b) (buffers_names b) q ∙ ap (λ (x : BufferTable). times (buffers_names b) q + times (buffers_names x) q) (sym c.in_ok-shared.ensures.buffers) in
-    shared-tables now [] (committed_versions v) b parts s0 c.requires s1 (buffers_names b ++ buffers_names b) leaves c.snapshot.ensures.table
+returns-clause-tables g c = (one_shared g (goal.at.returns-clause-tables g c).In_ok-shared).tables
 
 pub returns-clause-over : goal.returns-clause-over
-returns-clause-over g c =
-    let s0 : ChainState = record { held = g.C.ChainMeaning.held c.args.chain.now; counts = g.C.ChainMeaning.counts c.args.chain.now; loans = g.C.ChainMeaning.loans c.args.chain.now; valid = g.C.ChainMeaning.is_valid c.args.chain.now } in
-    let s1 : ChainState = record { held = g.C.ChainMeaning.held c.snapshot.new.chain; counts = g.C.ChainMeaning.counts c.snapshot.new.chain; loans = g.C.ChainMeaning.loans c.snapshot.new.chain; valid = g.C.ChainMeaning.is_valid c.snapshot.new.chain } in
-    let v : Versions BufferTable = record { working = c.self.inside.working; latest = c.self.inside.latest; undoable = c.self.inside.undoable.items; redoable = c.self.inside.redoable.items } in
-    let now : Versions BufferTable = c.args.self.now in
-    let b = v.working in
-    let parts : all_versions now ≡ [] ++ b ∷ committed_versions v = ap (λ (w : Versions BufferTable). all_versions w) (sym c.self.view_is) in
-    let leaves : Leaves 0 (buffers_names b) (buffers_names b ++ buffers_names b) s0 s1 = record { others = c.in_ok-shared.ensures.others; counts = c.snapshot.ensures.counts; loans = c.snapshot.ensures.loans; valid = c.snapshot.ensures.valid } in
-    let more : List ℕ = buffers_names c.in_ok-shared.shared in
-    let twice : (q : ℕ) → times (buffers_names b ++ buffers_names b) q ≡ times (buffers_names b) q + times more q =
-    λ q. times-append (buffers_names b) (buffers_names b) q ∙ ap (λ (x : BufferTable). times (buffers_names b) q + times (buffers_names x) q) (sym c.in_ok-shared.ensures.buffers) in
-    shared-over now [] (committed_versions v) b parts s0 c.requires s1 (buffers_names b ++ buffers_names b) leaves more twice c.snapshot.ensures.over
+returns-clause-over g c = (one_shared g (goal.at.returns-clause-over g c).In_ok-shared).over
 
 pub returns-clause-owned : goal.returns-clause-owned
 returns-clause-owned g c =
-    let s0 : ChainState = record { held = g.C.ChainMeaning.held c.args.chain.now; counts = g.C.ChainMeaning.counts c.args.chain.now; loans = g.C.ChainMeaning.loans c.args.chain.now; valid = g.C.ChainMeaning.is_valid c.args.chain.now } in
-    let s1 : ChainState = record { held = g.C.ChainMeaning.held c.snapshot.new.chain; counts = g.C.ChainMeaning.counts c.snapshot.new.chain; loans = g.C.ChainMeaning.loans c.snapshot.new.chain; valid = g.C.ChainMeaning.is_valid c.snapshot.new.chain } in
-    let v : Versions BufferTable = record { working = c.self.inside.working; latest = c.self.inside.latest; undoable = c.self.inside.undoable.items; redoable = c.self.inside.redoable.items } in
-    let now : Versions BufferTable = c.args.self.now in
-    let b = v.working in
-    let parts : all_versions now ≡ [] ++ b ∷ committed_versions v = ap (λ (w : Versions BufferTable). all_versions w) (sym c.self.view_is) in
-    let leaves : Leaves 0 (buffers_names b) (buffers_names b ++ buffers_names b) s0 s1 = record { others = c.in_ok-shared.ensures.others; counts = c.snapshot.ensures.counts; loans = c.snapshot.ensures.loans; valid = c.snapshot.ensures.valid } in
-    let more : List ℕ = buffers_names c.in_ok-shared.shared in
-    let twice : (q : ℕ) → times (buffers_names b ++ buffers_names b) q ≡ times (buffers_names b) q + times more q =
-    λ q. times-append (buffers_names b) (buffers_names b) q ∙ ap (λ (x : BufferTable). times (buffers_names b) q + times (buffers_names x) q) (sym c.in_ok-shared.ensures.buffers) in
-    subst (λ (b : BufferTable). Owns (g.C.ChainMeaning.held c.snapshot.new.chain) (buffers_names b ++ versions_names now)) (c.in_ok-shared.ensures.buffers ∙ ap (λ (x : Versions BufferTable). x.working) c.self.view_is) (shared-owned now [] (committed_versions v) b parts s0 c.requires s1 (buffers_names b ++ buffers_names b) leaves more twice)
+    subst (λ (b : BufferTable). Owns (g.C.ChainMeaning.held c.snapshot.new.chain) (buffers_names b ++ versions_names c.args.self.now))
+    (c.in_ok-shared.ensures.buffers ∙ ap (λ (x : Versions BufferTable). x.working) c.self.view_is) (one_shared g (goal.at.returns-clause-owned g c).In_ok-shared).owned
 
 pub returns-clause-left : goal.returns-clause-left
-returns-clause-left g c =
-    let s0 : ChainState = record { held = g.C.ChainMeaning.held c.args.chain.now; counts = g.C.ChainMeaning.counts c.args.chain.now; loans = g.C.ChainMeaning.loans c.args.chain.now; valid = g.C.ChainMeaning.is_valid c.args.chain.now } in
-    let s1 : ChainState = record { held = g.C.ChainMeaning.held c.snapshot.new.chain; counts = g.C.ChainMeaning.counts c.snapshot.new.chain; loans = g.C.ChainMeaning.loans c.snapshot.new.chain; valid = g.C.ChainMeaning.is_valid c.snapshot.new.chain } in
-    let v : Versions BufferTable = record { working = c.self.inside.working; latest = c.self.inside.latest; undoable = c.self.inside.undoable.items; redoable = c.self.inside.redoable.items } in
-    let now : Versions BufferTable = c.args.self.now in
-    let b = v.working in
-    let parts : all_versions now ≡ [] ++ b ∷ committed_versions v = ap (λ (w : Versions BufferTable). all_versions w) (sym c.self.view_is) in
-    let leaves : Leaves 0 (buffers_names b) (buffers_names b ++ buffers_names b) s0 s1 = record { others = c.in_ok-shared.ensures.others; counts = c.snapshot.ensures.counts; loans = c.snapshot.ensures.loans; valid = c.snapshot.ensures.valid } in
-    let more : List ℕ = buffers_names c.in_ok-shared.shared in
-    let twice : (q : ℕ) → times (buffers_names b ++ buffers_names b) q ≡ times (buffers_names b) q + times more q =
-    λ q. times-append (buffers_names b) (buffers_names b) q ∙ ap (λ (x : BufferTable). times (buffers_names b) q + times (buffers_names x) q) (sym c.in_ok-shared.ensures.buffers) in
-    shared-left now [] (committed_versions v) b parts s0 c.requires s1 (buffers_names b ++ buffers_names b) leaves more twice
+returns-clause-left g c = (one_shared g (goal.at.returns-clause-left g c).In_ok-shared).left
