@@ -8,6 +8,9 @@ use no_memory::NoMemory;
 use std::alloc::Global;
 use std::marker::Model;
 
+/// How many names are looked at from one on that is likely to be absent.
+const NEAR_NAMES: u64 = 16;
+
 /// How many owners each name has. A clause sees the finite map from names to numbers.
 #[derive(Drop)]
 pub(crate) struct OwnerCounts {
@@ -50,6 +53,14 @@ impl OwnerCounts {
         ensures range { IfSome result (λ name. (from ≤ name) × (name < 2 ^ 64 - 1)) }
     {
         (from..u64::MAX).find(|name| self.of(*name).is_none())
+    }
+
+    /// Returns the first name from `from` on that isn't there, where it is one of the first few.
+    pub fn absent_near(&self, from: u64) -> Option<u64>
+        ensures absent { IfSome result (λ name. map.get self.now name ≡ None) }
+        ensures range { IfSome result (λ name. (from ≤ name) × (name < 2 ^ 64 - 1)) }
+    {
+        (from..from.saturating_add(NEAR_NAMES).min(u64::MAX)).find(|name| self.of(*name).is_none())
     }
 
     /// Adds a name of one owner.
