@@ -29,6 +29,17 @@ has_columns r some = grind (arith, nat_tests)
 pub has_rows : (r : Rectangle) → false ≡ is_empty r → 0 < r.height
 has_rows r some = grind (arith, nat_tests)
 
+-- the bytes of the pixels of a tile that are in one row of a part
+pub piece_long : (part : Rectangle) (row t from upto b e size : ℕ) (tile piece : List ℕ)
+    → tile_of part.first_column ≤ t → t < tile_end (end_column part) → 0 < part.width
+    → from ≡ row % 64 * 64 + (max (64 * t) part.first_column - 64 * t) → upto ≡ row % 64 * 64 + (min (64 * t + 64) (end_column part) - 64 * t)
+    → b ≡ from * size → e ≡ upto * size → e ≤ length tile → piece ≡ take (e - b) (drop b tile)
+    → length piece ≡ (reached part (t + 1) - reached part t) * size
+piece_long part row t from upto b e size tile piece first last some starts stops begins ends room is =
+    let more : upto ≡ from + (reached part (t + 1) - reached part t) = omega (arith, first, last, some, starts, stops) in
+    let bytes : e ≡ b + (reached part (t + 1) - reached part t) * size = omega (arith, begins, ends, ap (λ (n : ℕ). n * size) more) in
+    ap length is ∙ omega (arith, length-take (e - b) (drop b tile), length-drop b tile, bytes, room)
+
 module _ (image : Image) (part : Rectangle) where
   pub HasFirstPixels-none : (n : ℕ) (bytes : List ℕ) → n ≡ 0 → bytes ≡ [] → HasFirstPixels image part n bytes
   HasFirstPixels-none n bytes is none = record {

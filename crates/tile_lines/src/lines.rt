@@ -1,6 +1,7 @@
 //! Rows of parts, from the lines of tiles that contain them.
 
-ghost use Rattle.std.specs.Prelude.{◌≡◌, ◌+◌, ◌-◌, ◌*◌, ◌%◌, ◌<◌, ◌≤◌, OnOk, false, map, max, min};
+ghost use Rattle.std.specs.Prelude.{◌≡◌, ◌+◌, ◌-◌, ◌*◌, ◌%◌, ◌<◌, ◌≤◌, OnOk, false, length, map, max, min};
+ghost use Rattle.pixel_formats.specs.Format.{pixel_bytes};
 ghost use Rattle.plane_rect.specs.Rectangle.{Within, end_column, end_row, is_empty, offset};
 ghost use Rattle.plane_rect.specs.Tile.{tile_end, tile_of};
 ghost use Rattle.model_images.specs.Image.{Image};
@@ -28,7 +29,9 @@ pub fn add_line(
     requires first { tile_of part.now.first_row ≤ line }
     requires end { line < tile_end (end_row part.now) }
     requires tiles { AreLineTiles format part.now (map (λ tile. tile.now) tiles.now) }
-    ensures { OnOk result ((image : Image) → image.format ≡ format → HasLine image part.now line (map (λ tile. tile.now) tiles.now)
+    ensures count { OnOk result (length bytes.new.items ≡ length bytes.old.items
+        + (min (64 * line + 64) (end_row part.now) - max (64 * line) part.now.first_row) * (part.now.width * pixel_bytes format)) }
+    ensures pixels { OnOk result ((image : Image) → image.format ≡ format → HasLine image part.now line (map (λ tile. tile.now) tiles.now)
         → HasFirstPixels image part.now (offset part.now part.now.first_column (max (64 * line) part.now.first_row)) bytes.old.items
         → HasFirstPixels image part.now (offset part.now part.now.first_column (min (64 * line + 64) (end_row part.now))) bytes.new.items) }
 {
@@ -53,7 +56,8 @@ fn add_row(
     requires some { false ≡ is_empty part.now }
     requires row { Within part.now.first_row part.now.height row }
     requires tiles { AreLineTiles format part.now (map (λ tile. tile.now) tiles.now) }
-    ensures { OnOk result ((image : Image) → image.format ≡ format → HasLine image part.now (tile_of row) (map (λ tile. tile.now) tiles.now)
+    ensures count { OnOk result (length bytes.new.items ≡ length bytes.old.items + part.now.width * pixel_bytes format) }
+    ensures pixels { OnOk result ((image : Image) → image.format ≡ format → HasLine image part.now (tile_of row) (map (λ tile. tile.now) tiles.now)
         → HasFirstPixels image part.now (offset part.now part.now.first_column row) bytes.old.items
         → HasFirstPixels image part.now (offset part.now part.now.first_column (row + 1)) bytes.new.items) }
 {
