@@ -8,3 +8,4 @@ pub mod Written
 pub mod HullTiles
 pub mod MoreTiles
 pub mod TilesRead
+pub mod LineTiles

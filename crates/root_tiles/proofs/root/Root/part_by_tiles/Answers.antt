@@ -10,7 +10,7 @@ use Rattle.model_images.specs.Tiles.{held_image}
 use Rattle.root_tiles.specs.Roots.{with_tile}
 use Rattle.root_tiles.proofs.ChainReads.{read-both, read-none, refused-later}
 use Rattle.root_tiles.proofs.Blitting.{Blitted, blitted-first, blitted-last, blitted-next, part-known}
-use Rattle.root_tiles.proofs.root.Root.part.Goals as goal
+use Rattle.root_tiles.proofs.root.Root.part_by_tiles.Goals as goal
 
 pub loop-at-init : goal.loop-at-init
 loop-at-init g c =

@@ -3,7 +3,7 @@ use Rattle.level_tables.specs.LevelTiles.{bytes_in}
 use Rattle.root_tiles.specs.Chains.{IsRead}
 use Rattle.root_tiles.specs.Roots.{HasShape, part_shape}
 use Rattle.root_tiles.proofs.Blitting.{Blitted}
-use Rattle.root_tiles.proofs.root.Root.part.Given as goal
+use Rattle.root_tiles.proofs.root.Root.part_by_tiles.Given as goal
 
 abbrev pub invariant-loop-at : goal.invariant-loop-at
 invariant-loop-at g l =
