@@ -1,5 +1,5 @@
 -- Lines of tiles of a root, and the parts that they make.
-use Rattle.std.proofs.Common.{◌≡◌, ℕ, ◌+◌, ◌-◌, ◌*◌, ◌<◌, ◌≤◌, All, List, [], ◌∷◌, ◌++◌, length, get_or, Option, Some, None, inl, inr, max, min, refl, sym, ap, ◌∙◌, arith}
+use Rattle.std.proofs.Common.{◌≡◌, ℕ, ◌+◌, ◌-◌, ◌*◌, ◌<◌, ◌≤◌, All, List, [], ◌∷◌, ◌++◌, length, get_or, Option, Some, None, inl, inr, refl, sym, ap, ◌∙◌, arith}
 use Rattle.std.specs.Prelude.{IfSome}
 use Rattle.std.specs.Option.{option_map}
 use Rattle.std.proofs.Math.ListN.{length-append}
@@ -14,7 +14,7 @@ use Rattle.model_images.proofs.LevelLaws.{level-zero}
 use Rattle.model_images.proofs.RawLaws.{raw-samples}
 use Rattle.pixel_formats.specs.Format.{pixel_bytes}
 use Rattle.pixel_formats.specs.declared.format.Format.{Format}
-use Rattle.plane_rect.specs.Rectangle.{Rectangle, area, end_column, end_row, offset}
+use Rattle.plane_rect.specs.Rectangle.{Rectangle, end_column}
 use Rattle.plane_rect.specs.Tile.{Tile, tile_at, tile_end, tile_of, tile_square}
 use Rattle.plane_rect.proofs.TileLists.{Inside-tile_square}
 use Rattle.tile_lines.specs.Lines.{HasLine}
@@ -92,51 +92,6 @@ pub both-known : {X : Type 0} (content : Option X) (image : Image) (P Q R : Imag
 both-known None image P Q R p q gives = tt
 both-known (Some x) image P Q R p q gives = gives p q
 
--- up to which row the lines of tiles before a line have the rows of a part
-abbrev pub reached_row : Rectangle → ℕ → ℕ
-reached_row part line = min (end_row part) (max part.first_row (64 * line))
-
-pub reached_first : (part : Rectangle) (line : ℕ) → 0 < part.height → line ≡ tile_of part.first_row → reached_row part line ≡ part.first_row
-reached_first part line some first = omega (arith, some, first)
-
-pub reached_line : (part : Rectangle) (line : ℕ) → 0 < part.height → line < tile_end (end_row part)
-    → reached_row part line ≡ max (64 * line) part.first_row
-reached_line part line some end = omega (arith, some, end)
-
-pub reached_next : (part : Rectangle) (line : ℕ) → tile_of part.first_row ≤ line → reached_row part (line + 1) ≡ min (64 * line + 64) (end_row part)
-reached_next part line first = omega (arith, first)
-
-pub reached_all : (part : Rectangle) (line : ℕ) → line ≡ tile_end (end_row part) → reached_row part line ≡ end_row part
-reached_all part line end = omega (arith, end)
-
--- how many bytes the rows up to a line have
-pub bytes_more : (part : Rectangle) (line size old new : ℕ) → 0 < part.height → tile_of part.first_row ≤ line → line < tile_end (end_row part)
-    → old ≡ (reached_row part line - part.first_row) * size
-    → new ≡ old + (min (64 * line + 64) (end_row part) - max (64 * line) part.first_row) * size
-    → new ≡ (reached_row part (line + 1) - part.first_row) * size
-bytes_more part line size old new some first end before is =
-    let rows : reached_row part (line + 1) - part.first_row
-        ≡ reached_row part line - part.first_row + (min (64 * line + 64) (end_row part) - max (64 * line) part.first_row) = omega (arith, some, first, end) in
-    omega (arith, before, is, ap (λ (n : ℕ). n * size) rows)
-
 pub always-known : {X : Type 0} (content : Option X) (image : Image) (P : Image → Type 0) → P image → IfSome (option_map (λ (x : X). image) content) P
 always-known None image P is = tt
 always-known (Some x) image P is = is
-
-pub no_rows : (part : Rectangle) (row size : ℕ) → row ≡ part.first_row → (row - part.first_row) * size ≡ 0
-no_rows part row size first =
-    let none : row - part.first_row ≡ 0 = omega (arith, first) in
-    omega (arith, ap (λ (n : ℕ). n * size) none)
-
-pub no_pixels : (part : Rectangle) (row : ℕ) → row ≡ part.first_row → offset part part.first_column row ≡ 0
-no_pixels part row first = omega (arith, no_rows part row part.width first)
-
-pub all_rows : (part : Rectangle) (row size : ℕ) → row ≡ end_row part → (row - part.first_row) * (part.width * size) ≡ area part * size
-all_rows part row size end =
-    let rows : row - part.first_row ≡ part.height = omega (arith, end) in
-    ap (λ (n : ℕ). n * (part.width * size)) rows ∙ omega arith
-
-pub all_pixels : (part : Rectangle) (row : ℕ) → row ≡ end_row part → offset part part.first_column row ≡ area part
-all_pixels part row end =
-    let rows : row - part.first_row ≡ part.height = omega (arith, end) in
-    omega (arith, ap (λ (n : ℕ). n * part.width) rows)

@@ -1,1 +1,2 @@
 pub mod FirstPixels
+pub mod LineRows

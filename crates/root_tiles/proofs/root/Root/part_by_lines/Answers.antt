@@ -13,7 +13,8 @@ use Rattle.plane_rect.specs.Tile.{tile_end, tile_of}
 use Rattle.tile_lines.specs.Lines.{HasFirstPixels}
 use Rattle.tile_lines.proofs.FirstPixels.{HasFirstPixels-all, HasFirstPixels-none, has_rows}
 use Rattle.root_tiles.proofs.ChainReads.{read-both, read-none, refused-later}
-use Rattle.root_tiles.proofs.LineTiles.{all_pixels, all_rows, always-known, both-known, bytes_more, if-known, no_pixels, no_rows, reached_all, reached_first, reached_line, reached_next, reached_row}
+use Rattle.tile_lines.proofs.LineRows.{all_pixels, all_rows, bytes_more, no_pixels, no_rows, reached_all, reached_first, reached_line, reached_next, reached_row}
+use Rattle.root_tiles.proofs.LineTiles.{always-known, both-known, if-known}
 use Rattle.root_tiles.proofs.root.Root.part_by_lines.Goals as goal
 
 pub loop-line-init : goal.loop-line-init

@@ -5,7 +5,7 @@ use Rattle.plane_rect.specs.Rectangle.{offset}
 use Rattle.tile_lines.specs.Lines.{HasFirstPixels}
 use Rattle.root_tiles.specs.Chains.{IsRead}
 use Rattle.root_tiles.specs.Roots.{root_image}
-use Rattle.root_tiles.proofs.LineTiles.{reached_row}
+use Rattle.tile_lines.proofs.LineRows.{reached_row}
 use Rattle.root_tiles.proofs.root.Root.part_by_lines.Given as goal
 
 abbrev pub invariant-loop-line : goal.invariant-loop-line
