@@ -33,6 +33,7 @@ where
     tiles: Tiles<D>,
     owners: OwnerCounts,
     next: u64,
+    near: u64,
     ghost counted: { HaveOwners (overlay tiles.below.tiles.entries (disk_held
         tiles.below.below.store.placement (D.blocks tiles.below.below.store.disk))) owners },
 }
@@ -110,6 +111,7 @@ impl<D: SwapDisk + Drop> OwnedTiles<D> {
             tiles: EmptyHandler::new(alloc, cache),
             owners: OwnerCounts::new(alloc),
             next: 1,
+            near: 1,
         }
     }
 
@@ -123,16 +125,21 @@ impl<D: SwapDisk + Drop> OwnedTiles<D> {
             tiles,
             owners: _,
             next: _,
+            near: _,
         } = self;
         tiles.into_below().into_below().end()
     }
 
-    /// Returns a name that isn't there, and is never 0: the first one from the next on, or from 1 on
-    /// where all of those are there. It looks at as many names as there are, and one more.
+    /// Returns a name that isn't there, and is never 0: one near the name that came or went last, so that
+    /// names stay close to one another, or else the first one from the next on, or from 1 on where all of
+    /// those are there. It looks at as many names as there are at most, and some more.
     fn free_name(&self) -> Option<u64>
         ensures absent { IfSome result (λ name. map.get self.now.owners name ≡ None) }
         ensures range { IfSome result (λ name. (1 ≤ name) × (name < 2 ^ 64 - 1)) }
     {
+        if let Some(name) = self.owners.absent_near(self.near.max(1)) {
+            return Some(name);
+        }
         if let Some(name) = self.owners.first_absent(self.next.max(1)) {
             return Some(name);
         }
@@ -148,7 +155,8 @@ impl<D: SwapDisk + Drop> TileChain for OwnedTiles<D> {
         self.owners.add(name)?;
         match self.tiles.put(name, &tile) {
             Ok(()) => {
-                self.next = name + 1;
+                self.near = name + 1;
+                self.next = self.next.max(name + 1);
                 Ok(name)
             }
             Err(refused) => {
@@ -188,6 +196,7 @@ impl<D: SwapDisk + Drop> TileChain for OwnedTiles<D> {
         }
         self.tiles.forget(name);
         self.owners.remove(name);
+        self.near = name;
     }
 
     fn owners(&self, name: u64) -> u32 {

@@ -3,15 +3,18 @@
 ghost use Rattle.std.specs.Prelude.{◌≡◌, ◌-◌, ◌^◌, ◌<◌, ◌≤◌, None, IfSome, IsSome, OnErr, OnOk};
 ghost use Rattle.std.specs.FinMap as map;
 
+use name_maps::NameMap;
 use no_memory::NoMemory;
 use std::alloc::Global;
-use std::collections::HashMap;
 use std::marker::Model;
+
+/// How many names are looked at from one on that is likely to be absent.
+const NEAR_NAMES: u64 = 16;
 
 /// How many owners each name has. A clause sees the finite map from names to numbers.
 #[derive(Drop)]
 pub(crate) struct OwnerCounts {
-    counts: HashMap<u64, u32>,
+    counts: NameMap<u32>,
 }
 
 impl Model for OwnerCounts {
@@ -24,7 +27,7 @@ impl Model for OwnerCounts {
 
     ghost coded = { map.code coded_ℕ coded_ℕ };
 
-    ghost view = { λ owners. map.from_entries owners.counts.entries };
+    ghost view = { λ owners. owners.counts };
 }
 
 impl OwnerCounts {
@@ -33,7 +36,7 @@ impl OwnerCounts {
         ensures { result ≡ map.empty }
     {
         OwnerCounts {
-            counts: HashMap::new(alloc),
+            counts: NameMap::new(alloc),
         }
     }
 
@@ -41,7 +44,7 @@ impl OwnerCounts {
     pub fn of(&self, name: u64) -> Option<u32>
         ensures { result ≡ map.get self.now name }
     {
-        self.counts.get(&name).copied()
+        self.counts.get(name)
     }
 
     /// Returns the first name from `from` on that isn't there. It looks at each name before that.
@@ -50,6 +53,14 @@ impl OwnerCounts {
         ensures range { IfSome result (λ name. (from ≤ name) × (name < 2 ^ 64 - 1)) }
     {
         (from..u64::MAX).find(|name| self.of(*name).is_none())
+    }
+
+    /// Returns the first name from `from` on that isn't there, where it is one of the first few.
+    pub fn absent_near(&self, from: u64) -> Option<u64>
+        ensures absent { IfSome result (λ name. map.get self.now name ≡ None) }
+        ensures range { IfSome result (λ name. (from ≤ name) × (name < 2 ^ 64 - 1)) }
+    {
+        (from..from.saturating_add(NEAR_NAMES).min(u64::MAX)).find(|name| self.of(*name).is_none())
     }
 
     /// Adds a name of one owner.
@@ -66,15 +77,13 @@ impl OwnerCounts {
         requires { IsSome (map.get self.old name) }
         ensures { self.new ≡ map.insert self.old name count }
     {
-        if let Some(owners) = self.counts.get_mut(&name) {
-            *owners = count;
-        }
+        self.counts.set(name, count);
     }
 
     /// Takes a name out. Takes no memory.
     pub fn remove(&mut self, name: u64)
         ensures { self.new ≡ map.remove self.old name }
     {
-        self.counts.remove(&name);
+        self.counts.remove(name);
     }
 }

@@ -4,4 +4,4 @@ pub mod Shown
 pub mod Limits
 pub mod Applied
 pub mod Bounds
-pub mod FirstPixels
+pub mod HeldLines

@@ -9,3 +9,4 @@ pub mod Written
 pub mod HullTiles
 pub mod MoreTiles
 pub mod TilesRead
+pub mod LineTiles

@@ -1,18 +1,18 @@
 -- What holds of where names lie, after a name came or went.
-use Rattle.std.proofs.Common.{◌≡◌, ◌≢◌, ℕ, ◌+◌, ◌-◌, ◌<◌, ◌≤◌, ◌^◌, ◌↔◌, Bool, true, false, cond, eqb, List, [], ◌∷◌, length, get_or, Option, Some, None, ◌⊎◌, inl, inr, refl, sym, ap, subst, ◌∙◌, arith}
+use Rattle.std.proofs.Common.{◌≡◌, ◌≢◌, ℕ, ◌+◌, ◌-◌, ◌<◌, ◌≤◌, ◌^◌, ◌↔◌, Bool, true, false, cond, List, [], ◌∷◌, length, get_or, Option, Some, None, ◌⊎◌, inl, inr, refl, sym, ap, subst, ◌∙◌, arith}
 use Rattle.std.specs.Ordering.{nat_cmp}
 use Rattle.std.specs.FinMap as map
-use Rattle.std.specs.FinMap.{from_entries, get-empty}
-use Rattle.std.specs.Map.{lookup}
+use Rattle.std.specs.FinMap.{get-empty, len-insert, len-remove}
 use Rattle.std.specs.Option.{is_some}
 use Rattle.std.proofs.lemmas.Bool.{cases_eq, cases_lt, false≢true, true≢false}
+use Rattle.std.specs.Cmp.{nat_cmp_total}
 use Rattle.tile_cow.specs.Tile.{IsTileLength}
 use Rattle.chain_owners.specs.declared.run.Run.{Run}
 use Rattle.swap_store.specs.declared.block_map.Extent.{Extent}
 use Rattle.chain_owners.specs.Values.{Named}
 use Rattle.swap_store.specs.Run.{blocks_for, InBlocks, HasBlock, IsRunList}
 use Rattle.swap_store.specs.Placement.{Placement, IsPlacement, IsUnnamed, InExtent}
-use Rattle.chain_owners.proofs.Names.{get_here, get_elsewhere, get_gone, get_left, entries-inserted, entries-removed}
+use Rattle.chain_owners.proofs.Names.{get_here, get_elsewhere, get_gone, get_left}
 use Rattle.swap_store.proofs.RunLists.{Without, HasBlock-at}
 use Rattle.swap_store.proofs.GivenBack.{With}
 
@@ -230,54 +230,57 @@ module _ (p : Placement) (laws : IsPlacement p) (name : ℕ) (extent : Extent) (
       bounded = laws.bounded;
     }
 
--- ---- the same for the entries of a hash map
+-- ---- the same, as a map of blocks does it
 
--- the placement of these entries and free runs
-abbrev pub placed : List (ℕ × Extent) → List Run → ℕ → Placement
-placed es free used = record { extents = from_entries {R = nat_cmp} es; free = free; used = used }
+-- the placement of these extents and free runs
+abbrev pub placed : Named Extent → List Run → ℕ → Placement
+placed extents free used = record { extents = extents; free = free; used = used }
 
-pub added : (es fs : List (ℕ × Extent)) (free free' : List Run) (used name len i : ℕ) (run : Run)
-    → IsPlacement (placed es free used)
-    → ((q : ℕ) → lookup (eqb q) fs ≡ cond (eqb name q) (Some (record { first = run.first; len = len })) (lookup (eqb q) es))
-    → map.get (from_entries {R = nat_cmp} es) name ≡ None → IsTileLength len
+pub added : (extents : Named Extent) (free free' : List Run) (used name len i : ℕ) (run : Run)
+    → IsPlacement (placed extents free used)
+    → map.get extents name ≡ None → IsTileLength len
     → i < length free → run ≡ get_or free i run → ((d : Run) → blocks_for len ≤ (get_or free i d).count)
     → IsRunList 0 (2 ^ 20) free' → ((d : Run) → Without free free' (get_or free i d).first (blocks_for len))
-    → IsPlacement (placed fs free' used)
-added es fs free free' used name len i run laws is none size lt read long runs without =
+    → IsPlacement (placed (map.insert extents name (record { first = run.first; len = len })) free' used)
+added extents free free' used name len i run laws none size lt read long runs without =
     let first : (get_or free i run).first ≡ run.first = ap (λ (r : Run). r.first) (sym read) in
-    let same : from_entries {R = nat_cmp} fs ≡ map.insert (from_entries es) name (record { first = run.first; len = len }) =
-    entries-inserted es fs name (record { first = run.first; len = len }) is in
-    rw same
-    (named (placed es free used) laws name len run.first size
+    named (placed extents free used) laws name len run.first size
     (λ b is_inside. HasBlock-at free i run b lt
     (record { low = omega (arith, first, is_inside.low); high = omega (arith, first, long run, is_inside.high) }))
-    none free' runs (rw first at (without run)))
+    none free' runs (rw first at (without run))
 
 pub none_there : (o : Option Extent) → is_some o ≡ false → o ≡ None
 none_there None is = refl
 none_there (Some e) is = absurd (true≢false is)
 
-pub room_after_added : (b : Bool) (n m : ℕ) → m ≡ n + cond b 0 1 → m ≤ n + 1
-room_after_added true n m is = omega arith
-room_after_added false n m is = omega arith
+-- a name that comes is counted once, one that moves not again, and one that goes no more
+pub len_added : (extents : Named Extent) (name : ℕ) (e : Extent) → map.len (map.insert extents name e) ≤ map.len extents + 1
+len_added extents name e = at_most (map.contains_key extents name) (len-insert nat_cmp_total extents name e)
+  where
+    at_most : (b : Bool) → map.len (map.insert extents name e) ≡ cond b (map.len extents) (map.len extents + 1) → map.len (map.insert extents name e) ≤ map.len extents + 1
+    at_most true is = omega (arith, is)
+    at_most false is = omega (arith, is)
 
-pub removed : (es fs : List (ℕ × Extent)) (free free' : List Run) (used name : ℕ) (e : Extent)
-    → IsPlacement (placed es free used)
-    → ((q : ℕ) → lookup (eqb q) fs ≡ cond (eqb name q) None (lookup (eqb q) es))
-    → map.get (from_entries {R = nat_cmp} es) name ≡ Some e
-    → IsRunList 0 (2 ^ 20) free' → With free free' e.first (blocks_for e.len)
-    → IsPlacement (placed fs free' used)
-removed es fs free free' used name e laws is some runs with =
-    let same : from_entries {R = nat_cmp} fs ≡ map.remove (from_entries es) name = entries-removed es fs name is in
-    rw same (forgotten (placed es free used) laws name e some free' runs with)
+pub len_moved : (extents : Named Extent) (name : ℕ) (e : Extent) → is_some (map.get extents name) ≡ true
+    → map.len (map.insert extents name e) ≡ map.len extents
+len_moved extents name e there = len-insert nat_cmp_total extents name e ∙ ap (λ b. cond b (map.len extents) (map.len extents + 1)) there
 
-pub room_after_removed : (b : Bool) (n m : ℕ) → m + cond b 1 0 ≡ n → b ≡ true → m + 1 ≤ n
-room_after_removed true n m is found = omega arith
-room_after_removed false n m is found = absurd (false≢true found)
+pub len_removed : (extents : Named Extent) (name : ℕ) → is_some (map.get extents name) ≡ true
+    → map.len (map.remove extents name) + 1 ≡ map.len extents
+len_removed extents name there =
+    let left = len-remove nat_cmp_total extents name ∙ ap (λ b. cond b (map.len extents - 1) (map.len extents)) there in
+    let some : 1 ≤ map.len extents = elim (cases_lt 0 (map.len extents)) [
+      | inl lt ↦ lt
+      | inr ge ↦
+          let none : map.get extents name ≡ None =
+              ap (λ (m : Named Extent). map.get m name) (map.empty_of_len extents (omega (arith, ge))) ∙ get-empty nat_cmp name in
+          absurd (false≢true (ap is_some (sym none) ∙ there))
+    ] in
+    omega (arith, left, some)
 
-module _ (es : List (ℕ × Extent)) (free middle : List Run) (used name len i : ℕ) (run : Run) (old : Extent)
-    (laws : IsPlacement (placed es free used))
-    (some_old : map.get (from_entries {R = nat_cmp} es) name ≡ Some old) (size : IsTileLength len)
+module _ (extents : Named Extent) (free middle : List Run) (used name len i : ℕ) (run : Run) (old : Extent)
+    (laws : IsPlacement (placed extents free used))
+    (some_old : map.get extents name ≡ Some old) (size : IsTileLength len)
     (lt : i < length free) (read : run ≡ get_or free i run) (long : (d : Run) → blocks_for len ≤ (get_or free i d).count)
     (without : (d : Run) → Without free middle (get_or free i d).first (blocks_for len)) where
   first_read : (get_or free i run).first ≡ run.first
@@ -298,14 +301,9 @@ module _ (es : List (ℕ × Extent)) (free middle : List Run) (used name len i :
   pub old_apart : (b : ℕ) → InBlocks b old.first (blocks_for old.len) → ¬ HasBlock middle b
   old_apart b is_inside h = ((laws.exact b).0 ((without_there b).0 h).0).1 name old some_old is_inside
 
-  pub replaced : (fs : List (ℕ × Extent)) (free' : List Run)
-      → ((q : ℕ) → lookup (eqb q) fs ≡ cond (eqb name q) (Some (record { first = run.first; len = len })) (lookup (eqb q) es))
-      → IsRunList 0 (2 ^ 20) free' → With middle free' old.first (blocks_for old.len)
-      → IsPlacement (placed fs free' used)
-  replaced fs free' is runs with =
-      let same : from_entries {R = nat_cmp} fs ≡ map.insert (from_entries es) name (record { first = run.first; len = len }) =
-      entries-inserted es fs name (record { first = run.first; len = len }) is in
-      rw same (moved (placed es free used) laws name len run.first size were_free_there old some_old middle free' runs without_there with)
+  pub replaced : (free' : List Run) → IsRunList 0 (2 ^ 20) free' → With middle free' old.first (blocks_for old.len)
+      → IsPlacement (placed (map.insert extents name (record { first = run.first; len = len })) free' used)
+  replaced free' runs with = moved (placed extents free used) laws name len run.first size were_free_there old some_old middle free' runs without_there with
 
 -- ---- a placement of no names
 

@@ -1,6 +1,6 @@
 //! Where names are on a disk.
 
-ghost use Rattle.std.specs.Prelude.{◌≡◌, ℕ, ◌+◌, ◌<◌, ◌≤◌, ◌^◌, ◌↔◌, [], Some, None, Err, IsSome, IsNone, IfOk, OnOk, OnErr, MatchResult, length, slice_index_or};
+ghost use Rattle.std.specs.Prelude.{◌≡◌, ℕ, ◌+◌, ◌<◌, ◌≤◌, ◌^◌, ◌↔◌, [], Some, None, Err, IsSome, IsNone, IfOk, OnOk, OnErr, MatchResult, length, slice_index_or, vec_capacity, vec_len};
 ghost use Rattle.std.specs.FinMap as map;
 ghost use Rattle.tile_cow.specs.Tile.{IsTileLength};
 ghost use Rattle.swap_store.specs.Run.{IsFirstFit, blocks_for, longest};
@@ -9,9 +9,9 @@ ghost use Rattle.swap_store.specs.Placement.{IsPlacement, Placement};
 use crate::refusal::SwapRefused;
 use crate::runs;
 use chain_owners::Run;
+use name_maps::NameMap;
 use no_memory::NoMemory;
 use std::alloc::{AllocError, Global};
-use std::collections::HashMap;
 use std::marker::Model;
 
 /// The bytes of a block.
@@ -33,19 +33,30 @@ pub(crate) struct Extent {
     pub len: u32,
 }
 
+/// Makes room for so many runs more. Where there is too little, it asks for an eighth more than that, since
+/// twice as much would cost a name 16 bytes and not 9.
+fn reserve_runs(free: &mut Vec<Run>, more: usize) -> Result<(), NoMemory>
+    ensures items { free.new.items ≡ free.old.items }
+    ensures room { OnOk result (vec_len free.new + more ≤ vec_capacity free.new) }
+    ensures capacity { vec_capacity free.old ≤ vec_capacity free.new }
+{
+    if more > free.capacity() - free.len() {
+        free.reserve_exact(more.saturating_add(more / 8))?;
+    }
+    Ok(())
+}
+
 /// The extents of names, and the free runs of blocks: those that no name has. There is room for one
 /// free run more for each name, so that to forget one takes no memory.
 #[derive(Drop)]
 pub(crate) struct BlockMap {
-    extents: HashMap<u64, Extent>,
+    extents: NameMap<Extent>,
     free: Vec<Run>,
     used: u32,
 }
 
 impl Model for BlockMap {
     ghost use Rattle.std.specs.Prelude.{◌+◌, ◌≤◌, vec_len, vec_capacity};
-    ghost use Rattle.std.specs.Ordering.{nat_cmp};
-    ghost use Rattle.std.specs.HashMap.{IsUnique, hash_map_len};
     ghost use Rattle.std.specs.FinMap as map;
     ghost use Rattle.swap_store.specs.Placement.{Placement, placement_code, IsPlacement};
 
@@ -53,10 +64,10 @@ impl Model for BlockMap {
 
     ghost coded = { placement_code };
 
-    ghost view = { λ a. record { extents = map.from_entries a.extents.entries; free = a.free.items; used = a.used } };
+    ghost view = { λ a. record { extents = a.extents; free = a.free.items; used = a.used } };
 
-    ghost invariant = { λ a. IsPlacement (record { extents = map.from_entries a.extents.entries; free = a.free.items; used = a.used })
-        × (vec_len a.free + hash_map_len a.extents ≤ vec_capacity a.free) };
+    ghost invariant = { λ a. IsPlacement (record { extents = a.extents; free = a.free.items; used = a.used })
+        × (vec_len a.free + map.len a.extents ≤ vec_capacity a.free) };
 }
 
 impl BlockMap {
@@ -74,7 +85,7 @@ impl BlockMap {
             })?;
         }
         Ok(BlockMap {
-            extents: HashMap::new(alloc),
+            extents: NameMap::new(alloc),
             free,
             used,
         })
@@ -100,7 +111,7 @@ impl BlockMap {
         ensures value { result ≡ map.get self.now.extents name }
         ensures laws { IsPlacement self.now }
     {
-        self.extents.get(&name).copied()
+        self.extents.get(name)
     }
 
     /// Returns the index of the lowest free run that so many bytes fit in.
@@ -130,7 +141,7 @@ impl BlockMap {
     {
         let count = blocks_for(len);
         let first = self.free[index].first;
-        self.free.reserve(self.extents.len() + 1)?;
+        reserve_runs(&mut self.free, self.extents.len() + 1)?;
         self.extents.insert(name, Extent { first, len })?;
         runs::take_first(&mut self.free, index, count);
         Ok(())
@@ -150,8 +161,9 @@ impl BlockMap {
     {
         let count = blocks_for(len);
         let first = self.free[index].first;
-        self.free.reserve(self.extents.len() + 1)?;
-        let old = self.extents.insert(name, Extent { first, len })?.unwrap();
+        reserve_runs(&mut self.free, self.extents.len() + 1)?;
+        let old = self.extents.get(name).unwrap();
+        self.extents.set(name, Extent { first, len });
         runs::take_first(&mut self.free, index, count);
         runs::give_back(&mut self.free, old.first, blocks_for(old.len));
         Ok(())
@@ -163,7 +175,8 @@ impl BlockMap {
         ensures extents { self.new.extents ≡ map.remove self.old.extents name }
         ensures used { self.new.used ≡ self.old.used }
     {
-        let extent = self.extents.remove(&name).unwrap();
+        let extent = self.extents.get(name).unwrap();
+        self.extents.remove(name);
         runs::give_back(&mut self.free, extent.first, blocks_for(extent.len));
     }
 }

@@ -84,6 +84,29 @@ pub fn check<C: TileChain>(
     Ok(())
 }
 
+/// Checks that each row of a part of the box is the part of this row alone.
+pub fn check_rows<C: TileChain>(
+    rt: &impl Abort,
+    root: &Root,
+    chain: &mut C,
+    fields: [i64; 4],
+) -> Result<(), Fail>
+    requires { IsGray root.now (C.held chain.old) }
+    ensures { IsGray root.now (C.held chain.new) }
+{
+    let rect = rect(fields);
+    assert!(rt; root.bounds().contains(&rect));
+    let whole = root.part(chain, rect)?;
+    for row in rect.first_row()..rect.end_row() {
+        let line = Rect::spanning(rect.first_column(), row, rect.end_column(), row + 1);
+        assert!(rt; root.bounds().contains(&line) && line.in_limits());
+        let part = root.part(chain, line)?;
+        let cut = whole.part(root.allocator(), line)?;
+        assert!(rt; cut.raw_bytes() == part.raw_bytes());
+    }
+    Ok(())
+}
+
 /// Checks the first bytes of the tile at the origin as it was put, and that its next byte is 0.
 pub fn check_put<C: TileChain>(
     rt: &impl Abort,

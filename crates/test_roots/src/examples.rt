@@ -1,6 +1,8 @@
 //! Small examples, whose results are worked out by hand.
 
-use crate::calls::{check, check_level, check_put, fill, new_root, put, share_and_release};
+use crate::calls::{
+    check, check_level, check_put, check_rows, fill, new_root, put, share_and_release,
+};
 use chain_handlers::TileChain;
 use std::alloc::Global;
 use std::process::Abort;
@@ -61,6 +63,24 @@ pub fn read_levels<C: TileChain>(
     check_level(rt, &mut root, chain, 1, &[25, 46])?;
     put(rt, &mut root, chain, [0, 0, 1, 1], &[14])?;
     check_level(rt, &mut root, chain, 1, &[26, 46])?;
+    root.release(chain);
+    Ok(())
+}
+
+/// Reads large parts, which begin and end inside tiles, beside their rows, which are small: of 300 by 200 pixels,
+/// of which two rectangles over borders of tiles were filled, so that most tiles were never put.
+pub fn read_large_parts<C: TileChain>(
+    rt: &impl Abort,
+    chain: &mut C,
+    alloc: Global,
+) -> Result<(), Fail> {
+    let mut root = new_root(chain, alloc, [-70, -10, 300, 200]);
+    fill(rt, &mut root, chain, [60, 50, 20, 100], 7)?;
+    fill(rt, &mut root, chain, [-70, 120, 10, 70], 9)?;
+    check(rt, &root, chain, [59, 149, 3, 1], &[0, 7, 7])?;
+    check_rows(rt, &root, chain, [-70, -10, 300, 200])?;
+    check_rows(rt, &root, chain, [-65, -3, 256, 160])?;
+    check_rows(rt, &root, chain, [1, 1, 190, 188])?;
     root.release(chain);
     Ok(())
 }

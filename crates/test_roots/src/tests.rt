@@ -1,7 +1,7 @@
 //! Expected values are worked out by hand from the doc comments.
 
 use crate::bands::{write_in_bands, write_or_refuse};
-use crate::examples::{read_levels, share_and_write, write_over_borders};
+use crate::examples::{read_large_parts, read_levels, share_and_write, write_over_borders};
 use crate::view_examples::{read_around_view, read_view};
 use chain_handlers::Chain;
 use outside_io::{MemSwap, SureSwap, SwapDisk};
@@ -13,7 +13,8 @@ use std::thread::Threads;
 /// Writes over a chain of one tile in memory.
 fn write_over<D: SwapDisk>(rt: &impl Abort, alloc: Global, disk: &mut D) -> Result<(), Fail> {
     let mut chain = Chain::new(alloc, disk, 16, 1)?;
-    write_over_borders(rt, &mut chain, alloc)
+    write_over_borders(rt, &mut chain, alloc)?;
+    read_large_parts(rt, &mut chain, alloc)
 }
 
 #[test]

@@ -1,11 +1,9 @@
-use Rattle.std.proofs.Common.{◌-◌, ◌<◌, map}
 use Rattle.plane_rect.specs.Rectangle.{offset}
-use Rattle.plane_rect.specs.Tile.{tile_of}
-use Rattle.op_contracts.specs.HeldBytes.{HasFirstPixels, HasLine}
+use Rattle.model_graphs.specs.Windows.{window_image}
+use Rattle.tile_lines.specs.Lines.{HasFirstPixels}
+use Rattle.tile_lines.proofs.LineRows.{reached_row}
 use Rattle.op_contracts.proofs.held_bytes.held_bytes.Given as goal
 
-abbrev pub invariant-loop-row : goal.invariant-loop-row
-invariant-loop-row l = record {
-  bytes : HasFirstPixels l.fn.window l.fn.part (offset l.fn.part l.fn.part.first_column l.row) l.bytes.items;
-  line : l.fn.part.first_row < l.row → HasLine l.fn.window l.fn.part (tile_of (l.row - 1)) (map (λ tile. tile.now) l.line.items);
-}
+abbrev pub invariant-loop-line : goal.invariant-loop-line
+invariant-loop-line l =
+    HasFirstPixels (window_image l.fn.window) l.fn.part (offset l.fn.part l.fn.part.first_column (reached_row l.fn.part l.line)) l.bytes.items

@@ -1,7 +1,6 @@
 use Rattle.std.proofs.Common.{◌≡◌, ◌<◌, length, get_or, arith, sym, ◌∙◌}
 use Rattle.std.proofs.lemmas.List.{get_or_default}
-use Rattle.chain_owners.proofs.Names.{entries-inserted}
-use Rattle.swap_store.proofs.PlacementLaws.{added, none_there, room_after_added}
+use Rattle.swap_store.proofs.PlacementLaws.{added, none_there, len_added}
 use Rattle.swap_store.proofs.block_map.BlockMap.add.Goals as goal
 
 pub returns-clause-extents : goal.returns-clause-extents
@@ -10,24 +9,22 @@ returns-clause-extents c = λ d.
     let xs = c.self.inside.free.items in
     let lt : c.args.index < length xs = rw (← c.self.view_is) at c.requires.known in
     let same : get_or xs c.args.index d ≡ run = get_or_default xs c.args.index d run lt ∙ sym c.index.ensures in
-    rw (← c.self.view_is, same)
-    (entries-inserted c.self.inside.extents.entries c.insert.new.self.entries c.args.name
-    (record { first = run.first; len = c.args.len }) c.in_ok-insert.ensures.updates.0)
+    rw (← c.self.view_is, same) c.in_ok-insert.ensures.inserted
 
 pub invariant_of-self-2 : goal.invariant_of-self-2
-invariant_of-self-2 c = (
-  added c.self.inside.extents.entries c.insert.new.self.entries c.self.inside.free.items c.take_first.new.runs.items c.self.inside.used
-      c.args.name c.args.len c.args.index c.index.result.now c.self.invariant.0 c.in_ok-insert.ensures.updates.0
+invariant_of-self-2 c = rw c.in_ok-insert.ensures.inserted (
+  added c.self.inside.extents c.self.inside.free.items c.take_first.new.runs.items c.self.inside.used
+      c.args.name c.args.len c.args.index c.index.result.now c.self.invariant.0
       (none_there _ (rw (← c.self.view_is) at c.requires.absent)) c.requires.size
       (rw (← c.self.view_is) at c.requires.known) c.index.ensures
       (rw (← c.self.view_is) at c.requires.long) c.take_first.ensures.list
-      (rw (c.reserve.ensures.items, c.blocks_for-count.ensures) at c.take_first.ensures.blocks),
+      (rw (c.reserve_runs.ensures.items, c.blocks_for-count.ensures) at c.take_first.ensures.blocks),
   omega (
     arith,
     c.take_first.ensures.shorter,
     c.take_first.ensures.capacity,
-    c.in_ok-reserve.ensures.ok,
-    c.len.ensures.len,
-    room_after_added _ _ _ c.in_ok-insert.ensures.len,
+    c.in_ok-reserve_runs.ensures.room,
+    c.len.ensures,
+    len_added c.self.inside.extents c.args.name (record { first = c.index.result.now.first; len = c.args.len }),
   ),
 )

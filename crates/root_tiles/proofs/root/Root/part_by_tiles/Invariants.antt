@@ -1,0 +1,18 @@
+use Rattle.std.specs.Prelude.{IsSome}
+use Rattle.level_tables.specs.LevelTiles.{bytes_in}
+use Rattle.root_tiles.specs.Chains.{IsRead}
+use Rattle.root_tiles.specs.Roots.{HasShape, part_shape}
+use Rattle.root_tiles.proofs.Blitting.{Blitted}
+use Rattle.root_tiles.proofs.root.Root.part_by_tiles.Given as goal
+
+abbrev pub invariant-loop-at : goal.invariant-loop-at
+invariant-loop-at g l =
+    (goal.iterator-loop-at g).can_next l.at-iterator × (goal.iterator-loop-at g).is_finite l.at-iterator
+    × record {
+      shape : HasShape (part_shape l.fn.self l.fn.rect) l.patch;
+      read : IsRead
+          (record { held = g.C.ChainMeaning.held l.initial.chain; counts = g.C.ChainMeaning.counts l.initial.chain; loans = g.C.ChainMeaning.loans l.initial.chain; valid = g.C.ChainMeaning.is_valid l.initial.chain })
+          (record { held = g.C.ChainMeaning.held l.chain; counts = g.C.ChainMeaning.counts l.chain; loans = g.C.ChainMeaning.loans l.chain; valid = g.C.ChainMeaning.is_valid l.chain });
+      blitted : IsSome (g.C.ChainMeaning.held l.initial.chain).content
+          → Blitted (bytes_in (g.C.ChainMeaning.held l.initial.chain) l.fn.self.tiles.put) l.patch l.at-iterator;
+    }

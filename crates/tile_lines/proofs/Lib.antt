@@ -1,0 +1,2 @@
+pub mod FirstPixels
+pub mod LineRows
