@@ -32,8 +32,11 @@ pub(crate) fn patch_in(
     Ok(Patch::from_vec(rect, format, bytes))
 }
 
-/// Returns so many bytes, whichever they are: in the memory where that has room for them, and else zeros
-/// in new memory, of which no page is written yet.
+/// Returns so many bytes, whichever they are: in the memory where that suits them, and else zeros in new memory.
+///
+/// Memory suits that has room for half of them, since a large vector grows by moving its pages to other addresses
+/// (`mremap` of the system), with no copy; and whose room isn't more than four times theirs, since a small patch would
+/// hold all of it.
 ///
 /// # Errors
 ///
@@ -41,11 +44,13 @@ pub(crate) fn patch_in(
 fn bytes_in(alloc: Global, memory: Vec<u8>, count: usize) -> Result<Vec<u8>, NoMemory>
     ensures { IfOk result (λ bytes. length bytes.items ≡ count) }
 {
-    if memory.capacity() < count {
+    let room = memory.capacity();
+    if room < count / 2 || count < room / 4 {
         drop(memory);
         return Ok(vec![in alloc; 0; count]?);
     }
     let mut bytes = memory;
+    bytes.reserve_exact(count.saturating_sub(bytes.len()))?;
     bytes.resize(count, 0)?;
     Ok(bytes)
 }
