@@ -37,7 +37,7 @@ module _ {X : Type 0} where
   out_of_page zero first page m q out = refl
   out_of_page (suc n) first page m q out =
       value_elsewhere (first + n) (get_or page n None) (with_page n first page m) q
-          (λ is. elim out [ inl lt ↦ absurd (omega (arith, is, lt)) | inr ge ↦ absurd (omega (arith, is, ge)) ])
+      (λ is. elim out [ inl lt ↦ absurd (omega (arith, is, lt)) | inr ge ↦ absurd (omega (arith, is, ge)) ])
       ∙ out_of_page n first page m q (elim out [ inl lt ↦ inl lt | inr ge ↦ inr (omega (arith, ge)) ])
 
   -- the values of a page, or none
@@ -103,7 +103,7 @@ module _ {X : Type 0} where
   changed_page es fs name o page is same = changed es fs name o
       (λ k ne. ap values_of (is k ∙ ap (λ b. cond b (Some page) (lookup (eqb k) es)) (ne_eqb (name / 32) k (λ e. ne (sym e)))))
       (λ i. ap (λ found. get_or (values_of found) i None)
-          (is (name / 32) ∙ ap (λ b. cond b (Some page) (lookup (eqb (name / 32)) es)) (eq-eqb (name / 32) (name / 32) refl)) ∙ same i)
+      (is (name / 32) ∙ ap (λ b. cond b (Some page) (lookup (eqb (name / 32)) es)) (eq-eqb (name / 32) (name / 32) refl)) ∙ same i)
 
   -- a page without values has gone
   pub dropped_page : (es fs : List (ℕ × Vec (Option X))) (number : ℕ)
@@ -130,7 +130,7 @@ module _ {X : Type 0} where
       → names_of fs ≡ with_value name o (names_of es)
   written_page es fs name index o page page' was is at same = changed_page es fs name o page' is
       (λ i. same i ∙ ap (λ k. cond (eqb i k) o (get_or page.items i None)) at
-          ∙ ap (λ found. cond (eqb i (name % 32)) o (get_or (values_of found) i None)) was)
+      ∙ ap (λ found. cond (eqb i (name % 32)) o (get_or (values_of found) i None)) was)
 
   -- the page of a name isn't there, so neither is the name
   pub no_page : (es : List (ℕ × Vec (Option X))) (name : ℕ) → None ≡ lookup (eqb (name / 32)) es → None ≡ map.get (names_of es) name
@@ -152,8 +152,8 @@ module _ {X : Type 0} where
       → names_of fs ≡ map.insert (names_of es) name v
   new_page es fs name index v page page' was blank is at same = changed_page es fs name (Some v) page' is
       (λ i. same i ∙ ap (λ k. cond (eqb i k) (Some v) (get_or page.items i None)) at
-          ∙ ap (λ items. cond (eqb i (name % 32)) (Some v) (get_or items i None)) blank
-          ∙ ap (λ found. cond (eqb i (name % 32)) (Some v) (get_or (values_of found) i None)) was)
+      ∙ ap (λ items. cond (eqb i (name % 32)) (Some v) (get_or items i None)) blank
+      ∙ ap (λ found. cond (eqb i (name % 32)) (Some v) (get_or (values_of found) i None)) was)
 
   -- a page that has the values that it had
   pub same_page : (es fs : List (ℕ × Vec (Option X))) (number : ℕ) (page page' : Vec (Option X))

@@ -57,7 +57,7 @@ HasTiles-line window part line tiles inside has = λ u v c there is known.
     let lt : j < length tiles = omega (arith, has.count, there.column.0, there.column.1) in
     let column_is : tile_of part.first_column + j ≡ tile_of u = omega (arith, there.column.0) in
     let found : tiles_of window (tile_at u v) ≡ Some (get_or tiles j []) =
-        ap (λ (i : ℕ). tiles_of window (record { column = i; row = tile_of v })) (sym column_is)
-        ∙ ap (λ (i : ℕ). tiles_of window (record { column = tile_of part.first_column + j; row = i })) is
-        ∙ has.each j lt in
+    ap (λ (i : ℕ). tiles_of window (record { column = i; row = tile_of v })) (sym column_is)
+    ∙ ap (λ (i : ℕ). tiles_of window (record { column = tile_of part.first_column + j; row = i })) is
+    ∙ has.each j lt in
     sym (shown-of window u v c (Some (get_or tiles j [])) (inside u v there) known found)

@@ -77,8 +77,8 @@ IsFilled-line format (Some image) part line column tiles all h = λ u v c there 
     let lt : j < length tiles = omega (arith, all, h.count, there.column.0, there.column.1) in
     let column_is : tile_of part.first_column + j ≡ tile_of u = omega (arith, there.column.0) in
     ap (λ (bytes : List ℕ). pixels_from_raw (tile_square (tile_at u v)) image.format bytes u v c)
-        (known-at (Some image) (tile_of part.first_column + j) (tile_of u) line (get_or tiles j []) (get_or tiles j []) column_is refl (h.known j lt)
-        ∙ ap (λ (row : ℕ). tile_bytes image (record { column = tile_of u; row = row })) (sym is))
+    (known-at (Some image) (tile_of part.first_column + j) (tile_of u) line (get_or tiles j []) (get_or tiles j []) column_is refl (h.known j lt)
+    ∙ ap (λ (row : ℕ). tile_bytes image (record { column = tile_of u; row = row })) (sym is))
     ∙ raw-samples image (tile_square (tile_at u v)) u v c ((Inside-tile_square u v (tile_at u v)).1 refl) known
 
 -- what holds of an image where it is known

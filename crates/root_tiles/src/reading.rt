@@ -50,11 +50,7 @@ impl Root {
     }
 
     /// Returns a part of the image, into which each of its tiles is written.
-    fn part_by_tiles<C: TileChain>(
-        &self,
-        chain: &mut C,
-        rect: Rect,
-    ) -> Result<Patch, SwapRefused>
+    fn part_by_tiles<C: TileChain>(&self, chain: &mut C, rect: Rect) -> Result<Patch, SwapRefused>
         requires over { IsRootOver self.now (C.held chain.old) }
         requires inside { Includes self.now.box rect }
         requires limits { InLimits rect }
@@ -73,11 +69,7 @@ impl Root {
     }
 
     /// Returns a part of the image that is put together row by row, so that its memory is written once.
-    fn part_by_lines<C: TileChain>(
-        &self,
-        chain: &mut C,
-        rect: Rect,
-    ) -> Result<Patch, SwapRefused>
+    fn part_by_lines<C: TileChain>(&self, chain: &mut C, rect: Rect) -> Result<Patch, SwapRefused>
         requires some { false ≡ is_empty rect }
         requires over { IsRootOver self.now (C.held chain.old) }
         requires inside { Includes self.now.box rect }

@@ -273,7 +273,7 @@ len_removed extents name there =
       | inl lt ↦ lt
       | inr ge ↦
           let none : map.get extents name ≡ None =
-              ap (λ (m : Named Extent). map.get m name) (map.empty_of_len extents (omega (arith, ge))) ∙ get-empty nat_cmp name in
+          ap (λ (m : Named Extent). map.get m name) (map.empty_of_len extents (omega (arith, ge))) ∙ get-empty nat_cmp name in
           absurd (false≢true (ap is_some (sym none) ∙ there))
     ] in
     omega (arith, left, some)

@@ -58,7 +58,7 @@ module _ (image : Image) (part : Rectangle) where
   -- the pixels of one tile more of a row
   module _ (row t from upto b e : ℕ) (old tile piece : List ℕ) (within : Within part.first_row part.height row)
       (first : tile_of part.first_column ≤ t) (last : t < tile_end (end_column part)) (its : (u c : ℕ) → Inside u row part → tile_of u ≡ t → c < channels image.format
-          → pixels_from_raw (tile_square (tile_at u row)) image.format tile u row c ≡ at image u row c)
+      → pixels_from_raw (tile_square (tile_at u row)) image.format tile u row c ≡ at image u row c)
       (starts : from ≡ row % 64 * 64 + (max (64 * t) part.first_column - 64 * t)) (stops : upto ≡ row % 64 * 64 + (min (64 * t + 64) (end_column part) - 64 * t))
       (some : 0 < part.width) (begins : b ≡ from * pixel_bytes image.format) (ends : e ≡ upto * pixel_bytes image.format) (room : e ≤ length tile)
       (is : piece ≡ take (e - b) (drop b tile)) where

@@ -27,7 +27,7 @@ pub bytes_more : (part : Rectangle) (line size old new : ℕ) → 0 < part.heigh
     → new ≡ (reached_row part (line + 1) - part.first_row) * size
 bytes_more part line size old new some first end before is =
     let rows : reached_row part (line + 1) - part.first_row
-        ≡ reached_row part line - part.first_row + (min (64 * line + 64) (end_row part) - max (64 * line) part.first_row) = omega (arith, some, first, end) in
+    ≡ reached_row part line - part.first_row + (min (64 * line + 64) (end_row part) - max (64 * line) part.first_row) = omega (arith, some, first, end) in
     omega (arith, before, is, ap (λ (n : ℕ). n * size) rows)
 
 pub no_rows : (part : Rectangle) (row size : ℕ) → row ≡ part.first_row → (row - part.first_row) * size ≡ 0

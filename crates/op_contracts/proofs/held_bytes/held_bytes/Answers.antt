@@ -27,7 +27,7 @@ loop-line-preserved c =
     let begun : tile_of part.first_row ≤ line = omega (arith, c.loop-line.auto.line, c.first_row-line.ensures.value) in
     let ended : line < tile_end (end_row part) = omega (arith, c.loop-line-test.true, c.div_ceil-end.ensures, c.end_row.ensures.value) in
     let shown : HasLine (window_image window) part line (map (λ tile. tile.now) c.deref.result.now) =
-        rw c.deref.ensures.value (HasTiles-line window part line tiles c.requires.inside has) in
+    rw c.deref.ensures.value (HasTiles-line window part line tiles c.requires.inside has) in
     subst (λ row. HasFirstPixels (window_image window) part (offset part part.first_column row) c.add_line.new.bytes.items) (sym (reached_next part line begun))
     (c.in_ok-add_line.ensures.pixels (window_image window) (sym format) shown
     (subst (λ row. HasFirstPixels (window_image window) part (offset part part.first_column row) c.loop-line.bytes.items)
@@ -37,6 +37,6 @@ pub returns : goal.returns
 returns c =
     let part = c.args.part.now in
     let all : c.loop-line.line ≡ tile_end (end_row part) =
-        omega (arith, c.loop-line-test.false, c.loop-line.auto.line, c.loop-line.auto.line-end, c.div_ceil-end.ensures, c.end_row.ensures.value, c.first_row-line.ensures.value) in
+    omega (arith, c.loop-line-test.false, c.loop-line.auto.line, c.loop-line.auto.line-end, c.div_ceil-end.ensures, c.end_row.ensures.value, c.first_row-line.ensures.value) in
     subst (λ n. HasFirstPixels (window_image c.args.window.now) part n c.loop-line.bytes.items)
     (all_pixels part (reached_row part c.loop-line.line) (reached_all part c.loop-line.line all)) c.loop-line.invariant

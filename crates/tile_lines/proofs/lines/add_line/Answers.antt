@@ -12,7 +12,7 @@ loop-row-preserved c =
     let line = c.args.part.now.width * pixel_bytes c.args.format in
     let first = max (64 * c.args.line) c.args.part.now.first_row in
     let here : c.args.line ≡ tile_of row =
-        omega (arith, c.loop-row.auto.row, c.loop-row-test.true, c.max-first.ensures, c.min-end.ensures) in
+    omega (arith, c.loop-row.auto.row, c.loop-row-test.true, c.max-first.ensures, c.min-end.ensures) in
     let more : row + 1 - first ≡ row - first + 1 = omega (arith, c.loop-row.auto.row, c.max-first.ensures, c.first_row.ensures.value) in
     record {
       count = c.in_ok-add_row.ensures.count ∙ omega (arith, c.loop-row.invariant.count, ap (λ (n : ℕ). n * line) more);
@@ -25,8 +25,18 @@ loop-row-preserved c =
 -- when no row is left the line's last was reached
 reached_end : (c : goal.After-loop-row) → c.loop-row.row ≡ min (64 * c.args.line + 64) (end_row c.args.part.now)
 reached_end c =
-    omega (arith, c.requires.first, c.requires.end, c.loop-row-test.false, c.loop-row.auto.row-end, c.max-first.ensures, c.min-end.ensures,
-    c.end_row-last.ensures.value, c.first_row.ensures.value, has_rows c.args.part.now c.requires.some)
+    omega (
+      arith,
+      c.requires.first,
+      c.requires.end,
+      c.loop-row-test.false,
+      c.loop-row.auto.row-end,
+      c.max-first.ensures,
+      c.min-end.ensures,
+      c.end_row-last.ensures.value,
+      c.first_row.ensures.value,
+      has_rows c.args.part.now c.requires.some,
+    )
 
 pub returns-clause-count : goal.returns-clause-count
 returns-clause-count c =

@@ -55,31 +55,31 @@ loop-number-preserved c =
     let starts : pixels.result.start ≡ c.args.row % 64 * 64 + (max (64 * t) part.first_column - 64 * t) = omega (arith, pixels.ensures.start, c.first_column-first.ensures.value) in
     let stops : pixels.result.end ≡ c.args.row % 64 * 64 + (min (64 * t + 64) (end_column part) - 64 * t) = omega (arith, pixels.ensures.end, c.first_column-first.ensures.value) in
     let room : stop ≤ length tile =
-        omega (arith, long, mul-le-mul_right (pixel_bytes c.args.format) few, ap (λ n. pixels.result.end * n) c.pixel_bytes-pixel.ensures) in
+    omega (arith, long, mul-le-mul_right (pixel_bytes c.args.format) few, ap (λ n. pixels.result.end * n) c.pixel_bytes-pixel.ensures) in
     rw c.in_ok-extend_from_slice.ensures.items record {
       count =
           let size = pixel_bytes c.args.format in
           let piece_is : length piece ≡ (reached part (t + 1) - reached part t) * size =
-              piece_long part c.args.row t pixels.result.start pixels.result.end begin stop size tile piece (omega arith) end
-              (has_columns part c.requires.some) starts stops (ap (λ n. pixels.result.start * n) c.pixel_bytes-pixel.ensures)
-              (ap (λ n. pixels.result.end * n) c.pixel_bytes-pixel.ensures) room refl in
+          piece_long part c.args.row t pixels.result.start pixels.result.end begin stop size tile piece (omega arith) end
+          (has_columns part c.requires.some) starts stops (ap (λ n. pixels.result.start * n) c.pixel_bytes-pixel.ensures)
+          (ap (λ n. pixels.result.end * n) c.pixel_bytes-pixel.ensures) room refl in
           let wide : reached part (tile_of part.first_column + (number + 1)) - part.first_column
-              ≡ reached part t - part.first_column + (reached part (t + 1) - reached part t) = omega (arith, has_columns part c.requires.some, end) in
+          ≡ reached part t - part.first_column + (reached part (t + 1) - reached part t) = omega (arith, has_columns part c.requires.some, end) in
           length-append c.loop-number.bytes.items piece ∙ omega (arith, c.loop-number.invariant.count, piece_is, ap (λ (n : ℕ). n * size) wide);
       pixels = λ image same has before.
           let size : pixel ≡ pixel_bytes image.format = c.pixel_bytes-pixel.ensures ∙ ap pixel_bytes (sym same) in
           let more : HasFirstPixels image part (offset part (reached part (t + 1)) c.args.row) (c.loop-number.bytes.items ++ piece) =
-              HasFirstPixels-more image part c.args.row t pixels.result.start pixels.result.end begin stop
-              c.loop-number.bytes.items tile piece c.requires.row (omega arith) end
-              (λ u channel there is known.
-                  let index : tile_of u - tile_of part.first_column ≡ number = omega (arith, is) in
-                  ap (λ (bytes : List ℕ). pixels_from_raw (tile_square (tile_at u c.args.row)) image.format bytes u c.args.row channel)
-                      (sym (ap (λ (k : ℕ). get_or (map (λ tile. tile.now) c.args.tiles.now) k []) index
-                      ∙ get_or-map (λ tile. tile.now) c.args.tiles.now number record { ref_ptr = (0, 0); now = [] } [] last))
-                  ∙ has u c.args.row channel there refl known)
-              starts stops (has_columns part c.requires.some)
-              (ap (λ n. pixels.result.start * n) size) (ap (λ n. pixels.result.end * n) size) room refl
-              (c.loop-number.invariant.pixels image same has before) in
+          HasFirstPixels-more image part c.args.row t pixels.result.start pixels.result.end begin stop
+          c.loop-number.bytes.items tile piece c.requires.row (omega arith) end
+          (λ u channel there is known.
+          let index : tile_of u - tile_of part.first_column ≡ number = omega (arith, is) in
+          ap (λ (bytes : List ℕ). pixels_from_raw (tile_square (tile_at u c.args.row)) image.format bytes u c.args.row channel)
+          (sym (ap (λ (k : ℕ). get_or (map (λ tile. tile.now) c.args.tiles.now) k []) index
+          ∙ get_or-map (λ tile. tile.now) c.args.tiles.now number record { ref_ptr = (0, 0); now = [] } [] last))
+          ∙ has u c.args.row channel there refl known)
+          starts stops (has_columns part c.requires.some)
+          (ap (λ n. pixels.result.start * n) size) (ap (λ n. pixels.result.end * n) size) room refl
+          (c.loop-number.invariant.pixels image same has before) in
           subst (λ m. HasFirstPixels image part (offset part (reached part m) c.args.row) (c.loop-number.bytes.items ++ piece)) next more;
     }
 

@@ -1,6 +1,5 @@
-use Rattle.std.proofs.Common.{sym, ap, ◌∙◌}
+use Rattle.std.proofs.Common.{sym}
 use Rattle.std.specs.Ordering.{nat_cmp}
-use Rattle.std.specs.FinMap as map
 use Rattle.std.specs.FinMap.{len-empty}
 use Rattle.name_maps.proofs.name_map.NameMap.new.Goals as goal
 

@@ -1,5 +1,4 @@
-use Rattle.std.proofs.Common.{◌≡◌, None, ◌-◌, sym, ap, ◌∙◌, arith}
-use Rattle.std.specs.FinMap as map
+use Rattle.std.proofs.Common.{◌-◌, sym, ap, ◌∙◌}
 use Rattle.name_maps.proofs.PageLaws.{not_removed}
 use Rattle.name_maps.proofs.Lengths.{len_removed, len_some, none_there}
 use Rattle.name_maps.proofs.name_map.NameMap.remove.Goals as goal

@@ -1,5 +1,4 @@
-use Rattle.std.proofs.Common.{sym, ap, ◌∙◌}
-use Rattle.std.specs.FinMap as map
+use Rattle.std.proofs.Common.{sym, ◌∙◌}
 use Rattle.name_maps.proofs.Lengths.{len_set}
 use Rattle.name_maps.proofs.name_map.NameMap.set.Goals as goal
 

@@ -1,6 +1,4 @@
 use Rattle.std.proofs.Common.{get_or, None, sym, ap, ◌∙◌, ◌%◌}
-use Rattle.std.specs.FinMap as map
-use Rattle.name_maps.specs.Pages.{names_of}
 use Rattle.name_maps.proofs.PageLaws.{names_of-get, values_of, no_page}
 use Rattle.name_maps.proofs.name_pages.NamePages.get.Goals as goal
 

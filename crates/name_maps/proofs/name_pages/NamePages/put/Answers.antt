@@ -1,6 +1,5 @@
-use Rattle.std.proofs.Common.{◌≡◌, Result, Ok, Err, OnErr, Some, None, refl, ap, ◌∙◌}
+use Rattle.std.proofs.Common.{Result, Ok, Err, OnErr, Some, refl}
 use Rattle.std.proofs.lemmas.Result.{on_ok_weaker}
-use Rattle.name_maps.specs.Pages.{names_of}
 use Rattle.name_maps.proofs.PageLaws.{written_page, new_page, same_page}
 use Rattle.name_maps.proofs.name_pages.NamePages.put.Goals as goal
 

@@ -1,7 +1,6 @@
-use Rattle.std.proofs.Common.{◌≡◌, Option, Some, None, is_some, true, refl, ap, ◌∙◌}
+use Rattle.std.proofs.Common.{◌≡◌, Option, Some, None, is_some, true, refl}
 use Rattle.std.proofs.lemmas.Bool.{false≢true}
-use Rattle.name_maps.specs.Pages.{names_of}
-use Rattle.name_maps.proofs.PageLaws.{written_page, no_page, names_of-get, values_of}
+use Rattle.name_maps.proofs.PageLaws.{written_page, no_page, names_of-get}
 use Rattle.name_maps.proofs.name_pages.NamePages.set.Goals as goal
 use Rattle.name_maps.proofs.name_pages.NamePages.set.Goals.{in-Some, in_default}
 
@@ -16,9 +15,9 @@ replace_in-requires g c =
 
 pub returns : goal.returns
 returns g c = rw (← c.self.view_is) (elim c.match-get_mut.branch [
-    | in-Some w ↦ rw w.self-inside-is
-        (written_page c.self.inside.pages.entries (c.get_mut.follows.lender w.replace_in.new.page).entries c.args.name w.index_of.result (Some c.args.value)
-        w.in-Some.page.now w.replace_in.new.page w.in-Some.ensures.value
-        ((c.get_mut.follows.holds w.replace_in.new.page).3 (rw (← w.in-Some.ensures.value) refl)).0 w.index_of.ensures w.replace_in.ensures)
-    | in_default w ↦ let known = rw (← c.self.view_is) at c.requires in absurd (there _ (no_page c.self.inside.pages.entries c.args.name w.in_default.ensures.value) known)
-  ])
+  | in-Some w ↦ rw w.self-inside-is
+      (written_page c.self.inside.pages.entries (c.get_mut.follows.lender w.replace_in.new.page).entries c.args.name w.index_of.result (Some c.args.value)
+      w.in-Some.page.now w.replace_in.new.page w.in-Some.ensures.value
+      ((c.get_mut.follows.holds w.replace_in.new.page).3 (rw (← w.in-Some.ensures.value) refl)).0 w.index_of.ensures w.replace_in.ensures)
+  | in_default w ↦ let known = rw (← c.self.view_is) at c.requires in absurd (there _ (no_page c.self.inside.pages.entries c.args.name w.in_default.ensures.value) known)
+])

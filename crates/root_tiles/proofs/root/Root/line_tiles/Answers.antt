@@ -18,10 +18,10 @@ loop-column-preserved g c =
     let image = root_image root first in
     let same : g.C.ChainMeaning.held c.loop-column.chain ≡ first = c.loop-column.invariant.read.held in
     let at : c.from_indices.result ≡ record { column = c.loop-column.column; row = c.args.line } =
-        (λ i. record { column = c.from_indices.ensures.column i; row = c.from_indices.ensures.row i }) in
+    (λ i. record { column = c.from_indices.ensures.column i; row = c.from_indices.ensures.row i }) in
     let is : IsTileOfLevel image 0 (record { column = c.loop-column.column; row = c.args.line }) c.in_ok-tile.tile =
-        subst (λ (tile : Tile). IsTileOfLevel image 0 tile c.in_ok-tile.tile) at
-        (subst (λ (held : Held). IsTileOfLevel (root_image root held) 0 c.from_indices.result c.in_ok-tile.tile) same c.in_ok-tile.ensures.bytes) in
+    subst (λ (tile : Tile). IsTileOfLevel image 0 tile c.in_ok-tile.tile) at
+    (subst (λ (held : Held). IsTileOfLevel (root_image root held) 0 c.from_indices.result c.in_ok-tile.tile) same c.in_ok-tile.ensures.bytes) in
     record {
       read = read-both _ _ _ c.loop-column.invariant.read c.put_tile.ensures.read;
       filled = rw c.in_ok-push.ensures.items
@@ -33,6 +33,6 @@ loop-column-preserved g c =
 pub returns-clause-pixels : goal.returns-clause-pixels
 returns-clause-pixels g c =
     let all : c.loop-column.column ≡ tile_end (end_column c.args.rect) =
-        omega (arith, c.loop-column-test.false, c.loop-column.auto.column, c.loop-column.auto.column-end, c.div_ceil-end.ensures, c.end_column.ensures.value, c.first_column-column.ensures.value) in
+    omega (arith, c.loop-column-test.false, c.loop-column.auto.column, c.loop-column.auto.column-end, c.div_ceil-end.ensures, c.end_column.ensures.value, c.first_column-column.ensures.value) in
     IsFilled-line c.args.self.now.tiles.format (root_image c.args.self.now (g.C.ChainMeaning.held c.args.chain.now)) c.args.rect c.args.line c.loop-column.column
     c.loop-column.tiles.items all c.loop-column.invariant.filled

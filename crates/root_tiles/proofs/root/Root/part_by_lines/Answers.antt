@@ -25,7 +25,7 @@ loop-line-init g c =
     let image = held_image root.box root.tiles.format (bytes_in held root.tiles.put) in
     let line = c.first_row-line.result / 64 in
     let rows : reached_row rect line ≡ rect.first_row =
-        reached_first rect line (has_rows rect c.requires.some) (ap (λ (n : ℕ). n / 64) c.first_row-line.ensures.value) in
+    reached_first rect line (has_rows rect c.requires.some) (ap (λ (n : ℕ). n / 64) c.first_row-line.ensures.value) in
     record {
       read = read-none _;
       count = ap length c.in_ok-bytes.ensures.items ∙ sym (no_rows rect (reached_row rect line) (rect.width * pixel_bytes root.tiles.format) rows);
@@ -57,7 +57,7 @@ loop-line-preserved g c =
     let before : Image → Type 0 = λ i. HasFirstPixels i rect (offset rect rect.first_column (reached_row rect line)) c.loop-line.bytes.items in
     let after : Image → Type 0 = λ i. HasFirstPixels i rect (offset rect rect.first_column (reached_row rect (line + 1))) c.add_line.new.bytes.items in
     let more : Image → Type 0 = λ i. HasFirstPixels i rect (offset rect rect.first_column (max (64 * line) rect.first_row)) c.loop-line.bytes.items
-        → HasFirstPixels i rect (offset rect rect.first_column (min (64 * line + 64) (end_row rect))) c.add_line.new.bytes.items in
+    → HasFirstPixels i rect (offset rect rect.first_column (min (64 * line + 64) (end_row rect))) c.add_line.new.bytes.items in
     record {
       read = read-both _ _ _ c.loop-line.invariant.read c.add_line.ensures.read;
       count = bytes_more rect line (rect.width * pixel_bytes root.tiles.format) (length c.loop-line.bytes.items) (length c.add_line.new.bytes.items)
@@ -65,15 +65,15 @@ loop-line-preserved g c =
       pixels = both-known first.content image before more after c.loop-line.invariant.pixels
           (rw same at c.in_ok-add_line.ensures.pixels)
           (λ was gives.
-              subst (λ row. HasFirstPixels image rect (offset rect rect.first_column row) c.add_line.new.bytes.items) (sym (reached_next rect line begun))
-              (gives (subst (λ row. HasFirstPixels image rect (offset rect rect.first_column row) c.loop-line.bytes.items) (reached_line rect line some ended) was)));
+          subst (λ row. HasFirstPixels image rect (offset rect rect.first_column row) c.add_line.new.bytes.items) (sym (reached_next rect line begun))
+          (gives (subst (λ row. HasFirstPixels image rect (offset rect rect.first_column row) c.loop-line.bytes.items) (reached_line rect line some ended) was)));
     }
 
 pub from_vec-requires-clause-count : goal.from_vec-requires-clause-count
 from_vec-requires-clause-count g c =
     let rect = c.args.rect in
     let all : c.loop-line.line ≡ tile_end (end_row rect) =
-        omega (arith, c.loop-line-test.false, c.loop-line.auto.line, c.loop-line.auto.line-end, c.div_ceil-end.ensures, c.end_row.ensures.value, c.first_row-line.ensures.value) in
+    omega (arith, c.loop-line-test.false, c.loop-line.auto.line, c.loop-line.auto.line-end, c.div_ceil-end.ensures, c.end_row.ensures.value, c.first_row-line.ensures.value) in
     c.loop-line.invariant.count
     ∙ all_rows rect (reached_row rect c.loop-line.line) (pixel_bytes c.args.self.now.tiles.format) (reached_all rect c.loop-line.line all)
     ∙ ap (λ (format : Format). area rect * pixel_bytes format) (sym c.format-format.ensures)
@@ -86,9 +86,9 @@ returns-clause-image g c =
     let first = g.C.ChainMeaning.held c.args.chain.now in
     let image = held_image root.box root.tiles.format (bytes_in first root.tiles.put) in
     let all : c.loop-line.line ≡ tile_end (end_row rect) =
-        omega (arith, c.loop-line-test.false, c.loop-line.auto.line, c.loop-line.auto.line-end, c.div_ceil-end.ensures, c.end_row.ensures.value, c.first_row-line.ensures.value) in
+    omega (arith, c.loop-line-test.false, c.loop-line.auto.line, c.loop-line.auto.line-end, c.div_ceil-end.ensures, c.end_row.ensures.value, c.first_row-line.ensures.value) in
     if-known first.content image (λ i. HasFirstPixels i rect (offset rect rect.first_column (reached_row rect c.loop-line.line)) bytes)
     (λ i. c.from_vec.result ≡ cut i rect) c.loop-line.invariant.pixels
     (λ has. c.from_vec.ensures ∙ ap (λ (format : Format). image_from_raw rect format bytes) c.format-format.ensures
-        ∙ HasFirstPixels-all image rect bytes
-        (subst (λ n. HasFirstPixels image rect n bytes) (all_pixels rect (reached_row rect c.loop-line.line) (reached_all rect c.loop-line.line all)) has))
+    ∙ HasFirstPixels-all image rect bytes
+    (subst (λ n. HasFirstPixels image rect n bytes) (all_pixels rect (reached_row rect c.loop-line.line) (reached_all rect c.loop-line.line all)) has))

@@ -1,7 +1,6 @@
-use Rattle.std.proofs.Common.{◌≡◌, ◌<◌, ◌+◌, ℕ, cond, Option, Some, length, get_or, arith, sym, ap, ◌∙◌}
+use Rattle.std.proofs.Common.{◌≡◌, ◌<◌, length, get_or, arith, sym, ap, ◌∙◌}
 use Rattle.std.specs.Option.{is_some}
 use Rattle.std.proofs.lemmas.List.{get_or_default}
-use Rattle.swap_store.specs.declared.block_map.Extent.{Extent}
 use Rattle.swap_store.proofs.PlacementLaws.{old_apart, old_bound, old_some, replaced, len_moved}
 use Rattle.swap_store.proofs.block_map.BlockMap.replace.Goals as goal
 
