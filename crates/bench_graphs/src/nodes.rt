@@ -5,7 +5,7 @@ use int_ops::IntOp;
 use model_graphs::{Body, BufferFact, NodeEdit, NodeSpec};
 use pixel_formats::{Abyss, Format};
 use plane_rect::{Name, NameList, Rect};
-use std::alloc::Global;
+use std::alloc::{AllocError, Global};
 
 /// Returns the name that a word is.
 pub fn name(word: &str) -> Result<Name> {
@@ -29,25 +29,35 @@ pub fn buffers(alloc: Global) -> Result<Vec<BufferFact>> {
 /// Returns edits that make 256 nodes: one of the buffer and a chain of operations on it, each with the
 /// one before it as its input, every other one with the first as well.
 pub fn first_edits(alloc: Global) -> Result<Vec<NodeEdit<IntOp>>> {
+    let (first, buffer) = (name("k0")?, name("a")?);
     let mut edits = Vec::new(alloc);
-    let first = name("k0")?;
-    let buffer = name("a")?;
     edits.push(NodeEdit::Set(NodeSpec {
         name: first,
         body: Body::Source { buffer },
     }))?;
     let mut last = first;
     for number in 1..256 {
-        let word = format!(in alloc; "k{number}")?;
-        let next = name(&word)?;
+        let next = numbered(alloc, number)?;
         edits.push(set(alloc, next, number, first, last)?)?;
         last = next;
     }
     Ok(edits)
 }
 
+/// Returns the name of the node of a number.
+fn numbered(alloc: Global, number: u32) -> Result<Name> {
+    let word = format!(in alloc; "k{number}")?;
+    name(&word)
+}
+
 /// Returns an edit that sets a node of the chain.
-fn set(alloc: Global, name: Name, number: u32, first: Name, last: Name) -> Result<NodeEdit<IntOp>> {
+fn set(
+    alloc: Global,
+    name: Name,
+    number: u32,
+    first: Name,
+    last: Name,
+) -> Result<NodeEdit<IntOp>, AllocError> {
     if number % 2 == 0 {
         compute(alloc, name, IntOp::Add, &[first, last])
     } else {
@@ -73,7 +83,12 @@ pub fn turned(alloc: Global, turn: bool) -> Result<Vec<NodeEdit<IntOp>>> {
 }
 
 /// Returns an edit that sets a node of an operation.
-fn compute(alloc: Global, name: Name, op: IntOp, inputs: &[Name]) -> Result<NodeEdit<IntOp>> {
+fn compute(
+    alloc: Global,
+    name: Name,
+    op: IntOp,
+    inputs: &[Name],
+) -> Result<NodeEdit<IntOp>, AllocError> {
     let inputs = NameList::new(inputs.to_vec(alloc)?);
     Ok(NodeEdit::Set(NodeSpec {
         name,

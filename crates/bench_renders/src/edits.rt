@@ -46,12 +46,13 @@ fn nodes(alloc: Global) -> Result<Vec<NodeEdit<IntOp>>> {
     let convert = IntOp::Convert {
         format: Format::RGBA8,
     };
-    Ok(vec![in alloc;
-        source("s")?,
-        node(alloc, "g", IntOp::Gain { num: 5, den: 4 }, "s")?,
-        node(alloc, "b", mean, "g")?,
-        node(alloc, "c", convert, "b")?,
-    ]?)
+    let [s, g, b, c] = [name("s")?, name("g")?, name("b")?, name("c")?];
+    let mut edits = Vec::new(alloc);
+    edits.push(source(s, name("a")?))?;
+    edits.push(node(alloc, g, IntOp::Gain { num: 5, den: 4 }, s)?)?;
+    edits.push(node(alloc, b, mean, g)?)?;
+    edits.push(node(alloc, c, convert, b)?)?;
+    Ok(edits)
 }
 
 /// Times the request over a chain.
@@ -67,7 +68,7 @@ fn time_job<R: Clock + Print + Eprint + Threads + Sync + Alloc<A = Global>, C: T
     let edits = nodes(alloc)?;
     let mut canvas = over_buffers(alloc, chain, buffers, &edits, MANY)?;
     let (x, y) = (columns / 128 * 64 - 64, rows / 128 * 64 - 64);
-    let part = request("c", [x, y, 512, 512])?;
+    let part = request(name("c")?, [x, y, 512, 512]);
     let start = Instant::now(rt)?;
     let (shown, _spent) = canvas.shown(chain, &part, Workers::new(rt, 1))?;
     let first = least(rt, u128::MAX, start)?;

@@ -1,7 +1,6 @@
 //! Buffers that are ready, nodes and requests.
 
 ghost use Rattle.std.specs.Prelude.{◌≡◌, ◌≤◌, IfOk};
-ghost use Rattle.chain_owners.specs.Held.{Held};
 ghost use Rattle.plane_rect.specs.Rectangle.{InLimits};
 ghost use Rattle.buffer_view.specs.BufferTables.{AreBuffersOver};
 
@@ -12,7 +11,7 @@ use int_ops::IntOp;
 use model_graphs::{Body, NodeEdit, NodeSpec};
 use pixel_formats::Format;
 use plane_rect::{Name, NameList, Rect};
-use std::alloc::Global;
+use std::alloc::{AllocError, Global};
 use test_renders::Request;
 
 /// How many rounds there are, and the image's columns and rows of pixels.
@@ -43,24 +42,15 @@ pub fn name(word: &str) -> Result<Name> {
 }
 
 /// Returns a request for a rectangle of a node at level 0.
-pub fn request(word: &str, fields: [i64; 4]) -> Result<Request>
-    ensures { IfOk result (λ request. request.level ≡ 0) }
+pub fn request(node: Name, fields: [i64; 4]) -> Request
+    ensures { result.level ≡ 0 }
 {
-    Ok(Request {
-        node: name(word)?,
+    Request {
+        node,
         level: 0,
         rect: rect(fields),
         capacity: u32::MAX,
-    })
-}
-
-/// Adds a buffer of zeros.
-fn create(buffers: &mut Buffers, extent: Rect) -> Result<()>
-    requires { InLimits extent }
-    ensures { (held : Held) → AreBuffersOver buffers.old held → AreBuffersOver buffers.new held }
-{
-    buffers.create(name("a")?, Format::RGB8, extent)?;
-    Ok(())
+    }
 }
 
 /// Returns a buffer of one color, each of whose tiles is there.
@@ -68,28 +58,33 @@ pub fn ready<C: TileChain>(chain: &mut C, alloc: Global, extent: Rect) -> Result
     requires { InLimits extent }
     ensures { IfOk result (λ buffers. AreBuffersOver buffers (C.held chain.new)) }
 {
+    let name = name("a")?;
     no_buffers_ask_nothing();
     let mut buffers = Buffers::new(alloc);
-    create(&mut buffers, extent)?;
-    buffers.fill(chain, name("a")?, extent, &[10, 100, 200])?;
+    buffers.create(name, Format::RGB8, extent)?;
+    buffers.fill(chain, name, extent, &[10, 100, 200])?;
     Ok(buffers)
 }
 
 /// Returns the edit that sets a node of the image of the buffer.
-pub fn source(word: &str) -> Result<NodeEdit<IntOp>> {
-    let buffer = name("a")?;
-    Ok(NodeEdit::Set(NodeSpec {
-        name: name(word)?,
+pub fn source(name: Name, buffer: Name) -> NodeEdit<IntOp> {
+    NodeEdit::Set(NodeSpec {
+        name,
         body: Body::Source { buffer },
-    }))
+    })
 }
 
 /// Returns the edit that sets a node of an operation on another.
-pub fn node(alloc: Global, word: &str, op: IntOp, input: &str) -> Result<NodeEdit<IntOp>> {
+pub fn node(
+    alloc: Global,
+    name: Name,
+    op: IntOp,
+    input: Name,
+) -> Result<NodeEdit<IntOp>, AllocError> {
     let mut inputs = Vec::new(alloc);
-    inputs.push(name(input)?)?;
+    inputs.push(input)?;
     Ok(NodeEdit::Set(NodeSpec {
-        name: name(word)?,
+        name,
         body: Body::Compute {
             op,
             inputs: NameList::new(inputs),

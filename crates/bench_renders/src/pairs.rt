@@ -6,7 +6,7 @@ ghost use Rattle.model_operations.specs.Meanings.{int_meanings};
 ghost use Rattle.buffer_view.specs.BufferTables.{AreBuffersOver, buffers_names};
 ghost use Rattle.test_renders.specs.Ready.{AreOver, AreReady};
 
-use crate::jobs::{Job, node, ready, rect, request, source};
+use crate::jobs::{Job, name, node, ready, rect, request, source};
 use crate::report::{Report, least};
 use anyhow::Result;
 use buffer_view::Buffers;
@@ -16,7 +16,8 @@ use int_ops::IntOp;
 use model_graphs::NodeEdit;
 use node_cache::PairStore;
 use outside_io::SureSwap;
-use std::alloc::Global;
+use plane_rect::Name;
+use std::alloc::{AllocError, Global};
 use std::rt::Clock;
 use std::thread::Threads;
 use std::time::Instant;
@@ -40,15 +41,26 @@ pub fn time_pairs<R: Clock + Print + Eprint + Threads + Sync + Alloc<A = Global>
 
 /// Returns a source and so many gains on one another, named by their numbers.
 fn gains(alloc: Global, depth: u32) -> Result<Vec<NodeEdit<IntOp>>> {
-    let mut edits = vec![in alloc; source("n0")?]?;
+    let mut input = numbered(alloc, 0)?;
+    let mut edits = Vec::new(alloc);
+    edits.push(source(input, name("a")?))?;
     for number in 0..depth {
-        let input = format!(in alloc; "n{number}")?;
-        let next = number.wrapping_add(1);
-        let word = format!(in alloc; "n{next}")?;
-        let op = IntOp::Gain { num: 5, den: 4 };
-        edits.push(node(alloc, &word, op, &input)?)?;
+        let next = numbered(alloc, number.wrapping_add(1))?;
+        edits.push(gain(alloc, next, input)?)?;
+        input = next;
     }
     Ok(edits)
+}
+
+/// Returns the edit that sets a gain of a node.
+fn gain(alloc: Global, name: Name, input: Name) -> Result<NodeEdit<IntOp>, AllocError> {
+    node(alloc, name, IntOp::Gain { num: 5, den: 4 }, input)
+}
+
+/// Returns the name of the node of a number.
+fn numbered(alloc: Global, number: u32) -> Result<Name> {
+    let word = format!(in alloc; "n{number}")?;
+    name(&word)
 }
 
 /// Times gains on one another, evaluated and cached.
@@ -64,8 +76,7 @@ fn time_depth<R: Clock + Print + Eprint + Threads + Sync + Alloc<A = Global>, C:
     let buffers = ready(chain, alloc, rect([0, 0, side, side]))?;
     let edits = gains(alloc, depth)?;
     let mut canvas = over_buffers(alloc, chain, buffers, &edits, MANY)?;
-    let last = format!(in alloc; "n{depth}")?;
-    let all = request(&last, [0, 0, side, side])?;
+    let all = request(numbered(alloc, depth)?, [0, 0, side, side]);
     let start = Instant::now(rt)?;
     let (shown, _spent) = canvas.shown(chain, &all, Workers::new(rt, 1))?;
     let first = least(rt, u128::MAX, start)?;
