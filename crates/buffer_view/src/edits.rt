@@ -108,6 +108,7 @@ impl Buffers {
         self.write(chain, view.root, rect, &mut SplitRaw { bytes, workers })?;
         Ok(())
     }
+
     /// Writes raw bytes over a rectangle of a buffer as [`Buffers::put_raw`] does, and returns memory that is left of
     /// them, of which nothing is known. The memory of a large raster is given back while its tiles are made, by
     /// [`root_tiles::Root::put_vec`].

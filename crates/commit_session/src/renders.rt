@@ -36,14 +36,14 @@ use op_contracts::OpKit;
 use patch_abyss::Patch;
 use plane_rect::{Name, Rect};
 use render_workers::laws::requests_need_what_renders_need;
+use root_tiles::IDLE_BYTES;
 use std::mem;
 use std::thread::Threads;
 use worker_pieces::Workers;
 
-/// How many bytes of memory may lie idle between two renders, as room for the patch of the next one: those of
-/// 4,096 by 4,096 pixels of four bytes each, and a page more, since who reads such a raster asks for room beyond
-/// its end.
-const IDLE_BYTES: usize = (64 << 20) + 4096;
+/// How many bytes of room memory may have that lies idle between two renders: a page more than a raster has whose
+/// memory is handed on, since who reads one asks for room beyond its end.
+const IDLE_ROOM: usize = IDLE_BYTES + 4096;
 
 impl<Op: OpMeaning + Drop> SessionState<Op> {
     /// Returns a rectangle of a level of the image of a node of the last state. Each tile that it needs is looked
@@ -134,6 +134,7 @@ impl<Op: OpMeaning + Drop> SessionState<Op> {
         self.counts.reused = self.counts.reused.saturating_add(done.reused);
         Ok(done.patch)
     }
+
     /// Gives the session memory that the patch of its next render may take, whatever that memory has. Keeps the
     /// one of this and what is kept that has room for more, and drops the other; never keeps more than 64 MiB and
     /// a page. Takes no memory.
@@ -147,7 +148,7 @@ impl<Op: OpMeaning + Drop> SessionState<Op> {
 /// Keeps the memory that has more room, if it isn't more than may lie idle, and drops the other.
 pub(crate) fn keep_larger(kept: &mut Vec<u8>, memory: Vec<u8>) {
     let room = memory.capacity();
-    if kept.capacity() < room && room <= IDLE_BYTES {
+    if kept.capacity() < room && room <= IDLE_ROOM {
         *kept = memory;
     }
 }

@@ -108,6 +108,7 @@ impl<K: OpKit + Sync, C: TileChain> OwnedSession<K, C> {
             workers,
         )
     }
+
     /// Gives the session memory that the patch of its next render may take, as [`SessionState::reuse`](crate::SessionState::reuse).
     pub fn reuse(&mut self, memory: Vec<u8>)
         ensures { self.new ≡ self.old }
