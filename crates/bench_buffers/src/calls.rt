@@ -1,7 +1,6 @@
 //! Buffers, and the calls on them that are timed.
 
 ghost use Rattle.std.specs.Prelude.{IfOk};
-ghost use Rattle.chain_owners.specs.Held.{Held};
 ghost use Rattle.plane_rect.specs.Rectangle.{InLimits};
 ghost use Rattle.buffer_view.specs.BufferTables.{AreBuffersOver};
 
@@ -59,15 +58,6 @@ pub fn rect(x: u16, y: u16, width: u16, height: u16) -> Rect
     }
 }
 
-/// Adds a buffer of zeros.
-pub fn create(buffers: &mut Buffers, word: &str, format: Format, extent: Rect) -> Result<()>
-    requires { InLimits extent }
-    ensures { (held : Held) → AreBuffersOver buffers.old held → AreBuffersOver buffers.new held }
-{
-    buffers.create(name(word)?, format, extent)?;
-    Ok(())
-}
-
 /// Returns a table of one buffer of zeros, named `a`.
 pub fn one_buffer<C: TileChain>(
     chain: &C,
@@ -78,9 +68,10 @@ pub fn one_buffer<C: TileChain>(
     requires { InLimits extent }
     ensures { IfOk result (λ buffers. AreBuffersOver buffers (C.held chain.now)) }
 {
+    let name = name("a")?;
     no_buffers_ask_nothing();
     let mut buffers = Buffers::new(alloc);
-    create(&mut buffers, "a", format, extent)?;
+    buffers.create(name, format, extent)?;
     Ok(buffers)
 }
 
