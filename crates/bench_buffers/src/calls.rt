@@ -1,13 +1,14 @@
 //! Buffers, and the calls on them that are timed.
 
 ghost use Rattle.std.specs.Prelude.{IfOk};
+ghost use Rattle.chain_owners.specs.Held.{Held};
 ghost use Rattle.plane_rect.specs.Rectangle.{InLimits};
 ghost use Rattle.buffer_view.specs.BufferTables.{AreBuffersOver};
 
 use crate::picture::sum;
 use crate::report::{Report, Times};
 use anyhow::{Context, Result};
-use buffer_view::{Buffers, no_buffers_ask_nothing};
+use buffer_view::{BufferRefused, Buffers, no_buffers_ask_nothing};
 use chain_handlers::TileChain;
 use pixel_formats::{Abyss, Format};
 use plane_rect::{Name, Rect};
@@ -58,6 +59,19 @@ pub fn rect(x: u16, y: u16, width: u16, height: u16) -> Rect
     }
 }
 
+/// Adds a buffer of zeros.
+pub fn create(
+    buffers: &mut Buffers,
+    name: Name,
+    format: Format,
+    extent: Rect,
+) -> Result<(), BufferRefused>
+    requires { InLimits extent }
+    ensures { (held : Held) → AreBuffersOver buffers.old held → AreBuffersOver buffers.new held }
+{
+    buffers.create(name, format, extent)
+}
+
 /// Returns a table of one buffer of zeros, named `a`.
 pub fn one_buffer<C: TileChain>(
     chain: &C,
@@ -71,7 +85,7 @@ pub fn one_buffer<C: TileChain>(
     let name = name("a")?;
     no_buffers_ask_nothing();
     let mut buffers = Buffers::new(alloc);
-    buffers.create(name, format, extent)?;
+    create(&mut buffers, name, format, extent)?;
     Ok(buffers)
 }
 

@@ -5,4 +5,4 @@ use Rattle.bench_buffers.proofs.calls.one_buffer.Goals as goal
 pub returns : goal.returns
 returns g c =
     let held = g.C.ChainMeaning.held c.args.chain.now in
-    c.create.ensures.over held (subst (λ (b : BufferTable). AreBuffersOver b held) (sym c.new-buffers.ensures) (c.no_buffers_ask_nothing.ensures held))
+    c.create.ensures held (subst (λ (b : BufferTable). AreBuffersOver b held) (sym c.new-buffers.ensures) (c.no_buffers_ask_nothing.ensures held))
