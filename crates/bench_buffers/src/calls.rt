@@ -8,7 +8,7 @@ ghost use Rattle.buffer_view.specs.BufferTables.{AreBuffersOver};
 use crate::picture::sum;
 use crate::report::{Report, Times};
 use anyhow::{Context, Result};
-use buffer_view::{Buffers, no_buffers_ask_nothing};
+use buffer_view::{BufferRefused, Buffers, no_buffers_ask_nothing};
 use chain_handlers::TileChain;
 use pixel_formats::{Abyss, Format};
 use plane_rect::{Name, Rect};
@@ -60,12 +60,16 @@ pub fn rect(x: u16, y: u16, width: u16, height: u16) -> Rect
 }
 
 /// Adds a buffer of zeros.
-pub fn create(buffers: &mut Buffers, word: &str, format: Format, extent: Rect) -> Result<()>
+pub fn create(
+    buffers: &mut Buffers,
+    name: Name,
+    format: Format,
+    extent: Rect,
+) -> Result<(), BufferRefused>
     requires { InLimits extent }
     ensures { (held : Held) → AreBuffersOver buffers.old held → AreBuffersOver buffers.new held }
 {
-    buffers.create(name(word)?, format, extent)?;
-    Ok(())
+    buffers.create(name, format, extent)
 }
 
 /// Returns a table of one buffer of zeros, named `a`.
@@ -78,9 +82,10 @@ pub fn one_buffer<C: TileChain>(
     requires { InLimits extent }
     ensures { IfOk result (λ buffers. AreBuffersOver buffers (C.held chain.now)) }
 {
+    let name = name("a")?;
     no_buffers_ask_nothing();
     let mut buffers = Buffers::new(alloc);
-    create(&mut buffers, "a", format, extent)?;
+    create(&mut buffers, name, format, extent)?;
     Ok(buffers)
 }
 

@@ -3,7 +3,7 @@
 
 ghost use Rattle.std.specs.Prelude.{◌≤◌, ◌^◌};
 
-use crate::calls::{create, one_buffer, rect};
+use crate::calls::{create, name, one_buffer, rect};
 use crate::picture::noise;
 use crate::report::{Report, Times};
 use crate::swap_loops::{get_bands, put_bands, read_blocks, write_blocks};
@@ -62,7 +62,7 @@ fn time_two<R: Clock + Print + Eprint + Threads + Sync + Alloc<A = Global>, C: T
 ) -> Result<()> {
     let extent = rect(0, 0, 64 * u16::from(columns), 32 * u16::from(columns));
     let mut buffers = one_buffer(chain, rt.alloc(), Format::RGBA16, extent)?;
-    create(&mut buffers, "b", Format::RGBA16, extent)?;
+    create(&mut buffers, name("b")?, Format::RGBA16, extent)?;
     let band = noise(rt.alloc(), usize::from(columns) * 32_768)?;
     let start = Instant::now(rt)?;
     let found = put_bands(rt, &mut buffers, chain, "a", &band, columns)?.wrapping_add(put_bands(

@@ -1,11 +1,12 @@
 //! Buffers that are ready, nodes and requests.
 
 ghost use Rattle.std.specs.Prelude.{◌≡◌, ◌≤◌, IfOk};
+ghost use Rattle.chain_owners.specs.Held.{Held};
 ghost use Rattle.plane_rect.specs.Rectangle.{InLimits};
 ghost use Rattle.buffer_view.specs.BufferTables.{AreBuffersOver};
 
 use anyhow::Result;
-use buffer_view::{Buffers, no_buffers_ask_nothing};
+use buffer_view::{BufferRefused, Buffers, no_buffers_ask_nothing};
 use chain_contracts::TileChain;
 use int_ops::IntOp;
 use model_graphs::{Body, NodeEdit, NodeSpec};
@@ -53,6 +54,14 @@ pub fn request(node: Name, fields: [i64; 4]) -> Request
     }
 }
 
+/// Adds a buffer of zeros.
+fn create(buffers: &mut Buffers, name: Name, extent: Rect) -> Result<(), BufferRefused>
+    requires { InLimits extent }
+    ensures { (held : Held) → AreBuffersOver buffers.old held → AreBuffersOver buffers.new held }
+{
+    buffers.create(name, Format::RGB8, extent)
+}
+
 /// Returns a buffer of one color, each of whose tiles is there.
 pub fn ready<C: TileChain>(chain: &mut C, alloc: Global, extent: Rect) -> Result<Buffers>
     requires { InLimits extent }
@@ -61,7 +70,7 @@ pub fn ready<C: TileChain>(chain: &mut C, alloc: Global, extent: Rect) -> Result
     let name = name("a")?;
     no_buffers_ask_nothing();
     let mut buffers = Buffers::new(alloc);
-    buffers.create(name, Format::RGB8, extent)?;
+    create(&mut buffers, name, extent)?;
     buffers.fill(chain, name, extent, &[10, 100, 200])?;
     Ok(buffers)
 }

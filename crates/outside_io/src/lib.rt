@@ -20,8 +20,6 @@ mod sure_shelf;
 mod sure_sink;
 mod sure_swap;
 mod swap;
-#[cfg(test)]
-mod tests;
 
 pub use file_name::is_file_name;
 pub use file_swap::FileSwap;

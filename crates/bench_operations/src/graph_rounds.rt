@@ -1,6 +1,6 @@
 //! Steps of the graph.
 
-use crate::nodes::{buffers, first_edits, name, turned};
+use crate::graph_nodes::{buffers, first_edits, name, turned};
 use anyhow::Result;
 use graph_commits::{Damage, Graph, GraphRefused};
 use int_ops::{IntKit, IntOp};

@@ -1,0 +1,168 @@
+//! Devices in memory that don't fail, disks that are lent, several blocks in one call, and names and texts. Expected
+//! values are worked out by hand from the doc comments.
+
+ghost use Rattle.std.specs.Prelude.{◌≡◌, ◌<◌, length, IsErrOf};
+ghost use Rattle.outside_io.specs.Faults.{Rose};
+ghost use Rattle.outside_io.specs.Swap.{WritesBlock};
+
+use crate::tests::is_answer;
+use outside_io::{
+    Lent, MemSwap, NoMemory, Shelf, ShelfAnswer, Sink, SinkAnswer, SureShelf, SureSink, SureSwap,
+    SwapAnswer, SwapDisk, is_file_name,
+};
+use std::alloc::Global;
+use std::fmt::Display;
+use std::process::Abort;
+use std::test::Fail;
+
+#[test]
+fn names_of_files(rt: HostRuntime) -> Result<(), Fail> {
+    let alloc = rt.alloc();
+    let longest = vec![in alloc; b'n'; 64]?;
+    let too_long = vec![in alloc; b'n'; 65]?;
+    let names: [(&[u8], bool); 10] = [
+        (b"", false),
+        (b"out.raw", true),
+        (b"_A9-z.", true),
+        (b"9", true),
+        (b".hidden", false),
+        (b"-option", false),
+        (b"folder/out.raw", false),
+        (b"two words", false),
+        (&longest, true),
+        (&too_long, false),
+    ];
+    for (name, wanted) in &names {
+        assert_eq!(rt; is_file_name(name), *wanted, "{name:?}");
+    }
+    Ok(())
+}
+
+#[test]
+fn a_sure_shelf(rt: HostRuntime) -> Result<(), Fail> {
+    let alloc = rt.alloc();
+    let mut shelf = SureShelf::new(alloc, Vec::new(alloc));
+    shelf.write("five", &[1, 2, 3, 4, 5])?;
+    let too_long = ShelfAnswer::TooLong { taken: 5 };
+    for (limit, wanted) in [(4, Err(too_long)), (5, Ok([1, 2, 3, 4, 5].as_slice()))] {
+        let answer = shelf.read("five", limit);
+        assert!(rt; is_answer(&answer, &wanted), "up to {limit}");
+    }
+    assert_eq!(rt; shelf.read("none", 4), Err(ShelfAnswer::Absent));
+    Ok(())
+}
+
+#[test]
+fn a_sure_sink(rt: HostRuntime) -> Result<(), Fail> {
+    let mut sink = SureSink::new(rt.alloc());
+    sink.put(b"one")?;
+    sink.put(b"two")?;
+    assert_eq!(rt; sink.bytes(), b"onetwo".as_slice());
+    Ok(())
+}
+
+#[test]
+fn a_sure_swap_disk(rt: HostRuntime) -> Result<(), Fail> {
+    let mut block = [1u8; 4096];
+    let mut disk = SureSwap::new(rt.alloc(), 2)?;
+    disk.read_block(0, &mut block)?;
+    assert_eq!(rt; block, [0; 4096]);
+    disk.write_block(1, &[7; 4096])?;
+    disk.read_block(1, &mut block)?;
+    assert_eq!(rt; block, [7; 4096]);
+    Ok(())
+}
+
+#[test]
+fn several_blocks_in_one_call(rt: HostRuntime) -> Result<(), Fail> {
+    let alloc = rt.alloc();
+    let mut block = [1u8; 4096];
+    let mut two = [1u8; 8192];
+    let mut disk = MemSwap::new(alloc, 4, Vec::new(alloc), vec![in alloc; 4]?)?;
+    disk.write_blocks(1, &[7; 8192])?;
+    disk.read_blocks(1, &mut two)?;
+    assert_eq!(rt; two, [7; 8192]);
+    // Its second block is the fourth write.
+    assert_eq!(rt; disk.write_blocks(2, &[8; 8192]), Err(SwapAnswer::Failed));
+    disk.read_block(2, &mut block)?;
+    assert_eq!(rt; block, [8; 4096]);
+    disk.read_block(3, &mut block)?;
+    assert_eq!(rt; block, [0xEE; 4096]);
+    Ok(())
+}
+
+/// Holds a disk by value, as a store does.
+#[derive(Drop)]
+struct Holder<D> {
+    disk: D,
+}
+
+impl<D: SwapDisk> Holder<D> {
+    fn write_first(&mut self, bytes: &[u8]) -> Result<(), SwapAnswer>
+        requires known { 0 < D.block_count self.old.disk }
+        requires whole { length bytes.now ≡ 4096 }
+        ensures leaves { WritesBlock (D.blocks self.old.disk) 0 bytes.now result (D.blocks self.new.disk) }
+        ensures failed { IsErrOf result SwapAnswer.Failed
+            → Rose (D.faults self.old.disk) (D.faults self.new.disk) }
+        ensures loans { D.loans self.new.disk ≡ D.loans self.old.disk }
+    {
+        self.disk.write_block(0, bytes)
+    }
+
+    fn end(self) -> D
+        ensures { result ≡ self.disk }
+    {
+        self.disk
+    }
+}
+
+/// Lends a disk, and knows afterwards what it holds and whether it failed.
+fn write_lent<D: SwapDisk>(disk: &mut D, bytes: &[u8]) -> Result<(), SwapAnswer>
+    requires known { 0 < D.block_count disk.old }
+    requires whole { length bytes.now ≡ 4096 }
+    ensures leaves { WritesBlock (D.blocks disk.old) 0 bytes.now result (D.blocks disk.new) }
+    ensures failed { IsErrOf result SwapAnswer.Failed → Rose (D.faults disk.old) (D.faults disk.new) }
+{
+    let mut holder = Holder {
+        disk: Lent { disk },
+    };
+    let answer = holder.write_first(bytes);
+    let Lent { disk: _back } = holder.end();
+    answer
+}
+
+#[test]
+fn a_lent_swap_disk(rt: HostRuntime) -> Result<(), Fail> {
+    let mut block = [1u8; 4096];
+    let mut disk = SureSwap::new(rt.alloc(), 2)?;
+    write_lent(&mut disk, &[7; 4096])?;
+    assert_eq!(rt; Lent { disk: &mut disk }.size(), 2);
+    Lent { disk: &mut disk }.read_block(0, &mut block)?;
+    assert_eq!(rt; block, [7; 4096]);
+    Lent { disk: &mut disk }.write_blocks(1, &[8; 4096])?;
+    Lent { disk: &mut disk }.read_blocks(1, &mut block)?;
+    assert_eq!(rt; block, [8; 4096]);
+    Ok(())
+}
+
+/// Checks the text of an answer.
+fn check_text<T: Display>(
+    rt: &(impl Abort + Alloc<A = Global>),
+    answer: &T,
+    wanted: &str,
+) -> Result<(), Fail> {
+    let text = answer.to_string(rt.alloc())?;
+    assert_eq!(rt; text.as_str(), wanted);
+    Ok(())
+}
+
+#[test]
+fn texts_of_the_answers(rt: HostRuntime) -> Result<(), Fail> {
+    let too_long = ShelfAnswer::TooLong { taken: 5 };
+    check_text(&rt, &ShelfAnswer::Failed, "the shelf failed")?;
+    check_text(&rt, &ShelfAnswer::Absent, "there is no such file")?;
+    check_text(&rt, &too_long, "the file is too long: 5 bytes were taken")?;
+    check_text(&rt, &SwapAnswer::Failed, "the swap disk failed")?;
+    check_text(&rt, &SinkAnswer::Failed, "the sink failed")?;
+    check_text(&rt, &NoMemory, "no memory was left")
+}

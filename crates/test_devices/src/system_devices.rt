@@ -1,0 +1,133 @@
+//! Devices of the system: a folder, a file with swapped blocks, and standard output.
+
+ghost use Rattle.std.specs.Prelude.{IsTrue};
+ghost use Rattle.outside_io.specs.FileName.{is_file_name};
+
+use crate::tests::is_answer;
+use outside_io::{
+    FileSwap, FolderShelf, Shelf, ShelfAnswer, Sink, SinkAnswer, StdSink, SwapAnswer, SwapDisk,
+};
+use std::fmt::Display;
+use std::io::ErrorKind;
+use std::os::unix::fs::symlink;
+use std::process::Abort;
+use std::test::Fail;
+use std::{fs, io};
+
+/// Checks what a read of a shelf answers.
+fn check_read<S: Shelf>(
+    rt: &impl Abort,
+    shelf: &mut S,
+    name: &str,
+    limit: u64,
+    wanted: Result<&[u8], ShelfAnswer>,
+)
+    requires { IsTrue (is_file_name name.now) }
+{
+    let answer = shelf.read(name, limit);
+    assert!(rt; is_answer(&answer, &wanted), "{name} up to {limit}");
+}
+
+#[test]
+fn the_current_folder(rt: HostRuntime) -> Result<(), Fail> {
+    let mut shelf = FolderShelf::new(&rt);
+    let name = "folder_shelf.five";
+    check_read(&rt, &mut shelf, name, 5, Err(ShelfAnswer::Absent));
+    shelf.write(name, &[1, 2, 3, 4, 5])?;
+    let too_long = ShelfAnswer::TooLong { taken: 5 };
+    check_read(&rt, &mut shelf, name, 4, Err(too_long));
+    check_read(&rt, &mut shelf, name, 5, Ok(&[1, 2, 3, 4, 5]));
+    check_read(&rt, &mut shelf, name, u64::MAX, Ok(&[1, 2, 3, 4, 5]));
+    shelf.write(name, &[6])?;
+    check_read(&rt, &mut shelf, name, 5, Ok(&[6]));
+    shelf.write(name, &[])?;
+    check_read(&rt, &mut shelf, name, 0, Ok(&[]));
+    fs::remove_file(&rt, name)?;
+    Ok(())
+}
+
+#[test]
+fn a_folder_is_no_file(rt: HostRuntime) -> Result<(), Fail> {
+    let mut shelf = FolderShelf::new(&rt);
+    let name = "folder_shelf.folder";
+    fs::create_dir(&rt, name)?;
+    check_read(&rt, &mut shelf, name, 5, Err(ShelfAnswer::Failed));
+    assert_eq!(rt; shelf.write(name, &[1]), Err(ShelfAnswer::Failed));
+    fs::remove_dir(&rt, name)?;
+    Ok(())
+}
+
+#[test]
+fn a_file_of_unknown_length(rt: HostRuntime) -> Result<(), Fail> {
+    let mut shelf = FolderShelf::new(&rt);
+    let name = "folder_shelf.link";
+    // The system says that this file has no bytes, and then gives some.
+    symlink(&rt, "/proc/self/status", name)?;
+    let too_long = ShelfAnswer::TooLong { taken: 10 };
+    check_read(&rt, &mut shelf, name, 9, Err(too_long));
+    assert!(rt; shelf.read(name, 1 << 20)?.starts_with(b"Name:"));
+    fs::remove_file(&rt, name)?;
+    Ok(())
+}
+
+#[test]
+fn a_swap_disk_in_a_file(rt: HostRuntime) -> Result<(), Fail> {
+    let mut block = [1u8; 4096];
+    let mut disk = FileSwap::new(&rt, 3);
+    fs::create_dir(&rt, ".tilegraph-swap")?;
+    assert_eq!(rt; disk.read_block(0, &mut block), Err(SwapAnswer::Failed));
+    fs::remove_dir(&rt, ".tilegraph-swap")?;
+    keep_blocks(&rt, &mut disk)?;
+    keep_several_blocks(&rt, &mut disk)?;
+    assert!(rt; !fs::exists(&rt, ".tilegraph-swap")?);
+    Ok(())
+}
+
+/// Writes two blocks of three, and reads all.
+fn keep_blocks<D: SwapDisk>(rt: &impl Abort, disk: &mut D) -> Result<(), Fail> {
+    assert_eq!(rt; disk.size(), 3);
+    disk.write_block(2, &[7; 4096])?;
+    disk.write_block(0, &[8; 4096])?;
+    let mut block = [1u8; 4096];
+    for (number, byte) in [(2, 7), (0, 8), (1, 0)] {
+        assert!(rt; number < disk.size());
+        disk.read_block(number, &mut block)?;
+        assert_eq!(rt; block, [byte; 4096], "block {number}");
+    }
+    Ok(())
+}
+
+/// Writes and reads two blocks of three in one call.
+fn keep_several_blocks<D: SwapDisk>(rt: &impl Abort, disk: &mut D) -> Result<(), Fail> {
+    let mut two = [1u8; 8192];
+    assert_eq!(rt; disk.size(), 3);
+    disk.write_blocks(1, &[9; 8192])?;
+    disk.read_blocks(1, &mut two)?;
+    assert_eq!(rt; two, [9; 8192]);
+    Ok(())
+}
+
+/// A standard output that is closed.
+struct Closed;
+
+impl Print for Closed {
+    fn print<T: Display + Drop>(&self, _value: T) -> io::Result<()> {
+        Err(io::Error::from(ErrorKind::BrokenPipe))
+    }
+
+    fn println<T: Display + Drop>(&self, _value: T) -> io::Result<()> {
+        Err(io::Error::from(ErrorKind::BrokenPipe))
+    }
+
+    fn write_all(&self, _bytes: &[u8]) -> io::Result<()> {
+        Err(io::Error::from(ErrorKind::BrokenPipe))
+    }
+}
+
+#[test]
+fn standard_output(rt: HostRuntime) -> Result<(), Fail> {
+    StdSink::new(&rt).put(b"a piece\n")?;
+    let answer = StdSink::new(&Closed).put(b"a piece\n");
+    assert_eq!(rt; answer, Err(SinkAnswer::Failed));
+    Ok(())
+}
