@@ -1,11 +1,10 @@
 -- Lines of tiles that windows have.
-use Rattle.std.proofs.Common.{◌≡◌, ℕ, ◌+◌, ◌-◌, ◌*◌, ◌<◌, ◌≤◌, List, [], ◌∷◌, ◌++◌, Some, length, get_or, refl, sym, ap, ◌∙◌, inl, inr, arith}
+use Rattle.std.proofs.Common.{◌≡◌, ℕ, ◌+◌, ◌-◌, ◌<◌, ◌≤◌, List, [], ◌∷◌, ◌++◌, Some, length, get_or, refl, sym, ap, ◌∙◌, inl, inr, arith}
 use Rattle.std.proofs.Math.ListN.{length-append}
 use Rattle.std.proofs.lemmas.Bool.{cases_lt}
 use Rattle.std.proofs.lemmas.List.{get_or-append_right, get_or_append_left, get_or_default}
 use Rattle.plane_rect.specs.Rectangle.{Includes, Rectangle}
 use Rattle.plane_rect.specs.Tile.{tile_at, tile_of}
-use Rattle.pixel_formats.specs.Format.{pixel_bytes}
 use Rattle.model_graphs.specs.Windows.{IsWholeWindow, Window, tiles_of, window_image}
 use Rattle.tile_lines.specs.Lines.{AreLineTiles, HasLine}
 use Rattle.op_contracts.specs.HeldBytes.{HasTiles}

@@ -15,7 +15,7 @@ use Rattle.model_images.proofs.RawLaws.{raw-samples}
 use Rattle.pixel_formats.specs.Format.{pixel_bytes}
 use Rattle.pixel_formats.specs.declared.format.Format.{Format}
 use Rattle.plane_rect.specs.Rectangle.{Rectangle, end_column}
-use Rattle.plane_rect.specs.Tile.{Tile, tile_at, tile_end, tile_of, tile_square}
+use Rattle.plane_rect.specs.Tile.{tile_at, tile_end, tile_of, tile_square}
 use Rattle.plane_rect.proofs.TileLists.{Inside-tile_square}
 use Rattle.tile_lines.specs.Lines.{HasLine}
 

@@ -5,6 +5,7 @@ ghost use Rattle.plane_rect.specs.Rectangle.{InLimits};
 ghost use Rattle.test_roots.specs.Gray.{IsGray};
 
 use chain_handlers::TileChain;
+use patch_abyss::Patch;
 use pixel_formats::Format;
 use plane_rect::{Rect, TileAt};
 use root_tiles::{Root, new_roots_are_blank, other_roots_are_unchanged};
@@ -99,11 +100,27 @@ pub fn check_rows<C: TileChain>(
     let whole = root.part(chain, rect)?;
     for row in rect.first_row()..rect.end_row() {
         let line = Rect::spanning(rect.first_column(), row, rect.end_column(), row + 1);
-        assert!(rt; root.bounds().contains(&line) && line.in_limits());
-        let part = root.part(chain, line)?;
-        let cut = whole.part(root.allocator(), line)?;
-        assert!(rt; cut.raw_bytes() == part.raw_bytes());
+        check_line(rt, root, chain, &whole, line)?;
     }
+    Ok(())
+}
+
+/// Checks that a line of a part is the part of this line alone.
+fn check_line<C: TileChain>(
+    rt: &impl Abort,
+    root: &Root,
+    chain: &mut C,
+    whole: &Patch,
+    line: Rect,
+) -> Result<(), Fail>
+    requires { IsGray root.now (C.held chain.old) }
+    ensures { IsGray root.now (C.held chain.new) }
+{
+    assert!(rt; root.bounds().contains(&line));
+    assert!(rt; line.in_limits());
+    let part = root.part(chain, line)?;
+    let cut = whole.part(root.allocator(), line)?;
+    assert!(rt; cut.raw_bytes() == part.raw_bytes());
     Ok(())
 }
 

@@ -1,8 +1,8 @@
-use Rattle.std.proofs.Common.{◌≡◌, ℕ, ◌+◌, ◌*◌, ◌<◌, ◌≤◌, List, map, max, min, sym, ap, subst, arith}
+use Rattle.std.proofs.Common.{◌≡◌, ◌<◌, ◌≤◌, map, sym, ap, subst, arith}
 use Rattle.plane_rect.specs.Rectangle.{end_row, offset}
 use Rattle.plane_rect.specs.Tile.{tile_end, tile_of}
 use Rattle.model_graphs.specs.Windows.{Window, window_image}
-use Rattle.tile_lines.specs.Lines.{AreLineTiles, HasFirstPixels, HasLine}
+use Rattle.tile_lines.specs.Lines.{HasFirstPixels, HasLine}
 use Rattle.tile_lines.proofs.FirstPixels.{has_rows}
 use Rattle.tile_lines.proofs.LineRows.{all_pixels, reached_all, reached_line, reached_next, reached_row}
 use Rattle.op_contracts.specs.HeldBytes.{HasTiles}

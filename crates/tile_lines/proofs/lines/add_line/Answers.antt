@@ -1,4 +1,4 @@
-use Rattle.std.proofs.Common.{◌≡◌, ℕ, ◌+◌, ◌-◌, ◌*◌, List, length, max, min, map, sym, ap, ◌∙◌, subst, arith}
+use Rattle.std.proofs.Common.{◌≡◌, ℕ, ◌+◌, ◌-◌, ◌*◌, length, max, min, map, ap, ◌∙◌, subst, arith}
 use Rattle.plane_rect.specs.Rectangle.{end_row, offset}
 use Rattle.plane_rect.specs.Tile.{tile_of}
 use Rattle.pixel_formats.specs.Format.{pixel_bytes}

@@ -6,7 +6,6 @@ use Rattle.plane_rect.specs.Rectangle.{end_column, offset}
 use Rattle.plane_rect.specs.Tile.{tile_at, tile_end, tile_of, tile_square}
 use Rattle.pixel_formats.specs.Format.{pixel_bytes}
 use Rattle.model_images.specs.FromRaw.{pixels_from_raw}
-use Rattle.model_images.specs.Image.{Image, at}
 use Rattle.tile_lines.specs.Lines.{HasFirstPixels}
 use Rattle.tile_lines.proofs.FirstPixels.{HasFirstPixels-more, has_columns, piece_long, reached}
 use Rattle.tile_lines.proofs.lines.add_row.Goals as goal

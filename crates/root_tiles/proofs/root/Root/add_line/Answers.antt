@@ -1,4 +1,4 @@
-use Rattle.std.proofs.Common.{◌≡◌, ◌+◌, ◌*◌, max, min, sym, ap, ◌∙◌}
+use Rattle.std.proofs.Common.{◌+◌, ◌*◌, max, min, sym}
 use Rattle.level_tables.specs.LevelTiles.{bytes_in}
 use Rattle.model_images.specs.Tiles.{held_image}
 use Rattle.plane_rect.specs.Rectangle.{end_row, offset}

@@ -1,11 +1,11 @@
-use Rattle.std.proofs.Common.{◌≡◌, ◌+◌, ◌∷◌, ◌++◌, [], subst, sym, arith}
+use Rattle.std.proofs.Common.{◌≡◌, subst, arith}
 use Rattle.plane_rect.specs.Rectangle.{end_column}
-use Rattle.plane_rect.specs.Tile.{Tile, tile_end, tile_of}
+use Rattle.plane_rect.specs.Tile.{Tile, tile_end}
 use Rattle.chain_owners.specs.Held.{Held}
 use Rattle.level_tables.specs.Over.{IsTileOfLevel}
 use Rattle.root_tiles.specs.Roots.{root_image}
 use Rattle.root_tiles.proofs.ChainReads.{read-both}
-use Rattle.root_tiles.proofs.LineTiles.{IsFilled, IsFilled-line, IsFilled-more, known-first}
+use Rattle.root_tiles.proofs.LineTiles.{IsFilled-line, IsFilled-more, known-first}
 use Rattle.root_tiles.proofs.root.Root.line_tiles.Goals as goal
 
 pub returns-in_err-push-clause-read : goal.returns-in_err-push-clause-read

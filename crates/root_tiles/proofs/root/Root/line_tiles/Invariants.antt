@@ -1,4 +1,3 @@
-use Rattle.std.proofs.Common.{map}
 use Rattle.root_tiles.specs.Chains.{IsRead}
 use Rattle.root_tiles.specs.Roots.{root_image}
 use Rattle.root_tiles.proofs.LineTiles.{IsFilled}

@@ -1,6 +1,5 @@
-use Rattle.std.proofs.Common.{◌≡◌, ℕ, ◌+◌, ◌-◌, ◌*◌, ◌/◌, ◌<◌, ◌≤◌, ◌∙◌, length, max, min, refl, sym, ap, subst, arith}
+use Rattle.std.proofs.Common.{◌≡◌, ℕ, ◌+◌, ◌*◌, ◌/◌, ◌<◌, ◌≤◌, ◌∙◌, length, max, min, sym, ap, subst, arith}
 use Rattle.std.proofs.lemmas.Result.{err_from_is_err_and}
-use Rattle.chain_owners.specs.Held.{Held}
 use Rattle.level_tables.specs.LevelTiles.{bytes_in}
 use Rattle.model_images.specs.FromRaw.{image_from_raw}
 use Rattle.model_images.specs.Image.{Image}
@@ -8,7 +7,7 @@ use Rattle.model_images.specs.Paint.{cut}
 use Rattle.model_images.specs.Tiles.{held_image}
 use Rattle.pixel_formats.specs.Format.{pixel_bytes}
 use Rattle.pixel_formats.specs.declared.format.Format.{Format}
-use Rattle.plane_rect.specs.Rectangle.{Rectangle, area, end_row, offset}
+use Rattle.plane_rect.specs.Rectangle.{area, end_row, offset}
 use Rattle.plane_rect.specs.Tile.{tile_end, tile_of}
 use Rattle.tile_lines.specs.Lines.{HasFirstPixels}
 use Rattle.tile_lines.proofs.FirstPixels.{HasFirstPixels-all, HasFirstPixels-none, has_rows}
