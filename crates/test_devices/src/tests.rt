@@ -36,7 +36,10 @@ const READS: [(&str, u64, Result<&[u8], ShelfAnswer>); 4] = [
 ];
 
 /// Returns whether a read returned what it should.
-pub fn is_answer(answer: &Result<Vec<u8>, ShelfAnswer>, wanted: &Result<&[u8], ShelfAnswer>) -> bool {
+pub fn is_answer(
+    answer: &Result<Vec<u8>, ShelfAnswer>,
+    wanted: &Result<&[u8], ShelfAnswer>,
+) -> bool {
     match (answer, wanted) {
         (Ok(bytes), Ok(wanted)) => bytes.as_slice() == *wanted,
         (Err(answer), Err(wanted)) => answer == wanted,
