@@ -2,13 +2,15 @@
 
 ghost use Rattle.test_roots.specs.Gray.{IsGray};
 
-use crate::calls::{check, fill, new_root, put, rect};
+use crate::calls::{check, fill, new_root, part, put, rect, rect_inside};
 use chain_handlers::TileChain;
+use patch_abyss::Patch;
 use root_tiles::Root;
 use std::alloc::Global;
 use std::process::Abort;
 use std::test::Fail;
 use std::thread::Threads;
+use swap_store::SwapRefused;
 use worker_pieces::Workers;
 
 /// The box of the roots.
@@ -39,23 +41,55 @@ fn noise(alloc: Global, count: u64) -> Result<Vec<u8>, Fail> {
 }
 
 /// Writes bytes over a rectangle of the box in bands.
-fn put_bands<C: TileChain>(
-    rt: &(impl Abort + Threads + Sync),
+fn put_bands<C: TileChain, R: Threads + Sync>(
+    rt: &impl Abort,
     root: &mut Root,
     chain: &mut C,
     fields: [i64; 4],
     bytes: Vec<u8>,
-    bands: (u32, u32),
-) -> Result<(), Fail>
+    lines: u32,
+    workers: Workers<'_, R>,
+) -> Result<(), SwapRefused>
     requires { IsGray root.old (C.held chain.old) }
     ensures { IsGray root.new (C.held chain.new) }
 {
-    let rect = rect(fields);
-    assert!(rt; root.bounds().contains(&rect));
+    let rect = rect_inside(rt, root, fields);
     assert!(rt; bytes.len() as u64 == rect.area());
-    let workers = Workers::new(rt, bands.1);
-    root.put_bands(chain, rect, bytes, bands.0, workers)?;
-    Ok(())
+    root.put_bands(chain, rect, bytes, lines, workers)
+}
+
+/// Returns the whole box once bytes are written over a rectangle at once.
+fn written_whole<C: TileChain>(
+    rt: &impl Abort,
+    chain: &mut C,
+    alloc: Global,
+    fields: [i64; 4],
+    bytes: &[u8],
+) -> Result<Patch, Fail> {
+    let mut root = new_root(chain, alloc, BOX);
+    fill(rt, &mut root, chain, BOX, 9)?;
+    put(rt, &mut root, chain, fields, bytes)?;
+    let image = part(rt, &root, chain, BOX)?;
+    root.release(chain);
+    Ok(image)
+}
+
+/// Returns the whole box once bytes are written over a rectangle in bands of so many rows of tiles.
+fn written_in_bands<C: TileChain, R: Threads + Sync>(
+    rt: &impl Abort,
+    chain: &mut C,
+    alloc: Global,
+    fields: [i64; 4],
+    bytes: Vec<u8>,
+    lines: u32,
+    workers: Workers<'_, R>,
+) -> Result<Patch, Fail> {
+    let mut root = new_root(chain, alloc, BOX);
+    fill(rt, &mut root, chain, BOX, 9)?;
+    put_bands(rt, &mut root, chain, fields, bytes, lines, workers)?;
+    let image = part(rt, &root, chain, BOX)?;
+    root.release(chain);
+    Ok(image)
 }
 
 /// Writes over a rectangle whole and in bands, and compares the whole box.
@@ -67,16 +101,10 @@ fn compare_bands<C: TileChain>(
     bands: (u32, u32),
 ) -> Result<(), Fail> {
     let bytes = noise(alloc, rect(fields).area())?;
-    let mut whole = new_root(chain, alloc, BOX);
-    fill(rt, &mut whole, chain, BOX, 9)?;
-    put(rt, &mut whole, chain, fields, &bytes)?;
-    let wanted = whole.part(chain, rect(BOX))?;
-    whole.release(chain);
-    let mut root = new_root(chain, alloc, BOX);
-    fill(rt, &mut root, chain, BOX, 9)?;
-    put_bands(rt, &mut root, chain, fields, bytes, bands)?;
-    check(rt, &root, chain, BOX, wanted.raw_bytes())?;
-    root.release(chain);
+    let whole = written_whole(rt, chain, alloc, fields, &bytes)?;
+    let workers = Workers::new(rt, bands.1);
+    let parts = written_in_bands(rt, chain, alloc, fields, bytes, bands.0, workers)?;
+    assert!(rt; whole.raw_bytes() == parts.raw_bytes());
     Ok(())
 }
 
@@ -116,12 +144,8 @@ pub fn write_or_refuse<C: TileChain>(
     let mut root = new_root(chain, alloc, fields);
     fill(rt, &mut root, chain, fields, 9)?;
     let bytes = noise(alloc, 64 * 256)?;
-    let all = rect(fields);
-    assert!(rt; root.bounds().contains(&all));
-    assert!(rt; bytes.len() as u64 == all.area());
-    let refused = root
-        .put_bands(chain, all, bytes, 1, Workers::new(rt, 1))
-        .is_err();
+    let workers = Workers::new(rt, 1);
+    let refused = put_bands(rt, &mut root, chain, fields, bytes, 1, workers).is_err();
     if refused {
         check(rt, &root, chain, [0, 0, 1, 256], &[9; 256])?;
     }

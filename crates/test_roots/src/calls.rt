@@ -1,7 +1,7 @@
 //! Calls on roots of gray pixels, on rectangles of four numbers.
 
 ghost use Rattle.std.specs.Prelude.{◌≡◌};
-ghost use Rattle.plane_rect.specs.Rectangle.{InLimits};
+ghost use Rattle.plane_rect.specs.Rectangle.{InLimits, Includes};
 ghost use Rattle.test_roots.specs.Gray.{IsGray};
 
 use chain_handlers::TileChain;
@@ -24,6 +24,16 @@ pub fn rect(fields: [i64; 4]) -> Rect
     }
 }
 
+/// Returns the rectangle of four fields, which is to be in the root's box.
+pub fn rect_inside(rt: &impl Abort, root: &Root, fields: [i64; 4]) -> Rect
+    ensures inside { Includes root.now.box result }
+    ensures limits { InLimits result }
+{
+    let rect = rect(fields);
+    assert!(rt; root.bounds().contains(&rect));
+    rect
+}
+
 /// Returns a root of zeros.
 pub fn new_root<C: TileChain>(chain: &C, alloc: Global, fields: [i64; 4]) -> Root
     ensures { IsGray result (C.held chain.now) }
@@ -43,8 +53,7 @@ pub fn put<C: TileChain>(
     requires { IsGray root.old (C.held chain.old) }
     ensures { IsGray root.new (C.held chain.new) }
 {
-    let rect = rect(fields);
-    assert!(rt; root.bounds().contains(&rect));
+    let rect = rect_inside(rt, root, fields);
     assert!(rt; bytes.len() as u64 == rect.area());
     root.put_raw_alone(chain, rect, bytes)?;
     Ok(())
@@ -61,10 +70,24 @@ pub fn fill<C: TileChain>(
     requires { IsGray root.old (C.held chain.old) }
     ensures { IsGray root.new (C.held chain.new) }
 {
-    let rect = rect(fields);
-    assert!(rt; root.bounds().contains(&rect));
+    let rect = rect_inside(rt, root, fields);
     root.fill(chain, rect, &[u32::from(byte)])?;
     Ok(())
+}
+
+/// Returns a part of the box.
+pub fn part<C: TileChain>(
+    rt: &impl Abort,
+    root: &Root,
+    chain: &mut C,
+    fields: [i64; 4],
+) -> Result<Patch, Fail>
+    requires { IsGray root.now (C.held chain.old) }
+    ensures { IsGray root.now (C.held chain.new) }
+{
+    let rect = rect_inside(rt, root, fields);
+    let part = root.part(chain, rect)?;
+    Ok(part)
 }
 
 /// Checks the bytes of a part of the box.
@@ -78,9 +101,7 @@ pub fn check<C: TileChain>(
     requires { IsGray root.now (C.held chain.old) }
     ensures { IsGray root.now (C.held chain.new) }
 {
-    let rect = rect(fields);
-    assert!(rt; root.bounds().contains(&rect));
-    let part = root.part(chain, rect)?;
+    let part = part(rt, root, chain, fields)?;
     assert!(rt; part.raw_bytes() == wanted);
     Ok(())
 }
@@ -96,8 +117,7 @@ pub fn check_rows<C: TileChain>(
     ensures { IsGray root.now (C.held chain.new) }
 {
     let rect = rect(fields);
-    assert!(rt; root.bounds().contains(&rect));
-    let whole = root.part(chain, rect)?;
+    let whole = part(rt, root, chain, fields)?;
     for row in rect.first_row()..rect.end_row() {
         let line = Rect::spanning(rect.first_column(), row, rect.end_column(), row + 1);
         check_line(rt, root, chain, &whole, line)?;
