@@ -17,6 +17,7 @@ pub mod Led
 pub mod CommitStep
 pub mod Through
 pub mod Kept
+pub mod Edited
 pub mod Done
 pub mod VoidTurns
 pub mod Nothing
