@@ -184,7 +184,7 @@ written-still layout (Create name format extent) = refl
 written-still layout (Sub name parent r) = refl
 written-still layout (Duplicate name from) = refl
 written-still layout (Fill name r samples) = refl
-written-still layout (Put name r bytes) = refl
+written-still layout (Put name r raw) = refl
 written-still layout (Copy from to r dx dy) = refl
 
 pub noted-is : (edit : BufferEdit) (before after : BufferTable) (shown : BufferTable) (old new : Held) (written noted : Rectangles) → IsEdited edit before after old new → shown ≡ after
