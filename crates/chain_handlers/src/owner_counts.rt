@@ -60,7 +60,7 @@ impl OwnerCounts {
         ensures absent { IfSome result (λ name. map.get self.now name ≡ None) }
         ensures range { IfSome result (λ name. (from ≤ name) × (name < 2 ^ 64 - 1)) }
     {
-        (from..from.saturating_add(NEAR_NAMES).min(u64::MAX)).find(|name| self.of(*name).is_none())
+        (from..from.saturating_add(NEAR_NAMES)).find(|name| self.of(*name).is_none())
     }
 
     /// Adds a name of one owner.

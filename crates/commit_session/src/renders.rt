@@ -48,7 +48,7 @@ const IDLE_ROOM: usize = IDLE_BYTES + 4096;
 impl<Op: OpMeaning + Drop> SessionState<Op> {
     /// Returns a rectangle of a level of the image of a node of the last state. Each tile that it needs is looked
     /// up in the cache, or else evaluated, kept there, and paid for by one permit. The patch takes the memory that
-    /// the session was given for it, where that has room. Takes time in proportion to the needed tiles and to the
+    /// the session was given for it, where that suits its size. Takes time in proportion to the needed tiles and to the
     /// rectangle at level 0.
     ///
     /// # Errors

@@ -149,7 +149,7 @@ where
 /// the cached pairs are right, the patch is that rectangle of the level of the node's image, whatever the
 /// cache had; the cached pairs and both counts are those of the list after these pairs are looked up, also
 /// where no bytes are known. No strip may need more tiles than the capacity, which is tested before
-/// anything is looked up. The patch takes `memory`, whatever it has, where that has room for its bytes, and
+/// anything is looked up. The patch takes `memory`, whatever it has, where its room suits the patch's size, and
 /// else new memory. Takes time in proportion to the needed tiles, to the rectangle at level 0, and to
 /// the inputs times the nodes for each strip.
 ///

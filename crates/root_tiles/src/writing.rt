@@ -30,8 +30,8 @@ use swap_store::SwapRefused;
 use tile_cow::Tile;
 use worker_pieces::Workers;
 
-/// How many bytes of memory may lie idle, to be used again: the pages of new memory take as long as the bytes
-/// are copied, and more than these are a large part of what a job may take.
+/// How many bytes of memory are kept to be used again: pages that were used before cost less than new ones, but
+/// while they lie idle they are missing elsewhere. As many as 4,096 tiles of RGBA8, the default of what is resident.
 pub const IDLE_BYTES: usize = 64 << 20;
 
 impl Root {

@@ -54,8 +54,8 @@ impl Model for LevelPatch {
 }
 
 impl LevelPatch {
-    /// Returns the patch to which no strip was added. It takes memory that was used before where that has
-    /// room for its bytes, and writes none of them; else it takes new memory.
+    /// Returns the patch to which no strip was added. It takes memory that was used before where that
+    /// suits its size, and writes none of it; else it takes new memory.
     ///
     /// # Errors
     ///

@@ -10,8 +10,8 @@ use pixel_formats::Format;
 use plane_rect::Rect;
 use std::alloc::Global;
 
-/// Returns a patch over a rectangle, whichever its samples are: in the memory where that has room for
-/// them, and else in new memory.
+/// Returns a patch over a rectangle, whichever its samples are: in the memory where that suits their number,
+/// and else in new memory.
 ///
 /// # Errors
 ///

@@ -7,6 +7,7 @@ use crate::tests::is_answer;
 use outside_io::{
     FileSwap, FolderShelf, Shelf, ShelfAnswer, Sink, SinkAnswer, StdSink, SwapAnswer, SwapDisk,
 };
+use std::alloc::{AllocError, Global};
 use std::fmt::Display;
 use std::io::ErrorKind;
 use std::os::unix::fs::symlink;
@@ -42,6 +43,33 @@ fn the_current_folder(rt: HostRuntime) -> Result<(), Fail> {
     check_read(&rt, &mut shelf, name, 5, Ok(&[6]));
     shelf.write(name, &[])?;
     check_read(&rt, &mut shelf, name, 0, Ok(&[]));
+    fs::remove_file(&rt, name)?;
+    Ok(())
+}
+
+/// How long files are that are read in several turns of 128 KiB, or in turns that are full.
+const LONG_FILES: [u64; 3] = [131_072, 262_144, 300_001];
+
+/// Returns bytes that no turn repeats.
+fn long_bytes(alloc: Global, len: u64) -> Result<Vec<u8>, AllocError> {
+    let mut bytes = Vec::new(alloc);
+    for index in 0..len {
+        bytes.push((index % 251) as u8)?;
+    }
+    Ok(bytes)
+}
+
+#[test]
+fn files_of_several_turns(rt: HostRuntime) -> Result<(), Fail> {
+    let mut shelf = FolderShelf::new(&rt);
+    let name = "folder_shelf.long";
+    for len in LONG_FILES {
+        let bytes = long_bytes(rt.alloc(), len)?;
+        shelf.write(name, &bytes)?;
+        check_read(&rt, &mut shelf, name, len, Ok(&bytes));
+        let too_long = ShelfAnswer::TooLong { taken: len };
+        check_read(&rt, &mut shelf, name, len.saturating_sub(1), Err(too_long));
+    }
     fs::remove_file(&rt, name)?;
     Ok(())
 }
