@@ -37,6 +37,11 @@ module _ (row part : List ℕ) (a k : ℕ) (room : a + k ≤ length row) (long :
       ∙ same_index (part ++ post_of a k row) (p - a) q (omega arith)
       ∙ get_or_append_left part (post_of a k row) 0 q (omega arith)
 
+-- so many samples from number first of a row on are those of another from number at on, whose samples before them are the old ones
+abbrev pub AreCopied : ℕ → ℕ → ℕ → ℕ → List ℕ → List ℕ → List ℕ → Type 0
+AreCopied d first at count from old new =
+    ((i : ℕ) → i < count → sample_at d new (at + i) ≡ sample_at d from (first + i)) × ((i : ℕ) → i < at → sample_at d new i ≡ sample_at d old i)
+
 -- so many samples were copied from number first of one row on to number at of another
 module _ (d first at count : ℕ) (from to part : List ℕ) (begin end start stop : ℕ) (begins : begin ≡ d * first) (ends : end ≡ d * (first + count)) (starts : start ≡ d * at) (stops : stop ≡ d * (at + count))
     (readable : end ≤ length from) (writable : stop ≤ length to) (is : part ≡ take (end - begin) (drop begin from)) where
@@ -46,7 +51,7 @@ module _ (d first at count : ℕ) (from to part : List ℕ) (begin end start sto
   room : start + (stop - start) ≤ length to
   room = omega arith
 
-  pub copied-here : (i : ℕ) → i < count → sample_at d (put_mid start (stop - start) to part) (at + i) ≡ sample_at d from (first + i)
+  copied-here : (i : ℕ) → i < count → sample_at d (put_mid start (stop - start) to part) (at + i) ≡ sample_at d from (first + i)
   copied-here i lt =
       sample_at-moved d (put_mid start (stop - start) to part) from (at + i) (first + i)
       (λ p near.
@@ -57,10 +62,22 @@ module _ (d first at count : ℕ) (from to part : List ℕ) (begin end start sto
       ∙ get_or-drop begin from (d * i + p) 0
       ∙ same_index from (begin + (d * i + p)) (d * (first + i) + p) (omega arith))
 
-  pub copied-before : (i : ℕ) → i < at → sample_at d (put_mid start (stop - start) to part) i ≡ sample_at d to i
+  copied-before : (i : ℕ) → i < at → sample_at d (put_mid start (stop - start) to part) i ≡ sample_at d to i
   copied-before i lt =
       sample_at-moved d (put_mid start (stop - start) to part) to i i
       (λ p near. written-before to part start (stop - start) room long (d * i + p) (omega (arith, mul-add-lt i d p at lt near)))
+
+  copied : AreCopied d first at count from to (put_mid start (stop - start) to part)
+  copied = (copied-here, copied-before)
+
+-- the same where a sample has b bytes
+pub AreCopied-bytes : (d b first at count : ℕ) (from to part : List ℕ) → b ≡ d → d * (first + count) ≤ length from → d * (at + count) ≤ length to
+    → part ≡ take (b * (first + count) - b * first) (drop (b * first) from) → AreCopied d first at count from to (put_mid (b * at) (b * (at + count) - b * at) to part)
+AreCopied-bytes d b first at count from to part is readable writable same =
+    let whole : b * (first + count) ≡ d * (first + count) = ap (λ n. n * (first + count)) is in
+    let stop : b * (at + count) ≡ d * (at + count) = ap (λ n. n * (at + count)) is in
+    copied d first at count from to part (b * first) (b * (first + count)) (b * at) (b * (at + count))
+    (ap (λ n. n * first) is) whole (ap (λ n. n * at) is) stop (omega (arith, whole, readable)) (omega (arith, stop, writable)) same
 
 -- ---- rows one after the other
 

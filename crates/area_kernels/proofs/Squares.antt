@@ -1,5 +1,5 @@
 -- What is made of the samples of a square, and of its columns one after the other.
-use Rattle.std.proofs.Common.{◌≡◌, ℕ, ◌+◌, ◌*◌, ◌/◌, ◌%◌, ◌<◌, ◌≤◌, max, min, length, get_or, List, ◌∙◌, arith}
+use Rattle.std.proofs.Common.{◌≡◌, ℕ, ◌+◌, ◌*◌, ◌/◌, ◌%◌, ◌<◌, ◌≤◌, max, min, length, get_or, List, sym, ◌∙◌, arith}
 use Rattle.std.proofs.lemmas.Nat.{mod_below, div_below}
 use Rattle.plane_rect.specs.Rectangle.{Inside}
 use Rattle.model_images.specs.Image.{column_of, row_of, sample_index, sample_count}
@@ -9,7 +9,10 @@ use Rattle.model_images.proofs.Samples.{position_of_index, sample_index_below}
 use Rattle.std.proofs.lemmas.List.FromFn.{get_or-map-range_with_len}
 use Rattle.model_images.proofs.Laws.{length-sampled}
 use Rattle.area_kernels.specs.Sequences.{best}
-use Rattle.area_kernels.specs.Parts.{square_samples}
+use Rattle.pixel_formats.specs.declared.format.Format.{Format}
+use Rattle.area_kernels.specs.Parts.{HoldsPart, square_samples}
+use Rattle.area_kernels.specs.declared.area.Area.{Area}
+use Rattle.area_kernels.proofs.PartLaws.{HoldsPart-by}
 use Rattle.area_kernels.proofs.Picking.{above_smallest, below_largest, largest_below, smallest_above}
 
 module _ (radius : ℕ) (f : ℕ → ℕ → ℕ → ℕ) (u v c : ℕ) where
@@ -92,3 +95,19 @@ module _ (radius : ℕ) (f : ℕ → ℕ → ℕ → ℕ) (u v c : ℕ) where
       (λ i column. smallest_above side (min_of_all samples) (λ j. f (u + i) (v + j) c) some
       (λ j row. let there = sample-inside i j column row in omega (arith, there.2, minimum-below samples there.0 there.1))) in
       omega arith
+
+-- a part with the largest samples, by columns and of whole squares
+pub HoldsPart-max : (format : Format) (area : Area) (bytes : List ℕ) (f : ℕ → ℕ → ℕ → ℕ) (u v : ℕ)
+    → HoldsPart format area.width area.height bytes (λ s t c. best max (window_side area.radius) (λ i. best max (window_side area.radius) (λ j. f (s + i) (t + j) c))) u v
+    → HoldsPart format area.width area.height bytes (λ s t c. max_of_all (square_samples area.radius f s t c)) u v
+HoldsPart-max format area bytes f u v =
+    HoldsPart-by format area.width area.height bytes (λ s t c. best max (window_side area.radius) (λ i. best max (window_side area.radius) (λ j. f (s + i) (t + j) c)))
+    (λ s t c. max_of_all (square_samples area.radius f s t c)) u v (λ s t c. sym (max_of_square area.radius f s t c))
+
+-- a part with the smallest samples, by columns and of whole squares
+pub HoldsPart-min : (format : Format) (area : Area) (bytes : List ℕ) (f : ℕ → ℕ → ℕ → ℕ) (u v : ℕ)
+    → HoldsPart format area.width area.height bytes (λ s t c. best min (window_side area.radius) (λ i. best min (window_side area.radius) (λ j. f (s + i) (t + j) c))) u v
+    → HoldsPart format area.width area.height bytes (λ s t c. min_of_all (square_samples area.radius f s t c)) u v
+HoldsPart-min format area bytes f u v =
+    HoldsPart-by format area.width area.height bytes (λ s t c. best min (window_side area.radius) (λ i. best min (window_side area.radius) (λ j. f (s + i) (t + j) c)))
+    (λ s t c. min_of_all (square_samples area.radius f s t c)) u v (λ s t c. sym (min_of_square area.radius f s t c))

@@ -27,3 +27,10 @@ written_samples area channels = area.height * (area.width * channels)
 -- the samples of a channel in the square of a radius that begins at a column and a row
 abbrev pub square_samples : ℕ → (ℕ → ℕ → ℕ → ℕ) → ℕ → ℕ → ℕ → List ℕ
 square_samples radius f u v c = sampled (window_square radius u v) 1 (λ s t _. f s t c)
+
+-- Of each part that the rows of a patch hold grown by the radius, other rows of bytes hold what is made of the square of
+-- samples around each position.
+abbrev pub HoldSquares : (List ℕ → ℕ) → Format → Area → List ℕ → List ℕ → Type 0
+HoldSquares of_square format area patch bytes =
+    (f : ℕ → ℕ → ℕ → ℕ) (u v : ℕ) → HoldsPart format (grown area.radius area.width) (grown area.radius area.height) patch f u v
+    → HoldsPart format area.width area.height bytes (λ s t c. of_square (square_samples area.radius f s t c)) u v

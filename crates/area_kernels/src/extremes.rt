@@ -1,7 +1,7 @@
 //! The largest and the smallest samples of squares.
 
 ghost use Rattle.std.specs.Prelude.{◌≡◌, ℕ, ◌+◌, ◌*◌, ◌<◌, ◌≤◌, length};
-ghost use Rattle.area_kernels.specs.Parts.{HoldsPart, grown, read_samples, square_samples, written_samples};
+ghost use Rattle.area_kernels.specs.Parts.{HoldSquares, HoldsPart, grown, read_samples, written_samples};
 ghost use Rattle.area_kernels.specs.Sequences.{best};
 ghost use Rattle.model_operations.specs.Windows.{max_of_all, min_of_all};
 ghost use Rattle.pixel_formats.specs.Format.{channels, depth};
@@ -50,9 +50,7 @@ fn pick_part<L: Lanes, P: Pick>(format: Format, area: Area, patch: &mut [u8], ds
 pub fn area_max(format: Format, area: Area, patch: &mut [u8], dst: &mut [u8])
     requires read { depth format * (read_samples area (channels format) + 16) ≤ length patch.old }
     requires written { length dst.old ≡ depth format * written_samples area (channels format) }
-    ensures { (f : ℕ → ℕ → ℕ → ℕ) (u v : ℕ)
-        → HoldsPart format (grown area.radius area.width) (grown area.radius area.height) patch.old f u v
-        → HoldsPart format area.width area.height dst.new (λ s t c. max_of_all (square_samples area.radius f s t c)) u v }
+    ensures { HoldSquares max_of_all format area patch.old dst.new }
 {
     match format.depth() {
         1 => pick_part::<ByteLanes, Largest>(format, area, patch, dst),
@@ -66,9 +64,7 @@ pub fn area_max(format: Format, area: Area, patch: &mut [u8], dst: &mut [u8])
 pub fn area_min(format: Format, area: Area, patch: &mut [u8], dst: &mut [u8])
     requires read { depth format * (read_samples area (channels format) + 16) ≤ length patch.old }
     requires written { length dst.old ≡ depth format * written_samples area (channels format) }
-    ensures { (f : ℕ → ℕ → ℕ → ℕ) (u v : ℕ)
-        → HoldsPart format (grown area.radius area.width) (grown area.radius area.height) patch.old f u v
-        → HoldsPart format area.width area.height dst.new (λ s t c. min_of_all (square_samples area.radius f s t c)) u v }
+    ensures { HoldSquares min_of_all format area patch.old dst.new }
 {
     match format.depth() {
         1 => pick_part::<ByteLanes, Smallest>(format, area, patch, dst),

@@ -2,7 +2,7 @@
 
 ghost use Rattle.std.specs.Prelude.{◌≡◌, ℕ, ◌+◌, ◌*◌, ◌/◌, ◌<◌, ◌≤◌, length, slice_index};
 ghost use Rattle.area_kernels.specs.Columns.{HoldsColumns};
-ghost use Rattle.area_kernels.specs.Parts.{HoldsPart, grown, read_samples, square_samples, written_samples};
+ghost use Rattle.area_kernels.specs.Parts.{HoldSquares, grown, read_samples, written_samples};
 ghost use Rattle.area_kernels.specs.Sequences.{mean_sum, sum_of};
 ghost use Rattle.model_operations.specs.Windows.{mean_of, window_side};
 ghost use Rattle.pixel_formats.specs.Format.{channels, depth};
@@ -107,10 +107,7 @@ fn mean_part<L: Lanes, C: ColumnSums<L> + Drop>(
     requires depth { depth format ≡ L.depth }
     requires read { depth format * (read_samples area (channels format) + 16) ≤ length patch.now }
     requires written { length dst.old ≡ depth format * written_samples area (channels format) }
-    ensures { (f : ℕ → ℕ → ℕ → ℕ) (u v : ℕ)
-        → HoldsPart format (grown area.radius area.width) (grown area.radius area.height) patch.now f u v
-        → HoldsPart format area.width area.height dst.new
-        (λ s t c. mean_of (window_side area.radius * window_side area.radius) (square_samples area.radius f s t c)) u v }
+    ensures { HoldSquares (mean_of (window_side area.radius * window_side area.radius)) format area patch.now dst.new }
 {
     mean_rows::<L, C>(area, format.channels() as usize, patch, dst);
 }
@@ -122,10 +119,7 @@ fn mean_part<L: Lanes, C: ColumnSums<L> + Drop>(
 pub fn area_mean(format: Format, area: Area, patch: &[u8], dst: &mut [u8])
     requires read { depth format * (read_samples area (channels format) + 16) ≤ length patch.now }
     requires written { length dst.old ≡ depth format * written_samples area (channels format) }
-    ensures { (f : ℕ → ℕ → ℕ → ℕ) (u v : ℕ)
-        → HoldsPart format (grown area.radius area.width) (grown area.radius area.height) patch.now f u v
-        → HoldsPart format area.width area.height dst.new
-        (λ s t c. mean_of (window_side area.radius * window_side area.radius) (square_samples area.radius f s t c)) u v }
+    ensures { HoldSquares (mean_of (window_side area.radius * window_side area.radius)) format area patch.now dst.new }
 {
     match format.depth() {
         1 => mean_part::<ByteLanes, ShortSums>(format, area, patch, dst),

@@ -18,7 +18,8 @@ use std::thread::Threads;
 use std::time::Instant;
 use worker_pieces::Workers;
 
-/// A rectangle of a level of a buffer, in pixels, and how often it is read.
+/// A rectangle of a level of a buffer, in pixels, how often it is read, and whether a square of 32 by 32 pixels is written
+/// before each read, in another tile each.
 #[derive(Clone, Copy)]
 pub struct Part {
     pub level: u8,
@@ -26,6 +27,7 @@ pub struct Part {
     pub width: u16,
     pub height: u16,
     pub rounds: u8,
+    pub is_written: bool,
 }
 
 impl Part {
@@ -113,6 +115,25 @@ pub fn time_puts<R: Clock + Print + Eprint + Threads + Sync, C: TileChain>(
     Ok(())
 }
 
+/// Writes one pixel over the square of a round, where a part is written before it is read.
+fn write_square<C: TileChain>(
+    buffers: &mut Buffers,
+    chain: &mut C,
+    name: Name,
+    part: Part,
+    round: u8,
+) -> Result<()>
+    requires { AreBuffersOver buffers.old (C.held chain.old) }
+    ensures { AreBuffersOver buffers.new (C.held chain.new) }
+{
+    if !part.is_written {
+        return Ok(());
+    }
+    let square = rect(64 * u16::from(round) + 8, 8, 32, 32);
+    buffers.fill(chain, name, square, &[1, 2, 3, 255])?;
+    Ok(())
+}
+
 /// Times reads of a part of the buffer `a`. Prints the sum of the bytes that the last one gave.
 pub fn time_gets<R: Clock + Print + Eprint, C: TileChain>(
     rt: &R,
@@ -129,13 +150,19 @@ pub fn time_gets<R: Clock + Print + Eprint, C: TileChain>(
     let wanted = part.rect();
     let mut times = Times::none();
     let mut found = 0;
-    for _round in 0..part.rounds {
+    for round in 0..part.rounds {
+        write_square(buffers, chain, name, part, round)?;
         let start = Instant::now(rt)?;
         let patch = buffers.get(chain, name, level, Abyss::None, wanted)?;
         times.add_since(rt, start)?;
         found = sum(patch.raw_bytes());
     }
-    report.print(rt, "get", &times, found)?;
+    let call = if part.is_written {
+        "get after a fill"
+    } else {
+        "get"
+    };
+    report.print(rt, call, &times, found)?;
     Ok(())
 }
 
@@ -183,32 +210,5 @@ pub fn time_fills<R: Clock + Print + Eprint, C: TileChain>(
         times.add_since(rt, start)?;
     }
     report.print(rt, "fill", &times, u64::from(tiles))?;
-    Ok(())
-}
-
-/// Times reads of level 3 of the buffer `a`, each after a square of 32 by 32 of it was written.
-pub fn time_reads_after_fills<R: Clock + Print + Eprint, C: TileChain>(
-    rt: &R,
-    report: Report,
-    buffers: &mut Buffers,
-    chain: &mut C,
-    part: Part,
-) -> Result<()>
-    requires { AreBuffersOver buffers.old (C.held chain.old) }
-    ensures { AreBuffersOver buffers.new (C.held chain.new) }
-{
-    let name = name("a")?;
-    let wanted = part.rect();
-    let mut times = Times::none();
-    let mut found = 0;
-    for round in 0..part.rounds {
-        let square = rect(64 * u16::from(round) + 8, 8, 32, 32);
-        buffers.fill(chain, name, square, &[1, 2, 3, 255])?;
-        let start = Instant::now(rt)?;
-        let patch = buffers.get(chain, name, 3, Abyss::None, wanted)?;
-        times.add_since(rt, start)?;
-        found = sum(patch.raw_bytes());
-    }
-    report.print(rt, "get after a fill", &times, found)?;
     Ok(())
 }

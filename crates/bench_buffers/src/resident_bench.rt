@@ -3,10 +3,7 @@
 ghost use Rattle.std.specs.Prelude.{◌≤◌};
 ghost use Rattle.buffer_view.specs.BufferTables.{AreBuffersOver};
 
-use crate::calls::{
-    Part, one_buffer, rect, time_duplicates, time_fills, time_gets, time_puts,
-    time_reads_after_fills,
-};
+use crate::calls::{Part, one_buffer, rect, time_duplicates, time_fills, time_gets, time_puts};
 use crate::report::Report;
 use anyhow::Result;
 use buffer_view::Buffers;
@@ -50,7 +47,7 @@ fn time_image<R: Clock + Print + Eprint + Threads + Sync + Alloc<A = Global>, C:
     time_puts(rt, first, &mut buffers, chain, extent, bytes, 1)?;
     let whole = report.at("whole image");
     time_puts(rt, whole, &mut buffers, chain, extent, bytes, 3)?;
-    time_reads(rt, report, &mut buffers, chain, columns)?;
+    time_parts(rt, report, &mut buffers, chain, &image_parts(columns))?;
     time_duplicates(rt, report, &mut buffers, chain, &["b", "c", "d"])?;
     time_fills(
         rt,
@@ -61,28 +58,20 @@ fn time_image<R: Clock + Print + Eprint + Threads + Sync + Alloc<A = Global>, C:
         columns,
     )?;
     time_fills(rt, report, &mut buffers, chain, "b", columns)?;
-    time_levels(rt, report, &mut buffers, chain, columns)?;
+    time_parts(rt, report, &mut buffers, chain, &level_parts(columns))?;
     buffers.release(chain);
     Ok(())
 }
 
-/// Times reads of the whole image, and of parts of it that begin with a tile and inside one.
-fn time_reads<R: Clock + Print + Eprint, C: TileChain>(
-    rt: &R,
-    report: Report,
-    buffers: &mut Buffers,
-    chain: &mut C,
-    columns: u8,
-) -> Result<()>
-    requires { AreBuffersOver buffers.old (C.held chain.old) }
-    ensures { AreBuffersOver buffers.new (C.held chain.new) }
-{
+/// Returns the whole image, and parts of it that begin with a tile and inside one.
+fn image_parts(columns: u8) -> [(&'static str, Part); 3] {
     let whole = Part {
         level: 0,
         first: 0,
         width: 64 * u16::from(columns),
         height: 32 * u16::from(columns),
         rounds: 3,
+        is_written: false,
     };
     let part = Part {
         width: part_side(columns),
@@ -90,49 +79,52 @@ fn time_reads<R: Clock + Print + Eprint, C: TileChain>(
         rounds: 20,
         ..whole
     };
-    time_gets(rt, report.at("whole image"), buffers, chain, whole)?;
-    time_gets(rt, report.at("part"), buffers, chain, part)?;
-    time_gets(
-        rt,
-        report.at("part off the tiles"),
-        buffers,
-        chain,
-        Part { first: 32, ..part },
-    )
+    [
+        ("whole image", whole),
+        ("part", part),
+        ("part off the tiles", Part { first: 32, ..part }),
+    ]
 }
 
-/// Times level 3, that is first averaged, then held, and then averaged where a square was written.
-fn time_levels<R: Clock + Print + Eprint, C: TileChain>(
-    rt: &R,
-    report: Report,
-    buffers: &mut Buffers,
-    chain: &mut C,
-    columns: u8,
-) -> Result<()>
-    requires { AreBuffersOver buffers.old (C.held chain.old) }
-    ensures { AreBuffersOver buffers.new (C.held chain.new) }
-{
+/// Returns level 3, that is first averaged, then held, and then averaged where a square was written.
+fn level_parts(columns: u8) -> [(&'static str, Part); 3] {
     let first = Part {
         level: 3,
         first: 0,
         width: 8 * u16::from(columns),
         height: 4 * u16::from(columns),
         rounds: 1,
+        is_written: false,
     };
     let again = Part {
         rounds: 10,
         ..first
     };
-    time_gets(rt, report.at("level 3"), buffers, chain, first)?;
-    time_gets(rt, report.at("level 3 again"), buffers, chain, again)?;
-    time_reads_after_fills(
-        rt,
-        report.at("level 3"),
-        buffers,
-        chain,
-        Part {
-            rounds: columns,
-            ..first
-        },
-    )
+    let written = Part {
+        rounds: columns,
+        is_written: true,
+        ..first
+    };
+    [
+        ("level 3", first),
+        ("level 3 again", again),
+        ("level 3", written),
+    ]
+}
+
+/// Times reads of parts of the image.
+fn time_parts<R: Clock + Print + Eprint, C: TileChain>(
+    rt: &R,
+    report: Report,
+    buffers: &mut Buffers,
+    chain: &mut C,
+    parts: &[(&'static str, Part)],
+) -> Result<()>
+    requires { AreBuffersOver buffers.old (C.held chain.old) }
+    ensures { AreBuffersOver buffers.new (C.held chain.new) }
+{
+    for (place, part) in parts {
+        time_gets(rt, report.at(*place), buffers, chain, *part)?;
+    }
+    Ok(())
 }

@@ -1,15 +1,14 @@
 -- Sessions of which the buffers of the last state were read, and the cached pairs were handed to a render.
-use Rattle.std.proofs.Common.{◌≡◌, ℕ, ◌+◌, ◌≤◌, Bool, List, ◌++◌, length, map, Option, None, Some, refl, sym, ap, ◌∙◌, subst, arith}
+use Rattle.std.proofs.Common.{◌≡◌, ℕ, ◌+◌, Bool, List, ◌++◌, map, Option, None, Some, refl, sym, ap, ◌∙◌, subst, arith}
 use Rattle.std.specs.Prelude.{IfSome, IsSome, is_some, min}
 use Rattle.std.specs.List.{AllByRecursion, IsDistinct}
 use Rattle.std.specs.Map.{values_of}
 use Rattle.std.specs.Option.{option_map}
 use Rattle.std.proofs.lemmas.List.{length-map}
 use Rattle.std.proofs.lemmas.Option.{same_Some}
-use Rattle.plane_rect.specs.Rectangle.{Rectangle}
 use Rattle.chain_owners.specs.Held.{Held}
-use Rattle.chain_owners.specs.Owners.{Owns, Respects, times}
-use Rattle.chain_owners.proofs.Ownership.{others-own, owns-fewer, respects-beside, times-append}
+use Rattle.chain_owners.specs.Owners.{Owns, Respects}
+use Rattle.chain_owners.proofs.Ownership.{others-own, owns-fewer, times-append}
 use Rattle.model_buffers.specs.Layout.{TableLayout, facts_of}
 use Rattle.model_buffers.specs.Table.{Table}
 use Rattle.model_graphs.specs.declared.node.NodeFact.{NodeFact}
@@ -25,12 +24,12 @@ use Rattle.model_states.specs.State.{Scene, State, image_of}
 use Rattle.model_states.specs.Valid.{AreStated}
 use Rattle.model_states.proofs.CacheLaws.{pairs_alone}
 use Rattle.model_sessions.specs.Histories.{last_state}
-use Rattle.model_sessions.specs.Sessions.{IsSession, Session, last_scene, max_count, render_need, with_render}
+use Rattle.model_sessions.specs.Sessions.{Session, last_scene, max_count, render_need, with_render}
 use Rattle.model_sessions.specs.Tables.{table_images}
 use Rattle.model_sessions.proofs.Sources.{images_known}
 use Rattle.node_cache.specs.NodeLaws.{node_exposed, node_within, pairs_distinct}
 use Rattle.node_cache.specs.NodeNames.{Entries, IsNodeCache, cached_in, pairs_in, sizes_in}
-use Rattle.node_cache.specs.Stores.{HaveOneOwner, by_sized, sized_of}
+use Rattle.node_cache.specs.Stores.{HaveOneOwner}
 use Rattle.node_tiles.specs.Stated.{scene_of}
 use Rattle.strip_renders.specs.Strips.{AreKnownRight, AreSizedPairs, counted, list_after}
 use Rattle.strip_renders.proofs.Looked.{pairs-exposed}
@@ -41,7 +40,7 @@ use Rattle.session_states.specs.OverChains.{AreAllSame, versions_names}
 use Rattle.session_states.specs.Versions.{all_versions}
 use Rattle.session_states.proofs.Beside.{over-again, same-again}
 use Rattle.session_states.proofs.Seen.{states-same}
-use Rattle.commit_session.specs.Parts.{Parts, cached_pairs, session_names}
+use Rattle.commit_session.specs.Parts.{Parts, session_names}
 use Rattle.commit_session.specs.Rendering.{looked_up_by}
 use Rattle.commit_session.specs.Seen.{AreCached, AreRetained, IsOver, IsSessionOf}
 use Rattle.commit_session.proofs.Held.{table-again}

@@ -8,6 +8,10 @@ use Rattle.buffer_view.specs.BufferTables.{BufferTable}
 use Rattle.session_states.specs.Versions.{Versions}
 use Rattle.commit_session.specs.Parts.{Parts}
 
+-- what is the same as another thing
+abbrev pub this : {X : Type 0} {x y : X} → x ≡ y → X
+this {x = x} is = x
+
 module _ {Op : Type 0} where
   abbrev parts_of : Versions BufferTable → List (NodeEdit Op) → Rectangles → Graph Op → Entries → ℕ → ℕ → Parts Op
   parts_of v p w g e m n =

@@ -143,6 +143,14 @@ impl<Op: OpMeaning + Drop> SessionState<Op> {
     {
         keep_larger(&mut self.memory, memory);
     }
+
+    /// Returns the memory that the session was given by [`reuse`](SessionState::reuse), for another use until it is given
+    /// back. Takes no memory.
+    pub fn idle_memory(&mut self) -> Vec<u8>
+        ensures { self.new ≡ self.old }
+    {
+        mem::replace(&mut self.memory, Vec::new(self.alloc))
+    }
 }
 
 /// Keeps the memory that has more room, if it isn't more than may lie idle, and drops the other.

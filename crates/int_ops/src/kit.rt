@@ -1,13 +1,14 @@
 //! The kit.
 
-ghost use Rattle.std.specs.Prelude.{◌≡◌, ◌<◌, All, IfOk, IsSome, length};
+ghost use Rattle.std.specs.Prelude.{◌≡◌, ◌<◌, All, IfOk, IfSome, IsSome, length};
 ghost use Rattle.plane_rect.specs.Rectangle.{Includes};
 ghost use Rattle.model_images.specs.Paint.{cut};
 ghost use Rattle.model_graphs.specs.Meanings.{result_box};
 ghost use Rattle.model_graphs.specs.Permits.{Takes};
 ghost use Rattle.model_graphs.specs.Windows.{IsWholeWindow};
 ghost use Rattle.model_operations.specs.Meanings.{int_meanings, same_operation};
-ghost use Rattle.op_contracts.specs.Applying.{HaveRequired, IsInOneTile, bounds_of, result_of_windows, window_bounds, window_formats};
+ghost use Rattle.op_contracts.specs.Applying.{CopiesInput, HaveRequired, IsInOneTile, bounds_of, result_of_windows, window_bounds, window_formats};
+ghost use Rattle.int_ops.specs.Lone.{IsLone};
 
 use crate::area_op::AreaOp;
 use crate::purse::{IntPermit, IntPurse};
@@ -52,6 +53,14 @@ impl OpKit for IntKit {
         operation_regions::invalidated(op, boxes, input, changed)
     }
 
+    fn copied_input(&self, op: &IntOp, boxes: &[Rect], out: Rect) -> Option<usize> {
+        match op {
+            IntOp::Crop { .. } => Some(0),
+            IntOp::Add | IntOp::Over => lone_input(&boxes[0], &boxes[1], &out),
+            _ => None,
+        }
+    }
+
     fn left(&self, purse: &IntPurse) -> u64 {
         purse.left()
     }
@@ -82,4 +91,17 @@ impl OpKit for IntKit {
             None => point_ops::apply(alloc, op, windows, out),
         }
     }
+}
+
+/// Returns the number of the one of two boxes that contains a part of which the other has no position, where there is one.
+fn lone_input(first: &Rect, second: &Rect, part: &Rect) -> Option<usize>
+    ensures { IfSome result (IsLone first.now second.now part.now) }
+{
+    if second.contains(part) && first.meet(part).is_empty() {
+        return Some(1);
+    }
+    if first.contains(part) && second.meet(part).is_empty() {
+        return Some(0);
+    }
+    None
 }

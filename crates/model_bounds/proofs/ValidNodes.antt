@@ -75,29 +75,30 @@ module _ {Op : Type 0} (meanings : Meanings Op) where
             redoable = tt;
           }
 
+  -- a step back or forth among the retained states
+  stepped_kept : (history : History Table Op) (r : Result (Stepped (Retained (State Table Op) Rectangles) Rectangles) StateRefused) → IfOk r (λ step. RetainsValid step.next) →
+      IfOk (appended history (settled_step r)) IsKept
+  stepped_kept history r kept = appended_kept history (settled_step r) (settled_kept r kept)
+
+  undo_to_kept : (retained : Retained (State Table Op) Rectangles) → RetainsValid retained → (states : List (Committed Table Op)) → HaveValidNodes states →
+      IfOk (undo_to retained states) (λ step. RetainsValid step.next)
+  undo_to_kept retained kept [] all = tt
+  undo_to_kept retained kept (back ∷ rest) all = record { latest = all.0; undoable = all.1; redoable = (kept.latest, kept.redoable) }
+
   pub undo_kept : (history : History Table Op) → IsKept history → IfOk (undone history) IsKept
   undo_kept history kept =
-      appended_kept history (workspace.undone history.workspace)
-      (settled_kept _ (at_last (λ step. RetainsValid step.next) retained.number (undo_to retained retained.undoable) (of retained.undoable kept.undoable)))
-    where
-      retained : Retained (State Table Op) Rectangles
-      retained = history.workspace.retained
+      let retained = history.workspace.retained in
+      stepped_kept history _ (at_last (λ step. RetainsValid step.next) retained.number (undo_to retained retained.undoable) (undo_to_kept retained kept retained.undoable kept.undoable))
 
-      of : (states : List (Committed Table Op)) → HaveValidNodes states → IfOk (undo_to retained states) (λ step. RetainsValid step.next)
-      of [] all = tt
-      of (back ∷ rest) all = record { latest = all.0; undoable = all.1; redoable = (kept.latest, kept.redoable) }
+  redo_to_kept : (retained : Retained (State Table Op) Rectangles) → RetainsValid retained → (states : List (Committed Table Op)) → HaveValidNodes states →
+      IfOk (redo_to retained states) (λ step. RetainsValid step.next)
+  redo_to_kept retained kept [] all = tt
+  redo_to_kept retained kept (next ∷ rest) all = record { latest = all.0; undoable = (kept.latest, kept.undoable); redoable = all.1 }
 
   pub redo_kept : (history : History Table Op) → IsKept history → IfOk (redone history) IsKept
   redo_kept history kept =
-      appended_kept history (workspace.redone history.workspace)
-      (settled_kept _ (at_last (λ step. RetainsValid step.next) retained.number (redo_to retained retained.redoable) (of retained.redoable kept.redoable)))
-    where
-      retained : Retained (State Table Op) Rectangles
-      retained = history.workspace.retained
-
-      of : (states : List (Committed Table Op)) → HaveValidNodes states → IfOk (redo_to retained states) (λ step. RetainsValid step.next)
-      of [] all = tt
-      of (next ∷ rest) all = record { latest = all.0; undoable = (kept.latest, kept.undoable); redoable = all.1 }
+      let retained = history.workspace.retained in
+      stepped_kept history _ (at_last (λ step. RetainsValid step.next) retained.number (redo_to retained retained.redoable) (redo_to_kept retained kept retained.redoable kept.redoable))
 
   -- no node is valid
   pub none_valid : (table : Table) → HasValidNodes (record { table = table; nodes = [] })

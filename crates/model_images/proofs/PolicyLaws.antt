@@ -1,6 +1,6 @@
 -- The laws of the policies.
 use Rattle.std.proofs.Common.{◌≡◌, ℕ, ◌+◌, ◌<◌, ◌≤◌, Bool, true, false, cond, refl, sym, ap, ◌∙◌, arith}
-use Rattle.plane_rect.specs.Rectangle.{Rectangle, Inside}
+use Rattle.plane_rect.specs.Rectangle.{Rectangle, Inside, Within}
 use Rattle.pixel_formats.specs.Format.{max_sample}
 use Rattle.pixel_formats.specs.Recolor.{is_alpha}
 use Rattle.model_images.specs.Image.{Image, at}
@@ -25,36 +25,32 @@ none-everywhere image u v c =
     by_positions _ u v image.box (abyss_at-inside image None u v c)
     (λ out. abyss_at-outside image None u v c out ∙ sym (at_outside image u v c out))
 
--- the sample of the nearest position
-abbrev pub clamped : Image → ℕ → ℕ → ℕ → ℕ
-clamped image u v c = at image (nearest image.box.first_column image.box.width u) (nearest image.box.first_row image.box.height v) c
+-- ---- policies that move a position into the box, its column and its row by one rule
 
-pub clamp-everywhere : (image : Image) (u v c : ℕ) → abyss_at image Clamp u v c ≡ clamped image u v c
-clamp-everywhere image u v c =
+-- the sample of the position that such a policy reads
+abbrev pub moved_sample : (ℕ → ℕ → ℕ → ℕ) → Image → ℕ → ℕ → ℕ → ℕ
+moved_sample moved image u v c = at image (moved image.box.first_column image.box.width u) (moved image.box.first_row image.box.height v) c
+
+moved-everywhere : (policy : Abyss) (moved : ℕ → ℕ → ℕ → ℕ) → ((start len n : ℕ) → Within start len n → moved start len n ≡ n)
+    → ((image : Image) (u v c : ℕ) → outside_at image policy u v c ≡ moved_sample moved image u v c)
+    → (image : Image) (u v c : ℕ) → abyss_at image policy u v c ≡ moved_sample moved image u v c
+moved-everywhere policy moved stays outside image u v c =
     by_positions _ u v image.box
     (λ h.
-    let column = nearest-inside image.box.first_column image.box.width u h.column in
-    let row = nearest-inside image.box.first_row image.box.height v h.row in
-    abyss_at-inside image Clamp u v c h
-    ∙ sym (ap (λ (a : ℕ). at image a (nearest image.box.first_row image.box.height v) c) column ∙ ap (λ (b : ℕ). at image u b c) row))
-    (λ out. abyss_at-outside image Clamp u v c out)
+    let column = stays image.box.first_column image.box.width u h.column in
+    let row = stays image.box.first_row image.box.height v h.row in
+    abyss_at-inside image policy u v c h
+    ∙ sym (ap (λ (a : ℕ). at image a (moved image.box.first_row image.box.height v) c) column ∙ ap (λ (b : ℕ). at image u b c) row))
+    (λ out. abyss_at-outside image policy u v c out ∙ outside image u v c)
+
+pub clamp-everywhere : (image : Image) (u v c : ℕ) → abyss_at image Clamp u v c ≡ moved_sample nearest image u v c
+clamp-everywhere = moved-everywhere Clamp nearest nearest-inside (λ image u v c. refl)
 
 pub clamp-position : (r : Rectangle) (u v : ℕ) → 0 < r.width → 0 < r.height → Inside (nearest r.first_column r.width u) (nearest r.first_row r.height v) r
 clamp-position r u v wide high = record { column = nearest-within r.first_column r.width u wide; row = nearest-within r.first_row r.height v high }
 
--- the sample of the position moved into the box by whole widths and heights
-abbrev pub looped : Image → ℕ → ℕ → ℕ → ℕ
-looped image u v c = at image (wrapped image.box.first_column image.box.width u) (wrapped image.box.first_row image.box.height v) c
-
-pub loop-everywhere : (image : Image) (u v c : ℕ) → abyss_at image Loop u v c ≡ looped image u v c
-loop-everywhere image u v c =
-    by_positions _ u v image.box
-    (λ h.
-    let column = wrapped-inside image.box.first_column image.box.width u h.column in
-    let row = wrapped-inside image.box.first_row image.box.height v h.row in
-    abyss_at-inside image Loop u v c h
-    ∙ sym (ap (λ (a : ℕ). at image a (wrapped image.box.first_row image.box.height v) c) column ∙ ap (λ (b : ℕ). at image u b c) row))
-    (λ out. abyss_at-outside image Loop u v c out)
+pub loop-everywhere : (image : Image) (u v c : ℕ) → abyss_at image Loop u v c ≡ moved_sample wrapped image u v c
+loop-everywhere = moved-everywhere Loop wrapped wrapped-inside (λ image u v c. refl)
 
 pub loop-position : (r : Rectangle) (u v : ℕ) → 0 < r.width → 0 < r.height → Inside (wrapped r.first_column r.width u) (wrapped r.first_row r.height v) r
 loop-position r u v wide high = record { column = wrapped-within r.first_column r.width u wide; row = wrapped-within r.first_row r.height v high }

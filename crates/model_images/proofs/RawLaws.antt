@@ -38,6 +38,9 @@ encode-two (s ∷ samples) (suc i) =
     ∙ ap (λ (n : ℕ). get_or rest (2 * i) 0 + 256 * get_or bytes n 0) high
     ∙ encode-two samples i
 
+pub encoded : (format : Format) (samples : List ℕ) (i : ℕ) → sample_at (depth format) (flat_map (sample_bytes (depth format)) samples) i ≡ get_or samples i 0
+encoded format = by_depth EncodeSamples encode-one encode-two format
+
 pub raw-samples : (image : Image) (r : Rectangle) (u v c : ℕ) → Inside u v r → c < channels image.format
     → pixels_from_raw r image.format (raw image r) u v c ≡ at image u v c
 unfolding raw
@@ -45,7 +48,7 @@ raw-samples image r u v c there known =
     let n = channels image.format in
     let i = sample_index r n u v c in
     let position = position_of_index r n u v c there known in
-    by_depth EncodeSamples encode-one encode-two image.format (sampled r n (at image)) i
+    encoded image.format (sampled r n (at image)) i
     ∙ get_or-sampled r n (at image) i (sample_index_below r n u v c there known)
     ∙ rw (position.0, position.1, position.2) refl
 

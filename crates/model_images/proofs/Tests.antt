@@ -21,13 +21,7 @@ format_of n d =
 format-again : (format : Format) → format_of (channels format) (depth format) ≡ format
 unfolding format_of
 format-again Y8 = refl
-format-again YA8 = refl
-format-again RGB8 = refl
-format-again RGBA8 = refl
-format-again Y16 = refl
-format-again YA16 = refl
-format-again RGB16 = refl
-format-again RGBA16 = refl
+format-again _ = refl
 
 stated : (a b : Format) → same_format a b ≡ true → a ≡ b
 stated a b e =

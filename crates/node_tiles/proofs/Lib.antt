@@ -1,6 +1,7 @@
 pub mod Reading
 pub mod Entries
 pub mod Collected
+pub mod Copied
 pub mod Places
 pub mod Whole
 pub mod Applied

@@ -1,14 +1,17 @@
 //! Tiles of nodes that wait to be made.
 
-ghost use Rattle.std.specs.Prelude.{◌≡◌, ℕ, ◌+◌, ◌<◌, IfErr, IfOk, MatchResult, Some};
+ghost use Rattle.std.specs.Prelude.{◌≡◌, ℕ, ◌+◌, ◌<◌, IfErr, IfOk, IfSome, MatchResult, Some};
 ghost use Rattle.chain_owners.specs.Counts.{Grows};
+ghost use Rattle.model_images.specs.Paint.{cut};
+ghost use Rattle.model_images.specs.Raw.{tile_bytes};
 ghost use Rattle.model_graphs.specs.Evaluation.{Buffers};
 ghost use Rattle.model_graphs.specs.Facts.{shapes_of_facts};
 ghost use Rattle.model_graphs.specs.Permits.{Spent};
 ghost use Rattle.model_states.specs.Valid.{AreStated};
 ghost use Rattle.swap_store.specs.Cause.{HasSwapCause};
+ghost use Rattle.op_contracts.specs.Applying.{result_of_windows};
 ghost use Rattle.roi_planner.specs.Inputs.{all_inputs};
-ghost use Rattle.node_tiles.specs.Jobs.{IsTileJob, job_bytes};
+ghost use Rattle.node_tiles.specs.Jobs.{IsApplicable, IsTileJob, job_bytes};
 ghost use Rattle.node_tiles.specs.Reads.{Reads, seen};
 ghost use Rattle.node_tiles.specs.Stated.{AreTilesOf, HaveLengths, IsReady, bytes_at};
 
@@ -31,9 +34,13 @@ const TILE_PIXELS: u64 = 64 * 64;
 /// How many bytes a pixel of the tile that a job makes has, as one has in most formats.
 const MADE_BYTES: u64 = 4;
 
-/// How many bytes of its windows and of its tile an operation goes through in a nanosecond, at least: an area operation
-/// takes some 0.1 ns for each byte of its windows, and a pointwise one less.
-const BYTES_PER_NANOSECOND: u64 = 10;
+/// How many bytes of its windows an operation goes through in a nanosecond, at least: an area operation takes some 0.1 ns for
+/// each, and a pointwise one less.
+const READ_PER_NANOSECOND: u64 = 10;
+
+/// How many bytes of a tile are written in a nanosecond, at least: mostly they are new memory, of which the system gives out
+/// a page in some 2 us.
+const MADE_PER_NANOSECOND: u64 = 2;
 
 /// A tile of a node that waits to be made, with all that this takes: the windows of its inputs and a permit. So jobs
 /// are carried out in any order, and on any thread. A clause sees the job without its permit.
@@ -65,13 +72,13 @@ impl<P> TileJob<P> {
     /// Returns about how many nanoseconds it takes to carry the job out. Takes time in proportion to the number of
     /// inputs.
     pub fn nanoseconds(&self) -> u64 {
-        let mut bytes: u64 = TILE_PIXELS * MADE_BYTES;
+        let mut read: u64 = 0;
         for window in &self.windows {
             let tiles = window.tiles.as_slice().len() as u64;
             let tile_bytes = TILE_PIXELS * window.format.pixel_bytes() as u64;
-            bytes = bytes.saturating_add(tiles.saturating_mul(tile_bytes));
+            read = read.saturating_add(tiles.saturating_mul(tile_bytes));
         }
-        bytes / BYTES_PER_NANOSECOND
+        read / READ_PER_NANOSECOND + TILE_PIXELS * MADE_BYTES / MADE_PER_NANOSECOND
     }
 }
 
@@ -156,13 +163,30 @@ pub fn apply_job<K: OpKit>(
         unreachable!()
     };
     let inputs = &inputs[node];
-    let patch = kit.apply(
-        alloc,
-        job.permit,
-        op,
-        inputs.boxes(),
-        &job.windows,
-        job.part,
-    )?;
+    let boxes = inputs.boxes();
+    if let Some(tile) = copied_tile(kit, op, boxes, &job) {
+        return tile.share(alloc);
+    }
+    let patch = kit.apply(alloc, job.permit, op, boxes, &job.windows, job.part)?;
     patch.tile(alloc, job.at)
+}
+
+/// Returns the tile of a job's window that the job is to make, where its operation copies an input over the whole tile:
+/// then another owner of that tile takes neither time nor memory.
+fn copied_tile<'a, K: OpKit>(
+    kit: &K,
+    op: &K::Op,
+    boxes: &[Rect],
+    job: &'a TileJob<K::Permit>,
+) -> Option<&'a Tile>
+    requires { IsApplicable K.Op.meanings op.now boxes.now job.now.windows job.now.part }
+    ensures { IfSome result (λ tile. tile.now
+        ≡ tile_bytes (cut (result_of_windows K.Op.meanings op.now job.now.windows) job.now.part) job.now.at) }
+{
+    let square = job.at.rect();
+    if square.is_empty() || job.part != square {
+        return None;
+    }
+    let input = kit.copied_input(op, boxes, job.part)?;
+    job.windows.get(input)?.tile(job.at)
 }

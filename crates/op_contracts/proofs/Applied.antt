@@ -34,8 +34,12 @@ got-below [] i x e = absurd (cc e)
 got-below (y ∷ xs) zero x e = omega arith
 got-below (y ∷ xs) (suc i) x e = omega (arith, got-below xs i x e)
 
--- the formats of what windows show
-formats-shown : (windows : List Window) → formats_of (window_images windows) ≡ window_formats windows
+-- the boxes and the formats of what windows show
+pub boxes-shown : (windows : List Window) → boxes_of (window_images windows) ≡ window_bounds windows
+boxes-shown [] = refl
+boxes-shown (window ∷ windows) = ap (λ (boxes : List Rectangle). window.bounds ∷ boxes) (boxes-shown windows)
+
+pub formats-shown : (windows : List Window) → formats_of (window_images windows) ≡ window_formats windows
 formats-shown [] = refl
 formats-shown (window ∷ windows) = ap (λ (formats : List Format). window.format ∷ formats) (formats-shown windows)
 

@@ -3,5 +3,6 @@ pub mod Painted
 pub mod Shown
 pub mod Limits
 pub mod Applied
+pub mod Copied
 pub mod Bounds
 pub mod HeldLines

@@ -1,12 +1,12 @@
 //! What carries out the operations of a type.
 
-ghost use Rattle.std.specs.Prelude.{◌≡◌, ℕ, ◌<◌, ◌^◌, All, IfOk, IsSome, length};
+ghost use Rattle.std.specs.Prelude.{◌≡◌, ℕ, ◌<◌, ◌^◌, All, IfOk, IfSome, IsSome, length};
 ghost use Rattle.plane_rect.specs.Rectangle.{Includes};
 ghost use Rattle.model_images.specs.Paint.{cut};
 ghost use Rattle.model_graphs.specs.Meanings.{result_box};
 ghost use Rattle.model_graphs.specs.Permits.{Takes};
 ghost use Rattle.model_graphs.specs.Windows.{IsWholeWindow};
-ghost use Rattle.op_contracts.specs.Applying.{HaveRequired, IsInOneTile, bounds_of, result_of_windows, window_bounds, window_formats};
+ghost use Rattle.op_contracts.specs.Applying.{CopiesInput, HaveRequired, IsInOneTile, bounds_of, result_of_windows, window_bounds, window_formats};
 
 use crate::window::Window;
 use model_graphs::OpMeaning;
@@ -62,6 +62,16 @@ pub trait OpKit {
         requires input { input < Self.Op.meanings.input_count op.now }
         requires bounds { IsSome (bounds_of Self.Op.meanings op.now boxes.now) }
         ensures { result ≡ Self.Op.meanings.invalidated op.now boxes.now input changed };
+
+    /// Returns the number of an input that an operation copies over a part of its result: the result has that input's
+    /// pixels there. None where it copies none, or the kit doesn't know.
+    fn copied_input(&self, op: &Self::Op, boxes: &[Rect], out: Rect) -> Option<usize>
+        requires inputs { length boxes.now ≡ Self.Op.meanings.input_count op.now }
+        requires part { Includes (result_box Self.Op.meanings op.now boxes.now) out }
+        ensures { IfSome result (CopiesInput Self.Op.meanings op.now boxes.now out) }
+    {
+        None
+    }
 
     /// Returns how many permits are left in a purse.
     fn left(&self, purse: &Self::Purse) -> u64

@@ -1,12 +1,14 @@
 //! What a part of a result is handed of one of its inputs.
 
-ghost use Rattle.std.specs.Prelude.{◌≡◌, ◌<◌, ◌↔◌, IfOk, IsSome, IsTrue};
+ghost use Rattle.std.specs.Prelude.{◌≡◌, ◌<◌, ◌↔◌, IfOk, IfSome, IsSome, IsTrue};
 ghost use Rattle.std.specs.Option.{option_copied};
 ghost use Rattle.plane_rect.specs.Rectangle.{InLimits, Includes, InsideSigned, plane_index as index_of};
-ghost use Rattle.plane_rect.specs.Tile.{Meets, Tile};
+ghost use Rattle.plane_rect.specs.Tile.{Meets, Tile as TilePosition};
 ghost use Rattle.pixel_formats.specs.Format.{channels};
+ghost use Rattle.model_images.specs.FromRaw.{AreBytes};
 ghost use Rattle.model_images.specs.Image.{at};
 ghost use Rattle.model_images.specs.Paint.{cut};
+ghost use Rattle.model_images.specs.Tiles.{AreTileBytes};
 ghost use Rattle.model_graphs.specs.Windows.{IsWholeWindow, tiles_of, window_image};
 
 use crate::held_bytes::held_bytes;
@@ -17,6 +19,7 @@ use pixel_formats::Format;
 use plane_rect::{Rect, TileAt, plane_index};
 use std::alloc::Global;
 use std::marker::Model;
+use tile_cow::Tile;
 
 /// How many pixels a tile has.
 const TILE_PIXELS: usize = 64 * 64;
@@ -79,7 +82,7 @@ impl Window {
 
     /// Returns whether it has each tile that meets its need.
     fn has_needed_tiles(&self) -> bool
-        ensures { IsTrue result ↔ ((tile : Tile) → Meets tile self.now.need → IsSome (tiles_of self.now tile)) }
+        ensures { IsTrue result ↔ ((tile : TilePosition) → Meets tile self.now.need → IsSome (tiles_of self.now tile)) }
     {
         for at in self.need.tiles() {
             if self.tile_bytes(at).is_none() {
@@ -95,6 +98,17 @@ impl Window {
         ensures { option_copied result ≡ tiles_of self.now at }
     {
         self.tiles.bytes_of(at)
+    }
+
+    /// Returns a whole tile, where the window has it. Takes time in proportion to the number of tiles.
+    pub fn tile(&self, at: TileAt) -> Option<&Tile>
+        requires whole { IsWholeWindow self.now }
+        ensures value { option_copied result ≡ tiles_of self.now at }
+        ensures bytes { IfSome result (λ tile. AreTileBytes self.now.format tile.now) }
+    {
+        let tile = self.tiles.tile_of(at)?;
+        are_bytes(tile.bytes());
+        Some(tile)
     }
 
     /// Returns the sample of the position of x and y in a channel, and 0 at a position outside the
@@ -173,4 +187,11 @@ impl Window {
         }
         Ok(patch)
     }
+}
+
+/// States that bytes are below 256, as a clause on a tile alone doesn't say.
+fn are_bytes(bytes: &[u8])
+    ensures { AreBytes bytes.now }
+{
+    let _len = bytes.len();
 }

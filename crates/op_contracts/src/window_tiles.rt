@@ -49,12 +49,20 @@ impl WindowTiles {
         self.entries
     }
 
+    /// Returns the first tile of a position, where there is one. Takes time in proportion to the number of tiles.
+    pub fn tile_of(&self, at: TileAt) -> Option<&Tile>
+        ensures { option_copied result ≡ lookup (same_tile at) self.now }
+    {
+        find_tile(&self.entries, at)
+    }
+
     /// Returns the bytes of the first tile of a position, where there is one. Takes time in proportion
     /// to the number of tiles.
     pub fn bytes_of(&self, at: TileAt) -> Option<&[u8]>
         ensures { option_copied result ≡ lookup (same_tile at) self.now }
     {
-        find_bytes(&self.entries, at)
+        let tile = self.tile_of(at)?;
+        Some(tile.bytes())
     }
 
     /// Returns whether no position is there twice. Takes time in proportion to the square of the number
@@ -63,7 +71,7 @@ impl WindowTiles {
         ensures { IsTrue result ↔ IsDistinct same_tile (tiles_in self.now) }
     {
         for (number, entry) in self.entries.iter().enumerate() {
-            if find_bytes(&self.entries[number + 1..], entry.0).is_some() {
+            if find_tile(&self.entries[number + 1..], entry.0).is_some() {
                 return false;
             }
         }
@@ -80,10 +88,10 @@ impl WindowTiles {
     }
 }
 
-/// Returns the bytes of the first of these tiles that has a position, where there is one.
-fn find_bytes(entries: &[(TileAt, Tile)], at: TileAt) -> Option<&[u8]>
+/// Returns the first of these tiles that has a position, where there is one.
+fn find_tile(entries: &[(TileAt, Tile)], at: TileAt) -> Option<&Tile>
     ensures { option_copied result ≡ lookup (same_tile at) entries.now }
 {
     let entry = entries.iter().find(|entry| at == entry.0)?;
-    Some(entry.1.bytes())
+    Some(&entry.1)
 }

@@ -39,16 +39,7 @@ fn read_within(op: &IntOp, input: &Rect, part: &Rect) -> Rect
         IntOp::BoxMean { radius, abyss }
         | IntOp::Dilate { radius, abyss }
         | IntOp::Erode { radius, abyss } => area_read(*radius, *abyss, part, input),
-        IntOp::Color { .. }
-        | IntOp::Checker { .. }
-        | IntOp::Convert { .. }
-        | IntOp::Invert
-        | IntOp::Threshold { .. }
-        | IntOp::Gain { .. }
-        | IntOp::Crop { .. }
-        | IntOp::Add
-        | IntOp::Over
-        | IntOp::Mask => part.meet(input),
+        _ => part.meet(input),
     }
 }
 
@@ -62,15 +53,6 @@ fn reached_within(op: &IntOp, input: &Rect, part: &Rect, within: &Rect) -> Rect
         IntOp::BoxMean { radius, .. }
         | IntOp::Dilate { radius, .. }
         | IntOp::Erode { radius, .. } => surrounded(*radius, part, within),
-        IntOp::Color { .. }
-        | IntOp::Checker { .. }
-        | IntOp::Convert { .. }
-        | IntOp::Invert
-        | IntOp::Threshold { .. }
-        | IntOp::Gain { .. }
-        | IntOp::Crop { .. }
-        | IntOp::Add
-        | IntOp::Over
-        | IntOp::Mask => part.meet(within),
+        _ => part.meet(within),
     }
 }

@@ -7,11 +7,11 @@ ghost use Rattle.outside_io.specs.Shelf.{TakesAtMost, WriteLeaves, has_failed};
 ghost use Rattle.outside_io.specs.FolderShelf.{ShelfFaults};
 
 use crate::shelf::{Shelf, ShelfAnswer};
-use std::alloc::Global;
+use std::alloc::{AllocError, Global};
 use std::fs::{Files, OpenFile};
 use std::io::{ErrorKind, Read};
 use std::marker::Model;
-use std::{fs, io};
+use std::{fs, io, mem};
 
 /// How often a read is made again that a signal interrupted.
 const MAX_INTERRUPTIONS: u32 = 1000;
@@ -45,6 +45,24 @@ impl<R: Files + AllocGlobal + Drop> FolderShelf<R> {
             write_faults: 0,
         }
     }
+
+    /// Reads a file of the folder, into the memory where that suits the file's size, and counts a read that failed.
+    fn counted_read(
+        &mut self,
+        name: &str,
+        limit: u64,
+        memory: &mut Vec<u8>,
+    ) -> Result<Vec<u8>, ShelfAnswer>
+        ensures within { TakesAtMost limit result }
+        ensures later { self.old.reads ≤ self.new.reads }
+        ensures counted { self.new ≡ record self.old { reads = faults_after (has_failed result) self.old.reads } }
+    {
+        let answer = read_file(&self.rt, name, limit, memory);
+        if let Err(ShelfAnswer::Failed) = answer {
+            self.read_faults = self.read_faults.saturating_add(1);
+        }
+        answer
+    }
 }
 
 impl<R: Files + AllocGlobal + Drop> Shelf for FolderShelf<R> {
@@ -62,11 +80,24 @@ impl<R: Files + AllocGlobal + Drop> Shelf for FolderShelf<R> {
         // A read that failed is counted, and no other.
         ensures counted { self.new ≡ record self.old { reads = faults_after (has_failed result) self.old.reads } }
     {
-        let answer = read_file(&self.rt, name, limit);
-        if let Err(ShelfAnswer::Failed) = answer {
-            self.read_faults = self.read_faults.saturating_add(1);
-        }
-        answer
+        let mut memory = Vec::new(self.rt.alloc());
+        self.counted_read(name, limit, &mut memory)
+    }
+
+    fn read_reusing(
+        &mut self,
+        name: &str,
+        limit: u64,
+        memory: &mut Vec<u8>,
+    ) -> Result<Vec<u8>, ShelfAnswer>
+        requires { IsTrue (is_file_name name.now) }
+        ensures within { TakesAtMost limit result }
+        ensures later { self.old.reads ≤ self.new.reads }
+
+        // A read that failed is counted, and no other.
+        ensures counted { self.new ≡ record self.old { reads = faults_after (has_failed result) self.old.reads } }
+    {
+        self.counted_read(name, limit, memory)
     }
 
     fn write(&mut self, name: &str, bytes: &[u8]) -> Result<(), ShelfAnswer>
@@ -89,7 +120,12 @@ impl<R: Files + AllocGlobal + Drop> Shelf for FolderShelf<R> {
 }
 
 /// Reads a file of the current folder.
-fn read_file<R: Files + AllocGlobal>(rt: &R, name: &str, limit: u64) -> Result<Vec<u8>, ShelfAnswer>
+fn read_file<R: Files + AllocGlobal>(
+    rt: &R,
+    name: &str,
+    limit: u64,
+    memory: &mut Vec<u8>,
+) -> Result<Vec<u8>, ShelfAnswer>
     ensures within { TakesAtMost limit result }
 {
     let file = match fs::open(rt, name) {
@@ -97,7 +133,8 @@ fn read_file<R: Files + AllocGlobal>(rt: &R, name: &str, limit: u64) -> Result<V
         Err(error) if error.kind() == ErrorKind::NotFound => return Err(ShelfAnswer::Absent),
         Err(error) => return Err(refusal(error)),
     };
-    let bytes = read_prefix(rt.alloc(), file, limit.saturating_add(1)).map_err(refusal)?;
+    let most = limit.saturating_add(1);
+    let bytes = read_prefix(rt.alloc(), file, most, memory).map_err(refusal)?;
     let taken = bytes.len() as u64;
     if taken > limit {
         Err(ShelfAnswer::TooLong { taken })
@@ -121,13 +158,28 @@ fn read_prefix<F: Read + OpenFile + Drop>(
     alloc: Global,
     mut file: F,
     most: u64,
+    memory: &mut Vec<u8>,
 ) -> io::Result<Vec<u8>>
     ensures { IfOk result (λ bytes. vec_len bytes ≤ most) }
 {
     let room = file.metadata()?.len().saturating_add(1).min(most);
-    let mut bytes = Vec::with_capacity(alloc, room as usize)?;
+    let mut bytes = with_room(alloc, memory, room as usize)?;
     let filled = fill(&mut file, &mut bytes, most as usize)?;
     bytes.truncate(filled);
+    Ok(bytes)
+}
+
+/// Returns a vector that has room for so many bytes, and no more bytes than these: the memory where it suits, which is
+/// where its room isn't more than four times theirs, since a short file would hold all of it.
+fn with_room(alloc: Global, memory: &mut Vec<u8>, room: usize) -> Result<Vec<u8>, AllocError>
+    ensures { IfOk result (λ bytes. vec_len bytes ≤ room) }
+{
+    let found = memory.capacity();
+    if found < room || room < found / 4 {
+        return Vec::with_capacity(alloc, room);
+    }
+    let mut bytes = mem::replace(memory, Vec::new(alloc));
+    bytes.truncate(room);
     Ok(bytes)
 }
 

@@ -65,6 +65,26 @@ pub trait Shelf {
         ensures files { files self.new ≡ files self.old }
         ensures write_faults { write_faults self.new ≡ write_faults self.old };
 
+    /// Reads a file that has at most `limit` bytes. A shelf that has a way to reads it into `memory`, whatever that has,
+    /// where it suits the file's size, and leaves an empty vector there.
+    fn read_reusing(
+        &mut self,
+        name: &str,
+        limit: u64,
+        memory: &mut Vec<u8>,
+    ) -> Result<Vec<u8>, ShelfAnswer>
+        requires { IsTrue (is_file_name name.now) }
+        ensures gives { IfSome (files self.old) (λ all. Answers (file all name.now) limit result) }
+        ensures within { TakesAtMost limit result }
+        ensures failed { IsErrOf result ShelfAnswer.Failed → Rose (read_faults self.old) (read_faults self.new) }
+        ensures absent { IsErrOf result ShelfAnswer.Absent → read_faults self.new ≡ read_faults self.old }
+        ensures later { read_faults self.old ≤ read_faults self.new }
+        ensures files { files self.new ≡ files self.old }
+        ensures write_faults { write_faults self.new ≡ write_faults self.old }
+    {
+        self.read(name, limit)
+    }
+
     /// Makes a file hold exactly these bytes.
     fn write(&mut self, name: &str, bytes: &[u8]) -> Result<(), ShelfAnswer>
         requires { IsTrue (is_file_name name.now) }

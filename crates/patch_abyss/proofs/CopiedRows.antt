@@ -1,5 +1,5 @@
 -- Rows of bytes that are copied from one rectangle to another.
-use Rattle.std.proofs.Common.{◌≡◌, ℕ, ◌+◌, ◌-◌, ◌*◌, ◌<◌, ◌≤◌, List, ◌++◌, length, take, drop, get_or, refl, sym, ap, ◌∙◌, ◌⊎◌, inl, inr, arith}
+use Rattle.std.proofs.Common.{◌≡◌, ℕ, ◌+◌, ◌-◌, ◌*◌, ◌<◌, ◌≤◌, List, ◌++◌, length, take, drop, get_or, refl, sym, ap, ◌∙◌, ◌⊎◌, inl, inr, subst, arith}
 use Rattle.std.proofs.Math.Nat.{mul-le-mul_right}
 use Rattle.std.proofs.lemmas.Bool.{cases_lt}
 use Rattle.std.proofs.lemmas.Nat.{mul-add-lt}
@@ -107,6 +107,16 @@ module _ (rows : Rows) (n j b f : ℕ) (source : List ℕ) (at_b : b ≡ row_byt
   pub get_or-row : (k : ℕ) → k < n → get_or cut_row k 0 ≡ bytes_of rows source j k
   get_or-row k within =
       get_or-take (f - b) (drop b source) k 0 (omega (arith, at_b, at_f)) ∙ get_or-drop b source k 0 ∙ ap (λ (i : ℕ). get_or source i 0) (omega (arith, at_b))
+
+-- one row more is copied from other bytes
+pub HasRows-copied : (targets sources : Rows) (n j : ℕ) (from old now piece : List ℕ) (a e b f : ℕ) → n ≤ targets.stride →
+    a ≡ row_byte targets j 0 → e ≡ row_byte targets j n → row_byte targets j n ≤ length now →
+    b ≡ row_byte sources j 0 → f ≡ row_byte sources j n → row_byte sources j n ≤ length from → piece ≡ take (f - b) (drop b from) →
+    HasRows targets n j (bytes_of sources from) old now → HasRows targets n (j + 1) (bytes_of sources from) old (put_mid a (e - a) now piece)
+HasRows-copied targets sources n j from old now piece a e b f apart at_a at_e room at_b at_f inside is before =
+    HasRows-next targets n j (bytes_of sources from) old now piece a e apart at_a at_e room
+    (ap length is ∙ length-row sources n j b f from at_b at_f inside)
+    (λ k within. ap (λ (xs : List ℕ). get_or xs k 0) is ∙ get_or-row sources n j b f from at_b at_f inside k within) before
 
 -- rows that are appended to others
 pub AreRows-none : (rows : Rows) (n : ℕ) (source bytes : List ℕ) → length bytes ≡ 0 → AreRows rows n 0 source bytes
@@ -228,3 +238,10 @@ module _ (r part : Rectangle) (n : ℕ) (inside : Includes r part) (wide : 0 < p
       let down : part.first_row - r.first_row + j + 1 ≤ r.height = omega (arith, corner.row, far.row) in
       let aside : part.first_column - r.first_column + part.width ≤ r.width = omega (arith, corner.column, far.column) in
       omega (arith, begins, ap (λ (i : ℕ). j * i) apart, of_count, long, mul-le-mul_right (r.width * n) down, mul-le-mul_right n aside)
+
+  -- as the code counts them: of w pixels each, and h rows
+  pub part_has_room : (rows : Rows) (w h : ℕ) (bytes : List ℕ) → rows.start ≡ offset r part.first_column part.first_row * n → rows.stride ≡ r.width * n →
+      w ≡ part.width → h ≡ part.height → length bytes ≡ area r * n → HaveRoom rows (w * n) h bytes
+  part_has_room rows w h bytes begins apart is_width is_height long =
+      subst (λ (m : ℕ). HaveRoom rows (w * n) m bytes) (sym is_height)
+      (rows_have_room rows (w * n) bytes begins apart (ap (λ (i : ℕ). i * n) is_width) long)

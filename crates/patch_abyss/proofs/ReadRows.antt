@@ -11,7 +11,7 @@ use Rattle.model_images.specs.Image.{Image, at}
 use Rattle.pixel_formats.specs.declared.abyss.Abyss.{Abyss}
 use Rattle.pixel_formats.specs.declared.abyss.Abyss.TheVariants.{None, Clamp, Loop, Black, White}
 use Rattle.model_images.specs.Abyss.{abyss_at, nearest, wrapped}
-use Rattle.model_images.proofs.PolicyLaws.{abyss_at-outside, clamp-everywhere, loop-everywhere, none-empty, clamp-empty, loop-empty, black-empty, white-empty}
+use Rattle.model_images.proofs.PolicyLaws.{abyss_at-outside, clamp-everywhere, loop-everywhere, moved_sample, none-empty, clamp-empty, loop-empty, black-empty, white-empty}
 use Rattle.model_images.proofs.Sides.{nearest-within, nearest-inside, wrapped-within, wrapped-inside}
 use Rattle.patch_abyss.specs.Fetched.{outside_sample}
 use Rattle.patch_abyss.specs.Rows.{ReadsNothing, EqualRows, ReadsInOrder, OnOneSide}
@@ -45,25 +45,24 @@ nothing_beyond box policy v clamp loop out = λ image u c is.
 both_nothing : (box : Rectangle) (policy : Abyss) (a b : ℕ) → ReadsNothing box policy a → ReadsNothing box policy b → EqualRows box policy a b
 both_nothing box policy a b first second = λ image u c is. first image u c is ∙ sym (second image u c is)
 
-read_nearest : (box : Rectangle) (v : ℕ) → 0 < box.height → EqualRows box Clamp v (nearest box.first_row box.height v)
-read_nearest box v high = λ image u c is.
+-- a row is read as the row that the policy moves it to, which it leaves where it is
+read_moved : (policy : Abyss) (moved : ℕ → ℕ → ℕ → ℕ) → ((image : Image) (u v c : ℕ) → abyss_at image policy u v c ≡ moved_sample moved image u v c)
+    → ((start len n : ℕ) → 0 < len → moved start len (moved start len n) ≡ moved start len n)
+    → (box : Rectangle) (v : ℕ) → 0 < box.height → EqualRows box policy v (moved box.first_row box.height v)
+read_moved policy moved everywhere again box v high = λ image u c is.
     let tall : 0 < image.box.height = subst (λ (r : Rectangle). 0 < r.height) (sym is) high in
     let first_row = image.box.first_row in
     let height = image.box.height in
-    clamp-everywhere image u v c
-    ∙ ap (λ (b : ℕ). at image (nearest image.box.first_column image.box.width u) b c) (sym (nearest-inside first_row height (nearest first_row height v) (nearest-within first_row height v tall)))
-    ∙ sym (clamp-everywhere image u (nearest first_row height v) c)
-    ∙ ap (λ (r : Rectangle). abyss_at image Clamp u (nearest r.first_row r.height v) c) is
+    everywhere image u v c
+    ∙ ap (λ (b : ℕ). at image (moved image.box.first_column image.box.width u) b c) (sym (again first_row height v tall))
+    ∙ sym (everywhere image u (moved first_row height v) c)
+    ∙ ap (λ (r : Rectangle). abyss_at image policy u (moved r.first_row r.height v) c) is
+
+read_nearest : (box : Rectangle) (v : ℕ) → 0 < box.height → EqualRows box Clamp v (nearest box.first_row box.height v)
+read_nearest = read_moved Clamp nearest clamp-everywhere (λ start len n some. nearest-inside start len (nearest start len n) (nearest-within start len n some))
 
 read_wrapped : (box : Rectangle) (v : ℕ) → 0 < box.height → EqualRows box Loop v (wrapped box.first_row box.height v)
-read_wrapped box v high = λ image u c is.
-    let tall : 0 < image.box.height = subst (λ (r : Rectangle). 0 < r.height) (sym is) high in
-    let first_row = image.box.first_row in
-    let height = image.box.height in
-    loop-everywhere image u v c
-    ∙ ap (λ (b : ℕ). at image (wrapped image.box.first_column image.box.width u) b c) (sym (wrapped-inside first_row height (wrapped first_row height v) (wrapped-within first_row height v tall)))
-    ∙ sym (loop-everywhere image u (wrapped first_row height v) c)
-    ∙ ap (λ (r : Rectangle). abyss_at image Loop u (wrapped r.first_row r.height v) c) is
+read_wrapped = read_moved Loop wrapped loop-everywhere (λ start len n some. wrapped-inside start len (wrapped start len n) (wrapped-within start len n some))
 
 -- two rows that have the samples of a third
 through : (box : Rectangle) (policy : Abyss) (a b s t : ℕ) → s ≡ t → EqualRows box policy a s → EqualRows box policy b t → EqualRows box policy a b

@@ -62,10 +62,19 @@ module _ (box : Rectangle) (n s e p f l z : ℕ) (first_row : box.first_row ≤ 
       let down : v - box.first_row ≡ s - box.first_row + (v - s) = omega arith in
       omega (arith, rows_begin, ap (λ (i : ℕ). i * (box.width * n)) down)
 
+-- Rows of a box from s to before e begin at pixel number f of its bytes, of p each, the last of them at number l, and end at number z.
+pub record AreRowsOf (box : Rectangle) (format : Format) (s e p f l z : ℕ) (bytes : List ℕ) : Type 0 where
+  pub first_row : box.first_row ≤ s
+  pub some : s < e
+  pub end : e ≤ end_row box
+  pub whole : length bytes ≡ area box * pixel_bytes format
+  pub pixel : p ≡ pixel_bytes format
+  pub at_f : f ≡ offset box box.first_column s
+  pub at_l : l ≡ offset box box.first_column (e - 1)
+  pub at_z : z ≡ l + box.width
+
 -- rows of an image that follow one another, cut from its bytes
-module _ (box : Rectangle) (format : Format) (s e p f l z : ℕ) (bytes : List ℕ) (first_row : box.first_row ≤ s) (some : s < e) (end : e ≤ end_row box)
-    (whole : length bytes ≡ area box * pixel_bytes format) (pixel : p ≡ pixel_bytes format)
-    (at_f : f ≡ offset box box.first_column s) (at_l : l ≡ offset box box.first_column (e - 1)) (at_z : z ≡ l + box.width) where
+module _ {box : Rectangle} {format : Format} {s e p f l z : ℕ} {bytes : List ℕ} (are : AreRowsOf box format s e p f l z bytes) where
   abbrev n : ℕ
   n = pixel_bytes format
 
@@ -73,13 +82,13 @@ module _ (box : Rectangle) (format : Format) (s e p f l z : ℕ) (bytes : List �
   cut = take (z * p - f * p) (drop (f * p) bytes)
 
   long : z * p ≡ f * p + (e - s) * (box.width * n)
-  long = rows_long box n s e p f l z first_row some end pixel at_f at_l at_z
+  long = rows_long box n s e p f l z are.first_row are.some are.end are.pixel are.at_f are.at_l are.at_z
 
   pub rows_in_order : f * p ≤ z * p
   rows_in_order = omega (arith, long)
 
   pub rows_within : z * p ≤ length bytes
-  rows_within = omega (arith, whole, rows_fit box n s e p f l z first_row some end pixel at_f at_l at_z)
+  rows_within = omega (arith, are.whole, rows_fit box n s e p f l z are.first_row are.some are.end are.pixel are.at_f are.at_l are.at_z)
 
   pub length-rows : length cut ≡ (e - s) * (box.width * n)
   length-rows = omega (arith, length-take (z * p - f * p) (drop (f * p) bytes), length-drop (f * p) bytes, rows_within, long)
@@ -93,7 +102,7 @@ module _ (box : Rectangle) (format : Format) (s e p f l z : ℕ) (bytes : List �
       (λ b within.
       get_or-take (z * p - f * p) (drop (f * p) bytes) (i * n + b) 0 (omega (arith, long, mul-add-lt i n b ((e - s) * box.width) below within))
       ∙ get_or-drop (f * p) bytes (i * n + b) 0
-      ∙ ap (λ (q : ℕ). get_or bytes q 0) (omega (arith, position_in_rows box n s e p f l z first_row some end pixel at_f at_l at_z u v from_here)))
+      ∙ ap (λ (q : ℕ). get_or bytes q 0) (omega (arith, position_in_rows box n s e p f l z are.first_row are.some are.end are.pixel are.at_f are.at_l are.at_z u v from_here)))
       ∙ sym (at-image_from_raw box format bytes u v c (record { column = column; row = (omega arith, omega arith) }) known)
 
 -- the pixels of a part of an image, whose rows are cut from its bytes

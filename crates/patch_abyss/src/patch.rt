@@ -225,6 +225,9 @@ impl Patch {
         if rect.is_empty() {
             return Tile::zero(alloc, TILE_PIXELS * self.format.pixel_bytes());
         }
+        if self.rect == rect {
+            return Tile::of(alloc, self.raw_bytes());
+        }
         let part = self.part(alloc, rect)?;
         Tile::from_vec(alloc, part.into_raw())
     }

@@ -139,26 +139,16 @@ fn write_rows(image: &Patch, abyss: Abyss, rect: &Rect, sources: Range<u32>, to:
         (sources.end - sources.start) to.new }
 {
     match abyss {
-        Abyss::Loop => loop_rows(image, rect, sources, to),
+        Abyss::Loop => {
+            // Each row begins at the same column of the image.
+            let pixel = image.format().pixel_bytes() as usize;
+            let (bounds, many) = (image.rect(), (sources.end - sources.start) as usize);
+            let (count, period) = (rect.w as usize * pixel, bounds.w as usize * pixel);
+            let first = wrapped_start(&bounds, rect) as usize * pixel;
+            wrap_rows(to, count, image.rows(sources), period, first, many);
+        }
         _ => edge_rows(image, abyss, rect, sources, to),
     }
-}
-
-/// Writes rows under `Loop`, which begins each at the same column of the image.
-fn loop_rows(image: &Patch, rect: &Rect, sources: Range<u32>, to: &mut [u8])
-    requires some { sources.start < sources.end }
-    requires first_row { image.now.box.first_row ≤ sources.start }
-    requires end_row { sources.end ≤ end_row image.now.box }
-    requires count { length to.old ≡ (sources.end - sources.start) * (rect.now.width * pixel_bytes image.now.format) }
-    ensures len { length to.new ≡ length to.old }
-    ensures generated { RowsFilled (moved_to sources.start rect.now) image.now.format (abyss_at image.now Loop)
-        (sources.end - sources.start) to.new }
-{
-    let pixel = image.format().pixel_bytes() as usize;
-    let (bounds, many) = (image.rect(), (sources.end - sources.start) as usize);
-    let (count, period) = (rect.w as usize * pixel, bounds.w as usize * pixel);
-    let first = wrapped_start(&bounds, rect) as usize * pixel;
-    wrap_rows(to, count, image.rows(sources), period, first, many);
 }
 
 /// Returns how many columns right of a box's first one is the column that a rectangle's first one

@@ -97,7 +97,7 @@ pub(crate) fn cut_rows(
     Ok(bytes)
 }
 
-/// Copies so many rows of `count` bytes.
+/// Copies so many rows of `count` bytes, long ones each by a call.
 pub(crate) fn copy_rows(
     to: &mut [u8],
     targets: Rows,
@@ -118,7 +118,11 @@ pub(crate) fn copy_rows(
         4..16 => copy_short_rows::<4>(to, targets, from, sources, count, many),
         16..64 => copy_short_rows::<16>(to, targets, from, sources, count, many),
         64..LONG_ROW => copy_short_rows::<64>(to, targets, from, sources, count, many),
-        _ => copy_long_rows(to, targets, from, sources, count, many),
+        _ => {
+            for row in 0..many {
+                to[targets.row(row, count)].copy_from_slice(&from[sources.row(row, count)]);
+            }
+        }
     }
 }
 
@@ -145,26 +149,6 @@ fn copy_short_rows<const N: usize>(
             &mut to[targets.row(row, count)],
             &from[sources.row(row, count)],
         );
-    }
-}
-
-/// Copies rows, each by a call.
-fn copy_long_rows(
-    to: &mut [u8],
-    targets: Rows,
-    from: &[u8],
-    sources: Rows,
-    count: usize,
-    many: usize,
-)
-    requires apart { count ≤ targets.stride }
-    requires to { HaveRoom targets count many to.old }
-    requires from { HaveRoom sources count many from.now }
-    ensures len { length to.new ≡ length to.old }
-    ensures rows { HasRows targets count many (bytes_of sources from.now) to.old to.new }
-{
-    for row in 0..many {
-        to[targets.row(row, count)].copy_from_slice(&from[sources.row(row, count)]);
     }
 }
 

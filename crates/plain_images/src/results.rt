@@ -13,7 +13,7 @@ use crate::picture::{Picture, Samples, draw};
 use crate::pixels::{
     cap_at, checker_at, converted_at, flipped_at, masked_at, over_at, recolored, source_index,
 };
-use crate::windows::{box_mean_at, dilated_at, eroded_at};
+use crate::windows::Window;
 use model_operations::IntOp;
 use no_memory::NoMemory;
 use operation_regions::{box_of, format_of};
@@ -115,19 +115,7 @@ fn generated(op: &IntOp, column: u32, row: u32, channel: u32) -> u32
             v2,
             ..
         } => checker_at(*format, *size, *v1, *v2, column, row, channel),
-        IntOp::Convert { .. }
-        | IntOp::Invert
-        | IntOp::Threshold { .. }
-        | IntOp::Gain { .. }
-        | IntOp::Translate { .. }
-        | IntOp::Crop { .. }
-        | IntOp::Flip { .. }
-        | IntOp::BoxMean { .. }
-        | IntOp::Dilate { .. }
-        | IntOp::Erode { .. }
-        | IntOp::Add
-        | IntOp::Over
-        | IntOp::Mask => unreachable!(),
+        _ => unreachable!(),
     }
 }
 
@@ -159,10 +147,14 @@ fn changed(op: &IntOp, input: &Picture, column: u32, row: u32, channel: u32) -> 
         IntOp::Crop { .. } => color,
         IntOp::Flip { sideways } => flipped_at(input, *sideways, column, row, channel),
         IntOp::BoxMean { radius, abyss } => {
-            box_mean_at(input, *radius, *abyss, column, row, channel)
+            Window::new(input, *radius, *abyss, column, row, channel).mean()
         }
-        IntOp::Dilate { radius, abyss } => dilated_at(input, *radius, *abyss, column, row, channel),
-        IntOp::Erode { radius, abyss } => eroded_at(input, *radius, *abyss, column, row, channel),
+        IntOp::Dilate { radius, abyss } => {
+            Window::new(input, *radius, *abyss, column, row, channel).max_sample()
+        }
+        IntOp::Erode { radius, abyss } => {
+            Window::new(input, *radius, *abyss, column, row, channel).minimum()
+        }
         IntOp::Color { .. } | IntOp::Checker { .. } | IntOp::Add | IntOp::Over | IntOp::Mask =>
             unreachable!(),
     }
@@ -189,17 +181,6 @@ fn combined(
         IntOp::Add => added(format.max(), a, b),
         IntOp::Over => over_at(first, second, column, row, channel),
         IntOp::Mask => masked_at(first, second, column, row, channel),
-        IntOp::Color { .. }
-        | IntOp::Checker { .. }
-        | IntOp::Convert { .. }
-        | IntOp::Invert
-        | IntOp::Threshold { .. }
-        | IntOp::Gain { .. }
-        | IntOp::Translate { .. }
-        | IntOp::Crop { .. }
-        | IntOp::Flip { .. }
-        | IntOp::BoxMean { .. }
-        | IntOp::Dilate { .. }
-        | IntOp::Erode { .. } => unreachable!(),
+        _ => unreachable!(),
     }
 }

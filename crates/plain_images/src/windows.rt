@@ -2,7 +2,6 @@
 
 ghost use Rattle.std.specs.Prelude.{◌≡◌, ◌<◌, ◌≤◌, length, slice_index};
 ghost use Rattle.pixel_formats.specs.Format.{max_sample};
-ghost use Rattle.model_operations.specs.Values.{box_mean_pixel, dilated_pixel, eroded_pixel};
 ghost use Rattle.model_operations.specs.Windows.{max_of_all, min_of_all, mean_of, read_before, window};
 ghost use Rattle.plain_images.specs.Picture.{IsPosition};
 
@@ -14,7 +13,7 @@ use std::marker::Model;
 /// The samples of a channel in the square of `2 * radius + 1` places a side around a position, row by
 /// row from the top, each row from the left, under a policy. The radius is 1 to 64 positions.
 #[derive(Drop)]
-struct Window<'a> {
+pub(crate) struct Window<'a> {
     picture: &'a Picture,
     radius: u32,
     policy: Abyss,
@@ -37,7 +36,7 @@ impl<'a> Model for Window<'a> {
 
 impl<'a> Window<'a> {
     /// The window of a position.
-    fn new(
+    pub(crate) fn new(
         picture: &'a Picture,
         radius: u32,
         policy: Abyss,
@@ -87,7 +86,7 @@ impl<'a> Window<'a> {
     }
 
     /// The mean, rounded to the nearest.
-    fn mean(&self) -> u32
+    pub(crate) fn mean(&self) -> u32
         ensures { result ≡ mean_of (length self.now) self.now }
     {
         let count = u64::from(self.len());
@@ -99,7 +98,7 @@ impl<'a> Window<'a> {
     }
 
     /// The largest sample.
-    fn max_sample(&self) -> u32
+    pub(crate) fn max_sample(&self) -> u32
         ensures { result ≡ max_of_all self.now }
     {
         let mut max_sample = 0;
@@ -110,7 +109,7 @@ impl<'a> Window<'a> {
     }
 
     /// The smallest sample.
-    fn minimum(&self) -> u32
+    pub(crate) fn minimum(&self) -> u32
         ensures { result ≡ min_of_all self.now }
     {
         let count = self.len();
@@ -120,54 +119,6 @@ impl<'a> Window<'a> {
         }
         minimum
     }
-}
-
-/// The mean of the window of a position.
-pub(crate) fn box_mean_at(
-    picture: &Picture,
-    radius: u32,
-    policy: Abyss,
-    column: u32,
-    row: u32,
-    channel: u32,
-) -> u32
-    requires radius { radius ≤ 64 }
-    requires position { IsPosition column row }
-    ensures { result ≡ box_mean_pixel radius policy picture.now column row channel }
-{
-    Window::new(picture, radius, policy, column, row, channel).mean()
-}
-
-/// The largest sample of the window of a position.
-pub(crate) fn dilated_at(
-    picture: &Picture,
-    radius: u32,
-    policy: Abyss,
-    column: u32,
-    row: u32,
-    channel: u32,
-) -> u32
-    requires radius { radius ≤ 64 }
-    requires position { IsPosition column row }
-    ensures { result ≡ dilated_pixel radius policy picture.now column row channel }
-{
-    Window::new(picture, radius, policy, column, row, channel).max_sample()
-}
-
-/// The smallest sample of the window of a position.
-pub(crate) fn eroded_at(
-    picture: &Picture,
-    radius: u32,
-    policy: Abyss,
-    column: u32,
-    row: u32,
-    channel: u32,
-) -> u32
-    requires radius { radius ≤ 64 }
-    requires position { IsPosition column row }
-    ensures { result ≡ eroded_pixel radius policy picture.now column row channel }
-{
-    Window::new(picture, radius, policy, column, row, channel).minimum()
 }
 
 /// The sample under a policy of a column and a row that count from `by` positions left of and above

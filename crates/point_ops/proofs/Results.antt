@@ -5,7 +5,7 @@ use Rattle.std.specs.List.{list_all}
 use Rattle.std.proofs.lemmas.Bool.{leb-true}
 use Rattle.std.proofs.lemmas.Bool.Decides.{Decides-eqb}
 use Rattle.std.proofs.lemmas.List.Elements.{All-cons}
-use Rattle.plane_rect.specs.Rectangle.{Includes, Rectangle, empty, in_limits}
+use Rattle.plane_rect.specs.Rectangle.{InLimits, Includes, IsRectangle, Rectangle, empty, in_limits}
 use Rattle.pixel_formats.specs.Format.{channels, depth, has_alpha, max_sample, same_format}
 use Rattle.pixel_formats.specs.declared.format.Format.{Format}
 use Rattle.pixel_formats.specs.declared.format.Format.TheVariants.{Y8}
@@ -22,7 +22,8 @@ use Rattle.model_operations.specs.Meanings.{int_meanings}
 use Rattle.model_operations.specs.Values.{value_at}
 use Rattle.model_operations.specs.declared.operation.IntOp.{IntOp}
 use Rattle.model_operations.specs.declared.operation.IntOp.TheVariants.{Color, Checker, Convert, Invert, Threshold, Gain, Translate, Crop, Flip, BoxMean, Dilate, Erode, Add, Over, Mask}
-use Rattle.op_contracts.specs.Applying.{result_of_windows, window_bounds, window_formats, window_images}
+use Rattle.op_contracts.specs.Applying.{IsInOneTile, result_of_windows, window_bounds, window_formats, window_images}
+use Rattle.op_contracts.proofs.Limits.{InLimits-in_tile}
 use Rattle.solid_patches.specs.Samples.{IsSampleOf}
 
 -- ---- the formats of results
@@ -113,6 +114,10 @@ part-of op o windows ws out is are taken inside =
     ∙ ap (λ (vs : List Window). image_from_fn out (made_format op (input_format (window_formats vs) 0)) (value_at op (window_images vs))) (sym are)
     ∙ part-is op windows out taken inside
 
+-- a part of one tile is small
+pub tile_in_limits : (out : Rectangle) → IsInOneTile out → IsRectangle out → InLimits out
+tile_in_limits out tile is = InLimits-in_tile out tile.0 is tile.1
+
 -- ---- windows by their number
 
 pub none-of : (windows : List Window) → length windows ≡ 0 → windows ≡ []
@@ -180,3 +185,11 @@ pub translate-inside : (op o : IntOp) (windows : List Window) (w : Window) (out 
 translate-inside op o windows w out is are inside =
     subst (λ (p : IntOp). Includes (result_box int_meanings p (w.bounds ∷ [])) out) is
     (subst (λ (vs : List Window). Includes (result_box int_meanings op (window_bounds vs)) out) are inside)
+
+-- a part of what an operation of one window gives
+pub part-of-one : (op o : IntOp) (windows : List Window) (w : Window) (out : Rectangle) → op ≡ o → input_count o ≡ 1 → length windows ≡ input_count op → w ≡ get_or windows 0 w
+    → IsSome (format_of op (window_formats windows)) → Includes (result_box int_meanings op (window_bounds windows)) out
+    → image_from_fn out (made_format o (input_format (window_formats (w ∷ [])) 0)) (value_at o (window_images (w ∷ [])))
+    ≡ cut (result_of_windows int_meanings op windows) out
+part-of-one op o windows w out is one count first taken inside =
+    part-of op o windows (w ∷ []) out is (one-of windows w (count ∙ ap input_count is ∙ one) first) taken inside

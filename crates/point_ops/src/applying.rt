@@ -28,6 +28,7 @@ use std::alloc::Global;
 /// # Errors
 ///
 /// `NoMemory` if memory runs out.
+#[tactic(auto, using(crate::proofs::Results::tile_in_limits))]
 pub fn apply(alloc: Global, op: &IntOp, windows: &[Window], out: Rect) -> Result<Patch, NoMemory>
     requires point { IsPointOp op.now }
     requires inputs { length windows.now ≡ int_meanings.input_count op.now }

@@ -1,12 +1,9 @@
 //! Why a render is refused.
 
 ghost use Rattle.std.specs.Prelude.{◌≡◌};
-ghost use Rattle.render_workers.specs.declared.refused.RenderRefused.TheVariants as refusals;
 ghost use Rattle.render_workers.specs.Refusals.{by_plan, by_swap};
 
-use no_memory::NoMemory;
 use roi_planner::PlanRefused;
-use std::alloc::{AllocError, AllocFailed};
 use swap_store::SwapRefused;
 use thiserror::Error;
 
@@ -66,29 +63,5 @@ impl From<SwapRefused> for RenderRefused {
             },
             SwapRefused::NoMemory => RenderRefused::NoMemory,
         }
-    }
-}
-
-impl From<NoMemory> for RenderRefused {
-    ghost from_gives = { λ _ refused. refused ≡ refusals.NoMemory };
-
-    fn from(_error: NoMemory) -> RenderRefused {
-        RenderRefused::NoMemory
-    }
-}
-
-impl From<AllocError> for RenderRefused {
-    ghost from_gives = { λ _ refused. refused ≡ refusals.NoMemory };
-
-    fn from(_error: AllocError) -> RenderRefused {
-        RenderRefused::NoMemory
-    }
-}
-
-impl<T: Drop> From<AllocFailed<T>> for RenderRefused {
-    ghost from_gives = { λ _ refused. refused ≡ refusals.NoMemory };
-
-    fn from(_error: AllocFailed<T>) -> RenderRefused {
-        RenderRefused::NoMemory
     }
 }

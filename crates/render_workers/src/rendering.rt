@@ -17,7 +17,7 @@ ghost use Rattle.model_sessions.specs.Sessions.{at_level_zero};
 ghost use Rattle.swap_store.specs.Cause.{HasSwapCause};
 ghost use Rattle.node_cache.specs.Stores.{HaveOneOwner};
 ghost use Rattle.node_tiles.specs.Stated.{scene_of, shape_at};
-ghost use Rattle.strip_renders.specs.Moments.{Keeps, moment};
+ghost use Rattle.strip_renders.specs.Moments.{AreOver, Keeps, moment};
 ghost use Rattle.strip_renders.specs.Strips.{AreKnownRight, AreSizedPairs, counted, most_names};
 ghost use Rattle.strip_patches.specs.Nodes.{image_at};
 ghost use Rattle.render_workers.specs.Parts.{IsExcused, Leaves, LooksUp};
@@ -67,41 +67,34 @@ fn format_of<Op>(nodes: &[NodeFact<Op>], node: u32) -> Format
 /// # Errors
 ///
 /// As [`render`], of which the swap's and `NoMemory` are left.
-fn render_planned<
-    H: ChainMeaning,
-    S: SourceTiles<H>,
-    C: PairStore<H>,
-    K: OpKit + Sync,
-    R: Threads + Sync,
->(
+fn render_planned<H: ChainMeaning, S: SourceTiles<H>, C: PairStore<H>, K: OpKit + Sync, R>(
     kit: &K,
     alloc: Global,
     nodes: &[NodeFact<K::Op>],
-    sources: &mut S,
-    cache: &mut C,
-    chain: &mut H,
-    purse: &mut K::Purse,
     node: u32,
     level: u32,
     rect: Rect,
     memory: Vec<u8>,
+    sources: &mut S,
+    cache: &mut C,
+    chain: &mut H,
+    purse: &mut K::Purse,
     workers: Workers<'_, R>,
 ) -> Result<Rendered, SwapRefused>
 where
     K::Op: Sync,
     K::Permit: Send,
-    requires stated { AreStated K.Op.meanings (shapes_of_facts (S.facts sources.old)) nodes.now }
-    requires node { node < length nodes.now }
+    R: Threads + Sync,
     requires level { level ≤ 8 }
     requires source { IsSome (scaled level rect) }
-    requires sources_over { S.is_over sources.old (H.held chain.old) }
-    requires cache_over { C.is_over cache.old (H.held chain.old) }
-    requires owned { Owns (H.held chain.old) (S.names sources.old ++ C.names cache.old) }
+    requires stated { AreStated K.Op.meanings (shapes_of_facts (S.facts sources.old)) nodes.now }
+    requires node { node < length nodes.now }
+    requires over { AreOver H.ChainMeaning S.SourceTiles C.PairStore sources.old cache.old chain.old }
     requires sized { AreSizedPairs nodes.now (C.sizes cache.old (H.held chain.old)) }
     requires permits { 2 ^ 32 ≤ K.permits purse.old }
     ensures looks { IfOk result (λ done. LooksUp K.Op.meanings nodes.now (needed_pairs (specs_of nodes.now) (need K.Op.meanings nodes.now node (at_level_zero level rect))) done.applied done.reused
-        (moment (S.facts sources.old) (S.images sources.old (H.held chain.old)) (S.names sources.old) (C.pairs cache.old) (C.sizes cache.old (H.held chain.old)) (C.cached cache.old (H.held chain.old)) (C.capacity cache.old) (C.names cache.old) (H.held chain.old) (H.counts chain.old) (H.loans chain.old))
-        (moment (S.facts sources.new) (S.images sources.new (H.held chain.new)) (S.names sources.new) (C.pairs cache.new) (C.sizes cache.new (H.held chain.new)) (C.cached cache.new (H.held chain.new)) (C.capacity cache.new) (C.names cache.new) (H.held chain.new) (H.counts chain.new) (H.loans chain.new))
+        (moment H.ChainMeaning S.SourceTiles C.PairStore sources.old cache.old chain.old)
+        (moment H.ChainMeaning S.SourceTiles C.PairStore sources.new cache.new chain.new)
         (K.permits purse.old) (K.permits purse.new)) }
     ensures rect { IfOk result (λ done. done.patch.box ≡ rect) }
     ensures format { IfOk result (λ done. done.patch.format ≡ (shape_at nodes.now node).format) }
@@ -109,15 +102,14 @@ where
         AreKnownRight K.Op.meanings nodes.now images (C.cached cache.old (H.held chain.old)) →
         IfOk result (λ done. done.patch ≡ cut (level_of (image_at K.Op.meanings nodes.now images node) level) rect) }
     ensures leaves { Leaves K.Op.meanings nodes.now (needed_pairs (specs_of nodes.now) (need K.Op.meanings nodes.now node (at_level_zero level rect)))
-        (moment (S.facts sources.old) (S.images sources.old (H.held chain.old)) (S.names sources.old) (C.pairs cache.old) (C.sizes cache.old (H.held chain.old)) (C.cached cache.old (H.held chain.old)) (C.capacity cache.old) (C.names cache.old) (H.held chain.old) (H.counts chain.old) (H.loans chain.old))
-        (moment (S.facts sources.new) (S.images sources.new (H.held chain.new)) (S.names sources.new) (C.pairs cache.new) (C.sizes cache.new (H.held chain.new)) (C.cached cache.new (H.held chain.new)) (C.capacity cache.new) (C.names cache.new) (H.held chain.new) (H.counts chain.new) (H.loans chain.new))
+        (moment H.ChainMeaning S.SourceTiles C.PairStore sources.old cache.old chain.old)
+        (moment H.ChainMeaning S.SourceTiles C.PairStore sources.new cache.new chain.new)
         (K.permits purse.old) (K.permits purse.new) }
-    ensures sources_over { S.is_over sources.new (H.held chain.new) }
-    ensures cache_over { C.is_over cache.new (H.held chain.new) }
+    ensures over { AreOver H.ChainMeaning S.SourceTiles C.PairStore sources.new cache.new chain.new }
     ensures valid { H.is_valid chain.old → H.is_valid chain.new }
     ensures excused { IfErr result (IsExcused (needed_pairs (specs_of nodes.now) (need K.Op.meanings nodes.now node (at_level_zero level rect)))
-        (moment (S.facts sources.old) (S.images sources.old (H.held chain.old)) (S.names sources.old) (C.pairs cache.old) (C.sizes cache.old (H.held chain.old)) (C.cached cache.old (H.held chain.old)) (C.capacity cache.old) (C.names cache.old) (H.held chain.old) (H.counts chain.old) (H.loans chain.old))
-        (moment (S.facts sources.new) (S.images sources.new (H.held chain.new)) (S.names sources.new) (C.pairs cache.new) (C.sizes cache.new (H.held chain.new)) (C.cached cache.new (H.held chain.new)) (C.capacity cache.new) (C.names cache.new) (H.held chain.new) (H.counts chain.new) (H.loans chain.new))) }
+        (moment H.ChainMeaning S.SourceTiles C.PairStore sources.old cache.old chain.old)
+        (moment H.ChainMeaning S.SourceTiles C.PairStore sources.new cache.new chain.new)) }
 {
     let source = rect.scaled(level).unwrap();
     let format = format_of(nodes, node);
@@ -162,13 +154,7 @@ where
 /// each needed tile can fill the swap, and, where each cached name has one owner, the names of a full cache
 /// and one more can too; and `NoMemory` if memory runs out. The cached pairs are then those of a part of
 /// the request, and right where they were, and permits may be spent.
-pub fn render<
-    H: ChainMeaning,
-    S: SourceTiles<H>,
-    C: PairStore<H>,
-    K: OpKit + Sync,
-    R: Threads + Sync,
->(
+pub fn render<H: ChainMeaning, S: SourceTiles<H>, C: PairStore<H>, K: OpKit + Sync, R>(
     kit: &K,
     alloc: Global,
     nodes: &[NodeFact<K::Op>],
@@ -186,6 +172,7 @@ pub fn render<
 where
     K::Op: Sync,
     K::Permit: Send,
+    R: Threads + Sync,
     requires level { level ≤ 8 }
     requires stated { AreStated K.Op.meanings (shapes_of_facts (S.facts sources.old)) nodes.now }
     requires sources_over { S.is_over sources.old (H.held chain.old) }
@@ -198,8 +185,8 @@ where
         IsErrOf result RenderRefused.Rect }
     ensures narrow { OnOk result (wide capacity (strips_needed K.Op.meanings nodes.now (request node level rect)) ≡ None) }
     ensures unchanged { IfErr result (ChangesNothing
-        (moment (S.facts sources.old) (S.images sources.old (H.held chain.old)) (S.names sources.old) (C.pairs cache.old) (C.sizes cache.old (H.held chain.old)) (C.cached cache.old (H.held chain.old)) (C.capacity cache.old) (C.names cache.old) (H.held chain.old) (H.counts chain.old) (H.loans chain.old))
-        (moment (S.facts sources.new) (S.images sources.new (H.held chain.new)) (S.names sources.new) (C.pairs cache.new) (C.sizes cache.new (H.held chain.new)) (C.cached cache.new (H.held chain.new)) (C.capacity cache.new) (C.names cache.new) (H.held chain.new) (H.counts chain.new) (H.loans chain.new))
+        (moment H.ChainMeaning S.SourceTiles C.PairStore sources.old cache.old chain.old)
+        (moment H.ChainMeaning S.SourceTiles C.PairStore sources.new cache.new chain.new)
         (K.permits purse.old) (K.permits purse.new)) }
     ensures pairs { IfOk result (λ done. counted (C.pairs cache.new) done.applied done.reused
         ≡ all_looked_up itself itself (C.capacity cache.old) (uncounted (C.pairs cache.old))
@@ -209,8 +196,8 @@ where
     ensures shown { (images : Buffers) (list : List Cached) → S.images sources.old (H.held chain.old) ≡ Some images →
         C.cached cache.old (H.held chain.old) ≡ Some list → AreRight K.Op.meanings (scene_of nodes.now images) list →
         IfOk result (λ done. IsShown K.Op.meanings nodes.now images (request node level rect)
-        (moment (S.facts sources.old) (S.images sources.old (H.held chain.old)) (S.names sources.old) (C.pairs cache.old) (C.sizes cache.old (H.held chain.old)) (C.cached cache.old (H.held chain.old)) (C.capacity cache.old) (C.names cache.old) (H.held chain.old) (H.counts chain.old) (H.loans chain.old))
-        (moment (S.facts sources.new) (S.images sources.new (H.held chain.new)) (S.names sources.new) (C.pairs cache.new) (C.sizes cache.new (H.held chain.new)) (C.cached cache.new (H.held chain.new)) (C.capacity cache.new) (C.names cache.new) (H.held chain.new) (H.counts chain.new) (H.loans chain.new))
+        (moment H.ChainMeaning S.SourceTiles C.PairStore sources.old cache.old chain.old)
+        (moment H.ChainMeaning S.SourceTiles C.PairStore sources.new cache.new chain.new)
         list done.patch) }
     ensures right { (images : Buffers) → S.images sources.old (H.held chain.old) ≡ Some images →
         AreKnownRight K.Op.meanings nodes.now images (C.cached cache.old (H.held chain.old)) →
@@ -220,8 +207,8 @@ where
         (λ _. (K.permits purse.new ≤ K.permits purse.old)
         × (K.permits purse.old ≤ K.permits purse.new + length (pairs_requested K.Op.meanings nodes.now (request node level rect)))) }
     ensures keeps { Keeps (length (pairs_requested K.Op.meanings nodes.now (request node level rect)))
-        (moment (S.facts sources.old) (S.images sources.old (H.held chain.old)) (S.names sources.old) (C.pairs cache.old) (C.sizes cache.old (H.held chain.old)) (C.cached cache.old (H.held chain.old)) (C.capacity cache.old) (C.names cache.old) (H.held chain.old) (H.counts chain.old) (H.loans chain.old))
-        (moment (S.facts sources.new) (S.images sources.new (H.held chain.new)) (S.names sources.new) (C.pairs cache.new) (C.sizes cache.new (H.held chain.new)) (C.cached cache.new (H.held chain.new)) (C.capacity cache.new) (C.names cache.new) (H.held chain.new) (H.counts chain.new) (H.loans chain.new)) }
+        (moment H.ChainMeaning S.SourceTiles C.PairStore sources.old cache.old chain.old)
+        (moment H.ChainMeaning S.SourceTiles C.PairStore sources.new cache.new chain.new) }
     ensures sources_over { S.is_over sources.new (H.held chain.new) }
     ensures cache_over { C.is_over cache.new (H.held chain.new) }
     ensures valid { H.is_valid chain.old → H.is_valid chain.new }
@@ -231,12 +218,12 @@ where
     ensures few_names { HaveOneOwner (H.held chain.old) (C.names cache.old) →
         IfErr result (IsRefusedBy K.Op.meanings nodes.now (request node level rect) capacity
         (HasSwapCause (H.counts chain.old) (H.counts chain.new) (most_names
-        (moment (S.facts sources.old) (S.images sources.old (H.held chain.old)) (S.names sources.old) (C.pairs cache.old) (C.sizes cache.old (H.held chain.old)) (C.cached cache.old (H.held chain.old)) (C.capacity cache.old) (C.names cache.old) (H.held chain.old) (H.counts chain.old) (H.loans chain.old))
+        (moment H.ChainMeaning S.SourceTiles C.PairStore sources.old cache.old chain.old)
         (pairs_requested K.Op.meanings nodes.now (request node level rect))))) }
 {
     let position = planned_position(kit, alloc, nodes, node, level, rect, capacity)?;
     let done = render_planned(
-        kit, alloc, nodes, sources, cache, chain, purse, position, level, rect, memory, workers,
+        kit, alloc, nodes, position, level, rect, memory, sources, cache, chain, purse, workers,
     )?;
     Ok(done)
 }

@@ -65,20 +65,28 @@ pub(crate) fn load<C: TileChain, F: Shelf, R: Threads + Sync>(
         return Err(Stop::Refused(Cause::OutOfBounds));
     }
     let wanted = rect.area() * u64::from(fact.format.pixel_bytes());
-    let raster = read_raster(file, wanted, shelf)?;
+    let mut memory = session.idle_memory();
+    let read = read_raster(file, wanted, &mut memory, shelf);
+    session.reuse(memory);
+    let raster = read?;
     session.put(chain, *name, *rect, raster, workers)?;
     Ok(())
 }
 
-/// Reads a file that is to have at most so many bytes.
-fn read_raster<F: Shelf>(file: &FileName, wanted: u64, shelf: &mut F) -> Result<Vec<u8>, Stop>
+/// Reads a file that is to have at most so many bytes, into memory that was used before where the shelf has a way to.
+fn read_raster<F: Shelf>(
+    file: &FileName,
+    wanted: u64,
+    memory: &mut Vec<u8>,
+    shelf: &mut F,
+) -> Result<Vec<u8>, Stop>
     ensures raster { IfSome (F.files shelf.old) (λ files. IsRaster (bytes_of files file.now) wanted result) }
     ensures files { F.files shelf.new ≡ F.files shelf.old }
     ensures faults { (text : Option (List ℕ)) (puts : ℕ) (chain : Counts) → HasFaults (end_of result)
         (record { files = F.files shelf.old; text = text; reads = F.read_faults shelf.old; writes = F.write_faults shelf.old; puts = puts; chain = chain })
         (record { files = F.files shelf.new; text = text; reads = F.read_faults shelf.new; writes = F.write_faults shelf.new; puts = puts; chain = chain }) }
 {
-    match shelf.read(file.as_str(), wanted) {
+    match shelf.read_reusing(file.as_str(), wanted, memory) {
         Ok(bytes) => Ok(bytes),
         Err(ShelfAnswer::TooLong { .. }) => Err(Stop::Refused(Cause::WrongSize)),
         Err(ShelfAnswer::Absent) => Err(Stop::Refused(Cause::Absent)),

@@ -5,7 +5,7 @@ use Rattle.pixel_formats.specs.declared.format.Format.TheVariants.{Y8, YA8, RGB8
 use Rattle.pixel_formats.specs.Convert.{converted_pixel, rechannelled, rescaled}
 use Rattle.pixel_formats.specs.Format.{channels, depth, max_sample, max_sample_of, pixel_bytes}
 use Rattle.sample_rows.specs.Groups.{Maps, groups}
-use Rattle.simd_pixels.specs.Components.{component_for, components_of_gray, components_of_gray_alpha, components_of_colors, components_of_colors_alpha}
+use Rattle.simd_pixels.specs.Components.{component_for, components_of_gray, components_of_colors, components_of_colors_alpha}
 use Rattle.pixel_formats.specs.Row.{sample_at, HasPixels, Pixel, pixel_at}
 use Rattle.sample_rows.proofs.SampleLaws.{HasPixels-from_samples}
 
@@ -19,38 +19,26 @@ each_channel P n few a b c d (suc (suc (suc (suc i)))) lt = absurd (omega arith)
 
 -- gray pixels without alpha
 pub gray_to : (from to : Format) → channels from ≡ 1 → (pixel : Pixel) (i : ℕ) → i < channels to → components_of_gray (max_sample from) pixel (component_for (channels to) i) ≡ rechannelled from to pixel i
-gray_to Y8 Y8 is pixel =
-    each_channel (λ i. components_of_gray (max_sample Y8) pixel (component_for 1 i) ≡ rechannelled Y8 Y8 pixel i) 1 (omega arith) (λ lt. search rules) (λ lt. search rules) (λ lt. search rules) (λ lt. search rules)
-gray_to Y8 to is pixel =
-    each_channel (λ i. components_of_gray (max_sample Y8) pixel (component_for (channels to) i) ≡ rechannelled Y8 to pixel i) (channels to) (omega arith) (λ lt. search rules) (λ lt. search rules) (λ lt. search rules) (λ lt. search rules)
-gray_to Y16 Y8 is pixel =
-    each_channel (λ i. components_of_gray (max_sample Y16) pixel (component_for 1 i) ≡ rechannelled Y16 Y8 pixel i) 1 (omega arith) (λ lt. search rules) (λ lt. search rules) (λ lt. search rules) (λ lt. search rules)
-gray_to Y16 to is pixel =
-    each_channel (λ i. components_of_gray (max_sample Y16) pixel (component_for (channels to) i) ≡ rechannelled Y16 to pixel i) (channels to) (omega arith) (λ lt. search rules) (λ lt. search rules) (λ lt. search rules) (λ lt. search rules)
+gray_to Y8 Y8 is pixel = each_channel _ 1 (omega arith) (λ lt. search rules) (λ lt. search rules) (λ lt. search rules) (λ lt. search rules)
+gray_to Y8 to is pixel = each_channel _ (channels to) (omega arith) (λ lt. search rules) (λ lt. search rules) (λ lt. search rules) (λ lt. search rules)
+gray_to Y16 Y8 is pixel = each_channel _ 1 (omega arith) (λ lt. search rules) (λ lt. search rules) (λ lt. search rules) (λ lt. search rules)
+gray_to Y16 to is pixel = each_channel _ (channels to) (omega arith) (λ lt. search rules) (λ lt. search rules) (λ lt. search rules) (λ lt. search rules)
 gray_to from to is pixel = λ i lt. absurd (omega arith)
 
 -- pixels of three colors without alpha
 pub colors_to : (from to : Format) → channels from ≡ 3 → (pixel : Pixel) (i : ℕ) → i < channels to → components_of_colors (max_sample from) pixel (component_for (channels to) i) ≡ rechannelled from to pixel i
-colors_to RGB8 Y8 is pixel =
-    each_channel (λ i. components_of_colors (max_sample RGB8) pixel (component_for 1 i) ≡ rechannelled RGB8 Y8 pixel i) 1 (omega arith) (λ lt. search rules) (λ lt. search rules) (λ lt. search rules) (λ lt. search rules)
-colors_to RGB8 to is pixel =
-    each_channel (λ i. components_of_colors (max_sample RGB8) pixel (component_for (channels to) i) ≡ rechannelled RGB8 to pixel i) (channels to) (omega arith) (λ lt. search rules) (λ lt. search rules) (λ lt. search rules) (λ lt. search rules)
-colors_to RGB16 Y8 is pixel =
-    each_channel (λ i. components_of_colors (max_sample RGB16) pixel (component_for 1 i) ≡ rechannelled RGB16 Y8 pixel i) 1 (omega arith) (λ lt. search rules) (λ lt. search rules) (λ lt. search rules) (λ lt. search rules)
-colors_to RGB16 to is pixel =
-    each_channel (λ i. components_of_colors (max_sample RGB16) pixel (component_for (channels to) i) ≡ rechannelled RGB16 to pixel i) (channels to) (omega arith) (λ lt. search rules) (λ lt. search rules) (λ lt. search rules) (λ lt. search rules)
+colors_to RGB8 Y8 is pixel = each_channel _ 1 (omega arith) (λ lt. search rules) (λ lt. search rules) (λ lt. search rules) (λ lt. search rules)
+colors_to RGB8 to is pixel = each_channel _ (channels to) (omega arith) (λ lt. search rules) (λ lt. search rules) (λ lt. search rules) (λ lt. search rules)
+colors_to RGB16 Y8 is pixel = each_channel _ 1 (omega arith) (λ lt. search rules) (λ lt. search rules) (λ lt. search rules) (λ lt. search rules)
+colors_to RGB16 to is pixel = each_channel _ (channels to) (omega arith) (λ lt. search rules) (λ lt. search rules) (λ lt. search rules) (λ lt. search rules)
 colors_to from to is pixel = λ i lt. absurd (omega arith)
 
 -- pixels of three colors with alpha
 pub colors_alpha_to : (from to : Format) → channels from ≡ 4 → (pixel : Pixel) (i : ℕ) → i < channels to → components_of_colors_alpha pixel (component_for (channels to) i) ≡ rechannelled from to pixel i
-colors_alpha_to RGBA8 Y8 is pixel =
-    each_channel (λ i. components_of_colors_alpha pixel (component_for 1 i) ≡ rechannelled RGBA8 Y8 pixel i) 1 (omega arith) (λ lt. search rules) (λ lt. search rules) (λ lt. search rules) (λ lt. search rules)
-colors_alpha_to RGBA8 to is pixel =
-    each_channel (λ i. components_of_colors_alpha pixel (component_for (channels to) i) ≡ rechannelled RGBA8 to pixel i) (channels to) (omega arith) (λ lt. search rules) (λ lt. search rules) (λ lt. search rules) (λ lt. search rules)
-colors_alpha_to RGBA16 Y8 is pixel =
-    each_channel (λ i. components_of_colors_alpha pixel (component_for 1 i) ≡ rechannelled RGBA16 Y8 pixel i) 1 (omega arith) (λ lt. search rules) (λ lt. search rules) (λ lt. search rules) (λ lt. search rules)
-colors_alpha_to RGBA16 to is pixel =
-    each_channel (λ i. components_of_colors_alpha pixel (component_for (channels to) i) ≡ rechannelled RGBA16 to pixel i) (channels to) (omega arith) (λ lt. search rules) (λ lt. search rules) (λ lt. search rules) (λ lt. search rules)
+colors_alpha_to RGBA8 Y8 is pixel = each_channel _ 1 (omega arith) (λ lt. search rules) (λ lt. search rules) (λ lt. search rules) (λ lt. search rules)
+colors_alpha_to RGBA8 to is pixel = each_channel _ (channels to) (omega arith) (λ lt. search rules) (λ lt. search rules) (λ lt. search rules) (λ lt. search rules)
+colors_alpha_to RGBA16 Y8 is pixel = each_channel _ 1 (omega arith) (λ lt. search rules) (λ lt. search rules) (λ lt. search rules) (λ lt. search rules)
+colors_alpha_to RGBA16 to is pixel = each_channel _ (channels to) (omega arith) (λ lt. search rules) (λ lt. search rules) (λ lt. search rules) (λ lt. search rules)
 colors_alpha_to from to is pixel = λ i lt. absurd (omega arith)
 
 -- where the channels are the same they stay

@@ -3,8 +3,7 @@ use Rattle.std.proofs.Common.{◌≡◌, ℕ, ◌+◌, ◌-◌, ◌*◌, ◌<◌
 use Rattle.std.proofs.Math.Nat.{mul-le-mul_left}
 use Rattle.std.proofs.lemmas.Nat.{mul-add-lt}
 use Rattle.std.proofs.lemmas.Bool.{cases_lt}
-use Rattle.std.proofs.lemmas.List.{get_or-drop, get_or_append_left, get_or-append_right, get_or_past, get_or-replicate}
-use Rattle.std.proofs.lemmas.Simd.{length-replicate}
+use Rattle.std.proofs.lemmas.List.{get_or-drop, get_or_append_left, get_or-append_right, get_or_past}
 use Rattle.simd_samples.proofs.SliceLaws.{sample_at-below, sample_at-shift}
 use Rattle.pixel_formats.proofs.Zeros.{get_or-zeros}
 use Rattle.sample_rows.specs.Groups.{Groups, group_bytes, group_at, MapsPairs}
@@ -14,6 +13,12 @@ pub group_at-shift : (g : Groups) (a b : List ℕ) (m n k l : ℕ) → n ≡ m *
 group_at-shift g a b m n k l at_n at_l same i =
     sample_at-shift g.depth a b (m * g.size) n (k * g.size + i) (l * g.size + i)
     (omega arith) (omega (arith, ap (λ x. x * g.size) at_l)) same
+
+-- the groups of a block of a row, by its number; a block has x bytes
+pub group_at-block : (g : Groups) (piece row : List ℕ) (x count block k : ℕ) → x ≡ count * group_bytes g → ((p : ℕ) → get_or piece p 0 ≡ get_or row (x * block + p) 0)
+    → (i : ℕ) → group_at g piece k i ≡ group_at g row (block * count + k) i
+group_at-block g piece row x count block k is same i =
+    group_at-shift g piece row (block * count) (x * block) k (block * count + k) (omega (arith, ap (λ n. n * block) is)) refl same i
 
 -- the groups in which rows agree
 pub group_at-below : (g : Groups) (a b : List ℕ) (m n k i : ℕ) → m * group_bytes g ≤ n → k < m → i < g.size → ((p : ℕ) → p < n → get_or a p 0 ≡ get_or b p 0) → group_at g a k i ≡ group_at g b k i

@@ -24,13 +24,7 @@ find-unlike word_of name (value ∷ values) none =
 -- a word of a format names it
 pub format_named-word : (format : Format) → format_named (word format) ≡ Some format
 format_named-word Y8 = refl
-format_named-word YA8 = refl
-format_named-word RGB8 = refl
-format_named-word RGBA8 = refl
-format_named-word Y16 = refl
-format_named-word YA16 = refl
-format_named-word RGB16 = refl
-format_named-word RGBA16 = refl
+format_named-word _ = refl
 
 pub format_found : (name : List ℕ) (found : Option Format) →
     IfSome found (λ (format : Format). name ≡ word format) → IfNone found ((format : Format) → name ≢ word format) → found ≡ format_named name

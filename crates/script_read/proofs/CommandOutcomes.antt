@@ -1,21 +1,22 @@
 -- The commands but those of nodes: each is refused for the lowest of its causes.
-use Rattle.std.proofs.Common.{◌≡◌, ℕ, ℤ, not, List, drop, Ok, refl, sym, ap, ◌∙◌}
+use Rattle.std.proofs.Common.{◌≡◌, ℕ, ℤ, not, List, [], ◌∷◌, drop, Result, Ok, refl, sym, ap, ◌∙◌}
 use Rattle.std.specs.List.{list_all}
 use Rattle.plane_rect.specs.Rectangle.{Rectangle}
 use Rattle.pixel_formats.specs.Limits.{max_frames, max_level, max_viewers}
 use Rattle.pixel_formats.specs.declared.abyss.Abyss.{Abyss}
 use Rattle.pixel_formats.specs.declared.format.Format.{Format}
-use Rattle.script_fields.specs.Fields.{count, count_in, file_at, format_at, level_rect_of, move_at, name_at, natural_at, policy_at, prefix_at, rect_numbers_at, rect_of, samples_from, watched_rect_of, word_at}
+use Rattle.script_fields.specs.Fields.{◌>>=◌, count, count_in, file_at, format_at, level_rect_of, move_at, name_at, natural_at, policy_at, prefix_at, rect_numbers_at, rect_of, samples_from, watched_rect_of, word_at}
+use Rattle.script_fields.specs.declared.cause.ScriptCause.{ScriptCause}
 use Rattle.script_fields.specs.declared.cause.ScriptCause.TheVariants as causes
 use Rattle.script_fields.specs.declared.fields.RectNumbers.{RectNumbers}
-use Rattle.script_read.specs.CommandGrammars.{alone_grammar, buffer_grammar, copy_grammar, drop_node_grammar, dup_grammar, fill_grammar, grab_grammar, load_grammar, render_grammar, sub_grammar, watch_grammar}
+use Rattle.script_read.specs.CommandGrammars.{alone_grammar, buffer_grammar, copy_grammar, drop_node_grammar, dup_grammar, fill_grammar, grab_grammar, load_grammar, render_grammar, sub_grammar, watch_grammar, words_of_count}
 use Rattle.script_read.specs.Commands.{alone, buffer, copy, drop_node, dup, fill, grab, load, render, sub, watch}
-use Rattle.script_read.specs.Grammar.{Grammar, OfLevel, Plain, Watched, all_fit, area_refused, coordinates, file, format, if_read, is_refused, move, name, names_fit, natural, policy, prefix, samples_on}
+use Rattle.script_read.specs.Grammar.{Field, Grammar, OfLevel, Plain, Watched, all_fit, area_refused, coordinates, file, format, if_read, is_refused, move, name, names_fit, natural, policy, prefix, samples_on}
 use Rattle.script_read.specs.declared.command.Command.{Command}
 use Rattle.script_read.specs.declared.command.Command.TheVariants.{Buffer, Copy, Drop, Dup, Fill, Grab, Load, Render, Sub, Watch}
 use Rattle.script_read.proofs.FieldGuards.{guards-file, guards-format, guards-level_rect, guards-move, guards-name, guards-natural, guards-numbers, guards-policy, guards-prefix, guards-rect, guards-samples, guards-watched_rect}
 use Rattle.script_read.proofs.Merges.{all_of, field_before, one_field, rest_after, three_fields, two_after, two_fields}
-use Rattle.script_read.proofs.Outcomes.{Verdict, guard, guards-count, guards-count_in, lowest_by, outcome, outcome-step}
+use Rattle.script_read.proofs.Outcomes.{Guards, Verdict, guard, guards-count, guards-count_in, lowest_by, outcome, outcome-step}
 
 -- ---- the rectangle, of numbers that are read
 
@@ -44,31 +45,30 @@ module _ (words : List (List ℕ)) (next : Command → Verdict) (rest : Verdict)
   abbrev names_left : Grammar → Verdict
   names_left grammar = guard (names_fit grammar words) causes.Name (area_left grammar)
 
+  -- a command of so many words: a name, another field and a rectangle
+  with_field : {A : Type 0} (number index : ℕ) (field : Field) (read : Result A ScriptCause) (make : List ℕ → A → Rectangle → Command)
+      → Guards read (field.fits (word_at words field.index)) causes.Name → ((name : List ℕ) (value : A) (rect : Rectangle) → next (make name value rect) ≡ rest)
+      → outcome next (count number words >>= (λ _. rect_numbers_at words index >>= (λ numbers. name_at words 1 >>= (λ name. read >>= (λ value. rect_of numbers >>= (λ rect. Ok (make name value rect)))))))
+      ≡ lowest_by (words_of_count number (coordinates index) (name 1 ∷ field ∷ []) (Plain index)) words rest
+  with_field number index field read make guards same =
+      let grammar : Grammar = words_of_count number (coordinates index) (name 1 ∷ field ∷ []) (Plain index) in
+      outcome-step (count number words) _ _ _ next _ (guards-count number words) (λ _ _.
+      outcome-step (rect_numbers_at words index) _ _ _ next _ (guards-numbers words index) (λ numbers are.
+      outcome-step (name_at words 1) _ _ _ next _ (guards-name words 1) (λ name _.
+      outcome-step read _ _ _ next _ guards (λ value _.
+      outcome-step (rect_of numbers) _ _ _ next _ (guards-rect numbers) (λ rect _.
+      same name value rect)
+      ∙ plain_area words index numbers rest are))
+      ∙ two_fields ((name 1).fits (word_at words 1)) (field.fits (word_at words field.index)) causes.Name (area_left grammar))
+      ∙ all_of (all_fit (coordinates index) words) causes.Number (names_left grammar))
+
   -- `buffer B FORMAT X Y W H`
   pub buffer-outcome : ((name : List ℕ) (format : Format) (rect : Rectangle) → next (Buffer name format rect) ≡ rest) → outcome next (buffer words) ≡ lowest_by buffer_grammar words rest
-  buffer-outcome same =
-      outcome-step (count 7 words) _ _ _ next _ (guards-count 7 words) (λ _ _.
-      outcome-step (rect_numbers_at words 3) _ _ _ next _ (guards-numbers words 3) (λ numbers are.
-      outcome-step (name_at words 1) _ _ _ next _ (guards-name words 1) (λ name _.
-      outcome-step (format_at words 2) _ _ _ next _ (guards-format words 2) (λ format _.
-      outcome-step (rect_of numbers) _ _ _ next _ (guards-rect numbers) (λ rect _.
-      same name format rect)
-      ∙ plain_area words 3 numbers rest are))
-      ∙ two_fields ((name 1).fits (word_at words 1)) ((format 2).fits (word_at words 2)) causes.Name (area_left buffer_grammar))
-      ∙ all_of (all_fit (coordinates 3) words) causes.Number (names_left buffer_grammar))
+  buffer-outcome = with_field 7 3 (format 2) (format_at words 2) (λ name format rect. Buffer name format rect) (guards-format words 2)
 
   -- `sub B PARENT X Y W H`
   pub sub-outcome : ((name parent : List ℕ) (rect : Rectangle) → next (Sub name parent rect) ≡ rest) → outcome next (sub words) ≡ lowest_by sub_grammar words rest
-  sub-outcome same =
-      outcome-step (count 7 words) _ _ _ next _ (guards-count 7 words) (λ _ _.
-      outcome-step (rect_numbers_at words 3) _ _ _ next _ (guards-numbers words 3) (λ numbers are.
-      outcome-step (name_at words 1) _ _ _ next _ (guards-name words 1) (λ name _.
-      outcome-step (name_at words 2) _ _ _ next _ (guards-name words 2) (λ parent _.
-      outcome-step (rect_of numbers) _ _ _ next _ (guards-rect numbers) (λ rect _.
-      same name parent rect)
-      ∙ plain_area words 3 numbers rest are))
-      ∙ two_fields ((name 1).fits (word_at words 1)) ((name 2).fits (word_at words 2)) causes.Name (area_left sub_grammar))
-      ∙ all_of (all_fit (coordinates 3) words) causes.Number (names_left sub_grammar))
+  sub-outcome = with_field 7 3 (name 2) (name_at words 2) (λ name parent rect. Sub name parent rect) (guards-name words 2)
 
   -- `dup B FROM`
   pub dup-outcome : ((name from : List ℕ) → next (Dup name from) ≡ rest) → outcome next (dup words) ≡ lowest_by dup_grammar words rest
@@ -82,16 +82,7 @@ module _ (words : List (List ℕ)) (next : Command → Verdict) (rest : Verdict)
 
   -- `load B X Y W H FILE`
   pub load-outcome : ((name : List ℕ) (rect : Rectangle) (file : List ℕ) → next (Load name rect file) ≡ rest) → outcome next (load words) ≡ lowest_by load_grammar words rest
-  load-outcome same =
-      outcome-step (count 7 words) _ _ _ next _ (guards-count 7 words) (λ _ _.
-      outcome-step (rect_numbers_at words 2) _ _ _ next _ (guards-numbers words 2) (λ numbers are.
-      outcome-step (name_at words 1) _ _ _ next _ (guards-name words 1) (λ name _.
-      outcome-step (file_at words 6) _ _ _ next _ (guards-file words 6) (λ file _.
-      outcome-step (rect_of numbers) _ _ _ next _ (guards-rect numbers) (λ rect _.
-      same name rect file)
-      ∙ plain_area words 2 numbers rest are))
-      ∙ two_fields ((name 1).fits (word_at words 1)) ((file 6).fits (word_at words 6)) causes.Name (area_left load_grammar))
-      ∙ all_of (all_fit (coordinates 2) words) causes.Number (names_left load_grammar))
+  load-outcome same = with_field 7 2 (file 6) (file_at words 6) (λ name file rect. Load name rect file) (guards-file words 6) (λ name file rect. same name rect file)
 
   -- `fill B X Y W H S..`
   pub fill-outcome : ((name : List ℕ) (rect : Rectangle) (samples : List ℕ) → next (Fill name rect samples) ≡ rest) → outcome next (fill words) ≡ lowest_by fill_grammar words rest

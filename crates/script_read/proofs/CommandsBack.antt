@@ -16,20 +16,7 @@ use Rattle.script_read.specs.declared.keyword.Keyword.TheVariants as keywords
 keyword_of-word : (keyword : Keyword) → keyword_of (keyword_word keyword) ≡ Some keyword
 unfolding keyword_of
 keyword_of-word keywords.Buffer = refl
-keyword_of-word keywords.Sub = refl
-keyword_of-word keywords.Dup = refl
-keyword_of-word keywords.Load = refl
-keyword_of-word keywords.Fill = refl
-keyword_of-word keywords.Copy = refl
-keyword_of-word keywords.Node = refl
-keyword_of-word keywords.Drop = refl
-keyword_of-word keywords.Commit = refl
-keyword_of-word keywords.Undo = refl
-keyword_of-word keywords.Redo = refl
-keyword_of-word keywords.Render = refl
-keyword_of-word keywords.Grab = refl
-keyword_of-word keywords.Watch = refl
-keyword_of-word keywords.EndWatch = refl
+keyword_of-word _ = refl
 
 command_by-words : (command : Command) → IsInLimits command → HasValidFields command → command_by (keyword command) (command_words command) ≡ Ok command
 unfolding command_by

@@ -23,21 +23,7 @@ use Rattle.script_read.specs.declared.operation_word.OperationWord.TheVariants a
 
 operation_word_fits : (operation : OperationWord) → Fits (operation_word operation ∷ []) 10
 operation_word_fits operations.Source = (refl, omega arith)
-operation_word_fits operations.Color = (refl, omega arith)
-operation_word_fits operations.Checker = (refl, omega arith)
-operation_word_fits operations.Convert = (refl, omega arith)
-operation_word_fits operations.Invert = (refl, omega arith)
-operation_word_fits operations.Threshold = (refl, omega arith)
-operation_word_fits operations.Gain = (refl, omega arith)
-operation_word_fits operations.Translate = (refl, omega arith)
-operation_word_fits operations.Crop = (refl, omega arith)
-operation_word_fits operations.Flip = (refl, omega arith)
-operation_word_fits operations.BoxMean = (refl, omega arith)
-operation_word_fits operations.Dilate = (refl, omega arith)
-operation_word_fits operations.Erode = (refl, omega arith)
-operation_word_fits operations.Add = (refl, omega arith)
-operation_word_fits operations.Over = (refl, omega arith)
-operation_word_fits operations.Mask = (refl, omega arith)
+operation_word_fits _ = (refl, omega arith)
 
 -- an operation has at most 5 arguments but samples, whose numbers have at most 10 digits
 arguments_bounded : (op : OpWords) → InRange op → AreBounded (arguments op) × (length (arguments op) ≤ 5)
@@ -82,20 +68,7 @@ operation_fits op range valid =
 
 keyword_fits : (first : Keyword) → Fits (keyword_word first ∷ []) 10
 keyword_fits keywords.Buffer = (refl, omega arith)
-keyword_fits keywords.Sub = (refl, omega arith)
-keyword_fits keywords.Dup = (refl, omega arith)
-keyword_fits keywords.Load = (refl, omega arith)
-keyword_fits keywords.Fill = (refl, omega arith)
-keyword_fits keywords.Copy = (refl, omega arith)
-keyword_fits keywords.Node = (refl, omega arith)
-keyword_fits keywords.Drop = (refl, omega arith)
-keyword_fits keywords.Commit = (refl, omega arith)
-keyword_fits keywords.Undo = (refl, omega arith)
-keyword_fits keywords.Redo = (refl, omega arith)
-keyword_fits keywords.Render = (refl, omega arith)
-keyword_fits keywords.Grab = (refl, omega arith)
-keyword_fits keywords.Watch = (refl, omega arith)
-keyword_fits keywords.EndWatch = (refl, omega arith)
+keyword_fits _ = (refl, omega arith)
 
 -- a command has at most 5 fields but lists, whose numbers have at most 10 digits
 fields_bounded : (command : Command) → IsInLimits command → AreBounded (fields_of command) × (length (fields_of command) ≤ 5)

@@ -1,13 +1,14 @@
 -- The nodes of lines: each is refused for the lowest of its causes.
-use Rattle.std.proofs.Common.{◌≡◌, ℕ, Bool, true, ◌&&◌, not, List, [], ◌∷◌, drop, length, ◌∙◌, arith}
+use Rattle.std.proofs.Common.{◌≡◌, ℕ, Bool, true, ◌&&◌, not, List, [], ◌∷◌, drop, length, Result, Ok, ◌∙◌, arith}
 use Rattle.std.specs.List.{list_all}
 use Rattle.std.proofs.lemmas.List.{drop_all}
 use Rattle.plane_rect.specs.Name.{is_name}
 use Rattle.pixel_formats.specs.Limits.{max_checker_size, max_radius, max_sample}
-use Rattle.script_fields.specs.Fields.{count, count_in, format_at, move_at, name_at, natural_at, near_policy_at, rect_numbers_at, rect_of, sample_at, samples_from, sideways_at, word_at}
+use Rattle.script_fields.specs.Fields.{◌>>=◌, count, count_in, format_at, move_at, name_at, natural_at, near_policy_at, rect_numbers_at, rect_of, sample_at, samples_from, sideways_at, word_at}
+use Rattle.script_fields.specs.declared.cause.ScriptCause.{ScriptCause}
 use Rattle.script_fields.specs.declared.cause.ScriptCause.TheVariants as causes
 use Rattle.script_read.specs.CommandGrammars.{color_grammar, node_of_count, operation_grammar}
-use Rattle.script_read.specs.Grammar.{Grammar, NoArea, Plain, all_fit, area_policy, area_refused, coordinates, direction, format, move, name, names_fit, natural, sample, samples_on}
+use Rattle.script_read.specs.Grammar.{Field, Grammar, NoArea, Plain, all_fit, area_policy, area_refused, coordinates, direction, format, move, name, names_fit, natural, sample, samples_on}
 use Rattle.script_read.specs.Nodes.{area_of, bare, checker, color, convert, crop, ends_from, flip, gain, node_by, node_of, source, threshold, translate}
 use Rattle.script_read.specs.declared.command.Command.{Command}
 use Rattle.script_read.specs.declared.command.Command.TheVariants.{Node}
@@ -19,7 +20,7 @@ use Rattle.script_read.specs.declared.operation_word.OperationWord.TheVariants a
 use Rattle.script_read.proofs.CommandOutcomes.{plain_area}
 use Rattle.script_read.proofs.FieldGuards.{guards-area_policy, guards-direction, guards-ends, guards-format, guards-move, guards-name, guards-natural, guards-numbers, guards-rect, guards-sample, guards-samples}
 use Rattle.script_read.proofs.Merges.{all_of, ends_alone, ends_before, one_field, rest_after, three_after, two_fields}
-use Rattle.script_read.proofs.Outcomes.{Verdict, guard, guards-count, guards-count_in, lowest_by, outcome, outcome-bind, outcome-step}
+use Rattle.script_read.proofs.Outcomes.{Guards, Verdict, guard, guards-count, guards-count_in, lowest_by, outcome, outcome-bind, outcome-step}
 
 -- a node whose inputs begin after the last word has none
 no_inputs : (words : List (List ℕ)) (a : Bool) (rest : Verdict)
@@ -52,16 +53,38 @@ module _ (words : List (List ℕ)) (next : Command → Verdict) (rest : Verdict)
   abbrev names_left : Grammar → Verdict
   names_left grammar = guard (names_fit grammar words) causes.Name (area_left grammar)
 
+  -- `node N OP CHOICE INPUTS`, of so many words
+  with_choice : {A : Type 0} (number inputs : ℕ) (field : Field) (read : Result A ScriptCause) (make : A → OpWords) → Guards read (field.fits (word_at words field.index)) causes.Name
+      → outcome next (count number words >>= (λ _. ends_from inputs words >>= (λ ends. read >>= (λ value. Ok (node_of ends (make value))))))
+      ≡ lowest_by (node_of_count number [] (field ∷ []) inputs NoArea) words rest
+  with_choice number inputs field read make guards =
+      let grammar : Grammar = node_of_count number [] (field ∷ []) inputs NoArea in
+      outcome-step (count number words) _ _ _ next _ (guards-count number words) (λ _ _.
+      outcome-step (ends_from inputs words) _ _ _ next _ (guards-ends words inputs) (λ ends _.
+      outcome-step read _ _ _ next _ guards (λ value _.
+      same ends.name (make value) ends.inputs
+      ))
+      ∙ ends_before (is_name (word_at words 1)) (list_all is_name (drop inputs words)) (field.fits (word_at words field.index)) causes.Name (area_left grammar))
+
+  -- `node N OP NUMBER NUMBER IN`
+  with_numbers : {A B : Type 0} (a b : Field) (first : Result A ScriptCause) (second : Result B ScriptCause) (make : A → B → OpWords)
+      → Guards first (a.fits (word_at words a.index)) causes.Number → Guards second (b.fits (word_at words b.index)) causes.Number
+      → outcome next (count 6 words >>= (λ _. first >>= (λ x. second >>= (λ y. ends_from 5 words >>= (λ ends. Ok (node_of ends (make x y)))))))
+      ≡ lowest_by (node_of_count 6 (a ∷ b ∷ []) [] 5 NoArea) words rest
+  with_numbers a b first second make guards_first guards_second =
+      let grammar : Grammar = node_of_count 6 (a ∷ b ∷ []) [] 5 NoArea in
+      outcome-step (count 6 words) _ _ _ next _ (guards-count 6 words) (λ _ _.
+      outcome-step first _ _ _ next _ guards_first (λ x _.
+      outcome-step second _ _ _ next _ guards_second (λ y _.
+      outcome-step (ends_from 5 words) _ _ _ next _ (guards-ends words 5) (λ ends _.
+      same ends.name (make x y) ends.inputs
+      )
+      ∙ ends_alone (is_name (word_at words 1)) (list_all is_name (drop 5 words)) causes.Name (area_left grammar)))
+      ∙ two_fields (a.fits (word_at words a.index)) (b.fits (word_at words b.index)) causes.Number (names_left grammar))
+
   -- `node N source BUFFER`
   source-outcome : outcome next (source words) ≡ lowest_by (node_of_count 4 [] (name 3 ∷ []) 4 NoArea) words rest
-  source-outcome =
-      let grammar : Grammar = node_of_count 4 [] (name 3 ∷ []) 4 NoArea in
-      outcome-step (count 4 words) _ _ _ next _ (guards-count 4 words) (λ _ _.
-      outcome-step (ends_from 4 words) _ _ _ next _ (guards-ends words 4) (λ ends _.
-      outcome-step (name_at words 3) _ _ _ next _ (guards-name words 3) (λ buffer _.
-      same ends.name (Source buffer) ends.inputs
-      ))
-      ∙ ends_before (is_name (word_at words 1)) (list_all is_name (drop 4 words)) ((name 3).fits (word_at words 3)) causes.Name (area_left grammar))
+  source-outcome = with_choice 4 4 (name 3) (name_at words 3) (λ buffer. Source buffer) (guards-name words 3)
 
   -- `node N checker FORMAT X Y W H SIZE V1 V2`
   checker-outcome : outcome next (checker words) ≡ lowest_by (node_of_count 11 (natural 1 max_checker_size 8 ∷ sample 9 ∷ sample 10 ∷ coordinates 4) (format 3 ∷ []) 11 (Plain 4)) words rest
@@ -82,14 +105,7 @@ module _ (words : List (List ℕ)) (next : Command → Verdict) (rest : Verdict)
 
   -- `node N convert FORMAT IN`
   convert-outcome : outcome next (convert words) ≡ lowest_by (node_of_count 5 [] (format 3 ∷ []) 4 NoArea) words rest
-  convert-outcome =
-      let grammar : Grammar = node_of_count 5 [] (format 3 ∷ []) 4 NoArea in
-      outcome-step (count 5 words) _ _ _ next _ (guards-count 5 words) (λ _ _.
-      outcome-step (ends_from 4 words) _ _ _ next _ (guards-ends words 4) (λ ends _.
-      outcome-step (format_at words 3) _ _ _ next _ (guards-format words 3) (λ format _.
-      same ends.name (Convert format) ends.inputs
-      ))
-      ∙ ends_before (is_name (word_at words 1)) (list_all is_name (drop 4 words)) ((format 3).fits (word_at words 3)) causes.Name (area_left grammar))
+  convert-outcome = with_choice 5 4 (format 3) (format_at words 3) (λ format. Convert format) (guards-format words 3)
 
   -- `node N threshold T IN`
   threshold-outcome : outcome next (threshold words) ≡ lowest_by (node_of_count 5 (sample 3 ∷ []) [] 4 NoArea) words rest
@@ -105,29 +121,11 @@ module _ (words : List (List ℕ)) (next : Command → Verdict) (rest : Verdict)
 
   -- `node N gain NUM DEN IN`
   gain-outcome : outcome next (gain words) ≡ lowest_by (node_of_count 6 (sample 3 ∷ natural 1 max_sample 4 ∷ []) [] 5 NoArea) words rest
-  gain-outcome =
-      let grammar : Grammar = node_of_count 6 (sample 3 ∷ natural 1 max_sample 4 ∷ []) [] 5 NoArea in
-      outcome-step (count 6 words) _ _ _ next _ (guards-count 6 words) (λ _ _.
-      outcome-step (sample_at words 3) _ _ _ next _ (guards-sample words 3) (λ num _.
-      outcome-step (natural_at 1 max_sample words 4) _ _ _ next _ (guards-natural 1 max_sample words 4) (λ den _.
-      outcome-step (ends_from 5 words) _ _ _ next _ (guards-ends words 5) (λ ends _.
-      same ends.name (Gain num den) ends.inputs
-      )
-      ∙ ends_alone (is_name (word_at words 1)) (list_all is_name (drop 5 words)) causes.Name (area_left grammar)))
-      ∙ two_fields ((sample 3).fits (word_at words 3)) ((natural 1 max_sample 4).fits (word_at words 4)) causes.Number (names_left grammar))
+  gain-outcome = with_numbers (sample 3) (natural 1 max_sample 4) (sample_at words 3) (natural_at 1 max_sample words 4) (λ num den. Gain num den) (guards-sample words 3) (guards-natural 1 max_sample words 4)
 
   -- `node N translate DX DY IN`
   translate-outcome : outcome next (translate words) ≡ lowest_by (node_of_count 6 (move 3 ∷ move 4 ∷ []) [] 5 NoArea) words rest
-  translate-outcome =
-      let grammar : Grammar = node_of_count 6 (move 3 ∷ move 4 ∷ []) [] 5 NoArea in
-      outcome-step (count 6 words) _ _ _ next _ (guards-count 6 words) (λ _ _.
-      outcome-step (move_at words 3) _ _ _ next _ (guards-move words 3) (λ dx _.
-      outcome-step (move_at words 4) _ _ _ next _ (guards-move words 4) (λ dy _.
-      outcome-step (ends_from 5 words) _ _ _ next _ (guards-ends words 5) (λ ends _.
-      same ends.name (Translate dx dy) ends.inputs
-      )
-      ∙ ends_alone (is_name (word_at words 1)) (list_all is_name (drop 5 words)) causes.Name (area_left grammar)))
-      ∙ two_fields ((move 3).fits (word_at words 3)) ((move 4).fits (word_at words 4)) causes.Number (names_left grammar))
+  translate-outcome = with_numbers (move 3) (move 4) (move_at words 3) (move_at words 4) (λ dx dy. Translate dx dy) (guards-move words 3) (guards-move words 4)
 
   -- `node N crop X Y W H IN`
   crop-outcome : outcome next (crop words) ≡ lowest_by (node_of_count 8 (coordinates 3) [] 7 (Plain 3)) words rest
@@ -144,14 +142,7 @@ module _ (words : List (List ℕ)) (next : Command → Verdict) (rest : Verdict)
 
   -- `node N flip h IN` and `node N flip v IN`
   flip-outcome : outcome next (flip words) ≡ lowest_by (node_of_count 5 [] (direction 3 ∷ []) 4 NoArea) words rest
-  flip-outcome =
-      let grammar : Grammar = node_of_count 5 [] (direction 3 ∷ []) 4 NoArea in
-      outcome-step (count 5 words) _ _ _ next _ (guards-count 5 words) (λ _ _.
-      outcome-step (ends_from 4 words) _ _ _ next _ (guards-ends words 4) (λ ends _.
-      outcome-step (sideways_at words 3) _ _ _ next _ (guards-direction words 3) (λ sideways _.
-      same ends.name (Flip sideways) ends.inputs
-      ))
-      ∙ ends_before (is_name (word_at words 1)) (list_all is_name (drop 4 words)) ((direction 3).fits (word_at words 3)) causes.Name (area_left grammar))
+  flip-outcome = with_choice 5 4 (direction 3) (sideways_at words 3) (λ sideways. Flip sideways) (guards-direction words 3)
 
   -- `node N color FORMAT X Y W H S..`
   color-outcome : outcome next (color words) ≡ lowest_by color_grammar words rest

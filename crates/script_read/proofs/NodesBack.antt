@@ -23,21 +23,7 @@ use Rattle.script_read.specs.declared.operation_word.OperationWord.TheVariants a
 operation_of-word : (operation : OperationWord) → operation_of (operation_word operation) ≡ Some operation
 unfolding operation_of
 operation_of-word operations.Source = refl
-operation_of-word operations.Color = refl
-operation_of-word operations.Checker = refl
-operation_of-word operations.Convert = refl
-operation_of-word operations.Invert = refl
-operation_of-word operations.Threshold = refl
-operation_of-word operations.Gain = refl
-operation_of-word operations.Translate = refl
-operation_of-word operations.Crop = refl
-operation_of-word operations.Flip = refl
-operation_of-word operations.BoxMean = refl
-operation_of-word operations.Dilate = refl
-operation_of-word operations.Erode = refl
-operation_of-word operations.Add = refl
-operation_of-word operations.Over = refl
-operation_of-word operations.Mask = refl
+operation_of-word _ = refl
 
 ends_from-ends : (index : ℕ) (words : List (List ℕ)) (name : List ℕ) (inputs : List (List ℕ)) → word_at words 1 ≡ name → drop index words ≡ inputs →
     IsTrue (is_name name) → AreNames inputs → ends_from index words ≡ Ok (record { name = name; inputs = inputs })

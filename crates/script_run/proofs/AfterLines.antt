@@ -3,8 +3,8 @@ use Rattle.std.proofs.Common.{◌≡◌, ◌≢◌, ℕ, Bool, true, ◌||◌, L
 use Rattle.std.specs.Result.{IsErrAnd}
 use Rattle.chain_owners.specs.Counts.{Continues}
 use Rattle.outside_io.specs.Files.{Files}
-use Rattle.model_runs.specs.Built.{built_lines, first_unbuilt, needs_no_swap, plan_of_read}
-use Rattle.model_runs.specs.Ending.{Leaves, ended}
+use Rattle.model_runs.specs.Built.{built_lines, first_unbuilt, needs_no_swap}
+use Rattle.model_runs.specs.Ending.{Leaves}
 use Rattle.model_runs.specs.Ran.{bytes_put, tiles_of_run}
 use Rattle.model_runs.specs.Run.{Ending, Plan, effects, effects_of, events_in, files_after_all, no_ending, plan_of_lines, report, state_after}
 use Rattle.model_runs.specs.State.{RunState, first_state}

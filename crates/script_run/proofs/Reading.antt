@@ -9,7 +9,7 @@ use Rattle.model_runs.specs.Built.{first_unbuilt, needs_no_swap, plan_of_read, u
 use Rattle.model_runs.specs.Ending.{Leaves}
 use Rattle.model_runs.specs.Ran.{bytes_put, tiles_of_run}
 use Rattle.model_runs.specs.Run.{by_grammar, effects, lines_of_file, no_ending, outcome_of_effects, plan_of_lines, state_after}
-use Rattle.model_runs.specs.State.{Effect, RunState, first_state}
+use Rattle.model_runs.specs.State.{Effect, first_state}
 use Rattle.model_runs.specs.Swap.{effects_to_stop, tiles_in}
 use Rattle.model_runs.specs.Words.{Options}
 use Rattle.model_runs.specs.declared.ending.End.{End}

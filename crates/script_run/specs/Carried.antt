@@ -1,10 +1,10 @@
 -- What a run of a script that was read leaves.
-use Rattle.std.specs.Prelude.{◌≢◌, Bool, true, ◌||◌, List, [], min, ℕ, ◌^◌, Option, Some, Result, Err}
+use Rattle.std.specs.Prelude.{◌≢◌, Bool, true, ◌||◌, List, [], min, ℕ, Option, Result, Err}
 use Rattle.chain_handlers.specs.OwnedTiles.{counts_over}
 use Rattle.outside_io.specs.Files.{Files}
 use Rattle.model_runs.specs.Built.{built_job, needs_no_swap, plan_of_read}
 use Rattle.model_runs.specs.Ran.{bytes_put, tiles_of_run}
-use Rattle.model_runs.specs.Run.{Ending, events_in, files_after_all, no_ending, state_after}
+use Rattle.model_runs.specs.Run.{Ending, no_ending, state_after}
 use Rattle.model_runs.specs.State.{RunState, first_state}
 use Rattle.model_runs.specs.Words.{Options, default_options}
 use Rattle.model_runs.specs.declared.ending.End.{End}

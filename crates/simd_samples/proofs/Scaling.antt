@@ -7,7 +7,7 @@ use lib.Lanes.{zip2}
 use Rattle.simd_samples.specs.Lanes.{AreLanes}
 use Rattle.simd_samples.proofs.Arithmetic.{below_le, over, plus, same, shifted, splat_at, times}
 use Rattle.simd_samples.proofs.Pointwise.{Makes, Makes-from_four, Makes-from_lanes, Makes-from_two}
-use Rattle.simd_samples.proofs.Saturation.{Makes-minimum, min_of_longs, where_below}
+use Rattle.simd_samples.proofs.Saturation.{Makes-minimum, highest_of_longs, where_below}
 
 -- the products and sums of a vector
 abbrev pub multiplied : ℕ → List ℕ → List ℕ → List ℕ → List ℕ
@@ -125,6 +125,6 @@ Makes-divided m xs number offset divisor few p n o =
     let w : ℕ = 18446744073709551616 in
     let made = Makes-quotients m xs number offset divisor few p n o in
     let v = quotients xs number offset divisor in
-    let minimum = Makes-minimum 63 w (omega arith) v (replicate 16 m) made.0 (splat_lanes w m (omega arith)) min_of_longs in
+    let minimum = Makes-minimum 63 w highest_of_longs v (replicate 16 m) made.0 (splat_lanes w m (omega arith)) in
     Makes-from_lanes (m + 1) (limited v (replicate 16 m)) _ (omega arith) minimum.0.long
     (λ j lt. minimum.1 j lt ∙ ap (min (get_or v j 0)) (splat_at m j lt) ∙ ap (λ k. min k m) (made.1 j lt) ∙ omega arith) (λ j lt. omega arith)

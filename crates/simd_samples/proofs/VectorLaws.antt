@@ -1,8 +1,16 @@
 -- Samples that are written sixteen at a time.
-use Rattle.std.proofs.Common.{◌≡◌, ℕ, ◌+◌, ◌-◌, ◌<◌, List, ◌∙◌, inl, inr, subst, arith}
+use Rattle.std.proofs.Common.{◌≡◌, ℕ, ◌+◌, ◌-◌, ◌<◌, ◌≤◌, List, length, get_or, ap, ◌∙◌, inl, inr, subst, arith}
+use Rattle.std.specs.Simd.Lanes.{put_chunk}
 use Rattle.std.proofs.lemmas.Bool.{cases_lt}
+use Rattle.std.proofs.lemmas.Simd.{get_or-put_chunk_at}
 use Rattle.simd_samples.specs.Lanes.{Hold}
 use Rattle.pixel_formats.specs.Sample.{sample_at}
+
+-- sixteen lanes stored from a position on, seen as the numbers that they are
+pub stored-here : (from : ℕ) (dst lanes numbers : List ℕ) → length lanes ≡ 16 → lanes ≡ numbers → from + 16 ≤ length dst
+    → Hold (λ j. get_or (put_chunk from dst lanes) (from + j) 0) (λ j. get_or numbers j 0)
+stored-here from dst lanes numbers long is room = λ j lt.
+    get_or-put_chunk_at from dst lanes j 0 (omega (arith, long)) (omega (arith, long)) ∙ ap (λ l. get_or l j 0) is
 
 -- sixteen more of the samples s
 pub sixteen_more : (d n : ℕ) (old new : List ℕ) (lanes s : ℕ → ℕ) → ((i : ℕ) → i < n → sample_at d old i ≡ s i)

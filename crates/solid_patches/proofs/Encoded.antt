@@ -12,9 +12,10 @@ use Rattle.model_images.specs.Abyss.{abyss_at, nearest}
 use Rattle.model_images.specs.FromRaw.{byte_count, image_from_raw}
 use Rattle.model_images.specs.Image.{at, image_from_fn}
 use Rattle.model_images.specs.Raw.{sample_bytes}
-use Rattle.model_images.proofs.FromRawLaws.{at-image_from_raw, by_depth}
+use Rattle.model_images.proofs.FromRawLaws.{at-image_from_raw}
 use Rattle.model_images.proofs.Laws.{generated_equal}
 use Rattle.model_images.proofs.PolicyLaws.{clamp-everywhere}
+use Rattle.model_images.proofs.RawLaws.{encoded}
 
 length-sample : (d v : ℕ) → length (sample_bytes d v) ≡ d
 length-sample zero v = refl
@@ -26,30 +27,6 @@ length-encoded d [] = omega arith
 length-encoded d (v ∷ samples) =
     length-append (sample_bytes d v) (flat_map (sample_bytes d) samples)
     ∙ omega (arith, length-sample d v, length-encoded d samples)
-
--- the samples that the bytes of samples encode are these
-abbrev Encoded : ℕ → Type 0
-Encoded d = (samples : List ℕ) (i : ℕ) → sample_at d (flat_map (sample_bytes d) samples) i ≡ get_or samples i 0
-
-encoded-one : Encoded 1
-encoded-one [] i = refl
-encoded-one (s ∷ samples) zero = refl
-encoded-one (s ∷ samples) (suc i) = encoded-one samples i
-
-encoded-two : Encoded 2
-encoded-two [] i = refl
-encoded-two (s ∷ samples) zero = omega arith
-encoded-two (s ∷ samples) (suc i) =
-    let bytes = flat_map (sample_bytes 2) (s ∷ samples) in
-    let rest = flat_map (sample_bytes 2) samples in
-    let low : 2 * suc i ≡ suc (suc (2 * i)) = omega arith in
-    let high : 2 * suc i + 1 ≡ suc (suc (2 * i + 1)) = omega arith in
-    ap (λ (n : ℕ). get_or bytes n 0 + 256 * get_or bytes (2 * suc i + 1) 0) low
-    ∙ ap (λ (n : ℕ). get_or rest (2 * i) 0 + 256 * get_or bytes n 0) high
-    ∙ encoded-two samples i
-
-pub encoded : (format : Format) (samples : List ℕ) (i : ℕ) → sample_at (depth format) (flat_map (sample_bytes (depth format)) samples) i ≡ get_or samples i 0
-encoded format = by_depth Encoded encoded-one encoded-two format
 
 -- one position, at the plane's corner
 abbrev pub unit : Rectangle

@@ -5,14 +5,17 @@ use Rattle.std.specs.Result.{IsErrAnd}
 use Rattle.chain_owners.specs.Counts.{Counts, Grows}
 use Rattle.chain_owners.specs.Held.{Held, owners_of}
 use Rattle.chain_owners.specs.Owners.{Owns, Respects, times}
-use Rattle.chain_owners.proofs.Ownership.{owns-fewer, respects-beside, respects-both, times-append}
+use Rattle.chain_owners.specs.declared.chain_meaning.ChainMeaning.{Ghosts as Chains}
+use Rattle.chain_owners.proofs.Ownership.{others-own, others-unchanged, owns-fewer, respects-beside, respects-both, times-append}
 use Rattle.swap_store.specs.Cause.{HasSwapCause}
 use Rattle.swap_store.specs.declared.refusal.SwapRefused.{SwapRefused}
 use Rattle.swap_store.proofs.Causes.{cause-before, cause-more}
-use Rattle.node_cache.specs.Stores.{AddsNoOther, HaveOneOwner}
+use Rattle.op_contracts.specs.declared.source_tiles.SourceTiles.{Ghosts as Sources}
+use Rattle.node_cache.specs.Stores.{AddsNoOther, HaveOneOwner, IsFramedCondition}
+use Rattle.node_cache.specs.declared.pair_store.PairStore.{Ghosts as Stores}
 use Rattle.node_tiles.specs.Reads.{Reads, Seen, seen}
-use Rattle.node_tiles.proofs.Reading.{grows-both, reads-beside}
-use Rattle.strip_renders.specs.Moments.{Keeps, Moment, names_of}
+use Rattle.node_tiles.proofs.Reading.{grows-both, reads-beside, reads-others}
+use Rattle.strip_renders.specs.Moments.{AreOver, Keeps, Moment, moment, names_of}
 
 -- what a moment has of its source and its chain
 abbrev pub source_of : Moment → Seen
@@ -24,6 +27,24 @@ owns-turned held a b owns = owns-fewer held (a ++ b) (b ++ a) (λ q. omega (arit
 
 pub owns-last : (held : Held) (a b : List ℕ) → Owns held (a ++ b) → Owns held b
 owns-last held a b owns = owns-fewer held (a ++ b) b (λ q. omega (arith, times-append a b q)) owns
+
+-- what is asked of a chain by whoever wasn't called holds again
+condition-again : (a b : Held) (before after others : List ℕ) (condition : Held → Type 0) → IsFramedCondition others condition → Respects a b before after → Owns a (before ++ others)
+    → condition a → condition b
+condition-again a b before after others condition framed respects owns is =
+    framed a b is respects.exposed (others-unchanged a b before after respects others owns) (owns-last b after others (others-own a b before after respects others owns))
+
+-- tiles of the source were read, and the cache wasn't touched: they are over the chain again
+pub over-reads : {H S C : Type 0} (h : Chains H) (s : Sources S H) (c : Stores C H) (sources sources' : S) (cache : C) (chain chain' : H)
+    → IsFramedCondition (c.names cache) (c.is_over cache) → Reads (source_of (moment h s c sources cache chain)) (source_of (moment h s c sources' cache chain'))
+    → s.is_over sources' (h.held chain') → AreOver h s c sources cache chain → AreOver h s c sources' cache chain'
+over-reads h s c sources sources' cache chain chain' framed reads source over =
+    let others = reads-others (source_of (moment h s c sources cache chain)) (source_of (moment h s c sources' cache chain')) reads in
+    record {
+      sources_over = source;
+      cache_over = condition-again (h.held chain) (h.held chain') (s.names sources) (s.names sources') (c.names cache) (c.is_over cache) framed others over.owned over.cache_over;
+      owned = others-own (h.held chain) (h.held chain') (s.names sources) (s.names sources') others (c.names cache) over.owned;
+    }
 
 -- tiles of the source were read, and the cache wasn't touched
 pub keeps-reads : (old new : Moment) → Reads (source_of old) (source_of new) → new.capacity ≡ old.capacity → new.cache_names ≡ old.cache_names → Keeps 0 old new
@@ -54,6 +75,19 @@ pub record Turns (added : ℕ) (old new : Moment) : Type 0 where
   pub counts : Grows added old.counts new.counts
   pub loans : new.loans ≡ old.loans
   pub capacity : new.capacity ≡ old.capacity
+
+-- the cache was called, and the source wasn't touched: they are over the chain again
+pub over-turns : {H S C : Type 0} (h : Chains H) (s : Sources S H) (c : Stores C H) (sources : S) (cache cache' : C) (chain chain' : H) (added : ℕ)
+    → IsFramedCondition (s.names sources) (s.is_over sources) → Turns added (moment h s c sources cache chain) (moment h s c sources cache' chain')
+    → c.is_over cache' (h.held chain') → AreOver h s c sources cache chain → AreOver h s c sources cache' chain'
+over-turns h s c sources cache cache' chain chain' added framed turns again over =
+    let turned = owns-turned (h.held chain) (s.names sources) (c.names cache) over.owned in
+    record {
+      sources_over = condition-again (h.held chain) (h.held chain') (c.names cache) (c.names cache') (s.names sources) (s.is_over sources) framed turns.others turned over.sources_over;
+      cache_over = again;
+      owned = owns-turned (h.held chain') (c.names cache') (s.names sources)
+          (others-own (h.held chain) (h.held chain') (c.names cache) (c.names cache') turns.others (s.names sources) turned);
+    }
 
 -- the cache was called, and the source wasn't touched
 pub keeps-turns : (added : ℕ) (old new : Moment) → Turns added old new → new.facts ≡ old.facts → new.images ≡ old.images → new.source_names ≡ old.source_names → Keeps added old new

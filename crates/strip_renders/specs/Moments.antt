@@ -3,11 +3,14 @@ use Rattle.std.specs.Prelude.{◌≡◌, ℕ, ◌++◌, List, Option}
 use Rattle.std.specs.Borrow.{GName}
 use Rattle.chain_owners.specs.Counts.{Counts, Grows}
 use Rattle.chain_owners.specs.Held.{Held}
-use Rattle.chain_owners.specs.Owners.{Respects}
+use Rattle.chain_owners.specs.Owners.{Owns, Respects}
+use Rattle.chain_owners.specs.declared.chain_meaning.ChainMeaning.{Ghosts as Chains}
 use Rattle.model_graphs.specs.Evaluation.{Buffers}
 use Rattle.model_graphs.specs.Facts.{Facts}
 use Rattle.model_states.specs.Cache.{Cached, Pair}
+use Rattle.op_contracts.specs.declared.source_tiles.SourceTiles.{Ghosts as Sources}
 use Rattle.node_cache.specs.Stores.{AddsNoOther, HaveOneOwner, Sized}
+use Rattle.node_cache.specs.declared.pair_store.PairStore.{Ghosts as Stores}
 
 -- What a source of tiles is seen as over a chain, what a cache is seen as over it, and what the chain is seen as.
 pub record Moment : Type 0 where
@@ -23,20 +26,27 @@ pub record Moment : Type 0 where
   pub counts : Counts
   pub loans : List GName
 
-abbrev pub moment : Facts → Option Buffers → List ℕ → List Pair → List Sized → Option (List Cached) → Option ℕ → List ℕ → Held → Counts → List GName → Moment
-moment facts images source_names pairs sizes cached capacity cache_names held counts loans = record {
-  facts = facts;
-  images = images;
-  source_names = source_names;
-  pairs = pairs;
-  sizes = sizes;
-  cached = cached;
-  capacity = capacity;
-  cache_names = cache_names;
-  held = held;
-  counts = counts;
-  loans = loans;
+-- what these are seen as, by what their types mean
+abbrev pub moment : {H S C : Type 0} → Chains H → Sources S H → Stores C H → S → C → H → Moment
+moment h s c sources cache chain = record {
+  facts = s.facts sources;
+  images = s.images sources (h.held chain);
+  source_names = s.names sources;
+  pairs = c.pairs cache;
+  sizes = c.sizes cache (h.held chain);
+  cached = c.cached cache (h.held chain);
+  capacity = c.capacity cache;
+  cache_names = c.names cache;
+  held = h.held chain;
+  counts = h.counts chain;
+  loans = h.loans chain;
 }
+
+-- A source of tiles and a cache are over a chain: it has what either asks of it, and they own the names that they hold.
+pub record AreOver {H S C : Type 0} (h : Chains H) (s : Sources S H) (c : Stores C H) (sources : S) (cache : C) (chain : H) : Type 0 where
+  pub sources_over : s.is_over sources (h.held chain)
+  pub cache_over : c.is_over cache (h.held chain)
+  pub owned : Owns (h.held chain) (s.names sources ++ c.names cache)
 
 -- the names of both, each as often as they hold it
 abbrev pub names_of : Moment → List ℕ

@@ -5,16 +5,23 @@ use Rattle.indexmap.specs.IndexMap.{insert_entry}
 use Rattle.plane_rect.specs.Rectangle.{Rectangle}
 use Rattle.model_graphs.specs.declared.node.NodeFact.{NodeFact}
 use Rattle.model_graphs.specs.Evaluation.{Buffers}
-use Rattle.model_graphs.specs.Facts.{specs_of, stated_shapes}
+use Rattle.model_graphs.specs.Facts.{Facts, shapes_of_facts, specs_of, stated_shapes}
 use Rattle.model_graphs.specs.Meanings.{Meanings}
 use Rattle.model_graphs.specs.Node.{index_of}
 use Rattle.model_states.specs.declared.strip.Strip.{Strip}
 use Rattle.model_states.specs.Cache.{AreRight, Cached, Counted, IsPairOf, Pair, all_looked_up, by_pair, itself, pair_of, uncounted, with_bytes}
 use Rattle.model_states.specs.Need.{Needed, need}
+use Rattle.model_states.specs.Valid.{AreStated}
+use Rattle.roi_planner.specs.Inputs.{Inputs, all_inputs}
 use Rattle.node_cache.specs.Stores.{Sized}
 use Rattle.node_tiles.specs.Held.{HeldTiles, held_bytes, node_tile, same_node_tile}
 use Rattle.node_tiles.specs.Stated.{AreTilesOf, HaveLengths, length_at, scene_of}
 use Rattle.strip_renders.specs.Moments.{Moment}
+
+-- The nodes are stated over these facts of buffers, and each of them has these inputs.
+pub record AreStatedWith {Op : Type 0} (meanings : Meanings Op) (buffers : Facts) (facts : List (NodeFact Op)) (inputs : List Inputs) : Type 0 where
+  pub nodes : AreStated meanings (shapes_of_facts buffers) facts
+  pub inputs_are : inputs ≡ all_inputs facts
 
 -- the strip is one of those of a request for some node
 abbrev pub IsStripOf : {Op : Type 0} → Meanings Op → List (NodeFact Op) → Strip → Type 0

@@ -2,23 +2,20 @@
 
 ghost use Rattle.std.specs.Prelude.{◌≡◌, ℕ, ◌+◌, ◌<◌, ◌≤◌, [], IfErr, IfOk, IsTrue, MatchResult, Some, drop, length, take};
 ghost use Rattle.model_graphs.specs.Evaluation.{Buffers};
-ghost use Rattle.model_graphs.specs.Facts.{shapes_of_facts};
-ghost use Rattle.model_states.specs.Valid.{AreStated};
 ghost use Rattle.swap_store.specs.Cause.{HasSwapCause};
-ghost use Rattle.roi_planner.specs.Inputs.{all_inputs};
 ghost use Rattle.node_tiles.specs.Reads.{Reads, seen};
 ghost use Rattle.node_tiles.specs.Stated.{AreTilesOf};
 ghost use Rattle.strip_renders.specs.Ahead.{AreAhead, AreMadeOf, AreOfOneNode, IsTaken};
-ghost use Rattle.strip_renders.specs.Strips.{HoldsNeed, IsStripOf};
+ghost use Rattle.strip_renders.specs.Strips.{AreStatedWith, HoldsNeed, IsStripOf};
 
+use crate::evaluator::Evaluator;
 use crate::jobs::{apply_jobs, tile_jobs};
 use chain_owners::ChainMeaning;
-use model_graphs::NodeFact;
 use node_cache::PairStore;
 use node_tiles::StripTiles;
 use op_contracts::{OpKit, SourceTiles};
 use plane_rect::TileAt;
-use roi_planner::{NodeInputs, Strip};
+use roi_planner::Strip;
 use std::alloc::Global;
 use std::collections::VecDeque;
 use std::marker::Model;
@@ -105,17 +102,8 @@ fn batch_end(need: &[(u32, TileAt)], index: usize) -> usize
 ///
 /// `SwapFault` only where the swap's count of I/O errors rose in this call, `SwapFull` only where the chain's names can
 /// fill the swap, and `NoMemory` if memory runs out. Some of the permits may then be spent.
-pub(crate) fn look_ahead<
-    H: ChainMeaning,
-    S: SourceTiles<H>,
-    C: PairStore<H>,
-    K: OpKit + Sync,
-    R: Threads + Sync,
->(
-    kit: &K,
-    alloc: Global,
-    nodes: &[NodeFact<K::Op>],
-    inputs: &[NodeInputs],
+pub(crate) fn look_ahead<H: ChainMeaning, S: SourceTiles<H>, C: PairStore<H>, K: OpKit + Sync, R>(
+    by: &Evaluator<'_, K>,
     held: &StripTiles,
     sources: &mut S,
     cache: &C,
@@ -129,18 +117,18 @@ pub(crate) fn look_ahead<
 where
     K::Op: Sync,
     K::Permit: Send,
-    requires stated { AreStated K.Op.meanings (shapes_of_facts (S.facts sources.old)) nodes.now }
-    requires inputs { inputs.now ≡ all_inputs nodes.now }
-    requires strip { IsStripOf K.Op.meanings nodes.now strip.now }
+    R: Threads + Sync,
+    requires stated { AreStatedWith K.Op.meanings (S.facts sources.old) by.now.nodes.now by.now.inputs.now }
+    requires strip { IsStripOf K.Op.meanings by.now.nodes.now strip.now }
     requires index { index < length strip.now.need }
-    requires held { HoldsNeed nodes.now (take index strip.now.need) held.now }
+    requires held { HoldsNeed by.now.nodes.now (take index strip.now.need) held.now }
     requires over { S.is_over sources.old (H.held chain.old) }
-    requires ahead { AreAhead nodes.now (C.pairs cache.now) (drop index strip.now.need) ahead.old }
+    requires ahead { AreAhead by.now.nodes.now (C.pairs cache.now) (drop index strip.now.need) ahead.old }
     requires permits { length strip.now.need ≤ K.permits purse.old + length ahead.old + index }
-    ensures ahead { IfOk result (λ _. AreAhead nodes.now (C.pairs cache.now) (drop index strip.now.need) ahead.new) }
+    ensures ahead { IfOk result (λ _. AreAhead by.now.nodes.now (C.pairs cache.now) (drop index strip.now.need) ahead.new) }
     ensures bytes { (images : Buffers) → S.images sources.old (H.held chain.old) ≡ Some images →
-        AreTilesOf K.Op.meanings nodes.now images held.now → AreMadeOf K.Op.meanings nodes.now images ahead.old →
-        IfOk result (λ _. AreMadeOf K.Op.meanings nodes.now images ahead.new) }
+        AreTilesOf K.Op.meanings by.now.nodes.now images held.now → AreMadeOf K.Op.meanings by.now.nodes.now images ahead.old →
+        IfOk result (λ _. AreMadeOf K.Op.meanings by.now.nodes.now images ahead.new) }
     ensures permits { MatchResult result
         (λ _. (K.permits purse.new ≤ K.permits purse.old)
         × (K.permits purse.new + length ahead.new ≡ K.permits purse.old + length ahead.old))
@@ -159,10 +147,8 @@ where
     let need = strip.need.as_slice();
     let end = batch_end(need, index);
     let batch = &need[index..end];
-    let jobs = tile_jobs(
-        kit, alloc, nodes, inputs, held, sources, cache, chain, purse, batch,
-    )?;
-    let made = apply_jobs(kit, alloc, nodes, inputs, jobs, workers)?;
+    let jobs = tile_jobs(by, held, sources, cache, chain, purse, batch)?;
+    let made = apply_jobs(by.kit, by.alloc, by.nodes, by.inputs, jobs, workers)?;
     *ahead = AheadTiles {
         tiles: VecDeque::from_vec(made),
         end,

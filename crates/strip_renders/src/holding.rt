@@ -1,28 +1,23 @@
 //! One needed tile of a strip, held.
 
-ghost use Rattle.std.specs.Prelude.{◌≡◌, [], ℕ, ◌∷◌, ◌+◌, ◌<◌, ◌≤◌, ◌++◌, IfErr, IfOk, List, MatchResult, Some};
-ghost use Rattle.chain_owners.specs.Owners.{Owns};
+ghost use Rattle.std.specs.Prelude.{◌≡◌, [], ℕ, ◌∷◌, ◌+◌, ◌<◌, ◌≤◌, IfErr, IfOk, List, MatchResult, Some};
 ghost use Rattle.model_graphs.specs.Evaluation.{Buffers};
-ghost use Rattle.model_graphs.specs.Facts.{shapes_of_facts, specs_of, stated_shapes};
+ghost use Rattle.model_graphs.specs.Facts.{specs_of, stated_shapes};
 ghost use Rattle.model_states.specs.Cache.{AreRight, Cached, IsPairOf, pair_of};
-ghost use Rattle.model_states.specs.Valid.{AreStated};
 ghost use Rattle.swap_store.specs.Cause.{HasSwapCause};
-ghost use Rattle.roi_planner.specs.Inputs.{all_inputs};
 ghost use Rattle.node_tiles.specs.Stated.{AreTilesOf, HaveLengths, IsReady, scene_of};
 ghost use Rattle.strip_renders.specs.Ahead.{IsMade, IsMadeOf, IsPermitted, IsRefusedAt, permits_of};
 ghost use Rattle.strip_renders.specs.Looks.{IsRecent};
-ghost use Rattle.strip_renders.specs.Moments.{Keeps, moment};
-ghost use Rattle.strip_renders.specs.Strips.{AreKnownRight, AreSizedPairs, HoldsMore, IsRendered};
+ghost use Rattle.strip_renders.specs.Moments.{AreOver, Keeps, moment};
+ghost use Rattle.strip_renders.specs.Strips.{AreKnownRight, AreSizedPairs, AreStatedWith, HoldsMore, IsRendered};
 
+use crate::evaluator::Evaluator;
 use crate::needed::needed_tile;
 use chain_owners::ChainMeaning;
-use model_graphs::NodeFact;
 use node_cache::PairStore;
 use node_tiles::StripTiles;
 use op_contracts::{OpKit, SourceTiles};
 use plane_rect::TileAt;
-use roi_planner::NodeInputs;
-use std::alloc::Global;
 use swap_store::SwapRefused;
 use tile_cow::Tile;
 
@@ -35,10 +30,7 @@ use tile_cow::Tile;
 /// chain's names and one more can fill the swap, and `NoMemory` if memory runs out. The cached pairs are
 /// then right where they were, and a permit may be spent.
 pub(crate) fn hold_needed<H: ChainMeaning, S: SourceTiles<H>, C: PairStore<H>, K: OpKit + Sync>(
-    kit: &K,
-    alloc: Global,
-    nodes: &[NodeFact<K::Op>],
-    inputs: &[NodeInputs],
+    by: &Evaluator<'_, K>,
     tiles: &mut StripTiles,
     sources: &mut S,
     cache: &mut C,
@@ -51,49 +43,43 @@ pub(crate) fn hold_needed<H: ChainMeaning, S: SourceTiles<H>, C: PairStore<H>, K
 where
     K::Op: Sync,
     K::Permit: Send,
-    requires stated { AreStated K.Op.meanings (shapes_of_facts (S.facts sources.old)) nodes.now }
-    requires inputs { inputs.now ≡ all_inputs nodes.now }
-    requires ready { IsReady K.Op.meanings nodes.now tiles.old node at }
-    requires of_nodes { IsPairOf (specs_of nodes.now) (stated_shapes nodes.now) (pair_of (specs_of nodes.now) (node, at)) }
-    requires lengths { HaveLengths nodes.now tiles.old }
-    requires sources_over { S.is_over sources.old (H.held chain.old) }
-    requires cache_over { C.is_over cache.old (H.held chain.old) }
-    requires owned { Owns (H.held chain.old) (S.names sources.old ++ C.names cache.old) }
-    requires sized { AreSizedPairs nodes.now (C.sizes cache.old (H.held chain.old)) }
-    requires made { IsMade nodes.now (C.pairs cache.old) (node, at) made }
+    requires over { AreOver H.ChainMeaning S.SourceTiles C.PairStore sources.old cache.old chain.old }
+    requires sized { AreSizedPairs by.now.nodes.now (C.sizes cache.old (H.held chain.old)) }
+    requires made { IsMade by.now.nodes.now (C.pairs cache.old) (node, at) made }
     requires permits { 0 < K.permits purse.old + permits_of made }
-    ensures held { IfOk result (λ _. HoldsMore nodes.now (node, at) tiles.old tiles.new) }
+    requires stated { AreStatedWith K.Op.meanings (S.facts sources.old) by.now.nodes.now by.now.inputs.now }
+    requires ready { IsReady K.Op.meanings by.now.nodes.now tiles.old node at }
+    requires of_nodes { IsPairOf (specs_of by.now.nodes.now) (stated_shapes by.now.nodes.now) (pair_of (specs_of by.now.nodes.now) (node, at)) }
+    requires lengths { HaveLengths by.now.nodes.now tiles.old }
+    ensures held { IfOk result (λ _. HoldsMore by.now.nodes.now (node, at) tiles.old tiles.new) }
     ensures recent { IfOk result (λ found. IsRecent
-        (moment (S.facts sources.old) (S.images sources.old (H.held chain.old)) (S.names sources.old) (C.pairs cache.old) (C.sizes cache.old (H.held chain.old)) (C.cached cache.old (H.held chain.old)) (C.capacity cache.old) (C.names cache.old) (H.held chain.old) (H.counts chain.old) (H.loans chain.old))
-        (moment (S.facts sources.new) (S.images sources.new (H.held chain.new)) (S.names sources.new) (C.pairs cache.new) (C.sizes cache.new (H.held chain.new)) (C.cached cache.new (H.held chain.new)) (C.capacity cache.new) (C.names cache.new) (H.held chain.new) (H.counts chain.new) (H.loans chain.new))
-        (pair_of (specs_of nodes.now) (node, at)) found) }
+        (moment H.ChainMeaning S.SourceTiles C.PairStore sources.old cache.old chain.old)
+        (moment H.ChainMeaning S.SourceTiles C.PairStore sources.new cache.new chain.new)
+        (pair_of (specs_of by.now.nodes.now) (node, at)) found) }
     ensures bytes { (images : Buffers) (list : List Cached) → S.images sources.old (H.held chain.old) ≡ Some images →
-        AreTilesOf K.Op.meanings nodes.now images tiles.old →
-        IsMadeOf K.Op.meanings nodes.now images (node, at) made →
-        C.cached cache.old (H.held chain.old) ≡ Some list → AreRight K.Op.meanings (scene_of nodes.now images) list →
-        IfOk result (λ _. IsRendered K.Op.meanings nodes.now images
-        (moment (S.facts sources.old) (S.images sources.old (H.held chain.old)) (S.names sources.old) (C.pairs cache.old) (C.sizes cache.old (H.held chain.old)) (C.cached cache.old (H.held chain.old)) (C.capacity cache.old) (C.names cache.old) (H.held chain.old) (H.counts chain.old) (H.loans chain.old))
-        (moment (S.facts sources.new) (S.images sources.new (H.held chain.new)) (S.names sources.new) (C.pairs cache.new) (C.sizes cache.new (H.held chain.new)) (C.cached cache.new (H.held chain.new)) (C.capacity cache.new) (C.names cache.new) (H.held chain.new) (H.counts chain.new) (H.loans chain.new))
-        list (pair_of (specs_of nodes.now) (node, at) ∷ []) tiles.new) }
+        AreTilesOf K.Op.meanings by.now.nodes.now images tiles.old →
+        IsMadeOf K.Op.meanings by.now.nodes.now images (node, at) made →
+        C.cached cache.old (H.held chain.old) ≡ Some list → AreRight K.Op.meanings (scene_of by.now.nodes.now images) list →
+        IfOk result (λ _. IsRendered K.Op.meanings by.now.nodes.now images
+        (moment H.ChainMeaning S.SourceTiles C.PairStore sources.old cache.old chain.old)
+        (moment H.ChainMeaning S.SourceTiles C.PairStore sources.new cache.new chain.new)
+        list (pair_of (specs_of by.now.nodes.now) (node, at) ∷ []) tiles.new) }
     ensures right { (images : Buffers) → S.images sources.old (H.held chain.old) ≡ Some images →
-        AreTilesOf K.Op.meanings nodes.now images tiles.old →
-        IsMadeOf K.Op.meanings nodes.now images (node, at) made →
-        AreKnownRight K.Op.meanings nodes.now images (C.cached cache.old (H.held chain.old)) →
-        AreKnownRight K.Op.meanings nodes.now images (C.cached cache.new (H.held chain.new)) }
-    ensures sized { AreSizedPairs nodes.now (C.sizes cache.new (H.held chain.new)) }
+        AreTilesOf K.Op.meanings by.now.nodes.now images tiles.old →
+        IsMadeOf K.Op.meanings by.now.nodes.now images (node, at) made →
+        AreKnownRight K.Op.meanings by.now.nodes.now images (C.cached cache.old (H.held chain.old)) →
+        AreKnownRight K.Op.meanings by.now.nodes.now images (C.cached cache.new (H.held chain.new)) }
+    ensures sized { AreSizedPairs by.now.nodes.now (C.sizes cache.new (H.held chain.new)) }
     ensures permits { MatchResult result (λ found. IsPermitted (K.permits purse.old) (K.permits purse.new) made found)
         (λ _. IsRefusedAt (K.permits purse.old) (K.permits purse.new) made) }
     ensures keeps { Keeps 1
-        (moment (S.facts sources.old) (S.images sources.old (H.held chain.old)) (S.names sources.old) (C.pairs cache.old) (C.sizes cache.old (H.held chain.old)) (C.cached cache.old (H.held chain.old)) (C.capacity cache.old) (C.names cache.old) (H.held chain.old) (H.counts chain.old) (H.loans chain.old))
-        (moment (S.facts sources.new) (S.images sources.new (H.held chain.new)) (S.names sources.new) (C.pairs cache.new) (C.sizes cache.new (H.held chain.new)) (C.cached cache.new (H.held chain.new)) (C.capacity cache.new) (C.names cache.new) (H.held chain.new) (H.counts chain.new) (H.loans chain.new)) }
-    ensures sources_over { S.is_over sources.new (H.held chain.new) }
-    ensures cache_over { C.is_over cache.new (H.held chain.new) }
+        (moment H.ChainMeaning S.SourceTiles C.PairStore sources.old cache.old chain.old)
+        (moment H.ChainMeaning S.SourceTiles C.PairStore sources.new cache.new chain.new) }
+    ensures over { AreOver H.ChainMeaning S.SourceTiles C.PairStore sources.new cache.new chain.new }
     ensures valid { H.is_valid chain.old → H.is_valid chain.new }
     ensures cause { IfErr result (HasSwapCause (H.counts chain.old) (H.counts chain.new) ((H.counts chain.old).names + 1)) }
 {
-    let (tile, found) = needed_tile(
-        kit, alloc, nodes, inputs, tiles, sources, cache, chain, purse, node, at, made,
-    )?;
+    let (tile, found) = needed_tile(by, tiles, sources, cache, chain, purse, node, at, made)?;
     tiles.hold(node, at, tile)?;
     Ok(found)
 }

@@ -3,17 +3,17 @@
 ghost use Rattle.std.specs.Prelude.{◌≡◌, ℕ, ◌+◌, ◌<◌, ◌≤◌, ◌++◌, [], ◌∷◌, IfErr, IfOk, List, MatchResult, Some, length, map};
 ghost use Rattle.std.specs.List.{AllByRecursion};
 ghost use Rattle.model_graphs.specs.Evaluation.{Buffers};
-ghost use Rattle.model_graphs.specs.Facts.{shapes_of_facts};
 ghost use Rattle.model_graphs.specs.Permits.{Spent};
 ghost use Rattle.model_states.specs.Need.{Needed};
-ghost use Rattle.model_states.specs.Valid.{AreStated};
-ghost use Rattle.swap_store.specs.Cause.{HasSwapCause};
-ghost use Rattle.roi_planner.specs.Inputs.{all_inputs};
 ghost use Rattle.node_tiles.specs.Jobs.{IsTileJob};
 ghost use Rattle.node_tiles.specs.Reads.{Reads, seen};
 ghost use Rattle.node_tiles.specs.Stated.{AreTilesOf, HaveLengths, IsReady};
+ghost use Rattle.roi_planner.specs.Inputs.{all_inputs};
 ghost use Rattle.strip_renders.specs.Ahead.{AreJobs, AreJobsOf, AreReady, made_of};
+ghost use Rattle.strip_renders.specs.Strips.{AreStatedWith};
+ghost use Rattle.swap_store.specs.Cause.{HasSwapCause};
 
+use crate::evaluator::Evaluator;
 use chain_owners::ChainMeaning;
 use model_graphs::NodeFact;
 use no_memory::NoMemory;
@@ -35,10 +35,7 @@ use worker_pieces::Workers;
 /// `SwapFault` only where the swap's count of I/O errors rose in this call, `SwapFull` only where the chain's names can
 /// fill the swap, and `NoMemory` if memory runs out. A permit may then be spent.
 fn add_job<H: ChainMeaning, S: SourceTiles<H>, C: PairStore<H>, K: OpKit>(
-    kit: &K,
-    alloc: Global,
-    nodes: &[NodeFact<K::Op>],
-    inputs: &[NodeInputs],
+    by: &Evaluator<'_, K>,
     held: &StripTiles,
     sources: &mut S,
     cache: &C,
@@ -48,17 +45,16 @@ fn add_job<H: ChainMeaning, S: SourceTiles<H>, C: PairStore<H>, K: OpKit>(
     at: TileAt,
     jobs: &mut Vec<TileJob<K::Permit>>,
 ) -> Result<(), SwapRefused>
-    requires stated { AreStated K.Op.meanings (shapes_of_facts (S.facts sources.old)) nodes.now }
-    requires inputs { inputs.now ≡ all_inputs nodes.now }
-    requires ready { IsReady K.Op.meanings nodes.now held.now node at }
-    requires lengths { HaveLengths nodes.now held.now }
+    requires stated { AreStatedWith K.Op.meanings (S.facts sources.old) by.now.nodes.now by.now.inputs.now }
+    requires ready { IsReady K.Op.meanings by.now.nodes.now held.now node at }
+    requires lengths { HaveLengths by.now.nodes.now held.now }
     requires over { S.is_over sources.old (H.held chain.old) }
     requires permits { 0 < K.permits purse.old }
-    ensures jobs { (needed : List Needed) → AreJobs K.Op.meanings nodes.now (C.pairs cache.now) needed jobs.old.items →
-        IfOk result (λ _. AreJobs K.Op.meanings nodes.now (C.pairs cache.now) (needed ++ (node, at) ∷ []) jobs.new.items) }
+    ensures jobs { (needed : List Needed) → AreJobs K.Op.meanings by.now.nodes.now (C.pairs cache.now) needed jobs.old.items →
+        IfOk result (λ _. AreJobs K.Op.meanings by.now.nodes.now (C.pairs cache.now) (needed ++ (node, at) ∷ []) jobs.new.items) }
     ensures bytes { (images : Buffers) → S.images sources.old (H.held chain.old) ≡ Some images →
-        AreTilesOf K.Op.meanings nodes.now images held.now → AreJobsOf K.Op.meanings nodes.now images jobs.old.items →
-        IfOk result (λ _. AreJobsOf K.Op.meanings nodes.now images jobs.new.items) }
+        AreTilesOf K.Op.meanings by.now.nodes.now images held.now → AreJobsOf K.Op.meanings by.now.nodes.now images jobs.old.items →
+        IfOk result (λ _. AreJobsOf K.Op.meanings by.now.nodes.now images jobs.new.items) }
     ensures permits { MatchResult result
         (λ _. K.permits purse.new + length jobs.new.items ≡ K.permits purse.old + length jobs.old.items)
         (λ _. (K.permits purse.new ≤ K.permits purse.old) × (K.permits purse.old ≤ K.permits purse.new + 1)) }
@@ -69,12 +65,13 @@ fn add_job<H: ChainMeaning, S: SourceTiles<H>, C: PairStore<H>, K: OpKit>(
     ensures cause { IfErr result (HasSwapCause (H.counts chain.old) (H.counts chain.new) (H.counts chain.old).names) }
     ensures valid { H.is_valid chain.old → H.is_valid chain.new }
 {
+    let nodes = by.nodes;
     let fact = &nodes[node as usize];
     if cache.has(fact.spec.name, at) {
         return Ok(());
     }
     let job = tile_job(
-        kit, alloc, nodes, inputs, held, sources, chain, purse, node, at,
+        by.kit, by.alloc, by.nodes, by.inputs, held, sources, chain, purse, node, at,
     )?;
     jobs.push(job)?;
     Ok(())
@@ -88,10 +85,7 @@ fn add_job<H: ChainMeaning, S: SourceTiles<H>, C: PairStore<H>, K: OpKit>(
 /// `SwapFault` only where the swap's count of I/O errors rose in this call, `SwapFull` only where the chain's names can
 /// fill the swap, and `NoMemory` if memory runs out. Some of the permits may then be spent.
 pub(crate) fn tile_jobs<H: ChainMeaning, S: SourceTiles<H>, C: PairStore<H>, K: OpKit>(
-    kit: &K,
-    alloc: Global,
-    nodes: &[NodeFact<K::Op>],
-    inputs: &[NodeInputs],
+    by: &Evaluator<'_, K>,
     held: &StripTiles,
     sources: &mut S,
     cache: &C,
@@ -99,16 +93,15 @@ pub(crate) fn tile_jobs<H: ChainMeaning, S: SourceTiles<H>, C: PairStore<H>, K: 
     purse: &mut K::Purse,
     batch: &[(u32, TileAt)],
 ) -> Result<Vec<TileJob<K::Permit>>, SwapRefused>
-    requires stated { AreStated K.Op.meanings (shapes_of_facts (S.facts sources.old)) nodes.now }
-    requires inputs { inputs.now ≡ all_inputs nodes.now }
-    requires ready { AreReady K.Op.meanings nodes.now held.now batch.now }
-    requires lengths { HaveLengths nodes.now held.now }
+    requires stated { AreStatedWith K.Op.meanings (S.facts sources.old) by.now.nodes.now by.now.inputs.now }
+    requires ready { AreReady K.Op.meanings by.now.nodes.now held.now batch.now }
+    requires lengths { HaveLengths by.now.nodes.now held.now }
     requires over { S.is_over sources.old (H.held chain.old) }
     requires permits { length batch.now ≤ K.permits purse.old }
-    ensures jobs { IfOk result (λ jobs. AreJobs K.Op.meanings nodes.now (C.pairs cache.now) batch.now jobs.items) }
+    ensures jobs { IfOk result (λ jobs. AreJobs K.Op.meanings by.now.nodes.now (C.pairs cache.now) batch.now jobs.items) }
     ensures bytes { (images : Buffers) → S.images sources.old (H.held chain.old) ≡ Some images →
-        AreTilesOf K.Op.meanings nodes.now images held.now →
-        IfOk result (λ jobs. AreJobsOf K.Op.meanings nodes.now images jobs.items) }
+        AreTilesOf K.Op.meanings by.now.nodes.now images held.now →
+        IfOk result (λ jobs. AreJobsOf K.Op.meanings by.now.nodes.now images jobs.items) }
     ensures permits { MatchResult result (λ jobs. Spent (K.permits purse.old) (K.permits purse.new) (length jobs.items))
         (λ _. (K.permits purse.new ≤ K.permits purse.old) × (K.permits purse.old ≤ K.permits purse.new + length batch.now)) }
     ensures over { S.is_over sources.new (H.held chain.new) }
@@ -118,11 +111,10 @@ pub(crate) fn tile_jobs<H: ChainMeaning, S: SourceTiles<H>, C: PairStore<H>, K: 
     ensures cause { IfErr result (HasSwapCause (H.counts chain.old) (H.counts chain.new) (H.counts chain.old).names) }
     ensures valid { H.is_valid chain.old → H.is_valid chain.new }
 {
-    let mut jobs = Vec::new(alloc);
+    let mut jobs = Vec::new(by.alloc);
     for entry in batch {
         add_job(
-            kit, alloc, nodes, inputs, held, sources, cache, chain, purse, entry.0, entry.1,
-            &mut jobs,
+            by, held, sources, cache, chain, purse, entry.0, entry.1, &mut jobs,
         )?;
     }
     Ok(jobs)

@@ -3,6 +3,7 @@
 #![tactic(auto)]
 
 mod ahead;
+mod evaluator;
 mod fresh;
 mod holding;
 mod jobs;
@@ -10,4 +11,5 @@ mod needed;
 mod strip;
 mod turns;
 
+pub use evaluator::Evaluator;
 pub use strip::{StripDone, render_strip};

@@ -1,28 +1,23 @@
 //! One needed tile of a strip.
 
-ghost use Rattle.std.specs.Prelude.{◌≡◌, ℕ, ◌+◌, ◌<◌, ◌≤◌, ◌++◌, IfErr, IfOk, MatchResult, Some, length};
-ghost use Rattle.chain_owners.specs.Owners.{Owns};
+ghost use Rattle.std.specs.Prelude.{◌≡◌, ℕ, ◌+◌, ◌<◌, ◌≤◌, IfErr, IfOk, MatchResult, Some, length};
 ghost use Rattle.model_graphs.specs.Evaluation.{Buffers};
-ghost use Rattle.model_graphs.specs.Facts.{shapes_of_facts, specs_of, stated_shapes};
+ghost use Rattle.model_graphs.specs.Facts.{specs_of, stated_shapes};
 ghost use Rattle.model_states.specs.Cache.{IsPairOf, pair_of};
-ghost use Rattle.model_states.specs.Valid.{AreStated};
 ghost use Rattle.swap_store.specs.Cause.{HasSwapCause};
-ghost use Rattle.roi_planner.specs.Inputs.{all_inputs};
 ghost use Rattle.node_tiles.specs.Stated.{AreTilesOf, HaveLengths, IsReady, bytes_at, length_at};
 ghost use Rattle.strip_renders.specs.Ahead.{IsMade, IsMadeOf, IsPermitted, IsRefusedAt, permits_of};
 ghost use Rattle.strip_renders.specs.Looks.{HasSameCache, IsLookedUp};
-ghost use Rattle.strip_renders.specs.Moments.{Keeps, moment};
-ghost use Rattle.strip_renders.specs.Strips.{AreKnownRight, AreSizedPairs};
+ghost use Rattle.strip_renders.specs.Moments.{AreOver, Keeps, moment};
+ghost use Rattle.strip_renders.specs.Strips.{AreKnownRight, AreSizedPairs, AreStatedWith};
 
+use crate::evaluator::Evaluator;
 use crate::fresh::fresh_tile;
 use chain_owners::ChainMeaning;
-use model_graphs::NodeFact;
 use node_cache::PairStore;
 use node_tiles::StripTiles;
 use op_contracts::{OpKit, SourceTiles};
 use plane_rect::TileAt;
-use roi_planner::NodeInputs;
-use std::alloc::Global;
 use swap_store::SwapRefused;
 use tile_cow::Tile;
 
@@ -38,10 +33,7 @@ const TILE_PIXELS: u32 = 64 * 64;
 /// chain's names and one more can fill the swap, and `NoMemory` if memory runs out. The cached pairs are
 /// then unchanged, and a permit may be spent.
 pub(crate) fn needed_tile<H: ChainMeaning, S: SourceTiles<H>, C: PairStore<H>, K: OpKit + Sync>(
-    kit: &K,
-    alloc: Global,
-    nodes: &[NodeFact<K::Op>],
-    inputs: &[NodeInputs],
+    by: &Evaluator<'_, K>,
     held: &StripTiles,
     sources: &mut S,
     cache: &mut C,
@@ -54,49 +46,44 @@ pub(crate) fn needed_tile<H: ChainMeaning, S: SourceTiles<H>, C: PairStore<H>, K
 where
     K::Op: Sync,
     K::Permit: Send,
-    requires stated { AreStated K.Op.meanings (shapes_of_facts (S.facts sources.old)) nodes.now }
-    requires inputs { inputs.now ≡ all_inputs nodes.now }
-    requires ready { IsReady K.Op.meanings nodes.now held.now node at }
-    requires of_nodes { IsPairOf (specs_of nodes.now) (stated_shapes nodes.now) (pair_of (specs_of nodes.now) (node, at)) }
-    requires lengths { HaveLengths nodes.now held.now }
-    requires sources_over { S.is_over sources.old (H.held chain.old) }
-    requires cache_over { C.is_over cache.old (H.held chain.old) }
-    requires owned { Owns (H.held chain.old) (S.names sources.old ++ C.names cache.old) }
-    requires sized { AreSizedPairs nodes.now (C.sizes cache.old (H.held chain.old)) }
-    requires made { IsMade nodes.now (C.pairs cache.old) (node, at) made }
+    requires stated { AreStatedWith K.Op.meanings (S.facts sources.old) by.now.nodes.now by.now.inputs.now }
+    requires ready { IsReady K.Op.meanings by.now.nodes.now held.now node at }
+    requires of_nodes { IsPairOf (specs_of by.now.nodes.now) (stated_shapes by.now.nodes.now) (pair_of (specs_of by.now.nodes.now) (node, at)) }
+    requires lengths { HaveLengths by.now.nodes.now held.now }
+    requires over { AreOver H.ChainMeaning S.SourceTiles C.PairStore sources.old cache.old chain.old }
+    requires sized { AreSizedPairs by.now.nodes.now (C.sizes cache.old (H.held chain.old)) }
+    requires made { IsMade by.now.nodes.now (C.pairs cache.old) (node, at) made }
     requires permits { 0 < K.permits purse.old + permits_of made }
-    ensures length { IfOk result (λ given. length given.0 ≡ length_at nodes.now node) }
+    ensures length { IfOk result (λ given. length given.0 ≡ length_at by.now.nodes.now node) }
     ensures bytes { (images : Buffers) → S.images sources.old (H.held chain.old) ≡ Some images →
-        AreTilesOf K.Op.meanings nodes.now images held.now →
-        IsMadeOf K.Op.meanings nodes.now images (node, at) made →
-        AreKnownRight K.Op.meanings nodes.now images (C.cached cache.old (H.held chain.old)) →
-        IfOk result (λ given. given.0 ≡ bytes_at K.Op.meanings nodes.now images node at) }
+        AreTilesOf K.Op.meanings by.now.nodes.now images held.now →
+        IsMadeOf K.Op.meanings by.now.nodes.now images (node, at) made →
+        AreKnownRight K.Op.meanings by.now.nodes.now images (C.cached cache.old (H.held chain.old)) →
+        IfOk result (λ given. given.0 ≡ bytes_at K.Op.meanings by.now.nodes.now images node at) }
     ensures looked { MatchResult result
         (λ given. IsLookedUp
-        (moment (S.facts sources.old) (S.images sources.old (H.held chain.old)) (S.names sources.old) (C.pairs cache.old) (C.sizes cache.old (H.held chain.old)) (C.cached cache.old (H.held chain.old)) (C.capacity cache.old) (C.names cache.old) (H.held chain.old) (H.counts chain.old) (H.loans chain.old))
-        (moment (S.facts sources.new) (S.images sources.new (H.held chain.new)) (S.names sources.new) (C.pairs cache.new) (C.sizes cache.new (H.held chain.new)) (C.cached cache.new (H.held chain.new)) (C.capacity cache.new) (C.names cache.new) (H.held chain.new) (H.counts chain.new) (H.loans chain.new))
-        (pair_of (specs_of nodes.now) (node, at)) given.0 given.1)
+        (moment H.ChainMeaning S.SourceTiles C.PairStore sources.old cache.old chain.old)
+        (moment H.ChainMeaning S.SourceTiles C.PairStore sources.new cache.new chain.new)
+        (pair_of (specs_of by.now.nodes.now) (node, at)) given.0 given.1)
         (λ _. HasSameCache
-        (moment (S.facts sources.old) (S.images sources.old (H.held chain.old)) (S.names sources.old) (C.pairs cache.old) (C.sizes cache.old (H.held chain.old)) (C.cached cache.old (H.held chain.old)) (C.capacity cache.old) (C.names cache.old) (H.held chain.old) (H.counts chain.old) (H.loans chain.old))
-        (moment (S.facts sources.new) (S.images sources.new (H.held chain.new)) (S.names sources.new) (C.pairs cache.new) (C.sizes cache.new (H.held chain.new)) (C.cached cache.new (H.held chain.new)) (C.capacity cache.new) (C.names cache.new) (H.held chain.new) (H.counts chain.new) (H.loans chain.new))) }
-    ensures sized { AreSizedPairs nodes.now (C.sizes cache.new (H.held chain.new)) }
+        (moment H.ChainMeaning S.SourceTiles C.PairStore sources.old cache.old chain.old)
+        (moment H.ChainMeaning S.SourceTiles C.PairStore sources.new cache.new chain.new)) }
     ensures permits { MatchResult result (λ given. IsPermitted (K.permits purse.old) (K.permits purse.new) made given.1)
         (λ _. IsRefusedAt (K.permits purse.old) (K.permits purse.new) made) }
+    ensures sized { AreSizedPairs by.now.nodes.now (C.sizes cache.new (H.held chain.new)) }
     ensures keeps { Keeps 1
-        (moment (S.facts sources.old) (S.images sources.old (H.held chain.old)) (S.names sources.old) (C.pairs cache.old) (C.sizes cache.old (H.held chain.old)) (C.cached cache.old (H.held chain.old)) (C.capacity cache.old) (C.names cache.old) (H.held chain.old) (H.counts chain.old) (H.loans chain.old))
-        (moment (S.facts sources.new) (S.images sources.new (H.held chain.new)) (S.names sources.new) (C.pairs cache.new) (C.sizes cache.new (H.held chain.new)) (C.cached cache.new (H.held chain.new)) (C.capacity cache.new) (C.names cache.new) (H.held chain.new) (H.counts chain.new) (H.loans chain.new)) }
-    ensures sources_over { S.is_over sources.new (H.held chain.new) }
-    ensures cache_over { C.is_over cache.new (H.held chain.new) }
+        (moment H.ChainMeaning S.SourceTiles C.PairStore sources.old cache.old chain.old)
+        (moment H.ChainMeaning S.SourceTiles C.PairStore sources.new cache.new chain.new) }
+    ensures over { AreOver H.ChainMeaning S.SourceTiles C.PairStore sources.new cache.new chain.new }
     ensures valid { H.is_valid chain.old → H.is_valid chain.new }
     ensures cause { IfErr result (HasSwapCause (H.counts chain.old) (H.counts chain.new) ((H.counts chain.old).names + 1)) }
 {
+    let nodes = by.nodes;
     let fact = &nodes[node as usize];
     let len = TILE_PIXELS * fact.format.pixel_bytes();
     if let Some(tile) = cache.look(chain, fact.spec.name, at, len)? {
         return Ok((tile, true));
     }
-    let tile = fresh_tile(
-        kit, alloc, nodes, inputs, held, sources, cache, chain, purse, node, at, made,
-    )?;
+    let tile = fresh_tile(by, held, node, at, made, sources, cache, chain, purse)?;
     Ok((tile, false))
 }

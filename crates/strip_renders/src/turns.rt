@@ -1,29 +1,25 @@
 //! The next needed tile of a strip, held.
 
-ghost use Rattle.std.specs.Prelude.{◌≡◌, [], ℕ, ◌∷◌, ◌+◌, ◌≤◌, ◌++◌, IfErr, IfOk, List, MatchResult, Some, drop, length, slice_get, take};
-ghost use Rattle.chain_owners.specs.Owners.{Owns};
+ghost use Rattle.std.specs.Prelude.{◌≡◌, [], ℕ, ◌∷◌, ◌+◌, ◌≤◌, IfErr, IfOk, List, MatchResult, Some, drop, length, slice_get, take};
 ghost use Rattle.model_graphs.specs.Evaluation.{Buffers};
-ghost use Rattle.model_graphs.specs.Facts.{shapes_of_facts, specs_of};
+ghost use Rattle.model_graphs.specs.Facts.{specs_of};
 ghost use Rattle.model_states.specs.Cache.{AreRight, Cached, pair_of};
-ghost use Rattle.model_states.specs.Valid.{AreStated};
 ghost use Rattle.swap_store.specs.Cause.{HasSwapCause};
-ghost use Rattle.roi_planner.specs.Inputs.{all_inputs};
 ghost use Rattle.node_tiles.specs.Stated.{AreTilesOf, scene_of};
 ghost use Rattle.strip_renders.specs.Ahead.{AreAhead, AreMadeOf, IsSpentFor};
 ghost use Rattle.strip_renders.specs.Looks.{IsRecent};
-ghost use Rattle.strip_renders.specs.Moments.{Keeps, moment};
-ghost use Rattle.strip_renders.specs.Strips.{AreKnownRight, AreSizedPairs, HoldsNeed, IsRendered, IsStripOf};
+ghost use Rattle.strip_renders.specs.Moments.{AreOver, Keeps, moment};
+ghost use Rattle.strip_renders.specs.Strips.{AreKnownRight, AreSizedPairs, AreStatedWith, HoldsNeed, IsRendered, IsStripOf};
 
 use crate::ahead::{AheadTiles, look_ahead};
+use crate::evaluator::Evaluator;
 use crate::holding::hold_needed;
 use chain_owners::ChainMeaning;
-use model_graphs::NodeFact;
 use node_cache::PairStore;
 use node_tiles::StripTiles;
 use op_contracts::{OpKit, SourceTiles};
 use plane_rect::TileAt;
-use roi_planner::{NodeInputs, Strip};
-use std::alloc::Global;
+use roi_planner::Strip;
 use std::thread::Threads;
 use swap_store::SwapRefused;
 use worker_pieces::Workers;
@@ -37,17 +33,8 @@ use worker_pieces::Workers;
 /// `SwapFault` only where the swap's count of I/O errors rose in this call, `SwapFull` only where the
 /// chain's names and one more can fill the swap, and `NoMemory` if memory runs out. The cached pairs are
 /// then right where they were, and a permit may be spent for each tile that is needed from the index on.
-pub(crate) fn hold_next<
-    H: ChainMeaning,
-    S: SourceTiles<H>,
-    C: PairStore<H>,
-    K: OpKit + Sync,
-    R: Threads + Sync,
->(
-    kit: &K,
-    alloc: Global,
-    nodes: &[NodeFact<K::Op>],
-    inputs: &[NodeInputs],
+pub(crate) fn hold_next<H: ChainMeaning, S: SourceTiles<H>, C: PairStore<H>, K: OpKit + Sync, R>(
+    by: &Evaluator<'_, K>,
     tiles: &mut StripTiles,
     sources: &mut S,
     cache: &mut C,
@@ -63,56 +50,50 @@ pub(crate) fn hold_next<
 where
     K::Op: Sync,
     K::Permit: Send,
-    requires stated { AreStated K.Op.meanings (shapes_of_facts (S.facts sources.old)) nodes.now }
-    requires inputs { inputs.now ≡ all_inputs nodes.now }
-    requires strip { IsStripOf K.Op.meanings nodes.now strip.now }
+    R: Threads + Sync,
+    requires stated { AreStatedWith K.Op.meanings (S.facts sources.old) by.now.nodes.now by.now.inputs.now }
+    requires strip { IsStripOf K.Op.meanings by.now.nodes.now strip.now }
     requires entry { slice_get strip.now.need index ≡ Some (node, at) }
-    requires held { HoldsNeed nodes.now (take index strip.now.need) tiles.old }
-    requires sources_over { S.is_over sources.old (H.held chain.old) }
-    requires cache_over { C.is_over cache.old (H.held chain.old) }
-    requires owned { Owns (H.held chain.old) (S.names sources.old ++ C.names cache.old) }
-    requires sized { AreSizedPairs nodes.now (C.sizes cache.old (H.held chain.old)) }
-    requires ahead { AreAhead nodes.now (C.pairs cache.old) (drop index strip.now.need) ahead.old }
+    requires held { HoldsNeed by.now.nodes.now (take index strip.now.need) tiles.old }
+    requires over { AreOver H.ChainMeaning S.SourceTiles C.PairStore sources.old cache.old chain.old }
+    requires sized { AreSizedPairs by.now.nodes.now (C.sizes cache.old (H.held chain.old)) }
+    requires ahead { AreAhead by.now.nodes.now (C.pairs cache.old) (drop index strip.now.need) ahead.old }
     requires permits { length strip.now.need ≤ K.permits purse.old + length ahead.old + index }
-    ensures held { IfOk result (λ _. HoldsNeed nodes.now (take (index + 1) strip.now.need) tiles.new) }
+    ensures held { IfOk result (λ _. HoldsNeed by.now.nodes.now (take (index + 1) strip.now.need) tiles.new) }
     ensures recent { IfOk result (λ found. IsRecent
-        (moment (S.facts sources.old) (S.images sources.old (H.held chain.old)) (S.names sources.old) (C.pairs cache.old) (C.sizes cache.old (H.held chain.old)) (C.cached cache.old (H.held chain.old)) (C.capacity cache.old) (C.names cache.old) (H.held chain.old) (H.counts chain.old) (H.loans chain.old))
-        (moment (S.facts sources.new) (S.images sources.new (H.held chain.new)) (S.names sources.new) (C.pairs cache.new) (C.sizes cache.new (H.held chain.new)) (C.cached cache.new (H.held chain.new)) (C.capacity cache.new) (C.names cache.new) (H.held chain.new) (H.counts chain.new) (H.loans chain.new))
-        (pair_of (specs_of nodes.now) (node, at)) found) }
+        (moment H.ChainMeaning S.SourceTiles C.PairStore sources.old cache.old chain.old)
+        (moment H.ChainMeaning S.SourceTiles C.PairStore sources.new cache.new chain.new)
+        (pair_of (specs_of by.now.nodes.now) (node, at)) found) }
     ensures bytes { (images : Buffers) (list : List Cached) → S.images sources.old (H.held chain.old) ≡ Some images →
-        AreTilesOf K.Op.meanings nodes.now images tiles.old → AreMadeOf K.Op.meanings nodes.now images ahead.old →
-        C.cached cache.old (H.held chain.old) ≡ Some list → AreRight K.Op.meanings (scene_of nodes.now images) list →
-        IfOk result (λ _. IsRendered K.Op.meanings nodes.now images
-        (moment (S.facts sources.old) (S.images sources.old (H.held chain.old)) (S.names sources.old) (C.pairs cache.old) (C.sizes cache.old (H.held chain.old)) (C.cached cache.old (H.held chain.old)) (C.capacity cache.old) (C.names cache.old) (H.held chain.old) (H.counts chain.old) (H.loans chain.old))
-        (moment (S.facts sources.new) (S.images sources.new (H.held chain.new)) (S.names sources.new) (C.pairs cache.new) (C.sizes cache.new (H.held chain.new)) (C.cached cache.new (H.held chain.new)) (C.capacity cache.new) (C.names cache.new) (H.held chain.new) (H.counts chain.new) (H.loans chain.new))
-        list (pair_of (specs_of nodes.now) (node, at) ∷ []) tiles.new) }
+        AreTilesOf K.Op.meanings by.now.nodes.now images tiles.old → AreMadeOf K.Op.meanings by.now.nodes.now images ahead.old →
+        C.cached cache.old (H.held chain.old) ≡ Some list → AreRight K.Op.meanings (scene_of by.now.nodes.now images) list →
+        IfOk result (λ _. IsRendered K.Op.meanings by.now.nodes.now images
+        (moment H.ChainMeaning S.SourceTiles C.PairStore sources.old cache.old chain.old)
+        (moment H.ChainMeaning S.SourceTiles C.PairStore sources.new cache.new chain.new)
+        list (pair_of (specs_of by.now.nodes.now) (node, at) ∷ []) tiles.new) }
     ensures right { (images : Buffers) → S.images sources.old (H.held chain.old) ≡ Some images →
-        AreTilesOf K.Op.meanings nodes.now images tiles.old → AreMadeOf K.Op.meanings nodes.now images ahead.old →
-        AreKnownRight K.Op.meanings nodes.now images (C.cached cache.old (H.held chain.old)) →
-        AreKnownRight K.Op.meanings nodes.now images (C.cached cache.new (H.held chain.new)) }
-    ensures sized { AreSizedPairs nodes.now (C.sizes cache.new (H.held chain.new)) }
-    ensures ahead { IfOk result (λ _. AreAhead nodes.now (C.pairs cache.new) (drop (index + 1) strip.now.need) ahead.new) }
+        AreTilesOf K.Op.meanings by.now.nodes.now images tiles.old → AreMadeOf K.Op.meanings by.now.nodes.now images ahead.old →
+        AreKnownRight K.Op.meanings by.now.nodes.now images (C.cached cache.old (H.held chain.old)) →
+        AreKnownRight K.Op.meanings by.now.nodes.now images (C.cached cache.new (H.held chain.new)) }
+    ensures sized { AreSizedPairs by.now.nodes.now (C.sizes cache.new (H.held chain.new)) }
+    ensures ahead { IfOk result (λ _. AreAhead by.now.nodes.now (C.pairs cache.new) (drop (index + 1) strip.now.need) ahead.new) }
     ensures made { (images : Buffers) → S.images sources.old (H.held chain.old) ≡ Some images →
-        AreTilesOf K.Op.meanings nodes.now images tiles.old → AreMadeOf K.Op.meanings nodes.now images ahead.old →
-        IfOk result (λ _. AreMadeOf K.Op.meanings nodes.now images ahead.new) }
+        AreTilesOf K.Op.meanings by.now.nodes.now images tiles.old → AreMadeOf K.Op.meanings by.now.nodes.now images ahead.old →
+        IfOk result (λ _. AreMadeOf K.Op.meanings by.now.nodes.now images ahead.new) }
     ensures permits { MatchResult result
         (IsSpentFor (K.permits purse.old + length ahead.old) (K.permits purse.new + length ahead.new))
         (λ _. (K.permits purse.new ≤ K.permits purse.old)
         × (K.permits purse.old + length ahead.old + index ≤ K.permits purse.new + length strip.now.need)) }
     ensures keeps { Keeps 1
-        (moment (S.facts sources.old) (S.images sources.old (H.held chain.old)) (S.names sources.old) (C.pairs cache.old) (C.sizes cache.old (H.held chain.old)) (C.cached cache.old (H.held chain.old)) (C.capacity cache.old) (C.names cache.old) (H.held chain.old) (H.counts chain.old) (H.loans chain.old))
-        (moment (S.facts sources.new) (S.images sources.new (H.held chain.new)) (S.names sources.new) (C.pairs cache.new) (C.sizes cache.new (H.held chain.new)) (C.cached cache.new (H.held chain.new)) (C.capacity cache.new) (C.names cache.new) (H.held chain.new) (H.counts chain.new) (H.loans chain.new)) }
-    ensures sources_over { S.is_over sources.new (H.held chain.new) }
-    ensures cache_over { C.is_over cache.new (H.held chain.new) }
+        (moment H.ChainMeaning S.SourceTiles C.PairStore sources.old cache.old chain.old)
+        (moment H.ChainMeaning S.SourceTiles C.PairStore sources.new cache.new chain.new) }
+    ensures over { AreOver H.ChainMeaning S.SourceTiles C.PairStore sources.new cache.new chain.new }
     ensures valid { H.is_valid chain.old → H.is_valid chain.new }
     ensures cause { IfErr result (HasSwapCause (H.counts chain.old) (H.counts chain.new) ((H.counts chain.old).names + 1)) }
 {
     look_ahead(
-        kit, alloc, nodes, inputs, tiles, sources, cache, chain, purse, strip, index, workers,
-        ahead,
+        by, tiles, sources, cache, chain, purse, strip, index, workers, ahead,
     )?;
     let made = ahead.take(node, at);
-    hold_needed(
-        kit, alloc, nodes, inputs, tiles, sources, cache, chain, purse, node, at, made,
-    )
+    hold_needed(by, tiles, sources, cache, chain, purse, node, at, made)
 }

@@ -5,7 +5,7 @@ use Rattle.std.proofs.lemmas.List.{set_split, get_or-take, get_or-drop, get_or_d
 use Rattle.std.proofs.lemmas.Bool.{cases_lt, cases_eq}
 use Rattle.chain_owners.specs.declared.run.Run.{Run}
 use Rattle.swap_store.specs.Run.{InBlocks, HasBlock, IsRunList, EndsBefore, BeginsWith}
-use Rattle.swap_store.proofs.RunLists.{after, IsRunList-prefix, IsRunList-back, HasBlock-left, HasBlock-right, HasBlock-cases, HasBlock-parts, HasBlock-from_parts, joined, split_at, run_at}
+use Rattle.swap_store.proofs.RunLists.{Splits, after, IsRunList-prefix, IsRunList-back, HasBlock-left, HasBlock-right, HasBlock-cases, HasBlock-parts, HasBlock-from_parts, joined, split_at, run_at}
 
 -- a list of runs has besides these blocks
 abbrev pub With : List Run → List Run → ℕ → ℕ → Type 0
@@ -115,6 +115,19 @@ pub record Gives (end : ℕ) (old new : List Run) (first count : ℕ) : Type 0 w
   pub list : IsRunList 0 end new
   pub blocks : With old new first count
 
+-- the runs in the middle of a list became one with the given blocks
+gives-merged : (end : ℕ) (pre mid post : List Run) (run : Run) (old new : List Run) (first count : ℕ)
+    → pre ++ (mid ++ post) ≡ old → new ≡ pre ++ (run ∷ post) → Splits 0 end pre run post → IsMerged mid first count run
+    → Gives end old new first count
+gives-merged end pre mid post run old new first count was is parts merged =
+    let L : List Run → Type 0 = λ ys. IsRunList 0 end ys in
+    let N : List Run → Type 0 = λ ys. With old ys first count in
+    let O : List Run → Type 0 = λ ys. With ys (pre ++ (run ∷ post)) first count in
+    record {
+      list = subst L (sym is) (joined 0 end pre run post parts);
+      blocks = subst N (sym is) (subst O was (With-merged pre mid post first count run merged));
+    }
+
 pub after-take : (low : ℕ) (xs : List Run) (i : ℕ) (d : Run) → i < length xs
     → after low (take (suc i) xs) ≡ (get_or xs i d).first + (get_or xs i d).count + 1
 after-take low [] i d lt = absurd (omega arith)
@@ -156,20 +169,15 @@ pub inserted : (end : ℕ) (xs : List Run) (at first count : ℕ) → Gap end xs
     → Gives end xs (insert xs at (record { first = first; count = count })) first count
 inserted end xs at first count g no_left no_right =
     let run : Run = record { first = first; count = count } in
-    let P : List Run → Type 0 = λ ys. With ys (take at xs ++ (run ∷ drop at xs)) first count in
-    record {
-      list = joined 0 end (take at xs) run (drop at xs)
-          (record {
-            prefix = g.prefix;
-            from = not_ending end xs at first count g no_left;
-            some = g.some;
-            to = g.bound;
-            back = not_beginning end xs at first count g no_right;
-          });
-      blocks = subst P (take-append-drop at xs)
-          (With-merged (take at xs) [] (drop at xs) first count run
-          (record { known = λ b l. inr l; old = λ b none. absurd none; given = λ b l. l }));
-    }
+    gives-merged end (take at xs) [] (drop at xs) run xs _ first count (take-append-drop at xs) refl
+    (record {
+      prefix = g.prefix;
+      from = not_ending end xs at first count g no_left;
+      some = g.some;
+      to = g.bound;
+      back = not_beginning end xs at first count g no_right;
+    })
+    (record { known = λ b l. inr l; old = λ b none. absurd none; given = λ b l. l })
 
 merged_left : (run : Run) (first count : ℕ) → run.first + run.count ≡ first
     → IsMerged (run ∷ []) first count (record { first = run.first; count = run.count + count })
@@ -218,25 +226,15 @@ joins_left end xs i first count d g e no_right =
     let left = get_or xs i d in
     let run : Run = record { first = left.first; count = left.count + count } in
     let at = run_at 0 end xs i d lt g.whole in
-    let new : take i xs ++ (run ∷ drop (suc i) xs) ≡ set xs i run = sym (set_split xs i run lt) in
-    let L : List Run → Type 0 = λ ys. IsRunList 0 end ys in
-    let N : List Run → Type 0 = λ ys. With xs ys first count in
-    let O : List Run → Type 0 = λ ys. With ys (take i xs ++ (run ∷ drop (suc i) xs)) first count in
-    record {
-      list = subst L new
-          (joined 0 end (take i xs) run (drop (suc i) xs)
-          (record {
-            prefix = at.prefix;
-            from = at.from;
-            some = omega (arith, at.some);
-            to = omega (arith, g.bound);
-            back = let same : left.first + (left.count + count) + 1 ≡ first + count + 1 = omega arith in
-                rw same (not_beginning end xs (suc i) first count g no_right);
-          }));
-      blocks = subst N new
-          (subst O (split_at xs i d lt)
-          (With-merged (take i xs) (left ∷ []) (drop (suc i) xs) first count run (merged_left left first count e)));
-    }
+    gives-merged end (take i xs) (left ∷ []) (drop (suc i) xs) run xs _ first count (split_at xs i d lt) (set_split xs i run lt)
+    (record {
+      prefix = at.prefix;
+      from = at.from;
+      some = omega (arith, at.some);
+      to = omega (arith, g.bound);
+      back = let same : left.first + (left.count + count) + 1 ≡ first + count + 1 = omega arith in
+          rw same (not_beginning end xs (suc i) first count g no_right);
+    }) (merged_left left first count e)
 
 pub joins_right : (end : ℕ) (xs : List Run) (at first count : ℕ) (d : Run) → Gap end xs at first count → at < length xs
     → ¬ EndsBefore xs at first → (get_or xs at d).first ≡ first + count
@@ -245,24 +243,14 @@ joins_right end xs i first count d g lt no_left e =
     let right = get_or xs i d in
     let run : Run = record { first = first; count = count + right.count } in
     let at = run_at 0 end xs i d lt g.whole in
-    let new : take i xs ++ (run ∷ drop (suc i) xs) ≡ set xs i run = sym (set_split xs i run lt) in
-    let L : List Run → Type 0 = λ ys. IsRunList 0 end ys in
-    let N : List Run → Type 0 = λ ys. With xs ys first count in
-    let O : List Run → Type 0 = λ ys. With ys (take i xs ++ (run ∷ drop (suc i) xs)) first count in
-    record {
-      list = subst L new
-          (joined 0 end (take i xs) run (drop (suc i) xs)
-          (record {
-            prefix = at.prefix;
-            from = not_ending end xs i first count g no_left;
-            some = omega (arith, g.some);
-            to = omega (arith, at.to);
-            back = let same : first + (count + right.count) + 1 ≡ right.first + right.count + 1 = omega arith in rw same at.back;
-          }));
-      blocks = subst N new
-          (subst O (split_at xs i d lt)
-          (With-merged (take i xs) (right ∷ []) (drop (suc i) xs) first count run (merged_right right first count e)));
-    }
+    gives-merged end (take i xs) (right ∷ []) (drop (suc i) xs) run xs _ first count (split_at xs i d lt) (set_split xs i run lt)
+    (record {
+      prefix = at.prefix;
+      from = not_ending end xs i first count g no_left;
+      some = omega (arith, g.some);
+      to = omega (arith, at.to);
+      back = let same : first + (count + right.count) + 1 ≡ right.first + right.count + 1 = omega arith in rw same at.back;
+    }) (merged_right right first count e)
 
 -- the list after the right one of two runs left it and the left one was replaced
 set-remove : (xs : List Run) (i : ℕ) (run : Run) → suc i < length xs
@@ -285,27 +273,17 @@ joins_both end xs i first count d g lt e e' =
     let run : Run = record { first = left.first; count = left.count + count + right.count } in
     let at = run_at 0 end xs i d (omega arith) g.whole in
     let next = run_at 0 end xs (suc i) d lt g.whole in
-    let new : take i xs ++ (run ∷ drop (suc (suc i)) xs) ≡ set (remove xs (suc i)) i run = sym (set-remove xs i run lt) in
-    let L : List Run → Type 0 = λ ys. IsRunList 0 end ys in
-    let N : List Run → Type 0 = λ ys. With xs ys first count in
-    let O : List Run → Type 0 = λ ys. With ys (take i xs ++ (run ∷ drop (suc (suc i)) xs)) first count in
     let two : take i xs ++ (left ∷ (right ∷ drop (suc (suc i)) xs)) ≡ xs =
     ap (λ ys. take i xs ++ (left ∷ ys)) (sym (drop-cons xs (suc i) d lt)) ∙ split_at xs i d (omega arith) in
-    record {
-      list = subst L new
-          (joined 0 end (take i xs) run (drop (suc (suc i)) xs)
-          (record {
-            prefix = at.prefix;
-            from = at.from;
-            some = omega (arith, at.some);
-            to = omega (arith, next.to);
-            back = let same : left.first + (left.count + count + right.count) + 1 ≡ right.first + right.count + 1 = omega arith in
-                rw same next.back;
-          }));
-      blocks = subst N new
-          (subst O two
-          (With-merged (take i xs) (left ∷ (right ∷ [])) (drop (suc (suc i)) xs) first count run (merged_both left right first count e e')));
-    }
+    gives-merged end (take i xs) (left ∷ (right ∷ [])) (drop (suc (suc i)) xs) run xs _ first count two (set-remove xs i run lt)
+    (record {
+      prefix = at.prefix;
+      from = at.from;
+      some = omega (arith, at.some);
+      to = omega (arith, next.to);
+      back = let same : left.first + (left.count + count + right.count) + 1 ≡ right.first + right.count + 1 = omega arith in
+          rw same next.back;
+    }) (merged_both left right first count e e')
 
 -- ---- the same for the runs as they are read
 

@@ -278,6 +278,14 @@ len_removed extents name there =
     ] in
     omega (arith, left, some)
 
+-- A name that moves leaves its old blocks, which none of the free runs has. Once they are given back, the laws hold.
+pub record LeavesOld (extents : Named Extent) (free : List Run) (used name : ℕ) (new old : Extent) : Type 0 where
+  pub some : 1 ≤ blocks_for old.len
+  pub bound : old.first + blocks_for old.len ≤ 2 ^ 20
+  pub apart : (b : ℕ) → InBlocks b old.first (blocks_for old.len) → ¬ HasBlock free b
+  pub placed : (free' : List Run) → IsRunList 0 (2 ^ 20) free' → With free free' old.first (blocks_for old.len)
+      → IsPlacement (placed (map.insert extents name new) free' used)
+
 module _ (extents : Named Extent) (free middle : List Run) (used name len i : ℕ) (run : Run) (old : Extent)
     (laws : IsPlacement (placed extents free used))
     (some_old : map.get extents name ≡ Some old) (size : IsTileLength len)
@@ -292,18 +300,13 @@ module _ (extents : Named Extent) (free middle : List Run) (used name len i : �
   without_there : Without free middle run.first (blocks_for len)
   without_there = rw first_read at (without run)
 
-  pub old_some : 1 ≤ blocks_for old.len
-  old_some = blocks_for-some old.len (laws.fits name old some_old).0.0
-
-  pub old_bound : old.first + blocks_for old.len ≤ 2 ^ 20
-  old_bound = omega (arith, (laws.fits name old some_old).1, laws.bounded)
-
-  pub old_apart : (b : ℕ) → InBlocks b old.first (blocks_for old.len) → ¬ HasBlock middle b
-  old_apart b is_inside h = ((laws.exact b).0 ((without_there b).0 h).0).1 name old some_old is_inside
-
-  pub replaced : (free' : List Run) → IsRunList 0 (2 ^ 20) free' → With middle free' old.first (blocks_for old.len)
-      → IsPlacement (placed (map.insert extents name (record { first = run.first; len = len })) free' used)
-  replaced free' runs with = moved (placed extents free used) laws name len run.first size were_free_there old some_old middle free' runs without_there with
+  pub leaves_old : LeavesOld extents middle used name (record { first = run.first; len = len }) old
+  leaves_old = record {
+    some = blocks_for-some old.len (laws.fits name old some_old).0.0;
+    bound = omega (arith, (laws.fits name old some_old).1, laws.bounded);
+    apart = λ b is_inside h. ((laws.exact b).0 ((without_there b).0 h).0).1 name old some_old is_inside;
+    placed = λ free' runs with. moved (placed extents free used) laws name len run.first size were_free_there old some_old middle free' runs without_there with;
+  }
 
 -- ---- a placement of no names
 

@@ -1,7 +1,8 @@
 -- Where names lie on a disk.
-use Rattle.std.specs.Prelude.{◌≡◌, ◌≢◌, ℕ, ◌+◌, ◌<◌, ◌≤◌, ◌^◌, ◌↔◌, List, Some, refl, slice_index_or}
+use Rattle.std.specs.Prelude.{◌≡◌, ◌≢◌, ℕ, ◌+◌, ◌<◌, ◌≤◌, ◌^◌, ◌↔◌, List, OnErr, OnOk, Result, Some, length, refl, slice_index_or}
 use Rattle.std.specs.Coded.{Coded, code_by, coded×, coded_list, coded_ℕ}
 use Rattle.std.specs.FinMap as map
+use Rattle.no_memory.specs.declared.NoMemory.{NoMemory}
 use Rattle.tile_cow.specs.Tile.{IsTileLength}
 use Rattle.chain_owners.specs.declared.run.Run.{Run}
 use Rattle.swap_store.specs.declared.block_map.Extent.{Extent}
@@ -60,3 +61,16 @@ pub record PutsAtFirstFit (old new : Placement) (name len : ℕ) : Type 0 where
   pub lowest : first_fit old.free (blocks_for len) ≡ Some first
   pub extents : new.extents ≡ map.insert old.extents name (record { first = first; len = len })
   pub used : new.used ≡ old.used
+
+-- the bytes of a tile, of which there are so many, fit in the free run of this index
+pub record HasRoomAt (p : Placement) (index len : ℕ) : Type 0 where
+  pub size : IsTileLength len
+  pub known : index < length p.free
+  pub long : (d : Run) → blocks_for len ≤ (slice_index_or p.free index d).count
+
+-- A name has the first blocks of the free run of this index, as many as so many bytes take. Where memory ran out, all is
+-- unchanged.
+pub record TakesBlocks (old new : Placement) (name index len : ℕ) (result : Result (Unit {0}) NoMemory) : Type 0 where
+  pub extents : OnOk result ((d : Run) → new.extents ≡ map.insert old.extents name (extent_at old.free index d len))
+  pub used : new.used ≡ old.used
+  pub unchanged : OnErr result (new ≡ old)

@@ -4,7 +4,7 @@ ghost use Rattle.std.specs.Prelude.{◌≡◌, ℕ, ◌+◌, ◌<◌, ◌≤◌,
 ghost use Rattle.std.specs.FinMap as map;
 ghost use Rattle.tile_cow.specs.Tile.{IsTileLength};
 ghost use Rattle.swap_store.specs.Run.{IsFirstFit, blocks_for, longest};
-ghost use Rattle.swap_store.specs.Placement.{IsPlacement, Placement};
+ghost use Rattle.swap_store.specs.Placement.{HasRoomAt, IsPlacement, TakesBlocks};
 
 use crate::refusal::SwapRefused;
 use crate::runs;
@@ -131,13 +131,8 @@ impl BlockMap {
     /// Gives a name the first blocks of the free run of this index, as many as `len` bytes take.
     pub fn add(&mut self, name: u64, index: usize, len: u32) -> Result<(), NoMemory>
         requires absent { IsNone (map.get self.old.extents name) }
-        requires size { IsTileLength len }
-        requires known { index < length self.old.free }
-        requires long { (d : Run) → blocks_for len ≤ (slice_index_or self.old.free index d).count }
-        ensures extents { OnOk result ((d : Run) → self.new.extents
-            ≡ map.insert self.old.extents name (record { first = (slice_index_or self.old.free index d).first; len = len })) }
-        ensures used { self.new.used ≡ self.old.used }
-        ensures unchanged { OnErr result (self.new ≡ self.old) }
+        requires room { HasRoomAt self.old index len }
+        ensures { TakesBlocks self.old self.new name index len result }
     {
         let count = blocks_for(len);
         let first = self.free[index].first;
@@ -151,13 +146,8 @@ impl BlockMap {
     /// makes its old blocks free.
     pub fn replace(&mut self, name: u64, index: usize, len: u32) -> Result<(), NoMemory>
         requires present { IsSome (map.get self.old.extents name) }
-        requires size { IsTileLength len }
-        requires known { index < length self.old.free }
-        requires long { (d : Run) → blocks_for len ≤ (slice_index_or self.old.free index d).count }
-        ensures extents { OnOk result ((d : Run) → self.new.extents
-            ≡ map.insert self.old.extents name (record { first = (slice_index_or self.old.free index d).first; len = len })) }
-        ensures used { self.new.used ≡ self.old.used }
-        ensures unchanged { OnErr result (self.new ≡ self.old) }
+        requires room { HasRoomAt self.old index len }
+        ensures { TakesBlocks self.old self.new name index len result }
     {
         let count = blocks_for(len);
         let first = self.free[index].first;

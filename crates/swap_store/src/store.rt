@@ -1,12 +1,11 @@
 //! Tiles under names on a swap disk.
 
-ghost use Rattle.std.specs.Prelude.{◌≡◌, ◌+◌, ◌*◌, ◌<◌, ◌≤◌, Some, Err, IfErr, IfOk, IfSome, OnErr, OnOk, IsNone, IsSome, length, min, ◌^◌};
+ghost use Rattle.std.specs.Prelude.{◌≡◌, ◌≤◌, ◌^◌, IfErr, IfOk, IfSome, IsNone, IsSome, Some, length, min};
 ghost use Rattle.std.specs.Option.{option_map};
 ghost use Rattle.std.specs.FinMap as map;
-ghost use Rattle.swap_store.specs.Run.{IsFirstFit, blocks_for, longest};
-ghost use Rattle.swap_store.specs.Placement.{IsPlacement, PutsAtFirstFit, extent_at};
-ghost use Rattle.swap_store.specs.Content.{bytes_in, content_of, lengths_of};
-ghost use Rattle.swap_store.specs.Store.{HasDiskCause, HasPutCause};
+ghost use Rattle.swap_store.specs.Placement.{IsPlacement};
+ghost use Rattle.swap_store.specs.Content.{content_of, lengths_of};
+ghost use Rattle.swap_store.specs.Store.{HasDiskCause, Keeps, WritesBeside, on_disk};
 
 use crate::block_map::BlockMap;
 use crate::extents;
@@ -144,19 +143,9 @@ impl<D: SwapDisk> Store<D> {
     /// Writes the bytes of a tile to the lowest free run that is long enough for them, and returns its
     /// index. No name has its blocks yet, so the bytes of all names are unchanged.
     fn write_beside(&mut self, tile: &Tile) -> Result<usize, SwapRefused>
-        ensures found { IfOk result (IsFirstFit self.old.placement.free (blocks_for (length tile.now))) }
-        ensures written { IfOk result (λ index. (d : Run) → IfSome (D.blocks self.new.disk)
-            (λ blocks. bytes_in blocks (extent_at self.old.placement.free index d (length tile.now)) ≡ tile.now)) }
-        ensures same { self.new.placement ≡ self.old.placement }
-        ensures content { content_of self.old.placement.extents (D.blocks self.new.disk)
-            ≡ content_of self.old.placement.extents (D.blocks self.old.disk) }
-        ensures full { longest self.old.placement.free < blocks_for (length tile.now)
-            → result ≡ Err (SwapRefused.SwapFull (blocks_for (length tile.now)) (longest self.old.placement.free)) }
-        ensures cause { IfErr result (HasPutCause self.old.placement.free (length tile.now)
-            (D.faults self.old.disk) (D.faults self.new.disk)) }
-        ensures later { D.faults self.old.disk ≤ D.faults self.new.disk }
-        ensures block_count { D.block_count self.new.disk ≡ D.block_count self.old.disk }
-        ensures loans { D.loans self.new.disk ≡ D.loans self.old.disk }
+        ensures { WritesBeside tile.now result
+            (on_disk D.blocks D.faults D.block_count D.loans self.old)
+            (on_disk D.blocks D.faults D.block_count D.loans self.new) }
     {
         let bytes = tile.bytes();
         let index = self.map.fitting_run(bytes.len() as u32)?;
@@ -169,27 +158,9 @@ impl<D: SwapDisk> Store<D> {
     /// After an error no name was changed, but blocks of no name may have other bytes.
     pub fn put(&mut self, name: u64, tile: &Tile) -> Result<(), SwapRefused>
         requires { IsNone (map.get self.old.placement.extents name) }
-        ensures placed { OnOk result
-            (PutsAtFirstFit self.old.placement self.new.placement name (length tile.now)) }
-        ensures lengths { OnOk result (lengths_of self.new.placement.extents
-            ≡ map.insert (lengths_of self.old.placement.extents) name (length tile.now)) }
-        ensures kept { OnOk result (content_of self.new.placement.extents (D.blocks self.new.disk)
-            ≡ option_map (λ content. map.insert content name tile.now)
-            (content_of self.old.placement.extents (D.blocks self.old.disk))) }
-
-        // An error leaves where names are, and the bytes of each.
-        ensures err { OnErr result (self.new.placement ≡ self.old.placement) }
-        ensures unchanged { OnErr result (content_of self.new.placement.extents (D.blocks self.new.disk)
-            ≡ content_of self.old.placement.extents (D.blocks self.old.disk)) }
-
-        // It is full exactly where the longest free run is too short.
-        ensures full { longest self.old.placement.free < blocks_for (length tile.now)
-            → result ≡ Err (SwapRefused.SwapFull (blocks_for (length tile.now)) (longest self.old.placement.free)) }
-        ensures cause { IfErr result (HasPutCause self.old.placement.free (length tile.now)
-            (D.faults self.old.disk) (D.faults self.new.disk)) }
-        ensures later { D.faults self.old.disk ≤ D.faults self.new.disk }
-        ensures block_count { D.block_count self.new.disk ≡ D.block_count self.old.disk }
-        ensures loans { D.loans self.new.disk ≡ D.loans self.old.disk }
+        ensures { Keeps name tile.now result
+            (on_disk D.blocks D.faults D.block_count D.loans self.old)
+            (on_disk D.blocks D.faults D.block_count D.loans self.new) }
     {
         let index = self.write_beside(tile)?;
         self.map.add(name, index, tile.bytes().len() as u32)?;
@@ -201,27 +172,9 @@ impl<D: SwapDisk> Store<D> {
     /// has its old bytes, but blocks of no name may have other bytes.
     pub fn replace(&mut self, name: u64, tile: &Tile) -> Result<(), SwapRefused>
         requires { IsSome (map.get self.old.placement.extents name) }
-        ensures placed { OnOk result
-            (PutsAtFirstFit self.old.placement self.new.placement name (length tile.now)) }
-        ensures lengths { OnOk result (lengths_of self.new.placement.extents
-            ≡ map.insert (lengths_of self.old.placement.extents) name (length tile.now)) }
-        ensures kept { OnOk result (content_of self.new.placement.extents (D.blocks self.new.disk)
-            ≡ option_map (λ content. map.insert content name tile.now)
-            (content_of self.old.placement.extents (D.blocks self.old.disk))) }
-
-        // An error leaves where names are, and the bytes of each.
-        ensures err { OnErr result (self.new.placement ≡ self.old.placement) }
-        ensures unchanged { OnErr result (content_of self.new.placement.extents (D.blocks self.new.disk)
-            ≡ content_of self.old.placement.extents (D.blocks self.old.disk)) }
-
-        // It is full exactly where the longest free run is too short.
-        ensures full { longest self.old.placement.free < blocks_for (length tile.now)
-            → result ≡ Err (SwapRefused.SwapFull (blocks_for (length tile.now)) (longest self.old.placement.free)) }
-        ensures cause { IfErr result (HasPutCause self.old.placement.free (length tile.now)
-            (D.faults self.old.disk) (D.faults self.new.disk)) }
-        ensures later { D.faults self.old.disk ≤ D.faults self.new.disk }
-        ensures block_count { D.block_count self.new.disk ≡ D.block_count self.old.disk }
-        ensures loans { D.loans self.new.disk ≡ D.loans self.old.disk }
+        ensures { Keeps name tile.now result
+            (on_disk D.blocks D.faults D.block_count D.loans self.old)
+            (on_disk D.blocks D.faults D.block_count D.loans self.new) }
     {
         let index = self.write_beside(tile)?;
         self.map.replace(name, index, tile.bytes().len() as u32)?;

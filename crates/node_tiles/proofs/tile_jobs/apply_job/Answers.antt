@@ -1,7 +1,9 @@
-use Rattle.std.proofs.Common.{◌≡◌, ◌<◌, Some, length, ap, ◌∙◌, arith}
+use Rattle.std.proofs.Common.{◌≡◌, ◌<◌, List, Some, length, refl, ap, ◌∙◌, subst, arith}
 use Rattle.std.specs.Prelude.{slice_get}
 use Rattle.std.proofs.lemmas.List.{length-map}
+use Rattle.plane_rect.specs.Rectangle.{Rectangle}
 use Rattle.model_images.specs.Image.{Image}
+use Rattle.model_graphs.specs.declared.node.Body.TheVariants.{Compute}
 use Rattle.model_images.specs.Raw.{tile_bytes}
 use Rattle.model_graphs.specs.declared.node.NodeFact.{NodeFact}
 use Rattle.roi_planner.specs.Inputs.{inputs_of}
@@ -40,6 +42,31 @@ bounds-inputs-node g c =
       length-map nodes (λ (fact : NodeFact g.row.K-Op.Denot). inputs_of nodes fact.spec.body),
     )
 
+pub copied_tile-requires : goal.copied_tile-requires
+copied_tile-requires g c =
+    let meanings = g.K.Op.OpMeaning.meanings in
+    let nodes = c.args.nodes.now in
+    let job = c.args.job in
+    let found : slice_get nodes job.node ≡ Some c.index-nodes-node.result =
+    job-at meanings nodes job c.requires.job c.job.inside.node c.index-nodes-node.result (ap (λ (j : Job). j.node) c.job.view_is) c.index-nodes-node.is in
+    let inside : c.job.inside.node < length nodes = omega (arith, job-inside meanings nodes job c.requires.job, ap (λ (j : Job). j.node) c.job.view_is) in
+    job-applicable meanings nodes job c.requires.job c.index-nodes-node.result c.in-Compute.op c.in-Compute.inputs found c.in-Compute.is
+    c.index-inputs-node.result c.boxes-boxes.result.now job.windows job.part
+    (inputs-at nodes c.args.inputs.now c.job.inside.node c.index-nodes-node.result c.index-inputs-node.result c.requires.inputs inside
+    c.index-nodes-node.is c.index-inputs-node.is ∙ ap (inputs_of nodes) c.in-Compute.is)
+    c.boxes-boxes.ensures refl refl
+
+pub returns-in-Some : goal.returns-in-Some
+returns-in-Some g c =
+    let meanings = g.K.Op.OpMeaning.meanings in
+    let nodes = c.args.nodes.now in
+    let job = c.args.job in
+    let found : slice_get nodes job.node ≡ Some c.index-nodes-node.result =
+    job-at meanings nodes job c.requires.job c.job.inside.node c.index-nodes-node.result (ap (λ (j : Job). j.node) c.job.view_is) c.index-nodes-node.is in
+    gives-is c.share.result c.in-Some.tile.now (job_bytes meanings nodes job) c.share.ensures
+    (c.in-Some.ensures
+    ∙ job-gives meanings nodes job c.requires.job c.index-nodes-node.result c.in-Compute.op c.in-Compute.inputs found c.in-Compute.is job.windows job.part job.at refl refl refl)
+
 module _ (g : Given.Over) (c : After-deref g) where
   -- the node of the job
   found : slice_get c.args.nodes.now c.args.job.node ≡ Some c.index-nodes-node.result
@@ -50,13 +77,13 @@ module _ (g : Given.Over) (c : After-deref g) where
   inside : c.job.inside.node < length c.args.nodes.now
   inside = omega (arith, job-inside g.K.Op.OpMeaning.meanings c.args.nodes.now c.args.job c.requires.job, ap (λ (j : Job). j.node) c.job.view_is)
 
-  are : IsApplicable g.K.Op.OpMeaning.meanings c.in-Compute.op c.boxes.result.now c.deref.result.now c.job.inside.part
+  are : IsApplicable g.K.Op.OpMeaning.meanings c.in-Compute.op c.boxes-boxes.result.now c.deref.result.now c.job.inside.part
   are =
       job-applicable g.K.Op.OpMeaning.meanings c.args.nodes.now c.args.job c.requires.job c.index-nodes-node.result c.in-Compute.op c.in-Compute.inputs found c.in-Compute.is
-      c.index-inputs-node.result c.boxes.result.now c.deref.result.now c.job.inside.part
+      c.index-inputs-node.result c.boxes-boxes.result.now c.deref.result.now c.job.inside.part
       (inputs-at c.args.nodes.now c.args.inputs.now c.job.inside.node c.index-nodes-node.result c.index-inputs-node.result c.requires.inputs inside
       c.index-nodes-node.is c.index-inputs-node.is ∙ ap (inputs_of c.args.nodes.now) c.in-Compute.is)
-      c.boxes.ensures (c.deref.ensures.value ∙ ap (λ (j : Job). j.windows) c.job.view_is) (ap (λ (j : Job). j.part) c.job.view_is)
+      c.boxes-boxes.ensures (c.deref.ensures.value ∙ ap (λ (j : Job). j.windows) c.job.view_is) (ap (λ (j : Job). j.part) c.job.view_is)
 
 pub apply-requires : goal.apply-requires
 apply-requires g c =

@@ -1,4 +1,4 @@
-use Rattle.std.proofs.Common.{◌≡◌, ◌∙◌}
+use Rattle.std.proofs.Common.{◌∙◌}
 use Rattle.plane_rect.specs.Rectangle.{meet}
 use Rattle.plane_rect.proofs.Rectangles.{Inside-meet}
 use Rattle.pixel_formats.specs.Format.{pixel_bytes}

@@ -1,4 +1,4 @@
-use Rattle.std.proofs.Common.{◌≡◌, ◌∙◌, [], ◌∷◌, ap, arith, rules, to_z, of_z, w64}
+use Rattle.std.proofs.Common.{◌≡◌, ◌∙◌, [], ◌∷◌, refl, ap, arith, rules, to_z, of_z, w64}
 use Rattle.std.specs.Result.{IfOk}
 use Rattle.model_images.specs.Image.{at, image_from_fn}
 use Rattle.model_graphs.specs.Windows.{IsWholeWindow, window_image}
@@ -6,49 +6,13 @@ use Rattle.model_operations.specs.Inputs.{input_count}
 use Rattle.model_operations.specs.Moves.{source_index}
 use Rattle.model_operations.specs.declared.operation.IntOp.TheVariants.{Color, Checker, Convert, Invert, Threshold, Gain, Translate, Crop, Flip, Add, Over, Mask}
 use Rattle.op_contracts.proofs.Limits.{InLimits-in_tile}
-use Rattle.point_ops.proofs.Results.{color-samples, flip-inside, none-of, one-of, part-of, suits-add, suits-mask, suits-over, taken-by, translate-inside, two-of, whole-first}
+use Rattle.point_ops.proofs.Results.{color-samples, flip-inside, none-of, one-of, part-of, part-of-one, suits-add, suits-mask, suits-over, taken-by, translate-inside, two-of, whole-first}
 use Rattle.point_ops.proofs.applying.apply.Goals as goal
 
 pub prove-unreachable-requires : goal.prove-unreachable-requires
 prove-unreachable-requires c =
     let limits = InLimits-in_tile c.args.out c.requires.tile.0 c.area.ensures.rectangle c.requires.tile.1 in
     omega (arith, limits.2, c.area.ensures.value, c.if-prove.true)
-
-pub solid_patch-requires-clause-limits : goal.solid_patch-requires-clause-limits
-solid_patch-requires-clause-limits c = InLimits-in_tile c.args.out c.requires.tile.0 c.area.ensures.rectangle c.requires.tile.1
-
-pub checker_part-requires-clause-limits : goal.checker_part-requires-clause-limits
-checker_part-requires-clause-limits c = InLimits-in_tile c.args.out c.requires.tile.0 c.area.ensures.rectangle c.requires.tile.1
-
-pub changed_part-requires-clause-limits : goal.changed_part-requires-clause-limits
-changed_part-requires-clause-limits c = InLimits-in_tile c.args.out c.requires.tile.0 c.area.ensures.rectangle c.requires.tile.1
-
-pub changed_part-requires-in-Invert-clause-limits : goal.changed_part-requires-in-Invert-clause-limits
-changed_part-requires-in-Invert-clause-limits c = InLimits-in_tile c.args.out c.requires.tile.0 c.area.ensures.rectangle c.requires.tile.1
-
-pub changed_part-requires-in-Threshold-clause-limits : goal.changed_part-requires-in-Threshold-clause-limits
-changed_part-requires-in-Threshold-clause-limits c = InLimits-in_tile c.args.out c.requires.tile.0 c.area.ensures.rectangle c.requires.tile.1
-
-pub changed_part-requires-in-Gain-clause-limits : goal.changed_part-requires-in-Gain-clause-limits
-changed_part-requires-in-Gain-clause-limits c = InLimits-in_tile c.args.out c.requires.tile.0 c.area.ensures.rectangle c.requires.tile.1
-
-pub translated_part-requires-clause-limits : goal.translated_part-requires-clause-limits
-translated_part-requires-clause-limits c = InLimits-in_tile c.args.out c.requires.tile.0 c.area.ensures.rectangle c.requires.tile.1
-
-pub part-requires-clause-limits : goal.part-requires-clause-limits
-part-requires-clause-limits c = InLimits-in_tile c.args.out c.requires.tile.0 c.area.ensures.rectangle c.requires.tile.1
-
-pub flipped_part-requires-clause-limits : goal.flipped_part-requires-clause-limits
-flipped_part-requires-clause-limits c = InLimits-in_tile c.args.out c.requires.tile.0 c.area.ensures.rectangle c.requires.tile.1
-
-pub combined_part-requires-clause-limits : goal.combined_part-requires-clause-limits
-combined_part-requires-clause-limits c = InLimits-in_tile c.args.out c.requires.tile.0 c.area.ensures.rectangle c.requires.tile.1
-
-pub combined_part-requires-in-Over-clause-limits : goal.combined_part-requires-in-Over-clause-limits
-combined_part-requires-in-Over-clause-limits c = InLimits-in_tile c.args.out c.requires.tile.0 c.area.ensures.rectangle c.requires.tile.1
-
-pub combined_part-requires-in-Mask-clause-limits : goal.combined_part-requires-in-Mask-clause-limits
-combined_part-requires-in-Mask-clause-limits c = InLimits-in_tile c.args.out c.requires.tile.0 c.area.ensures.rectangle c.requires.tile.1
 
 pub solid_patch-requires-clause-each : goal.solid_patch-requires-clause-each
 solid_patch-requires-clause-each c =
@@ -117,45 +81,27 @@ returns-in-Checker c =
 
 pub returns-in-Convert : goal.returns-in-Convert
 returns-in-Convert c =
-    let op = Convert c.in-Convert.format in
-    let w = c.index-windows-0.result in
-    let are : c.args.windows.now ≡ w ∷ [] = one-of c.args.windows.now w (c.requires.inputs ∙ ap input_count c.in-Convert.is) c.index-windows-0.is in
-    rw (part-of c.args.op.now op c.args.windows.now (w ∷ []) c.args.out c.in-Convert.is are c.requires.format c.requires.part) at c.changed_part.ensures
+    rw (part-of-one c.args.op.now (Convert c.in-Convert.format) c.args.windows.now c.index-windows-0.result c.args.out c.in-Convert.is refl c.requires.inputs c.index-windows-0.is c.requires.format c.requires.part) at c.changed_part.ensures
 
 pub returns-in-Invert : goal.returns-in-Invert
 returns-in-Invert c =
-    let op = Invert in
-    let w = c.index-windows-0-in-Invert.result in
-    let are : c.args.windows.now ≡ w ∷ [] = one-of c.args.windows.now w (c.requires.inputs ∙ ap input_count c.in-Invert.is) c.index-windows-0-in-Invert.is in
-    rw (part-of c.args.op.now op c.args.windows.now (w ∷ []) c.args.out c.in-Invert.is are c.requires.format c.requires.part) at c.changed_part-in-Invert.ensures
+    rw (part-of-one c.args.op.now Invert c.args.windows.now c.index-windows-0-in-Invert.result c.args.out c.in-Invert.is refl c.requires.inputs c.index-windows-0-in-Invert.is c.requires.format c.requires.part) at c.changed_part-in-Invert.ensures
 
 pub returns-in-Threshold : goal.returns-in-Threshold
 returns-in-Threshold c =
-    let op = Threshold c.in-Threshold.at in
-    let w = c.index-windows-0-in-Threshold.result in
-    let are : c.args.windows.now ≡ w ∷ [] = one-of c.args.windows.now w (c.requires.inputs ∙ ap input_count c.in-Threshold.is) c.index-windows-0-in-Threshold.is in
-    rw (part-of c.args.op.now op c.args.windows.now (w ∷ []) c.args.out c.in-Threshold.is are c.requires.format c.requires.part) at c.changed_part-in-Threshold.ensures
+    rw (part-of-one c.args.op.now (Threshold c.in-Threshold.at) c.args.windows.now c.index-windows-0-in-Threshold.result c.args.out c.in-Threshold.is refl c.requires.inputs c.index-windows-0-in-Threshold.is c.requires.format c.requires.part) at c.changed_part-in-Threshold.ensures
 
 pub returns-in-Gain : goal.returns-in-Gain
 returns-in-Gain c =
-    let op = Gain c.in-Gain.num c.in-Gain.den in
-    let w = c.index-windows-0-in-Gain.result in
-    let are : c.args.windows.now ≡ w ∷ [] = one-of c.args.windows.now w (c.requires.inputs ∙ ap input_count c.in-Gain.is) c.index-windows-0-in-Gain.is in
-    rw (part-of c.args.op.now op c.args.windows.now (w ∷ []) c.args.out c.in-Gain.is are c.requires.format c.requires.part) at c.changed_part-in-Gain.ensures
+    rw (part-of-one c.args.op.now (Gain c.in-Gain.num c.in-Gain.den) c.args.windows.now c.index-windows-0-in-Gain.result c.args.out c.in-Gain.is refl c.requires.inputs c.index-windows-0-in-Gain.is c.requires.format c.requires.part) at c.changed_part-in-Gain.ensures
 
 pub returns-in-Crop : goal.returns-in-Crop
 returns-in-Crop c =
-    let op = Crop c.in-Crop.rect in
-    let w = c.index-windows-0-in-Crop.result in
-    let are : c.args.windows.now ≡ w ∷ [] = one-of c.args.windows.now w (c.requires.inputs ∙ ap input_count c.in-Crop.is) c.index-windows-0-in-Crop.is in
-    rw (part-of c.args.op.now op c.args.windows.now (w ∷ []) c.args.out c.in-Crop.is are c.requires.format c.requires.part) at c.part.ensures
+    rw (part-of-one c.args.op.now (Crop c.in-Crop.rect) c.args.windows.now c.index-windows-0-in-Crop.result c.args.out c.in-Crop.is refl c.requires.inputs c.index-windows-0-in-Crop.is c.requires.format c.requires.part) at c.part.ensures
 
 pub returns-in-Flip : goal.returns-in-Flip
 returns-in-Flip c =
-    let op = Flip c.in-Flip.sideways in
-    let w = c.index-windows-0-in-Flip.result in
-    let are : c.args.windows.now ≡ w ∷ [] = one-of c.args.windows.now w (c.requires.inputs ∙ ap input_count c.in-Flip.is) c.index-windows-0-in-Flip.is in
-    rw (part-of c.args.op.now op c.args.windows.now (w ∷ []) c.args.out c.in-Flip.is are c.requires.format c.requires.part) at c.flipped_part.ensures
+    rw (part-of-one c.args.op.now (Flip c.in-Flip.sideways) c.args.windows.now c.index-windows-0-in-Flip.result c.args.out c.in-Flip.is refl c.requires.inputs c.index-windows-0-in-Flip.is c.requires.format c.requires.part) at c.flipped_part.ensures
 
 pub returns-in-Translate : goal.returns-in-Translate
 returns-in-Translate c =

@@ -1,27 +1,32 @@
 use Rattle.std.proofs.Common.{◌≡◌, ℕ, ◌+◌, ◌<◌, List, length, sym, ap, ◌∙◌, subst}
 use Rattle.model_images.specs.Level.{level}
 use Rattle.model_images.specs.Paint.{cut}
+use Rattle.model_graphs.specs.declared.node.NodeFact.{NodeFact}
 use Rattle.model_graphs.specs.Facts.{specs_of}
+use Rattle.model_graphs.specs.Meanings.{Meanings}
 use Rattle.model_states.specs.Cache.{needed_pairs}
 use Rattle.model_states.specs.Need.{need}
 use Rattle.model_states.specs.State.{image_of}
 use Rattle.model_sessions.specs.Sessions.{at_level_zero}
 use Rattle.swap_store.specs.Cause.{HasSwapCause}
+use Rattle.swap_store.specs.declared.refusal.SwapRefused.{SwapRefused}
 use Rattle.roi_planner.proofs.Widths.{handed-on}
 use Rattle.node_tiles.specs.Stated.{scene_of}
-use Rattle.strip_renders.specs.Moments.{moment}
+use Rattle.strip_renders.specs.Moments.{Moment, moment}
 use Rattle.strip_renders.specs.Strips.{most_names}
 use Rattle.strip_patches.specs.Nodes.{name_at}
 use Rattle.render_workers.specs.Parts.{IsExcused, LooksUp}
-use Rattle.render_workers.specs.Refusals.{CanBeRendered, by_swap}
-use Rattle.render_workers.specs.Requests.{pairs_requested, request}
+use Rattle.render_workers.specs.Refusals.{CanBeRendered, IsRefusedBy, by_swap}
+use Rattle.render_workers.specs.Requests.{Request, pairs_requested, request}
 use Rattle.render_workers.proofs.HandedOn.{any-error, plan-cause, swap-cause, unchanged-all, unchanged-swap}
 use Rattle.render_workers.proofs.Shown.{name-found, node-inside}
+use Rattle.render_workers.proofs.rendering.render.Given
+use Rattle.render_workers.proofs.rendering.render.Goals.{After-render_planned}
 use Rattle.render_workers.proofs.rendering.render.Goals as goal
 
 pub returns-in_err-position-clause-unchanged : goal.returns-in_err-position-clause-unchanged
 returns-in_err-position-clause-unchanged g c =
-    let old = moment (g.S.SourceTiles.facts c.args.sources.now) (g.S.SourceTiles.images c.args.sources.now (g.H.ChainMeaning.held c.args.chain.now)) (g.S.SourceTiles.names c.args.sources.now) (g.C.PairStore.pairs c.args.cache.now) (g.C.PairStore.sizes c.args.cache.now (g.H.ChainMeaning.held c.args.chain.now)) (g.C.PairStore.cached c.args.cache.now (g.H.ChainMeaning.held c.args.chain.now)) (g.C.PairStore.capacity c.args.cache.now) (g.C.PairStore.names c.args.cache.now) (g.H.ChainMeaning.held c.args.chain.now) (g.H.ChainMeaning.counts c.args.chain.now) (g.H.ChainMeaning.loans c.args.chain.now) in
+    let old = moment g.H.ChainMeaning g.S.SourceTiles g.C.PairStore c.args.sources.now c.args.cache.now c.args.chain.now in
     any-error c.from_residual.result _ (λ refused. unchanged-all old (g.K.OpKit.permits c.args.purse.now) refused)
 
 pub returns-in_err-position-clause-few_names : goal.returns-in_err-position-clause-few_names
@@ -29,7 +34,7 @@ returns-in_err-position-clause-few_names g c = λ one.
     let meanings = g.K.Op.OpMeaning.meanings in
     let nodes = c.args.nodes.now in
     let asked = request c.args.node c.args.level c.args.rect in
-    let old = moment (g.S.SourceTiles.facts c.args.sources.now) (g.S.SourceTiles.images c.args.sources.now (g.H.ChainMeaning.held c.args.chain.now)) (g.S.SourceTiles.names c.args.sources.now) (g.C.PairStore.pairs c.args.cache.now) (g.C.PairStore.sizes c.args.cache.now (g.H.ChainMeaning.held c.args.chain.now)) (g.C.PairStore.cached c.args.cache.now (g.H.ChainMeaning.held c.args.chain.now)) (g.C.PairStore.capacity c.args.cache.now) (g.C.PairStore.names c.args.cache.now) (g.H.ChainMeaning.held c.args.chain.now) (g.H.ChainMeaning.counts c.args.chain.now) (g.H.ChainMeaning.loans c.args.chain.now) in
+    let old = moment g.H.ChainMeaning g.S.SourceTiles g.C.PairStore c.args.sources.now c.args.cache.now c.args.chain.now in
     handed-on c.from_residual.result c.in_err-position.field-0.0 _ c.from_residual.ensures.1
     (plan-cause meanings nodes asked c.args.capacity (HasSwapCause old.counts old.counts (most_names old (pairs_requested meanings nodes asked))) c.in_err-position.field-0.0 c.in_err-position.ensures.refused)
 
@@ -37,67 +42,84 @@ pub render_planned-requires-clause-node : goal.render_planned-requires-clause-no
 render_planned-requires-clause-node g c κs within =
     subst (λ (n : ℕ). n < length c.args.nodes.now) (sym c.in_ok-position.ensures.position) (node-inside c.args.nodes.now c.args.node c.in_ok-position.ensures.there)
 
+-- ---- after the request was rendered, or refused by the swap
+
+module _ (g : Given.Over) (c : After-render_planned g) where
+  abbrev meanings : Meanings g.row.K-Op.Denot
+  meanings = g.K.Op.OpMeaning.meanings
+
+  abbrev nodes : List (NodeFact g.row.K-Op.Denot)
+  nodes = c.args.nodes.now
+
+  abbrev asked : Request
+  asked = request c.args.node c.args.level c.args.rect
+
+  abbrev old : Moment
+  old = moment g.H.ChainMeaning g.S.SourceTiles g.C.PairStore c.args.sources.now c.args.cache.now c.args.chain.now
+
+  abbrev before : ℕ
+  before = g.K.OpKit.permits c.args.purse.now
+
+  abbrev new : Moment
+  new = moment g.H.ChainMeaning g.S.SourceTiles g.C.PairStore c.render_planned.new.sources c.render_planned.new.cache c.render_planned.new.chain
+
+  abbrev after : ℕ
+  after = g.K.OpKit.permits c.render_planned.new.purse
+
+  can : CanBeRendered meanings nodes asked c.args.capacity
+  can = record { node = c.in_ok-position.ensures.there; rect = c.in_ok-position.ensures.source; narrow = c.in_ok-position.ensures.narrow }
+
+  -- what the swap refuses is excused by the pairs of the request
+  excused : (refused : SwapRefused)
+      → IsExcused (needed_pairs (specs_of nodes) (need meanings nodes c.in_ok-position.position (at_level_zero c.args.level c.args.rect))) old new refused
+      → IsExcused (pairs_requested meanings nodes asked) old new refused
+  excused refused is =
+      subst (λ (n : ℕ). IsExcused (needed_pairs (specs_of nodes) (need meanings nodes n (at_level_zero c.args.level c.args.rect))) old new refused) c.in_ok-position.ensures.position is
+
+  refused_by : (most : ℕ) (refused : SwapRefused) → HasSwapCause old.counts new.counts most refused
+      → IsRefusedBy meanings nodes asked c.args.capacity (HasSwapCause old.counts new.counts most) (by_swap refused)
+  refused_by most refused cause = swap-cause meanings nodes asked c.args.capacity (HasSwapCause old.counts new.counts most) can refused cause
+
 pub returns-in_err-done-clause-unchanged : goal.returns-in_err-done-clause-unchanged
 returns-in_err-done-clause-unchanged g c =
-    let old = moment (g.S.SourceTiles.facts c.args.sources.now) (g.S.SourceTiles.images c.args.sources.now (g.H.ChainMeaning.held c.args.chain.now)) (g.S.SourceTiles.names c.args.sources.now) (g.C.PairStore.pairs c.args.cache.now) (g.C.PairStore.sizes c.args.cache.now (g.H.ChainMeaning.held c.args.chain.now)) (g.C.PairStore.cached c.args.cache.now (g.H.ChainMeaning.held c.args.chain.now)) (g.C.PairStore.capacity c.args.cache.now) (g.C.PairStore.names c.args.cache.now) (g.H.ChainMeaning.held c.args.chain.now) (g.H.ChainMeaning.counts c.args.chain.now) (g.H.ChainMeaning.loans c.args.chain.now) in
-    let new = moment (g.S.SourceTiles.facts c.render_planned.new.sources) (g.S.SourceTiles.images c.render_planned.new.sources (g.H.ChainMeaning.held c.render_planned.new.chain)) (g.S.SourceTiles.names c.render_planned.new.sources) (g.C.PairStore.pairs c.render_planned.new.cache) (g.C.PairStore.sizes c.render_planned.new.cache (g.H.ChainMeaning.held c.render_planned.new.chain)) (g.C.PairStore.cached c.render_planned.new.cache (g.H.ChainMeaning.held c.render_planned.new.chain)) (g.C.PairStore.capacity c.render_planned.new.cache) (g.C.PairStore.names c.render_planned.new.cache) (g.H.ChainMeaning.held c.render_planned.new.chain) (g.H.ChainMeaning.counts c.render_planned.new.chain) (g.H.ChainMeaning.loans c.render_planned.new.chain) in
+    let at = (goal.at.returns-in_err-done-clause-unchanged g c).After-render_planned in
     let refused = c.in_err-done.field-0.0 in
     handed-on c.from_residual-in_err-done.result (by_swap refused) _ c.from_residual-in_err-done.ensures.1
-    (unchanged-swap old new (g.K.OpKit.permits c.args.purse.now) (g.K.OpKit.permits c.render_planned.new.purse) refused)
+    (unchanged-swap (old g at) (new g at) (before g at) (after g at) refused)
 
 pub returns-in_err-done-clause-sized : goal.returns-in_err-done-clause-sized
 returns-in_err-done-clause-sized g c = c.in_err-done.ensures.leaves.sized c.requires.sized
 
 pub returns-in_err-done-clause-cause : goal.returns-in_err-done-clause-cause
 returns-in_err-done-clause-cause g c =
-    let meanings = g.K.Op.OpMeaning.meanings in
-    let nodes = c.args.nodes.now in
-    let asked = request c.args.node c.args.level c.args.rect in
-    let old = moment (g.S.SourceTiles.facts c.args.sources.now) (g.S.SourceTiles.images c.args.sources.now (g.H.ChainMeaning.held c.args.chain.now)) (g.S.SourceTiles.names c.args.sources.now) (g.C.PairStore.pairs c.args.cache.now) (g.C.PairStore.sizes c.args.cache.now (g.H.ChainMeaning.held c.args.chain.now)) (g.C.PairStore.cached c.args.cache.now (g.H.ChainMeaning.held c.args.chain.now)) (g.C.PairStore.capacity c.args.cache.now) (g.C.PairStore.names c.args.cache.now) (g.H.ChainMeaning.held c.args.chain.now) (g.H.ChainMeaning.counts c.args.chain.now) (g.H.ChainMeaning.loans c.args.chain.now) in
-    let new = moment (g.S.SourceTiles.facts c.render_planned.new.sources) (g.S.SourceTiles.images c.render_planned.new.sources (g.H.ChainMeaning.held c.render_planned.new.chain)) (g.S.SourceTiles.names c.render_planned.new.sources) (g.C.PairStore.pairs c.render_planned.new.cache) (g.C.PairStore.sizes c.render_planned.new.cache (g.H.ChainMeaning.held c.render_planned.new.chain)) (g.C.PairStore.cached c.render_planned.new.cache (g.H.ChainMeaning.held c.render_planned.new.chain)) (g.C.PairStore.capacity c.render_planned.new.cache) (g.C.PairStore.names c.render_planned.new.cache) (g.H.ChainMeaning.held c.render_planned.new.chain) (g.H.ChainMeaning.counts c.render_planned.new.chain) (g.H.ChainMeaning.loans c.render_planned.new.chain) in
-    let zero = at_level_zero c.args.level c.args.rect in
+    let at = (goal.at.returns-in_err-done-clause-cause g c).After-render_planned in
     let refused = c.in_err-done.field-0.0 in
-    let can : CanBeRendered meanings nodes asked c.args.capacity =
-    record { node = c.in_ok-position.ensures.there; rect = c.in_ok-position.ensures.source; narrow = c.in_ok-position.ensures.narrow } in
-    let excused : IsExcused (pairs_requested meanings nodes asked) old new refused =
-    subst (λ (n : ℕ). IsExcused (needed_pairs (specs_of nodes) (need meanings nodes n zero)) old new refused) c.in_ok-position.ensures.position c.in_err-done.ensures.excused in
     handed-on c.from_residual-in_err-done.result (by_swap refused) _ c.from_residual-in_err-done.ensures.1
-    (swap-cause meanings nodes asked c.args.capacity (HasSwapCause old.counts new.counts (old.counts.names + length (pairs_requested meanings nodes asked))) can refused excused.each)
+    (refused_by g at ((g.H.ChainMeaning.counts c.args.chain.now).names + length (pairs_requested (meanings g at) (nodes g at) (asked g at))) refused
+    (excused g at refused c.in_err-done.ensures.excused).each)
 
 pub returns-in_err-done-clause-few_names : goal.returns-in_err-done-clause-few_names
 returns-in_err-done-clause-few_names g c = λ one.
-    let meanings = g.K.Op.OpMeaning.meanings in
-    let nodes = c.args.nodes.now in
-    let asked = request c.args.node c.args.level c.args.rect in
-    let old = moment (g.S.SourceTiles.facts c.args.sources.now) (g.S.SourceTiles.images c.args.sources.now (g.H.ChainMeaning.held c.args.chain.now)) (g.S.SourceTiles.names c.args.sources.now) (g.C.PairStore.pairs c.args.cache.now) (g.C.PairStore.sizes c.args.cache.now (g.H.ChainMeaning.held c.args.chain.now)) (g.C.PairStore.cached c.args.cache.now (g.H.ChainMeaning.held c.args.chain.now)) (g.C.PairStore.capacity c.args.cache.now) (g.C.PairStore.names c.args.cache.now) (g.H.ChainMeaning.held c.args.chain.now) (g.H.ChainMeaning.counts c.args.chain.now) (g.H.ChainMeaning.loans c.args.chain.now) in
-    let new = moment (g.S.SourceTiles.facts c.render_planned.new.sources) (g.S.SourceTiles.images c.render_planned.new.sources (g.H.ChainMeaning.held c.render_planned.new.chain)) (g.S.SourceTiles.names c.render_planned.new.sources) (g.C.PairStore.pairs c.render_planned.new.cache) (g.C.PairStore.sizes c.render_planned.new.cache (g.H.ChainMeaning.held c.render_planned.new.chain)) (g.C.PairStore.cached c.render_planned.new.cache (g.H.ChainMeaning.held c.render_planned.new.chain)) (g.C.PairStore.capacity c.render_planned.new.cache) (g.C.PairStore.names c.render_planned.new.cache) (g.H.ChainMeaning.held c.render_planned.new.chain) (g.H.ChainMeaning.counts c.render_planned.new.chain) (g.H.ChainMeaning.loans c.render_planned.new.chain) in
-    let zero = at_level_zero c.args.level c.args.rect in
+    let at = (goal.at.returns-in_err-done-clause-few_names g c).After-render_planned in
     let refused = c.in_err-done.field-0.0 in
-    let can : CanBeRendered meanings nodes asked c.args.capacity =
-    record { node = c.in_ok-position.ensures.there; rect = c.in_ok-position.ensures.source; narrow = c.in_ok-position.ensures.narrow } in
-    let excused : IsExcused (pairs_requested meanings nodes asked) old new refused =
-    subst (λ (n : ℕ). IsExcused (needed_pairs (specs_of nodes) (need meanings nodes n zero)) old new refused) c.in_ok-position.ensures.position c.in_err-done.ensures.excused in
     handed-on c.from_residual-in_err-done.result (by_swap refused) _ c.from_residual-in_err-done.ensures.1
-    (swap-cause meanings nodes asked c.args.capacity (HasSwapCause old.counts new.counts (most_names old (pairs_requested meanings nodes asked))) can refused (excused.few one))
+    (refused_by g at (most_names (old g at) (pairs_requested (meanings g at) (nodes g at) (asked g at))) refused
+    ((excused g at refused c.in_err-done.ensures.excused).few one))
 
 pub returns-clause-shown : goal.returns-clause-shown
 returns-clause-shown g c = λ images list known is right.
-    let meanings = g.K.Op.OpMeaning.meanings in
-    let nodes = c.args.nodes.now in
-    let asked = request c.args.node c.args.level c.args.rect in
-    let old = moment (g.S.SourceTiles.facts c.args.sources.now) (g.S.SourceTiles.images c.args.sources.now (g.H.ChainMeaning.held c.args.chain.now)) (g.S.SourceTiles.names c.args.sources.now) (g.C.PairStore.pairs c.args.cache.now) (g.C.PairStore.sizes c.args.cache.now (g.H.ChainMeaning.held c.args.chain.now)) (g.C.PairStore.cached c.args.cache.now (g.H.ChainMeaning.held c.args.chain.now)) (g.C.PairStore.capacity c.args.cache.now) (g.C.PairStore.names c.args.cache.now) (g.H.ChainMeaning.held c.args.chain.now) (g.H.ChainMeaning.counts c.args.chain.now) (g.H.ChainMeaning.loans c.args.chain.now) in
-    let new = moment (g.S.SourceTiles.facts c.render_planned.new.sources) (g.S.SourceTiles.images c.render_planned.new.sources (g.H.ChainMeaning.held c.render_planned.new.chain)) (g.S.SourceTiles.names c.render_planned.new.sources) (g.C.PairStore.pairs c.render_planned.new.cache) (g.C.PairStore.sizes c.render_planned.new.cache (g.H.ChainMeaning.held c.render_planned.new.chain)) (g.C.PairStore.cached c.render_planned.new.cache (g.H.ChainMeaning.held c.render_planned.new.chain)) (g.C.PairStore.capacity c.render_planned.new.cache) (g.C.PairStore.names c.render_planned.new.cache) (g.H.ChainMeaning.held c.render_planned.new.chain) (g.H.ChainMeaning.counts c.render_planned.new.chain) (g.H.ChainMeaning.loans c.render_planned.new.chain) in
-    let zero = at_level_zero c.args.level c.args.rect in
+    let at = (goal.at.returns-clause-shown g c).After-render_planned in
     let done = c.in_ok-done.done in
-    let looks : LooksUp meanings nodes (pairs_requested meanings nodes asked) done.applied done.reused old new (g.K.OpKit.permits c.args.purse.now) (g.K.OpKit.permits c.render_planned.new.purse) =
-    subst (λ (n : ℕ). LooksUp meanings nodes (needed_pairs (specs_of nodes) (need meanings nodes n zero)) done.applied done.reused old new (g.K.OpKit.permits c.args.purse.now) (g.K.OpKit.permits c.render_planned.new.purse))
-    c.in_ok-position.ensures.position c.in_ok-done.ensures.looks in
-    let name : name_at nodes c.in_ok-position.position ≡ c.args.node =
-    ap (name_at nodes) c.in_ok-position.ensures.position ∙ name-found nodes c.args.node c.in_ok-position.ensures.there in
+    let zero = at_level_zero c.args.level c.args.rect in
+    let looks : LooksUp (meanings g at) (nodes g at) (pairs_requested (meanings g at) (nodes g at) (asked g at)) done.applied done.reused (old g at) (new g at) (before g at) (after g at) =
+    subst (λ (n : ℕ). LooksUp (meanings g at) (nodes g at) (needed_pairs (specs_of (nodes g at)) (need (meanings g at) (nodes g at) n zero)) done.applied done.reused
+    (old g at) (new g at) (before g at) (after g at)) c.in_ok-position.ensures.position c.in_ok-done.ensures.looks in
+    let name : name_at (nodes g at) c.in_ok-position.position ≡ c.args.node =
+    ap (name_at (nodes g at)) c.in_ok-position.ensures.position ∙ name-found (nodes g at) c.args.node c.in_ok-position.ensures.there in
     record {
       cached = looks.cached images list known is right;
       patch_is = c.in_ok-done.ensures.image images known (record { list = list; known = is; right = right })
-          ∙ ap (λ (q : List ℕ). cut (level (image_of meanings (scene_of nodes images) q) c.args.level) c.args.rect) name;
+          ∙ ap (λ (q : List ℕ). cut (level (image_of (meanings g at) (scene_of (nodes g at) images) q) c.args.level) c.args.rect) name;
     }
 
 pub returns-clause-sized : goal.returns-clause-sized

@@ -1,6 +1,6 @@
 use Rattle.std.proofs.Common.{◌≡◌, Some, take}
 use Rattle.model_graphs.specs.Evaluation.{Buffers}
-use Rattle.strip_renders.specs.Moments.{moment}
+use Rattle.strip_renders.specs.Moments.{AreOver, moment}
 use Rattle.strip_renders.specs.Strips.{AreKnownRight}
 use Rattle.strip_patches.specs.LevelStrips.{AreOfOne, HasStrips}
 use Rattle.strip_patches.specs.Nodes.{image_at}
@@ -12,13 +12,12 @@ abbrev pub invariant-loop-rect : goal.invariant-loop-rect
 invariant-loop-rect g l =
     let meanings = g.K.Op.OpMeaning.meanings in
     let pairs = pairs_of meanings l.nodes l.node (take l.rect-index l.rect-items) in
-    let first = moment (g.S.SourceTiles.facts l.fn.sources) (g.S.SourceTiles.images l.fn.sources (g.H.ChainMeaning.held l.fn.chain)) (g.S.SourceTiles.names l.fn.sources) (g.C.PairStore.pairs l.fn.cache) (g.C.PairStore.sizes l.fn.cache (g.H.ChainMeaning.held l.fn.chain)) (g.C.PairStore.cached l.fn.cache (g.H.ChainMeaning.held l.fn.chain)) (g.C.PairStore.capacity l.fn.cache) (g.C.PairStore.names l.fn.cache) (g.H.ChainMeaning.held l.fn.chain) (g.H.ChainMeaning.counts l.fn.chain) (g.H.ChainMeaning.loans l.fn.chain) in
-    let now = moment (g.S.SourceTiles.facts l.sources) (g.S.SourceTiles.images l.sources (g.H.ChainMeaning.held l.chain)) (g.S.SourceTiles.names l.sources) (g.C.PairStore.pairs l.cache) (g.C.PairStore.sizes l.cache (g.H.ChainMeaning.held l.chain)) (g.C.PairStore.cached l.cache (g.H.ChainMeaning.held l.chain)) (g.C.PairStore.capacity l.cache) (g.C.PairStore.names l.cache) (g.H.ChainMeaning.held l.chain) (g.H.ChainMeaning.counts l.chain) (g.H.ChainMeaning.loans l.chain) in
+    let first = moment g.H.ChainMeaning g.S.SourceTiles g.C.PairStore l.fn.sources l.fn.cache l.fn.chain in
+    let now = moment g.H.ChainMeaning g.S.SourceTiles g.C.PairStore l.sources l.cache l.chain in
     record {
       looks : LooksUp meanings l.nodes pairs l.applied l.reused first now (g.K.OpKit.permits l.fn.purse) (g.K.OpKit.permits l.purse);
       leaves : Leaves meanings l.nodes pairs first now (g.K.OpKit.permits l.fn.purse) (g.K.OpKit.permits l.purse);
-      sources_over : g.S.SourceTiles.is_over l.sources (g.H.ChainMeaning.held l.chain);
-      cache_over : g.C.PairStore.is_over l.cache (g.H.ChainMeaning.held l.chain);
+      over : AreOver g.H.ChainMeaning g.S.SourceTiles g.C.PairStore l.sources l.cache l.chain;
       valid : g.H.ChainMeaning.is_valid l.fn.chain → g.H.ChainMeaning.is_valid l.chain;
       request : AreOfOne l.fn.level_patch l.level_patch;
       image : (images : Buffers) → g.S.SourceTiles.images l.fn.sources (g.H.ChainMeaning.held l.fn.chain) ≡ Some images

@@ -1,6 +1,9 @@
-use Rattle.std.proofs.Common.{◌≡◌, ◌*◌, ◌<◌, ◌^◌, IsTrue, List, ℕ, Some, Result, Ok, Err, IfSome, arith, refl, sym, ◌∙◌, subst}
+use Rattle.std.proofs.Common.{◌≡◌, ◌*◌, ◌<◌, ◌^◌, IsTrue, Some, Result, Ok, Err, IfSome, arith, refl, sym, ◌∙◌, subst}
+use Rattle.commit_session.specs.Parts.{Parts, working_facts}
 use Rattle.model_buffers.specs.declared.edit.BufferEdit.TheVariants.{Put}
 use Rattle.model_images.specs.FromRaw.{byte_count}
+use Rattle.model_graphs.specs.Facts.{fact_of}
+use Rattle.model_operations.specs.declared.operation.IntOp.{IntOp}
 use Rattle.outside_io.specs.Files.{Files, file}
 use Rattle.plane_rect.specs.Rectangle.{in_limits}
 use Rattle.run_events.proofs.Faults.{faults_then}
@@ -8,6 +11,7 @@ use Rattle.run_lines.proofs.EditLines.{IsEdited, SessionOver, chain_faults, stop
 use Rattle.run_lines.proofs.Loads.{load_done, load_not_read, load_out_of_bounds, load_stopped, load_unknown, raster_fits}
 use Rattle.run_lines.proofs.Stopping.{same_stop, same_stop_faults}
 use Rattle.run_lines.specs.Rasters.{IsRaster}
+use Rattle.run_lines.specs.States.{Holds}
 use Rattle.run_lines.specs.Stops.{stop_of}
 use Rattle.run_lines.specs.declared.stop.Stop.{Stop}
 use Rattle.run_lines.proofs.files.load.Goals as goal
@@ -55,21 +59,22 @@ returns-in_err-raster-clause-did g c = λ text puts exposed capacity state files
     let stop = c.in_err-raster.field-0.0 in
     let wanted : c.area.result * c.from.result ≡ byte_count c.in-Load.rect c.in-Some.fact.format = rw (c.area.ensures.value, c.from.ensures, c.pixel_bytes.ensures) refl in
     rw c.in-Load.is
-    (same_stop exposed capacity line state files _ stop _ _ _ parts held c.from_residual.ensures.1
-    (load_not_read exposed capacity line state files parts held shelf c.in-Load.name c.in-Load.rect holds c.in-Load.file stop c.in-Some.fact _ _ parts held
+    (same_stop exposed capacity line state files _ stop _ _ _ c.reuse.new.self held c.from_residual.ensures.1
+    (load_not_read exposed capacity line state files parts held shelf c.in-Load.name c.in-Load.rect holds c.in-Load.file stop c.in-Some.fact _ _ c.reuse.new.self held
     (sym c.extent.ensures ∙ c.in-Some.is) (sym c.contains.ensures.value ∙ c.if-not-contains.false)
     (subst (λ n. IfSome shelf (λ (actual : Files). IsRaster (file actual c.in-Load.file) n (Err stop))) wanted c.in_err-raster.ensures.raster)
     c.in_err-raster.ensures.files refl))
 
 pub returns-in_err-raster-clause-faults : goal.returns-in_err-raster-clause-faults
 returns-in_err-raster-clause-faults g c = λ text puts.
-    same_stop_faults c.read_raster.result c.in_err-raster.field-0.0 _ _ _ c.in_err-raster.was c.from_residual.ensures.1 (c.read_raster.ensures.faults text puts (g.C.ChainMeaning.counts c.args.chain.now))
+    same_stop_faults c.read_raster-read.result c.in_err-raster.field-0.0 _ _ _ c.in_err-raster.was c.from_residual.ensures.1 (c.read_raster-read.ensures.faults text puts (g.C.ChainMeaning.counts c.args.chain.now))
 
 pub returns-in_err-put-clause-did : goal.returns-in_err-put-clause-did
 returns-in_err-put-clause-did g c = λ text puts exposed capacity state files holds.
     let line = c.args.line.now.number in
+    let same : c.reuse.new.self ≡ c.args.session.now = c.reuse.ensures ∙ c.idle_memory-memory.ensures in
     let shelf = g.F.Shelf.files c.args.shelf.now in
-    let old : SessionOver = record { parts = c.args.session.now; held = g.C.ChainMeaning.held c.args.chain.now; counts = g.C.ChainMeaning.counts c.args.chain.now } in
+    let old : SessionOver = record { parts = c.reuse.new.self; held = g.C.ChainMeaning.held c.args.chain.now; counts = g.C.ChainMeaning.counts c.args.chain.now } in
     let new : SessionOver = record { parts = c.put.new.self; held = g.C.ChainMeaning.held c.put.new.chain; counts = g.C.ChainMeaning.counts c.put.new.chain } in
     let bytes = c.in_ok-raster.raster.items in
     let refused = c.in_err-put.field-0.0 in
@@ -85,12 +90,13 @@ returns-in_err-put-clause-did g c = λ text puts exposed capacity state files ho
     let read = c.in_ok-raster.ensures.raster in
     rw c.in-Load.is
     (same_stop exposed capacity line state files _ (stop_of refused) _ _ _ new.parts new.held c.from_residual-in_err-put.ensures.1
-    (load_stopped exposed capacity line state files old new shelf c.in-Load.name c.in-Load.rect c.in-Load.file bytes c.in-Some.fact text _ _ _ _ _ _ _ c.in_ok-raster.ensures.files holds
-    (sym c.extent.ensures ∙ c.in-Some.is) read refused edited))
+    (load_stopped exposed capacity line state files old new shelf c.in-Load.name c.in-Load.rect c.in-Load.file bytes c.in-Some.fact text _ _ _ _ _ _ _ c.in_ok-raster.ensures.files
+    (subst (λ (parts : Parts IntOp). Holds exposed capacity state files parts old.held shelf) (sym same) holds)
+    (subst (λ (parts : Parts IntOp). fact_of (working_facts parts) c.in-Load.name ≡ Some c.in-Some.fact) (sym same) (sym c.extent.ensures ∙ c.in-Some.is)) read refused edited))
 
 pub returns-in_err-put-clause-faults : goal.returns-in_err-put-clause-faults
 returns-in_err-put-clause-faults g c = λ text puts.
-    let old : SessionOver = record { parts = c.args.session.now; held = g.C.ChainMeaning.held c.args.chain.now; counts = g.C.ChainMeaning.counts c.args.chain.now } in
+    let old : SessionOver = record { parts = c.reuse.new.self; held = g.C.ChainMeaning.held c.args.chain.now; counts = g.C.ChainMeaning.counts c.args.chain.now } in
     let new : SessionOver = record { parts = c.put.new.self; held = g.C.ChainMeaning.held c.put.new.chain; counts = g.C.ChainMeaning.counts c.put.new.chain } in
     let put = Put c.in-Load.name c.in-Load.rect c.in_ok-raster.raster.items in
     let refused = c.in_err-put.field-0.0 in
@@ -111,8 +117,9 @@ returns-in_err-put-clause-faults g c = λ text puts.
 pub returns-clause-did : goal.returns-clause-did
 returns-clause-did g c = λ text puts exposed capacity state files holds.
     let line = c.args.line.now.number in
+    let same : c.reuse.new.self ≡ c.args.session.now = c.reuse.ensures ∙ c.idle_memory-memory.ensures in
     let shelf = g.F.Shelf.files c.args.shelf.now in
-    let old : SessionOver = record { parts = c.args.session.now; held = g.C.ChainMeaning.held c.args.chain.now; counts = g.C.ChainMeaning.counts c.args.chain.now } in
+    let old : SessionOver = record { parts = c.reuse.new.self; held = g.C.ChainMeaning.held c.args.chain.now; counts = g.C.ChainMeaning.counts c.args.chain.now } in
     let new : SessionOver = record { parts = c.put.new.self; held = g.C.ChainMeaning.held c.put.new.chain; counts = g.C.ChainMeaning.counts c.put.new.chain } in
     let bytes = c.in_ok-raster.raster.items in
     let edited : IsEdited (Put c.in-Load.name c.in-Load.rect bytes) (Ok tt) old new = record {
@@ -126,8 +133,9 @@ returns-clause-did g c = λ text puts exposed capacity state files holds.
     } in
     let read = c.in_ok-raster.ensures.raster in
     rw c.in-Load.is
-    (load_done exposed capacity line state files old new shelf c.in-Load.name c.in-Load.rect c.in-Load.file bytes c.in-Some.fact text _ _ _ _ _ _ _ c.in_ok-raster.ensures.files holds
-    (sym c.extent.ensures ∙ c.in-Some.is) read edited)
+    (load_done exposed capacity line state files old new shelf c.in-Load.name c.in-Load.rect c.in-Load.file bytes c.in-Some.fact text _ _ _ _ _ _ _ c.in_ok-raster.ensures.files
+    (subst (λ (parts : Parts IntOp). Holds exposed capacity state files parts old.held shelf) (sym same) holds)
+    (subst (λ (parts : Parts IntOp). fact_of (working_facts parts) c.in-Load.name ≡ Some c.in-Some.fact) (sym same) (sym c.extent.ensures ∙ c.in-Some.is)) read edited)
 
 pub returns-clause-faults : goal.returns-clause-faults
 returns-clause-faults g c = λ text puts.

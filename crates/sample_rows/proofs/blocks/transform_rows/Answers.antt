@@ -1,61 +1,59 @@
-use Rattle.std.proofs.Common.{◌≡◌, ◌%◌, ◌+◌, ◌*◌, ◌/◌, length, refl, sym, ap, ◌∙◌, arith}
+use Rattle.std.proofs.Common.{◌≡◌, ℕ, ◌%◌, ◌+◌, ◌*◌, ◌/◌, ◌<◌, length, refl, sym, ap, ◌∙◌, arith}
 use Rattle.sample_rows.specs.Groups.{group_bytes}
-use Rattle.sample_rows.proofs.BlockLaws.{begun, short, whole_blocks}
+use Rattle.sample_rows.proofs.BlockLaws.{HaveBlocks, begun, short, whole_blocks}
 use Rattle.sample_rows.proofs.GroupLaws.{MapsPairs-extended}
+use Rattle.sample_rows.proofs.blocks.transform_rows.Given
+use Rattle.sample_rows.proofs.blocks.transform_rows.Goals.{After-WRITTEN}
 use Rattle.sample_rows.proofs.blocks.transform_rows.Goals as goal
 
+module _ (g : Given.Over) (c : After-WRITTEN g) where
+  -- a row that is read has as many whole blocks as the one that is written
+  blocks_of : (m v other : ℕ) → m % v ≡ 0 → m / v ≡ length c.args.dst.now / group_bytes g.K.PairKernel.to → 0 < v → other ≡ g.K.PairKernel.count * v
+      → HaveBlocks (length c.args.dst.now) m (group_bytes g.K.PairKernel.to) v g.K.PairKernel.count c.WRITTEN.result other
+  blocks_of m v other whole same some at_other = record {
+    whole = c.requires.first.written;
+    whole_other = whole;
+    same = same;
+    some_u = g.met.K.PairKernel.some_written;
+    some_v = some;
+    some = g.met.K.PairKernel.some_groups;
+    at_block = c.WRITTEN.ensures ∙ g.met.K.PairKernel.written_bytes;
+    at_other = at_other;
+  }
+
+  first_blocks : HaveBlocks (length c.args.dst.now) (length c.args.a.now) (group_bytes g.K.PairKernel.to) (group_bytes g.K.PairKernel.first) g.K.PairKernel.count c.WRITTEN.result g.K.PairKernel.FIRST
+  first_blocks =
+      blocks_of (length c.args.a.now) (group_bytes g.K.PairKernel.first) g.K.PairKernel.FIRST c.requires.first.read c.requires.first.same_count g.met.K.PairKernel.some_first g.met.K.PairKernel.first_bytes
+
+  second_blocks : HaveBlocks (length c.args.dst.now) (length c.args.b.now) (group_bytes g.K.PairKernel.to) (group_bytes g.K.PairKernel.second) g.K.PairKernel.count c.WRITTEN.result g.K.PairKernel.SECOND
+  second_blocks =
+      blocks_of (length c.args.b.now) (group_bytes g.K.PairKernel.second) g.K.PairKernel.SECOND c.requires.second.read c.requires.second.same_count g.met.K.PairKernel.some_second g.met.K.PairKernel.second_bytes
+
+  written_blocks : HaveBlocks (length c.args.dst.now) (length c.args.dst.now) (group_bytes g.K.PairKernel.to) (group_bytes g.K.PairKernel.to) g.K.PairKernel.count c.WRITTEN.result g.K.PairKernel.WRITTEN
+  written_blocks =
+      blocks_of (length c.args.dst.now) (group_bytes g.K.PairKernel.to) g.K.PairKernel.WRITTEN c.requires.first.written refl g.met.K.PairKernel.some_written g.met.K.PairKernel.written_bytes
+
 pub transform_block-requires-clause-first : goal.transform_block-requires-clause-first
-transform_block-requires-clause-first g c =
-    let K = g.K.PairKernel in
-    let L = g.met.K.PairKernel in
-    begun (length c.args.dst.now) (length c.args.a.now) (group_bytes K.to) (group_bytes K.first) K.count c.WRITTEN.result K.FIRST
-    c.requires.first.written c.requires.first.read c.requires.first.same_count L.some_written L.some_first L.some_groups (c.WRITTEN.ensures ∙ L.written_bytes) L.first_bytes (c.loop-block.block + 1) (omega arith)
+transform_block-requires-clause-first g c = begun (first_blocks g (goal.at.transform_block-requires-clause-first g c).After-WRITTEN) (c.loop-block.block + 1) (omega arith)
 
 pub transform_rest-requires-clause-first_begun : goal.transform_rest-requires-clause-first_begun
-transform_rest-requires-clause-first_begun g c =
-    let K = g.K.PairKernel in
-    let L = g.met.K.PairKernel in
-    begun (length c.args.dst.now) (length c.args.a.now) (group_bytes K.to) (group_bytes K.first) K.count c.WRITTEN.result K.FIRST
-    c.requires.first.written c.requires.first.read c.requires.first.same_count L.some_written L.some_first L.some_groups (c.WRITTEN.ensures ∙ L.written_bytes) L.first_bytes (length c.args.dst.now / c.WRITTEN.result) (omega arith)
+transform_rest-requires-clause-first_begun g c = begun (first_blocks g (goal.at.transform_rest-requires-clause-first_begun g c).After-WRITTEN) (length c.args.dst.now / c.WRITTEN.result) (omega arith)
 
 pub transform_rest-requires-clause-first_short : goal.transform_rest-requires-clause-first_short
-transform_rest-requires-clause-first_short g c =
-    let K = g.K.PairKernel in
-    let L = g.met.K.PairKernel in
-    short (length c.args.dst.now) (length c.args.a.now) (group_bytes K.to) (group_bytes K.first) K.count c.WRITTEN.result K.FIRST
-    c.requires.first.written c.requires.first.read c.requires.first.same_count L.some_written L.some_first L.some_groups (c.WRITTEN.ensures ∙ L.written_bytes) L.first_bytes
+transform_rest-requires-clause-first_short g c = short (first_blocks g (goal.at.transform_rest-requires-clause-first_short g c).After-WRITTEN)
 
 pub transform_block-requires-clause-second : goal.transform_block-requires-clause-second
-transform_block-requires-clause-second g c =
-    let K = g.K.PairKernel in
-    let L = g.met.K.PairKernel in
-    begun (length c.args.dst.now) (length c.args.b.now) (group_bytes K.to) (group_bytes K.second) K.count c.WRITTEN.result K.SECOND
-    c.requires.second.written c.requires.second.read c.requires.second.same_count L.some_written L.some_second L.some_groups (c.WRITTEN.ensures ∙ L.written_bytes) L.second_bytes (c.loop-block.block + 1) (omega arith)
+transform_block-requires-clause-second g c = begun (second_blocks g (goal.at.transform_block-requires-clause-second g c).After-WRITTEN) (c.loop-block.block + 1) (omega arith)
 
 pub transform_rest-requires-clause-second_begun : goal.transform_rest-requires-clause-second_begun
-transform_rest-requires-clause-second_begun g c =
-    let K = g.K.PairKernel in
-    let L = g.met.K.PairKernel in
-    begun (length c.args.dst.now) (length c.args.b.now) (group_bytes K.to) (group_bytes K.second) K.count c.WRITTEN.result K.SECOND
-    c.requires.second.written c.requires.second.read c.requires.second.same_count L.some_written L.some_second L.some_groups (c.WRITTEN.ensures ∙ L.written_bytes) L.second_bytes (length c.args.dst.now / c.WRITTEN.result) (omega arith)
+transform_rest-requires-clause-second_begun g c = begun (second_blocks g (goal.at.transform_rest-requires-clause-second_begun g c).After-WRITTEN) (length c.args.dst.now / c.WRITTEN.result) (omega arith)
 
 pub transform_rest-requires-clause-second_short : goal.transform_rest-requires-clause-second_short
-transform_rest-requires-clause-second_short g c =
-    let K = g.K.PairKernel in
-    let L = g.met.K.PairKernel in
-    short (length c.args.dst.now) (length c.args.b.now) (group_bytes K.to) (group_bytes K.second) K.count c.WRITTEN.result K.SECOND
-    c.requires.second.written c.requires.second.read c.requires.second.same_count L.some_written L.some_second L.some_groups (c.WRITTEN.ensures ∙ L.written_bytes) L.second_bytes
+transform_rest-requires-clause-second_short g c = short (second_blocks g (goal.at.transform_rest-requires-clause-second_short g c).After-WRITTEN)
 
 pub transform_rest-requires-clause-written_short : goal.transform_rest-requires-clause-written_short
 transform_rest-requires-clause-written_short g c =
-    let K = g.K.PairKernel in
-    let L = g.met.K.PairKernel in
-    let long = length c.args.dst.now in
-    omega (
-      arith,
-      short long long (group_bytes K.to) (group_bytes K.to) K.count c.WRITTEN.result K.WRITTEN
-          c.requires.first.written c.requires.first.written refl L.some_written L.some_written L.some_groups (c.WRITTEN.ensures ∙ L.written_bytes) L.written_bytes,
-    )
+    omega (arith, short (written_blocks g (goal.at.transform_rest-requires-clause-written_short g c).After-WRITTEN))
 
 pub loop-block-preserved : goal.loop-block-preserved
 loop-block-preserved g c =
@@ -81,7 +79,6 @@ returns-then-dst-WRITTEN-gt0 g c =
 pub returns-else-dst-WRITTEN-gt0 : goal.returns-else-dst-WRITTEN-gt0
 returns-else-dst-WRITTEN-gt0 g c k i lt within =
     let K = g.K.PairKernel in
-    let L = g.met.K.PairKernel in
     let old = c.args.dst.now in
     let long = length old in
     let blocks = long / c.WRITTEN.result in
@@ -94,6 +91,5 @@ returns-else-dst-WRITTEN-gt0 g c k i lt within =
       lt,
       same_total,
       ap (λ b. b * K.count) all,
-      whole_blocks long long (group_bytes K.to) (group_bytes K.to) K.count c.WRITTEN.result K.WRITTEN
-          c.requires.first.written c.requires.first.written refl L.some_written L.some_written L.some_groups (c.WRITTEN.ensures ∙ L.written_bytes) L.written_bytes none,
+      whole_blocks (written_blocks g (goal.at.returns-else-dst-WRITTEN-gt0 g c).After-WRITTEN) none,
     )) within

@@ -1,5 +1,4 @@
 use Rattle.std.proofs.Common.{Some, length, min, refl}
-use Rattle.chain_handlers.specs.OwnedTiles.{counts_over}
 use Rattle.model_runs.specs.MadeJob.{made_files}
 use Rattle.run_events.proofs.Faults.{faults_by_cause, faults_then}
 use Rattle.run_words.specs.Meant.{options_meant}

@@ -24,12 +24,12 @@ module _ (g : Given.Over) (c : After-batch_end-end g) where
       let few = batch-length c.as_slice-need.result.now c.args.index c.batch_end-end.result (omega (arith, c.requires.index, ap length c.as_slice-need.ensures)) in
       omega (arith, few, ap length c.as_slice-need.ensures)
 
-  ready : AreReady g.K.Op.OpMeaning.meanings c.args.nodes.now c.args.held.now (take (c.batch_end-end.result - c.args.index) (drop c.args.index c.as_slice-need.result.now))
+  ready : AreReady g.K.Op.OpMeaning.meanings c.args.by.now.nodes.now c.args.held.now (take (c.batch_end-end.result - c.args.index) (drop c.args.index c.as_slice-need.result.now))
   ready =
       let one : AreOfOneNode c.args.strip.now.need c.args.index c.batch_end-end.result =
       subst (λ (list : List Needed). AreOfOneNode list c.args.index c.batch_end-end.result) c.as_slice-need.ensures c.batch_end-end.ensures.one in
-      subst (λ (list : List Needed). AreReady g.K.Op.OpMeaning.meanings c.args.nodes.now c.args.held.now (take (c.batch_end-end.result - c.args.index) (drop c.args.index list))) (sym c.as_slice-need.ensures)
-      (batch-ready g.K.Op.OpMeaning.meanings c.args.nodes.now (shapes_of_facts (g.S.SourceTiles.facts c.args.sources.now)) c.args.strip.now c.requires.stated c.requires.strip
+      subst (λ (list : List Needed). AreReady g.K.Op.OpMeaning.meanings c.args.by.now.nodes.now c.args.held.now (take (c.batch_end-end.result - c.args.index) (drop c.args.index list))) (sym c.as_slice-need.ensures)
+      (batch-ready g.K.Op.OpMeaning.meanings c.args.by.now.nodes.now (shapes_of_facts (g.S.SourceTiles.facts c.args.sources.now)) c.args.strip.now c.requires.stated.nodes c.requires.strip
       c.args.index c.batch_end-end.result c.args.held.now one c.requires.held)
 
 pub tile_jobs-requires-clause-ready : goal.tile_jobs-requires-clause-ready
@@ -50,25 +50,25 @@ pub returns-in_err-made-clause-permits : goal.returns-in_err-made-clause-permits
 returns-in_err-made-clause-permits g c =
     let at = (goal.at.returns-in_err-made-clause-permits g c).After-batch_end-end in
     let few =
-    jobs-few g.K.Op.OpMeaning.meanings c.args.nodes.now (g.C.PairStore.pairs c.args.cache.now) (take (c.batch_end-end.result - c.args.index) (drop c.args.index c.as_slice-need.result.now))
+    jobs-few g.K.Op.OpMeaning.meanings c.args.by.now.nodes.now (g.C.PairStore.pairs c.args.cache.now) (take (c.batch_end-end.result - c.args.index) (drop c.args.index c.as_slice-need.result.now))
     c.in_ok-jobs.jobs.items c.in_ok-jobs.ensures.jobs in
     matched-err c.from_residual-in_err-made.result _ _ _ c.from_residual-in_err-made.ensures.1
     (omega (arith, c.in_ok-jobs.ensures.permits), omega (arith, c.in_ok-jobs.ensures.permits, few, none g at, count g at))
 
 pub returns-clause-ahead : goal.returns-clause-ahead
 returns-clause-ahead g c =
-    batch-ahead g.K.Op.OpMeaning.meanings c.args.nodes.now (g.C.PairStore.pairs c.args.cache.now) (drop c.args.index c.args.strip.now.need) (c.batch_end-end.result - c.args.index)
+    batch-ahead g.K.Op.OpMeaning.meanings c.args.by.now.nodes.now (g.C.PairStore.pairs c.args.cache.now) (drop c.args.index c.args.strip.now.need) (c.batch_end-end.result - c.args.index)
     c.in_ok-jobs.jobs.items c.from_vec.result.items (c.from_vec.ensures.items ∙ c.in_ok-made.ensures)
-    (subst (λ (list : List Needed). AreJobs g.K.Op.OpMeaning.meanings c.args.nodes.now (g.C.PairStore.pairs c.args.cache.now) (take (c.batch_end-end.result - c.args.index) (drop c.args.index list)) c.in_ok-jobs.jobs.items)
+    (subst (λ (list : List Needed). AreJobs g.K.Op.OpMeaning.meanings c.args.by.now.nodes.now (g.C.PairStore.pairs c.args.cache.now) (take (c.batch_end-end.result - c.args.index) (drop c.args.index list)) c.in_ok-jobs.jobs.items)
     c.as_slice-need.ensures c.in_ok-jobs.ensures.jobs)
 
 pub returns-clause-bytes : goal.returns-clause-bytes
 returns-clause-bytes g c = λ images known tiles before.
-    batch-made g.K.Op.OpMeaning.meanings c.args.nodes.now images c.in_ok-jobs.jobs.items c.from_vec.result.items (c.from_vec.ensures.items ∙ c.in_ok-made.ensures)
+    batch-made g.K.Op.OpMeaning.meanings c.args.by.now.nodes.now images c.in_ok-jobs.jobs.items c.from_vec.result.items (c.from_vec.ensures.items ∙ c.in_ok-made.ensures)
     (c.in_ok-jobs.ensures.bytes images known tiles)
 
 pub returns-clause-permits : goal.returns-clause-permits
 returns-clause-permits g c =
     let at = (goal.at.returns-clause-permits g c).After-batch_end-end in
-    let made = batch-count g.K.Op.OpMeaning.meanings c.args.nodes.now c.in_ok-jobs.jobs.items c.from_vec.result.items (c.from_vec.ensures.items ∙ c.in_ok-made.ensures) in
+    let made = batch-count g.K.Op.OpMeaning.meanings c.args.by.now.nodes.now c.in_ok-jobs.jobs.items c.from_vec.result.items (c.from_vec.ensures.items ∙ c.in_ok-made.ensures) in
     (omega (arith, c.in_ok-jobs.ensures.permits), omega (arith, made, none g at, c.in_ok-jobs.ensures.permits))

@@ -1,6 +1,6 @@
 use Rattle.std.proofs.Common.{◌≡◌, ◌+◌, ◌++◌, get_or, refl, sym, ap, ◌∙◌, arith}
 use Rattle.chain_owners.specs.Owners.{Owns, Respects}
-use Rattle.chain_owners.proofs.Ownership.{others-own, others-unchanged, seen-unchanged}
+use Rattle.chain_owners.proofs.Ownership.{seen-unchanged}
 use Rattle.model_graphs.specs.declared.node.NodeFact.{NodeFact}
 use Rattle.model_graphs.specs.Facts.{specs_of}
 use Rattle.model_states.specs.Cache.{Pair, find_pair, itself, pair_of}
@@ -10,8 +10,8 @@ use Rattle.node_tiles.proofs.Places.{ready-inside}
 use Rattle.node_tiles.proofs.Reading.{reads-others}
 use Rattle.roi_planner.proofs.Widths.{handed-on}
 use Rattle.strip_renders.specs.Looks.{HasSameCache, IsKept}
-use Rattle.strip_renders.specs.Moments.{Keeps, Moment, moment}
-use Rattle.strip_renders.proofs.Moments.{Turns, cause-kept, keeps-both, keeps-most, keeps-reads, keeps-turns, matched-err, owns-last, owns-turned, source_of}
+use Rattle.strip_renders.specs.Moments.{AreOver, Keeps, Moment, moment}
+use Rattle.strip_renders.proofs.Moments.{Turns, cause-kept, keeps-both, keeps-most, keeps-reads, keeps-turns, matched-err, over-reads, over-turns, owns-turned, source_of}
 use Rattle.strip_renders.proofs.AheadLaws.{refused-after}
 use Rattle.strip_renders.proofs.Pairs.{kept-after, named}
 use Rattle.strip_renders.proofs.fresh.fresh_tile.Given
@@ -20,9 +20,7 @@ use Rattle.strip_renders.proofs.fresh.fresh_tile.Goals as goal
 
 module _ (g : Given.Over) where
   abbrev seen : g.row.S.Denot → g.row.C.Denot → g.row.H.Denot → Moment
-  seen sources cache chain = moment (g.S.SourceTiles.facts sources) (g.S.SourceTiles.images sources (g.H.ChainMeaning.held chain)) (g.S.SourceTiles.names sources)
-      (g.C.PairStore.pairs cache) (g.C.PairStore.sizes cache (g.H.ChainMeaning.held chain)) (g.C.PairStore.cached cache (g.H.ChainMeaning.held chain)) (g.C.PairStore.capacity cache) (g.C.PairStore.names cache)
-      (g.H.ChainMeaning.held chain) (g.H.ChainMeaning.counts chain) (g.H.ChainMeaning.loans chain)
+  seen sources cache chain = moment g.H.ChainMeaning g.S.SourceTiles g.C.PairStore sources cache chain
 
   -- ---- the tile was made: the cache is unchanged
 
@@ -39,33 +37,29 @@ module _ (g : Given.Over) where
     same : HasSameCache old mid
     same = record {
       pairs = refl;
-      sizes = seen-unchanged old.held mid.held old.source_names mid.source_names others old.cache_names (g.C.PairStore.sizes c.args.cache.now) (g.met.C.PairStore.framed_sizes c.args.cache.now) c.requires.owned;
-      cached = seen-unchanged old.held mid.held old.source_names mid.source_names others old.cache_names (g.C.PairStore.cached c.args.cache.now) (g.met.C.PairStore.framed c.args.cache.now) c.requires.owned;
+      sizes = seen-unchanged old.held mid.held old.source_names mid.source_names others old.cache_names (g.C.PairStore.sizes c.args.cache.now) (g.met.C.PairStore.framed_sizes c.args.cache.now) c.requires.over.owned;
+      cached = seen-unchanged old.held mid.held old.source_names mid.source_names others old.cache_names (g.C.PairStore.cached c.args.cache.now) (g.met.C.PairStore.framed c.args.cache.now) c.requires.over.owned;
     }
 
     read : Keeps 0 old mid
     read = keeps-reads old mid c.made_or_evaluated.ensures.reads refl refl
 
-    owned : Owns mid.held (mid.source_names ++ old.cache_names)
-    owned = others-own old.held mid.held old.source_names mid.source_names others old.cache_names c.requires.owned
-
-    cache_over : g.C.PairStore.is_over c.args.cache.now mid.held
-    cache_over =
-        g.met.C.PairStore.framed_condition c.args.cache.now old.held mid.held c.requires.cache_over c.made_or_evaluated.ensures.reads.others.exposed
-        (others-unchanged old.held mid.held old.source_names mid.source_names others old.cache_names c.requires.owned)
-        (owns-last mid.held mid.source_names old.cache_names owned)
+    over : AreOver g.H.ChainMeaning g.S.SourceTiles g.C.PairStore c.made_or_evaluated.new.sources c.args.cache.now c.made_or_evaluated.new.chain
+    over =
+        over-reads g.H.ChainMeaning g.S.SourceTiles g.C.PairStore c.args.sources.now c.made_or_evaluated.new.sources c.args.cache.now c.args.chain.now c.made_or_evaluated.new.chain
+        (g.met.C.PairStore.framed_condition c.args.cache.now) c.made_or_evaluated.ensures.reads c.made_or_evaluated.ensures.over c.requires.over
 
   -- the pair is that of the name
   module _ (c : After-made_or_evaluated g) where
-    pair : pair_of (specs_of c.args.nodes.now) (c.args.node, c.args.at) ≡ pair_at (get_or c.args.nodes.now c.args.node c.index-nodes-node.result).spec.name c.args.at
+    pair : pair_of (specs_of c.args.by.now.nodes.now) (c.args.node, c.args.at) ≡ pair_at (get_or c.args.by.now.nodes.now c.args.node c.index-nodes-node.result).spec.name c.args.at
     pair =
-        named c.args.nodes.now c.args.node c.index-nodes-node.result c.args.at
-        (ready-inside c.args.nodes.now g.K.Op.OpMeaning.meanings c.args.held.now c.args.node c.args.at c.requires.ready) c.index-nodes-node.is
+        named c.args.by.now.nodes.now c.args.node c.index-nodes-node.result c.args.at
+        (ready-inside c.args.by.now.nodes.now g.K.Op.OpMeaning.meanings c.args.held.now c.args.node c.args.at c.requires.ready) c.index-nodes-node.is
         ∙ ap (λ (f : NodeFact g.row.K-Op.Denot). pair_at f.spec.name c.args.at) c.index-nodes-node.is
 
   -- ---- it was kept: the source is unchanged
 
-  module _ (c : After-keep g) (before : Owns (g.H.ChainMeaning.held c.made_or_evaluated.new.chain) (g.S.SourceTiles.names c.made_or_evaluated.new.sources ++ g.C.PairStore.names c.args.cache.now)) where
+  module _ (c : After-keep g) (before : AreOver g.H.ChainMeaning g.S.SourceTiles g.C.PairStore c.made_or_evaluated.new.sources c.args.cache.now c.made_or_evaluated.new.chain) where
     abbrev then : Moment
     then = seen c.made_or_evaluated.new.sources c.args.cache.now c.made_or_evaluated.new.chain
 
@@ -73,59 +67,53 @@ module _ (g : Given.Over) where
     new = seen c.made_or_evaluated.new.sources c.keep.new.self c.keep.new.chain
 
     turns : Turns 1 then new
-    turns = record {
-      others = c.keep.ensures.others;
-      one_owner = c.keep.ensures.one_owner;
-      other_names = c.keep.ensures.other_names;
-      counts = c.keep.ensures.counts;
-      loans = c.keep.ensures.loans;
-      capacity = c.keep.ensures.capacity;
-    }
+    turns =
+        let does = c.keep.ensures in
+        record { others = does.others; one_owner = does.one_owner; other_names = does.other_names; counts = does.counts; loans = does.loans; capacity = does.capacity }
 
     turned : Owns then.held (then.cache_names ++ then.source_names)
-    turned = owns-turned then.held then.source_names then.cache_names before
+    turned = owns-turned then.held then.source_names then.cache_names before.owned
 
     kept : Keeps 1 then new
     kept =
         let images : new.images ≡ then.images = seen-unchanged then.held new.held then.cache_names new.cache_names turns.others then.source_names (g.S.SourceTiles.images c.made_or_evaluated.new.sources) (g.met.S.SourceTiles.framed c.made_or_evaluated.new.sources) turned in
         keeps-turns 1 then new turns refl images refl
 
-    sources_over : g.S.SourceTiles.is_over c.made_or_evaluated.new.sources new.held
-    sources_over =
-        g.met.S.SourceTiles.framed_condition c.made_or_evaluated.new.sources then.held new.held c.made_or_evaluated.ensures.over turns.others.exposed
-        (others-unchanged then.held new.held then.cache_names new.cache_names turns.others then.source_names turned)
-        (owns-last new.held new.cache_names then.source_names (others-own then.held new.held then.cache_names new.cache_names turns.others then.source_names turned))
+    over_after : AreOver g.H.ChainMeaning g.S.SourceTiles g.C.PairStore c.made_or_evaluated.new.sources c.keep.new.self c.keep.new.chain
+    over_after =
+        over-turns g.H.ChainMeaning g.S.SourceTiles g.C.PairStore c.made_or_evaluated.new.sources c.args.cache.now c.keep.new.self c.made_or_evaluated.new.chain c.keep.new.chain 1
+        (g.met.S.SourceTiles.framed_condition c.made_or_evaluated.new.sources) turns c.keep.ensures.over before
 
 -- ---- none was made, or there was no room for its share
 
 pub returns-in_err-tile-clause-kept : goal.returns-in_err-tile-clause-kept
 returns-in_err-tile-clause-kept g c =
     let at = (goal.at.returns-in_err-tile-clause-kept g c).After-made_or_evaluated in
-    matched-err c.from_residual.result (λ tile. IsKept (old g at) (mid g at) (pair_of (specs_of c.args.nodes.now) (c.args.node, c.args.at)) tile) (HasSameCache (old g at) (mid g at)) _
+    matched-err c.from_residual.result (λ tile. IsKept (old g at) (mid g at) (pair_of (specs_of c.args.by.now.nodes.now) (c.args.node, c.args.at)) tile) (HasSameCache (old g at) (mid g at)) _
     c.from_residual.ensures.1 (same g at)
 
 pub returns-in_err-tile-clause-keeps : goal.returns-in_err-tile-clause-keeps
 returns-in_err-tile-clause-keeps g c = keeps-most 0 1 _ _ (omega arith) (read g (goal.at.returns-in_err-tile-clause-keeps g c).After-made_or_evaluated)
 
-pub returns-in_err-tile-clause-cache_over : goal.returns-in_err-tile-clause-cache_over
-returns-in_err-tile-clause-cache_over g c = cache_over g (goal.at.returns-in_err-tile-clause-cache_over g c).After-made_or_evaluated
+pub returns-in_err-tile-clause-over : goal.returns-in_err-tile-clause-over
+returns-in_err-tile-clause-over g c = over g (goal.at.returns-in_err-tile-clause-over g c).After-made_or_evaluated
 
 pub returns-in_err-share-clause-kept : goal.returns-in_err-share-clause-kept
 returns-in_err-share-clause-kept g c =
     let at = (goal.at.returns-in_err-share-clause-kept g c).After-made_or_evaluated in
-    matched-err c.from_residual-in_err-share.result (λ tile. IsKept (old g at) (mid g at) (pair_of (specs_of c.args.nodes.now) (c.args.node, c.args.at)) tile) (HasSameCache (old g at) (mid g at)) _
+    matched-err c.from_residual-in_err-share.result (λ tile. IsKept (old g at) (mid g at) (pair_of (specs_of c.args.by.now.nodes.now) (c.args.node, c.args.at)) tile) (HasSameCache (old g at) (mid g at)) _
     c.from_residual-in_err-share.ensures.1 (same g at)
 
 pub returns-in_err-share-clause-keeps : goal.returns-in_err-share-clause-keeps
 returns-in_err-share-clause-keeps g c = keeps-most 0 1 _ _ (omega arith) (read g (goal.at.returns-in_err-share-clause-keeps g c).After-made_or_evaluated)
 
-pub returns-in_err-share-clause-cache_over : goal.returns-in_err-share-clause-cache_over
-returns-in_err-share-clause-cache_over g c = cache_over g (goal.at.returns-in_err-share-clause-cache_over g c).After-made_or_evaluated
+pub returns-in_err-share-clause-over : goal.returns-in_err-share-clause-over
+returns-in_err-share-clause-over g c = over g (goal.at.returns-in_err-share-clause-over g c).After-made_or_evaluated
 
 -- ---- the share is kept
 
 pub keep-requires-clause-over : goal.keep-requires-clause-over
-keep-requires-clause-over g c = cache_over g (goal.at.keep-requires-clause-over g c).After-made_or_evaluated
+keep-requires-clause-over g c = let are = over g (goal.at.keep-requires-clause-over g c).After-made_or_evaluated in are.cache_over
 
 pub keep-requires-clause-absent : goal.keep-requires-clause-absent
 keep-requires-clause-absent g c =
@@ -134,18 +122,18 @@ keep-requires-clause-absent g c =
 pub returns-in_err-keep-clause-keeps : goal.returns-in_err-keep-clause-keeps
 returns-in_err-keep-clause-keeps g c =
     let at = goal.at.returns-in_err-keep-clause-keeps g c in
-    keeps-both 0 1 _ _ _ (read g at.After-made_or_evaluated) (kept g at.After-keep (owned g at.After-made_or_evaluated))
+    keeps-both 0 1 _ _ _ (read g at.After-made_or_evaluated) (kept g at.After-keep (over g at.After-made_or_evaluated))
 
-pub returns-in_err-keep-clause-sources_over : goal.returns-in_err-keep-clause-sources_over
-returns-in_err-keep-clause-sources_over g c = let at = goal.at.returns-in_err-keep-clause-sources_over g c in sources_over g at.After-keep (owned g at.After-made_or_evaluated)
+pub returns-in_err-keep-clause-over : goal.returns-in_err-keep-clause-over
+returns-in_err-keep-clause-over g c = let at = goal.at.returns-in_err-keep-clause-over g c in over_after g at.After-keep (over g at.After-made_or_evaluated)
 
 pub returns-clause-keeps : goal.returns-clause-keeps
 returns-clause-keeps g c =
     let at = goal.at.returns-clause-keeps g c in
-    keeps-both 0 1 _ _ _ (read g at.After-made_or_evaluated) (kept g at.After-keep (owned g at.After-made_or_evaluated))
+    keeps-both 0 1 _ _ _ (read g at.After-made_or_evaluated) (kept g at.After-keep (over g at.After-made_or_evaluated))
 
-pub returns-clause-sources_over : goal.returns-clause-sources_over
-returns-clause-sources_over g c = let at = goal.at.returns-clause-sources_over g c in sources_over g at.After-keep (owned g at.After-made_or_evaluated)
+pub returns-clause-over : goal.returns-clause-over
+returns-clause-over g c = let at = goal.at.returns-clause-over g c in over_after g at.After-keep (over g at.After-made_or_evaluated)
 
 pub returns-in_err-keep-clause-kept : goal.returns-in_err-keep-clause-kept
 returns-in_err-keep-clause-kept g c =
@@ -153,7 +141,7 @@ returns-in_err-keep-clause-kept g c =
     let before = same g at.After-made_or_evaluated in
     let start = old g at.After-made_or_evaluated in
     let last = seen g c.made_or_evaluated.new.sources c.keep.new.self c.keep.new.chain in
-    matched-err c.from_residual-in_err-keep.result (λ tile. IsKept start last (pair_of (specs_of c.args.nodes.now) (c.args.node, c.args.at)) tile) (HasSameCache start last) _ c.from_residual-in_err-keep.ensures.1
+    matched-err c.from_residual-in_err-keep.result (λ tile. IsKept start last (pair_of (specs_of c.args.by.now.nodes.now) (c.args.node, c.args.at)) tile) (HasSameCache start last) _ c.from_residual-in_err-keep.ensures.1
     (record { pairs = c.in_err-keep.ensures.pairs; sizes = c.in_err-keep.ensures.sizes ∙ before.sizes; cached = c.in_err-keep.ensures.cached ∙ before.cached })
 
 pub returns-in_err-keep-clause-cause : goal.returns-in_err-keep-clause-cause
@@ -170,8 +158,8 @@ returns-clause-kept g c =
     let at = (goal.at.returns-clause-kept g c).After-made_or_evaluated in
     let before = same g at in
     let last = seen g c.made_or_evaluated.new.sources c.keep.new.self c.keep.new.chain in
-    kept-after (old g at) (mid g at) last (pair_of (specs_of c.args.nodes.now) (c.args.node, c.args.at))
-    (pair_at (get_or c.args.nodes.now c.args.node c.index-nodes-node.result).spec.name c.args.at) c.in_ok-tile.tile c.in_ok-share.share (pair g at) (sym c.in_ok-share.ensures)
+    kept-after (old g at) (mid g at) last (pair_of (specs_of c.args.by.now.nodes.now) (c.args.node, c.args.at))
+    (pair_at (get_or c.args.by.now.nodes.now c.args.node c.index-nodes-node.result).spec.name c.args.at) c.in_ok-tile.tile c.in_ok-share.share (pair g at) (sym c.in_ok-share.ensures)
     c.requires.absent refl refl before.sizes before.cached c.in_ok-keep.ensures.pairs c.in_ok-keep.ensures.sizes c.in_ok-keep.ensures.cached
 
 -- ---- permits

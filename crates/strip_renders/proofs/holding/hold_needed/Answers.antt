@@ -17,9 +17,7 @@ use Rattle.strip_renders.proofs.holding.hold_needed.Goals as goal
 
 module _ (g : Given.Over) where
   abbrev seen : g.row.S.Denot → g.row.C.Denot → g.row.H.Denot → Moment
-  seen sources cache chain = moment (g.S.SourceTiles.facts sources) (g.S.SourceTiles.images sources (g.H.ChainMeaning.held chain)) (g.S.SourceTiles.names sources)
-      (g.C.PairStore.pairs cache) (g.C.PairStore.sizes cache (g.H.ChainMeaning.held chain)) (g.C.PairStore.cached cache (g.H.ChainMeaning.held chain)) (g.C.PairStore.capacity cache) (g.C.PairStore.names cache)
-      (g.H.ChainMeaning.held chain) (g.H.ChainMeaning.counts chain) (g.H.ChainMeaning.loans chain)
+  seen sources cache chain = moment g.H.ChainMeaning g.S.SourceTiles g.C.PairStore sources cache chain
 
   module _ (c : In_ok-tile g) where
     abbrev old : Moment
@@ -29,20 +27,20 @@ module _ (g : Given.Over) where
     new = seen c.needed_tile.new.sources c.needed_tile.new.cache c.needed_tile.new.chain
 
     abbrev pair : Pair
-    pair = pair_of (specs_of c.args.nodes.now) (c.args.node, c.args.at)
+    pair = pair_of (specs_of c.args.by.now.nodes.now) (c.args.node, c.args.at)
 
     -- the cached pairs are right again
     right : (images : Buffers) → g.S.SourceTiles.images c.args.sources.now (g.H.ChainMeaning.held c.args.chain.now) ≡ Some images
-        → AreTilesOf g.K.Op.OpMeaning.meanings c.args.nodes.now images c.args.tiles.now
-        → IsMadeOf g.K.Op.OpMeaning.meanings c.args.nodes.now images (c.args.node, c.args.at) c.args.made
-        → AreKnownRight g.K.Op.OpMeaning.meanings c.args.nodes.now images (g.C.PairStore.cached c.args.cache.now (g.H.ChainMeaning.held c.args.chain.now))
-        → AreKnownRight g.K.Op.OpMeaning.meanings c.args.nodes.now images (g.C.PairStore.cached c.needed_tile.new.cache (g.H.ChainMeaning.held c.needed_tile.new.chain))
+        → AreTilesOf g.K.Op.OpMeaning.meanings c.args.by.now.nodes.now images c.args.tiles.now
+        → IsMadeOf g.K.Op.OpMeaning.meanings c.args.by.now.nodes.now images (c.args.node, c.args.at) c.args.made
+        → AreKnownRight g.K.Op.OpMeaning.meanings c.args.by.now.nodes.now images (g.C.PairStore.cached c.args.cache.now (g.H.ChainMeaning.held c.args.chain.now))
+        → AreKnownRight g.K.Op.OpMeaning.meanings c.args.by.now.nodes.now images (g.C.PairStore.cached c.needed_tile.new.cache (g.H.ChainMeaning.held c.needed_tile.new.chain))
     right images known are made before =
         let facts = g.S.SourceTiles.facts c.args.sources.now in
-        let exposed = g.met.C.PairStore.exposed c.args.cache.now (g.H.ChainMeaning.held c.args.chain.now) c.requires.cache_over in
-        let shown : AreImagesOf facts images = rw known at (g.met.S.SourceTiles.exposed c.args.sources.now (g.H.ChainMeaning.held c.args.chain.now) c.requires.sources_over).shapes in
-        right-shown g.K.Op.OpMeaning.meanings facts c.args.nodes.now images old new pair c.in_ok-tile.tile c.in_ok-tile.found exposed
-        (c.in_ok-tile.ensures.bytes images known are made before) c.in_ok-tile.ensures.looked c.requires.stated shown c.requires.of_nodes before
+        let exposed = g.met.C.PairStore.exposed c.args.cache.now (g.H.ChainMeaning.held c.args.chain.now) c.requires.over.cache_over in
+        let shown : AreImagesOf facts images = rw known at (g.met.S.SourceTiles.exposed c.args.sources.now (g.H.ChainMeaning.held c.args.chain.now) c.requires.over.sources_over).shapes in
+        right-shown g.K.Op.OpMeaning.meanings facts c.args.by.now.nodes.now images old new pair c.in_ok-tile.tile c.in_ok-tile.found exposed
+        (c.in_ok-tile.ensures.bytes images known are made before) c.in_ok-tile.ensures.looked c.requires.stated.nodes shown c.requires.of_nodes before
 
 pub returns-in_err-hold-clause-right : goal.returns-in_err-hold-clause-right
 returns-in_err-hold-clause-right g c = right g (goal.at.returns-in_err-hold-clause-right g c).In_ok-tile
@@ -61,8 +59,8 @@ pub returns-clause-bytes : goal.returns-clause-bytes
 returns-clause-bytes g c = λ images list known are made cached right.
     let at = (goal.at.returns-clause-bytes g c).In_ok-tile in
     let meanings = g.K.Op.OpMeaning.meanings in
-    let nodes = c.args.nodes.now in
-    let exposed = g.met.C.PairStore.exposed c.args.cache.now (g.H.ChainMeaning.held c.args.chain.now) c.requires.cache_over in
+    let nodes = c.args.by.now.nodes.now in
+    let exposed = g.met.C.PairStore.exposed c.args.cache.now (g.H.ChainMeaning.held c.args.chain.now) c.requires.over.cache_over in
     let bytes : c.in_ok-tile.tile ≡ bytes_at meanings nodes images c.args.node c.args.at =
     c.in_ok-tile.ensures.bytes images known are made (record { list = list; known = cached; right = right }) in
     record {

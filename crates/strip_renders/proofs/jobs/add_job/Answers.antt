@@ -8,11 +8,11 @@ use Rattle.strip_renders.proofs.jobs.add_job.Goals as goal
 
 pub returns-then-has-clause-jobs : goal.returns-then-has-clause-jobs
 returns-then-has-clause-jobs g c = λ needed are.
-    jobs-past g.K.Op.OpMeaning.meanings c.args.nodes.now (g.C.PairStore.pairs c.args.cache.now) needed (c.args.node, c.args.at) c.args.jobs.now.items are
+    jobs-past g.K.Op.OpMeaning.meanings c.args.by.now.nodes.now (g.C.PairStore.pairs c.args.cache.now) needed (c.args.node, c.args.at) c.args.jobs.now.items are
 
 pub returns-clause-jobs : goal.returns-clause-jobs
 returns-clause-jobs g c = λ needed are.
-    let nodes = c.args.nodes.now in
+    let nodes = c.args.by.now.nodes.now in
     let name = c.index-nodes-node.result.spec.name in
     let pairs = g.C.PairStore.pairs c.args.cache.now in
     let inside = ready-inside nodes g.K.Op.OpMeaning.meanings c.args.held.now c.args.node c.args.at c.requires.ready in
@@ -23,5 +23,5 @@ returns-clause-jobs g c = λ needed are.
 
 pub returns-clause-bytes : goal.returns-clause-bytes
 returns-clause-bytes g c = λ images known tiles are.
-    jobs_of-more g.K.Op.OpMeaning.meanings c.args.nodes.now c.args.node c.args.at c.args.jobs.now.items c.push.new.self.items c.in_ok-job.job c.in_ok-push.ensures.items
+    jobs_of-more g.K.Op.OpMeaning.meanings c.args.by.now.nodes.now c.args.node c.args.at c.args.jobs.now.items c.push.new.self.items c.in_ok-job.job c.in_ok-push.ensures.items
     c.in_ok-job.ensures.node c.in_ok-job.ensures.tile images (c.in_ok-job.ensures.bytes images known tiles) are

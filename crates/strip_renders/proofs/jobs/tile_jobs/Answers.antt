@@ -24,12 +24,12 @@ module _ (g : Given.Over) (c : After-entry-item g) where
   -- a permit is left for it
   few : length c.loop-entry.jobs.items ≤ c.loop-entry.entry-index
   few =
-      let jobs = jobs-few g.K.Op.OpMeaning.meanings c.args.nodes.now (g.C.PairStore.pairs c.args.cache.now) (take c.loop-entry.entry-index c.args.batch.now) c.loop-entry.jobs.items c.loop-entry.invariant.jobs in
+      let jobs = jobs-few g.K.Op.OpMeaning.meanings c.args.by.now.nodes.now (g.C.PairStore.pairs c.args.cache.now) (take c.loop-entry.entry-index c.args.batch.now) c.loop-entry.jobs.items c.loop-entry.invariant.jobs in
       omega (arith, jobs, length-take c.loop-entry.entry-index c.args.batch.now)
 
 pub add_job-requires-clause-ready : goal.add_job-requires-clause-ready
 add_job-requires-clause-ready g c =
-    get-here (λ (n : Needed). IsReady g.K.Op.OpMeaning.meanings c.args.nodes.now c.args.held.now n.0 n.1) c.args.batch.now c.loop-entry.entry-index c.entry-item.result c.requires.ready
+    get-here (λ (n : Needed). IsReady g.K.Op.OpMeaning.meanings c.args.by.now.nodes.now c.args.held.now n.0 n.1) c.args.batch.now c.loop-entry.entry-index c.entry-item.result c.requires.ready
     (found g (goal.at.add_job-requires-clause-ready g c).After-entry-item)
 
 pub add_job-requires-clause-permits : goal.add_job-requires-clause-permits
@@ -68,7 +68,7 @@ loop-entry-preserved g c =
     let invariant = c.loop-entry.invariant in
     let does = c.in_ok-add_job.ensures in
     record {
-      jobs = subst (λ (list : List Needed). AreJobs g.K.Op.OpMeaning.meanings c.args.nodes.now (g.C.PairStore.pairs c.args.cache.now) list c.add_job.new.jobs.items)
+      jobs = subst (λ (list : List Needed). AreJobs g.K.Op.OpMeaning.meanings c.args.by.now.nodes.now (g.C.PairStore.pairs c.args.cache.now) list c.add_job.new.jobs.items)
           (sym (take-more batch i n (found g (goal.at.loop-entry-preserved g c).After-entry-item)))
           (does.jobs (take i batch) invariant.jobs);
       bytes = λ images known tiles. does.bytes images (invariant.reads.images ∙ known) tiles (invariant.bytes images known tiles);

@@ -9,9 +9,9 @@ abbrev pub invariant-loop-entry : goal.invariant-loop-entry
 invariant-loop-entry g l =
     let meanings = g.K.Op.OpMeaning.meanings in
     record {
-      jobs : AreJobs meanings l.nodes (g.C.PairStore.pairs l.cache) (take l.entry-index l.batch) l.jobs.items;
-      bytes : (images : Buffers) → g.S.SourceTiles.images l.fn.sources (g.H.ChainMeaning.held l.fn.chain) ≡ Some images → AreTilesOf meanings l.nodes images l.held
-          → AreJobsOf meanings l.nodes images l.jobs.items;
+      jobs : AreJobs meanings l.by.nodes.now (g.C.PairStore.pairs l.cache) (take l.entry-index l.batch) l.jobs.items;
+      bytes : (images : Buffers) → g.S.SourceTiles.images l.fn.sources (g.H.ChainMeaning.held l.fn.chain) ≡ Some images → AreTilesOf meanings l.by.nodes.now images l.held
+          → AreJobsOf meanings l.by.nodes.now images l.jobs.items;
       permits : g.K.OpKit.permits l.purse + length l.jobs.items ≡ g.K.OpKit.permits l.fn.purse;
       over : g.S.SourceTiles.is_over l.sources (g.H.ChainMeaning.held l.chain);
       reads : Reads

@@ -19,38 +19,36 @@ use Rattle.strip_renders.proofs.AheadLaws.{found-none, refused-before}
 use Rattle.strip_renders.proofs.Looking.{absent-same, kept-through, looked-all, none-from, none-keyed, right-bytes, same-cached, sized-long}
 use Rattle.strip_renders.proofs.Pairs.{named}
 use Rattle.chain_owners.specs.Owners.{Owns}
-use Rattle.chain_owners.proofs.Ownership.{others-own, others-unchanged, seen-unchanged}
+use Rattle.chain_owners.proofs.Ownership.{seen-unchanged}
 use Rattle.swap_store.specs.Cause.{HasSwapCause}
 use Rattle.swap_store.proofs.Causes.{cause-more}
 use Rattle.roi_planner.proofs.Widths.{handed-on}
-use Rattle.strip_renders.specs.Moments.{Keeps, Moment, moment}
-use Rattle.strip_renders.proofs.Moments.{Turns, cause-kept, keeps-both, keeps-most, keeps-turns, matched-err, owns-last, owns-turned}
+use Rattle.strip_renders.specs.Moments.{AreOver, Keeps, Moment, moment}
+use Rattle.strip_renders.proofs.Moments.{Turns, cause-kept, keeps-both, keeps-most, keeps-turns, matched-err, over-turns, owns-turned}
 use Rattle.strip_renders.proofs.needed.needed_tile.Given
 use Rattle.strip_renders.proofs.needed.needed_tile.Goals.{After-look, After-pixel_bytes-len, In-Some, In_default, In_ok-tile}
 use Rattle.strip_renders.proofs.needed.needed_tile.Goals as goal
 
 module _ (g : Given.Over) where
   abbrev seen : g.row.S.Denot → g.row.C.Denot → g.row.H.Denot → Moment
-  seen sources cache chain = moment (g.S.SourceTiles.facts sources) (g.S.SourceTiles.images sources (g.H.ChainMeaning.held chain)) (g.S.SourceTiles.names sources)
-      (g.C.PairStore.pairs cache) (g.C.PairStore.sizes cache (g.H.ChainMeaning.held chain)) (g.C.PairStore.cached cache (g.H.ChainMeaning.held chain)) (g.C.PairStore.capacity cache) (g.C.PairStore.names cache)
-      (g.H.ChainMeaning.held chain) (g.H.ChainMeaning.counts chain) (g.H.ChainMeaning.loans chain)
+  seen sources cache chain = moment g.H.ChainMeaning g.S.SourceTiles g.C.PairStore sources cache chain
 
   -- ---- the node's fact, and the pair of its tile
 
   module _ (c : After-pixel_bytes-len g) where
     abbrev nodes : List (NodeFact g.row.K-Op.Denot)
-    nodes = c.args.nodes.now
+    nodes = c.args.by.now.nodes.now
 
     abbrev fact : NodeFact g.row.K-Op.Denot
     fact = c.index-nodes-node.result
 
-    inside : c.args.node < length c.args.nodes.now
+    inside : c.args.node < length c.args.by.now.nodes.now
     inside = ready-inside nodes g.K.Op.OpMeaning.meanings c.args.held.now c.args.node c.args.at c.requires.ready
 
-    found : slice_get c.args.nodes.now c.args.node ≡ Some c.index-nodes-node.result
+    found : slice_get c.args.by.now.nodes.now c.args.node ≡ Some c.index-nodes-node.result
     found = slice_get-get_or nodes c.args.node fact inside ∙ ap Some (sym c.index-nodes-node.is)
 
-    pair : pair_of (specs_of c.args.nodes.now) (c.args.node, c.args.at) ≡ pair_at c.index-nodes-node.result.spec.name c.args.at
+    pair : pair_of (specs_of c.args.by.now.nodes.now) (c.args.node, c.args.at) ≡ pair_at c.index-nodes-node.result.spec.name c.args.at
     pair = named nodes c.args.node fact c.args.at inside c.index-nodes-node.is
 
   -- ---- after the look: the source is unchanged
@@ -63,37 +61,28 @@ module _ (g : Given.Over) where
     mid = seen c.args.sources.now c.look.new.self c.look.new.chain
 
     owned : Owns old.held (old.cache_names ++ old.source_names)
-    owned = owns-turned old.held old.source_names old.cache_names c.requires.owned
+    owned = owns-turned old.held old.source_names old.cache_names c.requires.over.owned
 
     turns : Turns 0 old mid
-    turns = record {
-      others = c.look.ensures.others;
-      one_owner = c.look.ensures.one_owner;
-      other_names = c.look.ensures.other_names;
-      counts = c.look.ensures.counts;
-      loans = c.look.ensures.loans;
-      capacity = c.look.ensures.capacity;
-    }
+    turns =
+        let does = c.look.ensures in
+        record { others = does.others; one_owner = does.one_owner; other_names = does.other_names; counts = does.counts; loans = does.loans; capacity = does.capacity }
 
     looked : Keeps 0 old mid
     looked =
         let images : mid.images ≡ old.images = seen-unchanged old.held mid.held old.cache_names mid.cache_names turns.others old.source_names (g.S.SourceTiles.images c.args.sources.now) (g.met.S.SourceTiles.framed c.args.sources.now) owned in
         keeps-turns 0 old mid turns refl images refl
 
-    owned_again : Owns mid.held (mid.cache_names ++ old.source_names)
-    owned_again = others-own old.held mid.held old.cache_names mid.cache_names turns.others old.source_names owned
-
-    over : g.S.SourceTiles.is_over c.args.sources.now mid.held
+    over : AreOver g.H.ChainMeaning g.S.SourceTiles g.C.PairStore c.args.sources.now c.look.new.self c.look.new.chain
     over =
-        g.met.S.SourceTiles.framed_condition c.args.sources.now old.held mid.held c.requires.sources_over turns.others.exposed
-        (others-unchanged old.held mid.held old.cache_names mid.cache_names turns.others old.source_names owned)
-        (owns-last mid.held mid.cache_names old.source_names owned_again)
+        over-turns g.H.ChainMeaning g.S.SourceTiles g.C.PairStore c.args.sources.now c.args.cache.now c.look.new.self c.args.chain.now c.look.new.chain 0
+        (g.met.S.SourceTiles.framed_condition c.args.sources.now) turns c.look.ensures.over c.requires.over
 
   module _ (c : In_ok-tile g) where
-    sized : AreSizedPairs c.args.nodes.now (g.C.PairStore.sizes c.look.new.self (g.H.ChainMeaning.held c.look.new.chain))
+    sized : AreSizedPairs c.args.by.now.nodes.now (g.C.PairStore.sizes c.look.new.self (g.H.ChainMeaning.held c.look.new.chain))
     sized =
-        subst (λ (list : List Sized). AreSizedPairs c.args.nodes.now list) (sym c.in_ok-tile.ensures.sizes)
-        (looked-all by_sized (IsSizedPair c.args.nodes.now) (g.C.PairStore.sizes c.args.cache.now (g.H.ChainMeaning.held c.args.chain.now)) (pair_at c.index-nodes-node.result.spec.name c.args.at) c.requires.sized)
+        subst (λ (list : List Sized). AreSizedPairs c.args.by.now.nodes.now list) (sym c.in_ok-tile.ensures.sizes)
+        (looked-all by_sized (IsSizedPair c.args.by.now.nodes.now) (g.C.PairStore.sizes c.args.cache.now (g.H.ChainMeaning.held c.args.chain.now)) (pair_at c.index-nodes-node.result.spec.name c.args.at) c.requires.sized)
 
   -- ---- the pair was there, or it wasn't
 
@@ -120,7 +109,7 @@ module _ (g : Given.Over) where
 
     none_sized : find_pair by_sized sizes key ≡ None
     none_sized =
-        let of_pairs = (g.met.C.PairStore.exposed c.args.cache.now (g.H.ChainMeaning.held c.args.chain.now) c.requires.cache_over).of_pairs in
+        let of_pairs = (g.met.C.PairStore.exposed c.args.cache.now (g.H.ChainMeaning.held c.args.chain.now) c.requires.over.cache_over).of_pairs in
         none-keyed by_sized sizes key (ap (λ (ps : List Pair). find_pair itself ps key) of_pairs ∙ none)
 
     finds_none : Finds pairs cached key (4096 * c.pixel_bytes-len.result) None
@@ -140,13 +129,13 @@ look-requires-clause-length g c =
     let at = (goal.at.look-requires-clause-length g c).After-pixel_bytes-len in
     let sizes = g.C.PairStore.sizes c.args.cache.now (g.H.ChainMeaning.held c.args.chain.now) in
     subst (λ (k : ℕ). IfSome (find_pair by_sized sizes (pair_at c.index-nodes-node.result.spec.name c.args.at)) (λ (s : Sized). s.length ≡ 4096 * k)) (sym c.pixel_bytes-len.ensures)
-    (sized-long c.args.nodes.now sizes c.args.node c.index-nodes-node.result c.args.at c.requires.stated.valid.distinct (found g at) c.requires.sized)
+    (sized-long c.args.by.now.nodes.now sizes c.args.node c.index-nodes-node.result c.args.at c.requires.stated.nodes.valid.distinct (found g at) c.requires.sized)
 
 pub returns-in_err-tile-clause-keeps : goal.returns-in_err-tile-clause-keeps
 returns-in_err-tile-clause-keeps g c = keeps-most 0 1 _ _ (omega arith) (looked g (goal.at.returns-in_err-tile-clause-keeps g c).After-look)
 
-pub returns-in_err-tile-clause-sources_over : goal.returns-in_err-tile-clause-sources_over
-returns-in_err-tile-clause-sources_over g c = over g (goal.at.returns-in_err-tile-clause-sources_over g c).After-look
+pub returns-in_err-tile-clause-over : goal.returns-in_err-tile-clause-over
+returns-in_err-tile-clause-over g c = over g (goal.at.returns-in_err-tile-clause-over g c).After-look
 
 pub returns-in_err-tile-clause-cause : goal.returns-in_err-tile-clause-cause
 returns-in_err-tile-clause-cause g c =
@@ -162,7 +151,7 @@ returns-in-Some-clause-length g c =
     let at = (goal.at.returns-in-Some-clause-length g c).After-pixel_bytes-len in
     (finds g (goal.at.returns-in-Some-clause-length g c).In-Some).length
     ∙ ap (λ (k : ℕ). 4096 * k) c.pixel_bytes-len.ensures
-    ∙ ap (λ (s : Shape). 4096 * pixel_bytes s.format) (sym (shape-at c.args.nodes.now c.args.node c.index-nodes-node.result (found g at)))
+    ∙ ap (λ (s : Shape). 4096 * pixel_bytes s.format) (sym (shape-at c.args.by.now.nodes.now c.args.node c.index-nodes-node.result (found g at)))
 
 pub returns-in-Some-clause-bytes : goal.returns-in-Some-clause-bytes
 returns-in-Some-clause-bytes g c = λ images known are made right.
@@ -171,8 +160,8 @@ returns-in-Some-clause-bytes g c = λ images known are made right.
     let key = pair_at c.index-nodes-node.result.spec.name c.args.at in
     let bytes : Some c.in-Some.tile ≡ option_map (λ (c : Cached). c.bytes) (find_pair by_pair right.list key) =
     subst (λ (o : Option (List Cached)). IfSome o (λ (list : List Cached). Some c.in-Some.tile ≡ option_map (λ (c : Cached). c.bytes) (find_pair by_pair list key))) right.known (finds g at.In-Some).bytes in
-    right-bytes meanings (scene_of c.args.nodes.now images) right.list key c.in-Some.tile right.right bytes
-    ∙ ap (pair_bytes meanings (scene_of c.args.nodes.now images)) (sym (pair g at.After-pixel_bytes-len))
+    right-bytes meanings (scene_of c.args.by.now.nodes.now images) right.list key c.in-Some.tile right.right bytes
+    ∙ ap (pair_bytes meanings (scene_of c.args.by.now.nodes.now images)) (sym (pair g at.After-pixel_bytes-len))
 
 pub returns-in-Some-clause-looked : goal.returns-in-Some-clause-looked
 returns-in-Some-clause-looked g c =
@@ -187,22 +176,18 @@ returns-in-Some-clause-sized g c = sized g (goal.at.returns-in-Some-clause-sized
 pub returns-in-Some-clause-keeps : goal.returns-in-Some-clause-keeps
 returns-in-Some-clause-keeps g c = keeps-most 0 1 _ _ (omega arith) (looked g (goal.at.returns-in-Some-clause-keeps g c).After-look)
 
-pub returns-in-Some-clause-sources_over : goal.returns-in-Some-clause-sources_over
-returns-in-Some-clause-sources_over g c = over g (goal.at.returns-in-Some-clause-sources_over g c).After-look
+pub returns-in-Some-clause-over : goal.returns-in-Some-clause-over
+returns-in-Some-clause-over g c = over g (goal.at.returns-in-Some-clause-over g c).After-look
 
 -- ---- it wasn't, and is made
 
-pub fresh_tile-requires-clause-sources_over : goal.fresh_tile-requires-clause-sources_over
-fresh_tile-requires-clause-sources_over g c κs within = over g (goal.at.fresh_tile-requires-clause-sources_over g c).After-look
-
-pub fresh_tile-requires-clause-owned : goal.fresh_tile-requires-clause-owned
-fresh_tile-requires-clause-owned g c κs within =
-    owns-turned (g.H.ChainMeaning.held c.look.new.chain) (g.C.PairStore.names c.look.new.self) (g.S.SourceTiles.names c.args.sources.now) (owned_again g (goal.at.fresh_tile-requires-clause-owned g c).After-look)
+pub fresh_tile-requires-clause-over : goal.fresh_tile-requires-clause-over
+fresh_tile-requires-clause-over g c κs within = over g (goal.at.fresh_tile-requires-clause-over g c).After-look
 
 pub fresh_tile-requires-clause-absent : goal.fresh_tile-requires-clause-absent
 fresh_tile-requires-clause-absent g c κs within =
     let at = goal.at.fresh_tile-requires-clause-absent g c in
-    ap (λ (ps : List Pair). find_pair itself ps (pair_of (specs_of c.args.nodes.now) (c.args.node, c.args.at))) (same g at.In_default).pairs
+    ap (λ (ps : List Pair). find_pair itself ps (pair_of (specs_of c.args.by.now.nodes.now) (c.args.node, c.args.at))) (same g at.In_default).pairs
     ∙ ap (find_pair itself (g.C.PairStore.pairs c.args.cache.now)) (pair g at.After-pixel_bytes-len)
     ∙ none g at.In_default
 
@@ -212,13 +197,13 @@ returns-in_err-tile-2-clause-looked g c =
     let before = same g at.In_default in
     let kept = c.in_err-tile-2.ensures.kept in
     let new = seen g c.fresh_tile.new.sources c.fresh_tile.new.cache c.fresh_tile.new.chain in
-    matched-err c.from_residual-in_err-tile-2.result (λ (given : List ℕ × Bool). IsLookedUp (old g at.After-look) new (pair_of (specs_of c.args.nodes.now) (c.args.node, c.args.at)) given.0 given.1)
+    matched-err c.from_residual-in_err-tile-2.result (λ (given : List ℕ × Bool). IsLookedUp (old g at.After-look) new (pair_of (specs_of c.args.by.now.nodes.now) (c.args.node, c.args.at)) given.0 given.1)
     (HasSameCache (old g at.After-look) new) _ c.from_residual-in_err-tile-2.ensures.1
     (record { pairs = kept.pairs ∙ before.pairs; sizes = kept.sizes ∙ before.sizes; cached = kept.cached ∙ before.cached })
 
 pub returns-in_err-tile-2-clause-sized : goal.returns-in_err-tile-2-clause-sized
 returns-in_err-tile-2-clause-sized g c =
-    subst (λ (list : List Sized). AreSizedPairs c.args.nodes.now list) (sym c.in_err-tile-2.ensures.kept.sizes)
+    subst (λ (list : List Sized). AreSizedPairs c.args.by.now.nodes.now list) (sym c.in_err-tile-2.ensures.kept.sizes)
     (sized g (goal.at.returns-in_err-tile-2-clause-sized g c).In_ok-tile)
 
 pub returns-in_err-tile-2-clause-keeps : goal.returns-in_err-tile-2-clause-keeps
@@ -246,18 +231,18 @@ returns-clause-looked g c =
     let at = goal.at.returns-clause-looked g c in
     let before = same g at.In_default in
     let new = seen g c.fresh_tile.new.sources c.fresh_tile.new.cache c.fresh_tile.new.chain in
-    kept-through (old g at.After-look) (mid g at.After-look) new (pair_of (specs_of c.args.nodes.now) (c.args.node, c.args.at)) c.in_ok-tile-2.tile
+    kept-through (old g at.After-look) (mid g at.After-look) new (pair_of (specs_of c.args.by.now.nodes.now) (c.args.node, c.args.at)) c.in_ok-tile-2.tile
     (ap (find_pair itself (g.C.PairStore.pairs c.args.cache.now)) (pair g at.After-pixel_bytes-len) ∙ none g at.In_default)
     before.pairs before.sizes before.cached c.in_ok-tile.ensures.capacity c.in_ok-tile-2.ensures.kept
 
 pub returns-clause-sized : goal.returns-clause-sized
 returns-clause-sized g c =
     let at = goal.at.returns-clause-sized g c in
-    let nodes = c.args.nodes.now in
+    let nodes = c.args.by.now.nodes.now in
     let fact = c.index-nodes-node.result in
     let index : index_of (specs_of nodes) (pair_of (specs_of nodes) (c.args.node, c.args.at)).node ≡ c.args.node =
     ap (λ (p : Pair). index_of (specs_of nodes) p.node) (pair g at.After-pixel_bytes-len)
-    ∙ index_of_name (specs_of nodes) c.args.node fact.spec c.requires.stated.valid.distinct (spec-at nodes c.args.node fact (found g at.After-pixel_bytes-len)) in
+    ∙ index_of_name (specs_of nodes) c.args.node fact.spec c.requires.stated.nodes.valid.distinct (spec-at nodes c.args.node fact (found g at.After-pixel_bytes-len)) in
     subst (λ (list : List Sized). AreSizedPairs nodes list) (sym c.in_ok-tile-2.ensures.kept.sizes)
     (all-within by_sized (IsSizedPair nodes) (g.C.PairStore.capacity c.look.new.self) _
     (record { of_nodes = c.requires.of_nodes; length = c.in_ok-tile-2.ensures.length ∙ ap (length_at nodes) (sym index) }, sized g at.In_ok-tile))
@@ -278,4 +263,4 @@ returns-in_err-tile-clause-permits g c =
 
 pub returns-in-Some-clause-permits : goal.returns-in-Some-clause-permits
 returns-in-Some-clause-permits g c =
-    (refl, found-none c.args.nodes.now (g.C.PairStore.pairs c.args.cache.now) (c.args.node, c.args.at) c.args.made c.requires.made (returns-in-Some-clause-looked g c).there)
+    (refl, found-none c.args.by.now.nodes.now (g.C.PairStore.pairs c.args.cache.now) (c.args.node, c.args.at) c.args.made c.requires.made (returns-in-Some-clause-looked g c).there)

@@ -12,29 +12,27 @@ use Rattle.strip_renders.specs.Moments.{Keeps, moment}
 use Rattle.strip_renders.specs.Strips.{HoldsNeed, IsRendered, list_after, most_names, pairs_needed}
 use Rattle.strip_renders.proofs.Moments.{cause-kept, keeps-both, keeps-most}
 use Rattle.strip_renders.proofs.TurnLaws.{ahead-none, ahead-past, made-none}
-use Rattle.strip_renders.proofs.Turning.{IsCountedMore, index-more, keeps-none, need-none, needed-at, no-tiles, owned-kept, pairs-more, pairs-take, permits-more, rendered-more, right-list}
+use Rattle.strip_renders.proofs.Turning.{IsCountedMore, index-more, keeps-none, need-none, needed-at, no-tiles, pairs-more, pairs-take, permits-more, rendered-more, right-list}
 use Rattle.strip_renders.proofs.strip.render_strip.Goals.{else-found, then-found}
 use Rattle.strip_renders.proofs.strip.render_strip.Goals as goal
 
 pub loop-index-init : goal.loop-index-init
 loop-index-init g c =
-    let first = moment (g.S.SourceTiles.facts c.args.sources.now) (g.S.SourceTiles.images c.args.sources.now (g.H.ChainMeaning.held c.args.chain.now)) (g.S.SourceTiles.names c.args.sources.now) (g.C.PairStore.pairs c.args.cache.now) (g.C.PairStore.sizes c.args.cache.now (g.H.ChainMeaning.held c.args.chain.now)) (g.C.PairStore.cached c.args.cache.now (g.H.ChainMeaning.held c.args.chain.now)) (g.C.PairStore.capacity c.args.cache.now) (g.C.PairStore.names c.args.cache.now) (g.H.ChainMeaning.held c.args.chain.now) (g.H.ChainMeaning.counts c.args.chain.now) (g.H.ChainMeaning.loans c.args.chain.now) in
+    let first = moment g.H.ChainMeaning g.S.SourceTiles g.C.PairStore c.args.sources.now c.args.cache.now c.args.chain.now in
     let none : c.reserve.new.self ≡ [] = c.in_ok-reserve.ensures ∙ c.new-tiles.ensures in
     record {
       index = refl;
       keeps = keeps-none first;
-      sources_over = c.requires.sources_over;
-      cache_over = c.requires.cache_over;
-      owned = c.requires.owned;
+      over = c.requires.over;
       valid = λ valid. valid;
       sized = c.requires.sized;
       pairs = refl;
-      held = need-none c.args.nodes.now c.reserve.new.self none;
-      ahead = ahead-none c.args.nodes.now (g.C.PairStore.pairs c.args.cache.now) c.args.strip.now.need c.new-ahead.result c.new-ahead.ensures;
-      made = λ images known right. made-none g.K.Op.OpMeaning.meanings c.args.nodes.now images c.new-ahead.result c.new-ahead.ensures;
+      held = need-none c.args.by.now.nodes.now c.reserve.new.self none;
+      ahead = ahead-none c.args.by.now.nodes.now (g.C.PairStore.pairs c.args.cache.now) c.args.strip.now.need c.new-ahead.result c.new-ahead.ensures;
+      made = λ images known right. made-none g.K.Op.OpMeaning.meanings c.args.by.now.nodes.now images c.new-ahead.result c.new-ahead.ensures;
       permits = omega (arith, ap length c.new-ahead.ensures);
       right = λ images known right. right;
-      bytes = λ images list known cached right. record { cached = cached; tiles = no-tiles g.K.Op.OpMeaning.meanings c.args.nodes.now images c.reserve.new.self none };
+      bytes = λ images list known cached right. record { cached = cached; tiles = no-tiles g.K.Op.OpMeaning.meanings c.args.by.now.nodes.now images c.reserve.new.self none };
     }
 
 pub hold_next-requires-clause-entry : goal.hold_next-requires-clause-entry
@@ -49,9 +47,9 @@ returns-in_err-found-clause-right g c = λ images known right.
 
 pub returns-in_err-found-clause-keeps : goal.returns-in_err-found-clause-keeps
 returns-in_err-found-clause-keeps g c =
-    let first = moment (g.S.SourceTiles.facts c.args.sources.now) (g.S.SourceTiles.images c.args.sources.now (g.H.ChainMeaning.held c.args.chain.now)) (g.S.SourceTiles.names c.args.sources.now) (g.C.PairStore.pairs c.args.cache.now) (g.C.PairStore.sizes c.args.cache.now (g.H.ChainMeaning.held c.args.chain.now)) (g.C.PairStore.cached c.args.cache.now (g.H.ChainMeaning.held c.args.chain.now)) (g.C.PairStore.capacity c.args.cache.now) (g.C.PairStore.names c.args.cache.now) (g.H.ChainMeaning.held c.args.chain.now) (g.H.ChainMeaning.counts c.args.chain.now) (g.H.ChainMeaning.loans c.args.chain.now) in
-    let mid = moment (g.S.SourceTiles.facts c.loop-index.sources) (g.S.SourceTiles.images c.loop-index.sources (g.H.ChainMeaning.held c.loop-index.chain)) (g.S.SourceTiles.names c.loop-index.sources) (g.C.PairStore.pairs c.loop-index.cache) (g.C.PairStore.sizes c.loop-index.cache (g.H.ChainMeaning.held c.loop-index.chain)) (g.C.PairStore.cached c.loop-index.cache (g.H.ChainMeaning.held c.loop-index.chain)) (g.C.PairStore.capacity c.loop-index.cache) (g.C.PairStore.names c.loop-index.cache) (g.H.ChainMeaning.held c.loop-index.chain) (g.H.ChainMeaning.counts c.loop-index.chain) (g.H.ChainMeaning.loans c.loop-index.chain) in
-    let last = moment (g.S.SourceTiles.facts c.hold_next.new.sources) (g.S.SourceTiles.images c.hold_next.new.sources (g.H.ChainMeaning.held c.hold_next.new.chain)) (g.S.SourceTiles.names c.hold_next.new.sources) (g.C.PairStore.pairs c.hold_next.new.cache) (g.C.PairStore.sizes c.hold_next.new.cache (g.H.ChainMeaning.held c.hold_next.new.chain)) (g.C.PairStore.cached c.hold_next.new.cache (g.H.ChainMeaning.held c.hold_next.new.chain)) (g.C.PairStore.capacity c.hold_next.new.cache) (g.C.PairStore.names c.hold_next.new.cache) (g.H.ChainMeaning.held c.hold_next.new.chain) (g.H.ChainMeaning.counts c.hold_next.new.chain) (g.H.ChainMeaning.loans c.hold_next.new.chain) in
+    let first = moment g.H.ChainMeaning g.S.SourceTiles g.C.PairStore c.args.sources.now c.args.cache.now c.args.chain.now in
+    let mid = moment g.H.ChainMeaning g.S.SourceTiles g.C.PairStore c.loop-index.sources c.loop-index.cache c.loop-index.chain in
+    let last = moment g.H.ChainMeaning g.S.SourceTiles g.C.PairStore c.hold_next.new.sources c.hold_next.new.cache c.hold_next.new.chain in
     let less : c.loop-index.index + 1 ≤ length c.args.strip.now.need = omega (arith, c.loop-index-test.true, ap length c.as_slice-entry-items.ensures) in
     keeps-most (c.loop-index.index + 1) (length c.args.strip.now.need) first last less
     (keeps-both c.loop-index.index 1 first mid last c.loop-index.invariant.keeps c.in_err-found.ensures.keeps)
@@ -61,8 +59,8 @@ returns-in_err-found-clause-valid g c = λ valid. c.in_err-found.ensures.valid (
 
 pub returns-in_err-found-clause-cause : goal.returns-in_err-found-clause-cause
 returns-in_err-found-clause-cause g c =
-    let first = moment (g.S.SourceTiles.facts c.args.sources.now) (g.S.SourceTiles.images c.args.sources.now (g.H.ChainMeaning.held c.args.chain.now)) (g.S.SourceTiles.names c.args.sources.now) (g.C.PairStore.pairs c.args.cache.now) (g.C.PairStore.sizes c.args.cache.now (g.H.ChainMeaning.held c.args.chain.now)) (g.C.PairStore.cached c.args.cache.now (g.H.ChainMeaning.held c.args.chain.now)) (g.C.PairStore.capacity c.args.cache.now) (g.C.PairStore.names c.args.cache.now) (g.H.ChainMeaning.held c.args.chain.now) (g.H.ChainMeaning.counts c.args.chain.now) (g.H.ChainMeaning.loans c.args.chain.now) in
-    let mid = moment (g.S.SourceTiles.facts c.loop-index.sources) (g.S.SourceTiles.images c.loop-index.sources (g.H.ChainMeaning.held c.loop-index.chain)) (g.S.SourceTiles.names c.loop-index.sources) (g.C.PairStore.pairs c.loop-index.cache) (g.C.PairStore.sizes c.loop-index.cache (g.H.ChainMeaning.held c.loop-index.chain)) (g.C.PairStore.cached c.loop-index.cache (g.H.ChainMeaning.held c.loop-index.chain)) (g.C.PairStore.capacity c.loop-index.cache) (g.C.PairStore.names c.loop-index.cache) (g.H.ChainMeaning.held c.loop-index.chain) (g.H.ChainMeaning.counts c.loop-index.chain) (g.H.ChainMeaning.loans c.loop-index.chain) in
+    let first = moment g.H.ChainMeaning g.S.SourceTiles g.C.PairStore c.args.sources.now c.args.cache.now c.args.chain.now in
+    let mid = moment g.H.ChainMeaning g.S.SourceTiles g.C.PairStore c.loop-index.sources c.loop-index.cache c.loop-index.chain in
     let less : c.loop-index.index + 1 ≤ length c.args.strip.now.need = omega (arith, c.loop-index-test.true, ap length c.as_slice-entry-items.ensures) in
     let keeps : Keeps c.loop-index.index first mid = c.loop-index.invariant.keeps in
     let most = (g.H.ChainMeaning.counts c.args.chain.now).names + length c.args.strip.now.need in
@@ -73,10 +71,10 @@ returns-in_err-found-clause-cause g c =
 
 pub returns-in_err-found-clause-few_names : goal.returns-in_err-found-clause-few_names
 returns-in_err-found-clause-few_names g c = λ one.
-    let first = moment (g.S.SourceTiles.facts c.args.sources.now) (g.S.SourceTiles.images c.args.sources.now (g.H.ChainMeaning.held c.args.chain.now)) (g.S.SourceTiles.names c.args.sources.now) (g.C.PairStore.pairs c.args.cache.now) (g.C.PairStore.sizes c.args.cache.now (g.H.ChainMeaning.held c.args.chain.now)) (g.C.PairStore.cached c.args.cache.now (g.H.ChainMeaning.held c.args.chain.now)) (g.C.PairStore.capacity c.args.cache.now) (g.C.PairStore.names c.args.cache.now) (g.H.ChainMeaning.held c.args.chain.now) (g.H.ChainMeaning.counts c.args.chain.now) (g.H.ChainMeaning.loans c.args.chain.now) in
-    let mid = moment (g.S.SourceTiles.facts c.loop-index.sources) (g.S.SourceTiles.images c.loop-index.sources (g.H.ChainMeaning.held c.loop-index.chain)) (g.S.SourceTiles.names c.loop-index.sources) (g.C.PairStore.pairs c.loop-index.cache) (g.C.PairStore.sizes c.loop-index.cache (g.H.ChainMeaning.held c.loop-index.chain)) (g.C.PairStore.cached c.loop-index.cache (g.H.ChainMeaning.held c.loop-index.chain)) (g.C.PairStore.capacity c.loop-index.cache) (g.C.PairStore.names c.loop-index.cache) (g.H.ChainMeaning.held c.loop-index.chain) (g.H.ChainMeaning.counts c.loop-index.chain) (g.H.ChainMeaning.loans c.loop-index.chain) in
+    let first = moment g.H.ChainMeaning g.S.SourceTiles g.C.PairStore c.args.sources.now c.args.cache.now c.args.chain.now in
+    let mid = moment g.H.ChainMeaning g.S.SourceTiles g.C.PairStore c.loop-index.sources c.loop-index.cache c.loop-index.chain in
     let keeps : Keeps c.loop-index.index first mid = c.loop-index.invariant.keeps in
-    let nodes = c.args.nodes.now in
+    let nodes = c.args.by.now.nodes.now in
     let need = c.args.strip.now.need in
     let before = pairs_needed nodes (take c.loop-index.index need) in
     let after = pairs_needed nodes (drop c.loop-index.index need) in
@@ -84,7 +82,7 @@ returns-in_err-found-clause-few_names g c = λ one.
     sym (map-append (pair_of (specs_of nodes)) (take c.loop-index.index need) (drop c.loop-index.index need)) ∙ ap (pairs_needed nodes) (take-append-drop c.loop-index.index need) in
     let within : AreWithin first.capacity mid.pairs =
     subst (λ (o : Option ℕ). AreWithin o mid.pairs) keeps.capacity
-    (g.met.C.PairStore.within c.loop-index.cache (g.H.ChainMeaning.held c.loop-index.chain) c.loop-index.invariant.cache_over) in
+    (g.met.C.PairStore.within c.loop-index.cache (g.H.ChainMeaning.held c.loop-index.chain) c.loop-index.invariant.over.cache_over) in
     let few : mid.counts.names + 1 ≤ most_names first (pairs_needed nodes need) =
     subst (λ (pairs : List Pair). mid.counts.names + 1 ≤ most_names first pairs) parts
     (few-names first mid before after c.loop-index.applied c.loop-index.reused c.loop-index.invariant.pairs (keeps.other_names one) (g.met.C.PairStore.few_names c.loop-index.cache) within) in
@@ -96,10 +94,10 @@ returns-in_err-found-clause-few_names g c = λ one.
 
 pub loop-index-preserved : goal.loop-index-preserved
 loop-index-preserved g c =
-    let first = moment (g.S.SourceTiles.facts c.args.sources.now) (g.S.SourceTiles.images c.args.sources.now (g.H.ChainMeaning.held c.args.chain.now)) (g.S.SourceTiles.names c.args.sources.now) (g.C.PairStore.pairs c.args.cache.now) (g.C.PairStore.sizes c.args.cache.now (g.H.ChainMeaning.held c.args.chain.now)) (g.C.PairStore.cached c.args.cache.now (g.H.ChainMeaning.held c.args.chain.now)) (g.C.PairStore.capacity c.args.cache.now) (g.C.PairStore.names c.args.cache.now) (g.H.ChainMeaning.held c.args.chain.now) (g.H.ChainMeaning.counts c.args.chain.now) (g.H.ChainMeaning.loans c.args.chain.now) in
-    let mid = moment (g.S.SourceTiles.facts c.loop-index.sources) (g.S.SourceTiles.images c.loop-index.sources (g.H.ChainMeaning.held c.loop-index.chain)) (g.S.SourceTiles.names c.loop-index.sources) (g.C.PairStore.pairs c.loop-index.cache) (g.C.PairStore.sizes c.loop-index.cache (g.H.ChainMeaning.held c.loop-index.chain)) (g.C.PairStore.cached c.loop-index.cache (g.H.ChainMeaning.held c.loop-index.chain)) (g.C.PairStore.capacity c.loop-index.cache) (g.C.PairStore.names c.loop-index.cache) (g.H.ChainMeaning.held c.loop-index.chain) (g.H.ChainMeaning.counts c.loop-index.chain) (g.H.ChainMeaning.loans c.loop-index.chain) in
-    let last = moment (g.S.SourceTiles.facts c.hold_next.new.sources) (g.S.SourceTiles.images c.hold_next.new.sources (g.H.ChainMeaning.held c.hold_next.new.chain)) (g.S.SourceTiles.names c.hold_next.new.sources) (g.C.PairStore.pairs c.hold_next.new.cache) (g.C.PairStore.sizes c.hold_next.new.cache (g.H.ChainMeaning.held c.hold_next.new.chain)) (g.C.PairStore.cached c.hold_next.new.cache (g.H.ChainMeaning.held c.hold_next.new.chain)) (g.C.PairStore.capacity c.hold_next.new.cache) (g.C.PairStore.names c.hold_next.new.cache) (g.H.ChainMeaning.held c.hold_next.new.chain) (g.H.ChainMeaning.counts c.hold_next.new.chain) (g.H.ChainMeaning.loans c.hold_next.new.chain) in
-    let nodes = c.args.nodes.now in
+    let first = moment g.H.ChainMeaning g.S.SourceTiles g.C.PairStore c.args.sources.now c.args.cache.now c.args.chain.now in
+    let mid = moment g.H.ChainMeaning g.S.SourceTiles g.C.PairStore c.loop-index.sources c.loop-index.cache c.loop-index.chain in
+    let last = moment g.H.ChainMeaning g.S.SourceTiles g.C.PairStore c.hold_next.new.sources c.hold_next.new.cache c.hold_next.new.chain in
+    let nodes = c.args.by.now.nodes.now in
     let meanings = g.K.Op.OpMeaning.meanings in
     let need = c.args.strip.now.need in
     let i = c.loop-index.index in
@@ -117,9 +115,7 @@ loop-index-preserved g c =
     record {
       index = index-more c.in_ok-found.found c.loop-index.applied c.loop-index.reused c.if-found.applied c.if-found.reused i more invariant.index;
       keeps = keeps;
-      sources_over = does.sources_over;
-      cache_over = does.cache_over;
-      owned = owned-kept 1 mid last does.keeps invariant.owned;
+      over = does.over;
       valid = λ valid. does.valid (invariant.valid valid);
       sized = does.sized;
       pairs =
@@ -151,34 +147,34 @@ returns-clause-pairs g c =
     let i = c.loop-index.index in
     let all : take i need ≡ need = take_all i need (omega (arith, c.loop-index-test.false, ap length c.as_slice-entry-items.ensures)) in
     c.loop-index.invariant.pairs
-    ∙ ap (λ (list : List Needed). all_looked_up itself itself (g.C.PairStore.capacity c.args.cache.now) (uncounted (g.C.PairStore.pairs c.args.cache.now)) (pairs_needed c.args.nodes.now list)) all
+    ∙ ap (λ (list : List Needed). all_looked_up itself itself (g.C.PairStore.capacity c.args.cache.now) (uncounted (g.C.PairStore.pairs c.args.cache.now)) (pairs_needed c.args.by.now.nodes.now list)) all
 
 pub returns-clause-held : goal.returns-clause-held
 returns-clause-held g c =
     let need = c.args.strip.now.need in
     let i = c.loop-index.index in
     let all : take i need ≡ need = take_all i need (omega (arith, c.loop-index-test.false, ap length c.as_slice-entry-items.ensures)) in
-    subst (λ (list : List Needed). HoldsNeed c.args.nodes.now list c.loop-index.tiles) all c.loop-index.invariant.held
+    subst (λ (list : List Needed). HoldsNeed c.args.by.now.nodes.now list c.loop-index.tiles) all c.loop-index.invariant.held
 
 pub returns-clause-bytes : goal.returns-clause-bytes
 returns-clause-bytes g c = λ images list known cached right.
-    let first = moment (g.S.SourceTiles.facts c.args.sources.now) (g.S.SourceTiles.images c.args.sources.now (g.H.ChainMeaning.held c.args.chain.now)) (g.S.SourceTiles.names c.args.sources.now) (g.C.PairStore.pairs c.args.cache.now) (g.C.PairStore.sizes c.args.cache.now (g.H.ChainMeaning.held c.args.chain.now)) (g.C.PairStore.cached c.args.cache.now (g.H.ChainMeaning.held c.args.chain.now)) (g.C.PairStore.capacity c.args.cache.now) (g.C.PairStore.names c.args.cache.now) (g.H.ChainMeaning.held c.args.chain.now) (g.H.ChainMeaning.counts c.args.chain.now) (g.H.ChainMeaning.loans c.args.chain.now) in
-    let mid = moment (g.S.SourceTiles.facts c.loop-index.sources) (g.S.SourceTiles.images c.loop-index.sources (g.H.ChainMeaning.held c.loop-index.chain)) (g.S.SourceTiles.names c.loop-index.sources) (g.C.PairStore.pairs c.loop-index.cache) (g.C.PairStore.sizes c.loop-index.cache (g.H.ChainMeaning.held c.loop-index.chain)) (g.C.PairStore.cached c.loop-index.cache (g.H.ChainMeaning.held c.loop-index.chain)) (g.C.PairStore.capacity c.loop-index.cache) (g.C.PairStore.names c.loop-index.cache) (g.H.ChainMeaning.held c.loop-index.chain) (g.H.ChainMeaning.counts c.loop-index.chain) (g.H.ChainMeaning.loans c.loop-index.chain) in
+    let first = moment g.H.ChainMeaning g.S.SourceTiles g.C.PairStore c.args.sources.now c.args.cache.now c.args.chain.now in
+    let mid = moment g.H.ChainMeaning g.S.SourceTiles g.C.PairStore c.loop-index.sources c.loop-index.cache c.loop-index.chain in
     let need = c.args.strip.now.need in
     let i = c.loop-index.index in
     let all : take i need ≡ need = take_all i need (omega (arith, c.loop-index-test.false, ap length c.as_slice-entry-items.ensures)) in
-    subst (λ (list' : List Needed). IsRendered g.K.Op.OpMeaning.meanings c.args.nodes.now images first mid list (pairs_needed c.args.nodes.now list') c.loop-index.tiles) all
+    subst (λ (list' : List Needed). IsRendered g.K.Op.OpMeaning.meanings c.args.by.now.nodes.now images first mid list (pairs_needed c.args.by.now.nodes.now list') c.loop-index.tiles) all
     (c.loop-index.invariant.bytes images list known cached right)
 
 pub returns-clause-keeps : goal.returns-clause-keeps
 returns-clause-keeps g c =
-    let first = moment (g.S.SourceTiles.facts c.args.sources.now) (g.S.SourceTiles.images c.args.sources.now (g.H.ChainMeaning.held c.args.chain.now)) (g.S.SourceTiles.names c.args.sources.now) (g.C.PairStore.pairs c.args.cache.now) (g.C.PairStore.sizes c.args.cache.now (g.H.ChainMeaning.held c.args.chain.now)) (g.C.PairStore.cached c.args.cache.now (g.H.ChainMeaning.held c.args.chain.now)) (g.C.PairStore.capacity c.args.cache.now) (g.C.PairStore.names c.args.cache.now) (g.H.ChainMeaning.held c.args.chain.now) (g.H.ChainMeaning.counts c.args.chain.now) (g.H.ChainMeaning.loans c.args.chain.now) in
-    let mid = moment (g.S.SourceTiles.facts c.loop-index.sources) (g.S.SourceTiles.images c.loop-index.sources (g.H.ChainMeaning.held c.loop-index.chain)) (g.S.SourceTiles.names c.loop-index.sources) (g.C.PairStore.pairs c.loop-index.cache) (g.C.PairStore.sizes c.loop-index.cache (g.H.ChainMeaning.held c.loop-index.chain)) (g.C.PairStore.cached c.loop-index.cache (g.H.ChainMeaning.held c.loop-index.chain)) (g.C.PairStore.capacity c.loop-index.cache) (g.C.PairStore.names c.loop-index.cache) (g.H.ChainMeaning.held c.loop-index.chain) (g.H.ChainMeaning.counts c.loop-index.chain) (g.H.ChainMeaning.loans c.loop-index.chain) in
+    let first = moment g.H.ChainMeaning g.S.SourceTiles g.C.PairStore c.args.sources.now c.args.cache.now c.args.chain.now in
+    let mid = moment g.H.ChainMeaning g.S.SourceTiles g.C.PairStore c.loop-index.sources c.loop-index.cache c.loop-index.chain in
     keeps-most c.loop-index.index (length c.args.strip.now.need) first mid (omega (arith, c.loop-index.auto.index-end, ap length c.as_slice-entry-items.ensures)) c.loop-index.invariant.keeps
 
 pub returns-clause-permits : goal.returns-clause-permits
 returns-clause-permits g c =
     let none : length c.loop-index.ahead ≡ 0 =
-    ahead-past c.args.nodes.now (g.C.PairStore.pairs c.loop-index.cache) c.args.strip.now.need c.loop-index.index c.loop-index.ahead
+    ahead-past c.args.by.now.nodes.now (g.C.PairStore.pairs c.loop-index.cache) c.args.strip.now.need c.loop-index.index c.loop-index.ahead
     (omega (arith, c.loop-index-test.false, ap length c.as_slice-entry-items.ensures)) c.loop-index.invariant.ahead in
     omega (arith, none, c.loop-index.invariant.permits)

@@ -1,6 +1,6 @@
-use Rattle.std.proofs.Common.{◌≡◌, ℕ, suc, ◌+◌, ◌<◌, ◌≤◌, ◌++◌, Bool, List, [], ◌∷◌, Some, length, take, drop, refl, sym, ◌∙◌, subst, arith}
-use Rattle.chain_owners.specs.Owners.{Owns, Respects}
-use Rattle.chain_owners.proofs.Ownership.{others-own, others-unchanged, seen-unchanged}
+use Rattle.std.proofs.Common.{◌≡◌, ℕ, suc, ◌+◌, ◌<◌, ◌≤◌, Bool, List, [], ◌∷◌, Some, length, take, drop, refl, sym, ◌∙◌, subst, arith}
+use Rattle.chain_owners.specs.Owners.{Respects}
+use Rattle.chain_owners.proofs.Ownership.{seen-unchanged}
 use Rattle.model_graphs.specs.Evaluation.{Buffers}
 use Rattle.model_graphs.specs.Facts.{shapes_of_facts, specs_of}
 use Rattle.model_states.specs.Cache.{Pair, pair_of, same_pair}
@@ -11,11 +11,11 @@ use Rattle.node_tiles.specs.Stated.{AreTilesOf, bytes_at}
 use Rattle.node_tiles.proofs.Reading.{reads-others}
 use Rattle.strip_renders.specs.Ahead.{AreAhead, AreMadeOf, IsMade, IsMadeOf, IsPermitted, IsRefusedAt, IsSpentFor, permits_of}
 use Rattle.strip_renders.specs.Looks.{IsRecent}
-use Rattle.strip_renders.specs.Moments.{Keeps, Moment, moment}
+use Rattle.strip_renders.specs.Moments.{AreOver, Keeps, Moment, moment}
 use Rattle.strip_renders.specs.Strips.{AreKnownRight, AreSizedPairs, HoldsMore, HoldsNeed, IsRendered}
 use Rattle.strip_renders.proofs.AheadLaws.{ahead-more, apart-after, taken-all, taken-made, taken-made_of}
 use Rattle.strip_renders.proofs.HeldTiles.{need-more}
-use Rattle.strip_renders.proofs.Moments.{cause-kept, keeps-both, keeps-most, keeps-reads, owns-last, source_of}
+use Rattle.strip_renders.proofs.Moments.{cause-kept, keeps-both, keeps-most, keeps-reads, over-reads, source_of}
 use Rattle.strip_renders.proofs.Needs.{strip-distinct, strip-pair, strip-ready}
 use Rattle.strip_renders.proofs.Turning.{take-more}
 use Rattle.strip_renders.proofs.TurnLaws.{ahead-from, err-then, left-for, match-then, ok-any, ok-then, refused-for, spent-for}
@@ -27,39 +27,35 @@ use Rattle.strip_renders.proofs.turns.hold_next.Goals as goal
 
 module _ (g : Given.Over) (c : After-look_ahead g) where
   abbrev old : Moment
-  old = moment (g.S.SourceTiles.facts c.args.sources.now) (g.S.SourceTiles.images c.args.sources.now (g.H.ChainMeaning.held c.args.chain.now)) (g.S.SourceTiles.names c.args.sources.now) (g.C.PairStore.pairs c.args.cache.now) (g.C.PairStore.sizes c.args.cache.now (g.H.ChainMeaning.held c.args.chain.now)) (g.C.PairStore.cached c.args.cache.now (g.H.ChainMeaning.held c.args.chain.now)) (g.C.PairStore.capacity c.args.cache.now) (g.C.PairStore.names c.args.cache.now) (g.H.ChainMeaning.held c.args.chain.now) (g.H.ChainMeaning.counts c.args.chain.now) (g.H.ChainMeaning.loans c.args.chain.now)
+  old = moment g.H.ChainMeaning g.S.SourceTiles g.C.PairStore c.args.sources.now c.args.cache.now c.args.chain.now
 
   abbrev mid : Moment
-  mid = moment (g.S.SourceTiles.facts c.look_ahead.new.sources) (g.S.SourceTiles.images c.look_ahead.new.sources (g.H.ChainMeaning.held c.look_ahead.new.chain)) (g.S.SourceTiles.names c.look_ahead.new.sources) (g.C.PairStore.pairs c.args.cache.now) (g.C.PairStore.sizes c.args.cache.now (g.H.ChainMeaning.held c.look_ahead.new.chain)) (g.C.PairStore.cached c.args.cache.now (g.H.ChainMeaning.held c.look_ahead.new.chain)) (g.C.PairStore.capacity c.args.cache.now) (g.C.PairStore.names c.args.cache.now) (g.H.ChainMeaning.held c.look_ahead.new.chain) (g.H.ChainMeaning.counts c.look_ahead.new.chain) (g.H.ChainMeaning.loans c.look_ahead.new.chain)
+  mid = moment g.H.ChainMeaning g.S.SourceTiles g.C.PairStore c.look_ahead.new.sources c.args.cache.now c.look_ahead.new.chain
 
   abbrev others : Respects old.held mid.held old.source_names mid.source_names
   others = reads-others (source_of old) (source_of mid) c.look_ahead.ensures.reads
 
   -- the cache is unchanged
   same_sizes : mid.sizes ≡ old.sizes
-  same_sizes = seen-unchanged old.held mid.held old.source_names mid.source_names others old.cache_names (g.C.PairStore.sizes c.args.cache.now) (g.met.C.PairStore.framed_sizes c.args.cache.now) c.requires.owned
+  same_sizes = seen-unchanged old.held mid.held old.source_names mid.source_names others old.cache_names (g.C.PairStore.sizes c.args.cache.now) (g.met.C.PairStore.framed_sizes c.args.cache.now) c.requires.over.owned
 
   same_bytes : mid.cached ≡ old.cached
-  same_bytes = seen-unchanged old.held mid.held old.source_names mid.source_names others old.cache_names (g.C.PairStore.cached c.args.cache.now) (g.met.C.PairStore.framed c.args.cache.now) c.requires.owned
+  same_bytes = seen-unchanged old.held mid.held old.source_names mid.source_names others old.cache_names (g.C.PairStore.cached c.args.cache.now) (g.met.C.PairStore.framed c.args.cache.now) c.requires.over.owned
 
-  owned : Owns mid.held (mid.source_names ++ mid.cache_names)
-  owned = others-own old.held mid.held old.source_names mid.source_names others old.cache_names c.requires.owned
-
-  over : g.C.PairStore.is_over c.args.cache.now mid.held
+  over : AreOver g.H.ChainMeaning g.S.SourceTiles g.C.PairStore c.look_ahead.new.sources c.args.cache.now c.look_ahead.new.chain
   over =
-      g.met.C.PairStore.framed_condition c.args.cache.now old.held mid.held c.requires.cache_over c.look_ahead.ensures.reads.others.exposed
-      (others-unchanged old.held mid.held old.source_names mid.source_names others old.cache_names c.requires.owned)
-      (owns-last mid.held mid.source_names old.cache_names owned)
+      over-reads g.H.ChainMeaning g.S.SourceTiles g.C.PairStore c.args.sources.now c.look_ahead.new.sources c.args.cache.now c.args.chain.now c.look_ahead.new.chain
+      (g.met.C.PairStore.framed_condition c.args.cache.now) c.look_ahead.ensures.reads c.look_ahead.ensures.over c.requires.over
 
-  sized : AreSizedPairs c.args.nodes.now mid.sizes
-  sized = subst (λ (list : List Sized). AreSizedPairs c.args.nodes.now list) (sym same_sizes) c.requires.sized
+  sized : AreSizedPairs c.args.by.now.nodes.now mid.sizes
+  sized = subst (λ (list : List Sized). AreSizedPairs c.args.by.now.nodes.now list) (sym same_sizes) c.requires.sized
 
   keeps : Keeps 0 old mid
   keeps = keeps-reads old mid c.look_ahead.ensures.reads refl refl
 
 pub returns-in_err-look_ahead-clause-right : goal.returns-in_err-look_ahead-clause-right
 returns-in_err-look_ahead-clause-right g c = λ images known tiles made right.
-    subst (AreKnownRight g.K.Op.OpMeaning.meanings c.args.nodes.now images) (sym (same_bytes g (goal.at.returns-in_err-look_ahead-clause-right g c).After-look_ahead)) right
+    subst (AreKnownRight g.K.Op.OpMeaning.meanings c.args.by.now.nodes.now images) (sym (same_bytes g (goal.at.returns-in_err-look_ahead-clause-right g c).After-look_ahead)) right
 
 pub returns-in_err-look_ahead-clause-sized : goal.returns-in_err-look_ahead-clause-sized
 returns-in_err-look_ahead-clause-sized g c = sized g (goal.at.returns-in_err-look_ahead-clause-sized g c).After-look_ahead
@@ -69,25 +65,22 @@ returns-in_err-look_ahead-clause-keeps g c =
     let at = (goal.at.returns-in_err-look_ahead-clause-keeps g c).After-look_ahead in
     keeps-most 0 1 (old g at) (mid g at) (omega arith) (keeps g at)
 
-pub returns-in_err-look_ahead-clause-cache_over : goal.returns-in_err-look_ahead-clause-cache_over
-returns-in_err-look_ahead-clause-cache_over g c = over g (goal.at.returns-in_err-look_ahead-clause-cache_over g c).After-look_ahead
+pub returns-in_err-look_ahead-clause-over : goal.returns-in_err-look_ahead-clause-over
+returns-in_err-look_ahead-clause-over g c = over g (goal.at.returns-in_err-look_ahead-clause-over g c).After-look_ahead
 
 -- ---- what is asked where the tile is held
 
 pub hold_needed-requires-clause-ready : goal.hold_needed-requires-clause-ready
 hold_needed-requires-clause-ready g c κs within =
-    strip-ready g.K.Op.OpMeaning.meanings c.args.nodes.now (shapes_of_facts (g.S.SourceTiles.facts c.args.sources.now)) c.args.strip.now c.requires.stated c.requires.strip c.args.index
+    strip-ready g.K.Op.OpMeaning.meanings c.args.by.now.nodes.now (shapes_of_facts (g.S.SourceTiles.facts c.args.sources.now)) c.args.strip.now c.requires.stated.nodes c.requires.strip c.args.index
     (c.args.node, c.args.at) c.args.tiles.now c.requires.entry c.requires.held
 
 pub hold_needed-requires-clause-of_nodes : goal.hold_needed-requires-clause-of_nodes
 hold_needed-requires-clause-of_nodes g c κs within =
-    strip-pair g.K.Op.OpMeaning.meanings c.args.nodes.now c.args.strip.now g.K.Op.OpMeaning.boxed c.requires.stated.valid.distinct c.requires.strip c.args.index (c.args.node, c.args.at) c.requires.entry
+    strip-pair g.K.Op.OpMeaning.meanings c.args.by.now.nodes.now c.args.strip.now g.K.Op.OpMeaning.boxed c.requires.stated.nodes.valid.distinct c.requires.strip c.args.index (c.args.node, c.args.at) c.requires.entry
 
-pub hold_needed-requires-clause-cache_over : goal.hold_needed-requires-clause-cache_over
-hold_needed-requires-clause-cache_over g c κs within = over g (goal.at.hold_needed-requires-clause-cache_over g c).After-look_ahead
-
-pub hold_needed-requires-clause-owned : goal.hold_needed-requires-clause-owned
-hold_needed-requires-clause-owned g c κs within = owned g (goal.at.hold_needed-requires-clause-owned g c).After-look_ahead
+pub hold_needed-requires-clause-over : goal.hold_needed-requires-clause-over
+hold_needed-requires-clause-over g c κs within = over g (goal.at.hold_needed-requires-clause-over g c).After-look_ahead
 
 pub hold_needed-requires-clause-sized : goal.hold_needed-requires-clause-sized
 hold_needed-requires-clause-sized g c κs within = sized g (goal.at.hold_needed-requires-clause-sized g c).After-look_ahead
@@ -103,20 +96,20 @@ module _ (g : Given.Over) (c : After-take-made g) where
   pairs = g.C.PairStore.pairs c.args.cache.now
 
   -- what waits from this one on
-  waits : AreAhead c.args.nodes.now pairs (needed ∷ rest) c.look_ahead.new.ahead
-  waits = ahead-from c.args.nodes.now c.args.strip.now.need c.args.index needed c.requires.entry pairs c.look_ahead.new.ahead c.in_ok-look_ahead.ensures.ahead
+  waits : AreAhead c.args.by.now.nodes.now pairs (needed ∷ rest) c.look_ahead.new.ahead
+  waits = ahead-from c.args.by.now.nodes.now c.args.strip.now.need c.args.index needed c.requires.entry pairs c.look_ahead.new.ahead c.in_ok-look_ahead.ensures.ahead
 
-  made : IsMade c.args.nodes.now pairs needed c.take-made.result
-  made = taken-made c.args.nodes.now needed rest c.look_ahead.new.ahead c.take-made.new.self c.take-made.result c.take-made.ensures pairs waits
+  made : IsMade c.args.by.now.nodes.now pairs needed c.take-made.result
+  made = taken-made c.args.by.now.nodes.now needed rest c.look_ahead.new.ahead c.take-made.new.self c.take-made.result c.take-made.ensures pairs waits
 
   module _ (images : Buffers) (known : g.S.SourceTiles.images c.args.sources.now (g.H.ChainMeaning.held c.args.chain.now) ≡ Some images)
-      (tiles : AreTilesOf g.K.Op.OpMeaning.meanings c.args.nodes.now images c.args.tiles.now) (before : AreMadeOf g.K.Op.OpMeaning.meanings c.args.nodes.now images c.args.ahead.now) where
-    waits_of : AreMadeOf g.K.Op.OpMeaning.meanings c.args.nodes.now images c.look_ahead.new.ahead
+      (tiles : AreTilesOf g.K.Op.OpMeaning.meanings c.args.by.now.nodes.now images c.args.tiles.now) (before : AreMadeOf g.K.Op.OpMeaning.meanings c.args.by.now.nodes.now images c.args.ahead.now) where
+    waits_of : AreMadeOf g.K.Op.OpMeaning.meanings c.args.by.now.nodes.now images c.look_ahead.new.ahead
     waits_of = c.in_ok-look_ahead.ensures.bytes images known tiles before
 
-    made_of : IsMadeOf g.K.Op.OpMeaning.meanings c.args.nodes.now images needed c.take-made.result
+    made_of : IsMadeOf g.K.Op.OpMeaning.meanings c.args.by.now.nodes.now images needed c.take-made.result
     made_of =
-        taken-made_of c.args.nodes.now needed rest c.look_ahead.new.ahead c.take-made.new.self c.take-made.result c.take-made.ensures g.K.Op.OpMeaning.meanings images waits_of
+        taken-made_of c.args.by.now.nodes.now needed rest c.look_ahead.new.ahead c.take-made.new.self c.take-made.result c.take-made.ensures g.K.Op.OpMeaning.meanings images waits_of
 
   module _ (last : ℕ) where
     abbrev first : ℕ
@@ -127,18 +120,18 @@ module _ (g : Given.Over) (c : After-take-made g) where
 
     enough : 0 < left + permits_of c.take-made.result
     enough =
-        left-for c.args.nodes.now c.args.strip.now.need c.args.index needed c.requires.entry pairs c.look_ahead.new.ahead c.take-made.new.self c.take-made.result c.take-made.ensures
+        left-for c.args.by.now.nodes.now c.args.strip.now.need c.args.index needed c.requires.entry pairs c.look_ahead.new.ahead c.take-made.new.self c.take-made.result c.take-made.ensures
         c.in_ok-look_ahead.ensures.ahead first left last c.requires.permits c.in_ok-look_ahead.ensures.permits.1
 
     spent : (found : Bool) → IsPermitted left last c.take-made.result found → IsSpentFor first (last + length c.take-made.new.self) found
     spent =
-        spent-for c.args.nodes.now c.args.strip.now.need c.args.index needed c.requires.entry pairs c.look_ahead.new.ahead c.take-made.new.self c.take-made.result c.take-made.ensures
+        spent-for c.args.by.now.nodes.now c.args.strip.now.need c.args.index needed c.requires.entry pairs c.look_ahead.new.ahead c.take-made.new.self c.take-made.result c.take-made.ensures
         c.in_ok-look_ahead.ensures.ahead first left last c.requires.permits c.in_ok-look_ahead.ensures.permits.1
 
     refused : IsRefusedAt left last c.take-made.result → (last ≤ g.K.OpKit.permits c.args.purse.now) × (first + c.args.index ≤ last + length c.args.strip.now.need)
     refused at = (
       omega (arith, at.0, c.in_ok-look_ahead.ensures.permits.0),
-      refused-for c.args.nodes.now c.args.strip.now.need c.args.index needed c.requires.entry pairs c.look_ahead.new.ahead c.take-made.new.self c.take-made.result c.take-made.ensures
+      refused-for c.args.by.now.nodes.now c.args.strip.now.need c.args.index needed c.requires.entry pairs c.look_ahead.new.ahead c.take-made.new.self c.take-made.result c.take-made.ensures
           c.in_ok-look_ahead.ensures.ahead first left last c.requires.permits c.in_ok-look_ahead.ensures.permits.1 at,
     )
 
@@ -154,26 +147,26 @@ pub returns-clause-held : goal.returns-clause-held
 returns-clause-held g c =
     let need = c.args.strip.now.need in
     let needed : Needed = (c.args.node, c.args.at) in
-    ok-then (λ _. HoldsMore c.args.nodes.now needed c.args.tiles.now c.hold_needed.new.tiles) _ c.hold_needed.result c.hold_needed.ensures.held
-    (λ _ more. subst (λ (list : List Needed). HoldsNeed c.args.nodes.now list c.hold_needed.new.tiles) (sym (take-more need c.args.index needed c.requires.entry))
-    (need-more c.args.nodes.now (take c.args.index need) needed c.args.tiles.now c.hold_needed.new.tiles more c.requires.held))
+    ok-then (λ _. HoldsMore c.args.by.now.nodes.now needed c.args.tiles.now c.hold_needed.new.tiles) _ c.hold_needed.result c.hold_needed.ensures.held
+    (λ _ more. subst (λ (list : List Needed). HoldsNeed c.args.by.now.nodes.now list c.hold_needed.new.tiles) (sym (take-more need c.args.index needed c.requires.entry))
+    (need-more c.args.by.now.nodes.now (take c.args.index need) needed c.args.tiles.now c.hold_needed.new.tiles more c.requires.held))
 
 pub returns-clause-recent : goal.returns-clause-recent
 returns-clause-recent g c =
     let at = (goal.at.returns-clause-recent g c).After-look_ahead in
-    let new = moment (g.S.SourceTiles.facts c.hold_needed.new.sources) (g.S.SourceTiles.images c.hold_needed.new.sources (g.H.ChainMeaning.held c.hold_needed.new.chain)) (g.S.SourceTiles.names c.hold_needed.new.sources) (g.C.PairStore.pairs c.hold_needed.new.cache) (g.C.PairStore.sizes c.hold_needed.new.cache (g.H.ChainMeaning.held c.hold_needed.new.chain)) (g.C.PairStore.cached c.hold_needed.new.cache (g.H.ChainMeaning.held c.hold_needed.new.chain)) (g.C.PairStore.capacity c.hold_needed.new.cache) (g.C.PairStore.names c.hold_needed.new.cache) (g.H.ChainMeaning.held c.hold_needed.new.chain) (g.H.ChainMeaning.counts c.hold_needed.new.chain) (g.H.ChainMeaning.loans c.hold_needed.new.chain) in
-    let pair = pair_of (specs_of c.args.nodes.now) (c.args.node, c.args.at) in
+    let new = moment g.H.ChainMeaning g.S.SourceTiles g.C.PairStore c.hold_needed.new.sources c.hold_needed.new.cache c.hold_needed.new.chain in
+    let pair = pair_of (specs_of c.args.by.now.nodes.now) (c.args.node, c.args.at) in
     ok-then (λ found. IsRecent (mid g at) new pair found) (λ found. IsRecent (old g at) new pair found) c.hold_needed.result c.hold_needed.ensures.recent
     (λ found is. record { pairs = is.pairs; there = is.there })
 
 pub returns-clause-bytes : goal.returns-clause-bytes
 returns-clause-bytes g c = λ images list known tiles before cached right.
     let at = (goal.at.returns-clause-bytes g c).After-look_ahead in
-    let new = moment (g.S.SourceTiles.facts c.hold_needed.new.sources) (g.S.SourceTiles.images c.hold_needed.new.sources (g.H.ChainMeaning.held c.hold_needed.new.chain)) (g.S.SourceTiles.names c.hold_needed.new.sources) (g.C.PairStore.pairs c.hold_needed.new.cache) (g.C.PairStore.sizes c.hold_needed.new.cache (g.H.ChainMeaning.held c.hold_needed.new.chain)) (g.C.PairStore.cached c.hold_needed.new.cache (g.H.ChainMeaning.held c.hold_needed.new.chain)) (g.C.PairStore.capacity c.hold_needed.new.cache) (g.C.PairStore.names c.hold_needed.new.cache) (g.H.ChainMeaning.held c.hold_needed.new.chain) (g.H.ChainMeaning.counts c.hold_needed.new.chain) (g.H.ChainMeaning.loans c.hold_needed.new.chain) in
-    let pair = pair_of (specs_of c.args.nodes.now) (c.args.node, c.args.at) in
+    let new = moment g.H.ChainMeaning g.S.SourceTiles g.C.PairStore c.hold_needed.new.sources c.hold_needed.new.cache c.hold_needed.new.chain in
+    let pair = pair_of (specs_of c.args.by.now.nodes.now) (c.args.node, c.args.at) in
     let meanings = g.K.Op.OpMeaning.meanings in
-    ok-then (λ _. IsRendered meanings c.args.nodes.now images (mid g at) new list (pair ∷ []) c.hold_needed.new.tiles)
-    (λ _. IsRendered meanings c.args.nodes.now images (old g at) new list (pair ∷ []) c.hold_needed.new.tiles) c.hold_needed.result
+    ok-then (λ _. IsRendered meanings c.args.by.now.nodes.now images (mid g at) new list (pair ∷ []) c.hold_needed.new.tiles)
+    (λ _. IsRendered meanings c.args.by.now.nodes.now images (old g at) new list (pair ∷ []) c.hold_needed.new.tiles) c.hold_needed.result
     (c.hold_needed.ensures.bytes images list (c.look_ahead.ensures.reads.images ∙ known) tiles
     (made_of g (goal.at.returns-clause-bytes g c).After-take-made images known tiles before) (same_bytes g at ∙ cached) right)
     (λ _ is. record { cached = is.cached; tiles = is.tiles })
@@ -183,20 +176,20 @@ returns-clause-right g c = λ images known tiles before right.
     let at = (goal.at.returns-clause-right g c).After-look_ahead in
     c.hold_needed.ensures.right images (c.look_ahead.ensures.reads.images ∙ known) tiles
     (made_of g (goal.at.returns-clause-right g c).After-take-made images known tiles before)
-    (subst (AreKnownRight g.K.Op.OpMeaning.meanings c.args.nodes.now images) (sym (same_bytes g at)) right)
+    (subst (AreKnownRight g.K.Op.OpMeaning.meanings c.args.by.now.nodes.now images) (sym (same_bytes g at)) right)
 
 pub returns-clause-ahead : goal.returns-clause-ahead
 returns-clause-ahead g c =
     let at = (goal.at.returns-clause-ahead g c).After-look_ahead in
     let taken = (goal.at.returns-clause-ahead g c).After-take-made in
-    let new = moment (g.S.SourceTiles.facts c.hold_needed.new.sources) (g.S.SourceTiles.images c.hold_needed.new.sources (g.H.ChainMeaning.held c.hold_needed.new.chain)) (g.S.SourceTiles.names c.hold_needed.new.sources) (g.C.PairStore.pairs c.hold_needed.new.cache) (g.C.PairStore.sizes c.hold_needed.new.cache (g.H.ChainMeaning.held c.hold_needed.new.chain)) (g.C.PairStore.cached c.hold_needed.new.cache (g.H.ChainMeaning.held c.hold_needed.new.chain)) (g.C.PairStore.capacity c.hold_needed.new.cache) (g.C.PairStore.names c.hold_needed.new.cache) (g.H.ChainMeaning.held c.hold_needed.new.chain) (g.H.ChainMeaning.counts c.hold_needed.new.chain) (g.H.ChainMeaning.loans c.hold_needed.new.chain) in
-    let nodes = c.args.nodes.now in
+    let new = moment g.H.ChainMeaning g.S.SourceTiles g.C.PairStore c.hold_needed.new.sources c.hold_needed.new.cache c.hold_needed.new.chain in
+    let nodes = c.args.by.now.nodes.now in
     let need = c.args.strip.now.need in
     let n : Needed = (c.args.node, c.args.at) in
     let pair = pair_of (specs_of nodes) n in
     let next : suc c.args.index ≡ c.args.index + 1 = omega arith in
     let apart = apart-after same_pair (pair_of (specs_of nodes)) need c.args.index n
-    (strip-distinct g.K.Op.OpMeaning.meanings nodes c.args.strip.now c.requires.stated.valid.distinct c.requires.strip) c.requires.entry in
+    (strip-distinct g.K.Op.OpMeaning.meanings nodes c.args.strip.now c.requires.stated.nodes.valid.distinct c.requires.strip) c.requires.entry in
     ok-then (λ found. IsRecent (mid g at) new pair found) _ c.hold_needed.result c.hold_needed.ensures.recent
     (λ found is. subst (λ (k : ℕ). AreAhead nodes new.pairs (drop k need) c.take-made.new.self) next
     (ahead-more nodes n (drop (suc c.args.index) need) c.look_ahead.new.ahead c.take-made.new.self c.take-made.result c.take-made.ensures
@@ -207,7 +200,7 @@ returns-clause-made g c = λ images known tiles before.
     let taken = (goal.at.returns-clause-made g c).After-take-made in
     ok-any _ c.hold_needed.result
     (taken-all (c.args.node, c.args.at) (drop (suc c.args.index) c.args.strip.now.need) c.look_ahead.new.ahead c.take-made.new.self
-    (λ (m : Needed × List ℕ). m.1 ≡ bytes_at g.K.Op.OpMeaning.meanings c.args.nodes.now images m.0.0 m.0.1) c.take-made.result c.take-made.ensures
+    (λ (m : Needed × List ℕ). m.1 ≡ bytes_at g.K.Op.OpMeaning.meanings c.args.by.now.nodes.now images m.0.0 m.0.1) c.take-made.result c.take-made.ensures
     (waits_of g taken images known tiles before))
 
 pub returns-clause-permits : goal.returns-clause-permits
@@ -220,7 +213,7 @@ returns-clause-permits g c =
 pub returns-clause-keeps : goal.returns-clause-keeps
 returns-clause-keeps g c =
     let at = (goal.at.returns-clause-keeps g c).After-look_ahead in
-    let new = moment (g.S.SourceTiles.facts c.hold_needed.new.sources) (g.S.SourceTiles.images c.hold_needed.new.sources (g.H.ChainMeaning.held c.hold_needed.new.chain)) (g.S.SourceTiles.names c.hold_needed.new.sources) (g.C.PairStore.pairs c.hold_needed.new.cache) (g.C.PairStore.sizes c.hold_needed.new.cache (g.H.ChainMeaning.held c.hold_needed.new.chain)) (g.C.PairStore.cached c.hold_needed.new.cache (g.H.ChainMeaning.held c.hold_needed.new.chain)) (g.C.PairStore.capacity c.hold_needed.new.cache) (g.C.PairStore.names c.hold_needed.new.cache) (g.H.ChainMeaning.held c.hold_needed.new.chain) (g.H.ChainMeaning.counts c.hold_needed.new.chain) (g.H.ChainMeaning.loans c.hold_needed.new.chain) in
+    let new = moment g.H.ChainMeaning g.S.SourceTiles g.C.PairStore c.hold_needed.new.sources c.hold_needed.new.cache c.hold_needed.new.chain in
     keeps-both 0 1 (old g at) (mid g at) new (keeps g at) c.hold_needed.ensures.keeps
 
 pub returns-clause-valid : goal.returns-clause-valid

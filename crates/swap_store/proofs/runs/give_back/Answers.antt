@@ -3,6 +3,7 @@ use Rattle.std.proofs.lemmas.Bool.{false≢true}
 use Rattle.chain_owners.specs.declared.run.Run.{Run}
 use Rattle.swap_store.specs.Run.{EndsBefore, BeginsWith}
 use Rattle.swap_store.proofs.GivenBack.{Gap, gap_of_slice, inserted, given_to_left, given_to_right, given_to_both, sum_with_left, sum_with_right}
+use Rattle.swap_store.proofs.runs.give_back.Goals.{After-runs_before-at}
 use Rattle.swap_store.proofs.runs.give_back.Goals as goal
 
 no_end : (xs ys : List Run) (at first : ℕ) → ys ≡ xs → IsTrue false ↔ EndsBefore ys at first → ¬ EndsBefore xs at first
@@ -17,96 +18,54 @@ yes_end xs ys at first e says = let P : List Run → Type 0 = λ zs. EndsBefore 
 yes_begin : (xs ys : List Run) (at first : ℕ) → ys ≡ xs → IsTrue true ↔ BeginsWith ys at first → BeginsWith xs at first
 yes_begin xs ys at first e says = let P : List Run → Type 0 = λ zs. BeginsWith zs at first in subst P e (says.0 refl)
 
+-- the blocks lie between the runs
+gap : (c : After-runs_before-at) → Gap (2 ^ 20) c.args.runs.now.items c.runs_before-at.result c.args.first c.args.count
+gap c =
+    gap_of_slice (2 ^ 20) c.args.runs.now.items _ _ _ _ c.deref.ensures.value c.runs_before-at.ensures.within c.requires.given c.requires.bound c.requires.list
+    c.runs_before-at.ensures.before c.runs_before-at.ensures.following c.requires.apart
+
 pub overflow_add-count : goal.overflow_add-count
 overflow_add-count c =
-    let xs = c.args.runs.now.items in
-    let g : Gap (2 ^ 20) xs c.runs_before-at.result c.args.first c.args.count =
-    gap_of_slice (2 ^ 20) xs _ _ _ _ c.deref.ensures.value c.runs_before-at.ensures.within c.requires.given c.requires.bound c.requires.list
-    c.runs_before-at.ensures.before c.runs_before-at.ensures.following c.requires.apart in
-    omega (arith, sum_with_right (2 ^ 20) xs _ _ _ c.index-right.result.now g (yes_begin xs _ _ _ c.deref-3.ensures.value c.in-false-true.ensures') c.index-right.ensures)
+    let at = (goal.at.overflow_add-count c).After-runs_before-at in
+    omega (arith, sum_with_right (2 ^ 20) _ _ _ _ c.index-right.result.now (gap at) (yes_begin _ _ _ _ c.deref-3.ensures.value c.in-false-true.ensures') c.index-right.ensures)
 
 pub overflow_add-left-in-true-true : goal.overflow_add-left-in-true-true
 overflow_add-left-in-true-true c =
-    let xs = c.args.runs.now.items in
-    let g : Gap (2 ^ 20) xs c.runs_before-at.result c.args.first c.args.count =
-    gap_of_slice (2 ^ 20) xs _ _ _ _ c.deref.ensures.value c.runs_before-at.ensures.within c.requires.given c.requires.bound c.requires.list
-    c.runs_before-at.ensures.before c.runs_before-at.ensures.following c.requires.apart in
+    let at = (goal.at.overflow_add-left-in-true-true c).After-runs_before-at in
     omega (
       arith,
-      sum_with_right (2 ^ 20) xs _ _ _ c.remove-right.result g (yes_begin xs _ _ _ c.deref-3.ensures.value c.in-true-true.ensures') c.remove-right.ensures.value,
-      sum_with_left xs _ _ c.index-left.result.now (yes_end xs _ _ _ c.deref-2.ensures.value c.in-true-true.ensures) c.index-left.ensures,
+      sum_with_right (2 ^ 20) _ _ _ _ c.remove-right.result (gap at) (yes_begin _ _ _ _ c.deref-3.ensures.value c.in-true-true.ensures') c.remove-right.ensures.value,
+      sum_with_left _ _ _ c.index-left.result.now (yes_end _ _ _ _ c.deref-2.ensures.value c.in-true-true.ensures) c.index-left.ensures,
     )
 
-pub returns-in-true-true-clause-list : goal.returns-in-true-true-clause-list
-returns-in-true-true-clause-list c =
-    let xs = c.args.runs.now.items in
-    let g : Gap (2 ^ 20) xs c.runs_before-at.result c.args.first c.args.count =
-    gap_of_slice (2 ^ 20) xs _ _ _ _ c.deref.ensures.value c.runs_before-at.ensures.within c.requires.given c.requires.bound c.requires.list
-    c.runs_before-at.ensures.before c.runs_before-at.ensures.following c.requires.apart in
-    rw c.remove-right.ensures.items
-    (given_to_both (2 ^ 20) xs _ _ _ c.index-left.result.now c.remove-right.result g (yes_end xs _ _ _ c.deref-2.ensures.value c.in-true-true.ensures) (yes_begin xs _ _ _ c.deref-3.ensures.value c.in-true-true.ensures')
-    c.index-left.ensures c.remove-right.ensures.value).list
+pub returns-in-true-true : goal.returns-in-true-true
+returns-in-true-true c =
+    let at = (goal.at.returns-in-true-true c).After-runs_before-at in
+    let given = given_to_both (2 ^ 20) c.args.runs.now.items _ _ _ c.index-left.result.now c.remove-right.result (gap at)
+    (yes_end _ _ _ _ c.deref-2.ensures.value c.in-true-true.ensures) (yes_begin _ _ _ _ c.deref-3.ensures.value c.in-true-true.ensures')
+    c.index-left.ensures c.remove-right.ensures.value in
+    record { list = rw c.remove-right.ensures.items given.list; blocks = rw c.remove-right.ensures.items given.blocks; longer = search rules; capacity = search rules }
 
-pub returns-in-true-false-clause-list : goal.returns-in-true-false-clause-list
-returns-in-true-false-clause-list c =
-    let xs = c.args.runs.now.items in
-    let g : Gap (2 ^ 20) xs c.runs_before-at.result c.args.first c.args.count =
-    gap_of_slice (2 ^ 20) xs _ _ _ _ c.deref.ensures.value c.runs_before-at.ensures.within c.requires.given c.requires.bound c.requires.list
-    c.runs_before-at.ensures.before c.runs_before-at.ensures.following c.requires.apart in
-    (given_to_left (2 ^ 20) xs _ _ _ c.index-left-in-true-false.result.now g (yes_end xs _ _ _ c.deref-2.ensures.value c.in-true-false.ensures) (no_begin xs _ _ _ c.deref-3.ensures.value c.in-true-false.ensures')
-    c.index-left-in-true-false.ensures).list
+pub returns-in-true-false : goal.returns-in-true-false
+returns-in-true-false c =
+    let at = (goal.at.returns-in-true-false c).After-runs_before-at in
+    let given = given_to_left (2 ^ 20) c.args.runs.now.items _ _ _ c.index-left-in-true-false.result.now (gap at)
+    (yes_end _ _ _ _ c.deref-2.ensures.value c.in-true-false.ensures) (no_begin _ _ _ _ c.deref-3.ensures.value c.in-true-false.ensures')
+    c.index-left-in-true-false.ensures in
+    record { list = given.list; blocks = given.blocks; longer = search rules; capacity = search rules }
 
-pub returns-in-false-true-clause-list : goal.returns-in-false-true-clause-list
-returns-in-false-true-clause-list c =
-    let xs = c.args.runs.now.items in
-    let g : Gap (2 ^ 20) xs c.runs_before-at.result c.args.first c.args.count =
-    gap_of_slice (2 ^ 20) xs _ _ _ _ c.deref.ensures.value c.runs_before-at.ensures.within c.requires.given c.requires.bound c.requires.list
-    c.runs_before-at.ensures.before c.runs_before-at.ensures.following c.requires.apart in
-    (given_to_right (2 ^ 20) xs _ _ _ c.index-right.result.now g (no_end xs _ _ _ c.deref-2.ensures.value c.in-false-true.ensures) (yes_begin xs _ _ _ c.deref-3.ensures.value c.in-false-true.ensures')
-    c.index-right.ensures).list
+pub returns-in-false-true : goal.returns-in-false-true
+returns-in-false-true c =
+    let at = (goal.at.returns-in-false-true c).After-runs_before-at in
+    let given = given_to_right (2 ^ 20) c.args.runs.now.items _ _ _ c.index-right.result.now (gap at)
+    (no_end _ _ _ _ c.deref-2.ensures.value c.in-false-true.ensures) (yes_begin _ _ _ _ c.deref-3.ensures.value c.in-false-true.ensures')
+    c.index-right.ensures in
+    record { list = given.list; blocks = given.blocks; longer = search rules; capacity = search rules }
 
-pub returns-in-false-false-clause-list : goal.returns-in-false-false-clause-list
-returns-in-false-false-clause-list c =
-    let xs = c.args.runs.now.items in
-    let g : Gap (2 ^ 20) xs c.runs_before-at.result c.args.first c.args.count =
-    gap_of_slice (2 ^ 20) xs _ _ _ _ c.deref.ensures.value c.runs_before-at.ensures.within c.requires.given c.requires.bound c.requires.list
-    c.runs_before-at.ensures.before c.runs_before-at.ensures.following c.requires.apart in
-    let now : c.insert.new.self.items ≡ insert xs c.runs_before-at.result (record { first = c.args.first; count = c.args.count }) = search rules in
-    rw now (inserted (2 ^ 20) xs _ _ _ g (no_end xs _ _ _ c.deref-2.ensures.value c.in-false-false.ensures) (no_begin xs _ _ _ c.deref-3.ensures.value c.in-false-false.ensures')).list
-
-pub returns-in-true-true-clause-blocks : goal.returns-in-true-true-clause-blocks
-returns-in-true-true-clause-blocks c =
-    let xs = c.args.runs.now.items in
-    let g : Gap (2 ^ 20) xs c.runs_before-at.result c.args.first c.args.count =
-    gap_of_slice (2 ^ 20) xs _ _ _ _ c.deref.ensures.value c.runs_before-at.ensures.within c.requires.given c.requires.bound c.requires.list
-    c.runs_before-at.ensures.before c.runs_before-at.ensures.following c.requires.apart in
-    rw c.remove-right.ensures.items
-    (given_to_both (2 ^ 20) xs _ _ _ c.index-left.result.now c.remove-right.result g (yes_end xs _ _ _ c.deref-2.ensures.value c.in-true-true.ensures) (yes_begin xs _ _ _ c.deref-3.ensures.value c.in-true-true.ensures')
-    c.index-left.ensures c.remove-right.ensures.value).blocks
-
-pub returns-in-true-false-clause-blocks : goal.returns-in-true-false-clause-blocks
-returns-in-true-false-clause-blocks c =
-    let xs = c.args.runs.now.items in
-    let g : Gap (2 ^ 20) xs c.runs_before-at.result c.args.first c.args.count =
-    gap_of_slice (2 ^ 20) xs _ _ _ _ c.deref.ensures.value c.runs_before-at.ensures.within c.requires.given c.requires.bound c.requires.list
-    c.runs_before-at.ensures.before c.runs_before-at.ensures.following c.requires.apart in
-    (given_to_left (2 ^ 20) xs _ _ _ c.index-left-in-true-false.result.now g (yes_end xs _ _ _ c.deref-2.ensures.value c.in-true-false.ensures) (no_begin xs _ _ _ c.deref-3.ensures.value c.in-true-false.ensures')
-    c.index-left-in-true-false.ensures).blocks
-
-pub returns-in-false-true-clause-blocks : goal.returns-in-false-true-clause-blocks
-returns-in-false-true-clause-blocks c =
-    let xs = c.args.runs.now.items in
-    let g : Gap (2 ^ 20) xs c.runs_before-at.result c.args.first c.args.count =
-    gap_of_slice (2 ^ 20) xs _ _ _ _ c.deref.ensures.value c.runs_before-at.ensures.within c.requires.given c.requires.bound c.requires.list
-    c.runs_before-at.ensures.before c.runs_before-at.ensures.following c.requires.apart in
-    (given_to_right (2 ^ 20) xs _ _ _ c.index-right.result.now g (no_end xs _ _ _ c.deref-2.ensures.value c.in-false-true.ensures) (yes_begin xs _ _ _ c.deref-3.ensures.value c.in-false-true.ensures')
-    c.index-right.ensures).blocks
-
-pub returns-in-false-false-clause-blocks : goal.returns-in-false-false-clause-blocks
-returns-in-false-false-clause-blocks c =
-    let xs = c.args.runs.now.items in
-    let g : Gap (2 ^ 20) xs c.runs_before-at.result c.args.first c.args.count =
-    gap_of_slice (2 ^ 20) xs _ _ _ _ c.deref.ensures.value c.runs_before-at.ensures.within c.requires.given c.requires.bound c.requires.list
-    c.runs_before-at.ensures.before c.runs_before-at.ensures.following c.requires.apart in
-    let now : c.insert.new.self.items ≡ insert xs c.runs_before-at.result (record { first = c.args.first; count = c.args.count }) = search rules in
-    rw now (inserted (2 ^ 20) xs _ _ _ g (no_end xs _ _ _ c.deref-2.ensures.value c.in-false-false.ensures) (no_begin xs _ _ _ c.deref-3.ensures.value c.in-false-false.ensures')).blocks
+pub returns-in-false-false : goal.returns-in-false-false
+returns-in-false-false c =
+    let at = (goal.at.returns-in-false-false c).After-runs_before-at in
+    let now : c.insert.new.self.items ≡ insert c.args.runs.now.items c.runs_before-at.result (record { first = c.args.first; count = c.args.count }) = search rules in
+    let given = inserted (2 ^ 20) c.args.runs.now.items _ _ _ (gap at)
+    (no_end _ _ _ _ c.deref-2.ensures.value c.in-false-false.ensures) (no_begin _ _ _ _ c.deref-3.ensures.value c.in-false-false.ensures') in
+    record { list = rw now given.list; blocks = rw now given.blocks; longer = search rules; capacity = search rules }

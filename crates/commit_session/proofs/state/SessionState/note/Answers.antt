@@ -1,10 +1,10 @@
 use Rattle.std.proofs.Common.{◌≡◌, List, [], ◌∷◌, ◌++◌, sym, ap, subst, ◌∙◌}
 use Rattle.model_graphs.specs.declared.node.NodeEdit.{NodeEdit}
-use Rattle.model_graphs.specs.Facts.{rectangles_of}
 use Rattle.model_graphs.specs.Laws.{KeepsLaws}
 use Rattle.commit_session.specs.Parts.{Parts}
 use Rattle.commit_session.specs.Seen.{IsOver}
 use Rattle.commit_session.proofs.Changed.{over-noted}
+use Rattle.commit_session.proofs.Same.{this}
 use Rattle.commit_session.proofs.state.SessionState.note.Given
 use Rattle.commit_session.proofs.state.SessionState.note.Goals as goal
 
@@ -13,17 +13,7 @@ laws g = record { local = g.Op.OpMeaning.local; dual = g.Op.OpMeaning.dual }
 
 pub returns-clause-over : goal.returns-clause-over
 returns-clause-over g c =
-    let v : Parts g.row.Op.Denot = record {
-      versions = c.self.inside.versions;
-      pending = c.self.inside.pending.items;
-      written = rectangles_of c.self.inside.written.items;
-      graph = c.self.inside.graph;
-      entries = c.self.inside.cache.names.entries;
-      most = c.self.inside.cache.names.cap;
-      capacity = c.self.inside.cache.capacity;
-      applied = c.self.inside.counts.applied;
-      reused = c.self.inside.counts.reused;
-    } in
+    let v : Parts g.row.Op.Denot = this c.self.view_is in
     let is : record v { pending = c.push.new.self.items } ≡ record c.args.self.now { pending = c.args.self.now.pending ++ c.args.edit ∷ [] } =
     ap (λ (ps : List (NodeEdit g.row.Op.Denot)). let p : Parts g.row.Op.Denot = record v { pending = ps } in p) c.in_ok-push.ensures.items
     ∙ ap (λ (p : Parts g.row.Op.Denot). let q : Parts g.row.Op.Denot = record p { pending = p.pending ++ c.args.edit ∷ [] } in q) c.self.view_is in

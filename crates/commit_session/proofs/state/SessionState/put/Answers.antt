@@ -13,6 +13,7 @@ use Rattle.commit_session.specs.Steps.{after_writing}
 use Rattle.commit_session.proofs.Changed.{on-err, versions-over}
 use Rattle.commit_session.proofs.Edited.{IsMade, made, refused, reserved}
 use Rattle.commit_session.proofs.Kept.{IsKept, over-here}
+use Rattle.commit_session.proofs.Same.{this}
 use Rattle.commit_session.proofs.state.SessionState.put.Given
 use Rattle.commit_session.proofs.state.SessionState.put.Goals.{After-put, After-reserve}
 use Rattle.commit_session.proofs.state.SessionState.put.Goals as goal
@@ -27,37 +28,17 @@ module _ (g : Given.Over) where
   -- there is room for one rectangle more
   module _ (c : After-reserve g) where
     abbrev with_room : Parts g.row.Op.Denot
-    with_room = record {
-      versions = c.self.inside.versions;
-      pending = c.self.inside.pending.items;
-      written = rectangles_of c.reserve.new.self.items;
-      graph = c.self.inside.graph;
-      entries = c.self.inside.cache.names.entries;
-      most = c.self.inside.cache.names.cap;
-      capacity = c.self.inside.cache.capacity;
-      applied = c.self.inside.counts.applied;
-      reused = c.self.inside.counts.reused;
-    }
+    with_room = record (this c.self.view_is) { written = rectangles_of c.reserve.new.self.items }
 
     room_is : with_room ≡ c.args.self.now
-    room_is = reserved with_room c.args.self.now c.self.inside.written.items c.reserve.new.self.items c.reserve.ensures.items c.self.view_is
+    room_is = reserved (this c.self.view_is) c.args.self.now c.self.inside.written.items c.reserve.new.self.items c.reserve.ensures.items c.self.view_is
 
   module _ (c : After-put g) where
     abbrev parts : Parts g.row.Op.Denot
-    parts = record {
-      versions = c.self.inside.versions;
-      pending = c.self.inside.pending.items;
-      written = rectangles_of c.reserve.new.self.items;
-      graph = c.self.inside.graph;
-      entries = c.self.inside.cache.names.entries;
-      most = c.self.inside.cache.names.cap;
-      capacity = c.self.inside.cache.capacity;
-      applied = c.self.inside.counts.applied;
-      reused = c.self.inside.counts.reused;
-    }
+    parts = record (this c.self.view_is) { written = rectangles_of c.reserve.new.self.items }
 
     is : parts ≡ c.args.self.now
-    is = reserved parts c.args.self.now c.self.inside.written.items c.reserve.new.self.items c.reserve.ensures.items c.self.view_is
+    is = reserved (this c.self.view_is) c.args.self.now c.self.inside.written.items c.reserve.new.self.items c.reserve.ensures.items c.self.view_is
 
     unchanged : AreShownAgain parts.versions.working c.put.new.self.working (g.C.ChainMeaning.held c.args.chain.now) (g.C.ChainMeaning.held c.put.new.chain)
         → IsKept g.Op.OpMeaning.same g.Op.OpMeaning.meanings (tiles_added (Put c.args.name c.args.rect c.args.bytes.items)) c.args.self.now (record parts { versions = c.put.new.self }) (state c.args.chain.now) (state c.put.new.chain)

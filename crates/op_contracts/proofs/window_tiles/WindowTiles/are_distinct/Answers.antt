@@ -13,9 +13,9 @@ returns-then-is_some c =
     let entry = c.entry-item.result in
     let given : c.deref-entry-items.result.now ≡ all = c.deref-entry-items.ensures.value ∙ c.self.view_is in
     let sliced : c.deref.result.now ≡ all = c.deref.ensures.value ∙ c.self.view_is in
-    let found = c.find_bytes.ensures ∙ found-in-rest c.deref.result.now all (n + 1) entry.0 sliced in
+    let found = c.find_tile.ensures ∙ found-in-rest c.deref.result.now all (n + 1) entry.0 sliced in
     let some : is_some (lookup (same_tile entry.0) (drop (n + 1) all)) ≡ true =
-    sym (ap is_some found) ∙ is_some-map (λ x. x.now) c.find_bytes.result ∙ sym c.if-is_some.ensures in (
+    sym (ap is_some found) ∙ is_some-map (λ x. x.now) c.find_tile.result ∙ sym c.if-is_some.ensures in (
       λ h. absurd (cc h),
       λ distinct.
           let lacks = distinct-lacks all n entry (rw given at c.loop-number-test.true) (rw given at c.entry-item.is) (c.loop-number.invariant.0 distinct) in
@@ -29,9 +29,9 @@ loop-number-preserved c =
     let entry = c.entry-item.result in
     let given : c.deref-entry-items.result.now ≡ all = c.deref-entry-items.ensures.value ∙ c.self.view_is in
     let sliced : c.deref.result.now ≡ all = c.deref.ensures.value ∙ c.self.view_is in
-    let found = c.find_bytes.ensures ∙ found-in-rest c.deref.result.now all (n + 1) entry.0 sliced in
+    let found = c.find_tile.ensures ∙ found-in-rest c.deref.result.now all (n + 1) entry.0 sliced in
     let none : is_some (lookup (same_tile entry.0) (drop (n + 1) all)) ≡ false =
-    sym (ap is_some found) ∙ is_some-map (λ x. x.now) c.find_bytes.result ∙ sym c.if-is_some.ensures in
+    sym (ap is_some found) ∙ is_some-map (λ x. x.now) c.find_tile.result ∙ sym c.if-is_some.ensures in
     let next = distinct-next all n entry (rw given at c.loop-number-test.true) (rw given at c.entry-item.is) (none-from _ none) in
     (λ h. next.0 (c.loop-number.invariant.0 h), λ h. c.loop-number.invariant.1 (next.1 h))
 

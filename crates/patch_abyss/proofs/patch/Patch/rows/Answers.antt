@@ -1,72 +1,40 @@
-use Rattle.std.proofs.Common.{◌-◌, ◌*◌, ◌≤◌, length, sym, ap, ◌∙◌, subst}
+use Rattle.std.proofs.Common.{◌≡◌, ◌-◌, ◌*◌, ◌≤◌, ℕ, List, length, refl, sym, ap, ◌∙◌, subst}
 use Rattle.plane_rect.specs.Rectangle.{end_row}
 use Rattle.pixel_formats.specs.Format.{pixel_bytes}
 use Rattle.model_images.specs.Image.{Image}
-use Rattle.patch_abyss.proofs.RowPixels.{rows_in_order, rows_within, length-rows, rows_samples}
+use Rattle.patch_abyss.proofs.RowPixels.{AreRowsOf, rows_in_order, rows_within, length-rows, rows_samples}
+use Rattle.patch_abyss.proofs.patch.Patch.rows.Goals.{After-deref}
 use Rattle.patch_abyss.proofs.patch.Patch.rows.Goals as goal
 
+-- where the rows are among the bytes of the patch
+are_rows : (c : After-deref) (bytes : List ℕ) → bytes ≡ c.self.inside.bytes.items
+    → AreRowsOf c.self.inside.rect c.self.inside.format c.args.rows.start c.args.rows.end c.pixel_bytes-pixel.result
+    c.part_row-first.result.start c.part_row-last.result.start c.part_row-last.result.end bytes
+are_rows c bytes is = record {
+  first_row = subst (λ (image : Image). image.box.first_row ≤ c.args.rows.start) (sym c.self.view_is) c.requires.first_row;
+  some = c.requires.some;
+  end = subst (λ (image : Image). c.args.rows.end ≤ end_row image.box) (sym c.self.view_is) c.requires.end_row;
+  whole = ap length is ∙ c.self.invariant.whole;
+  pixel = c.pixel_bytes-pixel.ensures;
+  at_f = c.part_row-first.ensures.start;
+  at_l = c.part_row-last.ensures.start;
+  at_z = c.part_row-last.ensures.len;
+}
+
 pub slice_bounds-result-count : goal.slice_bounds-result-count
-slice_bounds-result-count c =
-    let patch = c.self.inside in
-    let first = c.part_row-first in
-    let last = c.part_row-last in
-    let s = c.args.rows.start in
-    let e = c.args.rows.end in
-    rows_in_order patch.rect patch.format s e c.pixel_bytes-pixel.result first.result.start last.result.start last.result.end c.deref.result.now
-    (subst (λ (image : Image). image.box.first_row ≤ s) (sym c.self.view_is) c.requires.first_row) c.requires.some
-    (subst (λ (image : Image). e ≤ end_row image.box) (sym c.self.view_is) c.requires.end_row)
-    (ap length c.deref.ensures.value ∙ c.self.invariant.whole) c.pixel_bytes-pixel.ensures first.ensures.start last.ensures.start last.ensures.len
+slice_bounds-result-count c = rows_in_order (are_rows (goal.at.slice_bounds-result-count c).After-deref c.deref.result.now c.deref.ensures.value)
 
 pub slice_bounds-result-start : goal.slice_bounds-result-start
-slice_bounds-result-start c =
-    let patch = c.self.inside in
-    let first = c.part_row-first in
-    let last = c.part_row-last in
-    let s = c.args.rows.start in
-    let e = c.args.rows.end in
-    let order : first.result.start * c.pixel_bytes-pixel.result ≤ last.result.end * c.pixel_bytes-pixel.result =
-    rows_in_order patch.rect patch.format s e c.pixel_bytes-pixel.result first.result.start last.result.start last.result.end c.deref.result.now
-    (subst (λ (image : Image). image.box.first_row ≤ s) (sym c.self.view_is) c.requires.first_row) c.requires.some
-    (subst (λ (image : Image). e ≤ end_row image.box) (sym c.self.view_is) c.requires.end_row)
-    (ap length c.deref.ensures.value ∙ c.self.invariant.whole) c.pixel_bytes-pixel.ensures first.ensures.start last.ensures.start last.ensures.len in
-    order
+slice_bounds-result-start c = rows_in_order (are_rows (goal.at.slice_bounds-result-start c).After-deref c.deref.result.now c.deref.ensures.value)
 
 pub slice_bounds-result-end : goal.slice_bounds-result-end
-slice_bounds-result-end c =
-    let patch = c.self.inside in
-    let first = c.part_row-first in
-    let last = c.part_row-last in
-    let s = c.args.rows.start in
-    let e = c.args.rows.end in
-    let fits : last.result.end * c.pixel_bytes-pixel.result ≤ length c.deref.result.now =
-    rows_within patch.rect patch.format s e c.pixel_bytes-pixel.result first.result.start last.result.start last.result.end c.deref.result.now
-    (subst (λ (image : Image). image.box.first_row ≤ s) (sym c.self.view_is) c.requires.first_row) c.requires.some
-    (subst (λ (image : Image). e ≤ end_row image.box) (sym c.self.view_is) c.requires.end_row)
-    (ap length c.deref.ensures.value ∙ c.self.invariant.whole) c.pixel_bytes-pixel.ensures first.ensures.start last.ensures.start last.ensures.len in
-    fits
+slice_bounds-result-end c = rows_within (are_rows (goal.at.slice_bounds-result-end c).After-deref c.deref.result.now c.deref.ensures.value)
 
 pub returns-clause-len : goal.returns-clause-len
 returns-clause-len c =
-    let patch = c.self.inside in
-    let first = c.part_row-first in
-    let last = c.part_row-last in
-    let s = c.args.rows.start in
-    let e = c.args.rows.end in
-    length-rows patch.rect patch.format s e c.pixel_bytes-pixel.result first.result.start last.result.start last.result.end c.deref.result.now
-    (subst (λ (image : Image). image.box.first_row ≤ s) (sym c.self.view_is) c.requires.first_row) c.requires.some
-    (subst (λ (image : Image). e ≤ end_row image.box) (sym c.self.view_is) c.requires.end_row)
-    (ap length c.deref.ensures.value ∙ c.self.invariant.whole) c.pixel_bytes-pixel.ensures first.ensures.start last.ensures.start last.ensures.len
-    ∙ ap (λ (image : Image). (e - s) * (image.box.width * pixel_bytes image.format)) c.self.view_is
+    length-rows (are_rows (goal.at.returns-clause-len c).After-deref c.deref.result.now c.deref.ensures.value)
+    ∙ ap (λ (image : Image). (c.args.rows.end - c.args.rows.start) * (image.box.width * pixel_bytes image.format)) c.self.view_is
 
 pub returns-clause-samples : goal.returns-clause-samples
 returns-clause-samples c =
-    let patch = c.self.inside in
-    let first = c.part_row-first in
-    let last = c.part_row-last in
-    let s = c.args.rows.start in
-    let e = c.args.rows.end in
-    rw (← c.self.view_is, c.deref.ensures.value)
-    (rows_samples patch.rect patch.format s e c.pixel_bytes-pixel.result first.result.start last.result.start last.result.end patch.bytes.items
-    (subst (λ (image : Image). image.box.first_row ≤ s) (sym c.self.view_is) c.requires.first_row) c.requires.some
-    (subst (λ (image : Image). e ≤ end_row image.box) (sym c.self.view_is) c.requires.end_row)
-    c.self.invariant.whole c.pixel_bytes-pixel.ensures first.ensures.start last.ensures.start last.ensures.len)
+    rw (← c.self.view_is, c.deref.ensures.value) (rows_samples (are_rows (goal.at.returns-clause-samples c).After-deref c.self.inside.bytes.items refl))

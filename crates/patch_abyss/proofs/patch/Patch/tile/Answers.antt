@@ -1,4 +1,4 @@
-use Rattle.std.proofs.Common.{◌≡◌, ◌*◌, ◌∙◌, ap, arith, rules, length, replicate}
+use Rattle.std.proofs.Common.{◌≡◌, ◌*◌, ◌∙◌, refl, ap, arith, rules, length, replicate}
 use Rattle.plane_rect.specs.Rectangle.{empty}
 use Rattle.plane_rect.specs.Tile.{tile_square}
 use Rattle.pixel_formats.specs.Format.{pixel_bytes}
@@ -43,3 +43,11 @@ returns c =
     c.into_raw.ensures.value ∙ ap (λ (image : Image). raw image image.box) c.in_ok-part.ensures
     ∙ raw-part image c.rect-rect.result ∙ ap (raw image) square in
     rw (← bytes) c.from_vec.ensures
+
+pub returns-then-eq : goal.returns-then-eq
+returns-then-eq c =
+    let some = some_positions c.rect-rect.result c.if-is_empty.ensures.value in
+    let square : c.rect-rect.result ≡ tile_square c.args.at = c.rect-rect.ensures.whole (whole_tile c.rect-rect.result c.args.at c.rect-rect.ensures.positions some.0 some.1) in
+    let box : c.args.self.now.box ≡ c.rect-rect.result = rw (← c.self.view_is) (c.if-eq.ensures.same.0 refl) in
+    let bytes : c.raw_bytes.result.now ≡ tile_bytes c.args.self.now c.args.at = c.raw_bytes.ensures.value ∙ ap (raw c.args.self.now) (box ∙ square) in
+    rw (← bytes) c.of.ensures

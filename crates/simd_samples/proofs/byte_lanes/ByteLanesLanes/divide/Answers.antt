@@ -1,20 +1,16 @@
-use Rattle.std.proofs.Common.{replicate, arith}
+use Rattle.std.proofs.Common.{arith}
 use Rattle.simd_samples.proofs.Arithmetic.{Makes-cast, divides, fit_bytes}
-use Rattle.simd_samples.proofs.Scaling.{Makes-divided, limited, multiplied, quotients}
+use Rattle.simd_samples.proofs.Scaling.{Makes-divided}
 use Rattle.simd_samples.proofs.byte_lanes.ByteLanesLanes.divide.Goals as goal
 
 pub nonzero_div-quotients : goal.nonzero_div-quotients
-nonzero_div-quotients c =
-    divides (multiplied 18446744073709551616 c.args.self.lanes (replicate 16 c.args.number) (replicate 16 c.args.offset)) c.args.divisor c.requires.divisor
+nonzero_div-quotients c = divides _ c.args.divisor c.requires.divisor
 
 pub overflow_cast-result : goal.overflow_cast-result
-overflow_cast-result c =
-    fit_bytes (limited (quotients c.args.self.lanes c.args.number c.args.offset c.args.divisor) (replicate 16 255)) (Makes-divided 255 c.args.self.lanes c.args.number c.args.offset c.args.divisor (omega arith) c.args.self.samples c.requires.number c.requires.offset).0
+overflow_cast-result c = fit_bytes _ (Makes-divided 255 _ c.args.number c.args.offset c.args.divisor (omega arith) c.args.self.samples c.requires.number c.requires.offset).0
 
 pub invariant_of-result : goal.invariant_of-result
-invariant_of-result c =
-    record { samples = (Makes-cast 256 (limited (quotients c.args.self.lanes c.args.number c.args.offset c.args.divisor) (replicate 16 255)) _ (omega arith) (Makes-divided 255 c.args.self.lanes c.args.number c.args.offset c.args.divisor (omega arith) c.args.self.samples c.requires.number c.requires.offset)).0 }
+invariant_of-result c = record { samples = (Makes-cast 256 _ _ (omega arith) (Makes-divided 255 _ c.args.number c.args.offset c.args.divisor (omega arith) c.args.self.samples c.requires.number c.requires.offset)).0 }
 
 pub returns : goal.returns
-returns c =
-    (Makes-cast 256 (limited (quotients c.args.self.lanes c.args.number c.args.offset c.args.divisor) (replicate 16 255)) _ (omega arith) (Makes-divided 255 c.args.self.lanes c.args.number c.args.offset c.args.divisor (omega arith) c.args.self.samples c.requires.number c.requires.offset)).1
+returns c = (Makes-cast 256 _ _ (omega arith) (Makes-divided 255 _ c.args.number c.args.offset c.args.divisor (omega arith) c.args.self.samples c.requires.number c.requires.offset)).1

@@ -1,16 +1,12 @@
-use Rattle.std.proofs.Common.{replicate, arith}
-use lib.Lanes.{zip2}
-use Rattle.simd_samples.proofs.Arithmetic.{Makes-cast, Makes-means_of_four, fit_bytes, plus, shifted, sums_of_four}
+use Rattle.std.proofs.Common.{arith}
+use Rattle.simd_samples.proofs.Arithmetic.{Makes-cast, Makes-means_of_four, fit_bytes}
 use Rattle.simd_samples.proofs.byte_lanes.ByteLanesLanes.mean_of_four.Goals as goal
 
 pub overflow_cast-result : goal.overflow_cast-result
-overflow_cast-result c =
-    fit_bytes (zip2 shifted (zip2 (plus 65536) (sums_of_four 65536 c.args.self.lanes c.args.second.lanes c.args.third.lanes c.args.fourth.lanes) (replicate 16 2)) (replicate 16 2)) (Makes-means_of_four 65536 256 (omega arith) (omega arith) c.args.self.lanes c.args.second.lanes c.args.third.lanes c.args.fourth.lanes c.args.self.samples c.args.second.samples c.args.third.samples c.args.fourth.samples).0
+overflow_cast-result c = fit_bytes _ (Makes-means_of_four 65536 256 (omega arith) (omega arith) _ _ _ _ c.args.self.samples c.args.second.samples c.args.third.samples c.args.fourth.samples).0
 
 pub invariant_of-result : goal.invariant_of-result
-invariant_of-result c =
-    record { samples = (Makes-cast 256 (zip2 shifted (zip2 (plus 65536) (sums_of_four 65536 c.args.self.lanes c.args.second.lanes c.args.third.lanes c.args.fourth.lanes) (replicate 16 2)) (replicate 16 2)) _ (omega arith) (Makes-means_of_four 65536 256 (omega arith) (omega arith) c.args.self.lanes c.args.second.lanes c.args.third.lanes c.args.fourth.lanes c.args.self.samples c.args.second.samples c.args.third.samples c.args.fourth.samples)).0 }
+invariant_of-result c = record { samples = (Makes-cast 256 _ _ (omega arith) (Makes-means_of_four 65536 256 (omega arith) (omega arith) _ _ _ _ c.args.self.samples c.args.second.samples c.args.third.samples c.args.fourth.samples)).0 }
 
 pub returns : goal.returns
-returns c =
-    (Makes-cast 256 (zip2 shifted (zip2 (plus 65536) (sums_of_four 65536 c.args.self.lanes c.args.second.lanes c.args.third.lanes c.args.fourth.lanes) (replicate 16 2)) (replicate 16 2)) _ (omega arith) (Makes-means_of_four 65536 256 (omega arith) (omega arith) c.args.self.lanes c.args.second.lanes c.args.third.lanes c.args.fourth.lanes c.args.self.samples c.args.second.samples c.args.third.samples c.args.fourth.samples)).1
+returns c = (Makes-cast 256 _ _ (omega arith) (Makes-means_of_four 65536 256 (omega arith) (omega arith) _ _ _ _ c.args.self.samples c.args.second.samples c.args.third.samples c.args.fourth.samples)).1

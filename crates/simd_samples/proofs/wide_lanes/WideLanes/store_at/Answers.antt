@@ -1,12 +1,10 @@
-use Rattle.std.proofs.Common.{get_or, ap, ◌∙◌, arith}
-use Rattle.std.proofs.lemmas.Simd.{get_or-put_chunk_above, get_or-put_chunk_at, get_or-put_chunk_below}
+use Rattle.std.proofs.Common.{arith}
+use Rattle.std.proofs.lemmas.Simd.{get_or-put_chunk_above, get_or-put_chunk_below}
+use Rattle.simd_samples.proofs.VectorLaws.{stored-here}
 use Rattle.simd_samples.proofs.wide_lanes.WideLanes.store_at.Goals as goal
 
 pub returns-clause-here : goal.returns-clause-here
-returns-clause-here c j lt =
-    let long = c.self.invariant.long in
-    get_or-put_chunk_at c.args.from c.args.dst.now c.self.inside.lanes j 0 (omega (arith, long)) (omega (arith, long, c.requires))
-    ∙ ap (λ l. get_or l j 0) c.self.view_is
+returns-clause-here c = stored-here c.args.from c.args.dst.now c.self.inside.lanes c.args.self c.self.invariant.long c.self.view_is c.requires
 
 pub returns-clause-before : goal.returns-clause-before
 returns-clause-before c i lt = get_or-put_chunk_below c.args.from c.args.dst.now c.self.inside.lanes i 0 lt

@@ -3,7 +3,7 @@ use Rattle.std.specs.Map.{lookup}
 use Rattle.std.proofs.lemmas.Iterator.{YieldsList-from_slice}
 use Rattle.std.proofs.lemmas.Iterator.Search.{find_from_yields_List}
 use Rattle.plane_rect.specs.Tile.{Tile, same_tile}
-use Rattle.op_contracts.proofs.window_tiles.find_bytes.Goals as goal
+use Rattle.op_contracts.proofs.window_tiles.find_tile.Goals as goal
 
 -- the bytes of the first entry of a tile
 chosen : (b : Bool) (entry : Tile × List ℕ) (rest : Option (Tile × List ℕ)) (found : Option (List ℕ))
@@ -27,4 +27,4 @@ pub returns : goal.returns
 returns c =
     let found = find_from_yields_List (λ (e : Tile × List ℕ). same_tile c.args.at e.0) _ _ c.find.result c.find.ensures.ran (YieldsList-from_slice c.args.entries.now cc) (λ x b q k. search (rules, tests)) in
     let some : Some c.in_ok-entry.entry.now ≡ find (λ (e : Tile × List ℕ). same_tile c.args.at e.0) c.args.entries.now = rw c.in_ok-entry.was at found in
-    rw c.bytes.ensures.value (ap (option_map (λ (e : Tile × List ℕ). e.1)) some ∙ find-is c.args.at c.args.entries.now)
+    ap (option_map (λ (e : Tile × List ℕ). e.1)) some ∙ find-is c.args.at c.args.entries.now
