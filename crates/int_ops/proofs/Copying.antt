@@ -4,13 +4,14 @@ use Rattle.std.specs.Prelude.{IsSome, slice_get, unwrap_or}
 use Rattle.std.proofs.lemmas.Bool.Decides.{nat_tests}
 use Rattle.plane_rect.specs.Rectangle.{Includes, Inside, Rectangle, empty, in_limits, meet}
 use Rattle.plane_rect.proofs.Rectangles.{Inside-meet}
-use Rattle.pixel_formats.specs.Format.{channels, max_sample, same_format, has_alpha}
+use Rattle.pixel_formats.specs.Format.{channels, max_sample, max_sample_of, same_format, has_alpha}
 use Rattle.pixel_formats.specs.Add.{added, added_pixel}
 use Rattle.pixel_formats.specs.Over.{composited, over_pixel}
 use Rattle.pixel_formats.specs.Row.{Pixel}
 use Rattle.pixel_formats.specs.declared.format.Format.{Format}
-use Rattle.pixel_formats.specs.declared.format.Format.TheVariants.{Y8, YA8, RGB8, RGBA8, Y16, YA16, RGB16, RGBA16}
+use Rattle.pixel_formats.specs.declared.format.Format.TheVariants.{Y8}
 use Rattle.model_images.specs.Image.{Image, at}
+use Rattle.model_images.proofs.FromRawLaws.{by_depth}
 use Rattle.model_images.proofs.Laws.{at_outside}
 use Rattle.model_images.proofs.Tests.{both, Decides-same_format}
 use Rattle.model_graphs.specs.Meanings.{boxes_of, formats_of, result_box}
@@ -22,6 +23,7 @@ use Rattle.model_operations.specs.Values.{value_at}
 use Rattle.model_operations.specs.declared.operation.IntOp.{IntOp}
 use Rattle.model_operations.specs.declared.operation.IntOp.TheVariants.{Add, Crop, Over}
 use Rattle.op_contracts.specs.Applying.{CopiesInput}
+use Rattle.op_contracts.proofs.Copied.{there-is}
 use Rattle.int_ops.specs.Lone.{IsLone}
 
 -- ---- the crop
@@ -61,24 +63,12 @@ crop-copies rect boxes part one inside = record {
 
 -- what a sample of nothing adds
 over-nothing : (format : Format) (s : ℕ) → s ≤ max_sample format → composited (max_sample format) 0 0 s ≡ s
-over-nothing Y8 s most = omega (arith, most)
-over-nothing YA8 s most = omega (arith, most)
-over-nothing RGB8 s most = omega (arith, most)
-over-nothing RGBA8 s most = omega (arith, most)
-over-nothing Y16 s most = omega (arith, most)
-over-nothing YA16 s most = omega (arith, most)
-over-nothing RGB16 s most = omega (arith, most)
-over-nothing RGBA16 s most = omega (arith, most)
+over-nothing format = by_depth (λ d. (s : ℕ) → s ≤ max_sample_of d → composited (max_sample_of d) 0 0 s ≡ s) (λ s most. omega (arith, most)) (λ s most. omega (arith, most)) format
 
 nothing-under : (format : Format) (alpha s : ℕ) → s ≤ max_sample format → composited (max_sample format) alpha s 0 ≡ s
-nothing-under Y8 alpha s most = omega (arith, most)
-nothing-under YA8 alpha s most = omega (arith, most)
-nothing-under RGB8 alpha s most = omega (arith, most)
-nothing-under RGBA8 alpha s most = omega (arith, most)
-nothing-under Y16 alpha s most = omega (arith, most)
-nothing-under YA16 alpha s most = omega (arith, most)
-nothing-under RGB16 alpha s most = omega (arith, most)
-nothing-under RGBA16 alpha s most = omega (arith, most)
+nothing-under format =
+    by_depth (λ d. (alpha s : ℕ) → s ≤ max_sample_of d → composited (max_sample_of d) alpha s 0 ≡ s) (λ alpha s most. omega (arith, most)) (λ alpha s most. omega (arith, most))
+    format
 
 nothing-added : (most s : ℕ) → s ≤ most → added most s 0 ≡ s
 nothing-added most s small = omega (arith, small)
@@ -112,10 +102,6 @@ add-formats (a ∷ b ∷ []) format is =
     cc
 add-formats (a ∷ b ∷ c ∷ more) format is = absurd (let wrong : (length (a ∷ b ∷ c ∷ more) == 2) ≡ false = grind (arith, nat_tests) in cc)
 
-there-is : (o : Option Format) → IsSome o → o ≡ Some (unwrap_or o Y8)
-there-is (Some x) is = refl
-there-is None is = absurd (cc is)
-
 module _ (op : IntOp) (joined : Format → Pixel → Pixel → Pixel)
     (is : (a b : Image) (u v c : ℕ) → value_at op (a ∷ b ∷ []) u v c ≡ joined a.format (at a u v) (at b u v) c)
     (pairs : (formats : List Format) (format : Format) → format_of op formats ≡ Some format → formats ≡ format ∷ format ∷ [])
@@ -123,7 +109,7 @@ module _ (op : IntOp) (joined : Format → Pixel → Pixel → Pixel)
     (upper : (format : Format) (top bottom : Pixel) (c : ℕ) → bottom c ≡ 0 → top c ≤ max_sample format → joined format top bottom c ≡ top c)
     (first second part : Rectangle) where
   one-format : (a b : Image) → IsSome (format_of op (a.format ∷ b.format ∷ [])) → a.format ≡ b.format
-  one-format a b some = let both_are = pairs (a.format ∷ b.format ∷ []) _ (there-is _ some) in cc
+  one-format a b some = let both_are = pairs (a.format ∷ b.format ∷ []) _ (there-is _ Y8 some) in cc
 
   lone-samples : (input : ℕ) → IsLone first second part input → (images : List Image) → boxes_of images ≡ first ∷ second ∷ [] → IsSome (format_of op (formats_of images))
       → (image : Image) → slice_get images input ≡ Some image → (u v c : ℕ) → Inside u v part → at image u v c ≤ max_sample image.format

@@ -36,11 +36,11 @@ const MADE_BYTES: u64 = 4;
 
 /// How many bytes of its windows an operation goes through in a nanosecond, at least: an area operation takes some 0.1 ns for
 /// each, and a pointwise one less.
-const READ_PER_NANOSECOND: u64 = 10;
+const READ_BYTES_PER_NANOSECOND: u64 = 10;
 
 /// How many bytes of a tile are written in a nanosecond, at least: mostly they are new memory, of which the system gives out
 /// a page in some 2 us.
-const MADE_PER_NANOSECOND: u64 = 2;
+const MADE_BYTES_PER_NANOSECOND: u64 = 2;
 
 /// A tile of a node that waits to be made, with all that this takes: the windows of its inputs and a permit. So jobs
 /// are carried out in any order, and on any thread. A clause sees the job without its permit.
@@ -78,7 +78,7 @@ impl<P> TileJob<P> {
             let tile_bytes = TILE_PIXELS * window.format.pixel_bytes() as u64;
             read = read.saturating_add(tiles.saturating_mul(tile_bytes));
         }
-        read / READ_PER_NANOSECOND + TILE_PIXELS * MADE_BYTES / MADE_PER_NANOSECOND
+        read / READ_BYTES_PER_NANOSECOND + TILE_PIXELS * MADE_BYTES / MADE_BYTES_PER_NANOSECOND
     }
 }
 
@@ -172,7 +172,7 @@ pub fn apply_job<K: OpKit>(
 }
 
 /// Returns the tile of a job's window that the job is to make, where its operation copies an input over the whole tile:
-/// then another owner of that tile takes neither time nor memory.
+/// then it is given another owner, which takes no memory where the tile can be shared.
 fn copied_tile<'a, K: OpKit>(
     kit: &K,
     op: &K::Op,

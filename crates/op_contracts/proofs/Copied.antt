@@ -4,16 +4,16 @@ use Rattle.std.specs.Prelude.{IsSome, slice_get, slice_index, unwrap_or}
 use Rattle.std.proofs.lemmas.Option.{slice_get-map}
 use Rattle.plane_rect.specs.Rectangle.{Includes, Inside, Rectangle}
 use Rattle.plane_rect.specs.Tile.{Tile, tile_square}
-use Rattle.pixel_formats.specs.Format.{channels, depth, max_sample, pixel_bytes}
+use Rattle.pixel_formats.specs.Format.{channels, depth, max_sample, max_sample_of, pixel_bytes}
 use Rattle.pixel_formats.specs.Row.{sample_at}
 use Rattle.pixel_formats.specs.declared.format.Format.{Format}
-use Rattle.pixel_formats.specs.declared.format.Format.TheVariants.{Y8, YA8, RGB8, RGBA8, Y16, YA16, RGB16, RGBA16}
+use Rattle.pixel_formats.specs.declared.format.Format.TheVariants.{Y8}
 use Rattle.model_images.specs.FromRaw.{AreBytes, pixels_from_raw}
 use Rattle.model_images.specs.Image.{Image, at, sample_index}
 use Rattle.model_images.specs.Paint.{cut}
 use Rattle.model_images.specs.Raw.{tile_bytes}
 use Rattle.model_images.specs.Tiles.{held_pixels}
-use Rattle.model_images.proofs.FromRawLaws.{raw-is}
+use Rattle.model_images.proofs.FromRawLaws.{by_depth, raw-is}
 use Rattle.model_images.proofs.HeldTiles.{pixel-held}
 use Rattle.model_images.proofs.Laws.{at-image_from_fn}
 use Rattle.model_graphs.specs.Meanings.{Meanings, result_box, result_format}
@@ -22,20 +22,14 @@ use Rattle.op_contracts.specs.Applying.{CopiesInput, result_of_windows, window_b
 use Rattle.op_contracts.proofs.Applied.{boxes-shown, formats-shown}
 
 -- what an option that has something has, and what stands where it has nothing
-there-is : {X : Type 0} (o : Option X) (d : X) → IsSome o → o ≡ Some (unwrap_or o d)
+pub there-is : {X : Type 0} (o : Option X) (d : X) → IsSome o → o ≡ Some (unwrap_or o d)
 there-is (Some x) d is = refl
 there-is None d is = absurd (cc is)
 
 -- a sample that bytes encode is at most the largest
 small-sample : (format : Format) (bytes : List ℕ) (i : ℕ) → AreBytes bytes → sample_at (depth format) bytes i ≤ max_sample format
-small-sample Y8 bytes i small = omega (arith, small i)
-small-sample YA8 bytes i small = omega (arith, small i)
-small-sample RGB8 bytes i small = omega (arith, small i)
-small-sample RGBA8 bytes i small = omega (arith, small i)
-small-sample Y16 bytes i small = omega (arith, small (2 * i), small (2 * i + 1))
-small-sample YA16 bytes i small = omega (arith, small (2 * i), small (2 * i + 1))
-small-sample RGB16 bytes i small = omega (arith, small (2 * i), small (2 * i + 1))
-small-sample RGBA16 bytes i small = omega (arith, small (2 * i), small (2 * i + 1))
+small-sample format bytes i small =
+    by_depth (λ d. sample_at d bytes i ≤ max_sample_of d) (omega (arith, small i)) (omega (arith, small (2 * i), small (2 * i + 1))) format
 
 module _ {Op : Type 0} (meanings : Meanings Op) (operation : Op) (windows : List Window) (input : ℕ) (window : Window) (there : slice_get windows input ≡ Some window)
     (tile : Tile) (copies : CopiesInput meanings operation (window_bounds windows) (tile_square tile) input)

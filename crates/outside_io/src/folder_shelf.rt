@@ -45,24 +45,6 @@ impl<R: Files + AllocGlobal + Drop> FolderShelf<R> {
             write_faults: 0,
         }
     }
-
-    /// Reads a file of the folder, into the memory where that suits the file's size, and counts a read that failed.
-    fn counted_read(
-        &mut self,
-        name: &str,
-        limit: u64,
-        memory: &mut Vec<u8>,
-    ) -> Result<Vec<u8>, ShelfAnswer>
-        ensures within { TakesAtMost limit result }
-        ensures later { self.old.reads ≤ self.new.reads }
-        ensures counted { self.new ≡ record self.old { reads = faults_after (has_failed result) self.old.reads } }
-    {
-        let answer = read_file(&self.rt, name, limit, memory);
-        if let Err(ShelfAnswer::Failed) = answer {
-            self.read_faults = self.read_faults.saturating_add(1);
-        }
-        answer
-    }
 }
 
 impl<R: Files + AllocGlobal + Drop> Shelf for FolderShelf<R> {
@@ -81,7 +63,7 @@ impl<R: Files + AllocGlobal + Drop> Shelf for FolderShelf<R> {
         ensures counted { self.new ≡ record self.old { reads = faults_after (has_failed result) self.old.reads } }
     {
         let mut memory = Vec::new(self.rt.alloc());
-        self.counted_read(name, limit, &mut memory)
+        self.read_reusing(name, limit, &mut memory)
     }
 
     fn read_reusing(
@@ -97,7 +79,11 @@ impl<R: Files + AllocGlobal + Drop> Shelf for FolderShelf<R> {
         // A read that failed is counted, and no other.
         ensures counted { self.new ≡ record self.old { reads = faults_after (has_failed result) self.old.reads } }
     {
-        self.counted_read(name, limit, memory)
+        let answer = read_file(&self.rt, name, limit, memory);
+        if let Err(ShelfAnswer::Failed) = answer {
+            self.read_faults = self.read_faults.saturating_add(1);
+        }
+        answer
     }
 
     fn write(&mut self, name: &str, bytes: &[u8]) -> Result<(), ShelfAnswer>

@@ -7,11 +7,11 @@ ghost use Rattle.model_graphs.specs.Facts.{shapes_of_facts};
 ghost use Rattle.model_images.specs.Image.{IsImage};
 ghost use Rattle.model_images.specs.Paint.{cut};
 ghost use Rattle.model_states.specs.Valid.{AreStated};
+ghost use Rattle.plane_rect.specs.Rectangle.{InLimits};
+ghost use Rattle.swap_store.specs.Cause.{HasSwapCause};
 ghost use Rattle.node_tiles.specs.Reads.{Reads, seen};
 ghost use Rattle.node_tiles.specs.Stated.{AreTilesOf, HaveLengths, shape_at};
-ghost use Rattle.plane_rect.specs.Rectangle.{InLimits};
 ghost use Rattle.strip_patches.specs.Nodes.{HasPart, HoldsPart, image_at};
-ghost use Rattle.swap_store.specs.Cause.{HasSwapCause};
 
 use chain_owners::ChainMeaning;
 use model_graphs::NodeFact;
