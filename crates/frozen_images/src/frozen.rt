@@ -4,12 +4,12 @@ ghost use Rattle.std.specs.Prelude.{◌≡◌, ◌*◌, IfOk, OnErr, OnOk, lengt
 ghost use Rattle.indexmap.specs.IndexMap.{insert_entry};
 ghost use Rattle.plane_rect.specs.Tile.{same_tile};
 ghost use Rattle.pixel_formats.specs.Format.{pixel_bytes};
-ghost use Rattle.model_images.specs.FromRaw.{AreBytes};
 ghost use Rattle.model_images.specs.Raw.{tile_bytes};
 ghost use Rattle.model_images.specs.Tiles.{AreZeroOutside};
 ghost use Rattle.frozen_images.specs.Frozen.{frozen_image, no_tiles, zero_bytes};
 
 use indexmap::IndexMap;
+use model_images::raw_bytes::are_bytes;
 use no_memory::NoMemory;
 use pixel_formats::Format;
 use plane_rect::{Rect, TileAt};
@@ -105,11 +105,4 @@ impl Frozen {
             None => self.zero.share(self.alloc),
         }
     }
-}
-
-/// States that bytes are below 256, as a clause on a tile alone doesn't say.
-fn are_bytes(bytes: &[u8])
-    ensures { AreBytes bytes.now }
-{
-    let _len = bytes.len();
 }

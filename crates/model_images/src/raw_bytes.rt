@@ -1,10 +1,11 @@
-//! The laws of the bytes under a policy, and of the bytes of tiles.
+//! The laws of the bytes under a policy, of the bytes of tiles, and of bytes.
 
 ghost use Rattle.std.specs.Prelude.{◌≡◌, ℕ, ◌+◌, ◌*◌, ◌++◌, [], length};
 ghost use Rattle.plane_rect.specs.Rectangle.{Includes, Rectangle, area};
 ghost use Rattle.plane_rect.specs.Tile.{Tile};
 ghost use Rattle.pixel_formats.specs.Format.{pixel_bytes};
 ghost use Rattle.model_images.specs.Image.{Image, image_from_fn};
+ghost use Rattle.model_images.specs.FromRaw.{AreBytes};
 ghost use Rattle.model_images.specs.Raw.{raw, tile_bytes};
 ghost use Rattle.model_images.specs.Abyss.{abyss_at, raw_with};
 ghost use Rattle.model_images.specs.Rows.{first_rows, row_below};
@@ -40,3 +41,10 @@ pub fn bytes_by_rows()
     ensures all { (image : Image) (policy : Abyss) (r : Rectangle) →
         raw_with image policy (first_rows r r.height) ≡ raw_with image policy r }
 {}
+
+/// States that bytes are below 256, as a clause on who holds them alone doesn't say.
+pub fn are_bytes(bytes: &[u8])
+    ensures { AreBytes bytes.now }
+{
+    let _len = bytes.len();
+}

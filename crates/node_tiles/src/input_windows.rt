@@ -2,8 +2,10 @@
 
 ghost use Rattle.std.specs.Prelude.{◌≡◌, ◌≤◌, IfErr, IfOk, length};
 ghost use Rattle.chain_owners.specs.Counts.{Grows};
+ghost use Rattle.plane_rect.specs.Tile.{tiles};
 ghost use Rattle.pixel_formats.specs.Limits.{max_nodes};
 ghost use Rattle.swap_store.specs.Cause.{HasSwapCause};
+ghost use Rattle.op_contracts.specs.TileList.{tiles_in};
 ghost use Rattle.roi_planner.specs.Inputs.{SuitsInputs};
 ghost use Rattle.node_tiles.specs.Inputs.{AreInputTiles, AreInputWindows, AreInputsThere, AreThere, IsInputTile, IsInputWindow, IsThere};
 ghost use Rattle.node_tiles.specs.Reads.{Reads, seen};
@@ -23,7 +25,7 @@ use tile_cow::Tile;
 /// # Errors
 ///
 /// `NoMemory` if memory runs out, and those of the sources.
-pub fn input_tile<H: ChainMeaning, S: SourceTiles<H>, Op>(
+fn input_tile<H: ChainMeaning, S: SourceTiles<H>, Op>(
     alloc: Global,
     body: &Body<Op>,
     held: &StripTiles,
@@ -47,6 +49,41 @@ pub fn input_tile<H: ChainMeaning, S: SourceTiles<H>, Op>(
         Body::Source { buffer } => sources.tile(chain, *buffer, at),
         Body::Compute { .. } => Ok(held.tile(node, at).unwrap().share(alloc)?),
     }
+}
+
+/// Returns the tiles of a node of this body that meet a rectangle, in their order. Takes time in proportion to
+/// their number.
+///
+/// # Errors
+///
+/// `NoMemory` if memory runs out, and those of the sources.
+pub fn input_tiles<H: ChainMeaning, S: SourceTiles<H>, Op>(
+    alloc: Global,
+    body: &Body<Op>,
+    held: &StripTiles,
+    sources: &mut S,
+    chain: &mut H,
+    node: u32,
+    need: Rect,
+) -> Result<WindowTiles, SwapRefused>
+    requires over { S.is_over sources.old (H.held chain.old) }
+    requires there { AreThere (S.facts sources.old) held.now body.now node need }
+    ensures positions { IfOk result (λ entries. tiles_in entries ≡ tiles need) }
+    ensures each { IfOk result
+        (AreInputTiles (S.facts sources.old) (S.images sources.old (H.held chain.old)) held.now body.now node) }
+    ensures over { S.is_over sources.new (H.held chain.new) }
+    ensures reads { Reads
+        (seen (S.facts sources.old) (S.images sources.old (H.held chain.old)) (S.names sources.old) (H.held chain.old) (H.counts chain.old) (H.loans chain.old))
+        (seen (S.facts sources.new) (S.images sources.new (H.held chain.new)) (S.names sources.new) (H.held chain.new) (H.counts chain.new) (H.loans chain.new)) }
+    ensures cause { IfErr result (HasSwapCause (H.counts chain.old) (H.counts chain.new) (H.counts chain.old).names) }
+    ensures valid { H.is_valid chain.old → H.is_valid chain.new }
+{
+    let mut entries = Vec::new(alloc);
+    for at in need.tiles() {
+        let tile = input_tile(alloc, body, held, sources, chain, node, at)?;
+        entries.push((at, tile))?;
+    }
+    Ok(WindowTiles::new(entries))
 }
 
 /// Returns a window of a node for a rectangle, by its tiles that meet the rectangle. Takes time in
@@ -75,12 +112,7 @@ fn input_window<H: ChainMeaning, S: SourceTiles<H>, Op>(
     ensures cause { IfErr result (HasSwapCause (H.counts chain.old) (H.counts chain.new) (H.counts chain.old).names) }
     ensures valid { H.is_valid chain.old → H.is_valid chain.new }
 {
-    let mut entries = Vec::new(alloc);
-    for at in need.tiles() {
-        let tile = input_tile(alloc, &fact.spec.body, held, sources, chain, node, at)?;
-        entries.push((at, tile))?;
-    }
-    let tiles = WindowTiles::new(entries);
+    let tiles = input_tiles(alloc, &fact.spec.body, held, sources, chain, node, need)?;
     Ok(Window::new(need, fact.format, fact.bounds, tiles))
 }
 

@@ -7,6 +7,6 @@ mod strip_tiles;
 mod tile_jobs;
 
 pub use evaluating::evaluate;
-pub use input_windows::input_tile;
+pub use input_windows::input_tiles;
 pub use strip_tiles::{NodeTile, StripTiles};
 pub use tile_jobs::{TileJob, apply_job, tile_job};

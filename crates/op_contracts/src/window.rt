@@ -5,7 +5,6 @@ ghost use Rattle.std.specs.Option.{option_copied};
 ghost use Rattle.plane_rect.specs.Rectangle.{InLimits, Includes, InsideSigned, plane_index as index_of};
 ghost use Rattle.plane_rect.specs.Tile.{Meets, Tile as TilePosition};
 ghost use Rattle.pixel_formats.specs.Format.{channels};
-ghost use Rattle.model_images.specs.FromRaw.{AreBytes};
 ghost use Rattle.model_images.specs.Image.{at};
 ghost use Rattle.model_images.specs.Paint.{cut};
 ghost use Rattle.model_images.specs.Tiles.{AreTileBytes};
@@ -13,6 +12,7 @@ ghost use Rattle.model_graphs.specs.Windows.{IsWholeWindow, tiles_of, window_ima
 
 use crate::held_bytes::held_bytes;
 use crate::window_tiles::WindowTiles;
+use model_images::raw_bytes::are_bytes;
 use no_memory::NoMemory;
 use patch_abyss::{Patch, sample_at};
 use pixel_formats::Format;
@@ -187,11 +187,4 @@ impl Window {
         }
         Ok(patch)
     }
-}
-
-/// States that bytes are below 256, as a clause on a tile alone doesn't say.
-fn are_bytes(bytes: &[u8])
-    ensures { AreBytes bytes.now }
-{
-    let _len = bytes.len();
 }

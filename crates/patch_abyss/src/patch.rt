@@ -201,13 +201,14 @@ impl Patch {
         requires { from.now.format ≡ self.old.format }
         ensures { self.new ≡ painted self.old from.now.box (at from.now) }
     {
-        self.lay(&from.rect, &from.bytes);
+        self.paint(&from.rect, &from.bytes);
     }
 
-    /// Writes the samples of the raw bytes of a rectangle at the positions that are in both.
-    fn lay(&mut self, rect: &Rect, bytes: &[u8])
+    /// Writes the samples of the raw bytes of a rectangle at the positions that are in both. Takes
+    /// time in proportion to these positions.
+    pub fn paint(&mut self, rect: &Rect, bytes: &[u8])
         requires { length bytes.now ≡ byte_count rect.now self.old.format }
-        ensures { self.new ≡ painted self.old rect.now (at (image_from_raw rect.now self.old.format bytes.now)) }
+        ensures { self.new ≡ put_raw self.old rect.now bytes.now }
     {
         let pixel = self.format.pixel_bytes() as usize;
         copy_meet(&mut self.bytes, &self.rect, bytes, rect, pixel);
@@ -241,7 +242,7 @@ impl Patch {
         if self.rect.meet(&square).is_empty() {
             return;
         }
-        self.lay(&square, tile.bytes());
+        self.paint(&square, tile.bytes());
     }
 
     /// Returns the patch of as many raw bytes as the rectangle has, without a copy: the pixels row by

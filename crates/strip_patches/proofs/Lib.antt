@@ -1,4 +1,5 @@
 pub mod Filling
+pub mod Banded
 pub mod Served
 pub mod Halves
 pub mod Scaled

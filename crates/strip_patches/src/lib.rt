@@ -1,6 +1,7 @@
 //! The patch of a request: strips of a node's image, from tiles, and their levels.
 #![tactic(auto)]
 
+mod bands;
 pub mod laws;
 mod level_patch;
 mod patching;

@@ -13,9 +13,10 @@ ghost use Rattle.node_tiles.specs.Reads.{Reads, seen};
 ghost use Rattle.node_tiles.specs.Stated.{AreTilesOf, HaveLengths, shape_at};
 ghost use Rattle.strip_patches.specs.Nodes.{HasPart, HoldsPart, image_at};
 
+use crate::bands::put_by_bands;
 use chain_owners::ChainMeaning;
 use model_graphs::NodeFact;
-use node_tiles::{StripTiles, input_tile};
+use node_tiles::{StripTiles, input_tiles};
 use op_contracts::{OpMeaning, SourceTiles};
 use patch_abyss::Patch;
 use plane_rect::Rect;
@@ -101,9 +102,10 @@ pub(crate) fn put_tiles<H: ChainMeaning, S: SourceTiles<H>, Op: OpMeaning>(
     ensures valid { H.is_valid chain.old → H.is_valid chain.new }
 {
     let fact = &nodes[node as usize];
-    for at in rect.meet(&fact.bounds).tiles() {
-        let tile = input_tile(alloc, &fact.spec.body, held, sources, chain, node, at)?;
-        patch.put_tile(at, &tile);
-    }
+    let part = rect.meet(&fact.bounds);
+    // It is a rectangle of the plane, as this call says.
+    let _area = part.area();
+    let tiles = input_tiles(alloc, &fact.spec.body, held, sources, chain, node, part)?;
+    put_by_bands(patch, tiles.as_slice());
     Ok(())
 }

@@ -1,10 +1,8 @@
-use Rattle.std.proofs.Common.{◌≡◌, ℕ, ◌∙◌, List, ap, refl, arith, length}
+use Rattle.std.proofs.Common.{◌≡◌, ◌∙◌, ap, refl, arith, length}
 use Rattle.plane_rect.specs.Rectangle.{Rectangle}
 use Rattle.plane_rect.specs.Tile.{tile_square}
-use Rattle.model_images.specs.Image.{at}
-use Rattle.model_images.specs.Paint.{painted}
-use Rattle.model_images.specs.FromRaw.{image_from_raw}
-use Rattle.patch_abyss.proofs.TilesOfPatches.{no_common_position, put_nowhere, put_from_raw, met_tile}
+use Rattle.model_images.specs.Paint.{put_raw}
+use Rattle.patch_abyss.proofs.TilesOfPatches.{no_common_position, put_nowhere, met_tile}
 use Rattle.patch_abyss.proofs.patch.Patch.put_tile.Goals as goal
 
 pub returns-then-is_empty : goal.returns-then-is_empty
@@ -17,8 +15,8 @@ returns-then-is_empty c =
     (no_common_position square.result to.rect c.args.at square.ensures.positions c.self.invariant.rectangle
     (λ u v there inside. none u v ((c.meet.ensures.positions u v).1 (inside, there)))))
 
-pub lay-requires : goal.lay-requires
-lay-requires c =
+pub paint-requires : goal.paint-requires
+paint-requires c =
     let square = c.rect-square in
     let whole : square.result ≡ tile_square c.args.at = square.ensures.whole (met_tile square.result c.meet.result c.args.at square.ensures.positions c.meet.ensures.in_other c.if-is_empty.ensures.value) in
     ap length c.bytes.ensures.value ∙ c.requires ∙ rw whole (omega arith)
@@ -28,7 +26,6 @@ returns c =
     let square = c.rect-square in
     let to = c.args.self.now in
     let whole : square.result ≡ tile_square c.args.at = square.ensures.whole (met_tile square.result c.meet.result c.args.at square.ensures.positions c.meet.ensures.in_other c.if-is_empty.ensures.value) in
-    c.lay.ensures
-    ∙ ap (λ (bytes : List ℕ). painted to square.result (at (image_from_raw square.result to.format bytes))) c.bytes.ensures.value
-    ∙ ap (λ (r : Rectangle). painted to r (at (image_from_raw r to.format c.args.tile.now))) whole
-    ∙ put_from_raw to (tile_square c.args.at) c.args.tile.now
+    c.paint.ensures
+    ∙ ap (put_raw to square.result) c.bytes.ensures.value
+    ∙ ap (λ (r : Rectangle). put_raw to r c.args.tile.now) whole

@@ -4,7 +4,7 @@ use Rattle.plane_rect.specs.Tile.{Meets, Tile, tiles}
 use Rattle.plane_rect.proofs.Lists.{Contains-first, Contains-later}
 use Rattle.node_tiles.proofs.Entries.{input-from, inputs-more, there-still, tiles-more}
 use Rattle.node_tiles.proofs.Reading.{reads-both, reads-none}
-use Rattle.node_tiles.proofs.input_windows.input_window.Goals as goal
+use Rattle.node_tiles.proofs.input_windows.input_tiles.Goals as goal
 
 pub loop-at-init : goal.loop-at-init
 loop-at-init g c =
@@ -27,7 +27,7 @@ input_tile-requires-clause-there g c =
     let steps : c.loop-at.at-iterator ≡ at ∷ rest = c.in-Some.ensures.steps in
     let met : Meets at c.args.need = c.loop-at.invariant.meeting at (subst (λ (ts : List Tile). Contains ts at) (sym steps) (Contains-first at rest at refl)) in
     there-still (g.S.SourceTiles.facts c.args.sources.now) (g.S.SourceTiles.facts c.loop-at.sources) c.loop-at.invariant.reads.facts
-    c.args.held.now c.args.fact.now.spec.body c.args.node at (c.requires.there.each at met)
+    c.args.held.now c.args.body.now c.args.node at (c.requires.there.each at met)
 
 pub loop-at-preserved : goal.loop-at-preserved
 loop-at-preserved g c =
@@ -39,10 +39,10 @@ loop-at-preserved g c =
       finite = tt;
       meeting = λ t h. c.loop-at.invariant.meeting t (subst (λ (ts : List Tile). Contains ts t) (sym steps) (Contains-later at rest t h));
       rest = tiles-more c.loop-at.entries.items c.push.new.self.items (at, c.in_ok-tile.tile) c.loop-at.at-iterator rest (tiles c.args.need) steps c.in_ok-push.ensures.items c.loop-at.invariant.rest;
-      each = inputs-more (g.S.SourceTiles.facts c.args.sources.now) (g.S.SourceTiles.images c.args.sources.now (g.H.ChainMeaning.held c.args.chain.now)) c.args.held.now c.args.fact.now.spec.body c.args.node
+      each = inputs-more (g.S.SourceTiles.facts c.args.sources.now) (g.S.SourceTiles.images c.args.sources.now (g.H.ChainMeaning.held c.args.chain.now)) c.args.held.now c.args.body.now c.args.node
           c.loop-at.entries.items c.push.new.self.items (at, c.in_ok-tile.tile) c.in_ok-push.ensures.items c.loop-at.invariant.each
           (input-from (g.S.SourceTiles.facts c.args.sources.now) (g.S.SourceTiles.facts c.loop-at.sources) c.loop-at.invariant.reads.facts
-          c.args.held.now c.args.fact.now.spec.body c.args.node at
+          c.args.held.now c.args.body.now c.args.node at
           (g.S.SourceTiles.images c.args.sources.now (g.H.ChainMeaning.held c.args.chain.now)) (g.S.SourceTiles.images c.loop-at.sources (g.H.ChainMeaning.held c.loop-at.chain))
           c.in_ok-tile.tile c.loop-at.invariant.reads.images c.in_ok-tile.ensures.tile);
       over = c.in_ok-tile.ensures.over;

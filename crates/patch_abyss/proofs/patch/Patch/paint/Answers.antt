@@ -6,7 +6,8 @@ use Rattle.pixel_formats.specs.Format.{pixel_bytes}
 use Rattle.model_images.specs.FromRaw.{image_from_raw, AreBytes}
 use Rattle.patch_abyss.specs.Copied.{HasPart}
 use Rattle.patch_abyss.proofs.Parts.{blitted}
-use Rattle.patch_abyss.proofs.patch.Patch.lay.Goals as goal
+use Rattle.patch_abyss.proofs.TilesOfPatches.{put_from_raw}
+use Rattle.patch_abyss.proofs.patch.Patch.paint.Goals as goal
 
 pub returns : goal.returns
 returns c =
@@ -20,7 +21,8 @@ returns c =
     rw (← c.self.view_is)
     (ap (image_from_raw to.rect to.format) (with_items_is to.bytes new fits)
     ∙ blitted to.rect rect (meet to.rect rect) to.format bytes to.bytes.items new
-    (λ u v p q. (Inside-meet u v to.rect rect).1 (p, q)) (λ u v h. ((Inside-meet u v to.rect rect).0 h).1) has)
+    (λ u v p q. (Inside-meet u v to.rect rect).1 (p, q)) (λ u v h. ((Inside-meet u v to.rect rect).0 h).1) has
+    ∙ put_from_raw (image_from_raw to.rect to.format to.bytes.items) rect bytes)
 
 pub invariant_of-self : goal.invariant_of-self
 invariant_of-self c =
