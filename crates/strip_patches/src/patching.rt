@@ -70,7 +70,7 @@ pub fn strip_patch<H: ChainMeaning, S: SourceTiles<H>, Op: OpMeaning>(
 ///
 /// # Errors
 ///
-/// As [`strip_patch`]. No tile is put then.
+/// As [`strip_patch`].
 pub(crate) fn put_tiles<H: ChainMeaning, S: SourceTiles<H>, Op: OpMeaning>(
     alloc: Global,
     nodes: &[NodeFact<Op>],
