@@ -4,9 +4,7 @@ use int_ops::IntOp;
 use model_graphs::{Body, BufferFact, NodeEdit, NodeFact, NodeSpec};
 use model_states::StateRefused;
 use no_memory::NoMemory;
-use operation_regions::copy;
 use plain_graphs::{Graph, walk_refused, with_edits};
-use plane_rect::NameList;
 use std::alloc::Global;
 
 /// Returns the graph after these edits, or why they are refused.
@@ -40,19 +38,19 @@ fn copies(alloc: Global, facts: &[NodeFact<IntOp>]) -> Result<Vec<NodeSpec<IntOp
     let mut nodes = Vec::new(alloc);
     for fact in facts {
         let name = fact.spec.name;
-        let body = copy_of(alloc, &fact.spec.body)?;
+        let body = copy_of(&fact.spec.body)?;
         nodes.push(NodeSpec { name, body })?;
     }
     Ok(nodes)
 }
 
 /// Returns an equal body.
-fn copy_of(alloc: Global, body: &Body<IntOp>) -> Result<Body<IntOp>, NoMemory> {
+fn copy_of(body: &Body<IntOp>) -> Result<Body<IntOp>, NoMemory> {
     match body {
         Body::Source { buffer } => Ok(Body::Source { buffer: *buffer }),
         Body::Compute { op, inputs } => {
-            let op = copy(alloc, op)?;
-            let inputs = NameList::new(inputs.as_slice().to_vec(alloc)?);
+            let op = op.clone()?;
+            let inputs = inputs.clone()?;
             Ok(Body::Compute { op, inputs })
         }
     }

@@ -6,7 +6,6 @@ ghost use Rattle.model_graphs.specs.Facts.{specs_of};
 use model_graphs::{Body, NodeFact, NodeSpec};
 use no_memory::NoMemory;
 use op_contracts::OpKit;
-use plane_rect::NameList;
 use std::alloc::Global;
 
 /// Returns equal nodes, without what is stated of them.
@@ -53,7 +52,7 @@ fn copy_body<K: OpKit>(kit: &K, alloc: Global, body: &Body<K::Op>) -> Result<Bod
         Body::Source { buffer } => Ok(Body::Source { buffer: *buffer }),
         Body::Compute { op, inputs } => {
             let op = kit.copy_op(alloc, op)?;
-            let inputs = NameList::new(inputs.as_slice().to_vec(alloc)?);
+            let inputs = inputs.clone()?;
             Ok(Body::Compute { op, inputs })
         }
     }

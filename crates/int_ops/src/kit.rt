@@ -73,8 +73,8 @@ impl OpKit for IntKit {
         a == b
     }
 
-    fn copy_op(&self, alloc: Global, op: &IntOp) -> Result<IntOp, NoMemory> {
-        operation_regions::copy(alloc, op)
+    fn copy_op(&self, _alloc: Global, op: &IntOp) -> Result<IntOp, NoMemory> {
+        Ok(op.clone()?)
     }
 
     fn apply(

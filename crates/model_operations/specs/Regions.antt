@@ -12,47 +12,26 @@ use Rattle.model_operations.specs.declared.operation.IntOp.TheVariants.{Color, C
 
 -- the positions that the windows of a part are read from, of an input of a box
 abbrev pub area_read : ℕ → Abyss → Rectangle → Rectangle → Rectangle
-area_read radius None box part = surrounded radius part
 area_read radius Clamp box part = moved_into box (surrounded radius part)
-area_read radius Loop box part = surrounded radius part
-area_read radius Black box part = surrounded radius part
-area_read radius White box part = surrounded radius part
+area_read radius _ box part = surrounded radius part
 
 -- the positions that an operation reads for a part of its result, of an input of a box
 abbrev pub read_for : IntOp → Rectangle → Rectangle → Rectangle
-read_for (Color format rect samples) box part = part
-read_for (Checker format rect size v1 v2) box part = part
-read_for (Convert format) box part = part
-read_for Invert box part = part
-read_for (Threshold at) box part = part
-read_for (Gain num den) box part = part
 read_for (Translate dx dy) box part = moved_back dx dy part
-read_for (Crop rect) box part = part
 read_for (Flip sideways) box part = mirrored_part sideways box part
 read_for (BoxMean radius abyss) box part = area_read radius abyss box part
 read_for (Dilate radius abyss) box part = area_read radius abyss box part
 read_for (Erode radius abyss) box part = area_read radius abyss box part
-read_for Add box part = part
-read_for Over box part = part
-read_for Mask box part = part
+read_for _ box part = part
 
 -- the positions whose samples depend on a part of an input of a box
 abbrev pub reached_from : IntOp → Rectangle → Rectangle → Rectangle
-reached_from (Color format rect samples) box part = part
-reached_from (Checker format rect size v1 v2) box part = part
-reached_from (Convert format) box part = part
-reached_from Invert box part = part
-reached_from (Threshold at) box part = part
-reached_from (Gain num den) box part = part
 reached_from (Translate dx dy) box part = moved dx dy part
-reached_from (Crop rect) box part = part
 reached_from (Flip sideways) box part = mirrored_part sideways box part
 reached_from (BoxMean radius abyss) box part = surrounded radius part
 reached_from (Dilate radius abyss) box part = surrounded radius part
 reached_from (Erode radius abyss) box part = surrounded radius part
-reached_from Add box part = part
-reached_from Over box part = part
-reached_from Mask box part = part
+reached_from _ box part = part
 
 -- The positions of an input, counted from 0, that an operation needs for a region of its result.
 abbrev pub required : IntOp → List Rectangle → ℕ → Rectangle → Rectangle
@@ -66,21 +45,12 @@ invalidated op boxes i region =
 
 -- each pixel of the result is of the pixels of the inputs at its own position
 abbrev pub is_pointwise : IntOp → Bool
-is_pointwise (Color format rect samples) = true
-is_pointwise (Checker format rect size v1 v2) = true
-is_pointwise (Convert format) = true
-is_pointwise Invert = true
-is_pointwise (Threshold at) = true
-is_pointwise (Gain num den) = true
 is_pointwise (Translate dx dy) = false
-is_pointwise (Crop rect) = true
 is_pointwise (Flip sideways) = false
 is_pointwise (BoxMean radius abyss) = false
 is_pointwise (Dilate radius abyss) = false
 is_pointwise (Erode radius abyss) = false
-is_pointwise Add = true
-is_pointwise Over = true
-is_pointwise Mask = true
+is_pointwise _ = true
 
 -- the position is the nearest of a box to some position of a rectangle
 abbrev pub IsNearestTo : Rectangle → ℕ → ℕ → Rectangle → Type 0

@@ -6,7 +6,7 @@ use plane_rect::Rect;
 /// An operation on whole images, with its arguments. Coordinates, sizes and radii are in pixels,
 /// and samples are from 0 to the format's largest. A color is at most its cap: the alpha of its
 /// pixel, or the largest sample where the format has none.
-#[derive(Drop, PartialEq, Eq)]
+#[derive(Clone, Drop, PartialEq, Eq)]
 pub enum IntOp {
     /// One pixel over a rectangle, a sample for each channel. GEGL's `gegl:color`.
     Color {

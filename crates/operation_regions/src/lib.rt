@@ -4,12 +4,10 @@
 
 mod areas;
 mod boxes;
-mod copies;
 mod formats;
 mod moves;
 mod regions;
 
 pub use boxes::box_of;
-pub use copies::copy;
 pub use formats::{format_of, input_count};
 pub use regions::{invalidated, required};

@@ -14,8 +14,7 @@ use model_graphs::{Body, BufferFact, NodeEdit, NodeSpec};
 use model_operations::IntOp;
 use model_states::StateRefused;
 use no_memory::NoMemory;
-use operation_regions::copy;
-use plane_rect::{Name, NameList};
+use plane_rect::Name;
 use std::alloc::Global;
 
 /// The largest number of nodes.
@@ -40,7 +39,7 @@ pub fn with_edits(
         if let Some(refused) = edit_refused(buffers, &nodes, edit) {
             return Ok(Err(refused));
         }
-        make_edit(alloc, &mut nodes, edit)?;
+        make_edit(&mut nodes, edit)?;
     }
     Ok(Ok(nodes))
 }
@@ -138,15 +137,11 @@ fn is_among(name: Name, names: &[Name]) -> bool
 }
 
 /// Makes an edit.
-fn make_edit(
-    alloc: Global,
-    nodes: &mut Vec<NodeSpec<IntOp>>,
-    edit: &NodeEdit<IntOp>,
-) -> Result<(), NoMemory>
+fn make_edit(nodes: &mut Vec<NodeSpec<IntOp>>, edit: &NodeEdit<IntOp>) -> Result<(), NoMemory>
     ensures { OnOk result (nodes.new.items ≡ with_edit nodes.old.items edit.now) }
 {
     match edit {
-        NodeEdit::Set(node) => set(nodes, copy_node(alloc, node)?),
+        NodeEdit::Set(node) => set(nodes, copy_node(node)?),
         NodeEdit::Remove(name) => {
             remove(nodes, *name);
             Ok(())
@@ -178,23 +173,23 @@ fn remove(nodes: &mut Vec<NodeSpec<IntOp>>, name: Name)
 }
 
 /// Returns an equal node.
-fn copy_node(alloc: Global, node: &NodeSpec<IntOp>) -> Result<NodeSpec<IntOp>, NoMemory>
+fn copy_node(node: &NodeSpec<IntOp>) -> Result<NodeSpec<IntOp>, NoMemory>
     ensures { IfOk result (λ copied. copied ≡ node.now) }
 {
     let name = node.name;
-    let body = copy_body(alloc, &node.body)?;
+    let body = copy_body(&node.body)?;
     Ok(NodeSpec { name, body })
 }
 
 /// Returns an equal body.
-fn copy_body(alloc: Global, body: &Body<IntOp>) -> Result<Body<IntOp>, NoMemory>
+fn copy_body(body: &Body<IntOp>) -> Result<Body<IntOp>, NoMemory>
     ensures { IfOk result (λ copied. copied ≡ body.now) }
 {
     match body {
         Body::Source { buffer } => Ok(Body::Source { buffer: *buffer }),
         Body::Compute { op, inputs } => {
-            let op = copy(alloc, op)?;
-            let inputs = NameList::new(inputs.as_slice().to_vec(alloc)?);
+            let op = op.clone()?;
+            let inputs = inputs.clone()?;
             Ok(Body::Compute { op, inputs })
         }
     }

@@ -14,5 +14,5 @@ pub use fields::{
     policy_at, prefix_at, rect_numbers_at, sample_at, sideways_at, word_at,
 };
 pub use limits::{is_level_rect, may_watch};
-pub use lists::{Names, names_from, samples_from};
+pub use lists::{names_from, samples_from};
 pub use script_words::FileName;

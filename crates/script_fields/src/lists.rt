@@ -9,48 +9,8 @@ ghost use Rattle.pixel_formats.specs.Limits.{max_sample};
 use crate::cause::LineAnswer;
 use crate::fields::{name_of, sample_of};
 use pixel_formats::PixelSamples;
-use plane_rect::Name;
+use plane_rect::NameList;
 use std::alloc::Global;
-use std::marker::Model;
-
-/// Names, in their order.
-///
-/// A clause sees it as the list of the names.
-#[derive(Debug, Drop)]
-pub struct Names {
-    values: Vec<Name>,
-}
-
-impl Model for Names {
-    ghost use Rattle.std.specs.Prelude.{ℕ, List};
-
-    ghost Value = { List (List ℕ) };
-
-    ghost view = { λ names. names.values.items };
-}
-
-impl Names {
-    /// Returns these names, in their order.
-    pub fn new(values: Vec<Name>) -> Names
-        ensures { result ≡ values.items }
-    {
-        Names { values }
-    }
-
-    /// Returns the names as a slice.
-    pub fn as_slice(&self) -> &[Name]
-        ensures { result.now ≡ self.now }
-    {
-        &self.values
-    }
-
-    /// Returns the names, without a copy.
-    pub fn into_vec(self) -> Vec<Name>
-        ensures { result.items ≡ self }
-    {
-        self.values
-    }
-}
 
 /// Returns the names that words are.
 ///
@@ -58,7 +18,7 @@ impl Names {
 ///
 /// `Name` where a word is none, and `NoMemory` if memory runs out.
 #[tactic(auto, unfolding(crate::specs::Fields::names_of))]
-fn names_of(alloc: Global, words: &[&[u8]]) -> Result<Names, LineAnswer>
+fn names_of(alloc: Global, words: &[&[u8]]) -> Result<NameList, LineAnswer>
     ensures value { Answers result (names_of (texts words.now)) }
     ensures length { IfOk result (λ names. length names ≡ length words.now) }
 {
@@ -66,7 +26,7 @@ fn names_of(alloc: Global, words: &[&[u8]]) -> Result<Names, LineAnswer>
     for word in words {
         names.push(name_of(word)?)?;
     }
-    Ok(Names::new(names))
+    Ok(NameList::new(names))
 }
 
 /// Returns the names from an index on.
@@ -74,7 +34,7 @@ fn names_of(alloc: Global, words: &[&[u8]]) -> Result<Names, LineAnswer>
 /// # Errors
 ///
 /// `Name` where a word is none, and `NoMemory` if memory runs out.
-pub fn names_from(alloc: Global, index: usize, words: &[&[u8]]) -> Result<Names, LineAnswer>
+pub fn names_from(alloc: Global, index: usize, words: &[&[u8]]) -> Result<NameList, LineAnswer>
     requires { index ≤ length words.now }
     ensures value { Answers result (names_from index (texts words.now)) }
     ensures length { IfOk result (λ names. length names + index ≡ length words.now) }
