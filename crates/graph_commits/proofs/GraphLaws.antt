@@ -1,5 +1,5 @@
 -- What holds of graphs stays true, and what steps answer.
-use Rattle.std.proofs.Common.{◌≡◌, ℕ, zero, suc, ◌<◌, Bool, false, eqb, cond, List, [], ◌∷◌, take, refl, sym, ap, ◌∙◌, subst, arith, Some, Result, Ok, Err}
+use Rattle.std.proofs.Common.{◌≡◌, ℕ, zero, suc, ◌+◌, ◌<◌, Bool, false, eqb, cond, List, [], ◌∷◌, take, refl, sym, ap, ◌∙◌, subst, arith, Some, Result, Ok, Err}
 use Rattle.std.specs.Prelude.{IsOkAnd}
 use Rattle.std.proofs.lemmas.Bool.Decides.{nat_tests}
 use Rattle.model_graphs.specs.declared.node.NodeEdit.{NodeEdit}
@@ -15,14 +15,17 @@ use Rattle.model_states.specs.Damage.{AreSteady, Change, IsStatedChange, IsStead
 use Rattle.model_states.specs.Edits.{edited}
 use Rattle.model_states.specs.Neighbors.{SamplesAgreeOutside, scene_of_side}
 use Rattle.model_states.specs.Rectangles.{Rectangles, rectangle_of}
-use Rattle.model_states.specs.Retained.{Separated, Stepped, last_number, left_state, redo_to, undo_to, unless_last, with_commit}
+use Rattle.model_states.specs.Retained.{Retained, Separated, Stepped, last_number, left_state, unless_last, with_commit}
 use Rattle.model_states.specs.State.{image_of}
 use Rattle.model_states.proofs.NodeDamage as node_damage
 use Rattle.model_states.proofs.RetainedLaws.{commit_few}
 use Rattle.model_states.proofs.Symmetric as symmetric
 use Rattle.model_states.proofs.Voids.{listed_damage}
 use Rattle.graph_commits.proofs.VoidLaws.{steady_back}
-use Rattle.graph_commits.specs.Graphs.{AreAfter, AreBefore, AreDamagesOf, AreStillThere, AreUnchangedOutside, IsGraph}
+use Rattle.graph_commits.specs.declared.direction.Direction.{Direction}
+use Rattle.graph_commits.specs.declared.direction.Direction.TheVariants.{Undo, Redo}
+use Rattle.graph_commits.specs.Directions.{ahead, commit_between, nothing_ahead, step_to, with_first}
+use Rattle.graph_commits.specs.Graphs.{AreAhead, AreDamagesOf, AreStillThere, AreUnchangedOutside, IsAnswered, IsGraph, IsStepIn}
 use Rattle.graph_commits.specs.Histories.{first_delta}
 use Rattle.graph_commits.specs.States.{IsGraphState, edited_side, side_of_result}
 
@@ -34,10 +37,39 @@ not_last number less = grind (arith, nat_tests)
 pub unless_open : {A : Type 0} (number : ℕ) (r : Result A StateRefused) → number < last_number → unless_last number r ≡ r
 unless_open {A} number r less = ap (λ b. cond b (Err TooManyCommits) r) (not_last number less)
 
--- what one result has
-result_is : {A : Type 0} (r : Result A StateRefused) (a : A) → r ≡ Ok a → IsOkAnd r (λ x. x ≡ a)
-result_is (Ok x) a e = cc
-result_is (Err why) a e = absurd (cc e)
+-- ---- what a step gives
+
+pub step_first : {State Delta : Type 0} (direction : Direction) (retained : Retained State Delta) (next : Separated State Delta) (rest : List (Separated State Delta)) →
+    step_to direction retained (next ∷ rest) ≡ Ok (record { next = with_first direction retained next rest; delta = next.delta })
+step_first Undo retained next rest = refl
+step_first Redo retained next rest = refl
+
+pub step_nowhere : {State Delta : Type 0} (direction : Direction) (retained : Retained State Delta) → step_to direction retained [] ≡ Err (nothing_ahead direction)
+step_nowhere Undo retained = refl
+step_nowhere Redo retained = refl
+
+module _ {State Delta : Type 0} (direction : Direction) (retained : Retained State Delta) where
+  pub nowhere_given : (to : Stepped (Retained State Delta) Delta) → step_to direction retained [] ≡ Ok to → ⊥
+  nowhere_given to is = let none = sym (step_nowhere direction retained) ∙ is in cc
+
+  pub first_given : (next : Separated State Delta) (rest : List (Separated State Delta)) (to : Stepped (Retained State Delta) Delta) →
+      step_to direction retained (next ∷ rest) ≡ Ok to → record { next = with_first direction retained next rest; delta = next.delta } ≡ to
+  first_given next rest to is = let both = sym (step_first direction retained next rest) ∙ is in cc
+
+  step_counts : (states : List (Separated State Delta)) (to : Stepped (Retained State Delta) Delta) → step_to direction retained states ≡ Ok to → retained.number + 1 ≡ to.next.number
+  step_counts [] to is = absurd (nowhere_given to is)
+  step_counts (next ∷ rest) to is = ap (λ (s : Stepped (Retained State Delta) Delta). s.next.number) (first_given next rest to is)
+
+  pub step_is : (states : List (Separated State Delta)) (new : Retained State Delta) (delta : Delta) → first_delta states ≡ Some delta →
+      IsOkAnd (step_to direction retained states) (λ to. to.next ≡ new) → step_to direction retained states ≡ Ok (record { next = new; delta = delta })
+  step_is [] new delta first leads = absurd (cc)
+  step_is (next ∷ rest) new delta first leads =
+      let here : next.delta ≡ delta = cc in
+      let there : with_first direction retained next rest ≡ new =
+      subst (λ r. IsOkAnd r (λ to. to.next ≡ new)) (step_first direction retained next rest) leads in
+      step_first direction retained next rest
+      ∙ ap (λ (r : Retained State Delta). Ok (record { next = r; delta = next.delta })) there
+      ∙ ap (λ d. Ok (record { next = new; delta = d })) here
 
 -- ---- steady buffers
 
@@ -46,6 +78,13 @@ steady_from old new still name a b there again =
     let found = still name a there in
     let same : found.0 ≡ b = cc (found.1, again) in
     subst (IsSteady a) same found.2
+
+-- what a commit of edits leaves and answers
+pub record IsCommit {Op : Type 0} (same : Op → Op → Bool) (meanings : Meanings Op) (graph after : Graph Op) (edits : List (NodeEdit Op)) (facts : Facts) (written delta : Rectangles) : Type 0 where
+  pub valid : IsGraph same meanings after
+  pub answer : committed same meanings graph edits facts written ≡ Ok (record { next = after; delta = delta })
+  pub damages : AreDamagesOf same meanings (change_to graph after.latest written) delta
+  pub buffers : after.latest.buffers ≡ facts
 
 module _ {Op : Type 0} (same : Op → Op → Bool) (meanings : Meanings Op) (equality : IsEquality same) (keeps : KeepsLaws meanings) where
   -- ---- the damage of a step
@@ -113,7 +152,7 @@ module _ {Op : Type 0} (same : Op → Op → Bool) (meanings : Meanings Op) (equ
     steady_commit next still made =
         subst (AreSteady graph.latest.buffers) (edited_buffers result next made) (steady_from graph.latest.buffers buffers still)
 
-  before_taken : (n : ℕ) (latest : Side Op) (states : List (Separated (Side Op) Rectangles)) → AreBefore same meanings latest states → AreBefore same meanings latest (take n states)
+  before_taken : (n : ℕ) (latest : Side Op) (states : List (Separated (Side Op) Rectangles)) → AreAhead Undo same meanings latest states → AreAhead Undo same meanings latest (take n states)
   before_taken zero latest [] all = tt
   before_taken (suc n) latest [] all = tt
   before_taken zero latest (back ∷ rest) all = tt
@@ -132,100 +171,58 @@ module _ {Op : Type 0} (same : Op → Op → Bool) (meanings : Meanings Op) (equ
         few = commit_few graph next (damage_list same meanings (change_to graph next written));
       }
 
-  -- ---- undos
+  -- ---- the damage of a step
 
-  pub undone_is : (graph new : Graph Op) (states : List (Separated (Side Op) Rectangles)) (delta : Rectangles) → first_delta states ≡ Some delta →
-      IsOkAnd (undo_to graph states) (λ step. step.next ≡ new) → undo_to graph states ≡ Ok (record { next = new; delta = delta })
-  undone_is graph new [] delta first leads = absurd (cc)
-  undone_is graph new (back ∷ rest) delta first leads =
-      let here : back.delta ≡ delta = cc in
-      ap (λ (next : Graph Op). Ok (record { next = next; delta = back.delta })) leads
-      ∙ ap (λ delta. Ok (record { next = new; delta = delta })) here
+  step_by : (direction : Direction) (latest next : Side Op) (separating written delta : Rectangles) → IsGraphState meanings latest → IsGraphState meanings next →
+      IsStepIn direction same meanings latest next separating → delta ≡ damage_list same meanings (commit_between direction latest next written) →
+      AreDamagesOf same meanings (commit_between Redo latest next written) delta
+  step_by Undo latest next separating written delta old new step made =
+      subst (AreDamagesOf same meanings (commit_between Redo latest next written)) (sym made) (damages_back (commit_between Undo latest next written) new old step.steady)
+  step_by Redo latest next separating written delta old new step made =
+      subst (AreDamagesOf same meanings (commit_between Redo latest next written)) (sym made)
+      (damages_are (commit_between Redo latest next written) (stated_change (commit_between Redo latest next written) old new step.steady))
 
-  pub redone_is : (graph new : Graph Op) (states : List (Separated (Side Op) Rectangles)) (delta : Rectangles) → first_delta states ≡ Some delta →
-      IsOkAnd (redo_to graph states) (λ step. step.next ≡ new) → redo_to graph states ≡ Ok (record { next = new; delta = delta })
-  redone_is graph new [] delta first leads = absurd (cc)
-  redone_is graph new (next ∷ rest) delta first leads =
-      let here : next.delta ≡ delta = cc in
-      ap (λ (g : Graph Op). Ok (record { next = g; delta = next.delta })) leads
-      ∙ ap (λ delta. Ok (record { next = new; delta = delta })) here
+  damage_of_step : (direction : Direction) (latest next : Side Op) (delta : Rectangles) → IsStepIn direction same meanings latest next delta →
+      (written : Rectangles) × (delta ≡ damage_list same meanings (commit_between direction latest next written))
+  damage_of_step Undo latest next delta step = step.damage
+  damage_of_step Redo latest next delta step = step.damage
 
-  -- ---- the damage of an undo and of a redo
+  step_all : (direction : Direction) (graph new : Graph Op) (states : List (Separated (Side Op) Rectangles)) (delta : Rectangles) → IsGraphState meanings graph.latest →
+      AreAhead direction same meanings graph.latest states → step_to direction graph states ≡ Ok (record { next = new; delta = delta }) → (written : Rectangles) →
+      delta ≡ damage_list same meanings (commit_between direction graph.latest new.latest written) → AreDamagesOf same meanings (change_to graph new.latest written) delta
+  step_all direction graph new [] delta latest are is written made = absurd (nowhere_given direction graph (record { next = new; delta = delta }) is)
+  step_all direction graph new (next ∷ rest) delta latest are is written made =
+      let there : next.state ≡ new.latest = ap (λ (s : Stepped (Graph Op) Rectangles). s.next.latest) (first_given direction graph next rest (record { next = new; delta = delta }) is) in
+      step_by direction graph.latest new.latest next.delta written delta latest (subst (IsGraphState meanings) there are.0)
+      (subst (λ (side : Side Op). IsStepIn direction same meanings graph.latest side next.delta) there are.1) made
 
-  undo_by : (graph : Graph Op) (back : Side Op) (written delta : Rectangles) → IsGraphState meanings graph.latest → IsGraphState meanings back →
-      AreSteady back.buffers graph.latest.buffers → delta ≡ damage_list same meanings (record { old = back; new = graph.latest; rectangles = written }) →
-      AreDamagesOf same meanings (change_to graph back written) delta
-  undo_by graph back written delta latest state steady made =
-      subst (AreDamagesOf same meanings (change_to graph back written)) (sym made)
-      (damages_back (record { old = back; new = graph.latest; rectangles = written }) state latest steady)
-
-  redo_by : (graph : Graph Op) (next : Side Op) (written delta : Rectangles) → IsGraphState meanings graph.latest → IsGraphState meanings next →
-      AreSteady graph.latest.buffers next.buffers → delta ≡ damage_list same meanings (change_to graph next written) →
-      AreDamagesOf same meanings (change_to graph next written) delta
-  redo_by graph next written delta latest state steady made =
-      subst (AreDamagesOf same meanings (change_to graph next written)) (sym made)
-      (damages_are (change_to graph next written) (stated_change (change_to graph next written) latest state steady))
-
-  undo_all : (graph new : Graph Op) (states : List (Separated (Side Op) Rectangles)) (delta : Rectangles) → IsGraphState meanings graph.latest →
-      AreBefore same meanings graph.latest states → undo_to graph states ≡ Ok (record { next = new; delta = delta }) → (written : Rectangles) →
-      delta ≡ damage_list same meanings (change_to new graph.latest written) → AreDamagesOf same meanings (change_to graph new.latest written) delta
-  undo_all graph new [] delta latest before undone written made = absurd (cc undone)
-  undo_all graph new (back ∷ rest) delta latest before undone written made =
-      let there : back.state ≡ new.latest = ap (λ (s : Stepped (Graph Op) Rectangles). s.next.latest) (result_is (undo_to graph (back ∷ rest)) (record { next = new; delta = delta }) undone) in
-      undo_by graph new.latest written delta latest (subst (IsGraphState meanings) there before.0)
-      (subst (λ (side : Side Op). AreSteady side.buffers graph.latest.buffers) there before.1.steady) made
-
-  undo_some : (graph new : Graph Op) (states : List (Separated (Side Op) Rectangles)) (delta : Rectangles) → IsGraphState meanings graph.latest →
-      AreBefore same meanings graph.latest states → undo_to graph states ≡ Ok (record { next = new; delta = delta }) →
+  step_some : (direction : Direction) (graph new : Graph Op) (states : List (Separated (Side Op) Rectangles)) (delta : Rectangles) → IsGraphState meanings graph.latest →
+      AreAhead direction same meanings graph.latest states → step_to direction graph states ≡ Ok (record { next = new; delta = delta }) →
       (written : Rectangles) × AreDamagesOf same meanings (change_to graph new.latest written) delta
-  undo_some graph new [] delta latest before undone = absurd (cc undone)
-  undo_some graph new (back ∷ rest) delta latest before undone =
-      let there : back.state ≡ new.latest = ap (λ (s : Stepped (Graph Op) Rectangles). s.next.latest) (result_is (undo_to graph (back ∷ rest)) (record { next = new; delta = delta }) undone) in
-      let that : back.delta ≡ delta = ap (λ (s : Stepped (Graph Op) Rectangles). s.delta) (result_is (undo_to graph (back ∷ rest)) (record { next = new; delta = delta }) undone) in
-      let by = before.1.damage in (
+  step_some direction graph new [] delta latest are is = absurd (nowhere_given direction graph (record { next = new; delta = delta }) is)
+  step_some direction graph new (next ∷ rest) delta latest are is =
+      let to = first_given direction graph next rest (record { next = new; delta = delta }) is in
+      let there : next.state ≡ new.latest = ap (λ (s : Stepped (Graph Op) Rectangles). s.next.latest) to in
+      let that : next.delta ≡ delta = ap (λ (s : Stepped (Graph Op) Rectangles). s.delta) to in
+      let by = damage_of_step direction graph.latest next.state next.delta are.1 in (
         by.0,
-        undo_all graph new (back ∷ rest) delta latest before undone by.0
-            (sym that ∙ by.1 ∙ ap (λ (side : Side Op). damage_list same meanings (record { old = side; new = graph.latest; rectangles = by.0 })) there),
+        step_all direction graph new (next ∷ rest) delta latest are is by.0
+            (sym that ∙ by.1 ∙ ap (λ (side : Side Op). damage_list same meanings (commit_between direction graph.latest side by.0)) there),
       )
 
-  redo_all : (graph new : Graph Op) (states : List (Separated (Side Op) Rectangles)) (delta : Rectangles) → IsGraphState meanings graph.latest →
-      AreAfter same meanings graph.latest states → redo_to graph states ≡ Ok (record { next = new; delta = delta }) → (written : Rectangles) →
-      delta ≡ damage_list same meanings (change_to graph new.latest written) → AreDamagesOf same meanings (change_to graph new.latest written) delta
-  redo_all graph new [] delta latest after redone written made = absurd (cc redone)
-  redo_all graph new (next ∷ rest) delta latest after redone written made =
-      let there : next.state ≡ new.latest = ap (λ (s : Stepped (Graph Op) Rectangles). s.next.latest) (result_is (redo_to graph (next ∷ rest)) (record { next = new; delta = delta }) redone) in
-      redo_by graph new.latest written delta latest (subst (IsGraphState meanings) there after.0)
-      (subst (λ (side : Side Op). AreSteady graph.latest.buffers side.buffers) there after.1.steady) made
+  module _ (graph : Graph Op) (is : IsGraph same meanings graph) where
+    are_ahead : (direction : Direction) → AreAhead direction same meanings graph.latest (ahead direction graph)
+    are_ahead Undo = is.undoable
+    are_ahead Redo = is.redoable
 
-  redo_some : (graph new : Graph Op) (states : List (Separated (Side Op) Rectangles)) (delta : Rectangles) → IsGraphState meanings graph.latest →
-      AreAfter same meanings graph.latest states → redo_to graph states ≡ Ok (record { next = new; delta = delta }) →
-      (written : Rectangles) × AreDamagesOf same meanings (change_to graph new.latest written) delta
-  redo_some graph new [] delta latest after redone = absurd (cc redone)
-  redo_some graph new (next ∷ rest) delta latest after redone =
-      let there : next.state ≡ new.latest = ap (λ (s : Stepped (Graph Op) Rectangles). s.next.latest) (result_is (redo_to graph (next ∷ rest)) (record { next = new; delta = delta }) redone) in
-      let that : next.delta ≡ delta = ap (λ (s : Stepped (Graph Op) Rectangles). s.delta) (result_is (redo_to graph (next ∷ rest)) (record { next = new; delta = delta }) redone) in
-      let by = after.1.damage in (
-        by.0,
-        redo_all graph new (next ∷ rest) delta latest after redone by.0
-            (sym that ∙ by.1 ∙ ap (λ (side : Side Op). damage_list same meanings (change_to graph side by.0)) there),
-      )
-
-  module _ (graph new : Graph Op) (is : IsGraph same meanings graph) (delta : Rectangles) where
-    pub undo_damages : undo_to graph graph.undoable ≡ Ok (record { next = new; delta = delta }) → (written : Rectangles) →
-        delta ≡ damage_list same meanings (change_to new graph.latest written) → AreDamagesOf same meanings (change_to graph new.latest written) delta
-    undo_damages = undo_all graph new graph.undoable delta is.latest is.undoable
-
-    pub undo_damages_some : undo_to graph graph.undoable ≡ Ok (record { next = new; delta = delta }) →
-        (written : Rectangles) × AreDamagesOf same meanings (change_to graph new.latest written) delta
-    undo_damages_some = undo_some graph new graph.undoable delta is.latest is.undoable
-
-    pub redo_damages : redo_to graph graph.redoable ≡ Ok (record { next = new; delta = delta }) → (written : Rectangles) →
-        delta ≡ damage_list same meanings (change_to graph new.latest written) → AreDamagesOf same meanings (change_to graph new.latest written) delta
-    redo_damages = redo_all graph new graph.redoable delta is.latest is.redoable
-
-    pub redo_damages_some : redo_to graph graph.redoable ≡ Ok (record { next = new; delta = delta }) →
-        (written : Rectangles) × AreDamagesOf same meanings (change_to graph new.latest written) delta
-    redo_damages_some = redo_some graph new graph.redoable delta is.latest is.redoable
+    pub answered : (direction : Direction) (new : Graph Op) (number : ℕ) (delta : Rectangles) → graph.number < last_number → number ≡ graph.number + 1 →
+        step_to direction graph (ahead direction graph) ≡ Ok (record { next = new; delta = delta }) → IsAnswered same meanings direction graph new number delta
+    answered direction new number delta less next step = record {
+      made = unless_open graph.number (step_to direction graph (ahead direction graph)) less ∙ step;
+      numbered = next ∙ step_counts direction graph (ahead direction graph) (record { next = new; delta = delta }) step;
+      damages = step_all direction graph new (ahead direction graph) delta is.latest (are_ahead direction) step;
+      by_some = step_some direction graph new (ahead direction graph) delta is.latest (are_ahead direction) step;
+    }
 
   -- ---- what a commit answers
 
@@ -239,22 +236,25 @@ module _ {Op : Type 0} (same : Op → Op → Bool) (meanings : Meanings Op) (equ
     steady : AreSteady graph.latest.buffers next.buffers
     steady = steady_commit graph edits buffers written next still made
 
-    pub graph_after : IsGraph same meanings after
+    graph_after : IsGraph same meanings after
     graph_after = subst (IsGraph same meanings) (sym after_is) (graph_committed graph next written is state steady)
 
-    pub answer_is : committed same meanings graph edits buffers written ≡ Ok (record { next = after; delta = delta })
+    answer_is : committed same meanings graph edits buffers written ≡ Ok (record { next = after; delta = delta })
     answer_is =
         committed_is graph edits buffers written next less made
         ∙ ap (λ (g : Graph Op). Ok (record { next = g; delta = damage_list same meanings (change_to graph next written) })) (sym after_is)
         ∙ ap (λ d. Ok (record { next = after; delta = d })) (sym list)
 
-    pub damages_answered : AreDamagesOf same meanings (change_to graph after.latest written) delta
+    damages_answered : AreDamagesOf same meanings (change_to graph after.latest written) delta
     damages_answered =
         subst (λ (side : Side Op). AreDamagesOf same meanings (change_to graph side written) delta) (sym (ap (λ (g : Graph Op). g.latest) after_is))
         (subst (AreDamagesOf same meanings (change_to graph next written)) (sym list)
         (damages_are (change_to graph next written) (stated_change (change_to graph next written) is.latest state steady)))
 
-    pub buffers_after : after.latest.buffers ≡ buffers
+    buffers_after : after.latest.buffers ≡ buffers
     buffers_after =
         ap (λ (g : Graph Op). g.latest.buffers) after_is
         ∙ sym (edited_buffers graph edits buffers written (edited meanings (shapes_of_facts buffers) (specs_of graph.latest.nodes) edits) next made)
+
+    pub commit_made : IsCommit same meanings graph after edits buffers written delta
+    commit_made = record { valid = graph_after; answer = answer_is; damages = damages_answered; buffers = buffers_after }

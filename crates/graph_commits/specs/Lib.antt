@@ -1,4 +1,5 @@
 pub mod States
 pub mod Damages
 pub mod Histories
+pub mod Directions
 pub mod Graphs

@@ -8,17 +8,18 @@ ghost use Rattle.model_states.specs.Commits.{change_to, committed, new_graph};
 ghost use Rattle.model_states.specs.Damage.{damage_list};
 ghost use Rattle.model_states.specs.Rectangles.{Rectangles};
 ghost use Rattle.model_states.specs.Retained.{redone, undone};
-ghost use Rattle.graph_commits.specs.Graphs.{AreDamagesOf, AreStillThere, IsGraph, is_still_there};
+ghost use Rattle.graph_commits.specs.Directions.{stepped};
+ghost use Rattle.graph_commits.specs.Graphs.{AreDamagesOf, AreStillThere, IsAnswered, IsGraph, is_still_there};
 ghost use Rattle.graph_edits.specs.Refusals.{IsRefusalOf};
 
 use crate::buffers::are_still_there;
 use crate::change::Change;
 use crate::damage_list::DamageList;
+use crate::direction::Direction;
 use crate::history::History;
 use crate::state::GraphState;
 use graph_edits::GraphRefused;
 use model_graphs::{BufferFact, Edited, NodeEdit, NodeFact, OpMeaning};
-use model_states::StateRefused;
 use op_contracts::OpKit;
 use std::alloc::Global;
 use std::marker::Model;
@@ -125,7 +126,7 @@ impl<Op: OpMeaning + Drop> Graph<Op> {
         let old = self.history.latest();
         let new = old.edited(kit, self.alloc, edits, buffers)?;
         let rects = Change::between(old, &new, edited).damage_list(kit, self.alloc)?;
-        let retained = rects.copy(self.alloc)?;
+        let retained = rects.clone()?;
         self.history.commit(new, retained)?;
         Ok(Damage { number, rects })
     }
@@ -146,13 +147,7 @@ impl<Op: OpMeaning + Drop> Graph<Op> {
         ensures refused { IfErr result (IsRefusalOf (undone self.old)) }
         ensures unchanged { OnErr result (self.new ≡ self.old) }
     {
-        let number = self.history.next_number()?;
-        let Some(delta) = self.history.undo_delta() else {
-            return Err(GraphRefused::State(StateRefused::NothingToUndo));
-        };
-        let rects = delta.copy(self.alloc)?;
-        self.history.undo()?;
-        Ok(Damage { number, rects })
+        self.step(Direction::Undo)
     }
 
     /// Goes on to the state that the last undo that is not yet redone left.
@@ -171,12 +166,27 @@ impl<Op: OpMeaning + Drop> Graph<Op> {
         ensures refused { IfErr result (IsRefusalOf (redone self.old)) }
         ensures unchanged { OnErr result (self.new ≡ self.old) }
     {
+        self.step(Direction::Redo)
+    }
+
+    /// Goes back or on, by an undo or a redo.
+    ///
+    /// # Errors
+    ///
+    /// `TooManyCommits`, or else `NothingToUndo` or `NothingToRedo`, and `NoMemory` if memory runs out. The graph is
+    /// unchanged.
+    pub fn step(&mut self, direction: Direction) -> Result<Damage, GraphRefused>
+        ensures stepped { IfOk result (λ damage.
+            IsAnswered Op.same Op.meanings direction self.old self.new damage.number damage.rects) }
+        ensures refused { IfErr result (IsRefusalOf (stepped direction self.old)) }
+        ensures unchanged { OnErr result (self.new ≡ self.old) }
+    {
         let number = self.history.next_number()?;
-        let Some(delta) = self.history.redo_delta() else {
-            return Err(GraphRefused::State(StateRefused::NothingToRedo));
+        let Some(delta) = self.history.delta_ahead(direction) else {
+            return Err(GraphRefused::State(direction.refusal()));
         };
-        let rects = delta.copy(self.alloc)?;
-        self.history.redo()?;
+        let rects = delta.clone()?;
+        self.history.step(direction)?;
         Ok(Damage { number, rects })
     }
 }

@@ -3,10 +3,12 @@
 ghost use Rattle.std.specs.Prelude.{◌≡◌, ◌+◌, ◌<◌, ◌∷◌, [], IfErr, IfOk, IsOkAnd, OnErr, OnOk, length, option_map};
 ghost use Rattle.std.specs.VecDeque.{deque_capacity, deque_len};
 ghost use Rattle.model_states.specs.declared.refused.StateRefused.TheVariants.{TooManyCommits};
-ghost use Rattle.model_states.specs.Retained.{last_number, redo_to, retained_from, undo_to, with_commit};
+ghost use Rattle.model_states.specs.Retained.{last_number, retained_from, with_commit};
 ghost use Rattle.graph_edits.specs.declared.refused.GraphRefused.TheVariants as refusals;
-ghost use Rattle.graph_commits.specs.Histories.{first_delta};
+ghost use Rattle.graph_commits.specs.Directions.{ahead, step_to};
+ghost use Rattle.graph_commits.specs.Histories.{IsMoved, first_delta};
 
+use crate::direction::Direction;
 use graph_edits::GraphRefused;
 use model_states::StateRefused;
 use no_memory::NoMemory;
@@ -100,18 +102,14 @@ impl<S: Drop, D: Drop> History<S, D> {
         }
     }
 
-    /// Returns what separates the first state that can be undone to.
-    pub(crate) fn undo_delta(&self) -> Option<&D>
-        ensures { option_map (λ delta. delta.now) result ≡ first_delta self.now.undoable }
+    /// Returns what separates the first state ahead in a direction.
+    pub(crate) fn delta_ahead(&self, direction: Direction) -> Option<&D>
+        ensures { option_map (λ delta. delta.now) result ≡ first_delta (ahead direction self.now) }
     {
-        delta_of_first(&self.undoable)
-    }
-
-    /// Returns what separates the first state that can be redone to.
-    pub(crate) fn redo_delta(&self) -> Option<&D>
-        ensures { option_map (λ delta. delta.now) result ≡ first_delta self.now.redoable }
-    {
-        delta_of_first(&self.redoable)
+        match direction {
+            Direction::Undo => delta_of_first(&self.undoable),
+            Direction::Redo => delta_of_first(&self.redoable),
+        }
     }
 
     /// Makes a state the last one, separated by a delta from the one before it.
@@ -133,42 +131,30 @@ impl<S: Drop, D: Drop> History<S, D> {
         Ok(())
     }
 
-    /// Goes back to the first state that can be undone to, which is there.
+    /// Goes to the first state ahead in a direction, which is there.
     ///
     /// # Errors
     ///
     /// `NoMemory` if memory runs out: the history is unchanged.
-    pub(crate) fn undo(&mut self) -> Result<(), NoMemory>
+    pub(crate) fn step(&mut self, direction: Direction) -> Result<(), NoMemory>
         requires number { self.old.number < last_number }
-        requires some { 0 < length self.old.undoable }
-        ensures undone { OnOk result
-            (IsOkAnd (undo_to self.old self.old.undoable) (λ step. step.next ≡ self.new)) }
+        requires some { 0 < length (ahead direction self.old) }
+        ensures stepped { OnOk result
+            (IsOkAnd (step_to direction self.old (ahead direction self.old)) (λ step. step.next ≡ self.new)) }
         ensures unchanged { OnErr result (self.new ≡ self.old) }
     {
-        self.redoable.reserve(1)?;
-        let (state, delta) = take_first(&mut self.undoable);
-        let left = mem::replace(&mut self.latest, state);
-        put_first(&mut self.redoable, left, delta);
-        self.number += 1;
-        Ok(())
-    }
-
-    /// Goes on to the first state that can be redone to, which is there.
-    ///
-    /// # Errors
-    ///
-    /// `NoMemory` if memory runs out: the history is unchanged.
-    pub(crate) fn redo(&mut self) -> Result<(), NoMemory>
-        requires number { self.old.number < last_number }
-        requires some { 0 < length self.old.redoable }
-        ensures redone { OnOk result
-            (IsOkAnd (redo_to self.old self.old.redoable) (λ step. step.next ≡ self.new)) }
-        ensures unchanged { OnErr result (self.new ≡ self.old) }
-    {
-        self.undoable.reserve(1)?;
-        let (state, delta) = take_first(&mut self.redoable);
-        let left = mem::replace(&mut self.latest, state);
-        put_first(&mut self.undoable, left, delta);
+        match direction {
+            Direction::Undo => move_first(
+                &mut self.undoable,
+                &mut self.redoable,
+                &mut self.latest,
+            )?,
+            Direction::Redo => move_first(
+                &mut self.redoable,
+                &mut self.undoable,
+                &mut self.latest,
+            )?,
+        }
         self.number += 1;
         Ok(())
     }
@@ -182,6 +168,30 @@ fn delta_of_first<S, D>(states: &VecDeque<Separated<S, D>>) -> Option<&D>
         Some(first) => Some(&first.delta),
         None => None,
     }
+}
+
+/// Makes the first of the states ahead, which is there, the latest one, and puts the one that was before those
+/// behind.
+///
+/// # Errors
+///
+/// `NoMemory` if memory runs out: nothing has changed.
+fn move_first<S: Drop, D: Drop>(
+    ahead: &mut VecDeque<Separated<S, D>>,
+    behind: &mut VecDeque<Separated<S, D>>,
+    latest: &mut S,
+) -> Result<(), NoMemory>
+    requires { 0 < length ahead.old.items }
+    ensures moved { OnOk result
+        (IsMoved ahead.old.items behind.old.items latest.old latest.new ahead.new.items behind.new.items) }
+    ensures unchanged { OnErr result ((ahead.new.items ≡ ahead.old.items)
+        × (behind.new.items ≡ behind.old.items) × (latest.new ≡ latest.old)) }
+{
+    behind.reserve(1)?;
+    let (state, delta) = take_first(ahead);
+    let left = mem::replace(latest, state);
+    put_first(behind, left, delta);
+    Ok(())
 }
 
 /// Puts a state before others, for which there is room.

@@ -6,6 +6,7 @@ mod bodies;
 mod buffers;
 mod change;
 mod damage_list;
+mod direction;
 mod graph;
 mod history;
 mod inputs;
@@ -16,6 +17,7 @@ mod state;
 mod walk;
 
 pub use damage_list::DamageList;
+pub use direction::Direction;
 pub use graph::{Damage, Graph};
 pub use graph_edits::GraphRefused;
 pub use state::GraphState;

@@ -6,7 +6,7 @@ use Rattle.model_states.specs.Damage.{Side, damage_list}
 use Rattle.model_states.specs.Retained.{last_number, with_commit}
 use Rattle.graph_commits.specs.Graphs.{IsGraph}
 use Rattle.graph_commits.specs.States.{edited_side}
-use Rattle.graph_commits.proofs.GraphLaws.{answer_is, buffers_after, damages_answered, graph_after}
+use Rattle.graph_commits.proofs.GraphLaws.{IsCommit, commit_made}
 use Rattle.graph_commits.proofs.graph.Graph.commit.Given
 use Rattle.graph_commits.proofs.graph.Graph.commit.Goals as goal
 
@@ -39,26 +39,21 @@ left g c =
     c.in_ok-commit.ensures.committed
     ∙ ap (λ (graph : Graph g.row.Op.Denot). with_commit graph c.in_ok-new.new c.in_ok-retained.retained) c.self.view_is
 
-pub invariant_of-self-2 : goal.invariant_of-self-2
-invariant_of-self-2 g c =
-    graph_after g.Op.OpMeaning.same g.Op.OpMeaning.meanings g.Op.OpMeaning.distinguished (keeps g) c.args.self.now c.commit.new.self c.in_ok-new.new
+done : (g : Given.Over) (c : goal.In_ok-commit g) →
+    IsCommit g.Op.OpMeaning.same g.Op.OpMeaning.meanings c.args.self.now c.commit.new.self c.args.edits.now c.args.buffers.now (rectangles_of c.args.edited.now) c.in_ok-rects.rects
+done g c =
+    commit_made g.Op.OpMeaning.same g.Op.OpMeaning.meanings g.Op.OpMeaning.distinguished (keeps g) c.args.self.now c.commit.new.self c.in_ok-new.new
     c.args.edits.now c.args.buffers.now (rectangles_of c.args.edited.now) c.in_ok-rects.rects c.in_ok-retained.retained
-    (graph g c) (less g c) (made g c) c.in_ok-new.ensures.state c.requires.still (list g c) c.in_ok-retained.ensures (left g c)
+    (graph g c) (less g c) (made g c) c.in_ok-new.ensures.state c.requires.still (list g c) c.in_ok-retained.ensures.cases (left g c)
+
+pub invariant_of-self-2 : goal.invariant_of-self-2
+invariant_of-self-2 g c = (done g c).valid
 
 pub returns-clause-committed : goal.returns-clause-committed
-returns-clause-committed g c =
-    answer_is g.Op.OpMeaning.same g.Op.OpMeaning.meanings g.Op.OpMeaning.distinguished (keeps g) c.args.self.now c.commit.new.self c.in_ok-new.new
-    c.args.edits.now c.args.buffers.now (rectangles_of c.args.edited.now) c.in_ok-rects.rects c.in_ok-retained.retained
-    (graph g c) (less g c) (made g c) c.in_ok-new.ensures.state c.requires.still (list g c) c.in_ok-retained.ensures (left g c)
+returns-clause-committed g c = (done g c).answer
 
 pub returns-clause-damages : goal.returns-clause-damages
-returns-clause-damages g c =
-    damages_answered g.Op.OpMeaning.same g.Op.OpMeaning.meanings g.Op.OpMeaning.distinguished (keeps g) c.args.self.now c.commit.new.self c.in_ok-new.new
-    c.args.edits.now c.args.buffers.now (rectangles_of c.args.edited.now) c.in_ok-rects.rects c.in_ok-retained.retained
-    (graph g c) (less g c) (made g c) c.in_ok-new.ensures.state c.requires.still (list g c) c.in_ok-retained.ensures (left g c)
+returns-clause-damages g c = (done g c).damages
 
 pub returns-clause-buffers : goal.returns-clause-buffers
-returns-clause-buffers g c =
-    buffers_after g.Op.OpMeaning.same g.Op.OpMeaning.meanings g.Op.OpMeaning.distinguished (keeps g) c.args.self.now c.commit.new.self c.in_ok-new.new
-    c.args.edits.now c.args.buffers.now (rectangles_of c.args.edited.now) c.in_ok-rects.rects c.in_ok-retained.retained
-    (graph g c) (less g c) (made g c) c.in_ok-new.ensures.state c.requires.still (list g c) c.in_ok-retained.ensures (left g c)
+returns-clause-buffers g c = (done g c).buffers
