@@ -3,6 +3,7 @@ use Rattle.std.specs.Prelude.{◌≡◌, ℕ, suc, Some, List, [], ◌∷◌, �
 use Rattle.plane_rect.specs.Rectangle.{Rectangle, placed}
 use Rattle.pixel_formats.specs.declared.format.Format.TheVariants.{Y8}
 use Rattle.pixel_formats.specs.declared.abyss.Abyss.TheVariants as policies
+use Rattle.model_operations.specs.declared.operation.IntOp.TheVariants as operations
 use Rattle.outside_io.specs.Files.{Files, file}
 use Rattle.run_texts.specs.Events.{Event, Outcome, Puts, Writes}
 use Rattle.script_read.specs.declared.command.Command.{Command}
@@ -33,7 +34,7 @@ abbrev pub source_node : List ℕ → List ℕ → Command
 source_node name buffer = commands.Node name (words.Source buffer) []
 
 abbrev pub inverting_node : List ℕ → List ℕ → Command
-inverting_node name input = commands.Node name words.Invert (input ∷ [])
+inverting_node name input = commands.Node name (words.Compute operations.Invert) (input ∷ [])
 
 -- a rectangle of the node `i` is rendered
 abbrev pub render : Rectangle → List ℕ → Command

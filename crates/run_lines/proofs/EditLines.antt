@@ -1,10 +1,10 @@
 -- Lines that edit the buffers of a session.
-use Rattle.std.proofs.Common.{◌≡◌, ◌≢◌, ℕ, ◌+◌, Bool, List, Option, Some, None, Result, Ok, Err, IfErr, is_some, refl, sym, ap, ◌∙◌, subst, arith}
+use Rattle.std.proofs.Common.{◌≡◌, ◌≢◌, ℕ, ◌+◌, Bool, true, List, Option, Some, None, Result, Ok, Err, IfErr, is_some, refl, sym, ap, ◌∙◌, subst, arith}
 use Rattle.std.specs.Result.{OnOk}
 use Rattle.buffer_view.specs.Causes.{HasEditCause}
 use Rattle.buffer_view.specs.declared.refused.BufferRefused.{BufferRefused}
 use Rattle.buffer_view.specs.declared.refused.BufferRefused.TheVariants as buffer_refusals
-use Rattle.chain_owners.specs.Counts.{Continues, Counts, Grows, IsFullOver}
+use Rattle.chain_owners.specs.Counts.{Counts, Grows, IsFullOver}
 use Rattle.chain_owners.specs.Held.{Held}
 use Rattle.commit_session.proofs.Working.{edit-number, valid-edited}
 use Rattle.commit_session.specs.Parts.{Parts}
@@ -35,7 +35,7 @@ use Rattle.model_states.specs.History.{number_of}
 use Rattle.outside_io.specs.Faults.{Rose}
 use Rattle.outside_io.specs.Files.{Files}
 use Rattle.run_events.proofs.Carrying.{Exceeds-more, nothing_carried}
-use Rattle.run_events.proofs.Faults.{continues_same}
+use Rattle.run_events.proofs.Faults.{chain_faults, continues_same, faults_of_swap, only_swap}
 use Rattle.run_events.proofs.Texts.{put_none}
 use Rattle.run_events.specs.Carried.{Exceeds, most_of_line, outcome_of_line}
 use Rattle.run_events.specs.Moments.{HasFaults, Moment}
@@ -83,6 +83,38 @@ pub record IsEdited (edit : BufferEdit) (result : Result (Unit {0}) SessionRefus
   pub content : is_some new.held.content ≡ is_some old.held.content
   pub counts : Grows (tiles_added edit) old.counts new.counts
 
+abbrev refusal : SessionRefused → Result (Unit {0}) SessionRefused
+refusal refused = Err refused
+
+-- an edit that is refused does nothing else than is said of its refusal
+pub refused_edit : (edit : BufferEdit) (refused : SessionRefused) (old new : SessionOver) →
+    ((cause : EditRefused) → edit_refused (layout_in old) edit ≡ Some cause → refusal refused ≢ refusal NoMemory → refusal refused ≡ refusal (Buffer (buffer_refusals.Edit cause))) →
+    IsRefusedAs by_buffers (HasEditCause (layout_in old) edit old.counts new.counts) refused →
+    new.parts.capacity ≡ old.parts.capacity → is_some new.held.content ≡ is_some old.held.content → Grows (tiles_added edit) old.counts new.counts → IsEdited edit (Err refused) old new
+refused_edit edit refused old new exact cause capacity content counts = record {
+  carried_out = tt;
+  session = λ before of. tt;
+  exact = exact;
+  cause = cause;
+  capacity = capacity;
+  content = content;
+  counts = counts;
+}
+
+-- one that is carried out has no cause
+pub carried_edit : (edit : BufferEdit) (old new : SessionOver) → edit_refused (layout_in old) edit ≡ None →
+    ((before : Session Table IntOp) → IsHeld old.parts old.held before → IsHeld new.parts new.held (stepped before (EditBuffer edit))) →
+    new.parts.capacity ≡ old.parts.capacity → is_some new.held.content ≡ is_some old.held.content → Grows (tiles_added edit) old.counts new.counts → IsEdited edit (Ok tt) old new
+carried_edit edit old new none session capacity content counts = record {
+  carried_out = none;
+  session = session;
+  exact = λ cause is. absurd (cc);
+  cause = tt;
+  capacity = capacity;
+  content = content;
+  counts = counts;
+}
+
 -- ---- running out of memory
 
 -- before anything was done
@@ -94,16 +126,7 @@ out_of_memory exposed capacity line state files done now parts held = record {
 }
 
 pub out_of_memory_faults : (now : Moment) → HasFaults (Err ends.NoMemory) now now
-out_of_memory_faults now = record {
-  read = λ e. absurd (cc);
-  write = λ e. absurd (cc);
-  put = λ e. absurd (cc);
-  swap = λ e. absurd (cc);
-  reads = omega arith;
-  writes = omega arith;
-  puts = omega arith;
-  chain = continues_same now.chain now.chain refl;
-}
+out_of_memory_faults now = faults_of_swap (Err ends.NoMemory) now now refl (λ e. absurd (cc)) (omega arith) (omega arith) (omega arith) (continues_same now.chain now.chain refl)
 
 -- ---- edits
 
@@ -197,19 +220,6 @@ module _ (exposed : Bool) (capacity line : ℕ) (state : RunState) (files : File
 
 -- ---- I/O errors
 
--- a part that touches the chain alone
-pub chain_faults : (now : Moment) (counts : Counts) → Continues now.chain counts → HasFaults (Ok tt) now (record now { chain = counts })
-chain_faults now counts continues = record {
-  read = λ e. absurd (cc);
-  write = λ e. absurd (cc);
-  put = λ e. absurd (cc);
-  swap = λ e. absurd (cc);
-  reads = omega arith;
-  writes = omega arith;
-  puts = omega arith;
-  chain = continues;
-}
-
 module _ (edit : BufferEdit) (old new : SessionOver) (shelf : Option Files) (text : Option (List ℕ)) (reads writes puts : ℕ) where
   abbrev first : Moment
   first = at_chain shelf text reads writes puts old.counts
@@ -217,29 +227,19 @@ module _ (edit : BufferEdit) (old new : SessionOver) (shelf : Option Files) (tex
   abbrev last : Moment
   last = at_chain shelf text reads writes puts new.counts
 
-  no_fault : (end : End) → end ≢ ends.ReadFault → end ≢ ends.WriteFault → end ≢ ends.OutputFault → (end ≡ ends.SwapFault → Rose old.counts.faults new.counts.faults) →
-      Grows (tiles_added edit) old.counts new.counts → HasFaults (Err end) first last
-  no_fault end read write put swap grows = record {
-    read = λ e. absurd (read (cc));
-    write = λ e. absurd (write (cc));
-    put = λ e. absurd (put (cc));
-    swap = λ e. swap (cc);
-    reads = omega arith;
-    writes = omega arith;
-    puts = omega arith;
-    chain = grows.continues;
-  }
+  ends_by : (end : End) → only_swap (Err end) ≡ true → (end ≡ ends.SwapFault → Rose old.counts.faults new.counts.faults) → Grows (tiles_added edit) old.counts new.counts → HasFaults (Err end) first last
+  ends_by end only swap grows = faults_of_swap (Err end) first last only (λ e. swap (cc)) (omega arith) (omega arith) (omega arith) grows.continues
 
   pub done_faults : IsEdited edit (Ok tt) old new → HasFaults (Ok tt) first last
-  done_faults is = chain_faults first new.counts is.counts.continues
+  done_faults is = chain_faults first last refl refl refl is.counts.continues
 
   lower_faults : (lower : BufferRefused) → HasEditCause (layout_in old) edit old.counts new.counts lower → Grows (tiles_added edit) old.counts new.counts →
       HasFaults (end_of {A = Unit {0}} (Err (stop_of (by_buffers lower)))) first last
-  lower_faults (buffer_refusals.Edit refused) cause grows = no_fault ends.Refused (λ e. cc) (λ e. cc) (λ e. cc) (λ e. absurd (cc)) grows
-  lower_faults (buffer_refusals.Swap swap_refusals.SwapFault) cause grows = no_fault ends.SwapFault (λ e. cc) (λ e. cc) (λ e. cc) (λ e. cause) grows
-  lower_faults (buffer_refusals.Swap (swap_refusals.SwapFull needed longest)) cause grows = no_fault ends.SwapFull (λ e. cc) (λ e. cc) (λ e. cc) (λ e. absurd (cc)) grows
-  lower_faults (buffer_refusals.Swap swap_refusals.NoMemory) cause grows = no_fault ends.NoMemory (λ e. cc) (λ e. cc) (λ e. cc) (λ e. absurd (cc)) grows
-  lower_faults buffer_refusals.NoMemory cause grows = no_fault ends.NoMemory (λ e. cc) (λ e. cc) (λ e. cc) (λ e. absurd (cc)) grows
+  lower_faults (buffer_refusals.Edit refused) cause grows = ends_by ends.Refused refl (λ e. absurd (cc)) grows
+  lower_faults (buffer_refusals.Swap swap_refusals.SwapFault) cause grows = ends_by ends.SwapFault refl (λ e. cause) grows
+  lower_faults (buffer_refusals.Swap (swap_refusals.SwapFull needed longest)) cause grows = ends_by ends.SwapFull refl (λ e. absurd (cc)) grows
+  lower_faults (buffer_refusals.Swap swap_refusals.NoMemory) cause grows = ends_by ends.NoMemory refl (λ e. absurd (cc)) grows
+  lower_faults buffer_refusals.NoMemory cause grows = ends_by ends.NoMemory refl (λ e. absurd (cc)) grows
 
   pub stopped_faults : (refused : SessionRefused) → IsEdited edit (Err refused) old new → HasFaults (end_of {A = Unit {0}} (Err (stop_of refused))) first last
   stopped_faults refused is =

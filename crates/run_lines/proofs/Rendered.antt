@@ -43,6 +43,7 @@ use Rattle.render_workers.specs.Requests.{Request, request}
 use Rattle.render_workers.specs.declared.refused.RenderRefused.{RenderRefused}
 use Rattle.render_workers.specs.declared.refused.RenderRefused.TheVariants as render_refusals
 use Rattle.run_events.proofs.Carrying.{Exceeds-more, nothing_carried}
+use Rattle.run_events.proofs.Faults.{faults_of_swap, only_swap}
 use Rattle.run_events.specs.Carried.{CarriesOut, Exceeds, most_of_line, outcome_of_line}
 use Rattle.run_events.specs.Moments.{HasFaults, Moment, world_at}
 use Rattle.run_lines.proofs.Bounds.{full_exceeds}
@@ -82,6 +83,11 @@ pub record IsShown (exposed : Bool) (state : RunState) (parts : Parts IntOp) (na
   pub image : IsTrue exposed → patch ≡ cut (level (node_image state name) z) r
   pub raw_is : bytes ≡ raw patch patch.box
   pub count : length bytes ≡ area patch.box * pixel_bytes patch.format
+
+pub shown-by : (exposed : Bool) (state : RunState) (parts : Parts IntOp) (name : List ℕ) (z : ℕ) (r : Rectangle) (patch : Image) (bytes : List ℕ) → patch.box ≡ r →
+    patch.format ≡ (shape_at parts.graph.latest.nodes (index_of (specs_of parts.graph.latest.nodes) name)).format → (IsTrue exposed → patch ≡ cut (level (node_image state name) z) r) →
+    bytes ≡ raw patch patch.box → length bytes ≡ area patch.box * pixel_bytes patch.format → IsShown exposed state parts name z r patch bytes
+shown-by exposed state parts name z r patch bytes box format image raw_is count = record { box = box; format = format; image = image; raw_is = raw_is; count = count }
 
 -- The session that a render left which isn't refused.
 pub record IsLeft (state : RunState) (old new : Parts IntOp) (held later : Held) (name : List ℕ) (z : ℕ) (r : Rectangle) (before after : Counts) : Type 0 where
@@ -201,19 +207,6 @@ module _ (exposed : Bool) (capacity line : ℕ) (state : RunState) (files : File
 
 -- ---- I/O errors
 
--- a part that touches no device but the chain, and ends nothing
-pub chain-faults : (old new : Moment) → new.reads ≡ old.reads → new.writes ≡ old.writes → new.puts ≡ old.puts → Continues old.chain new.chain → HasFaults (Ok tt) old new
-chain-faults old new reads writes puts continues = record {
-  read = λ e. absurd (cc);
-  write = λ e. absurd (cc);
-  put = λ e. absurd (cc);
-  swap = λ e. absurd (cc);
-  reads = omega (arith, reads);
-  writes = omega (arith, writes);
-  puts = omega (arith, puts);
-  chain = continues;
-}
-
 -- a render touches no device but the chain
 pub render-faults : (refused : SessionRefused) (can : RenderRefused → Type 0) (old new : Moment) → IsRefusedAs by_render can refused →
     (can render_refusals.SwapFault → Rose old.chain.faults new.chain.faults) → new.reads ≡ old.reads → new.writes ≡ old.writes → new.puts ≡ old.puts → Continues old.chain new.chain →
@@ -221,22 +214,13 @@ pub render-faults : (refused : SessionRefused) (can : RenderRefused → Type 0) 
 render-faults refused can old new is swap reads writes puts continues =
     subst (λ (s : SessionRefused). HasFaults (end_of {A = Unit {0}} (Err (stop_of s))) old new) (sym is.is) (by is.lower is.by_cause)
   where
-    at : (end : End) → end ≢ ends.ReadFault → end ≢ ends.WriteFault → end ≢ ends.OutputFault → (end ≡ ends.SwapFault → Rose old.chain.faults new.chain.faults) → HasFaults (Err end) old new
-    at end read write put rose = record {
-      read = λ e. absurd (read (cc));
-      write = λ e. absurd (write (cc));
-      put = λ e. absurd (put (cc));
-      swap = λ e. rose (cc);
-      reads = omega (arith, reads);
-      writes = omega (arith, writes);
-      puts = omega (arith, puts);
-      chain = continues;
-    }
+    at : (end : End) → only_swap (Err end) ≡ true → (end ≡ ends.SwapFault → Rose old.chain.faults new.chain.faults) → HasFaults (Err end) old new
+    at end only rose = faults_of_swap (Err end) old new only (λ e. rose (cc)) (omega (arith, reads)) (omega (arith, writes)) (omega (arith, puts)) continues
 
     by : (lower : RenderRefused) → can lower → HasFaults (end_of {A = Unit {0}} (Err (stop_of (by_render lower)))) old new
-    by render_refusals.UnknownNode cause = at ends.Refused (λ e. cc) (λ e. cc) (λ e. cc) (λ e. absurd (cc))
-    by render_refusals.Rect cause = at ends.Refused (λ e. cc) (λ e. cc) (λ e. cc) (λ e. absurd (cc))
-    by (render_refusals.Strip needed capacity) cause = at ends.Refused (λ e. cc) (λ e. cc) (λ e. cc) (λ e. absurd (cc))
-    by render_refusals.SwapFault cause = at ends.SwapFault (λ e. cc) (λ e. cc) (λ e. cc) (λ e. swap cause)
-    by (render_refusals.SwapFull needed longest) cause = at ends.SwapFull (λ e. cc) (λ e. cc) (λ e. cc) (λ e. absurd (cc))
-    by render_refusals.NoMemory cause = at ends.NoMemory (λ e. cc) (λ e. cc) (λ e. cc) (λ e. absurd (cc))
+    by render_refusals.UnknownNode cause = at ends.Refused refl (λ e. absurd (cc))
+    by render_refusals.Rect cause = at ends.Refused refl (λ e. absurd (cc))
+    by (render_refusals.Strip needed capacity) cause = at ends.Refused refl (λ e. absurd (cc))
+    by render_refusals.SwapFault cause = at ends.SwapFault refl (λ e. swap cause)
+    by (render_refusals.SwapFull needed longest) cause = at ends.SwapFull refl (λ e. absurd (cc))
+    by render_refusals.NoMemory cause = at ends.NoMemory refl (λ e. absurd (cc))

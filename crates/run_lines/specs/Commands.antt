@@ -11,8 +11,6 @@ use Rattle.script_read.specs.Limits.{IsInLimits}
 use Rattle.script_read.specs.declared.command.Command.{Command}
 use Rattle.script_read.specs.declared.command.Command.TheVariants as commands
 use Rattle.script_read.specs.declared.command.Line.{Line}
-use Rattle.script_read.specs.declared.command.OpWords.{OpWords}
-use Rattle.script_read.specs.declared.command.OpWords.TheVariants as words
 
 -- the edit of buffers that a command is, without what is read of the shelf
 abbrev pub edit_of : Command → Option BufferEdit
@@ -40,11 +38,6 @@ is_grab command = false
 abbrev pub is_render : Command → Bool
 is_render (commands.Render name level rect target) = true
 is_render command = false
-
--- the samples of a buffer, and so no operation
-abbrev pub is_source : OpWords → Bool
-is_source (words.Source buffer) = true
-is_source operation = false
 
 -- a commit, an undo or a redo
 abbrev pub is_step : Command → Bool

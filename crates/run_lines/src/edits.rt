@@ -20,16 +20,15 @@ use chain_contracts::TileChain;
 use commit_session::SessionState;
 use model_buffers::BufferEdit;
 use model_operations::IntOp;
-use pixel_formats::{Format, PixelSamples};
+use no_memory::NoMemory;
+use pixel_formats::Format;
 use plane_rect::{Name, Rect};
 use script_read::{Command, Line};
-use std::alloc::{AllocError, Global};
 use std::thread::Threads;
 use worker_pieces::Workers;
 
 /// Carries out a line that edits buffers.
 pub(crate) fn edit<C: TileChain, R: Threads + Sync>(
-    alloc: Global,
     line: &Line,
     session: &mut SessionState<IntOp>,
     chain: &mut C,
@@ -51,7 +50,7 @@ pub(crate) fn edit<C: TileChain, R: Threads + Sync>(
     ensures loans { C.loans chain.new ≡ C.loans chain.old }
     ensures valid { C.is_valid chain.old → C.is_valid chain.new }
 {
-    let made = edit_by(alloc, &line.command)?;
+    let made = edit_by(&line.command)?;
     session.edit(chain, &made, workers)?;
     Ok(())
 }
@@ -60,8 +59,8 @@ pub(crate) fn edit<C: TileChain, R: Threads + Sync>(
 ///
 /// # Errors
 ///
-/// Fails if memory runs out.
-fn edit_by(alloc: Global, command: &Command) -> Result<BufferEdit, AllocError>
+/// `NoMemory` if memory runs out.
+fn edit_by(command: &Command) -> Result<BufferEdit, NoMemory>
     requires limits { IsInLimits command.now }
     requires edit { IsSome (edit_of command.now) }
     ensures edit { IfOk result (λ edit. edit_of command.now ≡ Some edit) }
@@ -78,7 +77,14 @@ fn edit_by(alloc: Global, command: &Command) -> Result<BufferEdit, AllocError>
             name,
             rect,
             samples,
-        } => fill(alloc, *name, *rect, samples),
+        } => {
+            let samples = samples.clone()?;
+            Ok(BufferEdit::Fill {
+                name: *name,
+                rect: *rect,
+                samples,
+            })
+        }
         Command::Copy {
             from,
             to,
@@ -119,25 +125,4 @@ fn sub(name: Name, parent: Name, rect: Rect) -> BufferEdit
     // `first_column` is called as for a root of its own.
     let _ = rect.first_column();
     BufferEdit::Sub { name, parent, rect }
-}
-
-/// Returns the edit that writes a pixel at each position of a rectangle of a buffer.
-///
-/// # Errors
-///
-/// Fails if memory runs out.
-fn fill(
-    alloc: Global,
-    name: Name,
-    rect: Rect,
-    samples: &PixelSamples,
-) -> Result<BufferEdit, AllocError>
-    ensures { IfOk result (λ edit. edit ≡ BufferEdit.Fill name rect samples.now) }
-{
-    let samples = PixelSamples::new(samples.as_slice().to_vec(alloc)?);
-    Ok(BufferEdit::Fill {
-        name,
-        rect,
-        samples,
-    })
 }

@@ -135,8 +135,8 @@ fn carry_out_command<C: TileChain, F: Shelf, O: Sink, R: Threads + Sync>(
         Command::Load { .. } => load(line, session, chain, shelf, workers),
         Command::Grab { .. } => grab(alloc, line, session, chain, shelf, out),
         Command::Render { .. } => render(alloc, line, session, chain, shelf, out, workers),
-        Command::Node { .. } | Command::Drop { .. } => note(alloc, line, session),
+        Command::Node { .. } | Command::Drop { .. } => note(line, session),
         Command::Commit | Command::Undo | Command::Redo => step(line, session, chain),
-        _ => edit(alloc, line, session, chain, workers),
+        _ => edit(line, session, chain, workers),
     }
 }

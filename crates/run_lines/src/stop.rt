@@ -12,10 +12,10 @@ use graph_edits::GraphRefused;
 use model_buffers::EditRefused;
 use model_runs::End;
 use model_states::StateRefused;
+use no_memory::NoMemory;
 use render_workers::RenderRefused;
 use run_texts::Cause;
 use script_read::ScriptCause;
-use std::alloc::AllocError;
 use swap_store::SwapRefused;
 
 /// Why a line isn't carried out: it is refused, and its text is still to be put, or the run ends.
@@ -46,10 +46,10 @@ impl From<End> for Stop {
     }
 }
 
-impl From<AllocError> for Stop {
+impl From<NoMemory> for Stop {
     ghost from_gives = { λ _ stop. stop ≡ stops.Ended ends.NoMemory };
 
-    fn from(_error: AllocError) -> Stop {
+    fn from(_error: NoMemory) -> Stop {
         Stop::Ended(End::NoMemory)
     }
 }

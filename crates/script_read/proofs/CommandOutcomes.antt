@@ -5,12 +5,12 @@ use Rattle.plane_rect.specs.Rectangle.{Rectangle}
 use Rattle.pixel_formats.specs.Limits.{max_frames, max_level, max_viewers}
 use Rattle.pixel_formats.specs.declared.abyss.Abyss.{Abyss}
 use Rattle.pixel_formats.specs.declared.format.Format.{Format}
-use Rattle.script_fields.specs.Fields.{◌>>=◌, count, count_in, file_at, format_at, level_rect_of, move_at, name_at, natural_at, policy_at, prefix_at, rect_numbers_at, rect_of, samples_from, watched_rect_of, word_at}
+use Rattle.script_fields.specs.Fields.{count, count_in, file_at, format_at, level_rect_of, move_at, name_at, natural_at, policy_at, prefix_at, rect_numbers_at, rect_of, samples_from, watched_rect_of, word_at}
 use Rattle.script_fields.specs.declared.cause.ScriptCause.{ScriptCause}
 use Rattle.script_fields.specs.declared.cause.ScriptCause.TheVariants as causes
 use Rattle.script_fields.specs.declared.fields.RectNumbers.{RectNumbers}
 use Rattle.script_read.specs.CommandGrammars.{alone_grammar, buffer_grammar, copy_grammar, drop_node_grammar, dup_grammar, fill_grammar, grab_grammar, load_grammar, render_grammar, sub_grammar, watch_grammar, words_of_count}
-use Rattle.script_read.specs.Commands.{alone, buffer, copy, drop_node, dup, fill, grab, load, render, sub, watch}
+use Rattle.script_read.specs.Commands.{alone, buffer, copy, drop_node, dup, fill, grab, load, render, sub, watch, with_field}
 use Rattle.script_read.specs.Grammar.{Field, Grammar, OfLevel, Plain, Watched, all_fit, area_refused, coordinates, file, format, if_read, is_refused, move, name, names_fit, natural, policy, prefix, samples_on}
 use Rattle.script_read.specs.declared.command.Command.{Command}
 use Rattle.script_read.specs.declared.command.Command.TheVariants.{Buffer, Copy, Drop, Dup, Fill, Grab, Load, Render, Sub, Watch}
@@ -45,14 +45,14 @@ module _ (words : List (List ℕ)) (next : Command → Verdict) (rest : Verdict)
   abbrev names_left : Grammar → Verdict
   names_left grammar = guard (names_fit grammar words) causes.Name (area_left grammar)
 
-  -- a command of so many words: a name, another field and a rectangle
-  with_field : {A : Type 0} (number index : ℕ) (field : Field) (read : Result A ScriptCause) (make : List ℕ → A → Rectangle → Command)
+  -- a name, another field and a rectangle
+  with_field-outcome : {A : Type 0} (index : ℕ) (field : Field) (read : Result A ScriptCause) (make : List ℕ → A → Rectangle → Command)
       → Guards read (field.fits (word_at words field.index)) causes.Name → ((name : List ℕ) (value : A) (rect : Rectangle) → next (make name value rect) ≡ rest)
-      → outcome next (count number words >>= (λ _. rect_numbers_at words index >>= (λ numbers. name_at words 1 >>= (λ name. read >>= (λ value. rect_of numbers >>= (λ rect. Ok (make name value rect)))))))
-      ≡ lowest_by (words_of_count number (coordinates index) (name 1 ∷ field ∷ []) (Plain index)) words rest
-  with_field number index field read make guards same =
-      let grammar : Grammar = words_of_count number (coordinates index) (name 1 ∷ field ∷ []) (Plain index) in
-      outcome-step (count number words) _ _ _ next _ (guards-count number words) (λ _ _.
+      → outcome next (with_field index read make words)
+      ≡ lowest_by (words_of_count 7 (coordinates index) (name 1 ∷ field ∷ []) (Plain index)) words rest
+  with_field-outcome index field read make guards same =
+      let grammar : Grammar = words_of_count 7 (coordinates index) (name 1 ∷ field ∷ []) (Plain index) in
+      outcome-step (count 7 words) _ _ _ next _ (guards-count 7 words) (λ _ _.
       outcome-step (rect_numbers_at words index) _ _ _ next _ (guards-numbers words index) (λ numbers are.
       outcome-step (name_at words 1) _ _ _ next _ (guards-name words 1) (λ name _.
       outcome-step read _ _ _ next _ guards (λ value _.
@@ -64,11 +64,11 @@ module _ (words : List (List ℕ)) (next : Command → Verdict) (rest : Verdict)
 
   -- `buffer B FORMAT X Y W H`
   pub buffer-outcome : ((name : List ℕ) (format : Format) (rect : Rectangle) → next (Buffer name format rect) ≡ rest) → outcome next (buffer words) ≡ lowest_by buffer_grammar words rest
-  buffer-outcome = with_field 7 3 (format 2) (format_at words 2) (λ name format rect. Buffer name format rect) (guards-format words 2)
+  buffer-outcome = with_field-outcome 3 (format 2) (format_at words 2) (λ name format rect. Buffer name format rect) (guards-format words 2)
 
   -- `sub B PARENT X Y W H`
   pub sub-outcome : ((name parent : List ℕ) (rect : Rectangle) → next (Sub name parent rect) ≡ rest) → outcome next (sub words) ≡ lowest_by sub_grammar words rest
-  sub-outcome = with_field 7 3 (name 2) (name_at words 2) (λ name parent rect. Sub name parent rect) (guards-name words 2)
+  sub-outcome = with_field-outcome 3 (name 2) (name_at words 2) (λ name parent rect. Sub name parent rect) (guards-name words 2)
 
   -- `dup B FROM`
   pub dup-outcome : ((name from : List ℕ) → next (Dup name from) ≡ rest) → outcome next (dup words) ≡ lowest_by dup_grammar words rest
@@ -82,7 +82,7 @@ module _ (words : List (List ℕ)) (next : Command → Verdict) (rest : Verdict)
 
   -- `load B X Y W H FILE`
   pub load-outcome : ((name : List ℕ) (rect : Rectangle) (file : List ℕ) → next (Load name rect file) ≡ rest) → outcome next (load words) ≡ lowest_by load_grammar words rest
-  load-outcome same = with_field 7 2 (file 6) (file_at words 6) (λ name file rect. Load name rect file) (guards-file words 6) (λ name file rect. same name rect file)
+  load-outcome same = with_field-outcome 2 (file 6) (file_at words 6) (λ name file rect. Load name rect file) (guards-file words 6) (λ name file rect. same name rect file)
 
   -- `fill B X Y W H S..`
   pub fill-outcome : ((name : List ℕ) (rect : Rectangle) (samples : List ℕ) → next (Fill name rect samples) ≡ rest) → outcome next (fill words) ≡ lowest_by fill_grammar words rest

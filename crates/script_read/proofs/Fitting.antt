@@ -7,13 +7,15 @@ use Rattle.script_fields.proofs.FieldsBack.{small-move}
 use Rattle.script_fields.proofs.Fitting.{AreBounded, Fits, fields_fit, fits_append, fits_weaker, names_fit, samples_fit, size, size-cons}
 use Rattle.script_fields.specs.Spelling.{AreValid, words_of_fields}
 use Rattle.script_read.specs.Keywords.{keyword_word}
-use Rattle.script_read.specs.Limits.{InRange, IsInLimits, input_count}
+use Rattle.script_read.specs.Limits.{AreInRange, InRange, IsInLimits, input_count}
 use Rattle.script_read.specs.OperationWords.{operation_word}
-use Rattle.script_read.specs.Spelling.{HasValidFields, arguments, fields_of, keyword, list_words, operation_words, samples_in, command_words, word_of}
+use Rattle.script_read.specs.Spelling.{HasValidFields, arguments, operation_arguments, fields_of, keyword, list_words, operation_words, samples_in, command_words, word_of}
 use Rattle.script_read.specs.declared.command.Command.{Command}
 use Rattle.script_read.specs.declared.command.Command.TheVariants.{Buffer, Sub, Dup, Load, Fill, Copy, Node, Drop, Commit, Undo, Redo, Render, Grab, Watch, EndWatch}
 use Rattle.script_read.specs.declared.command.OpWords.{OpWords}
-use Rattle.script_read.specs.declared.command.OpWords.TheVariants.{Source, Color, Checker, Convert, Invert, Threshold, Gain, Translate, Crop, Flip, BoxMean, Dilate, Erode, Add, Over, Mask}
+use Rattle.script_read.specs.declared.command.OpWords.TheVariants.{Source, Compute}
+use Rattle.model_operations.specs.declared.operation.IntOp.{IntOp}
+use Rattle.model_operations.specs.declared.operation.IntOp.TheVariants.{Color, Checker, Convert, Invert, Threshold, Gain, Translate, Crop, Flip, BoxMean, Dilate, Erode, Add, Over, Mask}
 use Rattle.script_read.specs.declared.keyword.Keyword.{Keyword}
 use Rattle.script_read.specs.declared.keyword.Keyword.TheVariants as keywords
 use Rattle.script_read.specs.declared.operation_word.OperationWord.{OperationWord}
@@ -26,34 +28,35 @@ operation_word_fits operations.Source = (refl, omega arith)
 operation_word_fits _ = (refl, omega arith)
 
 -- an operation has at most 5 arguments but samples, whose numbers have at most 10 digits
+operation_bounded : (op : IntOp) → AreInRange op → AreBounded (operation_arguments op) × (length (operation_arguments op) ≤ 5)
+operation_bounded (Color format rect samples) range = ((tt, (tt, tt)), omega arith)
+operation_bounded (Checker format rect size v1 v2) range = ((tt, (tt, (omega (arith, range.1.1), (omega (arith, range.2), (omega (arith, range.3), tt))))), omega arith)
+operation_bounded (Convert format) range = ((tt, tt), omega arith)
+operation_bounded Invert range = (tt, omega arith)
+operation_bounded (Threshold at) range = ((omega (arith, range), tt), omega arith)
+operation_bounded (Gain num den) range = ((omega (arith, range.0), (omega (arith, range.1.1), tt)), omega arith)
+operation_bounded (Translate dx dy) range = ((small-move dx range.0, (small-move dy range.1, tt)), omega arith)
+operation_bounded (Crop rect) range = ((tt, tt), omega arith)
+operation_bounded (Flip sideways) range = ((tt, tt), omega arith)
+operation_bounded (BoxMean radius policy) range = ((omega (arith, range.0.1), (tt, tt)), omega arith)
+operation_bounded (Dilate radius policy) range = ((omega (arith, range.0.1), (tt, tt)), omega arith)
+operation_bounded (Erode radius policy) range = ((omega (arith, range.0.1), (tt, tt)), omega arith)
+operation_bounded Add range = (tt, omega arith)
+operation_bounded Over range = (tt, omega arith)
+operation_bounded Mask range = (tt, omega arith)
+
 arguments_bounded : (op : OpWords) → InRange op → AreBounded (arguments op) × (length (arguments op) ≤ 5)
 arguments_bounded (Source buffer) range = ((tt, tt), omega arith)
-arguments_bounded (Color format rect samples) range = ((tt, (tt, tt)), omega arith)
-arguments_bounded (Checker format rect size v1 v2) range = ((tt, (tt, (omega (arith, range.1.1), (omega (arith, range.2), (omega (arith, range.3), tt))))), omega arith)
-arguments_bounded (Convert format) range = ((tt, tt), omega arith)
-arguments_bounded Invert range = (tt, omega arith)
-arguments_bounded (Threshold at) range = ((omega (arith, range), tt), omega arith)
-arguments_bounded (Gain num den) range = ((omega (arith, range.0), (omega (arith, range.1.1), tt)), omega arith)
-arguments_bounded (Translate dx dy) range = ((small-move dx range.0, (small-move dy range.1, tt)), omega arith)
-arguments_bounded (Crop rect) range = ((tt, tt), omega arith)
-arguments_bounded (Flip sideways) range = ((tt, tt), omega arith)
-arguments_bounded (BoxMean radius policy) range = ((omega (arith, range.0.1), (tt, tt)), omega arith)
-arguments_bounded (Dilate radius policy) range = ((omega (arith, range.0.1), (tt, tt)), omega arith)
-arguments_bounded (Erode radius policy) range = ((omega (arith, range.0.1), (tt, tt)), omega arith)
-arguments_bounded Add range = (tt, omega arith)
-arguments_bounded Over range = (tt, omega arith)
-arguments_bounded Mask range = (tt, omega arith)
+arguments_bounded (Compute op) range = operation_bounded op range
 
 samples_in_fit : (op : OpWords) → InRange op → Fits (map decimal (samples_in op)) 44
-samples_in_fit (Color format rect samples) range =
+samples_in_fit (Compute (Color format rect samples)) range =
     let few : length samples ≤ 4 = range.1.number.1 in
     fits_weaker (map decimal samples) (11 * length samples) 44 (omega arith) (samples_fit samples range.1.each)
 samples_in_fit op range = (refl, omega arith)
 
 few_inputs : (op : OpWords) → input_count op ≤ 2
-few_inputs Add = omega arith
-few_inputs Over = omega arith
-few_inputs Mask = omega arith
+few_inputs (Compute Add) = omega arith
 few_inputs op = omega arith
 
 operation_fits : (op : OpWords) → InRange op → AreValid (arguments op) → Fits (operation_words op) 379

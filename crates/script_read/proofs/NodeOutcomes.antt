@@ -9,11 +9,13 @@ use Rattle.script_fields.specs.declared.cause.ScriptCause.{ScriptCause}
 use Rattle.script_fields.specs.declared.cause.ScriptCause.TheVariants as causes
 use Rattle.script_read.specs.CommandGrammars.{color_grammar, node_of_count, operation_grammar}
 use Rattle.script_read.specs.Grammar.{Field, Grammar, NoArea, Plain, all_fit, area_policy, area_refused, coordinates, direction, format, move, name, names_fit, natural, sample, samples_on}
-use Rattle.script_read.specs.Nodes.{area_of, bare, checker, color, convert, crop, ends_from, flip, gain, node_by, node_of, source, threshold, translate}
+use Rattle.script_read.specs.Nodes.{area_node, area_of, area_operation, bare, checker, color, computed, convert, crop, ends_from, flip, gain, node_by, node_of, source, threshold, translate}
 use Rattle.script_read.specs.declared.command.Command.{Command}
 use Rattle.script_read.specs.declared.command.Command.TheVariants.{Node}
 use Rattle.script_read.specs.declared.command.OpWords.{OpWords}
-use Rattle.script_read.specs.declared.command.OpWords.TheVariants.{Source, Color, Checker, Convert, Invert, Threshold, Gain, Translate, Crop, Flip, BoxMean, Dilate, Erode, Add, Over, Mask}
+use Rattle.script_read.specs.declared.command.OpWords.TheVariants.{Source, Compute}
+use Rattle.model_operations.specs.declared.operation.IntOp.{IntOp}
+use Rattle.model_operations.specs.declared.operation.IntOp.TheVariants.{Color, Checker, Convert, Invert, Threshold, Gain, Translate, Crop, Flip, Add, Over, Mask}
 use Rattle.script_read.specs.declared.nodes.Area.{Area}
 use Rattle.script_read.specs.declared.operation_word.OperationWord.{OperationWord}
 use Rattle.script_read.specs.declared.operation_word.OperationWord.TheVariants as operations
@@ -98,14 +100,14 @@ module _ (words : List (List ℕ)) (next : Command → Verdict) (rest : Verdict)
       outcome-step (ends_from 11 words) _ _ _ next _ (guards-ends words 11) (λ ends _.
       outcome-step (format_at words 3) _ _ _ next _ (guards-format words 3) (λ format _.
       outcome-step (rect_of numbers) _ _ _ next _ (guards-rect numbers) (λ rect _.
-      same ends.name (Checker format rect size v1 v2) ends.inputs)
+      same ends.name (Compute (Checker format rect size v1 v2)) ends.inputs)
       ∙ plain_area words 4 numbers rest are))
       ∙ ends_before (is_name (word_at words 1)) (list_all is_name (drop 11 words)) ((format 3).fits (word_at words 3)) causes.Name (area_left grammar)))))
       ∙ three_after (all_fit (coordinates 4) words) ((natural 1 max_checker_size 8).fits (word_at words 8)) ((sample 9).fits (word_at words 9)) ((sample 10).fits (word_at words 10)) causes.Number (names_left grammar))
 
   -- `node N convert FORMAT IN`
   convert-outcome : outcome next (convert words) ≡ lowest_by (node_of_count 5 [] (format 3 ∷ []) 4 NoArea) words rest
-  convert-outcome = with_choice 5 4 (format 3) (format_at words 3) (λ format. Convert format) (guards-format words 3)
+  convert-outcome = with_choice 5 4 (format 3) (format_at words 3) (λ format. Compute (Convert format)) (guards-format words 3)
 
   -- `node N threshold T IN`
   threshold-outcome : outcome next (threshold words) ≡ lowest_by (node_of_count 5 (sample 3 ∷ []) [] 4 NoArea) words rest
@@ -114,18 +116,18 @@ module _ (words : List (List ℕ)) (next : Command → Verdict) (rest : Verdict)
       outcome-step (count 5 words) _ _ _ next _ (guards-count 5 words) (λ _ _.
       outcome-step (sample_at words 3) _ _ _ next _ (guards-sample words 3) (λ level _.
       outcome-step (ends_from 4 words) _ _ _ next _ (guards-ends words 4) (λ ends _.
-      same ends.name (Threshold level) ends.inputs
+      same ends.name (Compute (Threshold level)) ends.inputs
       )
       ∙ ends_alone (is_name (word_at words 1)) (list_all is_name (drop 4 words)) causes.Name (area_left grammar))
       ∙ one_field ((sample 3).fits (word_at words 3)) causes.Number (names_left grammar))
 
   -- `node N gain NUM DEN IN`
   gain-outcome : outcome next (gain words) ≡ lowest_by (node_of_count 6 (sample 3 ∷ natural 1 max_sample 4 ∷ []) [] 5 NoArea) words rest
-  gain-outcome = with_numbers (sample 3) (natural 1 max_sample 4) (sample_at words 3) (natural_at 1 max_sample words 4) (λ num den. Gain num den) (guards-sample words 3) (guards-natural 1 max_sample words 4)
+  gain-outcome = with_numbers (sample 3) (natural 1 max_sample 4) (sample_at words 3) (natural_at 1 max_sample words 4) (λ num den. Compute (Gain num den)) (guards-sample words 3) (guards-natural 1 max_sample words 4)
 
   -- `node N translate DX DY IN`
   translate-outcome : outcome next (translate words) ≡ lowest_by (node_of_count 6 (move 3 ∷ move 4 ∷ []) [] 5 NoArea) words rest
-  translate-outcome = with_numbers (move 3) (move 4) (move_at words 3) (move_at words 4) (λ dx dy. Translate dx dy) (guards-move words 3) (guards-move words 4)
+  translate-outcome = with_numbers (move 3) (move 4) (move_at words 3) (move_at words 4) (λ dx dy. Compute (Translate dx dy)) (guards-move words 3) (guards-move words 4)
 
   -- `node N crop X Y W H IN`
   crop-outcome : outcome next (crop words) ≡ lowest_by (node_of_count 8 (coordinates 3) [] 7 (Plain 3)) words rest
@@ -135,14 +137,14 @@ module _ (words : List (List ℕ)) (next : Command → Verdict) (rest : Verdict)
       outcome-step (rect_numbers_at words 3) _ _ _ next _ (guards-numbers words 3) (λ numbers are.
       outcome-step (ends_from 7 words) _ _ _ next _ (guards-ends words 7) (λ ends _.
       outcome-step (rect_of numbers) _ _ _ next _ (guards-rect numbers) (λ rect _.
-      same ends.name (Crop rect) ends.inputs)
+      same ends.name (Compute (Crop rect)) ends.inputs)
       ∙ plain_area words 3 numbers rest are)
       ∙ ends_alone (is_name (word_at words 1)) (list_all is_name (drop 7 words)) causes.Name (area_left grammar))
       ∙ all_of (all_fit (coordinates 3) words) causes.Number (names_left grammar))
 
   -- `node N flip h IN` and `node N flip v IN`
   flip-outcome : outcome next (flip words) ≡ lowest_by (node_of_count 5 [] (direction 3 ∷ []) 4 NoArea) words rest
-  flip-outcome = with_choice 5 4 (direction 3) (sideways_at words 3) (λ sideways. Flip sideways) (guards-direction words 3)
+  flip-outcome = with_choice 5 4 (direction 3) (sideways_at words 3) (λ sideways. Compute (Flip sideways)) (guards-direction words 3)
 
   -- `node N color FORMAT X Y W H S..`
   color-outcome : outcome next (color words) ≡ lowest_by color_grammar words rest
@@ -154,17 +156,23 @@ module _ (words : List (List ℕ)) (next : Command → Verdict) (rest : Verdict)
       outcome-step (ends_from (length words) words) _ _ _ next _ (guards-ends words (length words)) (λ ends _.
       outcome-step (format_at words 3) _ _ _ next _ (guards-format words 3) (λ format _.
       outcome-step (rect_of numbers) _ _ _ next _ (guards-rect numbers) (λ rect _.
-      same ends.name (Color format rect samples) ends.inputs)
+      same ends.name (Compute (Color format rect samples)) ends.inputs)
       ∙ plain_area words 4 numbers rest are))
       ∙ no_inputs words ((format 3).fits (word_at words 3)) (area_left grammar)))
       ∙ rest_after (all_fit (coordinates 4) words) (list_all (samples_on 8).fits (drop 8 words)) causes.Number (names_left grammar))
 
   -- an operation without arguments, of so many inputs
-  bare-outcome : (op : OpWords) (number : ℕ) → outcome next (bare op number words) ≡ lowest_by (node_of_count number [] [] 3 NoArea) words rest
+  bare-outcome : (op : IntOp) (number : ℕ) → outcome next (bare op number words) ≡ lowest_by (node_of_count number [] [] 3 NoArea) words rest
   bare-outcome op number =
       outcome-step (count number words) _ _ _ next _ (guards-count number words) (λ _ _.
-      outcome-step (ends_from 3 words) _ _ _ next _ (guards-ends words 3) (λ ends _. same ends.name op ends.inputs)
+      outcome-step (ends_from 3 words) _ _ _ next _ (guards-ends words 3) (λ ends _. same ends.name (Compute op) ends.inputs)
       ∙ ends_alone (is_name (word_at words 1)) (list_all is_name (drop 3 words)) causes.Name rest)
+
+  -- `node N OP R ABYSS IN` of an area operation, by its word
+  area_node-outcome : (word : OperationWord) → outcome next (area_node word words) ≡ lowest_by (node_of_count 6 (natural 1 max_radius 3 ∷ []) (area_policy 4 ∷ []) 5 NoArea) words rest
+  area_node-outcome word =
+      outcome-bind (area_of words) _ next
+      ∙ area-outcome words (λ area. next (computed area.ends (area_operation word area.radius area.abyss))) rest (λ area. same _ _ _)
 
 -- the node of an operation
 pub node_by-outcome : (operation : OperationWord) (words : List (List ℕ)) (next : Command → Verdict) (rest : Verdict)
@@ -181,15 +189,9 @@ node_by-outcome operations.Gain words next rest same = gain-outcome words next r
 node_by-outcome operations.Translate words next rest same = translate-outcome words next rest same
 node_by-outcome operations.Crop words next rest same = crop-outcome words next rest same
 node_by-outcome operations.Flip words next rest same = flip-outcome words next rest same
-node_by-outcome operations.BoxMean words next rest same =
-    outcome-bind (area_of words) _ next
-    ∙ area-outcome words (λ area. next (node_of area.ends (BoxMean area.radius area.abyss))) rest (λ area. same _ _ _)
-node_by-outcome operations.Dilate words next rest same =
-    outcome-bind (area_of words) _ next
-    ∙ area-outcome words (λ area. next (node_of area.ends (Dilate area.radius area.abyss))) rest (λ area. same _ _ _)
-node_by-outcome operations.Erode words next rest same =
-    outcome-bind (area_of words) _ next
-    ∙ area-outcome words (λ area. next (node_of area.ends (Erode area.radius area.abyss))) rest (λ area. same _ _ _)
+node_by-outcome operations.BoxMean words next rest same = area_node-outcome words next rest same operations.BoxMean
+node_by-outcome operations.Dilate words next rest same = area_node-outcome words next rest same operations.Dilate
+node_by-outcome operations.Erode words next rest same = area_node-outcome words next rest same operations.Erode
 node_by-outcome operations.Add words next rest same = bare-outcome words next rest same Add 5
 node_by-outcome operations.Over words next rest same = bare-outcome words next rest same Over 5
 node_by-outcome operations.Mask words next rest same = bare-outcome words next rest same Mask 5

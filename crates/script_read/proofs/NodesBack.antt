@@ -15,7 +15,8 @@ use Rattle.script_fields.specs.Spelling.{AreValid, AreNames}
 use Rattle.script_read.specs.Spelling.{arguments, operation_words, word_of}
 use Rattle.script_read.specs.declared.command.Command.TheVariants.{Node}
 use Rattle.script_read.specs.declared.command.OpWords.{OpWords}
-use Rattle.script_read.specs.declared.command.OpWords.TheVariants.{Source, Color, Checker, Convert, Invert, Threshold, Gain, Translate, Crop, Flip, BoxMean, Dilate, Erode, Add, Over, Mask}
+use Rattle.script_read.specs.declared.command.OpWords.TheVariants.{Source, Compute}
+use Rattle.model_operations.specs.declared.operation.IntOp.TheVariants.{Color, Checker, Convert, Invert, Threshold, Gain, Translate, Crop, Flip, BoxMean, Dilate, Erode, Add, Over, Mask}
 use Rattle.script_read.specs.declared.keyword.Keyword.TheVariants as keywords
 use Rattle.script_read.specs.declared.operation_word.OperationWord.{OperationWord}
 use Rattle.script_read.specs.declared.operation_word.OperationWord.TheVariants as operations
@@ -68,8 +69,8 @@ unfolding node_by
 op_read name (Source buffer) inputs named range are number names = with_none inputs (IsRead name (Source buffer)) number
     (let words = node_words name (Source buffer) [] in
     rw (ends_from-ends 4 words name [] refl refl named tt, name_of-name buffer are.0) refl)
-op_read name (Color format rect samples) inputs named range are number names = with_none inputs (IsRead name (Color format rect samples)) number
-    (let words = node_words name (Color format rect samples) [] in
+op_read name (Compute (Color format rect samples)) inputs named range are number names = with_none inputs (IsRead name (Compute (Color format rect samples))) number
+    (let words = node_words name (Compute (Color format rect samples)) [] in
     let pixel : length samples ≤ 4 = range.1.number.1 in
     let some : 1 ≤ length samples = range.1.number.0 in
     let count : length (map decimal samples ++ []) ≡ length samples = ap (λ (all : List (List ℕ)). length all) (append-nil (map decimal samples)) ∙ length-map samples decimal in
@@ -82,8 +83,8 @@ op_read name (Color format rect samples) inputs named range are number names = w
       format_at-word words 3 format refl,
       rect_of-numbers rect are.1.0 range.0,
     ) refl)
-op_read name (Checker format rect size v1 v2) inputs named range are number names = with_none inputs (IsRead name (Checker format rect size v1 v2)) number
-    (let words = node_words name (Checker format rect size v1 v2) [] in
+op_read name (Compute (Checker format rect size v1 v2)) inputs named range are number names = with_none inputs (IsRead name (Compute (Checker format rect size v1 v2))) number
+    (let words = node_words name (Compute (Checker format rect size v1 v2)) [] in
     rw (
       rect_numbers_at-rect words 4 rect are.1.0 refl refl refl refl,
       natural_at-decimal 1 max_checker_size words 8 size refl range.1.0 range.1.1 (omega (arith, range.1.1)),
@@ -93,47 +94,47 @@ op_read name (Checker format rect size v1 v2) inputs named range are number name
       format_at-word words 3 format refl,
       rect_of-numbers rect are.1.0 range.0,
     ) refl)
-op_read name (Convert format) inputs named range are number names = with_one inputs (IsRead name (Convert format)) number names (λ input ok.
-    let words = node_words name (Convert format) (input ∷ []) in
+op_read name (Compute (Convert format)) inputs named range are number names = with_one inputs (IsRead name (Compute (Convert format))) number names (λ input ok.
+    let words = node_words name (Compute (Convert format)) (input ∷ []) in
     rw (ends_from-ends 4 words name (input ∷ []) refl refl named ok, format_at-word words 3 format refl) refl)
-op_read name Invert inputs named range are number names = with_one inputs (IsRead name Invert) number names (λ input ok.
-    let words = node_words name Invert (input ∷ []) in
+op_read name (Compute Invert) inputs named range are number names = with_one inputs (IsRead name (Compute Invert)) number names (λ input ok.
+    let words = node_words name (Compute Invert) (input ∷ []) in
     rw (ends_from-ends 3 words name (input ∷ []) refl refl named ok) refl)
-op_read name (Threshold at) inputs named range are number names = with_one inputs (IsRead name (Threshold at)) number names (λ input ok.
-    let words = node_words name (Threshold at) (input ∷ []) in
+op_read name (Compute (Threshold at)) inputs named range are number names = with_one inputs (IsRead name (Compute (Threshold at))) number names (λ input ok.
+    let words = node_words name (Compute (Threshold at)) (input ∷ []) in
     rw (sample_of-decimal at range, ends_from-ends 4 words name (input ∷ []) refl refl named ok) refl)
-op_read name (Gain num den) inputs named range are number names = with_one inputs (IsRead name (Gain num den)) number names (λ input ok.
-    let words = node_words name (Gain num den) (input ∷ []) in
+op_read name (Compute (Gain num den)) inputs named range are number names = with_one inputs (IsRead name (Compute (Gain num den))) number names (λ input ok.
+    let words = node_words name (Compute (Gain num den)) (input ∷ []) in
     rw (sample_of-decimal num range.0, natural_at-decimal 1 65535 words 4 den refl range.1.0 range.1.1 (omega (arith, range.1.1)), ends_from-ends 5 words name (input ∷ []) refl refl named ok) refl)
-op_read name (Translate dx dy) inputs named range are number names = with_one inputs (IsRead name (Translate dx dy)) number names (λ input ok.
-    let words = node_words name (Translate dx dy) (input ∷ []) in
+op_read name (Compute (Translate dx dy)) inputs named range are number names = with_one inputs (IsRead name (Compute (Translate dx dy))) number names (λ input ok.
+    let words = node_words name (Compute (Translate dx dy)) (input ∷ []) in
     rw (move_at-signed words 3 dx refl range.0, move_at-signed words 4 dy refl range.1, ends_from-ends 5 words name (input ∷ []) refl refl named ok) refl)
-op_read name (Crop rect) inputs named range are number names = with_one inputs (IsRead name (Crop rect)) number names (λ input ok.
-    let words = node_words name (Crop rect) (input ∷ []) in
+op_read name (Compute (Crop rect)) inputs named range are number names = with_one inputs (IsRead name (Compute (Crop rect))) number names (λ input ok.
+    let words = node_words name (Compute (Crop rect)) (input ∷ []) in
     rw (rect_numbers_at-rect words 3 rect are.0 refl refl refl refl, ends_from-ends 7 words name (input ∷ []) refl refl named ok, rect_of-numbers rect are.0 range) refl)
-op_read name (Flip true) inputs named range are number names = with_one inputs (IsRead name (Flip true)) number names (λ input ok.
-    let words = node_words name (Flip true) (input ∷ []) in
+op_read name (Compute (Flip true)) inputs named range are number names = with_one inputs (IsRead name (Compute (Flip true))) number names (λ input ok.
+    let words = node_words name (Compute (Flip true)) (input ∷ []) in
     rw (ends_from-ends 4 words name (input ∷ []) refl refl named ok, sideways_at-word words 3 true refl) refl)
-op_read name (Flip false) inputs named range are number names = with_one inputs (IsRead name (Flip false)) number names (λ input ok.
-    let words = node_words name (Flip false) (input ∷ []) in
+op_read name (Compute (Flip false)) inputs named range are number names = with_one inputs (IsRead name (Compute (Flip false))) number names (λ input ok.
+    let words = node_words name (Compute (Flip false)) (input ∷ []) in
     rw (ends_from-ends 4 words name (input ∷ []) refl refl named ok, sideways_at-word words 3 false refl) refl)
-op_read name (BoxMean radius policy) inputs named range are number names = with_one inputs (IsRead name (BoxMean radius policy)) number names (λ input ok.
-    let words = node_words name (BoxMean radius policy) (input ∷ []) in
+op_read name (Compute (BoxMean radius policy)) inputs named range are number names = with_one inputs (IsRead name (Compute (BoxMean radius policy))) number names (λ input ok.
+    let words = node_words name (Compute (BoxMean radius policy)) (input ∷ []) in
     rw (natural_at-decimal 1 max_radius words 3 radius refl range.0.0 range.0.1 (omega (arith, range.0.1)), ends_from-ends 5 words name (input ∷ []) refl refl named ok, near_policy_at-word words 4 policy refl range.1) refl)
-op_read name (Dilate radius policy) inputs named range are number names = with_one inputs (IsRead name (Dilate radius policy)) number names (λ input ok.
-    let words = node_words name (Dilate radius policy) (input ∷ []) in
+op_read name (Compute (Dilate radius policy)) inputs named range are number names = with_one inputs (IsRead name (Compute (Dilate radius policy))) number names (λ input ok.
+    let words = node_words name (Compute (Dilate radius policy)) (input ∷ []) in
     rw (natural_at-decimal 1 max_radius words 3 radius refl range.0.0 range.0.1 (omega (arith, range.0.1)), ends_from-ends 5 words name (input ∷ []) refl refl named ok, near_policy_at-word words 4 policy refl range.1) refl)
-op_read name (Erode radius policy) inputs named range are number names = with_one inputs (IsRead name (Erode radius policy)) number names (λ input ok.
-    let words = node_words name (Erode radius policy) (input ∷ []) in
+op_read name (Compute (Erode radius policy)) inputs named range are number names = with_one inputs (IsRead name (Compute (Erode radius policy))) number names (λ input ok.
+    let words = node_words name (Compute (Erode radius policy)) (input ∷ []) in
     rw (natural_at-decimal 1 max_radius words 3 radius refl range.0.0 range.0.1 (omega (arith, range.0.1)), ends_from-ends 5 words name (input ∷ []) refl refl named ok, near_policy_at-word words 4 policy refl range.1) refl)
-op_read name Add inputs named range are number names = with_two inputs (IsRead name Add) number names (λ first second ok.
-    let words = node_words name Add (first ∷ second ∷ []) in
+op_read name (Compute Add) inputs named range are number names = with_two inputs (IsRead name (Compute Add)) number names (λ first second ok.
+    let words = node_words name (Compute Add) (first ∷ second ∷ []) in
     rw (ends_from-ends 3 words name (first ∷ second ∷ []) refl refl named ok) refl)
-op_read name Over inputs named range are number names = with_two inputs (IsRead name Over) number names (λ first second ok.
-    let words = node_words name Over (first ∷ second ∷ []) in
+op_read name (Compute Over) inputs named range are number names = with_two inputs (IsRead name (Compute Over)) number names (λ first second ok.
+    let words = node_words name (Compute Over) (first ∷ second ∷ []) in
     rw (ends_from-ends 3 words name (first ∷ second ∷ []) refl refl named ok) refl)
-op_read name Mask inputs named range are number names = with_two inputs (IsRead name Mask) number names (λ first second ok.
-    let words = node_words name Mask (first ∷ second ∷ []) in
+op_read name (Compute Mask) inputs named range are number names = with_two inputs (IsRead name (Compute Mask)) number names (λ first second ok.
+    let words = node_words name (Compute Mask) (first ∷ second ∷ []) in
     rw (ends_from-ends 3 words name (first ∷ second ∷ []) refl refl named ok) refl)
 
 pub node_read : (name : List ℕ) (op : OpWords) (inputs : List (List ℕ)) → InRange op → length inputs ≡ input_count op → IsTrue (is_name name) →

@@ -4,28 +4,27 @@ use Rattle.std.specs.Prelude.{ℕ, List, Result, Ok}
 use Rattle.script_fields.specs.Fields.{◌>>=◌, count, count_in, natural_at, move_at, rect_numbers_at, name_at, file_at, prefix_at, format_at, policy_at, rect_of, level_rect_of, watched_rect_of, samples_from}
 use Rattle.script_fields.specs.declared.cause.ScriptCause.{ScriptCause}
 use Rattle.pixel_formats.specs.Limits.{max_frames, max_level, max_viewers}
+use Rattle.plane_rect.specs.Rectangle.{Rectangle}
 use Rattle.script_read.specs.declared.command.Command.{Command}
 use Rattle.script_read.specs.declared.command.Command.TheVariants.{Buffer, Sub, Dup, Load, Fill, Copy, Drop, Render, Grab, Watch}
 
+-- a command of 7 words: a name, another field and a rectangle, whose numbers begin at a word
+abbrev pub with_field : {A : Type 0} → ℕ → Result A ScriptCause → (List ℕ → A → Rectangle → Command) → List (List ℕ) → Result Command ScriptCause
+with_field index field make words = do
+  _ ← count 7 words
+  numbers ← rect_numbers_at words index
+  name ← name_at words 1
+  value ← field
+  rect ← rect_of numbers
+  Ok (make name value rect)
+
 -- `buffer B FORMAT X Y W H`
 abbrev pub buffer : List (List ℕ) → Result Command ScriptCause
-buffer words = do
-  _ ← count 7 words
-  numbers ← rect_numbers_at words 3
-  name ← name_at words 1
-  format ← format_at words 2
-  rect ← rect_of numbers
-  Ok (Buffer name format rect)
+buffer words = with_field 3 (format_at words 2) (λ name format rect. Buffer name format rect) words
 
 -- `sub B PARENT X Y W H`
 abbrev pub sub : List (List ℕ) → Result Command ScriptCause
-sub words = do
-  _ ← count 7 words
-  numbers ← rect_numbers_at words 3
-  name ← name_at words 1
-  parent ← name_at words 2
-  rect ← rect_of numbers
-  Ok (Sub name parent rect)
+sub words = with_field 3 (name_at words 2) (λ name parent rect. Sub name parent rect) words
 
 -- `dup B FROM`
 abbrev pub dup : List (List ℕ) → Result Command ScriptCause
@@ -37,13 +36,7 @@ dup words = do
 
 -- `load B X Y W H FILE`
 abbrev pub load : List (List ℕ) → Result Command ScriptCause
-load words = do
-  _ ← count 7 words
-  numbers ← rect_numbers_at words 2
-  name ← name_at words 1
-  file ← file_at words 6
-  rect ← rect_of numbers
-  Ok (Load name rect file)
+load words = with_field 2 (file_at words 6) (λ name file rect. Load name rect file) words
 
 -- `fill B X Y W H S..`, 1 to 4 samples
 abbrev pub fill : List (List ℕ) → Result Command ScriptCause

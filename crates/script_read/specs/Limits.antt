@@ -6,31 +6,34 @@ use Rattle.pixel_formats.specs.Limits.{ArePixel, IsArea, IsIn, IsMove, IsSample,
 use Rattle.script_read.specs.declared.command.Command.{Command}
 use Rattle.script_read.specs.declared.command.Command.TheVariants.{Buffer, Sub, Load, Fill, Copy, Node, Render, Grab, Watch}
 use Rattle.script_read.specs.declared.command.OpWords.{OpWords}
-use Rattle.script_read.specs.declared.command.OpWords.TheVariants.{Source, Color, Checker, Threshold, Gain, Translate, Crop, BoxMean, Dilate, Erode, Add, Over, Mask}
+use Rattle.script_read.specs.declared.command.OpWords.TheVariants.{Source, Compute}
+use Rattle.model_operations.specs.Inputs.{input_count as inputs_of}
+use Rattle.model_operations.specs.declared.operation.IntOp.{IntOp}
+use Rattle.model_operations.specs.declared.operation.IntOp.TheVariants.{Color, Checker, Threshold, Gain, Translate, Crop, BoxMean, Dilate, Erode}
 
--- how many inputs an operation has
+-- how many inputs a node has
 abbrev pub input_count : OpWords → ℕ
 input_count (Source buffer) = 0
-input_count (Color format rect samples) = 0
-input_count (Checker format rect size v1 v2) = 0
-input_count Add = 2
-input_count Over = 2
-input_count Mask = 2
-input_count op = 1
+input_count (Compute op) = inputs_of op
 
 -- the arguments of an operation are in their ranges
-abbrev pub InRange : OpWords → Type 0
-InRange (Color format rect samples) = IsTrue (in_limits rect) × ArePixel samples
-InRange (Checker format rect size v1 v2) =
+abbrev pub AreInRange : IntOp → Type 0
+AreInRange (Color format rect samples) = IsTrue (in_limits rect) × ArePixel samples
+AreInRange (Checker format rect size v1 v2) =
     IsTrue (in_limits rect) × IsIn 1 max_checker_size size × IsSample v1 × IsSample v2
-InRange (Threshold at) = IsSample at
-InRange (Gain num den) = IsSample num × IsIn 1 max_sample den
-InRange (Translate dx dy) = IsMove dx × IsMove dy
-InRange (Crop rect) = IsTrue (in_limits rect)
-InRange (BoxMean radius policy) = IsArea radius policy
-InRange (Dilate radius policy) = IsArea radius policy
-InRange (Erode radius policy) = IsArea radius policy
-InRange op = Unit {0}
+AreInRange (Threshold at) = IsSample at
+AreInRange (Gain num den) = IsSample num × IsIn 1 max_sample den
+AreInRange (Translate dx dy) = IsMove dx × IsMove dy
+AreInRange (Crop rect) = IsTrue (in_limits rect)
+AreInRange (BoxMean radius policy) = IsArea radius policy
+AreInRange (Dilate radius policy) = IsArea radius policy
+AreInRange (Erode radius policy) = IsArea radius policy
+AreInRange op = Unit {0}
+
+-- the arguments of what a node does are in their ranges
+abbrev pub InRange : OpWords → Type 0
+InRange (Source buffer) = Unit {0}
+InRange (Compute op) = AreInRange op
 
 -- The numbers of a command are in their ranges, its rectangle is one that it may have, and a node has its inputs.
 abbrev pub IsInLimits : Command → Type 0

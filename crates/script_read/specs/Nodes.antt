@@ -2,6 +2,7 @@
 use Rattle.std.specs.Prelude.{ℕ, nat_lt, List, length, Result, Ok}
 use Rattle.std.specs.Option.{ok_or}
 use Rattle.script_fields.specs.Fields.{◌>>=◌, word_at, passed, count, count_in, natural_at, sample_at, move_at, rect_numbers_at, name_at, format_at, near_policy_at, sideways_at, rect_of, names_from, samples_from}
+use Rattle.pixel_formats.specs.declared.abyss.Abyss.{Abyss}
 use Rattle.pixel_formats.specs.Limits.{max_checker_size, max_radius, max_sample}
 use Rattle.script_read.specs.OperationWords.{operation_of}
 use Rattle.script_read.specs.declared.operation_word.OperationWord.{OperationWord}
@@ -13,7 +14,9 @@ use Rattle.script_fields.specs.declared.cause.ScriptCause.TheVariants as causes
 use Rattle.script_read.specs.declared.command.Command.{Command}
 use Rattle.script_read.specs.declared.command.Command.TheVariants.{Node}
 use Rattle.script_read.specs.declared.command.OpWords.{OpWords}
-use Rattle.script_read.specs.declared.command.OpWords.TheVariants.{Source, Color, Checker, Convert, Invert, Threshold, Gain, Translate, Crop, Flip, BoxMean, Dilate, Erode, Add, Over, Mask}
+use Rattle.script_read.specs.declared.command.OpWords.TheVariants.{Source, Compute}
+use Rattle.model_operations.specs.declared.operation.IntOp.{IntOp}
+use Rattle.model_operations.specs.declared.operation.IntOp.TheVariants.{Color, Checker, Convert, Invert, Threshold, Gain, Translate, Crop, Flip, BoxMean, Dilate, Erode, Add, Over, Mask}
 
 -- the name of the node, and its inputs from a word on
 unfoldable pub ends_from : ℕ → List (List ℕ) → Result Ends ScriptCause
@@ -22,9 +25,13 @@ ends_from index words = do
   inputs ← names_from index words
   Ok (record { name = name; inputs = inputs })
 
--- the node of an operation
+-- the node that does this
 abbrev pub node_of : Ends → OpWords → Command
 node_of ends op = Node ends.name op ends.inputs
+
+-- that of an operation on images
+abbrev pub computed : Ends → IntOp → Command
+computed ends op = node_of ends (Compute op)
 
 -- `node N source BUFFER`
 abbrev pub source : List (List ℕ) → Result Command ScriptCause
@@ -43,7 +50,7 @@ color words = do
   ends ← ends_from (length words) words
   format ← format_at words 3
   rect ← rect_of numbers
-  Ok (node_of ends (Color format rect samples))
+  Ok (computed ends (Color format rect samples))
 
 -- `node N checker FORMAT X Y W H SIZE V1 V2`
 abbrev pub checker : List (List ℕ) → Result Command ScriptCause
@@ -56,7 +63,7 @@ checker words = do
   ends ← ends_from 11 words
   format ← format_at words 3
   rect ← rect_of numbers
-  Ok (node_of ends (Checker format rect size v1 v2))
+  Ok (computed ends (Checker format rect size v1 v2))
 
 -- `node N convert FORMAT IN`
 abbrev pub convert : List (List ℕ) → Result Command ScriptCause
@@ -64,7 +71,7 @@ convert words = do
   _ ← count 5 words
   ends ← ends_from 4 words
   format ← format_at words 3
-  Ok (node_of ends (Convert format))
+  Ok (computed ends (Convert format))
 
 -- `node N threshold T IN`
 abbrev pub threshold : List (List ℕ) → Result Command ScriptCause
@@ -72,7 +79,7 @@ threshold words = do
   _ ← count 5 words
   at ← sample_at words 3
   ends ← ends_from 4 words
-  Ok (node_of ends (Threshold at))
+  Ok (computed ends (Threshold at))
 
 -- `node N gain NUM DEN IN`
 abbrev pub gain : List (List ℕ) → Result Command ScriptCause
@@ -81,7 +88,7 @@ gain words = do
   num ← sample_at words 3
   den ← natural_at 1 max_sample words 4
   ends ← ends_from 5 words
-  Ok (node_of ends (Gain num den))
+  Ok (computed ends (Gain num den))
 
 -- `node N translate DX DY IN`
 abbrev pub translate : List (List ℕ) → Result Command ScriptCause
@@ -90,7 +97,7 @@ translate words = do
   dx ← move_at words 3
   dy ← move_at words 4
   ends ← ends_from 5 words
-  Ok (node_of ends (Translate dx dy))
+  Ok (computed ends (Translate dx dy))
 
 -- `node N crop X Y W H IN`
 abbrev pub crop : List (List ℕ) → Result Command ScriptCause
@@ -99,7 +106,7 @@ crop words = do
   numbers ← rect_numbers_at words 3
   ends ← ends_from 7 words
   rect ← rect_of numbers
-  Ok (node_of ends (Crop rect))
+  Ok (computed ends (Crop rect))
 
 -- `node N flip h IN` and `node N flip v IN`
 abbrev pub flip : List (List ℕ) → Result Command ScriptCause
@@ -107,7 +114,7 @@ flip words = do
   _ ← count 5 words
   ends ← ends_from 4 words
   sideways ← sideways_at words 3
-  Ok (node_of ends (Flip sideways))
+  Ok (computed ends (Flip sideways))
 
 -- `node N OP R ABYSS IN` of an area operation
 abbrev pub area_of : List (List ℕ) → Result Area ScriptCause
@@ -118,25 +125,23 @@ area_of words = do
   policy ← near_policy_at words 4
   Ok (record { ends = ends; radius = radius; abyss = policy })
 
--- `node N box R ABYSS IN`
-abbrev pub box_mean : List (List ℕ) → Result Command ScriptCause
-box_mean words = area_of words >>= λ area. Ok (node_of area.ends (BoxMean area.radius area.abyss))
+-- the area operation of a word: a mean for `box`, a dilation for `dilate`, and else an erosion
+abbrev pub area_operation : OperationWord → ℕ → Abyss → IntOp
+area_operation words_of.BoxMean radius abyss = BoxMean radius abyss
+area_operation words_of.Dilate radius abyss = Dilate radius abyss
+area_operation _ radius abyss = Erode radius abyss
 
--- `node N dilate R ABYSS IN`
-abbrev pub dilate : List (List ℕ) → Result Command ScriptCause
-dilate words = area_of words >>= λ area. Ok (node_of area.ends (Dilate area.radius area.abyss))
-
--- `node N erode R ABYSS IN`
-abbrev pub erode : List (List ℕ) → Result Command ScriptCause
-erode words = area_of words >>= λ area. Ok (node_of area.ends (Erode area.radius area.abyss))
+-- `node N OP R ABYSS IN` of an area operation, by its word
+abbrev pub area_node : OperationWord → List (List ℕ) → Result Command ScriptCause
+area_node word words = area_of words >>= λ area. Ok (computed area.ends (area_operation word area.radius area.abyss))
 
 -- `node N invert IN`, and `add`, `over` and `mask` of two inputs: an operation without arguments, and the number of
 -- its words
-abbrev pub bare : OpWords → ℕ → List (List ℕ) → Result Command ScriptCause
+abbrev pub bare : IntOp → ℕ → List (List ℕ) → Result Command ScriptCause
 bare op number words = do
   _ ← count number words
   ends ← ends_from 3 words
-  Ok (node_of ends op)
+  Ok (computed ends op)
 
 -- the node of an operation
 unfoldable pub node_by : OperationWord → List (List ℕ) → Result Command ScriptCause
@@ -150,9 +155,9 @@ node_by words_of.Gain words = gain words
 node_by words_of.Translate words = translate words
 node_by words_of.Crop words = crop words
 node_by words_of.Flip words = flip words
-node_by words_of.BoxMean words = box_mean words
-node_by words_of.Dilate words = dilate words
-node_by words_of.Erode words = erode words
+node_by words_of.BoxMean words = area_node words_of.BoxMean words
+node_by words_of.Dilate words = area_node words_of.Dilate words
+node_by words_of.Erode words = area_node words_of.Erode words
 node_by words_of.Add words = bare Add 5 words
 node_by words_of.Over words = bare Over 5 words
 node_by words_of.Mask words = bare Mask 5 words

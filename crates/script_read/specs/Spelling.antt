@@ -11,7 +11,9 @@ use Rattle.script_read.specs.OperationWords.{operation_word}
 use Rattle.script_read.specs.declared.command.Command.{Command}
 use Rattle.script_read.specs.declared.command.Command.TheVariants.{Buffer, Sub, Dup, Load, Fill, Copy, Node, Drop, Commit, Undo, Redo, Render, Grab, Watch, EndWatch}
 use Rattle.script_read.specs.declared.command.OpWords.{OpWords}
-use Rattle.script_read.specs.declared.command.OpWords.TheVariants.{Source, Color, Checker, Convert, Invert, Threshold, Gain, Translate, Crop, Flip, BoxMean, Dilate, Erode, Add, Over, Mask}
+use Rattle.script_read.specs.declared.command.OpWords.TheVariants.{Source, Compute}
+use Rattle.model_operations.specs.declared.operation.IntOp.{IntOp}
+use Rattle.model_operations.specs.declared.operation.IntOp.TheVariants.{Color, Checker, Convert, Invert, Threshold, Gain, Translate, Crop, Flip, BoxMean, Dilate, Erode, Add, Over, Mask}
 use Rattle.script_read.specs.declared.command.Line.{Line}
 use Rattle.script_read.specs.declared.keyword.Keyword.{Keyword}
 use Rattle.script_read.specs.declared.keyword.Keyword.TheVariants as keywords
@@ -20,48 +22,56 @@ use Rattle.script_read.specs.declared.operation_word.OperationWord.TheVariants a
 
 -- ---- operations
 
+-- the word of an operation
+abbrev pub word_of_operation : IntOp → OperationWord
+word_of_operation (Color format rect samples) = operations.Color
+word_of_operation (Checker format rect size v1 v2) = operations.Checker
+word_of_operation (Convert format) = operations.Convert
+word_of_operation Invert = operations.Invert
+word_of_operation (Threshold at) = operations.Threshold
+word_of_operation (Gain num den) = operations.Gain
+word_of_operation (Translate dx dy) = operations.Translate
+word_of_operation (Crop rect) = operations.Crop
+word_of_operation (Flip sideways) = operations.Flip
+word_of_operation (BoxMean radius policy) = operations.BoxMean
+word_of_operation (Dilate radius policy) = operations.Dilate
+word_of_operation (Erode radius policy) = operations.Erode
+word_of_operation Add = operations.Add
+word_of_operation Over = operations.Over
+word_of_operation Mask = operations.Mask
+
 -- the third word of a node
 abbrev pub word_of : OpWords → OperationWord
 word_of (Source buffer) = operations.Source
-word_of (Color format rect samples) = operations.Color
-word_of (Checker format rect size v1 v2) = operations.Checker
-word_of (Convert format) = operations.Convert
-word_of Invert = operations.Invert
-word_of (Threshold at) = operations.Threshold
-word_of (Gain num den) = operations.Gain
-word_of (Translate dx dy) = operations.Translate
-word_of (Crop rect) = operations.Crop
-word_of (Flip sideways) = operations.Flip
-word_of (BoxMean radius policy) = operations.BoxMean
-word_of (Dilate radius policy) = operations.Dilate
-word_of (Erode radius policy) = operations.Erode
-word_of Add = operations.Add
-word_of Over = operations.Over
-word_of Mask = operations.Mask
+word_of (Compute op) = word_of_operation op
 
--- the arguments, but samples
+-- the arguments of an operation, but samples
+abbrev pub operation_arguments : IntOp → List Field
+operation_arguments (Color format rect samples) = fields.Format format ∷ fields.Rect rect ∷ []
+operation_arguments (Checker format rect size v1 v2) =
+    fields.Format format ∷ fields.Rect rect ∷ fields.Natural size ∷ fields.Natural v1 ∷ fields.Natural v2 ∷ []
+operation_arguments (Convert format) = fields.Format format ∷ []
+operation_arguments Invert = []
+operation_arguments (Threshold at) = fields.Natural at ∷ []
+operation_arguments (Gain num den) = fields.Natural num ∷ fields.Natural den ∷ []
+operation_arguments (Translate dx dy) = fields.Integer dx ∷ fields.Integer dy ∷ []
+operation_arguments (Crop rect) = fields.Rect rect ∷ []
+operation_arguments (Flip sideways) = fields.Sideways sideways ∷ []
+operation_arguments (BoxMean radius policy) = fields.Natural radius ∷ fields.Policy policy ∷ []
+operation_arguments (Dilate radius policy) = fields.Natural radius ∷ fields.Policy policy ∷ []
+operation_arguments (Erode radius policy) = fields.Natural radius ∷ fields.Policy policy ∷ []
+operation_arguments Add = []
+operation_arguments Over = []
+operation_arguments Mask = []
+
+-- those of what a node does
 abbrev pub arguments : OpWords → List Field
 arguments (Source buffer) = fields.Name buffer ∷ []
-arguments (Color format rect samples) = fields.Format format ∷ fields.Rect rect ∷ []
-arguments (Checker format rect size v1 v2) =
-    fields.Format format ∷ fields.Rect rect ∷ fields.Natural size ∷ fields.Natural v1 ∷ fields.Natural v2 ∷ []
-arguments (Convert format) = fields.Format format ∷ []
-arguments Invert = []
-arguments (Threshold at) = fields.Natural at ∷ []
-arguments (Gain num den) = fields.Natural num ∷ fields.Natural den ∷ []
-arguments (Translate dx dy) = fields.Integer dx ∷ fields.Integer dy ∷ []
-arguments (Crop rect) = fields.Rect rect ∷ []
-arguments (Flip sideways) = fields.Sideways sideways ∷ []
-arguments (BoxMean radius policy) = fields.Natural radius ∷ fields.Policy policy ∷ []
-arguments (Dilate radius policy) = fields.Natural radius ∷ fields.Policy policy ∷ []
-arguments (Erode radius policy) = fields.Natural radius ∷ fields.Policy policy ∷ []
-arguments Add = []
-arguments Over = []
-arguments Mask = []
+arguments (Compute op) = operation_arguments op
 
 -- the samples
 abbrev pub samples_in : OpWords → List ℕ
-samples_in (Color format rect samples) = samples
+samples_in (Compute (Color format rect samples)) = samples
 samples_in op = []
 
 -- the words of an operation and its arguments

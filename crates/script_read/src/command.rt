@@ -2,9 +2,10 @@
 
 use crate::keyword::Keyword;
 use crate::operation_word::OperationWord;
+use model_operations::IntOp;
 use pixel_formats::{Abyss, Format, PixelSamples};
-use plane_rect::{Name, Rect};
-use script_fields::{FileName, Names};
+use plane_rect::{Name, NameList, Rect};
+use script_fields::FileName;
 
 /// A command, and the number of its line in the script, counted from 1.
 #[derive(Drop)]
@@ -59,7 +60,7 @@ pub enum Command {
     Node {
         name: Name,
         op: OpWords,
-        inputs: Names,
+        inputs: NameList,
     },
     /// A node is removed.
     Drop {
@@ -127,62 +128,13 @@ impl Command {
     }
 }
 
-/// What a node does, with its arguments: an operation as the language writes it, or a
-/// buffer's samples.
+/// What a node does, as the language writes it.
 #[derive(Drop)]
 pub enum OpWords {
     /// The samples of a buffer.
-    Source {
-        buffer: Name,
-    },
-    Color {
-        format: Format,
-        rect: Rect,
-        samples: PixelSamples,
-    },
-    Checker {
-        format: Format,
-        rect: Rect,
-        size: u32,
-        v1: u32,
-        v2: u32,
-    },
-    Convert {
-        format: Format,
-    },
-    Invert,
-    Threshold {
-        at: u32,
-    },
-    Gain {
-        num: u32,
-        den: u32,
-    },
-    Translate {
-        dx: i64,
-        dy: i64,
-    },
-    Crop {
-        rect: Rect,
-    },
-    Flip {
-        sideways: bool,
-    },
-    BoxMean {
-        radius: u32,
-        abyss: Abyss,
-    },
-    Dilate {
-        radius: u32,
-        abyss: Abyss,
-    },
-    Erode {
-        radius: u32,
-        abyss: Abyss,
-    },
-    Add,
-    Over,
-    Mask,
+    Source { buffer: Name },
+    /// An operation on the images of the inputs.
+    Compute { op: IntOp },
 }
 
 impl OpWords {
@@ -195,21 +147,7 @@ impl OpWords {
     {
         match self {
             OpWords::Source { .. } => OperationWord::Source,
-            OpWords::Color { .. } => OperationWord::Color,
-            OpWords::Checker { .. } => OperationWord::Checker,
-            OpWords::Convert { .. } => OperationWord::Convert,
-            OpWords::Invert => OperationWord::Invert,
-            OpWords::Threshold { .. } => OperationWord::Threshold,
-            OpWords::Gain { .. } => OperationWord::Gain,
-            OpWords::Translate { .. } => OperationWord::Translate,
-            OpWords::Crop { .. } => OperationWord::Crop,
-            OpWords::Flip { .. } => OperationWord::Flip,
-            OpWords::BoxMean { .. } => OperationWord::BoxMean,
-            OpWords::Dilate { .. } => OperationWord::Dilate,
-            OpWords::Erode { .. } => OperationWord::Erode,
-            OpWords::Add => OperationWord::Add,
-            OpWords::Over => OperationWord::Over,
-            OpWords::Mask => OperationWord::Mask,
+            OpWords::Compute { op } => OperationWord::of(op),
         }
     }
 }

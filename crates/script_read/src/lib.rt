@@ -15,4 +15,4 @@ pub use command::{Command, Line, OpWords};
 pub use limits::is_script;
 pub use printer::print_script;
 pub use reader::read_script;
-pub use script_fields::{FileName, Names, ScriptAnswer, ScriptCause};
+pub use script_fields::{FileName, ScriptAnswer, ScriptCause};

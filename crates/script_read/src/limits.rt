@@ -4,10 +4,11 @@ ghost use Rattle.std.specs.Prelude.{◌≡◌, ◌↔◌, ◌≤◌, IsTrue};
 ghost use Rattle.script_read.specs.IsScript.{IsScript};
 ghost use Rattle.script_fields.specs.Limits.{IsLevelRect};
 ghost use Rattle.pixel_formats.specs.Limits.{ArePixel, IsIn, IsMove, IsSample, IsArea};
-ghost use Rattle.script_read.specs.Limits.{InRange, IsInLimits, input_count};
+ghost use Rattle.script_read.specs.Limits.{AreInRange, InRange, IsInLimits, input_count};
 
 use crate::command::{Command, Line, OpWords};
 use crate::reader::open_after;
+use model_operations::IntOp;
 use pixel_formats::limits::{
     MAX_CHECKER_SIZE, MAX_FRAMES, MAX_LINES, MAX_PREFIX_BYTES, MAX_SAMPLE, MAX_VIEWERS, are_pixel,
     is_area, is_in, is_move,
@@ -74,13 +75,23 @@ fn is_in_limits(command: &Command) -> bool
     }
 }
 
-/// Returns whether the arguments of an operation are in their ranges.
+/// Returns whether the arguments of what a node does are in their ranges.
 fn is_in_range(op: &OpWords) -> bool
     ensures { IsTrue result ↔ InRange op.now }
 {
     match op {
-        OpWords::Color { rect, samples, .. } => rect.in_limits() && are_pixel(samples.as_slice()),
-        OpWords::Checker {
+        OpWords::Source { .. } => true,
+        OpWords::Compute { op } => are_in_range(op),
+    }
+}
+
+/// Returns whether the arguments of an operation are in their ranges.
+fn are_in_range(op: &IntOp) -> bool
+    ensures { IsTrue result ↔ AreInRange op.now }
+{
+    match op {
+        IntOp::Color { rect, samples, .. } => rect.in_limits() && are_pixel(samples.as_slice()),
+        IntOp::Checker {
             rect,
             size,
             v1,
@@ -92,30 +103,34 @@ fn is_in_range(op: &OpWords) -> bool
                 && *v1 <= MAX_SAMPLE
                 && *v2 <= MAX_SAMPLE
         }
-        OpWords::Threshold { at } => *at <= MAX_SAMPLE,
-        OpWords::Gain { num, den } => *num <= MAX_SAMPLE && is_in(1, MAX_SAMPLE, *den),
-        OpWords::Translate { dx, dy } => is_move(*dx) && is_move(*dy),
-        OpWords::Crop { rect } => rect.in_limits(),
-        OpWords::BoxMean { radius, abyss }
-        | OpWords::Dilate { radius, abyss }
-        | OpWords::Erode { radius, abyss } => is_area(*radius, *abyss),
-        OpWords::Source { .. }
-        | OpWords::Convert { .. }
-        | OpWords::Invert
-        | OpWords::Flip { .. }
-        | OpWords::Add
-        | OpWords::Over
-        | OpWords::Mask => true,
+        IntOp::Threshold { at } => *at <= MAX_SAMPLE,
+        IntOp::Gain { num, den } => *num <= MAX_SAMPLE && is_in(1, MAX_SAMPLE, *den),
+        IntOp::Translate { dx, dy } => is_move(*dx) && is_move(*dy),
+        IntOp::Crop { rect } => rect.in_limits(),
+        IntOp::BoxMean { radius, abyss }
+        | IntOp::Dilate { radius, abyss }
+        | IntOp::Erode { radius, abyss } => is_area(*radius, *abyss),
+        IntOp::Convert { .. }
+        | IntOp::Invert
+        | IntOp::Flip { .. }
+        | IntOp::Add
+        | IntOp::Over
+        | IntOp::Mask => true,
     }
 }
 
-/// Returns how many inputs an operation has.
+/// Returns how many inputs a node has.
 fn input_count(op: &OpWords) -> usize
     ensures { result ≡ input_count op.now }
 {
     match op {
-        OpWords::Source { .. } | OpWords::Color { .. } | OpWords::Checker { .. } => 0,
-        OpWords::Add | OpWords::Over | OpWords::Mask => 2,
-        _ => 1,
+        OpWords::Source { .. }
+        | OpWords::Compute {
+            op: IntOp::Color { .. } | IntOp::Checker { .. },
+        } => 0,
+        OpWords::Compute {
+            op: IntOp::Add | IntOp::Over | IntOp::Mask,
+        } => 2,
+        OpWords::Compute { .. } => 1,
     }
 }

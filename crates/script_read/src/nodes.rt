@@ -6,17 +6,19 @@
 ghost use Rattle.std.specs.Prelude.{◌≡◌, ◌+◌, ◌≤◌, ◌<◌, IfOk, length};
 ghost use Rattle.script_fields.specs.Answers.{Answers};
 ghost use Rattle.script_fields.specs.Fields.{texts};
-ghost use Rattle.script_read.specs.Limits.{InRange, IsInLimits, input_count};
-ghost use Rattle.script_read.specs.Nodes.{bare, box_mean, checker, color, convert, crop, dilate, ends_from, erode, flip, gain, node, node_by, node_of, source, threshold, translate};
+ghost use Rattle.model_operations.specs.Inputs.{input_count as inputs_of};
+ghost use Rattle.script_read.specs.Limits.{AreInRange, IsInLimits};
+ghost use Rattle.script_read.specs.Nodes.{area_node, area_operation, bare, checker, color, convert, crop, flip, gain, node, node_by, source, threshold, translate};
 
 use crate::command::{Command, OpWords};
 use crate::operation_word::OperationWord;
+use model_operations::IntOp;
 use pixel_formats::Abyss;
 use pixel_formats::limits::{MAX_CHECKER_SIZE, MAX_RADIUS, MAX_SAMPLE};
-use plane_rect::Name;
+use plane_rect::{Name, NameList};
 use script_fields::{
-    LineAnswer, Names, ScriptCause, count, count_in, format_at, move_at, name_at, names_from,
-    natural_at, near_policy_at, rect_numbers_at, sample_at, samples_from, sideways_at, word_at,
+    LineAnswer, ScriptCause, count, count_in, format_at, move_at, name_at, names_from, natural_at,
+    near_policy_at, rect_numbers_at, sample_at, samples_from, sideways_at, word_at,
 };
 use std::alloc::Global;
 
@@ -24,15 +26,16 @@ use std::alloc::Global;
 #[derive(Drop)]
 pub(crate) struct Ends {
     pub name: Name,
-    pub inputs: Names,
+    pub inputs: NameList,
 }
 
 impl Ends {
     ghost use Rattle.std.specs.Prelude.{◌≡◌, ◌+◌, ◌≤◌, ◌<◌, ◌∷◌, IfOk, length};
     ghost use Rattle.script_fields.specs.Answers.{Answers};
     ghost use Rattle.script_fields.specs.Fields.{texts};
-    ghost use Rattle.script_read.specs.Limits.{InRange, IsInLimits, input_count};
-    ghost use Rattle.script_read.specs.Nodes.{ends_from, node_of};
+    ghost use Rattle.model_operations.specs.Inputs.{input_count as inputs_of};
+    ghost use Rattle.script_read.specs.Limits.{AreInRange, InRange, IsInLimits, input_count};
+    ghost use Rattle.script_read.specs.Nodes.{computed, ends_from, node_of};
 
     /// Reads the name of the node, and its inputs from an index on.
     #[tactic(auto, unfolding(crate::specs::Nodes::ends_from))]
@@ -47,7 +50,7 @@ impl Ends {
         Ok(Ends { name, inputs })
     }
 
-    /// Returns the node of an operation.
+    /// Returns the node that does this.
     fn node(self, op: OpWords) -> Command
         requires range { InRange op }
         requires inputs { length self.inputs ≡ input_count op }
@@ -59,6 +62,16 @@ impl Ends {
             op,
             inputs: self.inputs,
         }
+    }
+
+    /// Returns the node of an operation on images.
+    fn compute(self, op: IntOp) -> Command
+        requires range { AreInRange op }
+        requires inputs { length self.inputs ≡ inputs_of op }
+        ensures value { result ≡ computed self op }
+        ensures limits { IsInLimits result }
+    {
+        self.node(OpWords::Compute { op })
     }
 }
 
@@ -119,32 +132,32 @@ fn node_by(alloc: Global, operation: OperationWord, words: &[&[u8]]) -> Result<C
         OperationWord::Color => color(alloc, words),
         OperationWord::Checker => checker(alloc, words),
         OperationWord::Convert => convert(alloc, words),
-        OperationWord::Invert => bare(alloc, OpWords::Invert, 4, words),
+        OperationWord::Invert => bare(alloc, IntOp::Invert, 4, words),
         OperationWord::Threshold => threshold(alloc, words),
         OperationWord::Gain => gain(alloc, words),
         OperationWord::Translate => translate(alloc, words),
         OperationWord::Crop => crop(alloc, words),
         OperationWord::Flip => flip(alloc, words),
-        OperationWord::BoxMean => box_mean(alloc, words),
-        OperationWord::Dilate => dilate(alloc, words),
-        OperationWord::Erode => erode(alloc, words),
-        OperationWord::Add => bare(alloc, OpWords::Add, 5, words),
-        OperationWord::Over => bare(alloc, OpWords::Over, 5, words),
-        OperationWord::Mask => bare(alloc, OpWords::Mask, 5, words),
+        OperationWord::BoxMean | OperationWord::Dilate | OperationWord::Erode => {
+            area_node(alloc, operation, words)
+        }
+        OperationWord::Add => bare(alloc, IntOp::Add, 5, words),
+        OperationWord::Over => bare(alloc, IntOp::Over, 5, words),
+        OperationWord::Mask => bare(alloc, IntOp::Mask, 5, words),
     }
 }
 
 /// Reads a node of an operation without arguments, of so many words: `node N invert IN`, or `add`,
 /// `over` or `mask` of two inputs.
-fn bare(alloc: Global, op: OpWords, number: usize, words: &[&[u8]]) -> Result<Command, LineAnswer>
-    requires range { InRange op }
-    requires number { number ≡ 3 + input_count op }
+fn bare(alloc: Global, op: IntOp, number: usize, words: &[&[u8]]) -> Result<Command, LineAnswer>
+    requires range { AreInRange op }
+    requires number { number ≡ 3 + inputs_of op }
     ensures value { Answers result (bare op number (texts words.now)) }
     ensures limits { IfOk result IsInLimits }
 {
     count(number, words)?;
     let ends = Ends::parse(alloc, 3, words)?;
-    Ok(ends.node(op))
+    Ok(ends.compute(op))
 }
 
 /// Reads `node N source BUFFER`.
@@ -169,7 +182,7 @@ fn color(alloc: Global, words: &[&[u8]]) -> Result<Command, LineAnswer>
     let ends = Ends::parse(alloc, words.len(), words)?;
     let format = format_at(words, 3)?;
     let rect = numbers.rect()?;
-    Ok(ends.node(OpWords::Color {
+    Ok(ends.compute(IntOp::Color {
         format,
         rect,
         samples,
@@ -189,7 +202,7 @@ fn checker(alloc: Global, words: &[&[u8]]) -> Result<Command, LineAnswer>
     let ends = Ends::parse(alloc, 11, words)?;
     let format = format_at(words, 3)?;
     let rect = numbers.rect()?;
-    Ok(ends.node(OpWords::Checker {
+    Ok(ends.compute(IntOp::Checker {
         format,
         rect,
         size,
@@ -206,7 +219,7 @@ fn convert(alloc: Global, words: &[&[u8]]) -> Result<Command, LineAnswer>
     count(5, words)?;
     let ends = Ends::parse(alloc, 4, words)?;
     let format = format_at(words, 3)?;
-    Ok(ends.node(OpWords::Convert { format }))
+    Ok(ends.compute(IntOp::Convert { format }))
 }
 
 /// Reads `node N threshold T IN`.
@@ -217,7 +230,7 @@ fn threshold(alloc: Global, words: &[&[u8]]) -> Result<Command, LineAnswer>
     count(5, words)?;
     let at = sample_at(words, 3)?;
     let ends = Ends::parse(alloc, 4, words)?;
-    Ok(ends.node(OpWords::Threshold { at }))
+    Ok(ends.compute(IntOp::Threshold { at }))
 }
 
 /// Reads `node N gain NUM DEN IN`.
@@ -229,7 +242,7 @@ fn gain(alloc: Global, words: &[&[u8]]) -> Result<Command, LineAnswer>
     let num = sample_at(words, 3)?;
     let den = natural_at(1, MAX_SAMPLE, words, 4)?;
     let ends = Ends::parse(alloc, 5, words)?;
-    Ok(ends.node(OpWords::Gain { num, den }))
+    Ok(ends.compute(IntOp::Gain { num, den }))
 }
 
 /// Reads `node N translate DX DY IN`.
@@ -241,7 +254,7 @@ fn translate(alloc: Global, words: &[&[u8]]) -> Result<Command, LineAnswer>
     let dx = move_at(words, 3)?;
     let dy = move_at(words, 4)?;
     let ends = Ends::parse(alloc, 5, words)?;
-    Ok(ends.node(OpWords::Translate { dx, dy }))
+    Ok(ends.compute(IntOp::Translate { dx, dy }))
 }
 
 /// Reads `node N crop X Y W H IN`.
@@ -253,7 +266,7 @@ fn crop(alloc: Global, words: &[&[u8]]) -> Result<Command, LineAnswer>
     let numbers = rect_numbers_at(words, 3)?;
     let ends = Ends::parse(alloc, 7, words)?;
     let rect = numbers.rect()?;
-    Ok(ends.node(OpWords::Crop { rect }))
+    Ok(ends.compute(IntOp::Crop { rect }))
 }
 
 /// Reads `node N flip h IN` and `node N flip v IN`.
@@ -264,12 +277,12 @@ fn flip(alloc: Global, words: &[&[u8]]) -> Result<Command, LineAnswer>
     count(5, words)?;
     let ends = Ends::parse(alloc, 4, words)?;
     let sideways = sideways_at(words, 3)?;
-    Ok(ends.node(OpWords::Flip { sideways }))
+    Ok(ends.compute(IntOp::Flip { sideways }))
 }
 
-/// Reads `node N box R ABYSS IN`.
-fn box_mean(alloc: Global, words: &[&[u8]]) -> Result<Command, LineAnswer>
-    ensures value { Answers result (box_mean (texts words.now)) }
+/// Reads `node N OP R ABYSS IN` of an area operation, by its word.
+fn area_node(alloc: Global, word: OperationWord, words: &[&[u8]]) -> Result<Command, LineAnswer>
+    ensures value { Answers result (area_node word (texts words.now)) }
     ensures limits { IfOk result IsInLimits }
 {
     let Area {
@@ -277,31 +290,17 @@ fn box_mean(alloc: Global, words: &[&[u8]]) -> Result<Command, LineAnswer>
         radius,
         abyss,
     } = Area::parse(alloc, words)?;
-    Ok(ends.node(OpWords::BoxMean { radius, abyss }))
+    Ok(ends.compute(area_operation(word, radius, abyss)))
 }
 
-/// Reads `node N dilate R ABYSS IN`.
-fn dilate(alloc: Global, words: &[&[u8]]) -> Result<Command, LineAnswer>
-    ensures value { Answers result (dilate (texts words.now)) }
-    ensures limits { IfOk result IsInLimits }
+/// Returns the area operation of a word: a mean for `box`, a dilation for `dilate`, and else an
+/// erosion.
+fn area_operation(word: OperationWord, radius: u32, abyss: Abyss) -> IntOp
+    ensures { result ≡ area_operation word radius abyss }
 {
-    let Area {
-        ends,
-        radius,
-        abyss,
-    } = Area::parse(alloc, words)?;
-    Ok(ends.node(OpWords::Dilate { radius, abyss }))
-}
-
-/// Reads `node N erode R ABYSS IN`.
-fn erode(alloc: Global, words: &[&[u8]]) -> Result<Command, LineAnswer>
-    ensures value { Answers result (erode (texts words.now)) }
-    ensures limits { IfOk result IsInLimits }
-{
-    let Area {
-        ends,
-        radius,
-        abyss,
-    } = Area::parse(alloc, words)?;
-    Ok(ends.node(OpWords::Erode { radius, abyss }))
+    match word {
+        OperationWord::BoxMean => IntOp::BoxMean { radius, abyss },
+        OperationWord::Dilate => IntOp::Dilate { radius, abyss },
+        _ => IntOp::Erode { radius, abyss },
+    }
 }

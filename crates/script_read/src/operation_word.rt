@@ -3,6 +3,9 @@
 ghost use Rattle.std.specs.Prelude.{◌≡◌};
 ghost use Rattle.std.specs.Str.{bytes_eq};
 ghost use Rattle.script_read.specs.OperationWords.{operation_of, operation_word};
+ghost use Rattle.script_read.specs.Spelling.{word_of_operation};
+
+use model_operations::IntOp;
 
 /// The third word of a node.
 #[derive(Clone, Copy, Debug, PartialEq, Eq)]
@@ -55,6 +58,29 @@ impl OperationWord {
             .iter()
             .copied()
             .find(|operation| operation.is(word))
+    }
+
+    /// Returns the word of an operation.
+    pub fn of(op: &IntOp) -> OperationWord
+        ensures { result ≡ word_of_operation op.now }
+    {
+        match op {
+            IntOp::Color { .. } => OperationWord::Color,
+            IntOp::Checker { .. } => OperationWord::Checker,
+            IntOp::Convert { .. } => OperationWord::Convert,
+            IntOp::Invert => OperationWord::Invert,
+            IntOp::Threshold { .. } => OperationWord::Threshold,
+            IntOp::Gain { .. } => OperationWord::Gain,
+            IntOp::Translate { .. } => OperationWord::Translate,
+            IntOp::Crop { .. } => OperationWord::Crop,
+            IntOp::Flip { .. } => OperationWord::Flip,
+            IntOp::BoxMean { .. } => OperationWord::BoxMean,
+            IntOp::Dilate { .. } => OperationWord::Dilate,
+            IntOp::Erode { .. } => OperationWord::Erode,
+            IntOp::Add => OperationWord::Add,
+            IntOp::Over => OperationWord::Over,
+            IntOp::Mask => OperationWord::Mask,
+        }
     }
 
     /// Returns whether it is this word.

@@ -5,9 +5,10 @@ ghost use Rattle.script_words.specs.Words.{joined, spaced};
 ghost use Rattle.script_fields.specs.Spelling.{AreValid, words_of_fields};
 ghost use Rattle.script_read.specs.IsScript.{IsScript};
 ghost use Rattle.script_read.specs.Script.{script_of};
-ghost use Rattle.script_read.specs.Spelling.{HasValidFields, arguments, fields_of, list_words, operation_words, output_fields, printed, samples_in, command_words};
+ghost use Rattle.script_read.specs.Spelling.{HasValidFields, arguments, fields_of, list_words, operation_arguments, operation_words, output_fields, printed, samples_in, command_words};
 
 use crate::command::{Command, Line, OpWords};
+use model_operations::IntOp;
 use no_memory::NoMemory;
 use script_fields::Field::{File, Format, Integer, Name, Natural, Policy, Rect, Sideways};
 use script_fields::{put_fields, put_names, put_samples};
@@ -157,15 +158,25 @@ fn put_operation(text: &mut Vec<u8>, op: &OpWords) -> Result<(), NoMemory>
     put_samples_in(text, op)
 }
 
-/// Appends the arguments of an operation to a text, but samples, each word after a space.
+/// Appends the buffer of a source, or the arguments of an operation but samples, to a text, each word after a space.
 fn put_arguments(text: &mut Vec<u8>, op: &OpWords) -> Result<(), NoMemory>
     ensures text { OnOk result (text.new.items ≡ text.old.items ++ spaced (words_of_fields (arguments op.now))) }
     ensures valid { OnOk result (AreValid (arguments op.now)) }
 {
     match op {
         OpWords::Source { buffer } => put_fields(text, &[Name(*buffer)]),
-        OpWords::Color { format, rect, .. } => put_fields(text, &[Format(*format), Rect(*rect)]),
-        OpWords::Checker {
+        OpWords::Compute { op } => put_operation_arguments(text, op),
+    }
+}
+
+/// Appends the arguments of an operation to a text, but samples, each word after a space.
+fn put_operation_arguments(text: &mut Vec<u8>, op: &IntOp) -> Result<(), NoMemory>
+    ensures text { OnOk result (text.new.items ≡ text.old.items ++ spaced (words_of_fields (operation_arguments op.now))) }
+    ensures valid { OnOk result (AreValid (operation_arguments op.now)) }
+{
+    match op {
+        IntOp::Color { format, rect, .. } => put_fields(text, &[Format(*format), Rect(*rect)]),
+        IntOp::Checker {
             format,
             rect,
             size,
@@ -175,18 +186,18 @@ fn put_arguments(text: &mut Vec<u8>, op: &OpWords) -> Result<(), NoMemory>
             put_fields(text, &[Format(*format), Rect(*rect)])?;
             put_fields(text, &[Natural(*size), Natural(*v1), Natural(*v2)])
         }
-        OpWords::Convert { format } => put_fields(text, &[Format(*format)]),
-        OpWords::Threshold { at } => put_fields(text, &[Natural(*at)]),
-        OpWords::Gain { num, den } => put_fields(text, &[Natural(*num), Natural(*den)]),
-        OpWords::Translate { dx, dy } => put_fields(text, &[Integer(*dx), Integer(*dy)]),
-        OpWords::Crop { rect } => put_fields(text, &[Rect(*rect)]),
-        OpWords::Flip { sideways } => put_fields(text, &[Sideways(*sideways)]),
-        OpWords::BoxMean { radius, abyss }
-        | OpWords::Dilate { radius, abyss }
-        | OpWords::Erode { radius, abyss } => {
+        IntOp::Convert { format } => put_fields(text, &[Format(*format)]),
+        IntOp::Threshold { at } => put_fields(text, &[Natural(*at)]),
+        IntOp::Gain { num, den } => put_fields(text, &[Natural(*num), Natural(*den)]),
+        IntOp::Translate { dx, dy } => put_fields(text, &[Integer(*dx), Integer(*dy)]),
+        IntOp::Crop { rect } => put_fields(text, &[Rect(*rect)]),
+        IntOp::Flip { sideways } => put_fields(text, &[Sideways(*sideways)]),
+        IntOp::BoxMean { radius, abyss }
+        | IntOp::Dilate { radius, abyss }
+        | IntOp::Erode { radius, abyss } => {
             put_fields(text, &[Natural(*radius), Policy(*abyss)])
         }
-        OpWords::Invert | OpWords::Add | OpWords::Over | OpWords::Mask => Ok(()),
+        IntOp::Invert | IntOp::Add | IntOp::Over | IntOp::Mask => Ok(()),
     }
 }
 
@@ -195,7 +206,9 @@ fn put_samples_in(text: &mut Vec<u8>, op: &OpWords) -> Result<(), NoMemory>
     ensures { OnOk result (text.new.items ≡ text.old.items ++ spaced (map decimal (samples_in op.now))) }
 {
     match op {
-        OpWords::Color { samples, .. } => put_samples(text, samples.as_slice()),
+        OpWords::Compute {
+            op: IntOp::Color { samples, .. },
+        } => put_samples(text, samples.as_slice()),
         _ => Ok(()),
     }
 }

@@ -1,6 +1,7 @@
 //! The tests.
 
 use crate::cases::{FIRST_RUN, PRINTED, REFUSED};
+use model_operations::IntOp;
 use pixel_formats::Format;
 use plane_rect::{Name, Rect};
 use script_read::{Command, Line, OpWords, ScriptAnswer, is_script, print_script, read_script};
@@ -73,7 +74,7 @@ fn the_first_run_has_six_commands(rt: HostRuntime) -> Result<(), Fail> {
         matches!(&lines[2].command, Command::Node { op: OpWords::Source { buffer }, inputs, .. } if *buffer == a && inputs.as_slice().is_empty())
     );
     assert!(rt;
-        matches!(&lines[3].command, Command::Node { op: OpWords::Invert, inputs, .. } if inputs.as_slice().len() == 1)
+        matches!(&lines[3].command, Command::Node { op: OpWords::Compute { op: IntOp::Invert }, inputs, .. } if inputs.as_slice().len() == 1)
     );
     assert!(rt; matches!(&lines[4].command, Command::Commit));
     assert!(rt;

@@ -2,7 +2,7 @@ use Rattle.std.proofs.Common.{Result, Ok, Err, refl, subst}
 use Rattle.model_runs.specs.State.{Effect}
 use Rattle.model_runs.specs.declared.ending.End.TheVariants as ends
 use Rattle.run_events.specs.Moments.{Moment}
-use Rattle.run_lines.proofs.EditLines.{IsEdited, SessionOver, at_chain, edit_done, edit_effect, edit_stopped, out_of_memory, stopped_faults}
+use Rattle.run_lines.proofs.EditLines.{IsEdited, SessionOver, at_chain, carried_edit, edit_done, edit_effect, edit_stopped, out_of_memory, refused_edit, stopped_faults}
 use Rattle.run_lines.proofs.Stopping.{same_stop, same_stop_faults}
 use Rattle.run_lines.specs.Stops.{Did, IsDone, stop_of}
 use Rattle.run_lines.specs.declared.stop.Stop.{Stop}
@@ -22,15 +22,8 @@ returns-in_err-edit-clause-did g c = λ shelf text reads writes puts exposed cap
     let new : SessionOver = record { parts = c.edit.new.self; held = g.C.ChainMeaning.held c.edit.new.chain; counts = g.C.ChainMeaning.counts c.edit.new.chain } in
     let edit = c.in_ok-made.made in
     let refused = c.in_err-edit.field-0.0 in
-    let edited : IsEdited edit (Err refused) old new = record {
-      carried_out = tt;
-      session = λ before of. tt;
-      exact = c.in_err-edit.ensures.exact;
-      cause = c.in_err-edit.ensures.cause;
-      capacity = c.in_err-edit.ensures.states.capacity;
-      content = c.in_err-edit.ensures.left.others.exposed;
-      counts = c.in_err-edit.ensures.left.counts;
-    } in
+    let ensures = c.in_err-edit.ensures in
+    let edited : IsEdited edit (Err refused) old new = refused_edit edit refused old new ensures.exact ensures.cause ensures.states.capacity ensures.left.others.exposed ensures.left.counts in
     let before : Moment = at_chain shelf text reads writes puts old.counts in
     let after : Moment = at_chain shelf text reads writes puts new.counts in
     same_stop exposed capacity line state files _ (stop_of refused) _ _ _ new.parts new.held c.from_residual-in_err-edit.ensures.1
@@ -44,15 +37,8 @@ returns-in_err-edit-clause-faults g c = λ shelf text reads writes puts.
     let new : SessionOver = record { parts = c.edit.new.self; held = g.C.ChainMeaning.held c.edit.new.chain; counts = g.C.ChainMeaning.counts c.edit.new.chain } in
     let edit = c.in_ok-made.made in
     let refused = c.in_err-edit.field-0.0 in
-    let edited : IsEdited edit (Err refused) old new = record {
-      carried_out = tt;
-      session = λ before of. tt;
-      exact = c.in_err-edit.ensures.exact;
-      cause = c.in_err-edit.ensures.cause;
-      capacity = c.in_err-edit.ensures.states.capacity;
-      content = c.in_err-edit.ensures.left.others.exposed;
-      counts = c.in_err-edit.ensures.left.counts;
-    } in
+    let ensures = c.in_err-edit.ensures in
+    let edited : IsEdited edit (Err refused) old new = refused_edit edit refused old new ensures.exact ensures.cause ensures.states.capacity ensures.left.others.exposed ensures.left.counts in
     same_stop_faults (let stopped : Result (Unit {0}) Stop = Err (stop_of refused) in stopped) (stop_of refused) _ _ _ refl c.from_residual-in_err-edit.ensures.1
     (stopped_faults edit old new shelf text reads writes puts refused edited)
 
@@ -63,15 +49,8 @@ returns-clause-did g c = λ shelf text reads writes puts exposed capacity state 
     let old : SessionOver = record { parts = c.args.session.now; held = g.C.ChainMeaning.held c.args.chain.now; counts = g.C.ChainMeaning.counts c.args.chain.now } in
     let new : SessionOver = record { parts = c.edit.new.self; held = g.C.ChainMeaning.held c.edit.new.chain; counts = g.C.ChainMeaning.counts c.edit.new.chain } in
     let edit = c.in_ok-made.made in
-    let edited : IsEdited edit (Ok tt) old new = record {
-      carried_out = c.in_ok-edit.ensures.edited.carried_out;
-      session = c.in_ok-edit.ensures.session;
-      exact = c.in_ok-edit.ensures.exact;
-      cause = tt;
-      capacity = c.in_ok-edit.ensures.states.capacity;
-      content = c.in_ok-edit.ensures.left.others.exposed;
-      counts = c.in_ok-edit.ensures.left.counts;
-    } in
+    let ensures = c.in_ok-edit.ensures in
+    let edited : IsEdited edit (Ok tt) old new = carried_edit edit old new ensures.edited.carried_out ensures.session ensures.states.capacity ensures.left.others.exposed ensures.left.counts in
     let before : Moment = at_chain shelf text reads writes puts old.counts in
     let after : Moment = at_chain shelf text reads writes puts new.counts in
     subst (λ (done : Effect). IsDone exposed capacity state files done before after new.parts new.held)

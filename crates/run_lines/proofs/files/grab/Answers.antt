@@ -1,8 +1,7 @@
 use Rattle.std.proofs.Common.{◌≢◌, None, Result, Ok, Err, refl}
 use Rattle.model_buffers.specs.Layout.{find}
-use Rattle.run_events.proofs.Faults.{faults_by_cause, faults_then}
+use Rattle.run_events.proofs.Faults.{chain_faults, faults_by_cause, faults_then}
 use Rattle.run_events.specs.Moments.{Moment}
-use Rattle.run_lines.proofs.EditLines.{chain_faults}
 use Rattle.run_lines.proofs.Grabbing.{grab_done, grab_ended, grab_stopped}
 use Rattle.run_lines.proofs.Stopping.{same_stop, same_stop_faults}
 use Rattle.run_lines.specs.declared.stop.Stop.{Stop}
@@ -44,7 +43,7 @@ returns-in_err-write_grab-clause-faults g c =
     let end = c.in_err-write_grab.field-0.0 in
     let stopped : Result (Unit {0}) Stop = Err (stops.Ended end) in
     same_stop_faults stopped (stops.Ended end) _ _ _ refl c.from_residual-in_err-write_grab.ensures.1
-    (faults_then (Ok tt) (Err end) before mid _ (chain_faults before mid.chain c.in_ok-patch.ensures.left.counts.continues) (faults_by_cause (Err end) mid _ refl c.in_err-write_grab.ensures.cause))
+    (faults_then (Ok tt) (Err end) before mid _ (chain_faults before mid refl refl refl c.in_ok-patch.ensures.left.counts.continues) (faults_by_cause (Err end) mid _ refl c.in_err-write_grab.ensures.cause))
 
 pub returns-clause-did : goal.returns-clause-did
 returns-clause-did g c = λ exposed capacity state files holds.
@@ -64,4 +63,4 @@ pub returns-clause-faults : goal.returns-clause-faults
 returns-clause-faults g c =
     let before : Moment = record { files = g.F.Shelf.files c.args.shelf.now; text = g.O.Sink.written c.args.out.now; reads = g.F.Shelf.read_faults c.args.shelf.now; writes = g.F.Shelf.write_faults c.args.shelf.now; puts = g.O.Sink.faults c.args.out.now; chain = g.C.ChainMeaning.counts c.args.chain.now } in
     let mid : Moment = record before { chain = g.C.ChainMeaning.counts c.grab.new.chain } in
-    faults_then (Ok tt) (Ok tt) before mid _ (chain_faults before mid.chain c.in_ok-patch.ensures.left.counts.continues) (faults_by_cause (Ok tt) mid _ refl c.in_ok-write_grab.ensures.cause)
+    faults_then (Ok tt) (Ok tt) before mid _ (chain_faults before mid refl refl refl c.in_ok-patch.ensures.left.counts.continues) (faults_by_cause (Ok tt) mid _ refl c.in_ok-write_grab.ensures.cause)

@@ -6,8 +6,8 @@ use Rattle.model_graphs.specs.Facts.{fact_of}
 use Rattle.model_operations.specs.declared.operation.IntOp.{IntOp}
 use Rattle.outside_io.specs.Files.{Files, file}
 use Rattle.plane_rect.specs.Rectangle.{in_limits}
-use Rattle.run_events.proofs.Faults.{faults_then}
-use Rattle.run_lines.proofs.EditLines.{IsEdited, SessionOver, chain_faults, stopped_faults}
+use Rattle.run_events.proofs.Faults.{chain_faults, faults_then}
+use Rattle.run_lines.proofs.EditLines.{IsEdited, SessionOver, carried_edit, refused_edit, stopped_faults}
 use Rattle.run_lines.proofs.Loads.{load_done, load_not_read, load_out_of_bounds, load_stopped, load_unknown, raster_fits}
 use Rattle.run_lines.proofs.Stopping.{same_stop, same_stop_faults}
 use Rattle.run_lines.specs.Rasters.{IsRaster}
@@ -78,15 +78,8 @@ returns-in_err-put-clause-did g c = λ text puts exposed capacity state files ho
     let new : SessionOver = record { parts = c.put.new.self; held = g.C.ChainMeaning.held c.put.new.chain; counts = g.C.ChainMeaning.counts c.put.new.chain } in
     let bytes = c.in_ok-raster.raster.items in
     let refused = c.in_err-put.field-0.0 in
-    let edited : IsEdited (Put c.in-Load.name c.in-Load.rect bytes) (Err refused) old new = record {
-      carried_out = tt;
-      session = λ before of. tt;
-      exact = c.in_err-put.ensures.exact;
-      cause = c.in_err-put.ensures.cause;
-      capacity = c.in_err-put.ensures.states.capacity;
-      content = c.in_err-put.ensures.left.others.exposed;
-      counts = c.in_err-put.ensures.left.counts;
-    } in
+    let ensures = c.in_err-put.ensures in
+    let edited : IsEdited (Put c.in-Load.name c.in-Load.rect bytes) (Err refused) old new = refused_edit (Put c.in-Load.name c.in-Load.rect bytes) refused old new ensures.exact ensures.cause ensures.states.capacity ensures.left.others.exposed ensures.left.counts in
     let read = c.in_ok-raster.ensures.raster in
     rw c.in-Load.is
     (same_stop exposed capacity line state files _ (stop_of refused) _ _ _ new.parts new.held c.from_residual-in_err-put.ensures.1
@@ -100,15 +93,8 @@ returns-in_err-put-clause-faults g c = λ text puts.
     let new : SessionOver = record { parts = c.put.new.self; held = g.C.ChainMeaning.held c.put.new.chain; counts = g.C.ChainMeaning.counts c.put.new.chain } in
     let put = Put c.in-Load.name c.in-Load.rect c.in_ok-raster.raster.items in
     let refused = c.in_err-put.field-0.0 in
-    let edited : IsEdited put (Err refused) old new = record {
-      carried_out = tt;
-      session = λ before of. tt;
-      exact = c.in_err-put.ensures.exact;
-      cause = c.in_err-put.ensures.cause;
-      capacity = c.in_err-put.ensures.states.capacity;
-      content = c.in_err-put.ensures.left.others.exposed;
-      counts = c.in_err-put.ensures.left.counts;
-    } in
+    let ensures = c.in_err-put.ensures in
+    let edited : IsEdited put (Err refused) old new = refused_edit put refused old new ensures.exact ensures.cause ensures.states.capacity ensures.left.others.exposed ensures.left.counts in
     let stopped : Result (Unit {0}) Stop = Err (stop_of refused) in
     same_stop_faults stopped (stop_of refused) _ _ _ refl c.from_residual-in_err-put.ensures.1
     (faults_then (Ok tt) _ _ _ _ (c.in_ok-raster.ensures.faults text puts (g.C.ChainMeaning.counts c.args.chain.now))
@@ -122,15 +108,8 @@ returns-clause-did g c = λ text puts exposed capacity state files holds.
     let old : SessionOver = record { parts = c.reuse.new.self; held = g.C.ChainMeaning.held c.args.chain.now; counts = g.C.ChainMeaning.counts c.args.chain.now } in
     let new : SessionOver = record { parts = c.put.new.self; held = g.C.ChainMeaning.held c.put.new.chain; counts = g.C.ChainMeaning.counts c.put.new.chain } in
     let bytes = c.in_ok-raster.raster.items in
-    let edited : IsEdited (Put c.in-Load.name c.in-Load.rect bytes) (Ok tt) old new = record {
-      carried_out = c.in_ok-put.ensures.edited.carried_out;
-      session = c.in_ok-put.ensures.session;
-      exact = c.in_ok-put.ensures.exact;
-      cause = tt;
-      capacity = c.in_ok-put.ensures.states.capacity;
-      content = c.in_ok-put.ensures.left.others.exposed;
-      counts = c.in_ok-put.ensures.left.counts;
-    } in
+    let ensures = c.in_ok-put.ensures in
+    let edited : IsEdited (Put c.in-Load.name c.in-Load.rect bytes) (Ok tt) old new = carried_edit (Put c.in-Load.name c.in-Load.rect bytes) old new ensures.edited.carried_out ensures.session ensures.states.capacity ensures.left.others.exposed ensures.left.counts in
     let read = c.in_ok-raster.ensures.raster in
     rw c.in-Load.is
     (load_done exposed capacity line state files old new shelf c.in-Load.name c.in-Load.rect c.in-Load.file bytes c.in-Some.fact text _ _ _ _ _ _ _ c.in_ok-raster.ensures.files
@@ -140,4 +119,4 @@ returns-clause-did g c = λ text puts exposed capacity state files holds.
 pub returns-clause-faults : goal.returns-clause-faults
 returns-clause-faults g c = λ text puts.
     faults_then (Ok tt) _ _ _ _ (c.in_ok-raster.ensures.faults text puts (g.C.ChainMeaning.counts c.args.chain.now))
-    (chain_faults _ _ c.in_ok-put.ensures.left.counts.continues)
+    (chain_faults _ _ refl refl refl c.in_ok-put.ensures.left.counts.continues)

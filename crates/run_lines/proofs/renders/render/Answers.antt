@@ -1,8 +1,8 @@
 use Rattle.std.proofs.Common.{◌≡◌, Result, Ok, Err, refl, sym, ap, ◌∙◌}
 use Rattle.model_runs.specs.State.{number_in}
-use Rattle.run_events.proofs.Faults.{faults_by_cause, faults_then}
+use Rattle.run_events.proofs.Faults.{chain_faults, faults_by_cause, faults_then}
 use Rattle.run_events.specs.Moments.{Moment}
-use Rattle.run_lines.proofs.Rendered.{IsLeft, IsShown, chain-faults, render-done, render-ended, render-faults, render-stopped}
+use Rattle.run_lines.proofs.Rendered.{IsLeft, IsShown, render-done, render-ended, render-faults, render-stopped, shown-by}
 use Rattle.run_lines.proofs.Stopping.{same_stop, same_stop_faults}
 use Rattle.run_lines.specs.Stops.{stop_of}
 use Rattle.run_lines.specs.declared.stop.Stop.{Stop}
@@ -39,13 +39,8 @@ returns-in_err-write_render-clause-did g c = λ exposed capacity state files hol
     let parts = c.args.session.now in
     let before : Moment = record { files = g.F.Shelf.files c.args.shelf.now; text = g.O.Sink.written c.args.out.now; reads = g.F.Shelf.read_faults c.args.shelf.now; writes = g.F.Shelf.write_faults c.args.shelf.now; puts = g.O.Sink.faults c.args.out.now; chain = g.C.ChainMeaning.counts c.args.chain.now } in
     let after : Moment = record { files = g.F.Shelf.files c.write_render.new.shelf; text = g.O.Sink.written c.write_render.new.out; reads = g.F.Shelf.read_faults c.write_render.new.shelf; writes = g.F.Shelf.write_faults c.write_render.new.shelf; puts = g.O.Sink.faults c.write_render.new.out; chain = g.C.ChainMeaning.counts c.render.new.chain } in
-    let shown : IsShown exposed state parts c.in-Render.name c.in-Render.level c.in-Render.rect c.in_ok-patch.patch c.raw_bytes-bytes.result.now = record {
-      box = ensures.rect;
-      format = ensures.format;
-      image = λ e. ensures.image state.session holds.session (holds.content ∙ e);
-      raw_is = c.raw_bytes-bytes.ensures.value;
-      count = c.raw_bytes-bytes.ensures.count;
-    } in
+    let shown : IsShown exposed state parts c.in-Render.name c.in-Render.level c.in-Render.rect c.in_ok-patch.patch c.raw_bytes-bytes.result.now =
+    shown-by exposed state parts c.in-Render.name c.in-Render.level c.in-Render.rect c.in_ok-patch.patch c.raw_bytes-bytes.result.now ensures.rect ensures.format (λ e. ensures.image state.session holds.session (holds.content ∙ e)) c.raw_bytes-bytes.ensures.value c.raw_bytes-bytes.ensures.count in
     let number : c.number.result ≡ number_in state = c.number.ensures ∙ ap (λ graph. graph.number) ensures.states.graph ∙ sym holds.session.retained.number in
     rw c.in-Render.is
     (same_stop exposed capacity line state files _ _ _ _ _ _ _ c.from_residual-in_err-write_render.ensures.1
@@ -61,7 +56,7 @@ returns-in_err-write_render-clause-faults g c =
     let end = c.in_err-write_render.field-0.0 in
     let stopped : Result (Unit {0}) Stop = Err (stops.Ended end) in
     same_stop_faults stopped (stops.Ended end) _ before after refl c.from_residual-in_err-write_render.ensures.1
-    (faults_then (Ok tt) (Err end) before mid after (chain-faults before mid refl refl refl c.in_ok-patch.ensures.left.counts.continues) (faults_by_cause (Err end) mid after refl c.in_err-write_render.ensures.cause))
+    (faults_then (Ok tt) (Err end) before mid after (chain_faults before mid refl refl refl c.in_ok-patch.ensures.left.counts.continues) (faults_by_cause (Err end) mid after refl c.in_err-write_render.ensures.cause))
 
 pub returns-clause-did : goal.returns-clause-did
 returns-clause-did g c = λ exposed capacity state files holds.
@@ -72,13 +67,8 @@ returns-clause-did g c = λ exposed capacity state files holds.
     let later = g.C.ChainMeaning.held c.render.new.chain in
     let before : Moment = record { files = g.F.Shelf.files c.args.shelf.now; text = g.O.Sink.written c.args.out.now; reads = g.F.Shelf.read_faults c.args.shelf.now; writes = g.F.Shelf.write_faults c.args.shelf.now; puts = g.O.Sink.faults c.args.out.now; chain = g.C.ChainMeaning.counts c.args.chain.now } in
     let after : Moment = record { files = g.F.Shelf.files c.write_render.new.shelf; text = g.O.Sink.written c.write_render.new.out; reads = g.F.Shelf.read_faults c.write_render.new.shelf; writes = g.F.Shelf.write_faults c.write_render.new.shelf; puts = g.O.Sink.faults c.write_render.new.out; chain = g.C.ChainMeaning.counts c.render.new.chain } in
-    let shown : IsShown exposed state parts c.in-Render.name c.in-Render.level c.in-Render.rect c.in_ok-patch.patch c.raw_bytes-bytes.result.now = record {
-      box = ensures.rect;
-      format = ensures.format;
-      image = λ e. ensures.image state.session holds.session (holds.content ∙ e);
-      raw_is = c.raw_bytes-bytes.ensures.value;
-      count = c.raw_bytes-bytes.ensures.count;
-    } in
+    let shown : IsShown exposed state parts c.in-Render.name c.in-Render.level c.in-Render.rect c.in_ok-patch.patch c.raw_bytes-bytes.result.now =
+    shown-by exposed state parts c.in-Render.name c.in-Render.level c.in-Render.rect c.in_ok-patch.patch c.raw_bytes-bytes.result.now ensures.rect ensures.format (λ e. ensures.image state.session holds.session (holds.content ∙ e)) c.raw_bytes-bytes.ensures.value c.raw_bytes-bytes.ensures.count in
     let number : c.number.result ≡ number_in state = c.number.ensures ∙ ap (λ graph. graph.number) ensures.states.graph ∙ sym holds.session.retained.number in
     let left : IsLeft state parts c.render.new.self held later c.in-Render.name c.in-Render.level c.in-Render.rect before.chain after.chain = record {
       session = ensures.session state.session holds.session;
@@ -97,4 +87,4 @@ returns-clause-faults g c =
     let before : Moment = record { files = g.F.Shelf.files c.args.shelf.now; text = g.O.Sink.written c.args.out.now; reads = g.F.Shelf.read_faults c.args.shelf.now; writes = g.F.Shelf.write_faults c.args.shelf.now; puts = g.O.Sink.faults c.args.out.now; chain = g.C.ChainMeaning.counts c.args.chain.now } in
     let mid : Moment = record before { chain = g.C.ChainMeaning.counts c.render.new.chain } in
     let after : Moment = record { files = g.F.Shelf.files c.write_render.new.shelf; text = g.O.Sink.written c.write_render.new.out; reads = g.F.Shelf.read_faults c.write_render.new.shelf; writes = g.F.Shelf.write_faults c.write_render.new.shelf; puts = g.O.Sink.faults c.write_render.new.out; chain = g.C.ChainMeaning.counts c.render.new.chain } in
-    faults_then (Ok tt) (Ok tt) before mid after (chain-faults before mid refl refl refl c.in_ok-patch.ensures.left.counts.continues) (faults_by_cause (Ok tt) mid after refl c.in_ok-write_render.ensures.cause)
+    faults_then (Ok tt) (Ok tt) before mid after (chain_faults before mid refl refl refl c.in_ok-patch.ensures.left.counts.continues) (faults_by_cause (Ok tt) mid after refl c.in_ok-write_render.ensures.cause)
