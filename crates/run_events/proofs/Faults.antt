@@ -1,7 +1,9 @@
 -- I/O errors of parts of a run.
-use Rattle.std.proofs.Common.{◌≡◌, Result, Ok, Err, refl, sym, subst, arith}
+use Rattle.std.proofs.Common.{◌≡◌, ◌≤◌, Bool, true, false, Result, Ok, Err, refl, sym, subst, arith}
 use Rattle.chain_owners.specs.Counts.{Continues, Counts}
 use Rattle.model_runs.specs.declared.ending.End.{End}
+use Rattle.model_runs.specs.declared.ending.End.TheVariants as ends
+use Rattle.outside_io.specs.Faults.{Rose}
 use Rattle.run_events.specs.Causes as causes
 use Rattle.run_events.specs.Moments.{HasFaults, Moment}
 
@@ -42,27 +44,35 @@ faults_then first result old mid new before after = record {
 pub faults_same_end : (end other : End) (old new : Moment) → other ≡ end → HasFaults (Err end) old new → HasFaults (Err other) old new
 faults_same_end end other old new same faults = subst (λ (e : End). HasFaults (Err e) old new) (sym same) faults
 
+-- the part ended in no I/O error but one of the swap
+abbrev pub only_swap : Result (Unit {0}) End → Bool
+only_swap (Err ends.ReadFault) = false
+only_swap (Err ends.WriteFault) = false
+only_swap (Err ends.OutputFault) = false
+only_swap _ = true
+
+pub faults_of_swap : (result : Result (Unit {0}) End) (old new : Moment) → only_swap result ≡ true → (result ≡ Err ends.SwapFault → Rose old.chain.faults new.chain.faults) →
+    old.reads ≤ new.reads → old.writes ≤ new.writes → old.puts ≤ new.puts → Continues old.chain new.chain → HasFaults result old new
+faults_of_swap result old new only swap reads writes puts chain =
+    let other : (end : End) → result ≡ Err end → only_swap (Err end) ≡ true = λ end is. subst (λ (r : Result (Unit {0}) End). only_swap r ≡ true) is only in
+    record {
+      read = λ e. absurd (let is = other ends.ReadFault e in cc);
+      write = λ e. absurd (let is = other ends.WriteFault e in cc);
+      put = λ e. absurd (let is = other ends.OutputFault e in cc);
+      swap = swap;
+      reads = reads;
+      writes = writes;
+      puts = puts;
+      chain = chain;
+    }
+
+-- a part that touches no device but the chain, and ends nothing
+pub chain_faults : (old new : Moment) → new.reads ≡ old.reads → new.writes ≡ old.writes → new.puts ≡ old.puts → Continues old.chain new.chain → HasFaults (Ok tt) old new
+chain_faults old new reads writes puts = faults_of_swap (Ok tt) old new refl (λ e. absurd (cc)) (omega (arith, reads)) (omega (arith, writes)) (omega (arith, puts))
+
 -- no count fell, however the part ended
 pub faults_so_far : (result : Result (Unit {0}) End) (old new : Moment) → HasFaults result old new → HasFaults (Ok tt) old new
-faults_so_far result old new faults = record {
-  read = λ e. absurd (cc);
-  write = λ e. absurd (cc);
-  put = λ e. absurd (cc);
-  swap = λ e. absurd (cc);
-  reads = faults.reads;
-  writes = faults.writes;
-  puts = faults.puts;
-  chain = faults.chain;
-}
+faults_so_far result old new faults = faults_of_swap (Ok tt) old new refl (λ e. absurd (cc)) faults.reads faults.writes faults.puts faults.chain
 
 pub no_faults : (now : Moment) → HasFaults (Ok tt) now now
-no_faults now = record {
-  read = λ e. absurd (cc);
-  write = λ e. absurd (cc);
-  put = λ e. absurd (cc);
-  swap = λ e. absurd (cc);
-  reads = omega arith;
-  writes = omega arith;
-  puts = omega arith;
-  chain = continues_same now.chain now.chain refl;
-}
+no_faults now = chain_faults now now refl refl refl (continues_same now.chain now.chain refl)

@@ -17,7 +17,7 @@ use Rattle.model_runs.specs.Words.{Options, default_options}
 use Rattle.model_runs.specs.declared.ending.End.{End}
 use Rattle.model_runs.specs.declared.ending.End.TheVariants as ends
 use Rattle.run_events.proofs.Carrying.{nothing_carried}
-use Rattle.run_events.proofs.Faults.{continues_same}
+use Rattle.run_events.proofs.Faults.{continues_same, faults_of_swap}
 use Rattle.run_events.specs.Carried.{IsCounted}
 use Rattle.run_events.specs.Moments.{HasFaults, Moment}
 use Rattle.run_texts.specs.Events.{Puts, Refusal, events_alone}
@@ -123,16 +123,8 @@ pub memory_faults : (result : Result (Unit {0}) End) (before after : Option File
     HasFaults result (job_moment before text puts) (job_moment after text puts)
 memory_faults (Ok done) before after text puts same = absurd same
 memory_faults (Err end) before after text puts same =
-    subst (λ (e : End). HasFaults (Err e) (job_moment before text puts) (job_moment after text puts)) (sym same) (record {
-      read = λ e. absurd (cc);
-      write = λ e. absurd (cc);
-      put = λ e. absurd (cc);
-      swap = λ e. absurd (cc);
-      reads = omega arith;
-      writes = omega arith;
-      puts = omega arith;
-      chain = record { used = refl; capacity = refl; later = omega arith };
-    })
+    subst (λ (e : End). HasFaults (Err e) (job_moment before text puts) (job_moment after text puts)) (sym same)
+    (faults_of_swap (Err ends.NoMemory) (job_moment before text puts) (job_moment after text puts) refl (λ e. absurd (cc)) (omega arith) (omega arith) (omega arith) (record { used = refl; capacity = refl; later = omega arith }))
 
 -- ---- the promise
 

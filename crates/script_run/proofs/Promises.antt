@@ -183,40 +183,16 @@ job_asked words number asks = ap (λ (r : Option Request). option_and_then job_o
 
 pub read_at : (ended : Result (Unit {0}) End) → status_of ended ≡ 3 → ended ≡ Err ends.ReadFault
 read_at (Err ends.ReadFault) e = refl
-read_at (Ok done) e = cc
-read_at (Err ends.Refused) e = cc
-read_at (Err ends.WriteFault) e = cc
-read_at (Err ends.SwapFault) e = cc
-read_at (Err ends.OutputFault) e = cc
-read_at (Err ends.NoMemory) e = cc
-read_at (Err ends.SwapFull) e = cc
+read_at _ e = cc
 
 pub write_at : (ended : Result (Unit {0}) End) → status_of ended ≡ 4 → ended ≡ Err ends.WriteFault
 write_at (Err ends.WriteFault) e = refl
-write_at (Ok done) e = cc
-write_at (Err ends.Refused) e = cc
-write_at (Err ends.ReadFault) e = cc
-write_at (Err ends.SwapFault) e = cc
-write_at (Err ends.OutputFault) e = cc
-write_at (Err ends.NoMemory) e = cc
-write_at (Err ends.SwapFull) e = cc
+write_at _ e = cc
 
 pub swap_at : (ended : Result (Unit {0}) End) → status_of ended ≡ 5 → ended ≡ Err ends.SwapFault
 swap_at (Err ends.SwapFault) e = refl
-swap_at (Ok done) e = cc
-swap_at (Err ends.Refused) e = cc
-swap_at (Err ends.ReadFault) e = cc
-swap_at (Err ends.WriteFault) e = cc
-swap_at (Err ends.OutputFault) e = cc
-swap_at (Err ends.NoMemory) e = cc
-swap_at (Err ends.SwapFull) e = cc
+swap_at _ e = cc
 
 pub put_at : (ended : Result (Unit {0}) End) → status_of ended ≡ 6 → ended ≡ Err ends.OutputFault
 put_at (Err ends.OutputFault) e = refl
-put_at (Ok done) e = cc
-put_at (Err ends.Refused) e = cc
-put_at (Err ends.ReadFault) e = cc
-put_at (Err ends.WriteFault) e = cc
-put_at (Err ends.SwapFault) e = cc
-put_at (Err ends.NoMemory) e = cc
-put_at (Err ends.SwapFull) e = cc
+put_at _ e = cc
