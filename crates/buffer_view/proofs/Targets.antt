@@ -1,5 +1,5 @@
 -- The roots that edits write to.
-use Rattle.std.proofs.Common.{◌≡◌, ℕ, List, length, Option, Some, None, refl, sym, ap, subst, ◌∙◌}
+use Rattle.std.proofs.Common.{◌≡◌, ℕ, List, get_or, length, Option, Some, None, refl, sym, ap, subst, ◌∙◌}
 use Rattle.std.specs.Prelude.{slice_get}
 use Rattle.std.specs.Option.{IsSomeAnd, option_map}
 use Rattle.buffer_layouts.specs.Views.{on_root, root_view}
@@ -10,6 +10,7 @@ use Rattle.model_buffers.specs.BufferEdit.{IsPixel, edit_refused}
 use Rattle.model_buffers.specs.Edits.{by_view, evenly, table_with, written}
 use Rattle.model_buffers.specs.Layout.{IsLayout, TableLayout, View, buffer_shape, find, root_shape, seen_shape, view_shape}
 use Rattle.model_buffers.specs.Table.{Table, layout_of, root_image}
+use Rattle.model_buffers.specs.declared.edit.BufferEdit.{BufferEdit}
 use Rattle.model_buffers.specs.declared.edit.BufferEdit.TheVariants.{Fill, Put}
 use Rattle.model_buffers.proofs.LayoutLaws.{rooted_view}
 use Rattle.model_buffers.proofs.ShapeLaws.{root_shape-is}
@@ -18,6 +19,8 @@ use Rattle.model_images.specs.FromRaw.{byte_count, pixels_from_raw}
 use Rattle.model_images.specs.Image.{Image}
 use Rattle.pixel_formats.specs.declared.format.Format.{Format}
 use Rattle.plane_rect.specs.Rectangle.{Includes, Rectangle}
+use Rattle.root_tiles.specs.Roots.{RootTiles}
+use Rattle.buffer_view.specs.BufferTables.{BufferTable}
 
 -- two meanings of a table that may not be known
 pub mapped-same : {X Y Z : Type 0} (o : Option X) (t : Y) (f g : Y → Z) → f t ≡ g t
@@ -29,6 +32,21 @@ mapped-same (Some x) t f g same = ap Some same
 pub there-weaker : {X : Type 0} (P Q : X → Type 0) (o : Option X) → ((x : X) → P x → Q x) → IsSomeAnd o P → IsSomeAnd o Q
 there-weaker P Q None weaker there = there
 there-weaker P Q (Some x) weaker there = weaker x there
+
+-- what a table shows from within it shows from without
+module _ (inside now : BufferTable) (same : inside ≡ now) where
+  pub target-here : (name : List ℕ) (seen : RootView) → root_view inside.layout name ≡ Some seen → root_view now.layout name ≡ Some seen
+  target-here name seen target = ap (λ (b : BufferTable). root_view b.layout name) (sym same) ∙ target
+
+  pub carried-here : (edit : BufferEdit) → edit_refused inside.layout edit ≡ None → edit_refused now.layout edit ≡ None
+  carried-here edit none = ap (λ (b : BufferTable). edit_refused b.layout edit) (sym same) ∙ none
+
+  pub put-carried : (name : List ℕ) (r : Rectangle) (lent bytes : List ℕ) → lent ≡ bytes → edit_refused inside.layout (Put name r lent) ≡ None
+      → edit_refused now.layout (Put name r bytes) ≡ None
+  put-carried name r lent bytes is none = ap (λ (b : List ℕ). edit_refused now.layout (Put name r b)) (sym is) ∙ carried-here (Put name r lent) none
+
+  pub root-here : (number : ℕ) (root : RootTiles) → root ≡ get_or inside.roots number root → get_or now.roots number root ≡ root
+  root-here number root is = sym (is ∙ ap (λ (b : BufferTable). get_or b.roots number root) same)
 
 module _ (layout : TableLayout) (is : IsLayout layout) (name : List ℕ) (seen : RootView) (target : root_view layout name ≡ Some seen) where
   -- what is seen is a view of the root of the number
@@ -66,6 +84,14 @@ module _ (layout : TableLayout) (is : IsLayout layout) (name : List ℕ) (seen :
   pub put-can : (r : Rectangle) (bytes : List ℕ) → edit_refused layout (Put name r bytes) ≡ None
       → OfEntry (λ shape. Includes shape.box r) × OfEntry (λ shape. length bytes ≡ byte_count r shape.format)
   put-can r bytes none = let can = carried_out layout (Put name r bytes) none in of-buffer r (λ format. length bytes ≡ byte_count r format) can.0.1 can.1
+
+  -- the same bytes for several workers
+  pub put-split : {S : Type 0} (r : Rectangle) (bytes : List ℕ) → edit_refused layout (Put name r bytes) ≡ None → S
+      → OfEntry (λ shape. S × (length bytes ≡ byte_count r shape.format))
+  put-split {S} r bytes none shared =
+      there-weaker (λ (entry : List ℕ × Shape). length bytes ≡ byte_count r entry.1.format)
+      (λ (entry : List ℕ × Shape). S × (length bytes ≡ byte_count r entry.1.format)) (slice_get layout.roots seen.root) (λ entry long. (shared, long))
+      (put-can r bytes none).1
 
   -- ---- what the tables show then
 

@@ -5,6 +5,7 @@ use Rattle.std.specs.FinMap as map
 use Rattle.std.specs.FinMap.{len-insert}
 use Rattle.std.proofs.lemmas.Bool.{cases_eq}
 use Rattle.std.proofs.lemmas.Cmp.{nat_cmp_total}
+use Rattle.outside_io.specs.Swap.{Blocks}
 use Rattle.chain_owners.specs.Counts.{Continues, Counts, Grows, IsFullOver}
 use Rattle.chain_owners.specs.Held.{Held, disowned, length_of, max_owners, owned, owners_of, with_tile, without_tile}
 use Rattle.chain_owners.specs.Values.{Named}
@@ -16,7 +17,11 @@ use Rattle.swap_store.specs.declared.refusal.SwapRefused.TheVariants as refusals
 use Rattle.swap_store.specs.Cause.{HasSwapCause}
 use Rattle.chain_contracts.specs.Tiles.{OnFull, emptied}
 use Rattle.chain_handlers.specs.OwnedTiles.{HaveOwners, with_counts}
-use Rattle.chain_handlers.specs.Overlay.{IsCrowded}
+use Rattle.chain_handlers.specs.declared.cache_handler.CacheHandler.{CacheHandler}
+use Rattle.chain_handlers.specs.declared.disk_handler.DiskHandler.{DiskHandler}
+use Rattle.chain_handlers.specs.declared.empty_handler.EmptyHandler.{EmptyHandler}
+use Rattle.chain_handlers.specs.DiskTiles.{disk_held}
+use Rattle.chain_handlers.specs.Overlay.{IsCrowded, overlay}
 use Rattle.chain_handlers.proofs.Moves.{is-none}
 use Rattle.chain_handlers.proofs.Tiles.{map-absent, map-out}
 
@@ -173,3 +178,7 @@ caused-crowded old new resident names more (Err refused) continues cause crowded
 -- a name more at most
 pub len-added : (held : Held) (name : ℕ) (bytes : List ℕ) → map.len (with_tile held name bytes).lengths ≤ map.len held.lengths + 1
 len-added held name bytes = len-put held.lengths name (length bytes)
+
+-- what tiles hold, zeros where none is, then those in memory, then those on a disk
+abbrev pub held_over : {D : Type 0} {t : _} {m : _} (blocks : D → Option Blocks) (tiles : EmptyHandler (CacheHandler (DiskHandler D) t m)) → Held
+held_over blocks tiles = overlay tiles.below.tiles.entries (disk_held tiles.below.below.store.placement (blocks tiles.below.below.store.disk))

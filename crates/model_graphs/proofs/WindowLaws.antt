@@ -5,7 +5,6 @@ use Rattle.plane_rect.specs.Rectangle.{Includes, Inside, Rectangle}
 use Rattle.plane_rect.specs.Tile.{Meets, Tile, tile_at, tile_square}
 use Rattle.plane_rect.proofs.TileLists.{Inside-tile_square}
 use Rattle.pixel_formats.specs.Format.{channels}
-use Rattle.pixel_formats.specs.declared.format.Format.{Format}
 use Rattle.model_images.specs.FromRaw.{pixels_from_raw}
 use Rattle.model_images.specs.Image.{Image, at}
 use Rattle.model_images.specs.Paint.{no_image}
@@ -56,23 +55,16 @@ abbrev AreTheirs : List Image → List Window → Type 0
 AreTheirs images windows =
     (i : ℕ) (image : Image) (window : Window) → slice_get images i ≡ Some image → slice_get windows i ≡ Some window → IsWindowOf image window
 
-same_boxes : (images : List Image) (windows : List Window) → length windows ≡ length images → AreTheirs images windows
-    → boxes_of (map window_image windows) ≡ boxes_of images
-same_boxes [] [] count theirs = refl
-same_boxes [] (window ∷ windows) count theirs = absurd (omega (arith, count))
-same_boxes (image ∷ images) [] count theirs = absurd (omega (arith, count))
-same_boxes (image ∷ images) (window ∷ windows) count theirs =
-    ap (λ (box : Rectangle). box ∷ boxes_of (map window_image windows)) (theirs 0 image window refl refl).bounds
-    ∙ ap (λ (boxes : List Rectangle). image.box ∷ boxes) (same_boxes images windows (omega (arith, count)) (λ i. theirs (suc i)))
-
-same_formats : (images : List Image) (windows : List Window) → length windows ≡ length images → AreTheirs images windows
-    → formats_of (map window_image windows) ≡ formats_of images
-same_formats [] [] count theirs = refl
-same_formats [] (window ∷ windows) count theirs = absurd (omega (arith, count))
-same_formats (image ∷ images) [] count theirs = absurd (omega (arith, count))
-same_formats (image ∷ images) (window ∷ windows) count theirs =
-    ap (λ (format : Format). format ∷ formats_of (map window_image windows)) (theirs 0 image window refl refl).format
-    ∙ ap (λ (formats : List Format). image.format ∷ formats) (same_formats images windows (omega (arith, count)) (λ i. theirs (suc i)))
+-- what windows say alike of their images, they say of all
+all_alike : {A : Type 0} (part : Image → A) → ((image : Image) (window : Window) → IsWindowOf image window → part (window_image window) ≡ part image)
+    → (images : List Image) (windows : List Window) → length windows ≡ length images → AreTheirs images windows
+    → map part (map window_image windows) ≡ map part images
+all_alike part alike [] [] count theirs = refl
+all_alike part alike [] (window ∷ windows) count theirs = absurd (omega (arith, count))
+all_alike part alike (image ∷ images) [] count theirs = absurd (omega (arith, count))
+all_alike {A} part alike (image ∷ images) (window ∷ windows) count theirs =
+    ap (λ (first : A). first ∷ map part (map window_image windows)) (alike image window (theirs 0 image window refl refl))
+    ∙ ap (λ (rest : List A). part image ∷ rest) (all_alike part alike images windows (omega (arith, count)) (λ i. theirs (suc i)))
 
 -- the image and the window of a number
 record Numbered (images : List Image) (windows : List Window) (i : ℕ) : Type 0 where
@@ -106,12 +98,12 @@ pub windows-give : {Op : Type 0} (meanings : Meanings Op) (operation : Op) (imag
     → AgreeInside (result_of meanings operation (map window_image windows)) (result_of meanings operation images) part
 windows-give meanings operation images windows part local inside are =
     let theirs : AreTheirs images windows = λ i image window e f. (are.each i image window e f).0 in
-    let boxes = same_boxes images windows are.count theirs in
+    let boxes : boxes_of (map window_image windows) ≡ boxes_of images = all_alike (λ (image : Image). image.box) (λ image window is. is.bounds) images windows are.count theirs in
     local operation (map window_image windows) images part
     (rw boxes inside)
     (record {
       boxes = boxes;
-      formats = same_formats images windows are.count theirs;
+      formats = all_alike (λ (image : Image). image.format) (λ image window is. is.format) images windows are.count theirs;
       samples = λ i below u v c there.
           let at_number = numbered images windows i are.count below in
           let each = are.each i at_number.image at_number.window at_number.image_there at_number.window_there in

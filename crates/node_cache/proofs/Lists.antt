@@ -244,24 +244,30 @@ module _ {V : Type 0} where
         apart = last-apart rest e (subst (λ (ys : List (PairKey × V)). IsDistinct same_key (keys_of ys)) whole is);
       }
 
+  -- what a void does with the key of the last pair, it does with the list's last pair
+  turned : (node : List ℕ) (rectangle : Rectangle) (es : List (PairKey × V)) (k : PairKey) (v : V) (gone : Bool)
+      → (done : PairKey → List (PairKey × V) → List (PairKey × V))
+      → ((rest : List (PairKey × V)) (e : PairKey × V) → AllByRecursion (λ b. same_key e.0 b ≡ false) (keys_of rest)
+      → done e.0 (rest ++ e ∷ []) ≡ cond (not gone) (e ∷ []) [] ++ rest)
+      → IsDistinct same_key (keys_of es) → slice_get es (length es - 1) ≡ Some (k, v) → is_voided node rectangle k ≡ gone
+      → (rest : List (PairKey × V)) (e : PairKey × V) → es ≡ rest ++ e ∷ [] → done k es ≡ entries_left node rectangle (e ∷ []) ++ rest
+  turned node rectangle es k v gone done last_done is last voided rest e whole =
+      let at = last-pair es k v is last rest e whole in
+      ap (λ (j : PairKey). done j es) (sym at.key) ∙ ap (done e.0) whole ∙ last_done rest e at.apart
+      ∙ ap (λ b. cond (not b) (e ∷ []) [] ++ rest) (sym (ap (is_voided node rectangle) at.key ∙ voided))
+
   -- a void takes the last pair out, or it goes to the front
   pub turned-out : (node : List ℕ) (rectangle : Rectangle) (es : List (PairKey × V)) (k : PairKey) (v : V)
       → IsDistinct same_key (keys_of es) → slice_get es (length es - 1) ≡ Some (k, v) → is_voided node rectangle k ≡ true
       → (rest : List (PairKey × V)) (e : PairKey × V) → es ≡ rest ++ e ∷ []
       → remove_entry (same_key k) es ≡ entries_left node rectangle (e ∷ []) ++ rest
-  turned-out node rectangle es k v is last gone rest e whole =
-      let at = last-pair es k v is last rest e whole in
-      ap (λ (j : PairKey). remove_entry (same_key j) es) (sym at.key) ∙ ap (remove_entry (same_key e.0)) whole ∙ removed-last rest e at.apart
-      ∙ ap (λ b. cond (not b) (e ∷ []) [] ++ rest) (sym (ap (is_voided node rectangle) at.key ∙ gone))
+  turned-out node rectangle es k v = turned node rectangle es k v true (λ j. remove_entry (same_key j)) removed-last
 
   pub turned-front : (node : List ℕ) (rectangle : Rectangle) (es : List (PairKey × V)) (k : PairKey) (v : V)
       → IsDistinct same_key (keys_of es) → slice_get es (length es - 1) ≡ Some (k, v) → is_voided node rectangle k ≡ false
       → (rest : List (PairKey × V)) (e : PairKey × V) → es ≡ rest ++ e ∷ []
       → promoted (same_key k) es ≡ entries_left node rectangle (e ∷ []) ++ rest
-  turned-front node rectangle es k v is last kept rest e whole =
-      let at = last-pair es k v is last rest e whole in
-      ap (λ (j : PairKey). promoted (same_key j) es) (sym at.key) ∙ ap (promoted (same_key e.0)) whole ∙ promoted-last rest e at.apart
-      ∙ ap (λ b. cond (not b) (e ∷ []) [] ++ rest) (sym (ap (is_voided node rectangle) at.key ∙ kept))
+  turned-front node rectangle es k v = turned node rectangle es k v false (λ j. promoted (same_key j)) promoted-last
 
   pub none-last : (es : List (PairKey × V)) → slice_get es (length es - 1) ≡ None → (rest : List (PairKey × V)) (e : PairKey × V)
       → es ≡ rest ++ e ∷ [] → ⊥

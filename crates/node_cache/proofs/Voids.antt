@@ -96,7 +96,7 @@ module _ {V : Type 0} (node : List ℕ) where
   abbrev pub by_tiles : List Tile → List (PairKey × V) → List (PairKey × V)
   by_tiles ts es = filter (λ e. not (bytes_eq node e.0.node && list_any (λ t. same_tile t e.0.at) ts)) es
 
-  pub tiles-next : (t : Tile) (ts : List Tile) (es : List (PairKey × V)) → IsDistinct same_key (keys_of es)
+  tiles-next : (t : Tile) (ts : List Tile) (es : List (PairKey × V)) → IsDistinct same_key (keys_of es)
       → by_tiles ts (remove_entry (same_key (record { node = node; at = t })) es) ≡ by_tiles (t ∷ ts) es
   tiles-next t ts es is =
       let k : PairKey = record { node = node; at = t } in
@@ -105,12 +105,24 @@ module _ {V : Type 0} (node : List ℕ) where
       (λ (e : PairKey × V). not (bytes_eq node e.0.node && (same_tile t e.0.at || list_any (λ t. same_tile t e.0.at) ts)))
       (λ e. both (bytes_eq node e.0.node) (same_tile t e.0.at) (list_any (λ t. same_tile t e.0.at) ts)) es
 
-  pub tiles-end : (es : List (PairKey × V)) → by_tiles [] es ≡ es
+  -- one tile more was taken out
+  pub tiles-taken : (r : Rectangle) (t : Tile) (left rest : List Tile) (all now then : List (PairKey × V)) → left ≡ t ∷ rest → IsDistinct same_key (keys_of now)
+      → by_tiles left now ≡ entries_left node r all → then ≡ remove_entry (same_key (record { node = node; at = t })) now → by_tiles rest then ≡ entries_left node r all
+  tiles-taken r t left rest all now then steps is before taken =
+      ap (by_tiles rest) taken ∙ tiles-next t rest now is ∙ ap (λ (ts : List Tile). by_tiles ts now) (sym steps) ∙ before
+
+  tiles-end : (es : List (PairKey × V)) → by_tiles [] es ≡ es
   tiles-end es = filter-all (λ (e : PairKey × V). not (bytes_eq node e.0.node && false)) (λ e. none-left (bytes_eq node e.0.node)) es
 
-  pub tiles-begin : (r : Rectangle) (ts : List Tile) → ts ≡ tiles r → ((t : Tile) → Contains ts t ↔ Meets t r)
-      → (es : List (PairKey × V)) → by_tiles ts es ≡ entries_left node r es
-  tiles-begin r ts are meeting es =
+  -- all of them were taken out
+  pub tiles-out : (r : Rectangle) (left : List Tile) (all now : List (PairKey × V)) → left ≡ [] → by_tiles left now ≡ entries_left node r all → now ≡ entries_left node r all
+  tiles-out r left all now none before = sym (tiles-end now) ∙ ap (λ (ts : List Tile). by_tiles ts now) (sym none) ∙ before
+
+  -- none of them was taken out
+  pub tiles-begin : (r : Rectangle) (ts given : List Tile) → given ≡ ts → ts ≡ tiles r → ((t : Tile) → Contains ts t ↔ Meets t r)
+      → (es : List (PairKey × V)) → by_tiles given es ≡ entries_left node r es
+  tiles-begin r ts given same are meeting es =
+      ap (λ (ts : List Tile). by_tiles ts es) same ∙
       filter-same (λ (e : PairKey × V). not (bytes_eq node e.0.node && list_any (λ t. same_tile t e.0.at) ts))
       (λ (e : PairKey × V). not (bytes_eq node e.0.node && meets e.0.at r))
       (λ e. ap (λ b. not (bytes_eq node e.0.node && b)) (same-tests (list_any (λ t. same_tile t e.0.at) ts) (meets e.0.at r)

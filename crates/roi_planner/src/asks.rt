@@ -4,7 +4,7 @@ ghost use Rattle.std.specs.Prelude.{◌≡◌, ◌≢◌, ℕ, ◌∷◌, [], �
 ghost use Rattle.model_graphs.specs.Facts.{stated_shapes};
 ghost use Rattle.model_states.specs.Need.{Asked, asked_by, asked_of};
 ghost use Rattle.model_states.specs.Regions.{tiles_of_any};
-ghost use Rattle.roi_planner.specs.Asked.{AreAsked, MeetSameTiles, asked_of_body, asked_of_part, asked_of_tiles};
+ghost use Rattle.roi_planner.specs.Asked.{AreAsked, MeetSameTiles, asked_of_body, asked_of_part};
 ghost use Rattle.roi_planner.specs.Inputs.{AreStatedOverSome, SuitsBody, SuitsInputs, all_inputs, box_at, step_at};
 
 use crate::inputs::NodeInputs;
@@ -62,27 +62,6 @@ fn ask_part<K: OpKit>(
     Ok(())
 }
 
-/// Adds what tiles ask, each for its part of an operation's box.
-fn ask_tiles<K: OpKit>(
-    kit: &K,
-    regions: &mut Vec<Region>,
-    op: &K::Op,
-    inputs: &NodeInputs,
-    bounds: &Rect,
-    tiles: &[TileAt],
-) -> Result<(), NoMemory>
-    requires { SuitsInputs K.Op.meanings op.now inputs.now (length regions.old.items) }
-    ensures asked { (asked : List Asked) → AreAsked regions.old.items asked →
-        OnOk result (AreAsked regions.new.items
-        (asked ++ asked_of_tiles K.Op.meanings op.now inputs.now bounds.now tiles.now)) }
-    ensures count { length regions.new.items ≡ length regions.old.items }
-{
-    for tile in tiles {
-        ask_part(kit, regions, op, inputs, tile_part(tile, bounds))?;
-    }
-    Ok(())
-}
-
 /// Adds what tiles of a node of this body ask, each for its part of the node's box.
 fn ask_body<K: OpKit>(
     kit: &K,
@@ -98,10 +77,13 @@ fn ask_body<K: OpKit>(
         (asked ++ asked_of_body K.Op.meanings body.now inputs.now bounds.now tiles.now)) }
     ensures count { length regions.new.items ≡ length regions.old.items }
 {
-    match body {
-        Body::Source { .. } => Ok(()),
-        Body::Compute { op, .. } => ask_tiles(kit, regions, op, inputs, bounds, tiles),
+    let Body::Compute { op, .. } = body else {
+        return Ok(());
+    };
+    for tile in tiles {
+        ask_part(kit, regions, op, inputs, tile_part(tile, bounds))?;
     }
+    Ok(())
 }
 
 /// Returns the tiles that are needed of the node at a position, of which all is known that is asked;

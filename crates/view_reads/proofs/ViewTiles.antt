@@ -1,5 +1,5 @@
 -- Tiles of views, and of their levels, that are those of roots, or of parts of them.
-use Rattle.std.proofs.Common.{◌≡◌, ℕ, List, replicate, Option, Some, None, refl, sym, ap, subst, ◌∙◌, arith}
+use Rattle.std.proofs.Common.{◌≡◌, ℕ, ◌*◌, List, length, replicate, Option, Some, None, refl, sym, ap, subst, ◌∙◌, arith}
 use Rattle.std.specs.Prelude.{IfSome}
 use Rattle.std.specs.Option.{option_map}
 use Rattle.chain_owners.specs.Held.{Held}
@@ -12,9 +12,11 @@ use Rattle.model_images.specs.Raw.{tile_bytes}
 use Rattle.model_images.specs.Tiles.{held_image}
 use Rattle.model_images.proofs.AgreeingLevels.{level-zeros, levels-local-bytes}
 use Rattle.model_images.proofs.Agreeing.{cut-cut}
+use Rattle.model_images.proofs.ByteLaws.{length-tile_bytes}
 use Rattle.model_images.proofs.Laws.{at_outside, generated_equal}
 use Rattle.model_images.proofs.LevelLaws.{level-zero}
 use Rattle.model_images.proofs.RawLaws.{raw-over}
+use Rattle.pixel_formats.specs.Format.{pixel_bytes}
 use Rattle.pixel_formats.specs.declared.format.Format.{Format}
 use Rattle.plane_rect.specs.Rectangle.{Includes, Inside, IsRectangle, Rectangle, meet}
 use Rattle.plane_rect.specs.Tile.{Tile, plane, tile_rectangle, tile_square}
@@ -22,6 +24,12 @@ use Rattle.plane_rect.proofs.Rectangles.{Inside-meet}
 use Rattle.root_tiles.specs.Roots.{IsPartOf, IsRootOver, RootTiles, root_image}
 use Rattle.view_reads.specs.Views.{IsPartOfLevel, view_image}
 use Rattle.view_reads.proofs.Cuts.{cuts-agree, whole-agrees}
+
+-- a tile of a part of a root has as many bytes as the root's
+pub length-part : (t : Tile) (patch : Image) (format : Format) (bytes : List ℕ) → bytes ≡ tile_bytes patch t → patch.format ≡ format
+    → length bytes ≡ tile_length format
+length-part t patch format bytes tile same =
+    ap (λ (bytes : List ℕ). length bytes) tile ∙ length-tile_bytes patch t ∙ ap (λ (f : Format). 4096 * pixel_bytes f) same
 
 -- what holds of a root's image holds of its view's
 pub by-content : {X : Type 0} (content : Option X) (image : Image) (f : Image → Image) (P Q : Image → Type 0) → (P image → Q (f image))
@@ -116,6 +124,13 @@ module _ (root : RootTiles) (extent : Rectangle) (held : Held) (over : IsRootOve
         column = (omega arith, omega (arith, there.column, is.columns));
         row = (omega arith, omega (arith, there.row, is.rows));
       }
+
+  -- the same where the part was asked for by the tile's square
+  pub tile-part-of : (t : Tile) (square part : Rectangle) (patch : Image) (bytes : List ℕ) → square ≡ tile_rectangle t → part ≡ meet extent square
+      → IsPartOf (root_image root held) part patch → bytes ≡ tile_bytes patch t → IfSome (view_image root extent held) (λ image. bytes ≡ tile_bytes image t)
+  tile-part-of t square part patch bytes is_square is_part of tile =
+      tile-part t patch bytes
+      (subst (λ (r : Rectangle). IsPartOf (root_image root held) r patch) (is_part ∙ ap (λ (r : Rectangle). meet extent r) is_square) of) tile
 
   -- ---- parts
 

@@ -1,17 +1,14 @@
-use Rattle.std.proofs.Common.{◌≡◌, ℕ, ◌*◌, ◌∙◌, List, length, ap, subst}
+use Rattle.std.proofs.Common.{◌≡◌, ◌∙◌, ap, subst}
 use Rattle.std.proofs.lemmas.Result.{IfOk-weaker}
 use Rattle.std.specs.Prelude.{IfSome}
 use Rattle.level_tables.specs.Over.{IsTileOfLevel}
 use Rattle.model_images.specs.Raw.{tile_bytes}
-use Rattle.model_images.proofs.ByteLaws.{length-tile_bytes}
-use Rattle.pixel_formats.specs.Format.{pixel_bytes}
-use Rattle.pixel_formats.specs.declared.format.Format.{Format}
 use Rattle.plane_rect.specs.Rectangle.{Includes, Rectangle, meet}
 use Rattle.plane_rect.specs.Tile.{tile_rectangle}
-use Rattle.root_tiles.specs.Roots.{IsPartOf, root_image}
+use Rattle.root_tiles.specs.Roots.{root_image}
 use Rattle.view_reads.specs.Views.{view_image}
 use Rattle.view_reads.proofs.Cuts.{meet-limits}
-use Rattle.view_reads.proofs.ViewTiles.{tile-inside, tile-part}
+use Rattle.view_reads.proofs.ViewTiles.{length-part, tile-inside, tile-part-of}
 use Rattle.view_reads.proofs.views.view_tile.Goals as goal
 
 pub returns-then-contains-clause-bytes : goal.returns-then-contains-clause-bytes
@@ -35,16 +32,8 @@ part-requires-clause-limits g c =
 
 pub returns-clause-bytes : goal.returns-clause-bytes
 returns-clause-bytes g c =
-    let root = c.args.root.now in
-    let held = g.C.ChainMeaning.held c.args.chain.now in
-    let is : c.meet-2.result ≡ meet c.args.extent (tile_rectangle c.args.at) =
-    c.meet-2.ensures.value ∙ ap (λ (r : Rectangle). meet c.args.extent r) c.rect-square.ensures.value in
-    let part : IsPartOf (root_image root held) (meet c.args.extent (tile_rectangle c.args.at)) c.in_ok-part.part =
-    subst (λ (r : Rectangle). IsPartOf (root_image root held) r c.in_ok-part.part) is c.in_ok-part.ensures.image in
-    tile-part root c.args.extent held c.requires.over c.requires.inside c.requires.rectangle c.args.at c.in_ok-part.part c.in_ok-tile.field-0 part c.in_ok-tile.ensures
+    tile-part-of c.args.root.now c.args.extent (g.C.ChainMeaning.held c.args.chain.now) c.requires.over c.requires.inside c.requires.rectangle c.args.at
+    c.rect-square.result c.meet-2.result c.in_ok-part.part c.in_ok-tile.field-0 c.rect-square.ensures.value c.meet-2.ensures.value c.in_ok-part.ensures.image c.in_ok-tile.ensures
 
 pub returns-clause-length : goal.returns-clause-length
-returns-clause-length g c =
-    ap (λ (bytes : List ℕ). length bytes) c.in_ok-tile.ensures
-    ∙ length-tile_bytes c.in_ok-part.part c.args.at
-    ∙ ap (λ (f : Format). 4096 * pixel_bytes f) c.in_ok-part.ensures.shape.format
+returns-clause-length g c = length-part c.args.at c.in_ok-part.part c.args.root.now.tiles.format c.in_ok-tile.field-0 c.in_ok-tile.ensures c.in_ok-part.ensures.shape.format

@@ -16,13 +16,8 @@ returns-in-Ok-None-clause-given_up g c =
 
 pub returns-in-Ok-None-clause-over : goal.returns-in-Ok-None-clause-over
 returns-in-Ok-None-clause-over g c =
-    cache-after (c.args.name ∷ values_of c.args.self.now.names.entries) c.push.new.self.entries c.push.new.self.cap c.args.self.now.capacity
-    (g.C.ChainMeaning.held c.args.chain.now) (g.C.ChainMeaning.held c.args.chain.now)
-    (g.C.ChainMeaning.counts c.args.chain.now) (g.C.ChainMeaning.counts c.args.chain.now)
-    (returns-in-Ok-None-clause-given_up g c) c.requires.owned
-    (one-more-tile (g.C.ChainMeaning.held c.args.chain.now) c.args.name (values_of c.args.self.now.names.entries) c.requires.tile c.requires.over.tiles)
-    c.requires.over.some (rw c.in-Ok-None.ensures.entries c.requires.over.same)
-    c.len.ensures.valid.0 c.len.ensures.valid.1
+    cache-after _ _ _ _ _ _ _ _ (returns-in-Ok-None-clause-given_up g c) c.requires.owned (one-more-tile _ _ _ c.requires.tile c.requires.over.tiles)
+    c.requires.over.some (rw c.in-Ok-None.ensures.entries c.requires.over.same) c.len.ensures.valid.0 c.len.ensures.valid.1
 
 pub disown-requires : goal.disown-requires
 disown-requires g c =
@@ -51,13 +46,8 @@ returns-in-Ok-Some-clause-given_up g c =
 
 pub returns-in-Ok-Some-clause-over : goal.returns-in-Ok-Some-clause-over
 returns-in-Ok-Some-clause-over g c =
-    cache-after (c.args.name ∷ values_of c.args.self.now.names.entries) c.push.new.self.entries c.push.new.self.cap c.args.self.now.capacity
-    (g.C.ChainMeaning.held c.args.chain.now) (g.C.ChainMeaning.held c.disown.new.self)
-    (g.C.ChainMeaning.counts c.args.chain.now) (g.C.ChainMeaning.counts c.disown.new.self)
-    (returns-in-Ok-Some-clause-given_up g c) c.requires.owned
-    (one-more-tile (g.C.ChainMeaning.held c.args.chain.now) c.args.name (values_of c.args.self.now.names.entries) c.requires.tile c.requires.over.tiles)
-    c.requires.over.some (rw c.in-Ok-Some.ensures.entries c.requires.over.same)
-    c.len-in-Ok-Some.ensures.valid.0 c.len-in-Ok-Some.ensures.valid.1
+    cache-after _ _ _ _ _ _ _ _ (returns-in-Ok-Some-clause-given_up g c) c.requires.owned (one-more-tile _ _ _ c.requires.tile c.requires.over.tiles)
+    c.requires.over.some (rw c.in-Ok-Some.ensures.entries c.requires.over.same) c.len-in-Ok-Some.ensures.valid.0 c.len-in-Ok-Some.ensures.valid.1
 
 pub returns-in-Err-clause-given_up : goal.returns-in-Err-clause-given_up
 returns-in-Err-clause-given_up g c =
