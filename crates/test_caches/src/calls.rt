@@ -22,7 +22,7 @@ pub type Spot = (&'static str, i8, i8);
 type Pair = (Name, TileAt);
 
 /// Returns the name that a word is.
-pub fn name(rt: &impl Abort, word: &str) -> Name {
+fn name(rt: &impl Abort, word: &str) -> Name {
     Name::parse(word.as_bytes()).expect(rt, "a name")
 }
 
@@ -33,7 +33,7 @@ fn pair(rt: &impl Abort, spot: Spot) -> Pair {
 }
 
 /// Returns the rectangle of four fields, or the one without a position where they are none.
-pub fn rect(fields: [i64; 4]) -> Rect {
+fn rect(fields: [i64; 4]) -> Rect {
     let [x, y, w, h] = fields;
     Rect::new(x, y, w, h).unwrap_or(Rect::EMPTY)
 }
@@ -113,9 +113,10 @@ pub fn keep<H: ChainMeaning, C: PairStore<H>>(
 
 /// Takes the pairs of a node out whose tiles meet a rectangle.
 pub fn void<H: ChainMeaning, C: PairStore<H>>(
+    rt: &impl Abort,
     cache: &mut C,
     chain: &mut H,
-    node: Name,
+    node: &str,
     fields: [i64; 4],
 )
     requires over { C.is_over cache.old (H.held chain.old) }
@@ -123,6 +124,7 @@ pub fn void<H: ChainMeaning, C: PairStore<H>>(
     ensures over { C.is_over cache.new (H.held chain.new) }
     ensures lengths { HaveLength 4 (C.sizes cache.new (H.held chain.new)) }
 {
+    let node = name(rt, node);
     cache.void(chain, node, rect(fields));
 }
 
@@ -138,21 +140,4 @@ pub fn check_order<H: ChainMeaning, C: PairStore<H>>(
     for (found, spot) in order.iter().zip(wanted) {
         assert!(rt; *found == pair(rt, *spot));
     }
-}
-
-/// Checks the first byte of the tile of a spot, None where the pair isn't there.
-pub fn check<H: ChainMeaning, C: PairStore<H>>(
-    rt: &impl Abort,
-    cache: &mut C,
-    chain: &mut H,
-    spot: Spot,
-    wanted: Option<u8>,
-)
-    requires over { C.is_over cache.old (H.held chain.old) }
-    requires lengths { HaveLength 4 (C.sizes cache.old (H.held chain.old)) }
-    ensures over { C.is_over cache.new (H.held chain.new) }
-    ensures lengths { HaveLength 4 (C.sizes cache.new (H.held chain.new)) }
-{
-    let found = look(rt, cache, chain, spot).expect(rt, "a look");
-    assert_eq!(rt; found, wanted);
 }

@@ -1,144 +1,109 @@
 //! Small examples of either cache, whose lists are worked out by hand.
 
-ghost use Rattle.test_caches.specs.Lengths.{HaveLength};
-
-use crate::calls::{Spot, check, check_order, keep, name, void};
-use chain_owners::ChainMeaning;
-use node_cache::PairStore;
-use std::alloc::Global;
-use std::process::Abort;
-
-/// Keeps a tile for each of these pairs, of the bytes from 1 on.
-pub fn keep_all<H: ChainMeaning, C: PairStore<H>>(
-    rt: &impl Abort,
-    cache: &mut C,
-    chain: &mut H,
-    alloc: Global,
-    spots: &[Spot],
-)
-    requires over { C.is_over cache.old (H.held chain.old) }
-    requires lengths { HaveLength 4 (C.sizes cache.old (H.held chain.old)) }
-    ensures over { C.is_over cache.new (H.held chain.new) }
-    ensures lengths { HaveLength 4 (C.sizes cache.new (H.held chain.new)) }
-{
-    let mut byte: u8 = 0;
-    for spot in spots {
-        byte = byte.wrapping_add(1);
-        assert!(rt; keep(rt, cache, chain, alloc, *spot, byte) == Ok(true));
-    }
-}
+use crate::steps::Step::{self, Keep, Look, Order, Void};
+use chain_handlers::SwapRefused;
 
 /// Keeps two pairs, looks for the older one, and keeps a third: of at most two the one that wasn't looked
 /// for falls off. A void of a tile leaves the pairs of the others.
-pub fn keep_three_of_two<H: ChainMeaning, C: PairStore<H>>(
-    rt: &impl Abort,
-    cache: &mut C,
-    chain: &mut H,
-    alloc: Global,
-)
-    requires over { C.is_over cache.old (H.held chain.old) }
-    requires lengths { HaveLength 4 (C.sizes cache.old (H.held chain.old)) }
-    ensures over { C.is_over cache.new (H.held chain.new) }
-    ensures lengths { HaveLength 4 (C.sizes cache.new (H.held chain.new)) }
-{
-    keep_all(rt, cache, chain, alloc, &[("n", 0, 0), ("n", 1, 0)]);
-    check(rt, cache, chain, ("n", 0, 0), Some(1));
-    assert!(rt; keep(rt, cache, chain, alloc, ("n", 0, 1), 3) == Ok(true));
-    check_order(rt, cache, chain, &[("n", 0, 1), ("n", 0, 0)]);
-    check(rt, cache, chain, ("n", 1, 0), None);
-    check_order(rt, cache, chain, &[("n", 0, 1), ("n", 0, 0)]);
-    void(cache, chain, name(rt, "n"), [5, 5, 1, 1]);
-    check_order(rt, cache, chain, &[("n", 0, 1)]);
-    check(rt, cache, chain, ("n", 0, 1), Some(3));
-}
+pub const THREE_OF_TWO: [Step; 10] = [
+    Keep(("n", 0, 0), 1, Ok(true)),
+    Keep(("n", 1, 0), 2, Ok(true)),
+    Look(("n", 0, 0), Ok(Some(1))),
+    Keep(("n", 0, 1), 3, Ok(true)),
+    Order(&[("n", 0, 1), ("n", 0, 0)]),
+    Look(("n", 1, 0), Ok(None)),
+    Order(&[("n", 0, 1), ("n", 0, 0)]),
+    Void("n", [5, 5, 1, 1]),
+    Order(&[("n", 0, 1)]),
+    Look(("n", 0, 1), Ok(Some(3))),
+];
 
 /// Looks for pairs that are there, and for one of another node and one of another tile: each look that finds
 /// something moves it to the front, and no other changes the order.
-pub fn look_for_all<H: ChainMeaning, C: PairStore<H>>(
-    rt: &impl Abort,
-    cache: &mut C,
-    chain: &mut H,
-    alloc: Global,
-)
-    requires over { C.is_over cache.old (H.held chain.old) }
-    requires lengths { HaveLength 4 (C.sizes cache.old (H.held chain.old)) }
-    ensures over { C.is_over cache.new (H.held chain.new) }
-    ensures lengths { HaveLength 4 (C.sizes cache.new (H.held chain.new)) }
-{
-    keep_all(
-        rt,
-        cache,
-        chain,
-        alloc,
-        &[("n", -1, 0), ("n", 0, -1), ("m", 0, 0)],
-    );
-    check_order(rt, cache, chain, &[("m", 0, 0), ("n", 0, -1), ("n", -1, 0)]);
-    check(rt, cache, chain, ("n", -1, 0), Some(1));
-    check(rt, cache, chain, ("m", 0, 0), Some(3));
-    check(rt, cache, chain, ("n", 0, -1), Some(2));
-    check_order(rt, cache, chain, &[("n", 0, -1), ("m", 0, 0), ("n", -1, 0)]);
-    check(rt, cache, chain, ("n", 0, 0), None);
-    check(rt, cache, chain, ("m", -1, 0), None);
-    check_order(rt, cache, chain, &[("n", 0, -1), ("m", 0, 0), ("n", -1, 0)]);
-    assert!(rt; keep(rt, cache, chain, alloc, ("n", -1, 0), 9) == Ok(false));
-    check(rt, cache, chain, ("n", -1, 0), Some(1));
-    check_order(rt, cache, chain, &[("n", -1, 0), ("n", 0, -1), ("m", 0, 0)]);
-}
+pub const LOOKS: [Step; 14] = [
+    Keep(("n", -1, 0), 1, Ok(true)),
+    Keep(("n", 0, -1), 2, Ok(true)),
+    Keep(("m", 0, 0), 3, Ok(true)),
+    Order(&[("m", 0, 0), ("n", 0, -1), ("n", -1, 0)]),
+    Look(("n", -1, 0), Ok(Some(1))),
+    Look(("m", 0, 0), Ok(Some(3))),
+    Look(("n", 0, -1), Ok(Some(2))),
+    Order(&[("n", 0, -1), ("m", 0, 0), ("n", -1, 0)]),
+    Look(("n", 0, 0), Ok(None)),
+    Look(("m", -1, 0), Ok(None)),
+    Order(&[("n", 0, -1), ("m", 0, 0), ("n", -1, 0)]),
+    Keep(("n", -1, 0), 9, Ok(false)),
+    Look(("n", -1, 0), Ok(Some(1))),
+    Order(&[("n", -1, 0), ("n", 0, -1), ("m", 0, 0)]),
+];
 
 /// Voids rectangles of fewer tiles than there are pairs, of more, and of none: the pairs of the node whose
 /// tiles meet the rectangle go, and the others keep their order.
-pub fn void_some<H: ChainMeaning, C: PairStore<H>>(
-    rt: &impl Abort,
-    cache: &mut C,
-    chain: &mut H,
-    alloc: Global,
-)
-    requires over { C.is_over cache.old (H.held chain.old) }
-    requires lengths { HaveLength 4 (C.sizes cache.old (H.held chain.old)) }
-    ensures over { C.is_over cache.new (H.held chain.new) }
-    ensures lengths { HaveLength 4 (C.sizes cache.new (H.held chain.new)) }
-{
-    keep_all(
-        rt,
-        cache,
-        chain,
-        alloc,
-        &[
-            ("n", 0, 0),
-            ("n", 1, 0),
-            ("n", -1, 0),
-            ("m", 0, 0),
-            ("m", 1, 0),
-            ("n", 0, 1),
-        ],
-    );
-    void(cache, chain, name(rt, "n"), [0, 0, 0, 0]);
-    void(cache, chain, name(rt, "k"), [-640, -640, 1280, 1280]);
-    check_order(
-        rt,
-        cache,
-        chain,
-        &[
-            ("n", 0, 1),
-            ("m", 1, 0),
-            ("m", 0, 0),
-            ("n", -1, 0),
-            ("n", 1, 0),
-            ("n", 0, 0),
-        ],
-    );
-    void(cache, chain, name(rt, "n"), [63, 63, 2, 1]);
-    check_order(
-        rt,
-        cache,
-        chain,
-        &[("n", 0, 1), ("m", 1, 0), ("m", 0, 0), ("n", -1, 0)],
-    );
-    void(cache, chain, name(rt, "m"), [64, -640, 640, 1280]);
-    check_order(rt, cache, chain, &[("n", 0, 1), ("m", 0, 0), ("n", -1, 0)]);
-    void(cache, chain, name(rt, "n"), [-640, -640, 1280, 640]);
-    check_order(rt, cache, chain, &[("n", 0, 1), ("m", 0, 0), ("n", -1, 0)]);
-    void(cache, chain, name(rt, "n"), [-640, 63, 1280, 640]);
-    check_order(rt, cache, chain, &[("m", 0, 0)]);
-    check(rt, cache, chain, ("m", 0, 0), Some(4));
-}
+pub const VOIDS: [Step; 18] = [
+    Keep(("n", 0, 0), 1, Ok(true)),
+    Keep(("n", 1, 0), 2, Ok(true)),
+    Keep(("n", -1, 0), 3, Ok(true)),
+    Keep(("m", 0, 0), 4, Ok(true)),
+    Keep(("m", 1, 0), 5, Ok(true)),
+    Keep(("n", 0, 1), 6, Ok(true)),
+    Void("n", [0, 0, 0, 0]),
+    Void("k", [-640, -640, 1280, 1280]),
+    Order(&[
+        ("n", 0, 1),
+        ("m", 1, 0),
+        ("m", 0, 0),
+        ("n", -1, 0),
+        ("n", 1, 0),
+        ("n", 0, 0),
+    ]),
+    Void("n", [63, 63, 2, 1]),
+    Order(&[("n", 0, 1), ("m", 1, 0), ("m", 0, 0), ("n", -1, 0)]),
+    Void("m", [64, -640, 640, 1280]),
+    Order(&[("n", 0, 1), ("m", 0, 0), ("n", -1, 0)]),
+    Void("n", [-640, -640, 1280, 640]),
+    Order(&[("n", 0, 1), ("m", 0, 0), ("n", -1, 0)]),
+    Void("n", [-640, 63, 1280, 640]),
+    Order(&[("m", 0, 0)]),
+    Look(("m", 0, 0), Ok(Some(4))),
+];
+
+/// Keeps two pairs over a disk whose first write and first read fail, of whose tiles one is in memory: a
+/// refused call leaves the list as it was, and is made again.
+pub const FAULTS: [Step; 10] = [
+    Keep(("n", 0, 0), 1, Ok(true)),
+    Keep(("n", 1, 0), 2, Err(SwapRefused::SwapFault)),
+    Order(&[("n", 0, 0)]),
+    Keep(("n", 1, 0), 2, Ok(true)),
+    Order(&[("n", 1, 0), ("n", 0, 0)]),
+    Look(("n", 0, 0), Err(SwapRefused::SwapFault)),
+    Order(&[("n", 1, 0), ("n", 0, 0)]),
+    Look(("n", 0, 0), Ok(Some(1))),
+    Look(("n", 1, 0), Ok(Some(2))),
+    Order(&[("n", 1, 0), ("n", 0, 0)]),
+];
+
+/// Keeps four pairs of which one stays, over a disk of one block: what falls off gives its room up.
+pub const FOUR_OF_ONE: [Step; 7] = [
+    Keep(("n", 0, 0), 1, Ok(true)),
+    Keep(("n", 1, 0), 2, Ok(true)),
+    Keep(("m", 0, 0), 3, Ok(true)),
+    Keep(("m", 1, 0), 4, Ok(true)),
+    Order(&[("m", 1, 0)]),
+    Look(("m", 0, 0), Ok(None)),
+    Look(("m", 1, 0), Ok(Some(4))),
+];
+
+/// The refusal of a tile by a disk without free blocks.
+const FULL: SwapRefused = SwapRefused::SwapFull {
+    needed: 1,
+    longest: 0,
+};
+
+/// Keeps pairs of which all stay, until the disk of one block is full: the list is then as it was.
+pub const UNTIL_FULL: [Step; 5] = [
+    Keep(("n", 0, 0), 1, Ok(true)),
+    Keep(("n", 1, 0), 2, Ok(true)),
+    Keep(("n", 2, 0), 3, Err(FULL)),
+    Order(&[("n", 1, 0), ("n", 0, 0)]),
+    Look(("n", 1, 0), Ok(Some(2))),
+];

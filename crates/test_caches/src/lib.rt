@@ -6,6 +6,6 @@ mod calls;
 #[cfg(test)]
 mod examples;
 #[cfg(test)]
-mod failures;
+mod steps;
 #[cfg(test)]
 mod tests;

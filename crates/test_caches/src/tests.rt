@@ -1,8 +1,10 @@
 //! The examples over both caches.
 
+ghost use Rattle.std.specs.Prelude.{◌≤◌};
+
 use crate::calls::{check_order, hand_cache, node_cache};
-use crate::examples::{keep_all, keep_three_of_two, look_for_all, void_some};
-use crate::failures::{go_on_after_faults, keep_four_of_one, keep_until_full};
+use crate::examples::{FAULTS, FOUR_OF_ONE, LOOKS, THREE_OF_TWO, UNTIL_FULL, VOIDS};
+use crate::steps::{Step, make};
 use chain_handlers::Chain;
 use chain_owners::ChainMeaning;
 use node_cache::PairStore;
@@ -11,86 +13,65 @@ use std::alloc::Global;
 use std::process::Abort;
 use std::test::Fail;
 
-/// Runs an example of at most two pairs over a chain of one tile in memory.
-fn keep_over<D: SwapDisk>(rt: &impl Abort, alloc: Global, disk: &mut D) -> Result<(), Fail> {
-    let mut chain = Chain::new(alloc, disk, 16, 1)?;
-    let mut cache = node_cache(&chain, alloc, 2)?;
-    keep_three_of_two(rt, &mut cache, &mut chain, alloc);
+/// Returns how many pairs a keep leaves at most.
+fn bound_of<H: ChainMeaning, C: PairStore<H>>(cache: &C, _chain: &H) -> Option<u32> {
+    cache.bound()
+}
+
+/// Makes examples one after another over a chain of so many blocks, of whose tiles one is in memory, each on
+/// a cache of its own of at most so many pairs, which is its bound.
+fn make_over<D: SwapDisk>(
+    rt: &impl Abort,
+    alloc: Global,
+    disk: &mut D,
+    blocks: u32,
+    pairs: u32,
+    examples: &[&[Step]],
+) -> Result<(), Fail>
+    requires { 1 ≤ pairs }
+{
+    let mut chain = Chain::new(alloc, disk, blocks, 1)?;
+    for steps in examples {
+        let mut cache = node_cache(&chain, alloc, pairs)?;
+        assert_eq!(rt; bound_of(&cache, &chain), Some(pairs));
+        make(rt, &mut cache, &mut chain, alloc, steps);
+    }
     Ok(())
 }
 
 #[test]
-fn the_pair_that_was_not_looked_for_falls_off(rt: HostRuntime) -> Result<(), Fail> {
-    let mut disk = SureSwap::new(rt.alloc(), 16)?;
-    keep_over(&rt, rt.alloc(), &mut disk)
-}
-
-/// Runs examples of a few pairs over a chain of one tile in memory.
-fn look_over<D: SwapDisk>(rt: &impl Abort, alloc: Global, disk: &mut D) -> Result<(), Fail> {
-    let mut chain = Chain::new(alloc, disk, 16, 1)?;
-    let mut cache = node_cache(&chain, alloc, 6)?;
-    look_for_all(rt, &mut cache, &mut chain, alloc);
-    let mut cache = node_cache(&chain, alloc, 6)?;
-    void_some(rt, &mut cache, &mut chain, alloc);
-    Ok(())
+fn pairs_over_a_chain(rt: HostRuntime) -> Result<(), Fail> {
+    let alloc = rt.alloc();
+    let mut disk = SureSwap::new(alloc, 16)?;
+    make_over(&rt, alloc, &mut disk, 16, 2, &[&THREE_OF_TWO])?;
+    let mut disk = SureSwap::new(alloc, 16)?;
+    make_over(&rt, alloc, &mut disk, 16, 6, &[&LOOKS, &VOIDS])
 }
 
 #[test]
-fn looks_and_voids_over_a_chain(rt: HostRuntime) -> Result<(), Fail> {
-    let mut disk = SureSwap::new(rt.alloc(), 16)?;
-    look_over(&rt, rt.alloc(), &mut disk)
-}
-
-/// Runs the example of a disk that fails, over a chain of one tile in memory.
-fn fail_over<D: SwapDisk>(rt: &impl Abort, alloc: Global, disk: &mut D) -> Result<(), Fail> {
-    let mut chain = Chain::new(alloc, disk, 16, 1)?;
-    let mut cache = node_cache(&chain, alloc, 2)?;
-    go_on_after_faults(rt, &mut cache, &mut chain, alloc);
-    Ok(())
+fn pairs_over_a_disk_of_one_block(rt: HostRuntime) -> Result<(), Fail> {
+    let alloc = rt.alloc();
+    let mut disk = SureSwap::new(alloc, 1)?;
+    make_over(&rt, alloc, &mut disk, 1, 1, &[&FOUR_OF_ONE])?;
+    let mut disk = SureSwap::new(alloc, 1)?;
+    make_over(&rt, alloc, &mut disk, 1, 9, &[&UNTIL_FULL])
 }
 
 #[test]
 fn calls_that_the_disk_refuses_are_made_again(rt: HostRuntime) -> Result<(), Fail> {
     let alloc = rt.alloc();
     let mut disk = MemSwap::new(alloc, 16, vec![in alloc; 1]?, vec![in alloc; 1]?)?;
-    fail_over(&rt, alloc, &mut disk)
-}
-
-/// Runs examples over chains of one block, of whose tiles one is in memory.
-fn fill_over<D: SwapDisk>(rt: &impl Abort, alloc: Global, disk: &mut D) -> Result<(), Fail> {
-    let mut chain = Chain::new(alloc, disk, 1, 1)?;
-    let mut cache = node_cache(&chain, alloc, 1)?;
-    keep_four_of_one(rt, &mut cache, &mut chain, alloc);
-    Ok(())
+    make_over(&rt, alloc, &mut disk, 16, 2, &[&FAULTS])
 }
 
 #[test]
-fn a_pair_that_falls_off_gives_its_room_up(rt: HostRuntime) -> Result<(), Fail> {
-    let mut disk = SureSwap::new(rt.alloc(), 1)?;
-    fill_over(&rt, rt.alloc(), &mut disk)
-}
-
-/// Runs the example of a full disk over a chain of one block, of whose tiles one is in memory.
-fn full_over<D: SwapDisk>(rt: &impl Abort, alloc: Global, disk: &mut D) -> Result<(), Fail> {
-    let mut chain = Chain::new(alloc, disk, 1, 1)?;
-    let mut cache = node_cache(&chain, alloc, 9)?;
-    keep_until_full(rt, &mut cache, &mut chain, alloc);
-    Ok(())
-}
-
-#[test]
-fn a_full_disk_refuses_a_pair(rt: HostRuntime) -> Result<(), Fail> {
-    let mut disk = SureSwap::new(rt.alloc(), 1)?;
-    full_over(&rt, rt.alloc(), &mut disk)
-}
-
-#[test]
-fn looks_and_voids_in_memory(rt: HostRuntime) -> Result<(), Fail> {
+fn pairs_in_memory(rt: HostRuntime) -> Result<(), Fail> {
     let alloc = rt.alloc();
-    let mut cache = hand_cache(alloc, 1)?;
-    look_for_all(&rt, &mut cache, &mut (), alloc);
-    let mut cache = hand_cache(alloc, 1)?;
-    void_some(&rt, &mut cache, &mut (), alloc);
+    for steps in [LOOKS.as_slice(), VOIDS.as_slice()] {
+        let mut cache = hand_cache(alloc, 1)?;
+        assert_eq!(rt; bound_of(&cache, &()), None);
+        make(&rt, &mut cache, &mut (), alloc, steps);
+    }
     Ok(())
 }
 
@@ -98,31 +79,13 @@ fn looks_and_voids_in_memory(rt: HostRuntime) -> Result<(), Fail> {
 fn a_cache_in_memory_is_cut_by_its_trim(rt: HostRuntime) -> Result<(), Fail> {
     let alloc = rt.alloc();
     let mut cache = hand_cache(alloc, 1)?;
-    keep_all(&rt, &mut cache, &mut (), alloc, &[("n", 0, 0), ("n", 1, 0)]);
-    check_order(&rt, &cache, &(), &[("n", 1, 0), ("n", 0, 0)]);
+    let steps = [
+        Step::Keep(("n", 0, 0), 1, Ok(true)),
+        Step::Keep(("n", 1, 0), 2, Ok(true)),
+        Step::Order(&[("n", 1, 0), ("n", 0, 0)]),
+    ];
+    make(&rt, &mut cache, &mut (), alloc, &steps);
     cache.trim();
     check_order(&rt, &cache, &(), &[("n", 1, 0)]);
-    Ok(())
-}
-
-/// Checks how many pairs a cache over a chain keeps.
-fn bound_over<D: SwapDisk>(rt: &impl Abort, alloc: Global, disk: &mut D) -> Result<(), Fail> {
-    let chain = Chain::new(alloc, disk, 1, 1)?;
-    let cache = node_cache(&chain, alloc, 7)?;
-    assert_eq!(rt; bound_of(&cache, &chain), Some(7));
-    Ok(())
-}
-
-/// Returns how many pairs a keep leaves at most.
-fn bound_of<H: ChainMeaning, C: PairStore<H>>(cache: &C, _chain: &H) -> Option<u32> {
-    cache.bound()
-}
-
-#[test]
-fn only_a_cache_over_a_chain_is_bounded(rt: HostRuntime) -> Result<(), Fail> {
-    let mut disk = SureSwap::new(rt.alloc(), 1)?;
-    bound_over(&rt, rt.alloc(), &mut disk)?;
-    let cache = hand_cache(rt.alloc(), 7)?;
-    assert_eq!(rt; bound_of(&cache, &()), None);
     Ok(())
 }

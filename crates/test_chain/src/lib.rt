@@ -12,4 +12,6 @@ mod plain;
 #[cfg(test)]
 mod play;
 #[cfg(test)]
+mod steps;
+#[cfg(test)]
 mod tests;

@@ -9,7 +9,6 @@ use no_memory::NoMemory;
 use outside_io::SwapDisk;
 use std::alloc::Global;
 use std::process::Abort;
-use std::test::Fail;
 use tile_cow::Tile;
 
 /// A tile of 4,096 times this byte.
@@ -67,30 +66,21 @@ pub fn disown<C: TileChain>(rt: &impl Abort, chain: &mut C, name: u64) -> u32
     chain.owners(name)
 }
 
-/// Reads a page, whatever is in it.
-pub fn read<C: TileChain>(chain: &mut C, name: u64) -> Result<(), SwapRefused>
-    requires { HasPages (C.held chain.old) (C.is_valid chain.old) }
-    ensures { HasPages (C.held chain.new) (C.is_valid chain.new) }
-{
-    let _tile = chain.read(name, 4_096)?;
-    Ok(())
+/// Returns the byte that a page has everywhere.
+pub fn byte_of(rt: &impl Abort, page: &Tile) -> u8 {
+    let byte = page.bytes().first().copied();
+    assert!(rt; page.bytes().len() == 4_096);
+    assert!(rt; page.bytes().iter().all(|other| Some(*other) == byte));
+    byte.unwrap_or(0)
 }
 
-/// Checks that a name reads as a page of this byte.
-pub fn check<C: TileChain>(
-    rt: &impl Abort,
-    chain: &mut C,
-    alloc: Global,
-    name: u64,
-    byte: u8,
-) -> Result<(), Fail>
+/// Reads a name, and returns the byte of its page.
+pub fn read<C: TileChain>(rt: &impl Abort, chain: &mut C, name: u64) -> Result<u8, SwapRefused>
     requires { HasPages (C.held chain.old) (C.is_valid chain.old) }
     ensures { HasPages (C.held chain.new) (C.is_valid chain.new) }
 {
     let tile = chain.read(name, 4_096)?;
-    let wanted = page(alloc, byte)?;
-    assert_eq!(rt; tile.bytes(), wanted.bytes(), "the page of {name}");
-    Ok(())
+    Ok(byte_of(rt, &tile))
 }
 
 /// Returns a chain without names over so many blocks of a disk, of which so many pages are in memory.

@@ -35,22 +35,17 @@ impl PlainNames {
         self.entries.get(index as usize).copied()
     }
 
-    /// Adds a name of one owner.
-    pub fn add(&mut self, name: u64, byte: u8) -> Result<(), AllocError> {
-        self.entries.push(PlainName {
-            name,
-            byte,
-            owners: 1,
-        })?;
+    /// Adds a name.
+    pub fn add(&mut self, entry: PlainName) -> Result<(), AllocError> {
+        self.entries.push(entry)?;
         Ok(())
     }
 
-    /// Gives a name another page, and so many owners. Without owners it goes.
-    pub fn change(&mut self, name: u64, byte: u8, owners: u32) {
+    /// Gives a name the page and the owners of this entry. Without owners it goes.
+    pub fn change(&mut self, after: PlainName) {
         for entry in self.entries.iter_mut() {
-            if entry.name == name {
-                entry.byte = byte;
-                entry.owners = owners;
+            if entry.name == after.name {
+                *entry = after;
             }
         }
         self.entries.retain(|entry| entry.owners > 0);

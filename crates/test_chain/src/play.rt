@@ -3,12 +3,11 @@
 
 ghost use Rattle.test_chain.specs.Pages.{HasPages};
 
-use crate::pages::{add, check, disown, own, read, replace};
+use crate::pages::{add, disown, own, read, replace};
 use crate::plain::{PlainName, PlainNames};
 use chain_handlers::{SwapRefused, TileChain};
 use std::alloc::Global;
 use std::process::Abort;
-use std::test::Fail;
 
 /// How many names there are at most.
 const MANY: usize = 12;
@@ -31,149 +30,157 @@ fn refusals<T>(rt: &impl Abort, answer: &Result<T, SwapRefused>) -> u32 {
     }
 }
 
-/// Checks the page and the owners of a name.
-fn check_name<C: TileChain>(
-    rt: &impl Abort,
-    chain: &mut C,
-    alloc: Global,
-    entry: PlainName,
-) -> Result<u32, Fail>
+/// Checks the page and the owners of a name. Returns how many reads were refused once.
+fn check_name<C: TileChain>(rt: &impl Abort, chain: &mut C, entry: PlainName) -> u32
     requires { HasPages (C.held chain.old) (C.is_valid chain.old) }
     ensures { HasPages (C.held chain.new) (C.is_valid chain.new) }
 {
     assert_eq!(rt; chain.owners(entry.name), entry.owners);
-    let refused = refusals(rt, &read(chain, entry.name));
-    check(rt, chain, alloc, entry.name, entry.byte)?;
-    Ok(refused)
+    let refused = refusals(rt, &read(rt, chain, entry.name));
+    assert_eq!(rt; read(rt, chain, entry.name), Ok(entry.byte));
+    refused
 }
 
-/// Checks the pages and the owners of all names.
-fn check_all<C: TileChain>(
-    rt: &impl Abort,
-    chain: &mut C,
-    alloc: Global,
-    names: &PlainNames,
-) -> Result<u32, Fail>
+/// Checks the pages and the owners of all names. Returns how many reads were refused once.
+fn check_all<C: TileChain>(rt: &impl Abort, chain: &mut C, names: &PlainNames) -> u32
     requires { HasPages (C.held chain.old) (C.is_valid chain.old) }
     ensures { HasPages (C.held chain.new) (C.is_valid chain.new) }
 {
     let mut refused = 0u32;
     for entry in names.as_slice() {
-        refused = refused.saturating_add(check_name(rt, chain, alloc, *entry)?);
+        refused = refused.saturating_add(check_name(rt, chain, *entry));
     }
-    Ok(refused)
+    refused
 }
 
-/// Adds a name to both.
-fn add_to_both<C: TileChain>(
-    rt: &impl Abort,
-    chain: &mut C,
-    alloc: Global,
-    names: &mut PlainNames,
-    byte: u8,
-) -> Result<u32, Fail>
-    requires { HasPages (C.held chain.old) (C.is_valid chain.old) }
-    ensures { HasPages (C.held chain.new) (C.is_valid chain.new) }
-{
-    let first = add(chain, alloc, byte);
-    let refused = refusals(rt, &first);
-    let name = match first {
-        Ok(name) => name,
-        Err(_) => {
-            check_all(rt, chain, alloc, names)?;
-            add(chain, alloc, byte)?
-        }
-    };
-    assert!(rt; name != 0);
-    assert!(rt; names.as_slice().iter().all(|entry| entry.name != name));
-    names.add(name, byte)?;
-    Ok(refused)
+/// A call on a chain, with what the list has of its name before it.
+#[derive(Clone, Copy)]
+enum Call {
+    /// Adds a name of a page of this byte.
+    Add(u8),
+
+    /// Adds an owner.
+    Own(PlainName),
+
+    /// Takes an owner away.
+    Disown(PlainName),
+
+    /// Replaces the page of a name of one owner by one of this byte.
+    Replace(PlainName, u8),
+
+    /// Reads a page.
+    Read(PlainName),
+
+    /// Writes all pages to the disk.
+    Flush,
 }
 
-/// Replaces the page of a name of one owner in both.
-fn replace_in_both<C: TileChain>(
-    rt: &impl Abort,
-    chain: &mut C,
-    alloc: Global,
-    names: &mut PlainNames,
-    entry: PlainName,
-    byte: u8,
-) -> Result<u32, Fail>
-    requires { HasPages (C.held chain.old) (C.is_valid chain.old) }
-    ensures { HasPages (C.held chain.new) (C.is_valid chain.new) }
-{
-    let refused = refusals(rt, &replace(rt, chain, alloc, entry.name, byte));
-    if refused > 0 {
-        check_all(rt, chain, alloc, names)?;
-        replace(rt, chain, alloc, entry.name, byte)?;
-    }
-    names.change(entry.name, byte, 1);
-    Ok(refused)
-}
-
-/// Writes all pages to the disk.
-fn flush<C: TileChain>(rt: &impl Abort, chain: &mut C) -> Result<u32, Fail>
-    requires { HasPages (C.held chain.old) (C.is_valid chain.old) }
-    ensures { HasPages (C.held chain.new) (C.is_valid chain.new) }
-{
-    let refused = refusals(rt, &chain.flush());
-    chain.flush()?;
-    Ok(refused)
-}
-
-/// Makes a call of some kind on a name, in both.
-fn change_in_both<C: TileChain>(
-    rt: &impl Abort,
-    chain: &mut C,
-    alloc: Global,
-    names: &mut PlainNames,
-    entry: PlainName,
-    random: u64,
-) -> Result<u32, Fail>
-    requires { HasPages (C.held chain.old) (C.is_valid chain.old) }
-    ensures { HasPages (C.held chain.new) (C.is_valid chain.new) }
-{
+/// Returns the call that a random number chooses.
+fn chosen(names: &PlainNames, random: u64) -> Call {
     let byte = ((random >> 20) % 256) as u8;
-    match (random >> 40) % 5 {
-        0 => names.change(entry.name, entry.byte, own(rt, chain, entry.name)),
-        1 | 2 => names.change(entry.name, entry.byte, disown(rt, chain, entry.name)),
-        3 if entry.owners == 1 => return replace_in_both(rt, chain, alloc, names, entry, byte),
-        _ => return check_name(rt, chain, alloc, entry),
-    }
-    Ok(0)
-}
-
-/// Makes one call on a chain and on a plain list.
-fn step<C: TileChain>(
-    rt: &impl Abort,
-    chain: &mut C,
-    alloc: Global,
-    names: &mut PlainNames,
-    random: u64,
-) -> Result<u32, Fail>
-    requires { HasPages (C.held chain.old) (C.is_valid chain.old) }
-    ensures { HasPages (C.held chain.new) (C.is_valid chain.new) }
-{
     if random >> 60 == 0 {
-        return flush(rt, chain);
+        return Call::Flush;
     }
     let few = names.as_slice().len() < MANY;
-    match names.some(random >> 33) {
-        Some(entry) if !few || (random >> 30) % 3 > 0 => {
-            change_in_both(rt, chain, alloc, names, entry, random)
-        }
-        _ => add_to_both(rt, chain, alloc, names, ((random >> 20) % 256) as u8),
+    let entry = match names.some(random >> 33) {
+        Some(entry) if !few || (random >> 30) % 3 > 0 => entry,
+        _ => return Call::Add(byte),
+    };
+    match (random >> 40) % 5 {
+        0 => Call::Own(entry),
+        1 | 2 => Call::Disown(entry),
+        3 if entry.owners == 1 => Call::Replace(entry, byte),
+        _ => Call::Read(entry),
     }
+}
+
+/// Makes a call on a chain. Returns what the list should have of its name then, if it is of a name.
+fn make<C: TileChain>(
+    rt: &impl Abort,
+    chain: &mut C,
+    alloc: Global,
+    call: Call,
+) -> Result<Option<PlainName>, SwapRefused>
+    requires { HasPages (C.held chain.old) (C.is_valid chain.old) }
+    ensures { HasPages (C.held chain.new) (C.is_valid chain.new) }
+{
+    match call {
+        Call::Add(byte) => {
+            let name = add(chain, alloc, byte)?;
+            let owners = 1;
+            Ok(Some(PlainName { name, byte, owners }))
+        }
+        Call::Own(entry) => {
+            let owners = own(rt, chain, entry.name);
+            Ok(Some(PlainName { owners, ..entry }))
+        }
+        Call::Disown(entry) => {
+            let owners = disown(rt, chain, entry.name);
+            Ok(Some(PlainName { owners, ..entry }))
+        }
+        Call::Replace(entry, byte) => {
+            replace(rt, chain, alloc, entry.name, byte)?;
+            Ok(Some(PlainName { byte, ..entry }))
+        }
+        Call::Read(entry) => {
+            let byte = read(rt, chain, entry.name)?;
+            let (name, owners) = (entry.name, chain.owners(entry.name));
+            Ok(Some(PlainName { name, byte, owners }))
+        }
+        Call::Flush => {
+            chain.flush()?;
+            Ok(None)
+        }
+    }
+}
+
+/// Makes a call that was made on a chain on the list, which then has this of its name.
+fn note(rt: &impl Abort, names: &mut PlainNames, call: Call, after: PlainName) {
+    match call {
+        Call::Add(_) => {
+            assert!(rt; after.name != 0);
+            assert!(rt;
+                names
+                    .as_slice()
+                    .iter()
+                    .all(|entry| entry.name != after.name)
+            );
+            names.add(after).expect(rt, "memory");
+        }
+        Call::Read(entry) => assert_eq!(rt; after, entry),
+        _ => names.change(after),
+    }
+}
+
+/// Makes a call on a chain and on a plain list. Returns how often it was refused.
+fn make_both<C: TileChain>(
+    rt: &impl Abort,
+    chain: &mut C,
+    alloc: Global,
+    names: &mut PlainNames,
+    call: Call,
+) -> u32
+    requires { HasPages (C.held chain.old) (C.is_valid chain.old) }
+    ensures { HasPages (C.held chain.new) (C.is_valid chain.new) }
+{
+    let first = make(rt, chain, alloc, call);
+    let refused = refusals(rt, &first);
+    let after = match first {
+        Ok(after) => after,
+        Err(_) => {
+            check_all(rt, chain, names);
+            make(rt, chain, alloc, call).expect(rt, "the call again")
+        }
+    };
+    if let Some(after) = after {
+        note(rt, names, call, after);
+    }
+    refused
 }
 
 /// Makes so many calls on a chain without names and on a plain list, and compares them at the end. Returns
 /// how many calls were refused once.
-pub fn play<C: TileChain>(
-    rt: &impl Abort,
-    chain: &mut C,
-    alloc: Global,
-    steps: u64,
-) -> Result<u32, Fail>
+pub fn play<C: TileChain>(rt: &impl Abort, chain: &mut C, alloc: Global, steps: u64) -> u32
     requires { HasPages (C.held chain.old) (C.is_valid chain.old) }
 {
     let mut names = PlainNames::new(alloc);
@@ -181,7 +188,8 @@ pub fn play<C: TileChain>(
     let mut random = next(steps);
     for _step in 0..steps {
         random = next(random);
-        refused = refused.saturating_add(step(rt, chain, alloc, &mut names, random)?);
+        let call = chosen(&names, random);
+        refused = refused.saturating_add(make_both(rt, chain, alloc, &mut names, call));
     }
-    Ok(refused.saturating_add(check_all(rt, chain, alloc, &names)?))
+    refused.saturating_add(check_all(rt, chain, &names))
 }

@@ -13,7 +13,6 @@ use pixel_formats::Format;
 use plane_rect::TileAt;
 use std::alloc::Global;
 use std::process::Abort;
-use std::test::Fail;
 use swap_store::SwapRefused;
 use tile_cow::Tile;
 
@@ -145,15 +144,14 @@ pub fn check<C: TileChain>(
     at: TileAt,
     side: usize,
     byte: u8,
-) -> Result<(), Fail>
+)
     requires gray { IsGray table.old.tiles (C.held chain.old) }
     ensures gray { IsGray table.new.tiles (C.held chain.new) }
     ensures others { Respects (C.held chain.old) (C.held chain.new) (names table.old.tiles) (names table.new.tiles) }
 {
     assert!(rt; level <= 8);
-    let tile = table.tile(chain, level, at)?;
+    let tile = table.tile(chain, level, at).expect(rt, "a tile");
     check_samples(rt, tile.bytes(), side, byte);
-    Ok(())
 }
 
 /// Checks that a tile has this byte in its first rows and columns, so many of both, and zero elsewhere.
@@ -174,9 +172,9 @@ pub fn check_first<C: TileChain>(
     level: u32,
     side: usize,
     byte: u8,
-) -> Result<(), Fail>
+)
     requires two { AreTwo table.old.tiles second.now.tiles (C.held chain.old) }
     ensures { AreTwo table.new.tiles second.now.tiles (C.held chain.new) }
 {
-    check(rt, table, chain, level, tile_at(0, 0), side, byte)
+    check(rt, table, chain, level, tile_at(0, 0), side, byte);
 }

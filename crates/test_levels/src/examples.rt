@@ -12,7 +12,6 @@ use chain_handlers::{SwapRefused, TileChain};
 use level_tables::{LevelTable, NewTiles};
 use std::alloc::Global;
 use std::process::Abort;
-use std::test::Fail;
 
 /// A tile put twice, and what is averaged from it. A tile of a level is held, under a name, once it was asked
 /// for, until a tile below it is put; it is never held where nothing was put.
@@ -49,12 +48,11 @@ const THREE: [Step; 7] = [
 ];
 
 /// Puts a tile twice, and checks what is averaged from it and which names there are.
-pub fn put_again<C: TileChain>(rt: &impl Abort, chain: &mut C, alloc: Global) -> Result<(), Fail> {
+pub fn put_again<C: TileChain>(rt: &impl Abort, chain: &mut C, alloc: Global) {
     let mut table = no_tiles(chain, alloc);
-    make(rt, &mut table, chain, alloc, &PUT_AGAIN)?;
+    make(rt, &mut table, chain, alloc, &PUT_AGAIN);
     table.release(chain);
     assert_eq!(rt; count_names(chain), 0);
-    Ok(())
 }
 
 /// Checks that a tile that is put into the second of two tables isn't in the first.
@@ -64,23 +62,23 @@ fn put_apart<C: TileChain>(
     other: &mut LevelTable,
     chain: &mut C,
     alloc: Global,
-) -> Result<(), Fail>
+)
     requires { AreTwo one.old.tiles other.old.tiles (C.held chain.old) }
     ensures { AreTwo one.new.tiles other.new.tiles (C.held chain.new) }
 {
-    put_second(one, other, chain, alloc, tile_at(0, 0), 4)?;
-    check_first(rt, one, other, chain, 0, 64, 100)?;
-    check_first(rt, one, other, chain, 1, 32, 100)
+    put_second(one, other, chain, alloc, tile_at(0, 0), 4).expect(rt, "room for a tile");
+    check_first(rt, one, other, chain, 0, 64, 100);
+    check_first(rt, one, other, chain, 1, 32, 100);
 }
 
 /// Shares a table, and checks that a tile that is put into one of the two isn't in the other, also after
 /// that is given up.
-pub fn share_one<C: TileChain>(rt: &impl Abort, chain: &mut C, alloc: Global) -> Result<(), Fail> {
+pub fn share_one<C: TileChain>(rt: &impl Abort, chain: &mut C, alloc: Global) {
     let mut one = no_tiles(chain, alloc);
     let steps = [Step::Put(0, 0, 100), Step::Shows(1, 0, 0, 32, 100)];
-    make(rt, &mut one, chain, alloc, &steps)?;
-    let mut other = share(&one, chain)?;
-    put_apart(rt, &mut one, &mut other, chain, alloc)?;
+    make(rt, &mut one, chain, alloc, &steps);
+    let mut other = share(&one, chain).expect(rt, "memory");
+    put_apart(rt, &mut one, &mut other, chain, alloc);
     release_first(one, &other, chain);
     let steps = [
         Step::Names(1),
@@ -88,14 +86,13 @@ pub fn share_one<C: TileChain>(rt: &impl Abort, chain: &mut C, alloc: Global) ->
         Step::Shows(1, 0, 0, 32, 4),
         Step::Names(2),
     ];
-    make(rt, &mut other, chain, alloc, &steps)?;
+    make(rt, &mut other, chain, alloc, &steps);
     other.release(chain);
     assert_eq!(rt; count_names(chain), 0);
-    Ok(())
 }
 
 /// Puts three tiles, one after another.
-pub fn put_three<C: TileChain>(rt: &impl Abort, chain: &mut C, alloc: Global) -> Result<(), Fail> {
+pub fn put_three<C: TileChain>(rt: &impl Abort, chain: &mut C, alloc: Global) {
     let mut table = no_tiles(chain, alloc);
     let steps = [
         Step::Put(0, 0, 9),
@@ -104,8 +101,8 @@ pub fn put_three<C: TileChain>(rt: &impl Abort, chain: &mut C, alloc: Global) ->
         Step::Put(2, 0, 40),
         Step::Put(0, 2, 8),
     ];
-    make(rt, &mut table, chain, alloc, &steps)?;
-    make(rt, &mut table, chain, alloc, &THREE)
+    make(rt, &mut table, chain, alloc, &steps);
+    make(rt, &mut table, chain, alloc, &THREE);
 }
 
 /// Adds three new tiles beside a table.
@@ -125,34 +122,26 @@ fn add_three<C: TileChain>(
 }
 
 /// Makes three tiles a table's own at once.
-pub fn switch_three<C: TileChain>(
-    rt: &impl Abort,
-    chain: &mut C,
-    alloc: Global,
-) -> Result<(), Fail> {
+pub fn switch_three<C: TileChain>(rt: &impl Abort, chain: &mut C, alloc: Global) {
     let mut table = no_tiles(chain, alloc);
     let steps = [Step::Put(0, 0, 9), Step::Shows(1, 0, 0, 32, 9)];
-    make(rt, &mut table, chain, alloc, &steps)?;
-    table.reserve(3)?;
+    make(rt, &mut table, chain, alloc, &steps);
+    table.reserve(3).expect(rt, "memory");
     let mut tiles = no_new_tiles(&table, chain, alloc);
-    add_three(&mut tiles, &table, chain, alloc)?;
+    add_three(&mut tiles, &table, chain, alloc).expect(rt, "room for tiles");
     switch(&mut table, chain, tiles);
-    make(rt, &mut table, chain, alloc, &THREE)
+    make(rt, &mut table, chain, alloc, &THREE);
 }
 
 /// Adds new tiles over a disk that fails at its first write, gives them up, and checks that the table is
 /// as before.
-pub fn add_in_vain<C: TileChain>(
-    rt: &impl Abort,
-    chain: &mut C,
-    alloc: Global,
-) -> Result<(), Fail> {
+pub fn add_in_vain<C: TileChain>(rt: &impl Abort, chain: &mut C, alloc: Global) {
     let mut table = no_tiles(chain, alloc);
-    make(rt, &mut table, chain, alloc, &[Step::Put(0, 0, 9)])?;
+    make(rt, &mut table, chain, alloc, &[Step::Put(0, 0, 9)]);
     let mut tiles = no_new_tiles(&table, chain, alloc);
     let refused = add(&mut tiles, &table, chain, alloc, tile_at(0, 0), 100);
     assert_eq!(rt; refused, Err(SwapRefused::SwapFault));
-    add(&mut tiles, &table, chain, alloc, tile_at(2, 0), 40)?;
+    add(&mut tiles, &table, chain, alloc, tile_at(2, 0), 40).expect(rt, "room for a tile");
     discard(&table, chain, tiles);
     let steps = [
         Step::Names(1),
@@ -160,5 +149,5 @@ pub fn add_in_vain<C: TileChain>(
         Step::Shows(0, 2, 0, 0, 0),
         Step::Names(1),
     ];
-    make(rt, &mut table, chain, alloc, &steps)
+    make(rt, &mut table, chain, alloc, &steps);
 }

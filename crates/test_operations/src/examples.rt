@@ -1,148 +1,188 @@
 //! The operations on two pixels of each format, on parts of tiles, and where they are refused.
 
-use crate::cases::{CASES, Case};
-use crate::shown::{Fields, applied, gives, rect, row, window};
+use crate::cases::{
+    ABOVE, CHECKERED, COMPOSITED, CONVERTED, DILATED, ERODED, FIRST, FORMATS, GAINED, INVERTED,
+    MASKED, MEANS, PIXEL, Rows, SECOND, SUMS,
+};
+use crate::shown::{Fields, applied, check, row, window};
 use int_ops::{IntKit, IntOp};
-use op_contracts::OpKit;
+use op_contracts::{OpKit, Window};
 use pixel_formats::{Abyss, Format, PixelSamples};
 use std::alloc::Global;
-use std::test::Fail;
+use std::process::Abort;
+use test_rects::rect;
 
-/// The formats, in the order of the results of conversions.
-const FORMATS: [Format; 8] = [
-    Format::Y8,
-    Format::YA8,
-    Format::RGB8,
-    Format::RGBA8,
-    Format::Y16,
-    Format::YA16,
-    Format::RGB16,
-    Format::RGBA16,
-];
+/// Where the two pixels are.
+const PAIR: Fields = [0, 0, 2, 1];
 
-/// Returns operations of one image, and the rectangles of their results of two pixels.
-fn operations_of_one() -> [(IntOp, Fields); 10] {
-    let abyss = [Abyss::Clamp, Abyss::Black, Abyss::White];
-    let [clamp, black, white] = abyss;
+/// Returns operations of one image that compute samples, with their results.
+fn changes() -> [(IntOp, Rows); 6] {
     [
-        (IntOp::Invert, [0, 0, 2, 1]),
-        (IntOp::Threshold { at: 100 }, [0, 0, 2, 1]),
-        (IntOp::Gain { num: 5, den: 4 }, [0, 0, 2, 1]),
-        (IntOp::Translate { dx: 9, dy: -3 }, [9, -3, 2, 1]),
-        (
-            IntOp::Crop {
-                rect: rect([1, -1, 9, 9]),
-            },
-            [1, 0, 1, 1],
-        ),
-        (IntOp::Flip { sideways: true }, [0, 0, 2, 1]),
-        (IntOp::Flip { sideways: false }, [0, 0, 2, 1]),
+        (IntOp::Invert, INVERTED),
+        (IntOp::Threshold { at: 100 }, ABOVE),
+        (IntOp::Gain { num: 5, den: 4 }, GAINED),
         (
             IntOp::BoxMean {
                 radius: 1,
-                abyss: clamp,
+                abyss: Abyss::Clamp,
             },
-            [0, 0, 2, 1],
+            MEANS,
         ),
         (
             IntOp::Dilate {
                 radius: 1,
-                abyss: black,
+                abyss: Abyss::Black,
             },
-            [0, 0, 2, 1],
+            DILATED,
         ),
         (
             IntOp::Erode {
                 radius: 1,
-                abyss: white,
+                abyss: Abyss::White,
             },
-            [0, 0, 2, 1],
+            ERODED,
         ),
     ]
 }
 
-/// Returns whether operations of the first image of a case give its results.
-fn give_of_one(alloc: Global, operations: &[(IntOp, Fields)], case: &Case) -> Result<bool, Fail> {
-    let windows = [row(alloc, case.format, case.first)?];
-    let mut all = true;
-    for ((op, out), raw) in operations.iter().zip(&case.of_one) {
-        all = all && gives(alloc, op, &windows, *out, raw)?;
+/// Returns operations of one image that move pixels, with the rectangles of their results and the pixels there,
+/// by their numbers.
+fn moves() -> [(IntOp, Fields, &'static [usize]); 4] {
+    let rect = rect([1, -1, 9, 9]);
+    [
+        (IntOp::Translate { dx: 9, dy: -3 }, [9, -3, 2, 1], &[0, 1]),
+        (IntOp::Crop { rect }, [1, 0, 1, 1], &[1]),
+        (IntOp::Flip { sideways: true }, PAIR, &[1, 0]),
+        (IntOp::Flip { sideways: false }, PAIR, &[0, 1]),
+    ]
+}
+
+/// Checks the results of an operation of the first image of each format.
+fn check_change(rt: &impl Abort, alloc: Global, op: &IntOp, results: Rows) {
+    for ((format, image), raw) in FORMATS.into_iter().zip(FIRST).zip(results) {
+        let windows = [row(rt, alloc, format, image)];
+        check(rt, alloc, op, &windows, PAIR, raw);
     }
-    Ok(all)
 }
 
 #[test]
-fn operations_of_one_image(rt: HostRuntime) -> Result<(), Fail> {
-    let operations = operations_of_one();
-    for case in &CASES {
-        assert!(rt; give_of_one(rt.alloc(), &operations, case)?);
+fn changes_of_samples(rt: HostRuntime) {
+    for (op, results) in &changes() {
+        check_change(&rt, rt.alloc(), op, *results);
     }
-    Ok(())
 }
 
-/// Returns whether the first image of a case is converted to each format as it should be.
-fn is_converted(alloc: Global, case: &Case) -> Result<bool, Fail> {
-    let windows = [row(alloc, case.format, case.first)?];
-    let mut all = true;
-    for (format, raw) in FORMATS.iter().zip(&case.converted) {
-        let op = IntOp::Convert { format: *format };
-        all = all && gives(alloc, &op, &windows, [0, 0, 2, 1], raw)?;
+/// Returns the image of these pixels of an image.
+fn picked(rt: &impl Abort, alloc: Global, width: usize, image: &[u8], pixels: &[usize]) -> Vec<u8> {
+    let mut bytes = Vec::new(alloc);
+    for pixel in pixels {
+        let taken = image.iter().skip(pixel.saturating_mul(width)).take(width);
+        for byte in taken {
+            bytes.push(*byte).expect(rt, "memory");
+        }
     }
-    Ok(all)
+    bytes
+}
+
+/// Checks the pixels of what an operation of the first image of each format gives over a rectangle.
+fn check_move(rt: &impl Abort, alloc: Global, op: &IntOp, out: Fields, pixels: &[usize]) {
+    for (format, image) in FORMATS.into_iter().zip(FIRST) {
+        let windows = [row(rt, alloc, format, image)];
+        let raw = picked(rt, alloc, format.pixel_bytes() as usize, image, pixels);
+        check(rt, alloc, op, &windows, out, &raw);
+    }
 }
 
 #[test]
-fn conversions(rt: HostRuntime) -> Result<(), Fail> {
-    for case in &CASES {
-        assert!(rt; is_converted(rt.alloc(), case)?);
+fn moves_of_pixels(rt: HostRuntime) {
+    for (op, out, pixels) in &moves() {
+        check_move(&rt, rt.alloc(), op, *out, pixels);
     }
-    Ok(())
 }
 
-/// Returns whether an operation of two rows of pixels gives these raw bytes.
-fn gives_of_two(
+#[test]
+fn conversions(rt: HostRuntime) {
+    for ((format, image), results) in FORMATS.into_iter().zip(FIRST).zip(CONVERTED) {
+        let windows = [row(&rt, rt.alloc(), format, image)];
+        for (format, raw) in FORMATS.into_iter().zip(results) {
+            let op = IntOp::Convert { format };
+            check(&rt, rt.alloc(), &op, &windows, PAIR, raw);
+        }
+    }
+}
+
+/// Returns the windows of both images of a format.
+fn both(
+    rt: &impl Abort,
     alloc: Global,
-    op: &IntOp,
-    first: (Format, &[u8]),
-    second: (Format, &[u8]),
-    raw: &[u8],
-) -> Result<bool, Fail> {
-    let pair = [
-        row(alloc, first.0, first.1)?,
-        row(alloc, second.0, second.1)?,
-    ];
-    gives(alloc, op, &pair, [0, 0, 2, 1], raw)
+    format: Format,
+    first: &[u8],
+    second: &[u8],
+) -> [Window; 2] {
+    [
+        row(rt, alloc, format, first),
+        row(rt, alloc, format, second),
+    ]
 }
 
-/// Returns whether the images of a case are added, masked and composited as they should be.
-fn give_of_two(alloc: Global, case: &Case) -> Result<bool, Fail> {
-    let [added, masked, composited] = case.of_two;
-    let (first, second) = ((case.format, case.first), (case.format, case.second));
-    let over = gives_of_two(alloc, &IntOp::Over, first, second, composited)?;
-    Ok(
-        over == case.format.has_alpha()
-            && gives_of_two(alloc, &IntOp::Add, first, second, added)?
-            && gives_of_two(alloc, &IntOp::Mask, first, case.mask, masked)?,
-    )
+/// Returns a mask of two pixels for images of a format.
+fn mask_of(rt: &impl Abort, alloc: Global, format: Format) -> Window {
+    match format.depth() {
+        1 => row(rt, alloc, Format::Y8, &[128, 255]),
+        _ => row(rt, alloc, Format::Y16, &[0, 128, 244, 1]),
+    }
 }
 
 #[test]
-fn operations_of_two_images(rt: HostRuntime) -> Result<(), Fail> {
-    for case in &CASES {
-        assert!(rt; give_of_two(rt.alloc(), case)?);
+fn sums(rt: HostRuntime) {
+    for (((format, first), second), raw) in FORMATS.into_iter().zip(FIRST).zip(SECOND).zip(SUMS) {
+        let windows = both(&rt, rt.alloc(), format, first, second);
+        check(&rt, rt.alloc(), &IntOp::Add, &windows, PAIR, raw);
     }
-    Ok(())
 }
 
-/// Returns the color of a case over two pixels.
-fn color_of(alloc: Global, case: &Case) -> Result<IntOp, Fail> {
+#[test]
+fn masked_images(rt: HostRuntime) {
+    for ((format, first), raw) in FORMATS.into_iter().zip(FIRST).zip(MASKED) {
+        let windows = [
+            row(&rt, rt.alloc(), format, first),
+            mask_of(&rt, rt.alloc(), format),
+        ];
+        check(&rt, rt.alloc(), &IntOp::Mask, &windows, PAIR, raw);
+    }
+}
+
+/// Checks what two windows of a format give that are composited. Without alpha they are refused.
+fn check_over(rt: &impl Abort, alloc: Global, format: Format, windows: &[Window], raw: &[u8]) {
+    if format.has_alpha() {
+        check(rt, alloc, &IntOp::Over, windows, PAIR, raw);
+    } else {
+        assert!(rt; applied(rt, alloc, &IntOp::Over, windows, PAIR).is_none());
+    }
+}
+
+#[test]
+fn composited_images(rt: HostRuntime) {
+    for (((format, first), second), raw) in FORMATS
+        .into_iter()
+        .zip(FIRST)
+        .zip(SECOND)
+        .zip(COMPOSITED)
+    {
+        let windows = both(&rt, rt.alloc(), format, first, second);
+        check_over(&rt, rt.alloc(), format, &windows, raw);
+    }
+}
+
+/// Returns one color over two pixels.
+fn color_of(rt: &impl Abort, alloc: Global, format: Format, pixel: &[u32]) -> IntOp {
     let mut samples = Vec::new(alloc);
-    samples.extend_from_slice(case.pixel)?;
-    Ok(IntOp::Color {
-        format: case.format,
+    samples.extend_from_slice(pixel).expect(rt, "memory");
+    IntOp::Color {
+        format,
         rect: rect([-1, 0, 2, 1]),
         samples: PixelSamples::new(samples),
-    })
+    }
 }
 
 /// Returns squares of two pixels a side of 9 and 77, over the same two pixels.
@@ -156,80 +196,81 @@ fn checker_of(format: Format) -> IntOp {
     }
 }
 
-/// Returns whether an operation without an input gives these two pixels, which are in two tiles.
-fn gives_of_none(alloc: Global, op: &IntOp, pixel: usize, raw: &[u8]) -> Result<bool, Fail> {
-    match raw.split_at_checked(pixel) {
-        Some((left, right)) => Ok(
-            gives(alloc, op, &[], [-1, 0, 1, 1], left)?
-                && gives(alloc, op, &[], [0, 0, 1, 1], right)?,
-        ),
-        None => Ok(false),
-    }
-}
-
-/// Returns whether the operations without an input give what a case says.
-fn give_of_none(alloc: Global, case: &Case) -> Result<bool, Fail> {
-    let pixel = case.format.pixel_bytes() as usize;
-    let [colored, checkered] = case.of_none;
-    let color = color_of(alloc, case)?;
-    let checker = checker_of(case.format);
-    Ok(
-        gives_of_none(alloc, &color, pixel, colored)?
-            && gives_of_none(alloc, &checker, pixel, checkered)?,
-    )
+/// Checks the two pixels that an operation without an input gives, which are in two tiles.
+fn check_of_none(rt: &impl Abort, alloc: Global, op: &IntOp, left: &[u8], right: &[u8]) {
+    check(rt, alloc, op, &[], [-1, 0, 1, 1], left);
+    check(rt, alloc, op, &[], [0, 0, 1, 1], right);
 }
 
 #[test]
-fn operations_of_no_image(rt: HostRuntime) -> Result<(), Fail> {
-    for case in &CASES {
-        assert!(rt; give_of_none(rt.alloc(), case)?);
+fn colors(rt: HostRuntime) {
+    for ((format, image), pixel) in FORMATS.into_iter().zip(FIRST).zip(PIXEL) {
+        let color = color_of(&rt, rt.alloc(), format, pixel);
+        let (raw, _) = image.split_at(image.len() / 2);
+        check_of_none(&rt, rt.alloc(), &color, raw, raw);
     }
-    Ok(())
-}
-
-/// Returns whether a copy of an operation is the same operation.
-fn is_copied(alloc: Global, op: &IntOp) -> Result<bool, Fail> {
-    let copy = IntKit.copy_op(alloc, op)?;
-    Ok(IntKit.same(op, &copy))
 }
 
 #[test]
-fn copies_are_the_same_operation(rt: HostRuntime) -> Result<(), Fail> {
-    for (op, _) in &operations_of_one() {
-        assert!(rt; is_copied(rt.alloc(), op)?);
+fn checkerboards(rt: HostRuntime) {
+    for (format, image) in FORMATS.into_iter().zip(CHECKERED) {
+        let (left, right) = image.split_at(image.len() / 2);
+        check_of_none(&rt, rt.alloc(), &checker_of(format), left, right);
+    }
+}
+
+/// Checks that a copy of an operation is the same operation.
+fn check_copy(rt: &impl Abort, alloc: Global, op: &IntOp) {
+    let copy = IntKit.copy_op(alloc, op).expect(rt, "memory");
+    assert!(rt; IntKit.same(op, &copy));
+}
+
+#[test]
+fn copies_are_the_same_operation(rt: HostRuntime) {
+    for (op, _) in &changes() {
+        check_copy(&rt, rt.alloc(), op);
+    }
+    for (op, _, _) in &moves() {
+        check_copy(&rt, rt.alloc(), op);
     }
     let gain = IntOp::Gain { num: 5, den: 4 };
     let other = IntOp::Gain { num: 4, den: 5 };
     assert!(rt; !IntKit.same(&gain, &other));
-    Ok(())
 }
 
 #[test]
-fn sums_and_masks_of_other_boxes(rt: HostRuntime) -> Result<(), Fail> {
+fn sums_and_masks_of_other_boxes(rt: HostRuntime) {
     let alloc = rt.alloc();
     let pair = [
-        window(alloc, [0, 0, 2, 1], Format::Y8, &[1, 2])?,
-        window(alloc, [1, 0, 3, 1], Format::Y8, &[255, 128, 7])?,
+        window(&rt, alloc, [0, 0, 2, 1], Format::Y8, &[1, 2]),
+        window(&rt, alloc, [1, 0, 3, 1], Format::Y8, &[255, 128, 7]),
     ];
-    let add = [1, 255, 128, 7];
-    assert!(rt; gives(alloc, &IntOp::Add, &pair, [0, 0, 4, 1], &add)?);
-    assert!(rt; gives(alloc, &IntOp::Mask, &pair, [1, 0, 1, 1], &[2])?);
-    let outside = applied(alloc, &IntOp::Mask, &pair, [0, 0, 2, 1])?;
+    check(
+        &rt,
+        alloc,
+        &IntOp::Add,
+        &pair,
+        [0, 0, 4, 1],
+        &[1, 255, 128, 7],
+    );
+    check(&rt, alloc, &IntOp::Mask, &pair, [1, 0, 1, 1], &[2]);
+    let outside = applied(&rt, alloc, &IntOp::Mask, &pair, [0, 0, 2, 1]);
     assert!(rt; outside.is_none());
-    Ok(())
 }
 
 #[test]
-fn results_that_are_empty(rt: HostRuntime) -> Result<(), Fail> {
+fn results_that_are_empty(rt: HostRuntime) {
     let alloc = rt.alloc();
     let apart = IntOp::Crop {
         rect: rect([5, 5, 1, 1]),
     };
-    let image = [row(alloc, Format::RGB8, &[1, 2, 3])?];
-    assert!(rt; gives(alloc, &apart, &image, [0, 0, 0, 0], &[])?);
-    let empty = [row(alloc, Format::Y16, &[])?];
-    for (op, _) in &operations_of_one() {
-        assert!(rt; gives(alloc, op, &empty, [0, 0, 0, 0], &[])?);
+    let image = [row(&rt, alloc, Format::RGB8, &[1, 2, 3])];
+    check(&rt, alloc, &apart, &image, [0, 0, 0, 0], &[]);
+    let empty = [row(&rt, alloc, Format::Y16, &[])];
+    for (op, _) in &changes() {
+        check(&rt, alloc, op, &empty, [0, 0, 0, 0], &[]);
     }
-    Ok(())
+    for (op, _, _) in &moves() {
+        check(&rt, alloc, op, &empty, [0, 0, 0, 0], &[]);
+    }
 }

@@ -1,74 +1,65 @@
 //! Operations on small images.
 
-ghost use Rattle.plane_rect.specs.Rectangle.{InLimits};
-
 use int_ops::{IntKit, IntOp, IntPurse};
 use op_contracts::{Window, WindowTiles};
 use patch_abyss::Patch;
 use pixel_formats::Format;
-use plane_rect::{Rect, TileAt};
-use std::alloc::{AllocError, Global};
-use std::test::Fail;
+use plane_rect::TileAt;
+use std::alloc::Global;
+use std::process::Abort;
 use test_kit::applied_part;
+use test_rects::rect;
 
 /// A rectangle by x, y, width and height.
 pub(crate) type Fields = [i64; 4];
 
-/// Returns the rectangle of four fields, or the one without a position where they are none.
-pub(crate) fn rect(fields: Fields) -> Rect
-    ensures { InLimits result }
-{
-    let [x, y, w, h] = fields;
-    match Rect::new(x, y, w, h) {
-        Ok(rect) if rect.in_limits() => rect,
-        _ => Rect::EMPTY,
-    }
-}
-
 /// Returns the window that shows a whole image by all of its tiles.
 pub(crate) fn window(
+    rt: &impl Abort,
     alloc: Global,
     bounds: Fields,
     format: Format,
     raw: &[u8],
-) -> Result<Window, Fail> {
+) -> Window {
     let bounds = rect(bounds);
-    let patch = Patch::from_raw(alloc, bounds, format, raw)?;
+    let patch = Patch::from_raw(alloc, bounds, format, raw).expect(rt, "an image");
     let mut entries = Vec::new(alloc);
     for at in bounds.tiles() {
-        let entry = (at, patch.tile(alloc, at)?);
-        entries.push(entry).map_err(AllocError::from)?;
+        let tile = patch.tile(alloc, at).expect(rt, "memory");
+        entries.push((at, tile)).expect(rt, "memory");
     }
-    Ok(Window::new(bounds, format, bounds, WindowTiles::new(entries)))
+    Window::new(bounds, format, bounds, WindowTiles::new(entries))
 }
 
 /// Returns the window of a row of pixels from the origin on.
-pub(crate) fn row(alloc: Global, format: Format, raw: &[u8]) -> Result<Window, Fail> {
+pub(crate) fn row(rt: &impl Abort, alloc: Global, format: Format, raw: &[u8]) -> Window {
     let pixels = raw.len() / format.pixel_bytes() as usize;
-    window(alloc, [0, 0, pixels as i64, 1], format, raw)
+    window(rt, alloc, [0, 0, pixels as i64, 1], format, raw)
 }
 
 /// Returns a part of what an operation gives of windows, in the tile where it begins, if it takes them.
 pub(crate) fn applied(
+    rt: &impl Abort,
     alloc: Global,
     op: &IntOp,
     windows: &[Window],
     out: Fields,
-) -> Result<Option<Patch>, Fail> {
+) -> Option<Patch> {
     let out = rect(out);
     let tile = TileAt::of_position(out.first_column(), out.first_row());
     let mut purse = IntPurse::new(1);
-    Ok(applied_part(&IntKit, alloc, &mut purse, op, windows, tile, out)?)
+    applied_part(&IntKit, alloc, &mut purse, op, windows, tile, out).expect(rt, "memory")
 }
 
-/// Returns whether an operation gives these raw bytes over a rectangle.
-pub(crate) fn gives(
+/// Checks the raw bytes that an operation gives over a rectangle.
+pub(crate) fn check(
+    rt: &impl Abort,
     alloc: Global,
     op: &IntOp,
     windows: &[Window],
     out: Fields,
     raw: &[u8],
-) -> Result<bool, Fail> {
-    let patch = applied(alloc, op, windows, out)?;
-    Ok(patch.is_some_and(|patch| patch.raw_bytes() == raw))
+) {
+    let patch = applied(rt, alloc, op, windows, out).expect(rt, "a part of a result");
+    assert_eq!(rt; patch.raw_bytes(), raw, "{out:?}");
 }

@@ -2,8 +2,6 @@
 #![tactic(auto)]
 
 #[cfg(test)]
-mod cases;
-#[cfg(test)]
 mod halved_cases;
 #[cfg(test)]
 mod read_cases;

@@ -1,45 +1,18 @@
 //! Expected values are worked out by hand from the doc comments, but for those of the tables.
 
-ghost use Rattle.std.specs.Prelude.{IfOk, ◌≡◌};
-ghost use Rattle.plane_rect.specs.Rectangle.{InLimits};
+ghost use Rattle.std.specs.Prelude.{IfOk, ◌≡◌, ◌≤◌};
 ghost use Rattle.pixel_formats.specs.declared.format.Format.TheVariants.{Y8};
 
-use crate::cases::Samples;
 use crate::halved_cases::HALVED;
-use crate::read_cases::READ;
+use crate::read_cases::{AROUND_TWO, Drawn, Image, READ, TWO};
 use patch_abyss::{Abyss, Patch, PatchRefused, fetch, halve};
 use pixel_formats::Format;
-use plane_rect::{Rect, TileAt};
+use plane_rect::TileAt;
 use std::alloc::Global;
+use std::process::Abort;
 use std::test::Fail;
+use test_rects::rect;
 use tile_cow::Tile;
-
-/// Returns the rectangle of four fields, or the one without a position where they are none.
-fn rect(fields: [i64; 4]) -> Rect
-    ensures { InLimits result }
-{
-    let [x, y, w, h] = fields;
-    match Rect::new(x, y, w, h) {
-        Ok(rect) if rect.in_limits() => rect,
-        _ => Rect::EMPTY,
-    }
-}
-
-/// The policies, in the order of the tables.
-const POLICIES: [Abyss; 5] = [
-    Abyss::None,
-    Abyss::Clamp,
-    Abyss::Loop,
-    Abyss::Black,
-    Abyss::White,
-];
-
-impl Samples {
-    /// Returns the patch of these samples.
-    fn patch(self, alloc: Global) -> Result<Patch, PatchRefused> {
-        Patch::from_raw(alloc, rect(self.bounds), self.format, self.bytes)
-    }
-}
 
 /// Returns the patch of rows 1 2 and 3 4 from x = y = -1 on.
 fn one_to_four(alloc: Global) -> Result<Patch, PatchRefused>
@@ -132,16 +105,86 @@ fn puts_tiles(rt: HostRuntime) -> Result<(), Fail> {
     Ok(())
 }
 
+/// The policies.
+const POLICIES: [Abyss; 5] = [
+    Abyss::None,
+    Abyss::Clamp,
+    Abyss::Loop,
+    Abyss::Black,
+    Abyss::White,
+];
+
+/// The bytes of a white pixel of the widest format, and of one that is zero.
+const WHITE: &[u8] = &[255; 8];
+
+const ZERO: &[u8] = &[0; 8];
+
+/// Returns how many bytes a pixel of an image has.
+fn width_of(image: &Image) -> usize
+    ensures { 1 ≤ result }
+{
+    image.black.len().max(1)
+}
+
+/// Returns the bytes of a pixel as it is drawn: one of the image's, or what a policy has outside.
+fn drawn_pixel(image: &Image, abyss: Abyss, drawn: u8) -> Option<&'static [u8]> {
+    let width = width_of(image);
+    match (drawn, abyss) {
+        (b'.', Abyss::Black) => Some(image.black),
+        (b'.', Abyss::White) => WHITE.get(..width),
+        (b'.', _) => ZERO.get(..width),
+        _ => image
+            .bytes
+            .chunks(width)
+            .nth(usize::from(drawn.wrapping_sub(b'1'))),
+    }
+}
+
+/// Checks the pixels of a patch that was read of an image under a policy.
+fn check_pixels(rt: &impl Abort, patch: &Patch, image: &Image, abyss: Abyss, drawn: &str) {
+    let width = width_of(image);
+    assert_eq!(rt; patch.raw_bytes().len(), drawn.len().saturating_mul(width));
+    for (pixel, drawn) in patch.raw_bytes().chunks(width).zip(drawn.as_bytes()) {
+        let wanted = drawn_pixel(image, abyss, *drawn);
+        assert!(rt; wanted == Some(pixel), "{abyss:?} over {:?}", patch.rect());
+    }
+}
+
+/// Checks what is read of an image over a rectangle under each policy.
+fn check_reads(
+    rt: &impl Abort,
+    alloc: Global,
+    image: &Image,
+    (over, drawn): Drawn,
+) -> Result<(), Fail> {
+    let [plain, clamped, looped] = drawn;
+    let from = Patch::from_raw(alloc, rect(image.bounds), image.format, image.bytes)?;
+    for abyss in POLICIES {
+        let patch = fetch(alloc, &from, abyss, rect(over))?;
+        assert!(rt; patch.rect() == rect(over) && patch.format() == image.format);
+        let drawn = match abyss {
+            Abyss::Clamp => clamped,
+            Abyss::Loop => looped,
+            _ => plain,
+        };
+        check_pixels(rt, &patch, image, abyss, drawn);
+    }
+    Ok(())
+}
+
 #[test]
 fn reads_under_each_policy(rt: HostRuntime) -> Result<(), Fail> {
-    let alloc = rt.alloc();
-    for case in READ {
-        let image = case.image.patch(alloc)?;
-        for (abyss, bytes) in POLICIES.into_iter().zip(case.gives) {
-            let patch = fetch(alloc, &image, abyss, rect(case.over))?;
-            assert!(rt; patch.rect() == rect(case.over) && patch.format() == case.image.format);
-            assert_eq!(rt; patch.raw_bytes(), bytes, "{abyss:?} over {:?}", case.over);
-        }
+    for (image, drawn) in READ {
+        check_reads(&rt, rt.alloc(), &image, drawn)?;
+    }
+    for (format, black, bytes) in TWO {
+        let image = Image {
+            bounds: [0, 0, 2, 1],
+            format,
+            black,
+            bytes,
+        };
+        check_reads(&rt, rt.alloc(), &image, AROUND_TWO)?;
     }
     Ok(())
 }
@@ -217,15 +260,11 @@ fn reads_of_each_length(rt: HostRuntime) -> Result<(), Fail> {
 #[test]
 fn halves(rt: HostRuntime) -> Result<(), Fail> {
     let alloc = rt.alloc();
-    for case in HALVED {
-        let half = halve(alloc, &case.image.patch(alloc)?)?;
-        assert!(rt; half.rect() == rect(case.half.bounds) && half.format() == case.half.format);
-        assert_eq!(rt;
-            half.raw_bytes(),
-            case.half.bytes,
-            "{:?}",
-            case.image.bounds
-        );
+    for (format, bounds, bytes, half_bounds, half_bytes) in HALVED {
+        let image = Patch::from_raw(alloc, rect(bounds), format, bytes)?;
+        let half = halve(alloc, &image)?;
+        assert!(rt; half.rect() == rect(half_bounds) && half.format() == format);
+        assert_eq!(rt; half.raw_bytes(), half_bytes, "{bounds:?}");
     }
     Ok(())
 }

@@ -2,15 +2,15 @@
 
 ghost use Rattle.test_roots.specs.Gray.{IsGray};
 
-use crate::calls::{check, fill, new_root, part, put, rect, rect_inside};
+use crate::calls::{fill, new_root, part, put, rect_inside};
 use chain_handlers::TileChain;
 use patch_abyss::Patch;
 use root_tiles::Root;
 use std::alloc::Global;
 use std::process::Abort;
-use std::test::Fail;
 use std::thread::Threads;
 use swap_store::SwapRefused;
+use test_rects::rect;
 use worker_pieces::Workers;
 
 /// The box of the roots.
@@ -30,14 +30,14 @@ const RECTS: [[i64; 4]; 6] = [
 const BANDS: [(u32, u32); 4] = [(0, 1), (1, 3), (2, 1), (9, 3)];
 
 /// Returns bytes that no short period has.
-fn noise(alloc: Global, count: u64) -> Result<Vec<u8>, Fail> {
+fn noise(rt: &impl Abort, alloc: Global, count: u64) -> Vec<u8> {
     let mut bytes = Vec::new(alloc);
     let mut state: u32 = 1;
     for _ in 0..count {
         state = state.wrapping_mul(1_664_525).wrapping_add(1_013_904_223);
-        bytes.push((state >> 24) as u8)?;
+        bytes.push((state >> 24) as u8).expect(rt, "memory");
     }
-    Ok(bytes)
+    bytes
 }
 
 /// Writes bytes over a rectangle of the box in bands.
@@ -65,13 +65,13 @@ fn written_whole<C: TileChain>(
     alloc: Global,
     fields: [i64; 4],
     bytes: &[u8],
-) -> Result<Patch, Fail> {
+) -> Patch {
     let mut root = new_root(chain, alloc, BOX);
-    fill(rt, &mut root, chain, BOX, 9)?;
-    put(rt, &mut root, chain, fields, bytes)?;
-    let image = part(rt, &root, chain, BOX)?;
+    fill(rt, &mut root, chain, BOX, 9).expect(rt, "a write");
+    put(rt, &mut root, chain, fields, bytes).expect(rt, "a write");
+    let image = part(rt, &root, chain, BOX).expect(rt, "a part");
     root.release(chain);
-    Ok(image)
+    image
 }
 
 /// Returns the whole box once bytes are written over a rectangle in bands of so many rows of tiles.
@@ -83,13 +83,14 @@ fn written_in_bands<C: TileChain, R: Threads + Sync>(
     bytes: Vec<u8>,
     lines: u32,
     workers: Workers<'_, R>,
-) -> Result<Patch, Fail> {
+) -> Patch {
     let mut root = new_root(chain, alloc, BOX);
-    fill(rt, &mut root, chain, BOX, 9)?;
-    put_bands(rt, &mut root, chain, fields, bytes, lines, workers)?;
-    let image = part(rt, &root, chain, BOX)?;
+    fill(rt, &mut root, chain, BOX, 9).expect(rt, "a write");
+    let written = put_bands(rt, &mut root, chain, fields, bytes, lines, workers);
+    written.expect(rt, "a write");
+    let image = part(rt, &root, chain, BOX).expect(rt, "a part");
     root.release(chain);
-    Ok(image)
+    image
 }
 
 /// Writes over a rectangle whole and in bands, and compares the whole box.
@@ -99,38 +100,34 @@ fn compare_bands<C: TileChain>(
     alloc: Global,
     fields: [i64; 4],
     bands: (u32, u32),
-) -> Result<(), Fail> {
-    let bytes = noise(alloc, rect(fields).area())?;
-    let whole = written_whole(rt, chain, alloc, fields, &bytes)?;
+) {
+    let bytes = noise(rt, alloc, rect(fields).area());
+    let whole = written_whole(rt, chain, alloc, fields, &bytes);
     let workers = Workers::new(rt, bands.1);
-    let parts = written_in_bands(rt, chain, alloc, fields, bytes, bands.0, workers)?;
+    let parts = written_in_bands(rt, chain, alloc, fields, bytes, bands.0, workers);
     assert!(rt; whole.raw_bytes() == parts.raw_bytes());
-    Ok(())
 }
 
-/// Writes over a rectangle in bands of each kind.
-fn compare_rect<C: TileChain>(
-    rt: &(impl Abort + Threads + Sync),
-    chain: &mut C,
-    alloc: Global,
-    fields: [i64; 4],
-) -> Result<(), Fail> {
-    for bands in BANDS {
-        compare_bands(rt, chain, alloc, fields, bands)?;
-    }
-    Ok(())
-}
-
-/// Writes over rectangles in bands.
+/// Writes over rectangles in bands of each kind.
 pub fn write_in_bands<C: TileChain>(
     rt: &(impl Abort + Threads + Sync),
     chain: &mut C,
     alloc: Global,
-) -> Result<(), Fail> {
+) {
     for fields in RECTS {
-        compare_rect(rt, chain, alloc, fields)?;
+        for bands in BANDS {
+            compare_bands(rt, chain, alloc, fields, bands);
+        }
     }
-    Ok(())
+}
+
+/// Checks that the left column of four rows of tiles is what was written first.
+fn check_column<C: TileChain>(rt: &impl Abort, root: &Root, chain: &mut C)
+    requires { IsGray root.now (C.held chain.old) }
+    ensures { IsGray root.now (C.held chain.new) }
+{
+    let column = part(rt, root, chain, [0, 0, 1, 256]).expect(rt, "a part");
+    assert!(rt; column.raw_bytes() == [9; 256].as_slice());
 }
 
 /// Writes over four rows of tiles in bands of one, and returns whether that was refused. All that was written before
@@ -139,16 +136,16 @@ pub fn write_or_refuse<C: TileChain>(
     rt: &(impl Abort + Threads + Sync),
     chain: &mut C,
     alloc: Global,
-) -> Result<bool, Fail> {
+) -> bool {
     let fields = [0, 0, 64, 256];
     let mut root = new_root(chain, alloc, fields);
-    fill(rt, &mut root, chain, fields, 9)?;
-    let bytes = noise(alloc, 64 * 256)?;
+    fill(rt, &mut root, chain, fields, 9).expect(rt, "a write");
+    let bytes = noise(rt, alloc, 64 * 256);
     let workers = Workers::new(rt, 1);
     let refused = put_bands(rt, &mut root, chain, fields, bytes, 1, workers).is_err();
     if refused {
-        check(rt, &root, chain, [0, 0, 1, 256], &[9; 256])?;
+        check_column(rt, &root, chain);
     }
     root.release(chain);
-    Ok(refused)
+    refused
 }

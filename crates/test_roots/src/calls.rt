@@ -5,24 +5,15 @@ ghost use Rattle.plane_rect.specs.Rectangle.{InLimits, Includes};
 ghost use Rattle.test_roots.specs.Gray.{IsGray};
 
 use chain_handlers::TileChain;
+use no_memory::NoMemory;
 use patch_abyss::Patch;
 use pixel_formats::Format;
-use plane_rect::{Rect, TileAt};
+use plane_rect::Rect;
 use root_tiles::{Root, new_roots_are_blank, other_roots_are_unchanged};
 use std::alloc::Global;
 use std::process::Abort;
-use std::test::Fail;
-
-/// Returns the rectangle of four fields, or the one without a position where they are none in limits.
-pub fn rect(fields: [i64; 4]) -> Rect
-    ensures { InLimits result }
-{
-    let [x, y, w, h] = fields;
-    match Rect::new(x, y, w, h) {
-        Ok(rect) if rect.in_limits() => rect,
-        _ => Rect::EMPTY,
-    }
-}
+use swap_store::SwapRefused;
+use test_rects::rect;
 
 /// Returns the rectangle of four fields, which is to be in the root's box.
 pub fn rect_inside(rt: &impl Abort, root: &Root, fields: [i64; 4]) -> Rect
@@ -49,14 +40,13 @@ pub fn put<C: TileChain>(
     chain: &mut C,
     fields: [i64; 4],
     bytes: &[u8],
-) -> Result<(), Fail>
+) -> Result<(), SwapRefused>
     requires { IsGray root.old (C.held chain.old) }
     ensures { IsGray root.new (C.held chain.new) }
 {
     let rect = rect_inside(rt, root, fields);
     assert!(rt; bytes.len() as u64 == rect.area());
-    root.put_raw_alone(chain, rect, bytes)?;
-    Ok(())
+    root.put_raw_alone(chain, rect, bytes)
 }
 
 /// Writes one byte everywhere in a rectangle of the box.
@@ -66,13 +56,12 @@ pub fn fill<C: TileChain>(
     chain: &mut C,
     fields: [i64; 4],
     byte: u8,
-) -> Result<(), Fail>
+) -> Result<(), SwapRefused>
     requires { IsGray root.old (C.held chain.old) }
     ensures { IsGray root.new (C.held chain.new) }
 {
     let rect = rect_inside(rt, root, fields);
-    root.fill(chain, rect, &[u32::from(byte)])?;
-    Ok(())
+    root.fill(chain, rect, &[u32::from(byte)])
 }
 
 /// Returns a part of the box.
@@ -81,110 +70,41 @@ pub fn part<C: TileChain>(
     root: &Root,
     chain: &mut C,
     fields: [i64; 4],
-) -> Result<Patch, Fail>
+) -> Result<Patch, SwapRefused>
     requires { IsGray root.now (C.held chain.old) }
     ensures { IsGray root.now (C.held chain.new) }
 {
     let rect = rect_inside(rt, root, fields);
-    let part = root.part(chain, rect)?;
-    Ok(part)
-}
-
-/// Checks the bytes of a part of the box.
-pub fn check<C: TileChain>(
-    rt: &impl Abort,
-    root: &Root,
-    chain: &mut C,
-    fields: [i64; 4],
-    wanted: &[u8],
-) -> Result<(), Fail>
-    requires { IsGray root.now (C.held chain.old) }
-    ensures { IsGray root.now (C.held chain.new) }
-{
-    let part = part(rt, root, chain, fields)?;
-    assert!(rt; part.raw_bytes() == wanted);
-    Ok(())
+    root.part(chain, rect)
 }
 
 /// Checks that each row of a part of the box is the part of this row alone.
-pub fn check_rows<C: TileChain>(
-    rt: &impl Abort,
-    root: &Root,
-    chain: &mut C,
-    fields: [i64; 4],
-) -> Result<(), Fail>
+pub fn check_rows<C: TileChain>(rt: &impl Abort, root: &Root, chain: &mut C, fields: [i64; 4])
     requires { IsGray root.now (C.held chain.old) }
     ensures { IsGray root.now (C.held chain.new) }
 {
     let rect = rect(fields);
-    let whole = part(rt, root, chain, fields)?;
+    let whole = part(rt, root, chain, fields).expect(rt, "a part");
     for row in rect.first_row()..rect.end_row() {
         let line = Rect::spanning(rect.first_column(), row, rect.end_column(), row + 1);
-        check_line(rt, root, chain, &whole, line)?;
+        check_line(rt, root, chain, &whole, line);
     }
-    Ok(())
 }
 
 /// Checks that a line of a part is the part of this line alone.
-fn check_line<C: TileChain>(
-    rt: &impl Abort,
-    root: &Root,
-    chain: &mut C,
-    whole: &Patch,
-    line: Rect,
-) -> Result<(), Fail>
+fn check_line<C: TileChain>(rt: &impl Abort, root: &Root, chain: &mut C, whole: &Patch, line: Rect)
     requires { IsGray root.now (C.held chain.old) }
     ensures { IsGray root.now (C.held chain.new) }
 {
     assert!(rt; root.bounds().contains(&line));
     assert!(rt; line.in_limits());
-    let part = root.part(chain, line)?;
-    let cut = whole.part(root.allocator(), line)?;
+    let part = root.part(chain, line).expect(rt, "a line");
+    let cut = whole.part(root.allocator(), line).expect(rt, "memory");
     assert!(rt; cut.raw_bytes() == part.raw_bytes());
-    Ok(())
-}
-
-/// Checks the first bytes of the tile at the origin as it was put, and that its next byte is 0.
-pub fn check_put<C: TileChain>(
-    rt: &impl Abort,
-    root: &Root,
-    chain: &mut C,
-    wanted: &[u8],
-) -> Result<(), Fail>
-    requires { IsGray root.now (C.held chain.old) }
-    ensures { IsGray root.now (C.held chain.new) }
-{
-    let tile = root.put_tile(chain, TileAt::of(0, 0))?;
-    check_bytes(rt, tile.bytes(), wanted);
-    Ok(())
-}
-
-/// Checks the first bytes of the tile at the origin of a level, and that its next byte is 0.
-pub fn check_level<C: TileChain>(
-    rt: &impl Abort,
-    root: &mut Root,
-    chain: &mut C,
-    level: u32,
-    wanted: &[u8],
-) -> Result<(), Fail>
-    requires { IsGray root.old (C.held chain.old) }
-    ensures { IsGray root.new (C.held chain.new) }
-{
-    assert!(rt; level <= 8);
-    let tile = root.tile(chain, level, TileAt::of(0, 0))?;
-    check_bytes(rt, tile.bytes(), wanted);
-    Ok(())
-}
-
-/// Checks the first bytes of a tile, and that the next one is 0.
-pub fn check_bytes(rt: &impl Abort, bytes: &[u8], wanted: &[u8]) {
-    assert!(rt; wanted.len() < bytes.len());
-    assert!(rt; &bytes[..wanted.len()] == wanted);
-    assert!(rt; bytes[wanted.len()] == 0);
 }
 
 /// Shares a root, and gives the other one up.
-pub fn share_and_release<C: TileChain>(root: &Root, chain: &mut C) -> Result<(), Fail>
+pub fn share_and_release<C: TileChain>(root: &Root, chain: &mut C) -> Result<(), NoMemory>
     requires { IsGray root.now (C.held chain.old) }
     ensures { IsGray root.now (C.held chain.new) }
 {

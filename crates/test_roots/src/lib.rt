@@ -8,8 +8,8 @@ mod calls;
 #[cfg(test)]
 mod examples;
 #[cfg(test)]
-mod tests;
+mod steps;
 #[cfg(test)]
-mod view_examples;
+mod tests;
 #[cfg(test)]
 mod views;

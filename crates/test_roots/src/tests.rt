@@ -1,8 +1,8 @@
 //! Expected values are worked out by hand from the doc comments.
 
 use crate::bands::{write_in_bands, write_or_refuse};
-use crate::examples::{read_large_parts, read_levels, share_and_write, write_over_borders};
-use crate::view_examples::{read_around_view, read_view};
+use crate::examples::{BORDERS, LARGE_PARTS, LEVELS, POLICIES, SHARED, VIEWS};
+use crate::steps::{Example, make};
 use chain_handlers::Chain;
 use outside_io::{MemSwap, SureSwap, SwapDisk};
 use std::alloc::Global;
@@ -10,54 +10,37 @@ use std::process::Abort;
 use std::test::Fail;
 use std::thread::Threads;
 
-/// Writes over a chain of one tile in memory.
-fn write_over<D: SwapDisk>(rt: &impl Abort, alloc: Global, disk: &mut D) -> Result<(), Fail> {
-    let mut chain = Chain::new(alloc, disk, 16, 1)?;
-    write_over_borders(rt, &mut chain, alloc)?;
-    read_large_parts(rt, &mut chain, alloc)
+/// Makes examples one after another over a chain of so many blocks, of one tile in memory.
+fn make_over<D: SwapDisk>(
+    rt: &impl Abort,
+    alloc: Global,
+    disk: &mut D,
+    blocks: u32,
+    examples: &[Example],
+) -> Result<(), Fail> {
+    let mut chain = Chain::new(alloc, disk, blocks, 1)?;
+    for example in examples {
+        make(rt, &mut chain, alloc, *example);
+    }
+    Ok(())
 }
 
 #[test]
 fn what_is_written_is_read_again(rt: HostRuntime) -> Result<(), Fail> {
-    let mut disk = SureSwap::new(rt.alloc(), 16)?;
-    write_over(&rt, rt.alloc(), &mut disk)
-}
-
-/// Shares over a chain of one tile in memory.
-fn share_over<D: SwapDisk>(rt: &impl Abort, alloc: Global, disk: &mut D) -> Result<(), Fail> {
-    let mut chain = Chain::new(alloc, disk, 16, 1)?;
-    share_and_write(rt, &mut chain, alloc)
+    let alloc = rt.alloc();
+    let mut disk = SureSwap::new(alloc, 16)?;
+    make_over(&rt, alloc, &mut disk, 16, &[BORDERS, LARGE_PARTS])?;
+    let mut disk = SureSwap::new(alloc, 16)?;
+    make_over(&rt, alloc, &mut disk, 16, &[SHARED])
 }
 
 #[test]
-fn a_shared_root_that_is_released_leaves_the_other(rt: HostRuntime) -> Result<(), Fail> {
-    let mut disk = SureSwap::new(rt.alloc(), 16)?;
-    share_over(&rt, rt.alloc(), &mut disk)
-}
-
-/// Reads over a chain of one tile in memory.
-fn read_over<D: SwapDisk>(rt: &impl Abort, alloc: Global, disk: &mut D) -> Result<(), Fail> {
-    let mut chain = Chain::new(alloc, disk, 256, 1)?;
-    read_levels(rt, &mut chain, alloc)
-}
-
-#[test]
-fn tiles_of_levels_are_means(rt: HostRuntime) -> Result<(), Fail> {
-    let mut disk = SureSwap::new(rt.alloc(), 256)?;
-    read_over(&rt, rt.alloc(), &mut disk)
-}
-
-/// Reads views over a chain of one tile in memory.
-fn read_views_over<D: SwapDisk>(rt: &impl Abort, alloc: Global, disk: &mut D) -> Result<(), Fail> {
-    let mut chain = Chain::new(alloc, disk, 256, 1)?;
-    read_view(rt, &mut chain, alloc)?;
-    read_around_view(rt, &mut chain, alloc)
-}
-
-#[test]
-fn views_have_levels_and_surroundings_of_their_own(rt: HostRuntime) -> Result<(), Fail> {
-    let mut disk = SureSwap::new(rt.alloc(), 256)?;
-    read_views_over(&rt, rt.alloc(), &mut disk)
+fn levels_are_means_of_roots_and_of_views(rt: HostRuntime) -> Result<(), Fail> {
+    let alloc = rt.alloc();
+    let mut disk = SureSwap::new(alloc, 256)?;
+    make_over(&rt, alloc, &mut disk, 256, &[LEVELS])?;
+    let mut disk = SureSwap::new(alloc, 256)?;
+    make_over(&rt, alloc, &mut disk, 256, &[VIEWS, POLICIES])
 }
 
 /// Writes in bands over a chain of one tile in memory.
@@ -67,7 +50,8 @@ fn write_bands_over<D: SwapDisk>(
     disk: &mut D,
 ) -> Result<(), Fail> {
     let mut chain = Chain::new(alloc, disk, 256, 1)?;
-    write_in_bands(rt, &mut chain, alloc)
+    write_in_bands(rt, &mut chain, alloc);
+    Ok(())
 }
 
 #[test]
@@ -84,7 +68,7 @@ fn refuse_over<D: SwapDisk>(
     blocks: u32,
 ) -> Result<bool, Fail> {
     let mut chain = Chain::new(alloc, disk, blocks, 1)?;
-    write_or_refuse(rt, &mut chain, alloc)
+    Ok(write_or_refuse(rt, &mut chain, alloc))
 }
 
 #[test]

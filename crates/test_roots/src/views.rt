@@ -1,19 +1,54 @@
-//! Calls on views of gray roots, on rectangles of four numbers.
+//! Reads of gray roots and of views of them, on rectangles of four numbers.
 
 ghost use Rattle.plane_rect.specs.Rectangle.{Includes, IsRectangle};
 ghost use Rattle.test_roots.specs.Gray.{IsGray};
 
-use crate::calls::{check_bytes, rect};
+use crate::calls::part;
 use chain_handlers::TileChain;
+use patch_abyss::Patch;
 use pixel_formats::Abyss;
 use plane_rect::{Rect, TileAt};
 use root_tiles::Root;
 use std::process::Abort;
-use std::test::Fail;
+use swap_store::SwapRefused;
+use test_rects::rect;
+use tile_cow::Tile;
 use view_reads::{get, level_part, level_tile, view_tile};
 
+/// A rectangle by x, y, width and height.
+pub type Fields = [i64; 4];
+
+/// The tile at the origin of an image of a root.
+#[derive(Clone, Copy, Debug)]
+pub enum First {
+    /// Of the root, as it was put.
+    Put,
+
+    /// Of a level of the root.
+    Level(u32),
+
+    /// Of a view of a rectangle of the root.
+    View(Fields),
+
+    /// Of a level of a view of a rectangle of the root.
+    ViewLevel(Fields, u32),
+}
+
+/// A part of an image of a root.
+#[derive(Clone, Copy, Debug)]
+pub enum Part {
+    /// Of the root.
+    Root(Fields),
+
+    /// Of level 1 of a view of a rectangle of the root.
+    ViewLevelOne(Fields, Fields),
+
+    /// Of a level of a view of a rectangle of the root, under a policy.
+    Under(Fields, u32, Abyss, Fields),
+}
+
 /// Returns a rectangle of the box of a root.
-pub fn extent(rt: &impl Abort, root: &Root, fields: [i64; 4]) -> Rect
+fn extent(rt: &impl Abort, root: &Root, fields: Fields) -> Rect
     ensures inside { Includes root.now.box result }
     ensures rectangle { IsRectangle result }
 {
@@ -23,90 +58,56 @@ pub fn extent(rt: &impl Abort, root: &Root, fields: [i64; 4]) -> Rect
     extent
 }
 
-/// Checks the first bytes of the tile of a view at the origin, and that its next byte is 0.
-pub fn check_view<C: TileChain>(
-    rt: &impl Abort,
-    root: &Root,
-    chain: &mut C,
-    fields: [i64; 4],
-    wanted: &[u8],
-) -> Result<(), Fail>
-    requires { IsGray root.now (C.held chain.old) }
-    ensures { IsGray root.now (C.held chain.new) }
-{
-    let extent = extent(rt, root, fields);
-    let tile = view_tile(root, chain, extent, TileAt::of(0, 0))?;
-    check_bytes(rt, tile.bytes(), wanted);
-    Ok(())
-}
-
-/// Checks the first bytes of the tile of a level of a view at the origin, and that its next byte is 0.
-pub fn check_view_level<C: TileChain>(
+/// Reads a tile at the origin.
+pub fn first_tile<C: TileChain>(
     rt: &impl Abort,
     root: &mut Root,
     chain: &mut C,
-    fields: [i64; 4],
-    level: u32,
-    wanted: &[u8],
-) -> Result<(), Fail>
+    of: First,
+) -> Result<Tile, SwapRefused>
     requires { IsGray root.old (C.held chain.old) }
     ensures { IsGray root.new (C.held chain.new) }
 {
-    let extent = extent(rt, root, fields);
-    assert!(rt; level <= 8);
-    let tile = level_tile(root, chain, extent, level, TileAt::of(0, 0))?;
-    check_bytes(rt, tile.bytes(), wanted);
-    Ok(())
+    let origin = TileAt::of(0, 0);
+    match of {
+        First::Put => root.put_tile(chain, origin),
+        First::Level(level) => {
+            assert!(rt; level <= 8);
+            root.tile(chain, level, origin)
+        }
+        First::View(view) => view_tile(root, chain, extent(rt, root, view), origin),
+        First::ViewLevel(view, level) => {
+            assert!(rt; level <= 8);
+            level_tile(root, chain, extent(rt, root, view), level, origin)
+        }
+    }
 }
 
-/// Checks the bytes of a part of level 1 of a view.
-pub fn check_part<C: TileChain>(
+/// Reads a part.
+pub fn read_part<C: TileChain>(
     rt: &impl Abort,
     root: &mut Root,
     chain: &mut C,
-    fields: [i64; 4],
-    part: [i64; 4],
-    wanted: &[u8],
-) -> Result<(), Fail>
+    of: Part,
+) -> Result<Patch, SwapRefused>
     requires { IsGray root.old (C.held chain.old) }
     ensures { IsGray root.new (C.held chain.new) }
 {
-    let extent = extent(rt, root, fields);
-    let patch = level_part(root, chain, extent, 1, rect(part))?;
-    assert!(rt; patch.raw_bytes() == wanted);
-    Ok(())
-}
-
-/// A rectangle of a level, read under a policy.
-#[derive(Clone, Copy)]
-pub struct Read {
-    pub level: u32,
-    pub abyss: Abyss,
-    pub fields: [i64; 4],
-}
-
-/// Checks the bytes of what is read of a view.
-pub fn check_read<C: TileChain>(
-    rt: &impl Abort,
-    root: &mut Root,
-    chain: &mut C,
-    fields: [i64; 4],
-    read: Read,
-    wanted: &[u8],
-) -> Result<(), Fail>
-    requires { IsGray root.old (C.held chain.old) }
-    ensures { IsGray root.new (C.held chain.new) }
-{
-    let extent = extent(rt, root, fields);
-    assert!(rt; read.level <= 8);
-    let patch = get(
-        root,
-        chain,
-        extent,
-        read.level,
-        read.abyss,
-        rect(read.fields),
-    )?;
-    assert!(rt; patch.raw_bytes() == wanted);
-    Ok(())
+    match of {
+        Part::Root(fields) => part(rt, root, chain, fields),
+        Part::ViewLevelOne(view, fields) => {
+            level_part(root, chain, extent(rt, root, view), 1, rect(fields))
+        }
+        Part::Under(view, level, abyss, fields) => {
+            assert!(rt; level <= 8);
+            get(
+                root,
+                chain,
+                extent(rt, root, view),
+                level,
+                abyss,
+                rect(fields),
+            )
+        }
+    }
 }

@@ -7,4 +7,4 @@ pub returns-clause-lengths : goal.returns-clause-lengths
 returns-clause-lengths g c =
     subst (HaveLength 4) (sym c.void.ensures.sizes)
     (lengths-voided 4 (g.C.PairStore.sizes c.args.cache.now (g.H.ChainMeaning.held c.args.chain.now)) c.requires.lengths
-    c.args.node c.rect.result)
+    c.name-node.result c.rect.result)
