@@ -4,8 +4,7 @@ ghost use Rattle.std.specs.Prelude.{◌≡◌};
 ghost use Rattle.graph_edits.specs.declared.refused.GraphRefused.TheVariants as refusals;
 
 use model_states::StateRefused;
-use no_memory::NoMemory;
-use std::alloc::{AllocError, AllocFailed};
+use no_memory::OutOfMemory;
 use thiserror::Error;
 
 /// Why a call on a graph did not do what it was asked to.
@@ -34,26 +33,10 @@ fn text_of(refused: StateRefused) -> &'static str {
     }
 }
 
-impl From<NoMemory> for GraphRefused {
+impl<E: OutOfMemory> From<E> for GraphRefused {
     ghost from_gives = { λ _ refused. refused ≡ refusals.NoMemory };
 
-    fn from(_error: NoMemory) -> GraphRefused {
-        GraphRefused::NoMemory
-    }
-}
-
-impl From<AllocError> for GraphRefused {
-    ghost from_gives = { λ _ refused. refused ≡ refusals.NoMemory };
-
-    fn from(_error: AllocError) -> GraphRefused {
-        GraphRefused::NoMemory
-    }
-}
-
-impl<T: Drop> From<AllocFailed<T>> for GraphRefused {
-    ghost from_gives = { λ _ refused. refused ≡ refusals.NoMemory };
-
-    fn from(_error: AllocFailed<T>) -> GraphRefused {
+    fn from(_error: E) -> GraphRefused {
         GraphRefused::NoMemory
     }
 }

@@ -1,7 +1,6 @@
 //! How a run ends.
 
-use no_memory::NoMemory;
-use std::alloc::AllocError;
+use no_memory::OutOfMemory;
 
 /// Why a run ends before its last line.
 #[derive(Clone, Copy, Debug, PartialEq, Eq)]
@@ -22,24 +21,13 @@ pub enum End {
     SwapFull,
 }
 
-impl From<AllocError> for End {
+impl<E: OutOfMemory> From<E> for End {
     ghost use Rattle.std.specs.Prelude.{◌≡◌};
     ghost use Rattle.model_runs.specs.declared.ending.End.TheVariants.{NoMemory};
 
     ghost from_gives = { λ _ end. end ≡ NoMemory };
 
-    fn from(_: AllocError) -> End {
-        End::NoMemory
-    }
-}
-
-impl From<NoMemory> for End {
-    ghost use Rattle.std.specs.Prelude.{◌≡◌};
-    ghost use Rattle.model_runs.specs.declared.ending.End.TheVariants as ends;
-
-    ghost from_gives = { λ _ end. end ≡ ends.NoMemory };
-
-    fn from(_: NoMemory) -> End {
+    fn from(_error: E) -> End {
         End::NoMemory
     }
 }

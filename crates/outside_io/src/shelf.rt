@@ -7,7 +7,7 @@ ghost use Rattle.outside_io.specs.Files.{Files, file};
 ghost use Rattle.outside_io.specs.Shelf.{Answers, TakesAtMost, WriteLeaves};
 ghost use Rattle.outside_io.specs.declared.shelf.ShelfAnswer.TheVariants.{NoMemory};
 
-use std::alloc::{AllocError, AllocFailed};
+use no_memory::OutOfMemory;
 use thiserror::Error;
 
 /// Why a shelf did not do what it was asked to.
@@ -27,18 +27,10 @@ pub enum ShelfAnswer {
     NoMemory,
 }
 
-impl From<AllocError> for ShelfAnswer {
+impl<E: OutOfMemory> From<E> for ShelfAnswer {
     ghost from_gives = { λ _ answer. answer ≡ NoMemory };
 
-    fn from(_error: AllocError) -> ShelfAnswer {
-        ShelfAnswer::NoMemory
-    }
-}
-
-impl<T: Drop> From<AllocFailed<T>> for ShelfAnswer {
-    ghost from_gives = { λ _ answer. answer ≡ NoMemory };
-
-    fn from(_error: AllocFailed<T>) -> ShelfAnswer {
+    fn from(_error: E) -> ShelfAnswer {
         ShelfAnswer::NoMemory
     }
 }

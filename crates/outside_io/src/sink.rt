@@ -5,7 +5,7 @@ ghost use Rattle.outside_io.specs.Faults.{Rose};
 ghost use Rattle.outside_io.specs.Sink.{Puts};
 ghost use Rattle.outside_io.specs.declared.sink.SinkAnswer.TheVariants.{NoMemory};
 
-use std::alloc::{AllocError, AllocFailed};
+use no_memory::OutOfMemory;
 use thiserror::Error;
 
 /// Why a sink did not take a piece.
@@ -19,18 +19,10 @@ pub enum SinkAnswer {
     NoMemory,
 }
 
-impl From<AllocError> for SinkAnswer {
+impl<E: OutOfMemory> From<E> for SinkAnswer {
     ghost from_gives = { λ _ answer. answer ≡ NoMemory };
 
-    fn from(_error: AllocError) -> SinkAnswer {
-        SinkAnswer::NoMemory
-    }
-}
-
-impl<T: Drop> From<AllocFailed<T>> for SinkAnswer {
-    ghost from_gives = { λ _ answer. answer ≡ NoMemory };
-
-    fn from(_error: AllocFailed<T>) -> SinkAnswer {
+    fn from(_error: E) -> SinkAnswer {
         SinkAnswer::NoMemory
     }
 }

@@ -3,8 +3,7 @@
 ghost use Rattle.std.specs.Prelude.{◌≡◌};
 ghost use Rattle.roi_planner.specs.declared.refused.PlanRefused.TheVariants as refusals;
 
-use no_memory::NoMemory;
-use std::alloc::{AllocError, AllocFailed};
+use no_memory::OutOfMemory;
 use thiserror::Error;
 
 /// Why a request is not planned.
@@ -23,26 +22,10 @@ pub enum PlanRefused {
     NoMemory,
 }
 
-impl From<NoMemory> for PlanRefused {
+impl<E: OutOfMemory> From<E> for PlanRefused {
     ghost from_gives = { λ _ refused. refused ≡ refusals.NoMemory };
 
-    fn from(_error: NoMemory) -> PlanRefused {
-        PlanRefused::NoMemory
-    }
-}
-
-impl From<AllocError> for PlanRefused {
-    ghost from_gives = { λ _ refused. refused ≡ refusals.NoMemory };
-
-    fn from(_error: AllocError) -> PlanRefused {
-        PlanRefused::NoMemory
-    }
-}
-
-impl<T: Drop> From<AllocFailed<T>> for PlanRefused {
-    ghost from_gives = { λ _ refused. refused ≡ refusals.NoMemory };
-
-    fn from(_error: AllocFailed<T>) -> PlanRefused {
+    fn from(_error: E) -> PlanRefused {
         PlanRefused::NoMemory
     }
 }

@@ -4,7 +4,7 @@ ghost use Rattle.std.specs.Prelude.{◌≡◌};
 ghost use Rattle.scene_hub.specs.declared.refusals.HubRefused.TheVariants as hub;
 ghost use Rattle.scene_hub.specs.declared.refusals.ViewRefused.TheVariants as view;
 
-use std::alloc::{AllocError, AllocFailed};
+use no_memory::OutOfMemory;
 use thiserror::Error;
 
 /// Why a hub was not started.
@@ -29,26 +29,18 @@ pub enum ViewRefused {
     NoMemory,
 }
 
-impl From<AllocError> for HubRefused {
+impl<E: OutOfMemory> From<E> for HubRefused {
     ghost from_gives = { λ _ refused. refused ≡ hub.NoMemory };
 
-    fn from(_error: AllocError) -> HubRefused {
+    fn from(_error: E) -> HubRefused {
         HubRefused::NoMemory
     }
 }
 
-impl<T: Drop> From<AllocFailed<T>> for HubRefused {
-    ghost from_gives = { λ _ refused. refused ≡ hub.NoMemory };
-
-    fn from(_error: AllocFailed<T>) -> HubRefused {
-        HubRefused::NoMemory
-    }
-}
-
-impl From<AllocError> for ViewRefused {
+impl<E: OutOfMemory> From<E> for ViewRefused {
     ghost from_gives = { λ _ refused. refused ≡ view.NoMemory };
 
-    fn from(_error: AllocError) -> ViewRefused {
+    fn from(_error: E) -> ViewRefused {
         ViewRefused::NoMemory
     }
 }

@@ -4,8 +4,7 @@ ghost use Rattle.std.specs.Prelude.{◌≡◌};
 ghost use Rattle.script_fields.specs.declared.cause.LineAnswer.TheVariants as answers;
 ghost use Rattle.script_fields.specs.declared.cause.ScriptAnswer.TheVariants as script_answers;
 
-use no_memory::NoMemory;
-use std::alloc::{AllocError, AllocFailed};
+use no_memory::OutOfMemory;
 use std::fmt;
 use thiserror::Error;
 
@@ -108,26 +107,18 @@ impl From<ScriptCause> for LineAnswer {
     }
 }
 
-impl From<NoMemory> for LineAnswer {
+impl<E: OutOfMemory> From<E> for LineAnswer {
     ghost from_gives = { λ _ answer. answer ≡ answers.NoMemory };
 
-    fn from(_: NoMemory) -> LineAnswer {
+    fn from(_error: E) -> LineAnswer {
         LineAnswer::NoMemory
     }
 }
 
-impl<T: Drop> From<AllocFailed<T>> for LineAnswer {
-    ghost from_gives = { λ _ answer. answer ≡ answers.NoMemory };
-
-    fn from(_: AllocFailed<T>) -> LineAnswer {
-        LineAnswer::NoMemory
-    }
-}
-
-impl<T: Drop> From<AllocFailed<T>> for ScriptAnswer {
+impl<E: OutOfMemory> From<E> for ScriptAnswer {
     ghost from_gives = { λ _ answer. answer ≡ script_answers.NoMemory };
 
-    fn from(_: AllocFailed<T>) -> ScriptAnswer {
+    fn from(_error: E) -> ScriptAnswer {
         ScriptAnswer::NoMemory
     }
 }
