@@ -2,6 +2,7 @@
 use Rattle.std.proofs.Common.{◌≡◌, ℕ, Option, Some, None, Result, Ok, Err, refl, subst, ◌∙◌, arith}
 use Rattle.std.specs.Prelude.{OnErr}
 use Rattle.chain_owners.specs.Counts.{Counts, Grows}
+use Rattle.chain_owners.proofs.Growing.{continues-both}
 use Rattle.model_buffers.specs.Counts.{names_after_edit}
 use Rattle.model_buffers.specs.Layout.{TableLayout}
 use Rattle.model_buffers.specs.declared.edit.BufferEdit.{BufferEdit}
@@ -41,11 +42,7 @@ on_err_both (Err e) then p q = then p q
 -- what a read and then a write add
 pub grows-after : (most added : ℕ) (first second last : Counts) → most ≡ added → Grows 0 first second → Grows added second last → Grows most first last
 grows-after most added first second last same a b = record {
-  continues = record {
-    used = b.continues.used ∙ a.continues.used;
-    capacity = b.continues.capacity ∙ a.continues.capacity;
-    later = omega (arith, a.continues.later, b.continues.later);
-  };
+  continues = continues-both first second last a.continues b.continues;
   names = omega (arith, a.names, b.names, same);
 }
 

@@ -9,7 +9,7 @@ use Rattle.chain_owners.specs.Owners.{Owns, Respects, times}
 use Rattle.chain_owners.proofs.Ownership.{others-own, owns-fewer, respects-beside, respects-both, respects-same, times-append}
 use Rattle.root_tiles.specs.Chains.{ChainState}
 use Rattle.root_tiles.specs.Roots.{IsRootOver, RootTiles, root_names}
-use Rattle.root_tiles.proofs.ChainReads.{grows-both, grows-same}
+use Rattle.chain_owners.proofs.Growing.{grows-both, grows-same}
 use Rattle.buffer_view.specs.BufferLaws.{All-first, All-rest}
 use Rattle.buffer_view.specs.BufferTables.{AreBuffersOver, BufferTable, names_of_roots}
 use Rattle.buffer_view.specs.Shares.{Shares}

@@ -1,4 +1,5 @@
 pub mod Names
 pub mod MapValues
 pub mod Ownership
+pub mod Growing
 pub mod HeldLaws

@@ -8,7 +8,7 @@ use Rattle.chain_owners.specs.Held.{Held}
 use Rattle.chain_owners.specs.Owners.{Owns}
 use Rattle.chain_owners.proofs.Ownership.{owns-fewer, respects-same, times-append}
 use Rattle.root_tiles.specs.Chains.{ChainState}
-use Rattle.root_tiles.proofs.ChainReads.{grows-same}
+use Rattle.chain_owners.proofs.Growing.{grows-same}
 use Rattle.model_buffers.specs.declared.edit.BufferEdit.{BufferEdit}
 use Rattle.model_buffers.specs.BufferEdit.{IsProperEdit, edit_refused, layout_with, written_by}
 use Rattle.model_buffers.specs.declared.edit.BufferEdit.TheVariants.{Copy, Create, Duplicate, Fill, Put, Sub}

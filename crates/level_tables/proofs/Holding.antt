@@ -10,6 +10,7 @@ use Rattle.pixel_formats.specs.declared.format.Format.{Format}
 use Rattle.chain_owners.specs.Counts.{AreCounts, Continues, Counts, Grows}
 use Rattle.chain_owners.specs.Held.{Held, owners_of, with_name}
 use Rattle.chain_owners.specs.Room.{Room}
+use Rattle.chain_owners.proofs.Growing.{continues-same}
 use Rattle.chain_owners.proofs.Ownership.{respects-beside, times-append}
 use Rattle.swap_store.specs.Cause.{HasSwapCause}
 use Rattle.swap_store.specs.declared.refusal.SwapRefused.{SwapRefused}
@@ -38,7 +39,7 @@ holds-same z tiles held counts counts' over continues few = record {
 
 pub holds-none : (z : ℕ) (now : State) → IsOver now.tiles now.held → HoldsMore z now now
 holds-none z now over =
-    holds-same z now.tiles now.held now.counts now.counts over (record { used = refl; capacity = refl; later = omega arith }) (omega arith)
+    holds-same z now.tiles now.held now.counts now.counts over (continues-same now.counts) (omega arith)
 
 -- a tile was read
 pub holds-read : (z : ℕ) (tiles : LevelTiles) (held held' : Held) (counts counts' : Counts) → IsOver tiles held → held' ≡ held → Grows 0 counts counts'

@@ -12,6 +12,7 @@ use Rattle.model_images.specs.Tiles.{put_image}
 use Rattle.chain_owners.specs.Counts.{Continues, Counts, Grows}
 use Rattle.chain_owners.specs.Held.{Held, disowned, length_of}
 use Rattle.chain_owners.specs.Owners.{Owns, Respects}
+use Rattle.chain_owners.proofs.Growing.{continues-both, continues-same}
 use Rattle.chain_owners.proofs.Ownership.{disowned-respects, owns-fewer, respects-beside, respects-both, respects-same, times-append, times-here}
 use Rattle.model_images.specs.Level.{tile_above, tile_at_level}
 use Rattle.level_tables.specs.LevelTiles.{LevelTiles, bytes_in, image_of, names, positions, same_level_tile}
@@ -21,16 +22,6 @@ use Rattle.level_tables.specs.declared.level_tile.LevelTile.{LevelTile}
 use Rattle.level_tables.proofs.Entries.{lookup-absent, same_level_tile-laws, same_level_tile-true}
 use Rattle.level_tables.proofs.Frames.{bytes-beside, over-beside, put_image-same, where_exposed}
 use Rattle.level_tables.proofs.Changes.{over-without, owns-without, still-there, times-without}
-
-pub continues-same : (counts : Counts) → Continues counts counts
-continues-same counts = record { used = refl; capacity = refl; later = omega arith }
-
-pub continues-both : (a b c : Counts) → Continues a b → Continues b c → Continues a c
-continues-both a b c first second = record {
-  used = second.used ∙ first.used;
-  capacity = second.capacity ∙ first.capacity;
-  later = omega (arith, first.later, second.later);
-}
 
 pub keeps-same : (tiles : LevelTiles) (held : Held) (counts counts' : Counts) → IsOver tiles held → Continues counts counts'
     → KeepsTiles (state tiles held counts) (state tiles held counts')

@@ -17,7 +17,8 @@ use Rattle.level_tables.specs.Steps.{State, Switches, VoidsAbove, state}
 use Rattle.level_tables.proofs.Entries.{keys-inserted}
 use Rattle.level_tables.proofs.Frames.{bytes-beside, over-beside, put-named}
 use Rattle.level_tables.proofs.Changes.{bytes-after, over-after, times-after}
-use Rattle.level_tables.proofs.Keeping.{continues-both, kept-format, kept-put}
+use Rattle.chain_owners.proofs.Growing.{continues-both}
+use Rattle.level_tables.proofs.Keeping.{kept-format, kept-put}
 
 -- a name whose bytes are unchanged stays one of a tile
 pub named-unchanged : (format : Format) (old new : Held) (name : ℕ) → is_some new.content ≡ is_some old.content → Unchanged old new name

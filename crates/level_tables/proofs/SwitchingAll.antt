@@ -20,7 +20,7 @@ use Rattle.level_tables.specs.Steps.{State, Switches}
 use Rattle.level_tables.proofs.Empty.{none_in}
 use Rattle.level_tables.proofs.Frames.{bytes-beside, put_image-same, where_exposed}
 use Rattle.level_tables.proofs.Fresh.{fresh-bytes, fresh-named, fresh-owns, fresh-respects}
-use Rattle.level_tables.proofs.Keeping.{continues-both, continues-same}
+use Rattle.chain_owners.proofs.Growing.{continues-both, continues-same}
 use Rattle.level_tables.proofs.Switching.{named-unchanged}
 
 -- ---- tiles put in an order

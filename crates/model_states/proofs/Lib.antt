@@ -25,5 +25,6 @@ pub mod Written
 pub mod Voids
 pub mod Suited
 pub mod Symmetric
+pub mod Members
 pub mod Serves
 pub mod Wide

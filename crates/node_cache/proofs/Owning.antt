@@ -16,6 +16,7 @@ use Rattle.chain_owners.specs.Held.{Held, bytes_of, disowned, length_of, owners_
 use Rattle.chain_owners.specs.Owners.{Owns, Respects, Unchanged, times}
 use Rattle.chain_owners.specs.Room.{Room}
 use Rattle.chain_owners.specs.Values.{Named}
+use Rattle.chain_owners.proofs.Growing.{grows-both, grows-same}
 use Rattle.chain_owners.proofs.Names.{get_elsewhere, get_here, get_left}
 use Rattle.chain_owners.proofs.Ownership.{disowned-last, disowned-respects, new_name-respects, others-own, others-unchanged, owns-fewer, put-unchanged, respects-beside, respects-both, respects-same, times-append, times-elsewhere, times-here, unchanged-both, unchanged-same}
 use Rattle.node_cache.specs.declared.pair_key.PairKey.{PairKey}
@@ -73,7 +74,7 @@ gives_up-none held counts names = record {
   fewer = λ q. omega arith;
   others = respects-same held names;
   unchanged = λ q some. unchanged-same held q;
-  grows = record { continues = record { used = refl; capacity = refl; later = omega arith }; names = omega arith };
+  grows = grows-same counts;
   one_owner = λ one. one;
   other_names = λ one. record { names = omega arith };
 }
@@ -84,14 +85,7 @@ gives_up-then a b c first second last before between after one two = record {
   fewer = λ q. omega (arith, one.fewer q, two.fewer q);
   others = respects-both a b before between one.others c after two.others;
   unchanged = λ q some. unchanged-both a b c q (one.unchanged q (omega (arith, two.fewer q))) (two.unchanged q some);
-  grows = record {
-    continues = record {
-      used = two.grows.continues.used ∙ one.grows.continues.used;
-      capacity = two.grows.continues.capacity ∙ one.grows.continues.capacity;
-      later = omega (arith, one.grows.continues.later, two.grows.continues.later);
-    };
-    names = omega (arith, one.grows.names, two.grows.names);
-  };
+  grows = grows-both 0 0 first second last one.grows two.grows;
   one_owner = λ owner. two.one_owner (one.one_owner owner);
   other_names = λ owner. record { names = omega (arith, (one.other_names owner).names, (two.other_names (one.one_owner owner)).names) };
 }
@@ -362,14 +356,7 @@ module _ (held new : Held) (name : ℕ) (tile : List ℕ) (es : Entries) (most c
     keep-names one = record { names = omega (arith, grows.names, (given.other_names (new-one one)).names) }
 
     keep-grows : Grows 1 first third
-    keep-grows = record {
-      continues = record {
-        used = given.grows.continues.used ∙ grows.continues.used;
-        capacity = given.grows.continues.capacity ∙ grows.continues.capacity;
-        later = omega (arith, grows.continues.later, given.grows.continues.later);
-      };
-      names = omega (arith, grows.names, given.grows.names);
-    }
+    keep-grows = grows-both 1 0 first second third grows given.grows
 
     pub handed : IsHanded held last first third names (values_of es')
     handed = record { others = keep-others; one_owner = keep-one; other_names = keep-names; counts = keep-grows }

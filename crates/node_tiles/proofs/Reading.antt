@@ -2,21 +2,12 @@
 use Rattle.std.proofs.Common.{◌≡◌, ℕ, ◌+◌, ◌∙◌, List, [], refl, ap, arith}
 use Rattle.chain_owners.specs.Counts.{Counts, Grows}
 use Rattle.chain_owners.specs.Owners.{Respects, times}
+use Rattle.chain_owners.proofs.Growing.{grows-both, grows-same}
 use Rattle.chain_owners.proofs.Ownership.{respects-beside, respects-both, respects-same}
 use Rattle.swap_store.specs.Cause.{HasSwapCause}
 use Rattle.swap_store.specs.declared.refusal.SwapRefused.{SwapRefused}
 use Rattle.swap_store.proofs.Causes.{cause-before, cause-more}
 use Rattle.node_tiles.specs.Reads.{Reads, Seen}
-
-pub grows-both : (added more : ℕ) (a b c : Counts) → Grows added a b → Grows more b c → Grows (added + more) a c
-grows-both added more a b c first second = record {
-  continues = record {
-    used = second.continues.used ∙ first.continues.used;
-    capacity = second.continues.capacity ∙ first.continues.capacity;
-    later = omega (arith, first.continues.later, second.continues.later);
-  };
-  names = omega (arith, first.names, second.names);
-}
 
 pub reads-none : (a : Seen) → Reads a a
 reads-none a = record {
@@ -25,7 +16,7 @@ reads-none a = record {
   names = refl;
   others = respects-same a.held [];
   owners = refl;
-  counts = record { continues = record { used = refl; capacity = refl; later = omega arith }; names = omega arith };
+  counts = grows-same a.counts;
   loans = refl;
 }
 

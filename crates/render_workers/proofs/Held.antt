@@ -17,40 +17,13 @@ use Rattle.model_states.specs.Need.{Asked, Needed, asked_of, needed, needed_of, 
 use Rattle.model_states.specs.Regions.{meets, tiles_of_any}
 use Rattle.model_states.specs.Serving.{IsSourceAt}
 use Rattle.model_states.specs.Valid.{steps_of}
+use Rattle.model_states.proofs.Members.{Member, member-filter, member-map, member-right}
 use Rattle.model_states.proofs.NeededRight.{meets_whole}
 use Rattle.model_states.proofs.Serves.{tiles_have}
 use Rattle.node_tiles.specs.Held.{HeldTiles, held_bytes}
 use Rattle.node_tiles.specs.Stated.{shape_at}
 use Rattle.node_tiles.proofs.Places.{meets-true}
 use Rattle.strip_renders.specs.Strips.{HoldsNeed}
-
--- an element of a list, at some position
-abbrev Member : {X : Type 0} → X → List X → Type 0
-Member x xs = (k : ℕ) × (slice_get xs k ≡ Some x)
-
-later : {X : Type 0} (x first : X) (xs : List X) → Member x xs → Member x (first ∷ xs)
-later x first xs at = (suc at.0, at.1)
-
-member-right : {X : Type 0} (x : X) (xs ys : List X) → Member x ys → Member x (xs ++ ys)
-member-right x [] ys at = at
-member-right x (first ∷ xs) ys at = later x first (xs ++ ys) (member-right x xs ys at)
-
-member-map : {X Y : Type 0} (f : X → Y) (x : X) (xs : List X) (k : ℕ) → slice_get xs k ≡ Some x → Member (f x) (map f xs)
-member-map f x [] k found = absurd (cc found)
-member-map f x (first ∷ xs) zero found = (0, ap Some (ap f (same_Some first x found)))
-member-map f x (first ∷ xs) (suc k) found = later (f x) (f first) (map f xs) (member-map f x xs k found)
-
-member-filter : {X : Type 0} (test : X → Bool) (x : X) (xs : List X) (k : ℕ) → slice_get xs k ≡ Some x → test x ≡ true → Member x (filter test xs)
-member-filter test x [] k found passes = absurd (cc found)
-member-filter test x (first ∷ xs) zero found passes =
-    let is : first ≡ x = same_Some first x found in
-    let kept : filter test (first ∷ xs) ≡ first ∷ filter test xs = ap (λ b. cond b (first ∷ filter test xs) (filter test xs)) (ap test is ∙ passes) in
-    subst (Member x) (sym kept) (0, ap Some is)
-member-filter {X} test x (first ∷ xs) (suc k) found passes = by (test first) (member-filter test x xs k found passes)
-  where
-    by : (b : Bool) → Member x (filter test xs) → Member x (cond b (first ∷ filter test xs) (filter test xs))
-    by true at = later x first (filter test xs) at
-    by false at = at
 
 -- a tile that meets a rectangle is one of those of it alone
 one-has : (r : Rectangle) (t : Tile) → meets t r ≡ true → Member t (tiles_of_any (r ∷ []))
@@ -85,7 +58,7 @@ module _ {Op : Type 0} (meanings : Meanings Op) (nodes : List (NodeFact Op)) (no
       let of : Tile → Needed = λ tile. (node, tile) in
       subst (λ (s : Step Op). Member (node, tile) (needed_of node s (tiles_of_any (asked_of asked node)))) (sym is)
       (subst (λ (rs : List Rectangle). Member (node, tile) (map of (tiles_of_any rs))) (sym own-asked)
-      (member-map of tile (tiles_of_any (part ∷ [])) at.0 at.1))
+      (member-map of tile (tiles_of_any (part ∷ [])) at))
 
   -- the steps up to the node, from it on
   turned : (step : Step Op) → slice_get steps node ≡ Some step → node < length steps → reverse (take (suc node) steps) ≡ step ∷ before

@@ -6,6 +6,7 @@ use Rattle.std.specs.Option.{option_map_or}
 use Rattle.chain_owners.specs.Counts.{Grows}
 use Rattle.chain_owners.specs.Held.{Held}
 use Rattle.chain_owners.specs.Owners.{Owns, Respects}
+use Rattle.chain_owners.proofs.Growing.{grows-both, grows-more, grows-same}
 use Rattle.chain_owners.proofs.Ownership.{others-own, owns-fewer, respects-beside, respects-both, respects-same, times-append}
 use Rattle.level_tables.specs.LevelTiles.{bytes_in}
 use Rattle.level_tables.specs.NewTiles.{AreNewTiles, tiles_in}
@@ -21,7 +22,6 @@ use Rattle.root_tiles.specs.Chains.{ChainState, IsRead}
 use Rattle.root_tiles.specs.Made.{IsPaintedOrThere, Makes, MakesMore}
 use Rattle.root_tiles.specs.Paints.{IsPainted}
 use Rattle.root_tiles.specs.Roots.{IsRootOver, RootTiles, root_names}
-use Rattle.root_tiles.proofs.ChainReads.{grows-both, grows-same}
 
 pub none-in : {X : Type 0} (x : X) → Contains [] x → ⊥
 none-in x h = omega (arith, h.1)
@@ -135,7 +135,7 @@ more-raise root part r f added most old now before after less makes = record {
   painted = makes.painted;
   meeting = makes.meeting;
   kept = makes.kept;
-  grows = record { continues = makes.grows.continues; names = omega (arith, makes.grows.names, less) };
+  grows = grows-more added most old.counts now.counts less makes.grows;
   loans = makes.loans;
   valid = makes.valid;
 }
@@ -150,7 +150,7 @@ makes-raise root r f added most old now entries less makes = record {
   bytes = makes.bytes;
   painted = makes.painted;
   meeting = makes.meeting;
-  grows = record { continues = makes.grows.continues; names = omega (arith, makes.grows.names, less) };
+  grows = grows-more added most old.counts now.counts less makes.grows;
   loans = makes.loans;
   valid = makes.valid;
 }

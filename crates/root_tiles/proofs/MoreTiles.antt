@@ -13,7 +13,8 @@ use Rattle.level_tables.specs.Steps.{HoldsMore, level_count, names_with_levels, 
 use Rattle.level_tables.proofs.Changes.{among-put}
 use Rattle.level_tables.proofs.Counting.{levels-most}
 use Rattle.level_tables.proofs.Frames.{where_exposed}
-use Rattle.level_tables.proofs.Keeping.{continues-both, kept-format, kept-put}
+use Rattle.chain_owners.proofs.Growing.{continues-both}
+use Rattle.level_tables.proofs.Keeping.{kept-format, kept-put}
 use Rattle.model_images.specs.Level.{level}
 use Rattle.model_images.specs.TileCounts.{level_tiles}
 use Rattle.model_images.specs.Tiles.{AreZeroAround, AreZeroOutside, held_image, hull_of_tiles, put_image}

@@ -1,6 +1,7 @@
 -- I/O errors of parts of a run.
 use Rattle.std.proofs.Common.{◌≡◌, ◌≤◌, Bool, true, false, Result, Ok, Err, refl, sym, subst, arith}
 use Rattle.chain_owners.specs.Counts.{Continues, Counts}
+use Rattle.chain_owners.proofs.Growing.{continues-both, continues-same}
 use Rattle.model_runs.specs.declared.ending.End.{End}
 use Rattle.model_runs.specs.declared.ending.End.TheVariants as ends
 use Rattle.outside_io.specs.Faults.{Rose}
@@ -8,10 +9,7 @@ use Rattle.run_events.specs.Causes as causes
 use Rattle.run_events.specs.Moments.{HasFaults, Moment}
 
 pub continues_same : (old new : Counts) → new ≡ old → Continues old new
-continues_same old new same = subst (λ (counts : Counts). Continues old counts) (sym same) (record { used = refl; capacity = refl; later = omega arith })
-
-continues_then : (old mid new : Counts) → Continues old mid → Continues mid new → Continues old new
-continues_then old mid new first second = record { used = cc; capacity = cc; later = omega (arith, first.later, second.later) }
+continues_same old new same = subst (λ (counts : Counts). Continues old counts) (sym same) (continues-same old)
 
 -- a part that doesn't touch the chain
 pub faults_by_cause : (result : Result (Unit {0}) End) (old new : Moment) → new.chain ≡ old.chain →
@@ -37,7 +35,7 @@ faults_then first result old mid new before after = record {
   reads = omega (arith, before.reads, after.reads);
   writes = omega (arith, before.writes, after.writes);
   puts = omega (arith, before.puts, after.puts);
-  chain = continues_then old.chain mid.chain new.chain before.chain after.chain;
+  chain = continues-both old.chain mid.chain new.chain before.chain after.chain;
 }
 
 -- one end for another that is the same

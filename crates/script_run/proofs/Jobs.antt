@@ -4,6 +4,7 @@ use Rattle.std.specs.Prelude.{⊤}
 use Rattle.std.specs.Result.{IsErrAnd}
 use Rattle.std.proofs.lemmas.List.{length-replicate}
 use Rattle.chain_handlers.specs.OwnedTiles.{counts_over}
+use Rattle.chain_owners.proofs.Growing.{continues-same}
 use Rattle.outside_io.specs.Files.{Files, file}
 use Rattle.outside_io.specs.StoredBlocks.{zero_block, zero_blocks}
 use Rattle.outside_io.specs.Swap.{Blocks}
@@ -112,7 +113,7 @@ job_faults result before after old new text later puts more used capacity has = 
   reads = has.reads;
   writes = has.writes;
   puts = has.puts;
-  chain = record { used = refl; capacity = refl; later = omega arith };
+  chain = continues-same _;
 }
 
 pub err_faults : (end : End) (result : Result (Unit {0}) End) (old new : Moment) → IsErrAnd result (λ other. other ≡ end) → HasFaults (Err end) old new → HasFaults result old new
@@ -124,7 +125,7 @@ pub memory_faults : (result : Result (Unit {0}) End) (before after : Option File
 memory_faults (Ok done) before after text puts same = absurd same
 memory_faults (Err end) before after text puts same =
     subst (λ (e : End). HasFaults (Err e) (job_moment before text puts) (job_moment after text puts)) (sym same)
-    (faults_of_swap (Err ends.NoMemory) (job_moment before text puts) (job_moment after text puts) refl (λ e. absurd (cc)) (omega arith) (omega arith) (omega arith) (record { used = refl; capacity = refl; later = omega arith }))
+    (faults_of_swap (Err ends.NoMemory) (job_moment before text puts) (job_moment after text puts) refl (λ e. absurd (cc)) (omega arith) (omega arith) (omega arith) (continues-same _))
 
 -- ---- the promise
 

@@ -3,7 +3,7 @@ use Rattle.std.proofs.Common.{◌≡◌, ℕ, ◌+◌, List, [], ◌∷◌, ◌+
 use Rattle.chain_owners.specs.Owners.{times}
 use Rattle.chain_owners.proofs.Ownership.{respects-beside, respects-both, times-append}
 use Rattle.root_tiles.specs.Chains.{ChainState}
-use Rattle.root_tiles.proofs.ChainReads.{grows-both}
+use Rattle.chain_owners.proofs.Growing.{grows-both}
 use Rattle.buffer_view.specs.BufferTables.{BufferTable, buffers_names}
 use Rattle.session_states.specs.OverChains.{Leaves, names_of_all}
 

@@ -6,6 +6,7 @@ use Rattle.chain_owners.specs.Counts.{Counts, Grows}
 use Rattle.chain_owners.specs.Held.{Held, owners_of}
 use Rattle.chain_owners.specs.Owners.{Owns, Respects, times}
 use Rattle.chain_owners.specs.declared.chain_meaning.ChainMeaning.{Ghosts as Chains}
+use Rattle.chain_owners.proofs.Growing.{grows-both, grows-more}
 use Rattle.chain_owners.proofs.Ownership.{others-own, others-unchanged, owns-fewer, respects-beside, respects-both, times-append}
 use Rattle.swap_store.specs.Cause.{HasSwapCause}
 use Rattle.swap_store.specs.declared.refusal.SwapRefused.{SwapRefused}
@@ -14,7 +15,7 @@ use Rattle.op_contracts.specs.declared.source_tiles.SourceTiles.{Ghosts as Sourc
 use Rattle.node_cache.specs.Stores.{AddsNoOther, HaveOneOwner, IsFramedCondition}
 use Rattle.node_cache.specs.declared.pair_store.PairStore.{Ghosts as Stores}
 use Rattle.node_tiles.specs.Reads.{Reads, Seen, seen}
-use Rattle.node_tiles.proofs.Reading.{grows-both, reads-beside, reads-others}
+use Rattle.node_tiles.proofs.Reading.{reads-beside, reads-others}
 use Rattle.strip_renders.specs.Moments.{AreOver, Keeps, Moment, moment, names_of}
 
 -- what a moment has of its source and its chain
@@ -134,7 +135,7 @@ keeps-most added more a b few keeps = record {
   others = keeps.others;
   one_owner = keeps.one_owner;
   other_names = keeps.other_names;
-  counts = record { continues = keeps.counts.continues; names = omega (arith, keeps.counts.names, few) };
+  counts = grows-more added more a.counts b.counts few keeps.counts;
   loans = keeps.loans;
 }
 

@@ -1,6 +1,6 @@
 use Rattle.std.proofs.Common.{◌∙◌, arith}
 use Rattle.std.specs.Map.{values_of}
-use Rattle.level_tables.proofs.Keeping.{continues-both}
+use Rattle.chain_owners.proofs.Growing.{continues-both}
 use Rattle.level_tables.proofs.Owning.{disowning-next}
 use Rattle.level_tables.proofs.shares.disown_each.Goals as goal
 

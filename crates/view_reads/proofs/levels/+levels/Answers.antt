@@ -14,7 +14,7 @@ use Rattle.plane_rect.specs.Rectangle.{Inside, Rectangle, meet}
 use Rattle.plane_rect.specs.Tile.{Tile, tile_at, tile_square}
 use Rattle.root_tiles.specs.Growth.{root_state}
 use Rattle.root_tiles.specs.Roots.{IsPartOf, root_image}
-use Rattle.root_tiles.proofs.ChainReads.{grows-same}
+use Rattle.chain_owners.proofs.Growing.{grows-same}
 use Rattle.root_tiles.proofs.MoreTiles.{cause-later, read-holds, tiles-both, tiles-raise}
 use Rattle.view_reads.specs.Views.{IsPartOfLevel, view_image}
 use Rattle.view_reads.proofs.Growing.{inside-after, view-after}

@@ -2,7 +2,7 @@ use Rattle.std.proofs.Common.{◌+◌, ℕ, List, drop, refl, ap, ◌∙◌, ari
 use Rattle.std.specs.Map.{values_of}
 use Rattle.std.specs.Option.{is_some}
 use Rattle.plane_rect.specs.Tile.{Tile}
-use Rattle.level_tables.proofs.Keeping.{continues-both, continues-same}
+use Rattle.chain_owners.proofs.Growing.{continues-both, continues-same}
 use Rattle.level_tables.proofs.Owning.{disowning-end, disowning-first, disowning-next, disowning-there}
 use Rattle.level_tables.proofs.SwitchingAll.{next-left, none-left}
 use Rattle.level_tables.proofs.new_tiles.NewTiles.discard.Goals as goal
