@@ -2,7 +2,7 @@
 use Rattle.std.specs.Prelude.{ℕ, ◌/◌, List, length, take, Result, Ok, Err, refl}
 use Rattle.std.specs.Coded.{Coded, code_by, coded×}
 use Rattle.outside_io.specs.Calls.{Calls, calls_code}
-use Rattle.outside_io.specs.Files.{Files, filed}
+use Rattle.outside_io.specs.Files.{Files, appended, filed}
 use Rattle.outside_io.specs.StoredFiles.{files_code}
 use Rattle.outside_io.specs.declared.shelf.ShelfAnswer.{ShelfAnswer}
 use Rattle.outside_io.specs.declared.shelf.ShelfAnswer.TheVariants as answers
@@ -28,3 +28,11 @@ left_by (Err answers.Failed) files name bytes = filed files name (take (length b
 left_by (Err answers.NoMemory) files name bytes = files
 left_by (Err answers.Absent) files name bytes = files
 left_by (Err (answers.TooLong taken)) files name bytes = files
+
+-- the same where bytes are added at the end of a file
+abbrev pub appended_by : Result (Unit {0}) ShelfAnswer → Files → List ℕ → List ℕ → Files
+appended_by (Ok done) files name bytes = appended files name bytes
+appended_by (Err answers.Failed) files name bytes = appended files name (take (length bytes / 2) bytes)
+appended_by (Err answers.NoMemory) files name bytes = files
+appended_by (Err answers.Absent) files name bytes = files
+appended_by (Err (answers.TooLong taken)) files name bytes = files

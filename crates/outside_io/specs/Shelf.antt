@@ -1,8 +1,8 @@
 -- What a shelf of files answers to a read and to a write, and what it holds then.
-use Rattle.std.specs.Prelude.{◌≡◌, ℕ, ◌+◌, ◌<◌, ◌≤◌, ◌⊎◌, Bool, true, false, List, length, take, Option, Some, None, Result, Ok, Err, ⊤}
+use Rattle.std.specs.Prelude.{◌≡◌, ℕ, ◌+◌, ◌-◌, ◌<◌, ◌≤◌, ◌⊎◌, Bool, true, false, List, drop, length, min, take, Option, Some, None, Result, Ok, Err, ⊤}
 use Rattle.std.specs.Option.{option_map}
 use Rattle.std.specs.Global.{Vec}
-use Rattle.outside_io.specs.Files.{Files, filed}
+use Rattle.outside_io.specs.Files.{Files, appended, filed}
 use Rattle.outside_io.specs.declared.shelf.ShelfAnswer.{ShelfAnswer}
 use Rattle.outside_io.specs.declared.shelf.ShelfAnswer.TheVariants as answers
 
@@ -31,6 +31,17 @@ TakesAtMost limit (Err (answers.TooLong taken)) = taken ≡ limit + 1
 TakesAtMost limit (Err answers.Failed) = ⊤
 TakesAtMost limit (Err answers.NoMemory) = ⊤
 
+-- What a read of so many bytes from a position on answers, where this is found under the name, and what it reads: the
+-- file's bytes from there on, fewer only where it ends. An I/O error and running out of memory may come whatever is found.
+abbrev pub GivesPart : Option (List ℕ) → ℕ → ℕ → List ℕ → Result ℕ ShelfAnswer → Type 0
+GivesPart None start wanted read (Ok count) = ⊥
+GivesPart (Some bytes) start wanted read (Ok count) =
+    (count ≡ min wanted (length bytes - start)) × (take count read ≡ take count (drop start bytes))
+GivesPart found start wanted read (Err answers.Absent) = found ≡ None
+GivesPart found start wanted read (Err (answers.TooLong taken)) = ⊥
+GivesPart found start wanted read (Err answers.Failed) = ⊤
+GivesPart found start wanted read (Err answers.NoMemory) = ⊤
+
 -- The files that a write leaves: these bytes under the name after Ok, a prefix of them after an I/O error, and after
 -- running out of memory a prefix or what was there before.
 abbrev pub WriteLeaves : Option Files → List ℕ → List ℕ → Result (Unit {0}) ShelfAnswer → Option Files → Type 0
@@ -41,3 +52,13 @@ WriteLeaves old name bytes (Err answers.NoMemory) new =
     (new ≡ old) ⊎ ((n : ℕ) × (new ≡ option_map (λ files. filed files name (take n bytes)) old))
 WriteLeaves old name bytes (Err answers.Absent) new = ⊥
 WriteLeaves old name bytes (Err (answers.TooLong taken)) new = ⊥
+
+-- The same where bytes are added at the end of a file.
+abbrev pub AppendLeaves : Option Files → List ℕ → List ℕ → Result (Unit {0}) ShelfAnswer → Option Files → Type 0
+AppendLeaves old name bytes (Ok done) new = new ≡ option_map (λ files. appended files name bytes) old
+AppendLeaves old name bytes (Err answers.Failed) new =
+    (n : ℕ) × (new ≡ option_map (λ files. appended files name (take n bytes)) old)
+AppendLeaves old name bytes (Err answers.NoMemory) new =
+    (new ≡ old) ⊎ ((n : ℕ) × (new ≡ option_map (λ files. appended files name (take n bytes)) old))
+AppendLeaves old name bytes (Err answers.Absent) new = ⊥
+AppendLeaves old name bytes (Err (answers.TooLong taken)) new = ⊥

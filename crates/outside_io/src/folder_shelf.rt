@@ -1,16 +1,17 @@
 //! The files of the current folder as a shelf.
 
-ghost use Rattle.std.specs.Prelude.{◌≡◌, ◌<◌, ◌≤◌, ◌⊎◌, None, IfOk, IsTrue, length, vec_len};
+ghost use Rattle.std.specs.Prelude.{◌≡◌, ◌<◌, ◌≤◌, ◌⊎◌, None, Err, IfErr, IfOk, IsTrue, Ok, length, vec_len};
 ghost use Rattle.outside_io.specs.Faults.{faults_after};
 ghost use Rattle.outside_io.specs.FileName.{is_file_name};
-ghost use Rattle.outside_io.specs.Shelf.{TakesAtMost, WriteLeaves, has_failed};
+ghost use Rattle.outside_io.specs.Shelf.{AppendLeaves, TakesAtMost, WriteLeaves, has_failed};
 ghost use Rattle.outside_io.specs.FolderShelf.{ShelfFaults};
 
 use crate::shelf::{Shelf, ShelfAnswer};
 use std::alloc::{AllocError, Global};
-use std::fs::{Files, OpenFile};
-use std::io::{ErrorKind, Read};
+use std::fs::{Files, OpenFile, OpenOptions};
+use std::io::{ErrorKind, Read, Write};
 use std::marker::Model;
+use std::os::unix::fs::FileExt;
 use std::{fs, io, mem};
 
 /// How often a read is made again that a signal interrupted.
@@ -45,9 +46,38 @@ impl<R: Files + AllocGlobal + Drop> FolderShelf<R> {
             write_faults: 0,
         }
     }
+
+    /// Counts a read that failed.
+    fn note_read<T>(&mut self, answer: &Result<T, ShelfAnswer>)
+        ensures later { self.old.reads ≤ self.new.reads }
+        ensures counted { self.new ≡ record self.old { reads = faults_after (has_failed answer.now) self.old.reads } }
+    {
+        if let Err(ShelfAnswer::Failed) = answer {
+            self.read_faults = self.read_faults.saturating_add(1);
+        }
+    }
+
+    /// Counts a write that failed.
+    fn after_write(&mut self, done: io::Result<()>) -> Result<(), ShelfAnswer>
+        ensures answer { (result ≡ Ok tt) ⊎ ((result ≡ Err ShelfAnswer.NoMemory) ⊎ (result ≡ Err ShelfAnswer.Failed)) }
+        ensures later { self.old.writes ≤ self.new.writes }
+        ensures counted { self.new ≡ record self.old { writes = faults_after (has_failed result) self.old.writes } }
+    {
+        match done {
+            Ok(()) => Ok(()),
+            Err(error) if error.kind() == ErrorKind::OutOfMemory => Err(ShelfAnswer::NoMemory),
+            Err(_) => {
+                self.write_faults = self.write_faults.saturating_add(1);
+                Err(ShelfAnswer::Failed)
+            }
+        }
+    }
 }
 
-impl<R: Files + AllocGlobal + Drop> Shelf for FolderShelf<R> {
+impl<R: Files + AllocGlobal + Drop> Shelf for FolderShelf<R>
+where
+    R::File: FileExt,
+{
     ghost files = { λ _. None };
 
     ghost read_faults = { λ faults. faults.reads };
@@ -80,9 +110,21 @@ impl<R: Files + AllocGlobal + Drop> Shelf for FolderShelf<R> {
         ensures counted { self.new ≡ record self.old { reads = faults_after (has_failed result) self.old.reads } }
     {
         let answer = read_file(&self.rt, name, limit, memory);
-        if let Err(ShelfAnswer::Failed) = answer {
-            self.read_faults = self.read_faults.saturating_add(1);
-        }
+        self.note_read(&answer);
+        answer
+    }
+
+    fn read_part(&mut self, name: &str, start: u64, into: &mut [u8]) -> Result<usize, ShelfAnswer>
+        requires { IsTrue (is_file_name name.now) }
+        ensures within { IfOk result (λ count. count ≤ length into.new) }
+        ensures length { length into.new ≡ length into.old }
+        ensures later { self.old.reads ≤ self.new.reads }
+
+        // A read that failed is counted, and no other.
+        ensures counted { self.new ≡ record self.old { reads = faults_after (has_failed result) self.old.reads } }
+    {
+        let answer = read_file_part(&self.rt, name, start, into);
+        self.note_read(&answer);
         answer
     }
 
@@ -94,14 +136,85 @@ impl<R: Files + AllocGlobal + Drop> Shelf for FolderShelf<R> {
         // A write that failed is counted, and no other.
         ensures counted { self.new ≡ record self.old { writes = faults_after (has_failed result) self.old.writes } }
     {
-        match fs::write(&self.rt, name, bytes) {
-            Ok(()) => Ok(()),
-            Err(error) if error.kind() == ErrorKind::OutOfMemory => Err(ShelfAnswer::NoMemory),
-            Err(_) => {
-                self.write_faults = self.write_faults.saturating_add(1);
-                Err(ShelfAnswer::Failed)
-            }
+        let done = fs::write(&self.rt, name, bytes);
+        self.after_write(done)
+    }
+
+    fn append(&mut self, name: &str, bytes: &[u8]) -> Result<(), ShelfAnswer>
+        requires { IsTrue (is_file_name name.now) }
+        ensures leaves { AppendLeaves None name.now bytes.now result None }
+        ensures later { self.old.writes ≤ self.new.writes }
+
+        // A write that failed is counted, and no other.
+        ensures counted { self.new ≡ record self.old { writes = faults_after (has_failed result) self.old.writes } }
+    {
+        let done = append_to_file(&self.rt, name, bytes);
+        self.after_write(done)
+    }
+}
+
+/// Adds bytes at the end of a file of the current folder.
+fn append_to_file<R: Files>(rt: &R, name: &str, bytes: &[u8]) -> io::Result<()> {
+    let mut file = OpenOptions::new().append(true).open(rt, name)?;
+    file.write_all(bytes)
+}
+
+/// Reads the bytes of a file of the current folder from a position on, as many as the slice has room for.
+fn read_file_part<R: Files>(
+    rt: &R,
+    name: &str,
+    start: u64,
+    into: &mut [u8],
+) -> Result<usize, ShelfAnswer>
+where
+    R::File: FileExt,
+    ensures within { IfOk result (λ count. count ≤ length into.new) }
+    ensures length { length into.new ≡ length into.old }
+{
+    let file = open_file(rt, name)?;
+    fill_at(&file, start, into).map_err(refusal)
+}
+
+/// Reads a file from a position on into the slice, to the file's end or the slice's, and returns how many bytes.
+/// Each turn but the last takes at least one byte.
+fn fill_at<F: FileExt>(file: &F, start: u64, into: &mut [u8]) -> io::Result<usize>
+    ensures within { IfOk result (λ filled. filled ≤ length into.new) }
+    ensures length { length into.new ≡ length into.old }
+{
+    let mut filled = 0;
+    while filled < into.len() {
+        let position = start.saturating_add(filled as u64);
+        let count = read_some_at(file, position, &mut into[filled..])?;
+        if count == 0 {
+            return Ok(filled);
         }
+        filled += count;
+    }
+    Ok(filled)
+}
+
+/// Reads once at a position, and again where a signal interrupted it, at most `MAX_INTERRUPTIONS` times.
+fn read_some_at<F: FileExt>(file: &F, position: u64, into: &mut [u8]) -> io::Result<usize>
+    ensures read { IfOk result (λ count. count ≤ length into.old) }
+    ensures length { length into.new ≡ length into.old }
+{
+    for _ in 0..MAX_INTERRUPTIONS {
+        match file.read_at(into, position) {
+            Err(error) if error.kind() == ErrorKind::Interrupted => {}
+            answer => return answer,
+        }
+    }
+    Err(io::Error::from(ErrorKind::Interrupted))
+}
+
+/// Opens a file of the current folder.
+fn open_file<R: Files>(rt: &R, name: &str) -> Result<R::File, ShelfAnswer>
+    ensures { IfErr result (λ answer. (answer ≡ ShelfAnswer.Absent) ⊎ ((answer ≡ ShelfAnswer.Failed) ⊎ (answer ≡ ShelfAnswer.NoMemory))) }
+{
+    match fs::open(rt, name) {
+        Ok(file) => Ok(file),
+        Err(error) if error.kind() == ErrorKind::NotFound => Err(ShelfAnswer::Absent),
+        Err(error) => Err(refusal(error)),
     }
 }
 
@@ -114,11 +227,7 @@ fn read_file<R: Files + AllocGlobal>(
 ) -> Result<Vec<u8>, ShelfAnswer>
     ensures within { TakesAtMost limit result }
 {
-    let file = match fs::open(rt, name) {
-        Ok(file) => file,
-        Err(error) if error.kind() == ErrorKind::NotFound => return Err(ShelfAnswer::Absent),
-        Err(error) => return Err(refusal(error)),
-    };
+    let file = open_file(rt, name)?;
     let most = limit.saturating_add(1);
     let bytes = read_prefix(rt.alloc(), file, most, memory).map_err(refusal)?;
     let taken = bytes.len() as u64;

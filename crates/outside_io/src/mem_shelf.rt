@@ -1,12 +1,12 @@
 //! A shelf in memory.
 
-ghost use Rattle.std.specs.Prelude.{◌≡◌, ◌≤◌, ◌↔◌, false, Some, IsTrue, IsErrOf, OnOk, reverse};
+ghost use Rattle.std.specs.Prelude.{◌≡◌, ◌≤◌, ◌↔◌, false, Some, IfOk, IsTrue, IsErrOf, OnOk, length, reverse};
 ghost use Rattle.std.specs.Option.{option_copied};
 ghost use Rattle.outside_io.specs.Calls.{no_calls, next_fails, after_call};
 ghost use Rattle.outside_io.specs.FileName.{is_file_name};
 ghost use Rattle.outside_io.specs.Files.{file};
-ghost use Rattle.outside_io.specs.MemShelf.{left_by};
-ghost use Rattle.outside_io.specs.Shelf.{Answers, TakesAtMost, WriteLeaves};
+ghost use Rattle.outside_io.specs.MemShelf.{appended_by, left_by};
+ghost use Rattle.outside_io.specs.Shelf.{Answers, AppendLeaves, GivesPart, TakesAtMost, WriteLeaves};
 ghost use Rattle.outside_io.specs.StoredFiles.{files_of};
 
 use crate::failing_calls::{FailingCalls, kept};
@@ -85,6 +85,23 @@ impl Shelf for MemShelf {
         self.files.read(name, limit)
     }
 
+    fn read_part(&mut self, name: &str, start: u64, into: &mut [u8]) -> Result<usize, ShelfAnswer>
+        requires { IsTrue (is_file_name name.now) }
+        ensures gives { GivesPart (file self.old.files name.now) start (length into.old) into.new result }
+        ensures within { IfOk result (λ count. count ≤ length into.new) }
+        ensures length { length into.new ≡ length into.old }
+        ensures later { self.old.reads.faults ≤ self.new.reads.faults }
+
+        // It fails at the chosen calls and at no others, and changes nothing but their count.
+        ensures chosen { IsErrOf result ShelfAnswer.Failed ↔ IsTrue (next_fails self.old.reads) }
+        ensures after { self.new ≡ record self.old { reads = after_call self.old.reads } }
+    {
+        if self.reads.fails() {
+            return Err(ShelfAnswer::Failed);
+        }
+        self.files.read_part(name, start, into)
+    }
+
     fn write(&mut self, name: &str, bytes: &[u8]) -> Result<(), ShelfAnswer>
         requires { IsTrue (is_file_name name.now) }
         ensures leaves { WriteLeaves (Some self.old.files) name.now bytes.now result (Some self.new.files) }
@@ -99,6 +116,27 @@ impl Shelf for MemShelf {
     {
         let fails = self.writes.fails();
         self.files.put(name, kept(fails, bytes))?;
+        if fails {
+            Err(ShelfAnswer::Failed)
+        } else {
+            Ok(())
+        }
+    }
+
+    fn append(&mut self, name: &str, bytes: &[u8]) -> Result<(), ShelfAnswer>
+        requires { IsTrue (is_file_name name.now) }
+        ensures leaves { AppendLeaves (Some self.old.files) name.now bytes.now result (Some self.new.files) }
+        ensures later { self.old.writes.faults ≤ self.new.writes.faults }
+
+        // It fails at the chosen calls and at no others.
+        ensures chosen { IsErrOf result ShelfAnswer.Failed → IsTrue (next_fails self.old.writes) }
+        ensures others { OnOk result (next_fails self.old.writes ≡ false) }
+        ensures written { self.new.files ≡ appended_by result self.old.files name.now bytes.now }
+        ensures counted { self.new.writes ≡ after_call self.old.writes }
+        ensures reads { self.new.reads ≡ self.old.reads }
+    {
+        let fails = self.writes.fails();
+        self.files.append(name, kept(fails, bytes))?;
         if fails {
             Err(ShelfAnswer::Failed)
         } else {

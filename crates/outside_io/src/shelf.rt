@@ -1,10 +1,10 @@
 //! Shelves: files by their names.
 
-ghost use Rattle.std.specs.Prelude.{◌≡◌, ℕ, ◌≤◌, Option, IfSome, IsTrue, IsErrOf};
+ghost use Rattle.std.specs.Prelude.{◌≡◌, ℕ, ◌≤◌, Option, IfOk, IfSome, IsTrue, IsErrOf, length};
 ghost use Rattle.outside_io.specs.FileName.{is_file_name};
 ghost use Rattle.outside_io.specs.Faults.{Rose};
 ghost use Rattle.outside_io.specs.Files.{Files, file};
-ghost use Rattle.outside_io.specs.Shelf.{Answers, TakesAtMost, WriteLeaves};
+ghost use Rattle.outside_io.specs.Shelf.{Answers, AppendLeaves, GivesPart, TakesAtMost, WriteLeaves};
 ghost use Rattle.outside_io.specs.declared.shelf.ShelfAnswer.TheVariants.{NoMemory};
 
 use no_memory::OutOfMemory;
@@ -77,10 +77,31 @@ pub trait Shelf {
         self.read(name, limit)
     }
 
+    /// Reads the bytes of a file from the position `start` on, as many as the slice has room for, and fewer only
+    /// where the file ends; returns how many.
+    fn read_part(&mut self, name: &str, start: u64, into: &mut [u8]) -> Result<usize, ShelfAnswer>
+        requires { IsTrue (is_file_name name.now) }
+        ensures gives { IfSome (files self.old) (λ all. GivesPart (file all name.now) start (length into.old) into.new result) }
+        ensures within { IfOk result (λ count. count ≤ length into.new) }
+        ensures length { length into.new ≡ length into.old }
+        ensures failed { IsErrOf result ShelfAnswer.Failed → Rose (read_faults self.old) (read_faults self.new) }
+        ensures absent { IsErrOf result ShelfAnswer.Absent → read_faults self.new ≡ read_faults self.old }
+        ensures later { read_faults self.old ≤ read_faults self.new }
+        ensures files { files self.new ≡ files self.old }
+        ensures write_faults { write_faults self.new ≡ write_faults self.old };
+
     /// Makes a file hold exactly these bytes.
     fn write(&mut self, name: &str, bytes: &[u8]) -> Result<(), ShelfAnswer>
         requires { IsTrue (is_file_name name.now) }
         ensures leaves { WriteLeaves (files self.old) name.now bytes.now result (files self.new) }
+        ensures failed { IsErrOf result ShelfAnswer.Failed → Rose (write_faults self.old) (write_faults self.new) }
+        ensures later { write_faults self.old ≤ write_faults self.new }
+        ensures read_faults { read_faults self.new ≡ read_faults self.old };
+
+    /// Adds bytes at the end of a file. A shelf may fail where there is no such file, or begin it.
+    fn append(&mut self, name: &str, bytes: &[u8]) -> Result<(), ShelfAnswer>
+        requires { IsTrue (is_file_name name.now) }
+        ensures leaves { AppendLeaves (files self.old) name.now bytes.now result (files self.new) }
         ensures failed { IsErrOf result ShelfAnswer.Failed → Rose (write_faults self.old) (write_faults self.new) }
         ensures later { write_faults self.old ≤ write_faults self.new }
         ensures read_faults { read_faults self.new ≡ read_faults self.old };

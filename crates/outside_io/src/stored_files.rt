@@ -1,9 +1,9 @@
 //! Files in memory.
 
-ghost use Rattle.std.specs.Prelude.{◌≡◌, Some, position, reverse, if◌then◌else◌, is_ok, ◌≢◌};
+ghost use Rattle.std.specs.Prelude.{◌≡◌, ◌≢◌, ◌≤◌, Err, IfOk, Some, if◌then◌else◌, is_ok, length, position, reverse};
 ghost use Rattle.std.specs.Option.{option_copied};
-ghost use Rattle.outside_io.specs.Files.{file, filed};
-ghost use Rattle.outside_io.specs.Shelf.{Answers, TakesAtMost};
+ghost use Rattle.outside_io.specs.Files.{appended, file, filed};
+ghost use Rattle.outside_io.specs.Shelf.{Answers, GivesPart, TakesAtMost};
 ghost use Rattle.outside_io.specs.StoredFiles.{has_name, files_of};
 
 use crate::shelf::ShelfAnswer;
@@ -62,6 +62,32 @@ impl StoredFiles {
             }
         }
         Ok(())
+    }
+
+    /// Adds bytes at the end of a file, or begins it with them. Changes nothing where no memory is left.
+    pub fn append(&mut self, name: &str, bytes: &[u8]) -> Result<(), AllocError>
+        ensures { self.new ≡ (if is_ok result then appended self.old name.now bytes.now else self.old) }
+    {
+        match number_of(&self.stored, name) {
+            Some(number) => self.stored[number].1.extend_from_slice(bytes),
+            None => self.put(name, bytes),
+        }
+    }
+
+    /// Reads the bytes of a file from a position on, as many as the slice has room for; returns how many.
+    pub fn read_part(&self, name: &str, start: u64, into: &mut [u8]) -> Result<usize, ShelfAnswer>
+        ensures gives { GivesPart (file self.now name.now) start (length into.old) into.new result }
+        ensures within { IfOk result (λ count. count ≤ length into.new) }
+        ensures length { length into.new ≡ length into.old }
+        ensures sure { result ≢ Err ShelfAnswer.Failed }
+    {
+        let Some(bytes) = self.get(name) else {
+            return Err(ShelfAnswer::Absent);
+        };
+        let rest = bytes.get(start as usize..).unwrap_or(&[]);
+        let count = rest.len().min(into.len());
+        into[..count].copy_from_slice(&rest[..count]);
+        Ok(count)
     }
 
     /// Reads a file that has at most `limit` bytes.

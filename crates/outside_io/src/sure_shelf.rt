@@ -1,10 +1,10 @@
 //! A shelf in memory that never fails.
 
-ghost use Rattle.std.specs.Prelude.{◌≡◌, ◌≢◌, Some, Err, IsTrue, IsOkUnless, is_ok, if◌then◌else◌, reverse};
+ghost use Rattle.std.specs.Prelude.{◌≡◌, ◌≢◌, ◌≤◌, Some, Err, IfOk, IsTrue, IsOkUnless, is_ok, if◌then◌else◌, length, reverse};
 ghost use Rattle.std.specs.Option.{option_copied};
 ghost use Rattle.outside_io.specs.FileName.{is_file_name};
-ghost use Rattle.outside_io.specs.Files.{file, filed};
-ghost use Rattle.outside_io.specs.Shelf.{Answers, TakesAtMost};
+ghost use Rattle.outside_io.specs.Files.{appended, file, filed};
+ghost use Rattle.outside_io.specs.Shelf.{Answers, GivesPart, TakesAtMost};
 ghost use Rattle.outside_io.specs.StoredFiles.{files_of};
 
 use crate::shelf::{Shelf, ShelfAnswer};
@@ -64,12 +64,32 @@ impl Shelf for SureShelf {
         self.files.read(name, limit)
     }
 
+    fn read_part(&mut self, name: &str, start: u64, into: &mut [u8]) -> Result<usize, ShelfAnswer>
+        requires { IsTrue (is_file_name name.now) }
+        ensures gives { GivesPart (file self.old name.now) start (length into.old) into.new result }
+        ensures within { IfOk result (λ count. count ≤ length into.new) }
+        ensures length { length into.new ≡ length into.old }
+        ensures sure { result ≢ Err ShelfAnswer.Failed }
+        ensures same { self.new ≡ self.old }
+    {
+        self.files.read_part(name, start, into)
+    }
+
     fn write(&mut self, name: &str, bytes: &[u8]) -> Result<(), ShelfAnswer>
         requires { IsTrue (is_file_name name.now) }
         ensures sure { IsOkUnless result ShelfAnswer.NoMemory }
         ensures written { self.new ≡ (if is_ok result then filed self.old name.now bytes.now else self.old) }
     {
         self.files.put(name, bytes)?;
+        Ok(())
+    }
+
+    fn append(&mut self, name: &str, bytes: &[u8]) -> Result<(), ShelfAnswer>
+        requires { IsTrue (is_file_name name.now) }
+        ensures sure { IsOkUnless result ShelfAnswer.NoMemory }
+        ensures written { self.new ≡ (if is_ok result then appended self.old name.now bytes.now else self.old) }
+    {
+        self.files.append(name, bytes)?;
         Ok(())
     }
 }

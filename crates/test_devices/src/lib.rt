@@ -3,6 +3,8 @@
 #![tactic(auto)]
 
 #[cfg(test)]
+mod file_parts;
+#[cfg(test)]
 mod gates;
 #[cfg(test)]
 mod sure_devices;

@@ -1,0 +1,90 @@
+//! Files of shelves that are written and read in parts.
+
+ghost use Rattle.std.specs.Prelude.{IsTrue};
+ghost use Rattle.outside_io.specs.FileName.{is_file_name};
+
+use outside_io::{FolderShelf, MemShelf, Shelf, ShelfAnswer, SureShelf};
+use std::fs;
+use std::process::Abort;
+
+/// The parts of a file in the order in which they are written.
+const PARTS: [&[u8]; 4] = [b"abc", b"", b"de", b"fgh"];
+
+/// Where a read begins, how many bytes it has room for, and what it gives.
+const READS: [(u64, usize, &[u8]); 7] = [
+    (0, 8, b"abcdefgh"),
+    (0, 3, b"abc"),
+    (2, 4, b"cdef"),
+    (5, 8, b"fgh"),
+    (7, 0, b""),
+    (8, 2, b""),
+    (1 << 40, 2, b""),
+];
+
+/// Writes the first part of a file, and adds the others.
+fn write_parts<S: Shelf>(rt: &impl Abort, shelf: &mut S, name: &str)
+    requires { IsTrue (is_file_name name.now) }
+{
+    assert_eq!(rt; shelf.write(name, PARTS[0]), Ok(()));
+    for part in &PARTS[1..] {
+        assert_eq!(rt; shelf.append(name, part), Ok(()));
+    }
+}
+
+/// Reads parts of the file that `write_parts` leaves.
+fn check_parts<S: Shelf>(rt: &impl Abort, shelf: &mut S, name: &str)
+    requires { IsTrue (is_file_name name.now) }
+{
+    for (start, room, wanted) in READS {
+        let mut into = [0; 8];
+        let part = into.get_mut(..room).expect(rt, "at most eight bytes");
+        let read = shelf.read_part(name, start, part);
+        assert_eq!(rt; read, Ok(wanted.len()), "{room} bytes from {start} on");
+        assert!(rt; into.starts_with(wanted), "{room} bytes from {start} on");
+    }
+}
+
+#[test]
+fn parts_of_files(rt: HostRuntime) {
+    let name = "file_parts.eight";
+    assert!(rt; outside_io::is_file_name(name.as_bytes()));
+    let mut folder = FolderShelf::new(&rt);
+    let absent = folder.read_part(name, 0, &mut [0; 2]);
+    assert_eq!(rt; absent, Err(ShelfAnswer::Absent));
+    write_parts(&rt, &mut folder, name);
+    check_parts(&rt, &mut folder, name);
+    fs::remove_file(&rt, name).expect(&rt, "the file");
+    assert_eq!(rt; folder.append(name, b"i"), Err(ShelfAnswer::Failed));
+}
+
+#[test]
+fn parts_of_files_in_memory(rt: HostRuntime) {
+    let alloc = rt.alloc();
+    let mut sure = SureShelf::new(alloc, Vec::new(alloc));
+    let absent = sure.read_part("eight", 0, &mut [0; 2]);
+    assert_eq!(rt; absent, Err(ShelfAnswer::Absent));
+    write_parts(&rt, &mut sure, "eight");
+    check_parts(&rt, &mut sure, "eight");
+    let mut shelf = MemShelf::new(alloc, Vec::new(alloc), Vec::new(alloc), Vec::new(alloc));
+    assert_eq!(rt; shelf.append("eight", b"a"), Ok(()));
+    write_parts(&rt, &mut shelf, "eight");
+    check_parts(&rt, &mut shelf, "eight");
+}
+
+#[test]
+fn calls_on_parts_fail_where_they_are_chosen(rt: HostRuntime) {
+    let alloc = rt.alloc();
+    let reads = vec![in alloc; 2].expect(&rt, "memory");
+    let writes = vec![in alloc; 3].expect(&rt, "memory");
+    let mut shelf = MemShelf::new(alloc, Vec::new(alloc), reads, writes);
+    assert_eq!(rt; shelf.write("new", b"abc"), Ok(()));
+    assert_eq!(rt; shelf.append("new", b"de"), Ok(()));
+    assert_eq!(rt; shelf.append("new", b"fghij"), Err(ShelfAnswer::Failed));
+    assert_eq!(rt; shelf.append("new", b"k"), Ok(()));
+    let mut into = [0; 16];
+    assert_eq!(rt; shelf.read_part("new", 1, &mut into), Ok(7));
+    assert!(rt; into.starts_with(b"bcdefgk"));
+    let failed = shelf.read_part("new", 1, &mut into);
+    assert_eq!(rt; failed, Err(ShelfAnswer::Failed));
+    assert_eq!(rt; shelf.read_part("new", 7, &mut into), Ok(1));
+}
