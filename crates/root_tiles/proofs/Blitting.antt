@@ -1,31 +1,23 @@
 -- Patches into which the tiles of a root are written, one after another.
-use Rattle.std.proofs.Common.{◌≡◌, ℕ, ◌<◌, ◌⊎◌, inl, inr, List, [], ◌∷◌, Contains, Option, Some, None, Bool, true, false, cond, refl, sym, ap, subst, ◌∙◌, arith}
+use Rattle.std.proofs.Common.{◌≡◌, ℕ, inl, inr, List, [], ◌∷◌, Contains, Option, Some, None, refl, sym, ap, subst, ◌∙◌}
 use Rattle.std.specs.Prelude.{IsSome}
 use Rattle.std.specs.Option.{option_map, option_map_or}
 use Rattle.plane_rect.specs.Rectangle.{Includes, Inside, Rectangle}
 use Rattle.plane_rect.specs.Tile.{Tile, tile_at, tile_square}
 use Rattle.plane_rect.proofs.Lists.{Contains-cases}
-use Rattle.plane_rect.proofs.TileLists.{Inside-tile_square}
-use Rattle.pixel_formats.specs.Format.{channels}
 use Rattle.pixel_formats.specs.declared.format.Format.{Format}
 use Rattle.model_images.specs.FromRaw.{pixels_from_raw}
-use Rattle.model_images.specs.Image.{Image, IsImage, at, is_inside}
+use Rattle.model_images.specs.Image.{Image}
 use Rattle.model_images.specs.Paint.{blank, cut, put_raw}
 use Rattle.model_images.specs.Tiles.{HeldTiles, held_image, held_pixels}
-use Rattle.model_images.proofs.HeldTiles.{part-held}
-use Rattle.model_images.proofs.Laws.{IsImage-image_from_fn, at-image_from_fn, generated_equal, image_from_fn-at}
-use Rattle.model_images.proofs.Samples.{Inside_from, inside_where}
+use Rattle.model_images.proofs.HeldTiles.{part-held, pixel-held}
+use Rattle.model_images.proofs.Laws.{IsImage-image_from_fn, at-image_from_fn}
 use Rattle.root_tiles.specs.Roots.{IsPartOf, with_tile}
-
--- a position's sample is that of its tile
-abbrev IsHeldAt : HeldTiles → Image → ℕ → ℕ → ℕ → Type 0
-IsHeldAt held patch u v c = at patch u v c ≡ held_pixels patch.format held u v c
+use Rattle.root_tiles.proofs.PatchTiles.{HasSamples, samples-last, samples-put}
 
 -- each position of the patch has the sample of its tile, or is zero while its tile is still to come
-pub record Blitted (held : HeldTiles) (patch : Image) (rest : List Tile) : Type 0 where
-  pub whole : IsImage patch
-  pub pixels : (u v c : ℕ) → Inside u v patch.box → c < channels patch.format
-      → IsHeldAt held patch u v c ⊎ ((at patch u v c ≡ 0) × Contains rest (tile_at u v))
+abbrev pub Blitted : HeldTiles → Image → List Tile → Type 0
+Blitted held patch rest = HasSamples (held_pixels patch.format held) patch rest
 
 pub blitted-first : (held : HeldTiles) (box : Rectangle) (format : Format) (tiles : List Tile)
     → ((u v : ℕ) → Inside u v box → Contains tiles (tile_at u v)) → Blitted held (blank box format) tiles
@@ -54,39 +46,8 @@ blitted-lacking held patch t rest none blitted = record {
 
 blitted-there : (held : HeldTiles) (patch : Image) (t : Tile) (bytes : List ℕ) (rest : List Tile) → held t ≡ Some bytes
     → Blitted held patch (t ∷ rest) → Blitted held (put_raw patch (tile_square t) bytes) rest
-blitted-there held patch t bytes rest is blitted = record {
-  whole = IsImage-image_from_fn patch.box patch.format painted;
-  pixels = λ u v c there known. of u v c there known (is_inside u v (tile_square t)) refl;
-}
-  where
-    painted : ℕ → ℕ → ℕ → ℕ
-    painted u v c = cond (is_inside u v (tile_square t)) (pixels_from_raw (tile_square t) patch.format bytes u v c) (at patch u v c)
-
-    new : Image
-    new = put_raw patch (tile_square t) bytes
-
-    of : (u v c : ℕ) → Inside u v patch.box → c < channels patch.format → (b : Bool) → is_inside u v (tile_square t) ≡ b
-        → IsHeldAt held new u v c ⊎ ((at new u v c ≡ 0) × Contains rest (tile_at u v))
-    of u v c there known true e =
-        let here : t ≡ tile_at u v = (Inside-tile_square u v t).0 (Inside_from u v (tile_square t) e) in
-        let value : at new u v c ≡ pixels_from_raw (tile_square t) patch.format bytes u v c =
-        at-image_from_fn patch.box patch.format painted u v c there known
-        ∙ ap (λ (b : Bool). cond b (pixels_from_raw (tile_square t) patch.format bytes u v c) (at patch u v c)) e in
-        inl (value
-        ∙ ap (λ (tile : Tile). pixels_from_raw (tile_square tile) patch.format bytes u v c) here
-        ∙ sym (ap (λ (o : Option (List ℕ)). option_map_or (λ bytes. pixels_from_raw (tile_square (tile_at u v)) patch.format bytes u v c) o 0)
-        (ap held (sym here) ∙ is)))
-    of u v c there known false e =
-        let value : at new u v c ≡ at patch u v c =
-        at-image_from_fn patch.box patch.format painted u v c there known
-        ∙ ap (λ (b : Bool). cond b (pixels_from_raw (tile_square t) patch.format bytes u v c) (at patch u v c)) e in
-        elim (blitted.pixels u v c there known) [
-          | inl same ↦ inl (value ∙ same)
-          | inr zero ↦ elim (Contains-cases t rest (tile_at u v) zero.1) [
-            | inl here ↦ absurd (cc (sym e ∙ inside_where u v (tile_square t) ((Inside-tile_square u v t).1 here)))
-            | inr later ↦ inr (value ∙ zero.0, later)
-          ]
-        ]
+blitted-there held patch t bytes rest is =
+    samples-put (held_pixels patch.format held) patch t bytes rest (λ u v c there known. sym (pixel-held patch.format held t bytes u v c is there))
 
 pub blitted-next : (held : HeldTiles) (patch new : Image) (t : Tile) (rest tiles : List Tile) → tiles ≡ t ∷ rest → new ≡ with_tile patch t (held t)
     → Blitted held patch tiles → Blitted held new rest
@@ -99,19 +60,11 @@ blitted-next held patch new t rest tiles is put blitted = of (held t) refl put
     of None none put = subst (λ (image : Image). Blitted held image rest) (sym put) (blitted-lacking held patch t rest none here)
     of (Some bytes) some put = subst (λ (image : Image). Blitted held image rest) (sym put) (blitted-there held patch t bytes rest some here)
 
-none-left : (tile : Tile) → Contains [] tile → ⊥
-none-left tile h = omega (arith, h.1)
-
 -- when no tile is still to come the patch is a part of the image
 pub blitted-last : (held : HeldTiles) (box : Rectangle) (format : Format) (patch : Image) (rest : List Tile) → rest ≡ [] → patch.format ≡ format
     → Includes box patch.box → Blitted held patch rest → patch ≡ cut (held_image box format held) patch.box
 blitted-last held box format patch rest none same inside blitted =
-    sym (image_from_fn-at patch blitted.whole)
-    ∙ generated_equal patch.box patch.format (at patch) (held_pixels patch.format held)
-    (λ u v c there known. elim (blitted.pixels u v c there known) [
-      | inl is ↦ is
-      | inr zero ↦ absurd (none-left (tile_at u v) (subst (λ (tiles : List Tile). Contains tiles (tile_at u v)) none zero.1))
-    ])
+    samples-last (held_pixels patch.format held) patch rest none blitted
     ∙ ap (λ (f : Format). held_image patch.box f held) same
     ∙ sym (part-held box patch.box format held inside)
 

@@ -3,6 +3,7 @@ pub mod Blitting
 pub mod ChainReads
 pub mod Solid
 pub mod PaintedTiles
+pub mod PatchTiles
 pub mod Cut
 pub mod Making
 pub mod Written

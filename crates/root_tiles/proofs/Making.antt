@@ -1,5 +1,5 @@
 -- Painted tiles that are made beside a root, one after another.
-use Rattle.std.proofs.Common.{◌≡◌, ℕ, ◌+◌, ◌≤◌, ◌⊎◌, inl, inr, List, [], ◌∷◌, ◌++◌, Contains, length, Option, Some, None, cond, refl, sym, ap, subst, ◌∙◌, arith}
+use Rattle.std.proofs.Common.{◌≡◌, ℕ, ◌+◌, ◌-◌, ◌≤◌, ◌⊎◌, inl, inr, List, [], ◌∷◌, ◌++◌, Contains, length, Option, Some, None, cond, refl, sym, ap, subst, ◌∙◌, arith}
 use Rattle.std.specs.Prelude.{IfSome, IsSome, IsSomeAnd}
 use Rattle.std.specs.Map.{keys_of, values_of}
 use Rattle.std.specs.Option.{option_map_or}
@@ -126,34 +126,11 @@ more-read root part r f added old now new before after makes read =
 
 pub more-raise : (root : RootTiles) (part r : Rectangle) (f : ℕ → ℕ → ℕ → ℕ) (added most : ℕ) (old now : ChainState) (before after : List (Tile × ℕ))
     → added ≤ most → MakesMore root part r f added old now before after → MakesMore root part r f most old now before after
-more-raise root part r f added most old now before after less makes = record {
-  made = makes.made;
-  owned = makes.owned;
-  others = makes.others;
-  over = makes.over;
-  bytes = makes.bytes;
-  painted = makes.painted;
-  meeting = makes.meeting;
-  kept = makes.kept;
-  grows = grows-more added most old.counts now.counts less makes.grows;
-  loans = makes.loans;
-  valid = makes.valid;
-}
-
-pub makes-raise : (root : RootTiles) (r : Rectangle) (f : ℕ → ℕ → ℕ → ℕ) (added most : ℕ) (old now : ChainState) (entries : List (Tile × ℕ))
-    → added ≤ most → Makes root r f added old now entries → Makes root r f most old now entries
-makes-raise root r f added most old now entries less makes = record {
-  made = makes.made;
-  owned = makes.owned;
-  others = makes.others;
-  over = makes.over;
-  bytes = makes.bytes;
-  painted = makes.painted;
-  meeting = makes.meeting;
-  grows = grows-more added most old.counts now.counts less makes.grows;
-  loans = makes.loans;
-  valid = makes.valid;
-}
+more-raise root part r f added most old now before after less makes =
+    let sum : added + (most - added) ≡ most = omega (arith, less) in
+    subst (λ n. MakesMore root part r f n old now before after) sum
+    (more-same root part r f added (most - added) old now now before after makes refl
+    (grows-more 0 (most - added) now.counts now.counts (omega arith) (grows-same now.counts)) refl (λ is. is))
 
 -- what is painted over the tiles as they are is painted over those that were there
 pub painted-first : (root : RootTiles) (r : Rectangle) (f : ℕ → ℕ → ℕ → ℕ) (old now : Held) (at : Tile) (bytes : List ℕ)
@@ -277,6 +254,15 @@ makes-all root r f added old new before after none over next =
     let sum : 0 + added ≡ added = omega arith in
     subst (λ n. Makes root r f n old new after) sum
     (makes-then root r r r f f 0 added old old new before after (makes-none root r f old before none over) next (λ u v there. there) (λ tile bytes meets is. is))
+
+pub makes-raise : (root : RootTiles) (r : Rectangle) (f : ℕ → ℕ → ℕ → ℕ) (added most : ℕ) (old now : ChainState) (entries : List (Tile × ℕ))
+    → added ≤ most → Makes root r f added old now entries → Makes root r f most old now entries
+makes-raise root r f added most old now entries less makes =
+    let sum : added + (most - added) ≡ most = omega (arith, less) in
+    subst (λ n. Makes root r f n old now entries) sum
+    (makes-then root r r r f f added (most - added) old now now entries entries makes
+    (more-raise root r r f 0 (most - added) now now entries entries (omega arith) (more-none root r r f now entries makes.made makes.owned makes.over))
+    (λ u v there. there) (λ tile bytes meets is. is))
 
 -- what a list of no tile asks of a chain
 pub none-made : (root : RootTiles) (held : Held) (entries : List (Tile × ℕ)) → entries ≡ [] → IsRootOver root held

@@ -1,27 +1,25 @@
 -- Parts of levels of views, into which tiles are written one after another.
-use Rattle.std.proofs.Common.{◌≡◌, ℕ, suc, ◌+◌, ◌<◌, ◌⊎◌, inl, inr, List, [], ◌∷◌, Contains, Bool, true, false, cond, refl, sym, ap, subst, ◌∙◌, arith}
+use Rattle.std.proofs.Common.{◌≡◌, ℕ, suc, ◌+◌, ◌<◌, inl, inr, List, [], ◌∷◌, Contains, refl, sym, ap, subst, ◌∙◌, arith}
 use Rattle.std.specs.Prelude.{IfSome}
 use Rattle.plane_rect.specs.Rectangle.{Inside, IsRectangle, Rectangle, meet}
 use Rattle.plane_rect.specs.Tile.{Tile, plane, tile_at, tile_square}
-use Rattle.plane_rect.proofs.Lists.{Contains-cases}
 use Rattle.plane_rect.proofs.Rectangles.{Inside-meet}
-use Rattle.plane_rect.proofs.TileLists.{Inside-tile_square}
 use Rattle.pixel_formats.specs.Format.{channels}
 use Rattle.pixel_formats.specs.declared.format.Format.{Format}
 use Rattle.chain_owners.specs.Held.{Held}
 use Rattle.model_images.specs.FromRaw.{pixels_from_raw}
-use Rattle.model_images.specs.Image.{Image, IsImage, at, image_from_fn, is_inside}
+use Rattle.model_images.specs.Image.{Image, at, image_from_fn}
 use Rattle.model_images.specs.Level.{halved_image, level, level_box, source_of_level}
 use Rattle.model_images.specs.Paint.{blank, cut, put_raw}
 use Rattle.model_images.specs.Raw.{tile_bytes}
 use Rattle.model_images.proofs.Agreeing.{at-cut}
 use Rattle.model_images.proofs.AgreeingLevels.{Inside-source_of_tile, level-box, levels-local-bytes}
-use Rattle.model_images.proofs.Laws.{IsImage-image_from_fn, at-image_from_fn, at_outside, generated_equal, image_from_fn-at}
+use Rattle.model_images.proofs.Laws.{IsImage-image_from_fn, at-image_from_fn, at_outside}
 use Rattle.model_images.proofs.LevelLaws.{IsRectangle-level, level-format, level-next, level-zero}
 use Rattle.model_images.proofs.Positions.{by_positions}
 use Rattle.model_images.proofs.RawLaws.{raw-samples}
-use Rattle.model_images.proofs.Samples.{Inside_from, inside_where}
 use Rattle.root_tiles.specs.Roots.{RootTiles}
+use Rattle.root_tiles.proofs.PatchTiles.{HasSamples, samples-last, samples-put}
 use Rattle.view_reads.specs.Views.{view_image}
 use Rattle.view_reads.proofs.Sources.{IsSource}
 use Rattle.view_reads.proofs.ViewTiles.{IsView, both-known, if-known, view-known}
@@ -69,10 +67,8 @@ edge-exact root extent held z n square t part bytes is is_square source above ex
 -- ---- tiles written into a patch
 
 -- each position of the patch has the image's sample, or is zero while its tile is still to come
-pub record Laid (image patch : Image) (rest : List Tile) : Type 0 where
-  pub whole : IsImage patch
-  pub pixels : (u v c : ℕ) → Inside u v patch.box → c < channels patch.format
-      → (at patch u v c ≡ at image u v c) ⊎ ((at patch u v c ≡ 0) × Contains rest (tile_at u v))
+abbrev pub Laid : Image → Image → List Tile → Type 0
+Laid image patch rest = HasSamples (at image) patch rest
 
 laid-first : (image : Image) (box : Rectangle) (format : Format) (tiles : List Tile)
     → ((u v : ℕ) → Inside u v box → Inside u v image.box → Contains tiles (tile_at u v)) → Laid image (blank box format) tiles
@@ -85,50 +81,16 @@ laid-first image box format tiles all = record {
 
 laid-there : (image patch : Image) (t : Tile) (bytes : List ℕ) (rest : List Tile) → patch.format ≡ image.format → bytes ≡ tile_bytes image t
     → Laid image patch (t ∷ rest) → Laid image (put_raw patch (tile_square t) bytes) rest
-laid-there image patch t bytes rest format is laid = record {
-  whole = IsImage-image_from_fn patch.box patch.format painted;
-  pixels = λ u v c there known. of u v c there known (is_inside u v (tile_square t)) refl;
-}
-  where
-    painted : ℕ → ℕ → ℕ → ℕ
-    painted u v c = cond (is_inside u v (tile_square t)) (pixels_from_raw (tile_square t) patch.format bytes u v c) (at patch u v c)
-
-    new : Image
-    new = put_raw patch (tile_square t) bytes
-
-    of : (u v c : ℕ) → Inside u v patch.box → c < channels patch.format → (b : Bool) → is_inside u v (tile_square t) ≡ b
-        → (at new u v c ≡ at image u v c) ⊎ ((at new u v c ≡ 0) × Contains rest (tile_at u v))
-    of u v c there known true e =
-        let value : at new u v c ≡ pixels_from_raw (tile_square t) patch.format bytes u v c =
-        at-image_from_fn patch.box patch.format painted u v c there known
-        ∙ ap (λ (b : Bool). cond b (pixels_from_raw (tile_square t) patch.format bytes u v c) (at patch u v c)) e in
-        inl (value
-        ∙ ap (λ (f : Format). pixels_from_raw (tile_square t) f bytes u v c) format
-        ∙ ap (λ (b : List ℕ). pixels_from_raw (tile_square t) image.format b u v c) is
-        ∙ raw-samples image (tile_square t) u v c (Inside_from u v (tile_square t) e) (subst (λ (f : Format). c < channels f) format known))
-    of u v c there known false e =
-        let value : at new u v c ≡ at patch u v c =
-        at-image_from_fn patch.box patch.format painted u v c there known
-        ∙ ap (λ (b : Bool). cond b (pixels_from_raw (tile_square t) patch.format bytes u v c) (at patch u v c)) e in
-        elim (laid.pixels u v c there known) [
-          | inl same ↦ inl (value ∙ same)
-          | inr none ↦ elim (Contains-cases t rest (tile_at u v) none.1) [
-            | inl here ↦ absurd (cc (sym e ∙ inside_where u v (tile_square t) ((Inside-tile_square u v t).1 here)))
-            | inr later ↦ inr (value ∙ none.0, later)
-          ]
-        ]
-
-none-left : (tile : Tile) → Contains [] tile → ⊥
-none-left tile h = omega (arith, h.1)
+laid-there image patch t bytes rest format is =
+    samples-put (at image) patch t bytes rest
+    (λ u v c there known.
+    ap (λ (f : Format). pixels_from_raw (tile_square t) f bytes u v c) format
+    ∙ ap (λ (b : List ℕ). pixels_from_raw (tile_square t) image.format b u v c) is
+    ∙ raw-samples image (tile_square t) u v c there (subst (λ (f : Format). c < channels f) format known))
 
 laid-last : (image patch : Image) (rest : List Tile) → rest ≡ [] → patch.format ≡ image.format → Laid image patch rest → patch ≡ cut image patch.box
 laid-last image patch rest none format laid =
-    sym (image_from_fn-at patch laid.whole)
-    ∙ generated_equal patch.box patch.format (at patch) (at image)
-    (λ u v c there known. elim (laid.pixels u v c there known) [
-      | inl is ↦ is
-      | inr left ↦ absurd (none-left (tile_at u v) (subst (λ (tiles : List Tile). Contains tiles (tile_at u v)) none left.1))
-    ])
+    samples-last (at image) patch rest none laid
     ∙ ap (λ (f : Format). image_from_fn patch.box f (at image)) format
 
 -- the same of a level of a view, where it is known

@@ -1,9 +1,10 @@
-use Rattle.std.proofs.Common.{◌≡◌, ◌+◌, ◌≤◌, ◌∷◌, inl, inr, List, Contains, length, refl, sym, ap, subst, ◌∙◌, arith}
+use Rattle.std.proofs.Common.{◌≡◌, ℕ, ◌+◌, ◌≤◌, ◌∷◌, inl, inr, List, Contains, length, refl, sym, ap, subst, ◌∙◌, arith}
 use Rattle.std.proofs.lemmas.Result.{err_from_is_err_and}
 use Rattle.std.specs.Prelude.{IsSome}
 use Rattle.level_tables.specs.LevelTiles.{bytes_in}
 use Rattle.level_tables.specs.NewTiles.{AreNewTiles}
 use Rattle.model_images.specs.TileCounts.{tile_count}
+use Rattle.pixel_formats.specs.Row.{Pixel}
 use Rattle.pixel_formats.specs.declared.format.Format.{Format}
 use Rattle.plane_rect.specs.Tile.{Tile}
 use Rattle.plane_rect.proofs.Lists.{Contains-cases, Contains-first, Contains-later}
@@ -12,6 +13,8 @@ use Rattle.root_tiles.specs.Paints.{IsPainted, paint_pixels}
 use Rattle.root_tiles.specs.Made.{MakesMore}
 use Rattle.root_tiles.proofs.ChainReads.{grows-read, refused-after}
 use Rattle.root_tiles.proofs.Making.{keys-more, length-last, more-next, more-none, more-raise, more-read, more-same, none-in, painted-first, whole-met}
+use Rattle.root_tiles.proofs.root.Root.make_tiles.Given
+use Rattle.root_tiles.proofs.root.Root.make_tiles.Goals.{After-next_tile}
 use Rattle.root_tiles.proofs.root.Root.make_tiles.Goals as goal
 
 pub loop-at-init : goal.loop-at-init
@@ -57,27 +60,43 @@ returns-clause-all g c = λ tile meets. elim (c.loop-at.invariant.2.all tile mee
   | inr left ↦ absurd (none-in tile (subst (λ (ts : List Tile). Contains ts tile) c.in-None.ensures.steps.0 left))
 ]
 
+-- ---- once the next tile is read
+
+module _ (g : Given.Over) (c : After-next_tile g) where
+  abbrev f : ℕ → ℕ → Pixel
+  f = paint_pixels c.args.self.now.tiles.format c.args.rect c.args.paint.now
+
+  abbrev s0 : ChainState
+  s0 = record { held = g.C.ChainMeaning.held c.args.chain.now; counts = g.C.ChainMeaning.counts c.args.chain.now; loans = g.C.ChainMeaning.loans c.args.chain.now; valid = g.C.ChainMeaning.is_valid c.args.chain.now }
+
+  abbrev s1 : ChainState
+  s1 = record { held = g.C.ChainMeaning.held c.loop-at.chain; counts = g.C.ChainMeaning.counts c.loop-at.chain; loans = g.C.ChainMeaning.loans c.loop-at.chain; valid = g.C.ChainMeaning.is_valid c.loop-at.chain }
+
+  abbrev s2 : ChainState
+  s2 = record { held = g.C.ChainMeaning.held c.next_tile.new.chain; counts = g.C.ChainMeaning.counts c.next_tile.new.chain; loans = g.C.ChainMeaning.loans c.next_tile.new.chain; valid = g.C.ChainMeaning.is_valid c.next_tile.new.chain }
+
+  mid : MakesMore c.args.self.now c.args.part c.args.rect f c.loop-at.invariant.2.added s0 s2 c.args.made.now.entries c.loop-at.made.entries
+  mid =
+      more-read c.args.self.now c.args.part c.args.rect f c.loop-at.invariant.2.added s0 s1 s2 c.args.made.now.entries c.loop-at.made.entries
+      c.loop-at.invariant.2.makes c.next_tile.ensures.read
+
 pub loop-at-preserved : goal.loop-at-preserved
 loop-at-preserved g c =
+    let step = (goal.at.loop-at-preserved g c).After-next_tile in
     let root = c.args.self.now in
     let part = c.args.part in
     let rect = c.args.rect in
     let first = c.args.made.now.entries in
-    let f = paint_pixels root.tiles.format rect c.args.paint.now in
     let before = c.loop-at.invariant.2 in
     let at = c.in-Some.at in
     let entries = c.loop-at.made.entries in
     let more = c.add.new.self.entries in
     let added = c.in_ok-add.ensures in
-    let s0 : ChainState = record { held = g.C.ChainMeaning.held c.args.chain.now; counts = g.C.ChainMeaning.counts c.args.chain.now; loans = g.C.ChainMeaning.loans c.args.chain.now; valid = g.C.ChainMeaning.is_valid c.args.chain.now } in
-    let s1 : ChainState = record { held = g.C.ChainMeaning.held c.loop-at.chain; counts = g.C.ChainMeaning.counts c.loop-at.chain; loans = g.C.ChainMeaning.loans c.loop-at.chain; valid = g.C.ChainMeaning.is_valid c.loop-at.chain } in
-    let s2 : ChainState = record { held = g.C.ChainMeaning.held c.next_tile.new.chain; counts = g.C.ChainMeaning.counts c.next_tile.new.chain; loans = g.C.ChainMeaning.loans c.next_tile.new.chain; valid = g.C.ChainMeaning.is_valid c.next_tile.new.chain } in
     let s3 : ChainState = record { held = g.C.ChainMeaning.held c.add.new.chain; counts = g.C.ChainMeaning.counts c.add.new.chain; loans = g.C.ChainMeaning.loans c.add.new.chain; valid = g.C.ChainMeaning.is_valid c.add.new.chain } in
     let steps : c.loop-at.at-iterator ≡ at ∷ c.next.new.self = c.in-Some.ensures.steps in
     let here = before.left at (subst (λ (ts : List Tile). Contains ts at) (sym steps) (Contains-first at c.next.new.self at refl)) in
-    let mid = more-read root part rect f before.added s0 s1 s2 first entries before.makes c.next_tile.ensures.read in
-    let painted : IsSome s0.held.content → IsPainted root.tiles.format (bytes_in s0.held root.tiles.put) rect f at c.in_ok-tile.tile =
-    λ exposed. painted-first root rect f s0.held s1.held at c.in_ok-tile.tile before.makes.bytes
+    let painted : IsSome (s0 g step).held.content → IsPainted root.tiles.format (bytes_in (s0 g step).held root.tiles.put) rect (f g step) at c.in_ok-tile.tile =
+    λ exposed. painted-first root rect (f g step) (s0 g step).held (s1 g step).held at c.in_ok-tile.tile before.makes.bytes
     (c.in_ok-tile.ensures.painted (before.makes.others.exposed ∙ exposed)) in
     let is = added.added.entries in
     let name = added.added.name in
@@ -89,7 +108,7 @@ loop-at-preserved g c =
         format = added.format ∙ before.format;
         added = before.added + 1;
         grown = omega (arith, before.grown, one);
-        makes = more-next root part rect f before.added s0 s2 s3 first entries more at c.in_ok-tile.tile name is mid added.others here.0
+        makes = more-next root part rect (f g step) before.added (s0 g step) (s2 g step) s3 first entries more at c.in_ok-tile.tile name is (mid g step) added.others here.0
             (subst (λ (format : Format). AreNewTiles format more s3.held) (added.format ∙ before.format) added.over)
             added.tiles painted added.counts added.loans added.valid;
         count = omega (arith, before.count, ap length steps);
@@ -106,18 +125,11 @@ loop-at-preserved g c =
 
 pub returns-in_err-tile-clause-made : goal.returns-in_err-tile-clause-made
 returns-in_err-tile-clause-made g c =
-    let root = c.args.self.now in
+    let step = (goal.at.returns-in_err-tile-clause-made g c).After-next_tile in
     let part = c.args.part in
-    let rect = c.args.rect in
-    let first = c.args.made.now.entries in
-    let f = paint_pixels root.tiles.format rect c.args.paint.now in
     let before = c.loop-at.invariant.2 in
-    let entries = c.loop-at.made.entries in
-    let s0 : ChainState = record { held = g.C.ChainMeaning.held c.args.chain.now; counts = g.C.ChainMeaning.counts c.args.chain.now; loans = g.C.ChainMeaning.loans c.args.chain.now; valid = g.C.ChainMeaning.is_valid c.args.chain.now } in
-    let s1 : ChainState = record { held = g.C.ChainMeaning.held c.loop-at.chain; counts = g.C.ChainMeaning.counts c.loop-at.chain; loans = g.C.ChainMeaning.loans c.loop-at.chain; valid = g.C.ChainMeaning.is_valid c.loop-at.chain } in
-    let s2 : ChainState = record { held = g.C.ChainMeaning.held c.next_tile.new.chain; counts = g.C.ChainMeaning.counts c.next_tile.new.chain; loans = g.C.ChainMeaning.loans c.next_tile.new.chain; valid = g.C.ChainMeaning.is_valid c.next_tile.new.chain } in
-    more-raise root part rect f before.added (tile_count part) s0 s2 first entries (omega (arith, before.count))
-    (more-read root part rect f before.added s0 s1 s2 first entries before.makes c.next_tile.ensures.read)
+    more-raise c.args.self.now part c.args.rect (f g step) before.added (tile_count part) (s0 g step) (s2 g step) c.args.made.now.entries c.loop-at.made.entries (omega (arith, before.count))
+    (mid g step)
 
 pub returns-in_err-tile-clause-cause : goal.returns-in_err-tile-clause-cause
 returns-in_err-tile-clause-cause g c =
@@ -129,23 +141,19 @@ returns-in_err-tile-clause-cause g c =
 
 pub returns-in_err-add-clause-made : goal.returns-in_err-add-clause-made
 returns-in_err-add-clause-made g c =
+    let step = (goal.at.returns-in_err-add-clause-made g c).After-next_tile in
     let root = c.args.self.now in
     let part = c.args.part in
     let rect = c.args.rect in
     let first = c.args.made.now.entries in
-    let f = paint_pixels root.tiles.format rect c.args.paint.now in
     let before = c.loop-at.invariant.2 in
     let entries = c.loop-at.made.entries in
     let refused = c.in_err-add.ensures in
-    let s0 : ChainState = record { held = g.C.ChainMeaning.held c.args.chain.now; counts = g.C.ChainMeaning.counts c.args.chain.now; loans = g.C.ChainMeaning.loans c.args.chain.now; valid = g.C.ChainMeaning.is_valid c.args.chain.now } in
-    let s1 : ChainState = record { held = g.C.ChainMeaning.held c.loop-at.chain; counts = g.C.ChainMeaning.counts c.loop-at.chain; loans = g.C.ChainMeaning.loans c.loop-at.chain; valid = g.C.ChainMeaning.is_valid c.loop-at.chain } in
-    let s2 : ChainState = record { held = g.C.ChainMeaning.held c.next_tile.new.chain; counts = g.C.ChainMeaning.counts c.next_tile.new.chain; loans = g.C.ChainMeaning.loans c.next_tile.new.chain; valid = g.C.ChainMeaning.is_valid c.next_tile.new.chain } in
     let s3 : ChainState = record { held = g.C.ChainMeaning.held c.add.new.chain; counts = g.C.ChainMeaning.counts c.add.new.chain; loans = g.C.ChainMeaning.loans c.add.new.chain; valid = g.C.ChainMeaning.is_valid c.add.new.chain } in
     let some : before.added + 1 ≤ tile_count part = omega (arith, before.count, ap length c.in-Some.ensures.steps) in
-    let mid = more-read root part rect f before.added s0 s1 s2 first entries before.makes c.next_tile.ensures.read in
-    subst (MakesMore root part rect f (tile_count part) s0 s3 first) (sym refused.unchanged)
-    (more-raise root part rect f (before.added + 1) (tile_count part) s0 s3 first entries some
-    (more-same root part rect f before.added 1 s0 s2 s3 first entries mid refused.held refused.counts refused.loans refused.valid))
+    subst (MakesMore root part rect (f g step) (tile_count part) (s0 g step) s3 first) (sym refused.unchanged)
+    (more-raise root part rect (f g step) (before.added + 1) (tile_count part) (s0 g step) s3 first entries some
+    (more-same root part rect (f g step) before.added 1 (s0 g step) (s2 g step) s3 first entries (mid g step) refused.held refused.counts refused.loans refused.valid))
 
 pub returns-in_err-add-clause-cause : goal.returns-in_err-add-clause-cause
 returns-in_err-add-clause-cause g c =
