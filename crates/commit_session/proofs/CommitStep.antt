@@ -18,12 +18,13 @@ use Rattle.model_states.proofs.Stated.{stated-nodes}
 use Rattle.model_sessions.specs.Sessions.{Session}
 use Rattle.model_sessions.specs.Tables.{table_shapes}
 use Rattle.graph_commits.specs.Graphs.{AreDamagesOf}
+use Rattle.graph_commits.specs.declared.direction.Direction.TheVariants.{Undo}
 use Rattle.buffer_view.specs.BufferTables.{BufferTable}
 use Rattle.session_states.specs.Versions.{Versions, after_commit}
 use Rattle.commit_session.specs.Parts.{Parts, working_facts}
 use Rattle.commit_session.specs.Seen.{AreOfTable, AreRetained, IsSessionOf}
 use Rattle.commit_session.proofs.Commits.{commit-both, commit-refused}
-use Rattle.commit_session.proofs.Held.{before-take, shapes-same}
+use Rattle.commit_session.proofs.Held.{ahead-take, shapes-same}
 use Rattle.commit_session.proofs.Led.{history_after}
 use Rattle.commit_session.proofs.Stepped.{GraphStep, IsStep, States, StatesStep, change_from}
 
@@ -52,7 +53,7 @@ module _ {Op : Type 0} (same : Op → Op → Bool) (meanings : Meanings Op) (now
       states = record {
         number = ap (λ (n : ℕ). n + 1) are.number;
         latest = record { facts = refl; nodes = stated-nodes meanings (shapes_of_facts (working_facts now)) nodes; table = of };
-        undoable = before-take same meanings held max_undoable (side nodes) (left_state now.graph made.delta ∷ now.graph.undoable)
+        undoable = ahead-take same meanings held Undo max_undoable (side nodes) (left_state now.graph made.delta ∷ now.graph.undoable)
             (now.versions.latest ∷ now.versions.undoable) (left_state retained written ∷ retained.undoable) (are.latest, refl, are.undoable);
         redoable = tt;
       };

@@ -1,8 +1,9 @@
 -- Sessions after a commit, an undo or a redo.
-use Rattle.std.proofs.Common.{◌≡◌, ℕ, Bool, List, ◌∷◌, ◌++◌, refl, sym, ap, subst, ◌∙◌, Some, Result, Ok, Err}
+use Rattle.std.proofs.Common.{◌≡◌, ℕ, Bool, List, ◌∷◌, ◌++◌, refl, sym, ap, subst, ◌∙◌, Some, Result, Ok}
 use Rattle.std.specs.Prelude.{slice_get}
 use Rattle.std.specs.Map.{values_of}
 use Rattle.std.specs.Option.{option_map}
+use Rattle.std.specs.Result.{result_unwrap_or}
 use Rattle.model_buffers.specs.Table.{Table}
 use Rattle.model_graphs.specs.Laws.{Distinguishes, IsBoxed, KeepsLaws}
 use Rattle.model_graphs.specs.Meanings.{Meanings}
@@ -13,39 +14,60 @@ use Rattle.model_states.specs.Damage.{damage}
 use Rattle.model_states.specs.History as history
 use Rattle.model_states.specs.History.{History, appended}
 use Rattle.model_states.specs.Rectangles.{Rectangles}
-use Rattle.model_states.specs.Retained.{redone, undone}
 use Rattle.model_states.specs.Workspace.{settled_step}
 use Rattle.model_sessions.specs.Sessions.{IsSession, Session, with_state}
-use Rattle.model_sessions.specs.Steps.{Commit, HistoryEdit, IsProper, Redo, Undo, after_step}
+use Rattle.model_sessions.specs.Steps as actions
+use Rattle.model_sessions.specs.Steps.{Commit, HistoryEdit, IsProper, after_step}
 use Rattle.model_sessions.specs.Tables.{table_shapes}
 use Rattle.chain_owners.specs.Owners.{Owns}
 use Rattle.root_tiles.specs.Chains.{ChainState}
 use Rattle.node_cache.specs.NodeNames.{IsNodeCache, cached_in, sizes_in}
 use Rattle.node_cache.specs.Stores.{AddsNoOther, HaveOneOwner, by_sized}
+use Rattle.graph_commits.specs.declared.direction.Direction.{Direction}
+use Rattle.graph_commits.specs.declared.direction.Direction.TheVariants.{Undo, Redo}
+use Rattle.graph_commits.specs.Directions.{stepped}
 use Rattle.graph_commits.specs.Graphs.{AreDamagesOf}
 use Rattle.buffer_view.specs.BufferTables.{BufferTable}
-use Rattle.session_states.specs.OverChains.{AreAllOver, AreVersionsOver, Leaves, tables_of, versions_names}
-use Rattle.session_states.specs.Versions.{Versions, after_commit, after_redo, after_undo, all_versions}
+use Rattle.session_states.specs.OverChains.{AreAllOver, IsReleased, IsShared, Leaves, versions_names}
+use Rattle.session_states.specs.Versions.{Versions, after_commit, all_versions, versions_after, versions_ahead}
 use Rattle.session_states.proofs.Returned.{first-is}
 use Rattle.commit_session.specs.Parts.{Parts, cached_pairs, session_names, working_facts}
 use Rattle.commit_session.specs.Seen.{AreOfTable, AreRetained, IsOver, IsSessionOf}
-use Rattle.commit_session.specs.Steps.{IsCommitted, IsRedone, IsSettled, IsUndone, LeadsTo}
+use Rattle.commit_session.specs.Steps.{IsCommitted, IsSettled, LeadsTo, history_step}
 use Rattle.commit_session.proofs.CommitStep.{CommitLeads, commit-leads}
 use Rattle.commit_session.proofs.Led.{IsAfter, history_after, leads-to, or-before, session-led, valid-led}
 use Rattle.commit_session.proofs.Kept.{over-here}
 use Rattle.commit_session.proofs.Moved.{retained-moved, working-moved}
-use Rattle.commit_session.proofs.Stepped.{DamagesBack, DamagesOn, GraphStep, IsStep, Leads, StatesStep, change_from, parts_with, redo-leads, undo-leads}
+use Rattle.commit_session.proofs.Stepped.{DamagesOf, GraphStep, IsStep, Leads, StatesStep, change_from, parts_with, step-leads}
 use Rattle.commit_session.proofs.Through.{alone-ready, cache-ready, cached-ready, left-through, others-through, over-through, owned-through, sizes-ready, tables-through}
 use Rattle.commit_session.proofs.Voided.{voids-leave}
 
+-- ---- a step of a history
+
+pub history-step-is : {Op : Type 0} (direction : Direction) (past : History Table Op) (result : Result (StatesStep Op) StateRefused)
+    → stepped direction past.workspace.retained ≡ result → history_step direction past ≡ appended past (settled_step result)
+history-step-is {Op} Undo past result is = ap (λ (r : Result (StatesStep Op) StateRefused). appended past (settled_step r)) is
+history-step-is {Op} Redo past result is = ap (λ (r : Result (StatesStep Op) StateRefused). appended past (settled_step r)) is
+
+-- as an edit of a history
+abbrev step_action : {Op : Type 0} → Direction → HistoryEdit Op
+step_action Undo = actions.Undo
+step_action Redo = actions.Redo
+
+proper-step : (Op : Type 0) (direction : Direction) → IsProper (step_action {Op = Op} direction)
+proper-step Op Undo = tt
+proper-step Op Redo = tt
+
+action-is : {Op : Type 0} (meanings : Meanings Op) (direction : Direction) (past : History Table Op)
+    → after_step meanings past (step_action direction) ≡ result_unwrap_or (history_step direction past) past
+action-is meanings Undo past = refl
+action-is meanings Redo past = refl
+
 module _ {Op : Type 0} (same : Op → Op → Bool) (meanings : Meanings Op) where
   -- The buffers were shared, then put in their place, and the cached pairs voided: over these chains.
-  pub record IsThrough (now new : Parts Op) (next : Graph Op) (versions : Versions BufferTable) (delta : Rectangles) (between : List ℕ) (s0 s1 s2 s3 : ChainState) : Type 0 where
-    pub shared : Leaves 0 (versions_names now.versions) between s0 s1
-    pub shared_tables : tables_of now.versions s1.held ≡ tables_of now.versions s0.held
-    pub put : Leaves 0 between (versions_names versions) s1 s2
-    pub put_tables : tables_of versions s2.held ≡ tables_of versions s1.held
-    pub put_over : AreVersionsOver versions s2.held
+  pub record IsThrough (now new : Parts Op) (next : Graph Op) (versions : Versions BufferTable) (delta : Rectangles) (more : List ℕ) (s0 s1 s2 s3 : ChainState) : Type 0 where
+    pub shared : IsShared now.versions more s0 s1
+    pub put : IsReleased (more ++ versions_names now.versions) versions s1 s2
     pub settled : IsSettled delta (parts_with same meanings now s1.held next versions) new
     pub versions_are : new.versions ≡ versions
     pub graph_is : new.graph ≡ next
@@ -56,27 +78,30 @@ module _ {Op : Type 0} (same : Op → Op → Bool) (meanings : Meanings Op) wher
     pub others : AddsNoOther s2.counts s3.counts (values_of now.entries) (values_of new.entries)
     pub left : Leaves 0 (values_of now.entries) (values_of new.entries) s2 s3
 
-  module _ (now new : Parts Op) (next : Graph Op) (versions : Versions BufferTable) (delta : Rectangles) (between : List ℕ) (s0 s1 s2 s3 : ChainState)
-      (through : IsThrough now new next versions delta between s0 s1 s2 s3) (over : IsOver same meanings now s0.held) where
+  module _ (now new : Parts Op) (next : Graph Op) (versions : Versions BufferTable) (delta : Rectangles) (more : List ℕ) (s0 s1 s2 s3 : ChainState)
+      (through : IsThrough now new next versions delta more s0 s1 s2 s3) (over : IsOver same meanings now s0.held) where
+    abbrev between : List ℕ
+    between = more ++ versions_names now.versions
+
     -- ---- over the chain
 
     pub done-others : AddsNoOther s0.counts s3.counts (values_of now.entries) (values_of new.entries)
-    done-others = others-through now.versions versions now.entries new.entries between s0 s1 s2 over.owned through.shared through.put s3 through.left through.put_over through.others
+    done-others = others-through now.versions versions now.entries new.entries between s0 s1 s2 over.owned through.shared.left through.put.left s3 through.left through.put.over through.others
 
     done-left : Leaves 0 (session_names now) (session_names new) s0 s3
     done-left =
         subst (λ (v : Versions BufferTable). Leaves 0 (session_names now) (versions_names v ++ values_of new.entries) s0 s3) (sym through.versions_are)
-        (left-through now.versions versions now.entries new.entries between s0 s1 s2 over.owned through.shared through.put s3 through.left through.put_over)
+        (left-through now.versions versions now.entries new.entries between s0 s1 s2 over.owned through.shared.left through.put.left s3 through.left through.put.over)
 
     is-after : IsAfter same meanings now new next versions delta s0.held s1.held s2.held s3.held
     is-after = record {
       settled = through.settled;
       versions_are = through.versions_are;
       graph_is = through.graph_is;
-      tables = tables-through now.versions versions now.entries new.entries between s0 s1 s2 over.owned through.shared through.put s3 through.left through.put_over
-          ∙ through.put_tables;
-      bytes = cached-ready now.versions versions now.entries new.entries between s0 s1 s2 over.owned through.shared through.put;
-      sizes = sizes-ready now.versions versions now.entries new.entries between s0 s1 s2 over.owned through.shared through.put;
+      tables = tables-through now.versions versions now.entries new.entries between s0 s1 s2 over.owned through.shared.left through.put.left s3 through.left through.put.over
+          ∙ through.put.tables;
+      bytes = cached-ready now.versions versions now.entries new.entries between s0 s1 s2 over.owned through.shared.left through.put.left;
+      sizes = sizes-ready now.versions versions now.entries new.entries between s0 s1 s2 over.owned through.shared.left through.put.left;
       bytes_after = through.cached;
       sizes_after = through.sizes;
     }
@@ -86,15 +111,24 @@ module _ {Op : Type 0} (same : Op → Op → Bool) (meanings : Meanings Op) wher
     module _ (session : Session Table Op) (of : IsSessionOf same meanings now s0.held session) where
       shared-states : AreRetained same meanings now s1.held session.history.workspace.retained
       shared-states =
-          retained-moved s0.held s1.held now.versions through.shared_tables same meanings now now.graph session.history.workspace.retained now refl refl of.retained
+          retained-moved s0.held s1.held now.versions through.shared.tables same meanings now now.graph session.history.workspace.retained now refl refl of.retained
 
       shared-working : AreOfTable now.versions.working s1.held session.history.workspace.working
-      shared-working = working-moved s0.held s1.held now.versions through.shared_tables session.history.workspace.working of.working
+      shared-working = working-moved s0.held s1.held now.versions through.shared.tables session.history.workspace.working of.working
 
       -- a step of its states
       pub done-session : (stepped : StatesStep Op) → IsStep same meanings now s1.held next versions delta session.history.workspace.retained stepped
           → IsSessionOf same meanings new s3.held (with_state same meanings session (history_after same meanings session.history stepped))
       done-session stepped step = session-led same meanings now new next versions delta s0.held s1.held s2.held s3.held is-after session of stepped step
+
+      -- a step of its history
+      pub done-leads : (result : Result (History Table Op) StateRefused) (stepped : StatesStep Op)
+          → IsStep same meanings now s1.held next versions delta session.history.workspace.retained stepped
+          → result ≡ Ok (history_after same meanings session.history stepped)
+          → LeadsTo result (λ (next : History Table Op). IsSessionOf same meanings new s3.held (with_state same meanings session next))
+      done-leads result stepped step is =
+          leads-to result (history_after same meanings session.history stepped)
+          (λ (next : History Table Op). IsSessionOf same meanings new s3.held (with_state same meanings session next)) is (done-session stepped step)
 
     module _ (laws : KeepsLaws meanings) (boxed : IsBoxed meanings) (apart : Distinguishes same) where
       done-over : (action : HistoryEdit Op) (stepped : StatesStep Op) → IsStep same meanings now s1.held next versions delta over.session.history.workspace.retained stepped
@@ -102,10 +136,10 @@ module _ {Op : Type 0} (same : Op → Op → Bool) (meanings : Meanings Op) wher
           → IsOver same meanings new s3.held
       done-over action stepped step proper is = record {
         owned = subst (λ (v : Versions BufferTable). Owns s3.held (versions_names v ++ values_of new.entries)) (sym through.versions_are)
-            (owned-through now.versions versions now.entries new.entries between s0 s1 s2 over.owned through.shared through.put s3 through.left through.put_over);
+            (owned-through now.versions versions now.entries new.entries between s0 s1 s2 over.owned through.shared.left through.put.left s3 through.left through.put.over);
         alone = through.alone;
         over = subst (λ (v : Versions BufferTable). AreAllOver (all_versions v) s3.held) (sym through.versions_are)
-            (over-through now.versions versions now.entries new.entries between s0 s1 s2 over.owned through.shared through.put s3 through.left through.put_over);
+            (over-through now.versions versions now.entries new.entries between s0 s1 s2 over.owned through.shared.left through.put.left s3 through.left through.put.over);
         cache = through.cache;
         session = with_state same meanings over.session (history_after same meanings over.session.history stepped);
         is = done-session over.session over.is stepped step;
@@ -141,10 +175,7 @@ module _ {Op : Type 0} (same : Op → Op → Bool) (meanings : Meanings Op) wher
       commit-session : (session : Session Table Op) → IsSessionOf same meanings now s0.held session
           → LeadsTo (history.committed meanings table_shapes session.history) (λ (next : History Table Op). IsSessionOf same meanings new s3.held (with_state same meanings session next))
       commit-session session of =
-          let leads = commit-of session of in
-          leads-to (history.committed meanings table_shapes session.history) (history_after same meanings session.history leads.stepped)
-          (λ (next : History Table Op). IsSessionOf same meanings new s3.held (with_state same meanings session next)) leads.is
-          (done-session session of leads.stepped leads.step)
+          let leads = commit-of session of in done-leads session of (history.committed meanings table_shapes session.history) leads.stepped leads.step leads.is
 
       commit-over : KeepsLaws meanings → IsBoxed meanings → Distinguishes same → IsOver same meanings new s3.held
       commit-over laws boxed apart =
@@ -168,81 +199,37 @@ module _ {Op : Type 0} (same : Op → Op → Bool) (meanings : Meanings Op) wher
                 itself (cached_pairs now);
           }
 
-    -- ---- an undo
+    -- ---- an undo or a redo
 
-    module _ (is : undone now.graph ≡ Ok (record { next = next; delta = delta }))
-        (made : (back : BufferTable) (rest : List BufferTable) → now.versions.undoable ≡ back ∷ rest → versions ≡ after_undo now.versions back rest)
-        (promise : DamagesBack same meanings now s1.held next delta) where
-      undo-of : (session : Session Table Op) → IsSessionOf same meanings now s0.held session
-          → Leads same meanings now s1.held next versions delta session.history.workspace.retained (undone session.history.workspace.retained)
-      undo-of session of = undo-leads same meanings now s1.held session.history.workspace.retained (shared-states session of) next versions delta is made promise
+    module _ (direction : Direction) (is : stepped direction now.graph ≡ Ok (record { next = next; delta = delta }))
+        (made : (first : BufferTable) (rest : List BufferTable) → versions_ahead direction now.versions ≡ first ∷ rest → versions ≡ versions_after direction now.versions first rest)
+        (promise : DamagesOf same meanings now s1.held direction next delta) where
+      step-of : (session : Session Table Op) → IsSessionOf same meanings now s0.held session
+          → Leads same meanings now s1.held next versions delta session.history.workspace.retained (stepped direction session.history.workspace.retained)
+      step-of session of = step-leads same meanings now s1.held session.history.workspace.retained (shared-states session of) direction next versions delta is made promise
 
-      undone-is : (session : Session Table Op) (of : IsSessionOf same meanings now s0.held session)
-          → history.undone session.history ≡ Ok (history_after same meanings session.history (undo-of session of).stepped)
-      undone-is session of = ap (λ (r : Result (StatesStep Op) StateRefused). appended session.history (settled_step r)) (undo-of session of).is
+      stepped-is : (session : Session Table Op) (of : IsSessionOf same meanings now s0.held session)
+          → history_step direction session.history ≡ Ok (history_after same meanings session.history (step-of session of).stepped)
+      stepped-is session of = history-step-is direction session.history _ (step-of session of).is
 
-      undo-session : (session : Session Table Op) → IsSessionOf same meanings now s0.held session
-          → LeadsTo (history.undone session.history) (λ (next : History Table Op). IsSessionOf same meanings new s3.held (with_state same meanings session next))
-      undo-session session of =
-          let leads = undo-of session of in
-          leads-to (history.undone session.history) (history_after same meanings session.history leads.stepped)
-          (λ (next : History Table Op). IsSessionOf same meanings new s3.held (with_state same meanings session next)) (undone-is session of)
-          (done-session session of leads.stepped leads.step)
+      step-session : (session : Session Table Op) → IsSessionOf same meanings now s0.held session
+          → LeadsTo (history_step direction session.history) (λ (next : History Table Op). IsSessionOf same meanings new s3.held (with_state same meanings session next))
+      step-session session of =
+          let leads = step-of session of in done-leads session of (history_step direction session.history) leads.stepped leads.step (stepped-is session of)
 
-      undo-over : KeepsLaws meanings → IsBoxed meanings → Distinguishes same → IsOver same meanings new s3.held
-      undo-over laws boxed apart =
-          let leads = undo-of over.session over.is in
-          done-over laws boxed apart Undo leads.stepped leads.step tt
-          (or-before (history.undone over.session.history) (history_after same meanings over.session.history leads.stepped) over.session.history (undone-is over.session over.is))
-
-      pub undo-done : IsUndone now new
-      undo-done = record {
-        damages = delta;
-        graph = graph-same (undone now.graph) is;
-        versions = λ back rest first. through.versions_are ∙ made back rest first;
-        settled = done-settled;
-      }
-
-    -- ---- a redo
-
-    module _ (is : redone now.graph ≡ Ok (record { next = next; delta = delta }))
-        (made : (on : BufferTable) (rest : List BufferTable) → now.versions.redoable ≡ on ∷ rest → versions ≡ after_redo now.versions on rest)
-        (promise : DamagesOn same meanings now s1.held next delta) where
-      redo-of : (session : Session Table Op) → IsSessionOf same meanings now s0.held session
-          → Leads same meanings now s1.held next versions delta session.history.workspace.retained (redone session.history.workspace.retained)
-      redo-of session of = redo-leads same meanings now s1.held session.history.workspace.retained (shared-states session of) next versions delta is made promise
-
-      redone-is : (session : Session Table Op) (of : IsSessionOf same meanings now s0.held session)
-          → history.redone session.history ≡ Ok (history_after same meanings session.history (redo-of session of).stepped)
-      redone-is session of = ap (λ (r : Result (StatesStep Op) StateRefused). appended session.history (settled_step r)) (redo-of session of).is
-
-      redo-session : (session : Session Table Op) → IsSessionOf same meanings now s0.held session
-          → LeadsTo (history.redone session.history) (λ (next : History Table Op). IsSessionOf same meanings new s3.held (with_state same meanings session next))
-      redo-session session of =
-          let leads = redo-of session of in
-          leads-to (history.redone session.history) (history_after same meanings session.history leads.stepped)
-          (λ (next : History Table Op). IsSessionOf same meanings new s3.held (with_state same meanings session next)) (redone-is session of)
-          (done-session session of leads.stepped leads.step)
-
-      redo-over : KeepsLaws meanings → IsBoxed meanings → Distinguishes same → IsOver same meanings new s3.held
-      redo-over laws boxed apart =
-          let leads = redo-of over.session over.is in
-          done-over laws boxed apart Redo leads.stepped leads.step tt
-          (or-before (history.redone over.session.history) (history_after same meanings over.session.history leads.stepped) over.session.history (redone-is over.session over.is))
-
-      pub redo-done : IsRedone now new
-      redo-done = record {
-        damages = delta;
-        graph = graph-same (redone now.graph) is;
-        versions = λ on rest first. through.versions_are ∙ made on rest first;
-        settled = done-settled;
-      }
+      step-over : KeepsLaws meanings → IsBoxed meanings → Distinguishes same → IsOver same meanings new s3.held
+      step-over laws boxed apart =
+          let leads = step-of over.session over.is in
+          let past = over.session.history in
+          done-over laws boxed apart (step_action direction) leads.stepped leads.step (proper-step Op direction)
+          (action-is meanings direction past
+          ∙ or-before (history_step direction past) (history_after same meanings past leads.stepped) past (stepped-is over.session over.is))
 
 -- ---- what a step leaves
 
 module _ {Op : Type 0} (same : Op → Op → Bool) (meanings : Meanings Op) where
   -- The session is one of the definitions' next history.
-  pub record IsStepped (now new : Parts Op) (step : History Table Op → Result (History Table Op) StateRefused) (s0 s3 : ChainState) : Type 0 where
+  pub record IsMade (now new : Parts Op) (step : History Table Op → Result (History Table Op) StateRefused) (s0 s3 : ChainState) : Type 0 where
     pub session : (session : Session Table Op) → IsSessionOf same meanings now s0.held session
         → LeadsTo (step session.history) (λ (next : History Table Op). IsSessionOf same meanings new s3.held (with_state same meanings session next))
     pub over : IsOver same meanings new s3.held
@@ -253,20 +240,22 @@ module _ {Op : Type 0} (same : Op → Op → Bool) (meanings : Meanings Op) wher
     pub cache : IsNodeCache now.entries now.most now.capacity s2.held
     pub alone : HaveOneOwner s2.held (values_of now.entries)
 
-  module _ (v now : Parts Op) (here : v ≡ now) (s0 s1 s2 : ChainState) (requires : IsOver same meanings now s0.held) (versions : Versions BufferTable) (between : List ℕ) where
+  module _ (v now : Parts Op) (here : v ≡ now) (s0 s1 s2 : ChainState) (requires : IsOver same meanings now s0.held) (versions : Versions BufferTable) (more : List ℕ) where
     over : IsOver same meanings v s0.held
     over = over-here same meanings v now here s0.held requires
 
-    pub ready : Leaves 0 (versions_names v.versions) between s0 s1 → Leaves 0 between (versions_names versions) s1 s2 → IsReady v s2
-    ready share put = record {
-      cache = cache-ready v.versions versions v.entries v.entries between s0 s1 s2 over.owned share put v.most v.capacity over.cache;
-      alone = alone-ready v.versions versions v.entries v.entries between s0 s1 s2 over.owned share put over.alone;
-    }
+    pub ready : IsShared v.versions more s0 s1 → IsReleased (more ++ versions_names v.versions) versions s1 s2 → IsReady v s2
+    ready share put =
+        let between = more ++ versions_names v.versions in
+        record {
+          cache = cache-ready v.versions versions v.entries v.entries between s0 s1 s2 over.owned share.left put.left v.most v.capacity over.cache;
+          alone = alone-ready v.versions versions v.entries v.entries between s0 s1 s2 over.owned share.left put.left over.alone;
+        }
 
-    module _ (s3 : ChainState) (new : Parts Op) (next : Graph Op) (delta : Rectangles) (through : IsThrough same meanings v new next versions delta between s0 s1 s2 s3)
+    module _ (s3 : ChainState) (new : Parts Op) (next : Graph Op) (delta : Rectangles) (through : IsThrough same meanings v new next versions delta more s0 s1 s2 s3)
         (laws : KeepsLaws meanings) (boxed : IsBoxed meanings) (apart : Distinguishes same) where
       left : Leaves 0 (session_names v) (session_names new) s0 s3
-      left = done-left same meanings v new next versions delta between s0 s1 s2 s3 through over
+      left = done-left same meanings v new next versions delta more s0 s1 s2 s3 through over
 
       -- a commit of its edits, by the facts of its buffers and its rectangles
       module _ (is : committed same meanings now.graph now.pending (working_facts now) now.written ≡ Ok (record { next = next; delta = delta }))
@@ -278,61 +267,37 @@ module _ {Op : Type 0} (same : Op → Op → Bool) (meanings : Meanings Op) wher
         promise : AreDamagesOf same meanings (change_from same meanings v s1.held next v.written) delta
         promise = subst (λ (w : Rectangles). AreDamagesOf same meanings (change_from same meanings v s1.held next w) delta) written_is damages
 
-        commit-stepped : IsStepped now new (history.committed meanings table_shapes) s0 s3
+        commit-stepped : IsMade now new (history.committed meanings table_shapes) s0 s3
         commit-stepped =
-            subst (λ (p : Parts Op). IsStepped p new (history.committed meanings table_shapes) s0 s3) here
+            subst (λ (p : Parts Op). IsMade p new (history.committed meanings table_shapes) s0 s3) here
             (record {
-              session = commit-session same meanings v new next versions delta between s0 s1 s2 s3 through over commit_is made promise;
-              over = commit-over same meanings v new next versions delta between s0 s1 s2 s3 through over commit_is made promise laws boxed apart;
+              session = commit-session same meanings v new next versions delta more s0 s1 s2 s3 through over commit_is made promise;
+              over = commit-over same meanings v new next versions delta more s0 s1 s2 s3 through over commit_is made promise laws boxed apart;
               left = left;
             })
 
         commit-made : IsCommitted same meanings now new
-        commit-made = subst (λ (p : Parts Op). IsCommitted same meanings p new) here (commit-done same meanings v new next versions delta between s0 s1 s2 s3 through over commit_is made promise)
+        commit-made = subst (λ (p : Parts Op). IsCommitted same meanings p new) here (commit-done same meanings v new next versions delta more s0 s1 s2 s3 through over commit_is made promise)
 
-        pub commit-both-made : IsStepped now new (history.committed meanings table_shapes) s0 s3 × IsCommitted same meanings now new
+        pub commit-both-made : IsMade now new (history.committed meanings table_shapes) s0 s3 × IsCommitted same meanings now new
         commit-both-made = (commit-stepped, commit-made)
 
-      pub undo-stepped : undone v.graph ≡ Ok (record { next = next; delta = delta })
-          → ((b : BufferTable) (rest : List BufferTable) → v.versions.undoable ≡ b ∷ rest → versions ≡ after_undo v.versions b rest) → DamagesBack same meanings v s1.held next delta → IsStepped now new history.undone s0 s3
-      undo-stepped is made promise =
-          subst (λ (p : Parts Op). IsStepped p new history.undone s0 s3) here
+      pub step-made : (direction : Direction) → stepped direction v.graph ≡ Ok (record { next = next; delta = delta })
+          → ((first : BufferTable) (rest : List BufferTable) → versions_ahead direction v.versions ≡ first ∷ rest → versions ≡ versions_after direction v.versions first rest)
+          → DamagesOf same meanings v s1.held direction next delta → IsMade now new (history_step direction) s0 s3
+      step-made direction is made promise =
+          subst (λ (p : Parts Op). IsMade p new (history_step direction) s0 s3) here
           (record {
-            session = undo-session same meanings v new next versions delta between s0 s1 s2 s3 through over is made promise;
-            over = undo-over same meanings v new next versions delta between s0 s1 s2 s3 through over is made promise laws boxed apart;
-            left = left;
-          })
-
-      pub redo-stepped : redone v.graph ≡ Ok (record { next = next; delta = delta })
-          → ((b : BufferTable) (rest : List BufferTable) → v.versions.redoable ≡ b ∷ rest → versions ≡ after_redo v.versions b rest) → DamagesOn same meanings v s1.held next delta → IsStepped now new history.redone s0 s3
-      redo-stepped is made promise =
-          subst (λ (p : Parts Op). IsStepped p new history.redone s0 s3) here
-          (record {
-            session = redo-session same meanings v new next versions delta between s0 s1 s2 s3 through over is made promise;
-            over = redo-over same meanings v new next versions delta between s0 s1 s2 s3 through over is made promise laws boxed apart;
+            session = step-session same meanings v new next versions delta more s0 s1 s2 s3 through over direction is made promise;
+            over = step-over same meanings v new next versions delta more s0 s1 s2 s3 through over direction is made promise laws boxed apart;
             left = left;
           })
 
 -- ---- the states to which buffers go
 
-module _ (now final : Versions BufferTable) (shared : BufferTable) where
-  pub made-undo : slice_get now.undoable 0 ≡ Some shared → ((rest : List BufferTable) → now.undoable ≡ shared ∷ rest → final ≡ after_undo now shared rest)
-      → (back : BufferTable) (rest : List BufferTable) → now.undoable ≡ back ∷ rest → final ≡ after_undo now back rest
-  made-undo there made back rest is =
-      let first : back ≡ shared = first-is now.undoable rest back shared is there in
-      subst (λ (b : BufferTable). final ≡ after_undo now b rest) (sym first) (made rest (is ∙ ap (λ (b : BufferTable). b ∷ rest) first))
-
-  pub made-redo : slice_get now.redoable 0 ≡ Some shared → ((rest : List BufferTable) → now.redoable ≡ shared ∷ rest → final ≡ after_redo now shared rest)
-      → (on : BufferTable) (rest : List BufferTable) → now.redoable ≡ on ∷ rest → final ≡ after_redo now on rest
-  made-redo there made on rest is =
-      let first : on ≡ shared = first-is now.redoable rest on shared is there in
-      subst (λ (b : BufferTable). final ≡ after_redo now b rest) (sym first) (made rest (is ∙ ap (λ (b : BufferTable). b ∷ rest) first))
-
--- ---- refusals
-
-module _ {Op : Type 0} (past : History Table Op) (why : StateRefused) where
-  pub undo-refusal : undone past.workspace.retained ≡ Err why → history.undone past ≡ Err why
-  undo-refusal is = ap (λ (r : Result (StatesStep Op) StateRefused). appended past (settled_step r)) is
-
-  pub redo-refusal : redone past.workspace.retained ≡ Err why → history.redone past ≡ Err why
-  redo-refusal is = ap (λ (r : Result (StatesStep Op) StateRefused). appended past (settled_step r)) is
+pub made-step : (direction : Direction) (now final : Versions BufferTable) (shared : BufferTable) → slice_get (versions_ahead direction now) 0 ≡ Some shared
+    → ((rest : List BufferTable) → versions_ahead direction now ≡ shared ∷ rest → final ≡ versions_after direction now shared rest)
+    → (first : BufferTable) (rest : List BufferTable) → versions_ahead direction now ≡ first ∷ rest → final ≡ versions_after direction now first rest
+made-step direction now final shared there made first rest is =
+    let same : first ≡ shared = first-is (versions_ahead direction now) rest first shared is there in
+    subst (λ (b : BufferTable). final ≡ versions_after direction now b rest) (sym same) (made rest (is ∙ ap (λ (b : BufferTable). b ∷ rest) same))

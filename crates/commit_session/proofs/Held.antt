@@ -18,8 +18,9 @@ use Rattle.model_states.specs.Valid.{stated}
 use Rattle.model_states.proofs.Stated.{stated_only}
 use Rattle.model_sessions.specs.Histories.{side_of_state}
 use Rattle.model_sessions.specs.Tables.{table_facts, table_shapes}
+use Rattle.graph_commits.specs.declared.direction.Direction.{Direction}
 use Rattle.buffer_view.specs.BufferTables.{BufferTable, table_of}
-use Rattle.commit_session.specs.Seen.{AreAfter, AreBefore, AreOfState, AreOfTable}
+use Rattle.commit_session.specs.Seen.{AreOfState, AreOfTable, AreStatesAhead}
 
 abbrev Steps : Type 0 → Type 0
 Steps Op = List (Separated (Side Op) Rectangles)
@@ -42,16 +43,16 @@ module _ {Op : Type 0} (meanings : Meanings Op) where
 -- ---- the retained states
 
 module _ {Op : Type 0} (same : Op → Op → Bool) (meanings : Meanings Op) (held : Held) where
-  pub before-take : (n : ℕ) (latest : Side Op) (steps : Steps Op) (buffers : List BufferTable) (states : List (Committed Table Op))
-      → AreBefore same meanings latest steps buffers held states → AreBefore same meanings latest (take n steps) (take n buffers) held (take n states)
-  before-take zero latest steps buffers states are = tt
-  before-take (suc n) latest [] [] [] are = tt
-  before-take (suc n) latest [] [] (state ∷ states) are = absurd are
-  before-take (suc n) latest [] (b ∷ buffers) states are = absurd are
-  before-take (suc n) latest (step ∷ steps) [] states are = absurd are
-  before-take (suc n) latest (step ∷ steps) (b ∷ buffers) [] are = absurd are
-  before-take (suc n) latest (step ∷ steps) (b ∷ buffers) (state ∷ states) are =
-      (are.0, are.1, before-take n step.state steps buffers states are.2)
+  pub ahead-take : (direction : Direction) (n : ℕ) (latest : Side Op) (steps : Steps Op) (buffers : List BufferTable) (states : List (Committed Table Op))
+      → AreStatesAhead direction same meanings latest steps buffers held states → AreStatesAhead direction same meanings latest (take n steps) (take n buffers) held (take n states)
+  ahead-take direction zero latest steps buffers states are = tt
+  ahead-take direction (suc n) latest [] [] [] are = tt
+  ahead-take direction (suc n) latest [] [] (state ∷ states) are = absurd are
+  ahead-take direction (suc n) latest [] (b ∷ buffers) states are = absurd are
+  ahead-take direction (suc n) latest (step ∷ steps) [] states are = absurd are
+  ahead-take direction (suc n) latest (step ∷ steps) (b ∷ buffers) [] are = absurd are
+  ahead-take direction (suc n) latest (step ∷ steps) (b ∷ buffers) (state ∷ states) are =
+      (are.0, are.1, ahead-take direction n step.state steps buffers states are.2)
 
 -- ---- over another chain
 
@@ -69,22 +70,12 @@ module _ {Op : Type 0} (old new : Held) where
   state-again side buffers state same of = record { facts = of.facts; nodes = of.nodes; table = table-again old new buffers state.table same of.table }
 
   module _ (same : Op → Op → Bool) (meanings : Meanings Op) where
-    pub before-again : (latest : Side Op) (steps : Steps Op) (buffers : List BufferTable) (states : List (Committed Table Op)) → AllByRecursion (IsSame old new) buffers
-        → AreBefore same meanings latest steps buffers old states → AreBefore same meanings latest steps buffers new states
-    before-again latest [] [] [] all are = tt
-    before-again latest [] [] (state ∷ states) all are = absurd are
-    before-again latest [] (b ∷ buffers) states all are = absurd are
-    before-again latest (step ∷ steps) [] states all are = absurd are
-    before-again latest (step ∷ steps) (b ∷ buffers) [] all are = absurd are
-    before-again latest (step ∷ steps) (b ∷ buffers) (state ∷ states) all are =
-        (state-again step.state b state.state all.0 are.0, are.1, before-again step.state steps buffers states all.1 are.2)
-
-    pub after-again : (latest : Side Op) (steps : Steps Op) (buffers : List BufferTable) (states : List (Committed Table Op)) → AllByRecursion (IsSame old new) buffers
-        → AreAfter same meanings latest steps buffers old states → AreAfter same meanings latest steps buffers new states
-    after-again latest [] [] [] all are = tt
-    after-again latest [] [] (state ∷ states) all are = absurd are
-    after-again latest [] (b ∷ buffers) states all are = absurd are
-    after-again latest (step ∷ steps) [] states all are = absurd are
-    after-again latest (step ∷ steps) (b ∷ buffers) [] all are = absurd are
-    after-again latest (step ∷ steps) (b ∷ buffers) (state ∷ states) all are =
-        (state-again step.state b state.state all.0 are.0, are.1, after-again step.state steps buffers states all.1 are.2)
+    pub ahead-again : (direction : Direction) (latest : Side Op) (steps : Steps Op) (buffers : List BufferTable) (states : List (Committed Table Op)) → AllByRecursion (IsSame old new) buffers
+        → AreStatesAhead direction same meanings latest steps buffers old states → AreStatesAhead direction same meanings latest steps buffers new states
+    ahead-again direction latest [] [] [] all are = tt
+    ahead-again direction latest [] [] (state ∷ states) all are = absurd are
+    ahead-again direction latest [] (b ∷ buffers) states all are = absurd are
+    ahead-again direction latest (step ∷ steps) [] states all are = absurd are
+    ahead-again direction latest (step ∷ steps) (b ∷ buffers) [] all are = absurd are
+    ahead-again direction latest (step ∷ steps) (b ∷ buffers) (state ∷ states) all are =
+        (state-again step.state b state.state all.0 are.0, are.1, ahead-again direction step.state steps buffers states all.1 are.2)

@@ -1,7 +1,6 @@
 -- Sessions that a refused step leaves as they were, and why it is refused.
 use Rattle.std.proofs.Common.{◌≡◌, ℕ, Bool, [], ◌++◌, refl, sym, ap, subst, ◌∙◌, Option, Result, Err}
 use Rattle.chain_owners.specs.Held.{Held}
-use Rattle.chain_owners.specs.Owners.{Owns}
 use Rattle.chain_owners.proofs.Ownership.{times-append}
 use Rattle.model_buffers.specs.Table.{Table}
 use Rattle.model_graphs.specs.Meanings.{Meanings}
@@ -13,10 +12,10 @@ use Rattle.graph_edits.specs.declared.refused.GraphRefused.{GraphRefused}
 use Rattle.graph_edits.specs.declared.refused.GraphRefused.TheVariants as graphs
 use Rattle.graph_edits.specs.Refusals.{IsRefusalOf}
 use Rattle.buffer_view.specs.BufferTables.{BufferTable, buffers_names, table_of}
-use Rattle.session_states.specs.OverChains.{AreShownAgain, AreVersionsOver, Leaves, tables_of, versions_names}
+use Rattle.session_states.specs.OverChains.{AreShownAgain, AreVersionsOver, IsReleased, IsShared, Leaves, tables_of, versions_names}
 use Rattle.session_states.specs.Versions.{Versions}
 use Rattle.session_states.proofs.Names.{leaves-both}
-use Rattle.session_states.proofs.Released.{IsReleased, one-released}
+use Rattle.session_states.proofs.Released.{one-released}
 use Rattle.commit_session.specs.declared.refused.SessionRefused.{SessionRefused}
 use Rattle.commit_session.specs.Parts.{Parts, session_names}
 use Rattle.commit_session.specs.Refusals.{IsRefusedAs, by_graph}
@@ -25,16 +24,15 @@ use Rattle.commit_session.proofs.Changed.{final-left, over-shown, shown-again}
 
 -- ---- buffers that were shared for a step, and released again
 
-module _ (now : Versions BufferTable) (shared : BufferTable) (s0 s1 s2 : ChainState)
-    (share : Leaves 0 (versions_names now) (buffers_names shared ++ versions_names now) s0 s1) (tables : tables_of now s1.held ≡ tables_of now s0.held)
-    (over : AreVersionsOver now s1.held) (owned : Owns s1.held (buffers_names shared ++ versions_names now))
+module _ (now : Versions BufferTable) (shared : BufferTable) (s0 s1 s2 : ChainState) (share : IsShared now (buffers_names shared) s0 s1)
     (release : Leaves 0 (buffers_names shared) [] s1 s2) where
   unshared-all : IsReleased (buffers_names shared ++ versions_names now) now s1 s2
   unshared-all =
-      one-released (buffers_names shared ++ versions_names now) shared now s1 s2 release owned (times-append (buffers_names shared) (versions_names now)) over.over
+      one-released (buffers_names shared ++ versions_names now) shared now s1 s2 release share.owned (times-append (buffers_names shared) (versions_names now))
+      share.over.over
 
   unshared-left : Leaves 0 (versions_names now) (versions_names now) s0 s2
-  unshared-left = leaves-both (versions_names now) (buffers_names shared ++ versions_names now) (versions_names now) s0 s1 s2 share unshared-all.left
+  unshared-left = leaves-both (versions_names now) (buffers_names shared ++ versions_names now) (versions_names now) s0 s1 s2 share.left unshared-all.left
 
 -- ---- sessions that are the same of the definitions
 
@@ -81,18 +79,16 @@ module _ {Op : Type 0} (same : Op → Op → Bool) (meanings : Meanings Op) wher
           subst (λ (p : Parts Op). IsKept (added p) now (record p { versions = edited }) s0 s1) is (read-parts (added v) edited states leaves layout tables versions)
 
       -- they couldn't be shared
-      pub kept : Leaves 0 (versions_names v.versions) (versions_names v.versions) s0 s1 → tables_of v.versions s1.held ≡ tables_of v.versions s0.held
-          → AreVersionsOver v.versions s1.held → IsKept 0 now now s0 s1
-      kept leaves tables versions = subst (λ (p : Parts Op). IsKept 0 now p s0 s1) is (read-parts 0 v.versions refl leaves refl tables versions)
+      pub kept : IsShared v.versions [] s0 s1 → IsKept 0 now now s0 s1
+      kept share = subst (λ (p : Parts Op). IsKept 0 now p s0 s1) is (read-parts 0 v.versions refl share.left refl share.tables share.over)
 
       -- they were shared and released again, and the graph is unchanged
-      pub unshared : (shared : BufferTable) (s : ChainState) → Leaves 0 (versions_names v.versions) (buffers_names shared ++ versions_names v.versions) s0 s
-          → tables_of v.versions s.held ≡ tables_of v.versions s0.held → AreVersionsOver v.versions s.held → Owns s.held (buffers_names shared ++ versions_names v.versions)
-          → Leaves 0 (buffers_names shared) [] s s1 → (graph : Graph Op) → graph ≡ v.graph → IsKept 0 now (record now { graph = graph }) s0 s1
-      unshared shared s share tables versions owned release graph unchanged =
-          let again = unshared-all v.versions shared s0 s s1 share tables versions owned release in
-          let leaves = unshared-left v.versions shared s0 s s1 share tables versions owned release in
-          let all : IsKept 0 now v s0 s1 = read-parts 0 v.versions refl leaves refl (again.tables ∙ tables) again.over in
+      pub unshared : (shared : BufferTable) (s : ChainState) → IsShared v.versions (buffers_names shared) s0 s → Leaves 0 (buffers_names shared) [] s s1
+          → (graph : Graph Op) → graph ≡ v.graph → IsKept 0 now (record now { graph = graph }) s0 s1
+      unshared shared s share release graph unchanged =
+          let again = unshared-all v.versions shared s0 s s1 share release in
+          let leaves = unshared-left v.versions shared s0 s s1 share release in
+          let all : IsKept 0 now v s0 s1 = read-parts 0 v.versions refl leaves refl (again.tables ∙ share.tables) again.over in
           subst (λ (p : Parts Op). IsKept 0 now (record p { graph = graph }) s0 s1) is
           (subst (λ (g : Graph Op). IsKept 0 now (record v { graph = g }) s0 s1) (sym unchanged) all)
 

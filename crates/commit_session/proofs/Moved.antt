@@ -8,12 +8,13 @@ use Rattle.model_states.specs.Commits.{Graph}
 use Rattle.model_states.specs.Rectangles.{Rectangles}
 use Rattle.model_states.specs.Retained.{Retained}
 use Rattle.model_states.specs.State.{State}
+use Rattle.graph_commits.specs.declared.direction.Direction.TheVariants.{Undo, Redo}
 use Rattle.buffer_view.specs.BufferTables.{BufferTable, table_of}
 use Rattle.session_states.specs.OverChains.{tables_of}
 use Rattle.session_states.specs.Versions.{Versions}
 use Rattle.commit_session.specs.Parts.{Parts}
 use Rattle.commit_session.specs.Seen.{AreOfTable, AreRetained}
-use Rattle.commit_session.proofs.Held.{IsSame, after-again, before-again, state-again, table-again}
+use Rattle.commit_session.proofs.Held.{IsSame, ahead-again, state-again, table-again}
 use Rattle.commit_session.proofs.Working.{maps-same}
 
 -- the tables of versions are seen alike
@@ -44,8 +45,8 @@ module _ (old new : Held) (versions : Versions BufferTable) (tables : tables_of 
         → AreRetained same meanings held_by old retained → AreRetained same meanings final new retained
     retained-moved final versions_is graph_is are =
         let latest = state-again old new graph.latest versions.latest retained.latest latest-same are.latest in
-        let undoable = before-again old new same meanings graph.latest graph.undoable versions.undoable retained.undoable undoable-same are.undoable in
-        let redoable = after-again old new same meanings graph.latest graph.redoable versions.redoable retained.redoable redoable-same are.redoable in
+        let undoable = ahead-again old new same meanings Undo graph.latest graph.undoable versions.undoable retained.undoable undoable-same are.undoable in
+        let redoable = ahead-again old new same meanings Redo graph.latest graph.redoable versions.redoable retained.redoable redoable-same are.redoable in
         let moved : AreRetained same meanings held_by new retained =
         record { number = are.number; latest = latest; undoable = undoable; redoable = redoable } in
         let seen = λ (v : Versions BufferTable) (g : Graph Op). let p : Parts Op = record parts { versions = v; graph = g } in AreRetained same meanings p new retained in

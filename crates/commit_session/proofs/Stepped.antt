@@ -10,14 +10,18 @@ use Rattle.model_states.specs.Commits.{Graph}
 use Rattle.model_states.specs.Damage.{Change, IsStatedChange, Side, damage, damage_list}
 use Rattle.model_states.specs.History.{Committed}
 use Rattle.model_states.specs.Rectangles.{Rectangles, rectangle_of}
-use Rattle.model_states.specs.Retained.{Retained, Separated, Stepped, last_number, left_state, redo_to, redone, undo_to, undone, unless_last}
+use Rattle.model_states.specs.Retained.{Retained, Separated, Stepped, last_number, unless_last}
 use Rattle.model_states.specs.State.{State}
 use Rattle.model_states.proofs.Voids.{listed_damage}
+use Rattle.graph_commits.specs.declared.direction.Direction.{Direction}
+use Rattle.graph_commits.specs.declared.direction.Direction.TheVariants.{Undo, Redo}
+use Rattle.graph_commits.specs.Directions.{ahead, commit_between, step_to, stepped, with_first}
 use Rattle.graph_commits.specs.Graphs.{AreDamagesOf}
+use Rattle.graph_commits.proofs.GraphLaws.{first_given, nowhere_given, step_first, step_nowhere}
 use Rattle.buffer_view.specs.BufferTables.{BufferTable}
-use Rattle.session_states.specs.Versions.{Versions, after_redo, after_undo}
+use Rattle.session_states.specs.Versions.{Versions, versions_after, versions_ahead}
 use Rattle.commit_session.specs.Parts.{Parts}
-use Rattle.commit_session.specs.Seen.{AreAfter, AreBefore, AreOfTable, AreRetained}
+use Rattle.commit_session.specs.Seen.{AreOfTable, AreRetained, AreStatesAhead}
 
 abbrev pub States : Type 0 → Type 0
 States Op = Retained (State Table Op) Rectangles
@@ -34,7 +38,7 @@ pub record IsOpen {A : Type 0} (number : ℕ) (r : Result A StateRefused) (a : A
   pub open_number : (number == last_number) ≡ false
   pub is : r ≡ Ok a
 
-pub open-ok : {A : Type 0} (number : ℕ) (r : Result A StateRefused) (a : A) → unless_last number r ≡ Ok a → IsOpen number r a
+open-ok : {A : Type 0} (number : ℕ) (r : Result A StateRefused) (a : A) → unless_last number r ≡ Ok a → IsOpen number r a
 open-ok {A} number r a is = by (number == last_number) refl is
   where
     by : (b : Bool) → (number == last_number) ≡ b → cond b (Err TooManyCommits) r ≡ Ok a → IsOpen number r a
@@ -81,24 +85,11 @@ module _ {Op : Type 0} (same : Op → Op → Bool) (meanings : Meanings Op) (now
     pub is : result ≡ Ok stepped
     pub step : IsStep next versions delta retained stepped
 
-  -- what a graph promises of the damages of an undo, and of a redo
-  abbrev pub DamagesBack : Graph Op → Rectangles → Type 0
-  DamagesBack next delta =
-      (written : Rectangles) → delta ≡ damage_list same meanings (record { old = next.latest; new = now.graph.latest; rectangles = written })
+  -- what a graph promises of the damages of a step
+  abbrev pub DamagesOf : Direction → Graph Op → Rectangles → Type 0
+  DamagesOf direction next delta =
+      (written : Rectangles) → delta ≡ damage_list same meanings (commit_between direction now.graph.latest next.latest written)
       → AreDamagesOf same meanings (change_from next written) delta
-
-  abbrev pub DamagesOn : Graph Op → Rectangles → Type 0
-  DamagesOn next delta =
-      (written : Rectangles) → delta ≡ damage_list same meanings (change_from next written) → AreDamagesOf same meanings (change_from next written) delta
-
-  -- the graph after an undo to a state, and after a redo to one
-  abbrev graph_back : Separated (Side Op) Rectangles → List (Separated (Side Op) Rectangles) → Graph Op
-  graph_back step steps =
-      record { number = now.graph.number + 1; latest = step.state; undoable = steps; redoable = left_state now.graph step.delta ∷ now.graph.redoable }
-
-  abbrev graph_on : Separated (Side Op) Rectangles → List (Separated (Side Op) Rectangles) → Graph Op
-  graph_on step steps =
-      record { number = now.graph.number + 1; latest = step.state; undoable = left_state now.graph step.delta ∷ now.graph.undoable; redoable = steps }
 
   -- ---- a step by what its list begins with
 
@@ -124,154 +115,95 @@ module _ {Op : Type 0} (same : Op → Op → Bool) (meanings : Meanings Op) (now
         step = lists.step;
       }
 
-  -- ---- an undo
+  -- ---- an undo or a redo
 
   module _ (retained : States Op) (are : AreRetained same meanings now held retained) where
-    undo-states : (step : Separated (Side Op) Rectangles) (steps : List (Separated (Side Op) Rectangles)) (b : BufferTable) (buffers : List BufferTable)
+    ahead-are : (direction : Direction)
+        → AreStatesAhead direction same meanings now.graph.latest (ahead direction now.graph) (versions_ahead direction now.versions) held (ahead direction retained)
+    ahead-are Undo = are.undoable
+    ahead-are Redo = are.redoable
+
+    states-after : (direction : Direction) (step : Separated (Side Op) Rectangles) (steps : List (Separated (Side Op) Rectangles)) (b : BufferTable) (buffers : List BufferTable)
         (state : Committed Table Op) (states : List (Committed Table Op))
-        → AreBefore same meanings now.graph.latest (step ∷ steps) (b ∷ buffers) held (state ∷ states)
-        → DamagesBack (graph_back step steps) step.delta
-        → Leads (graph_back step steps) (after_undo now.versions b buffers) step.delta retained (undo_to retained (state ∷ states))
-    undo-states step steps b buffers state states before promised =
-        let change : Change Op = record { old = step.state; new = now.graph.latest; rectangles = state.delta } in
-        let promise = promised state.delta before.1 in
-        record {
-          stepped = record {
-            next = record { number = retained.number + 1; latest = state.state; undoable = states; redoable = left_state retained state.delta ∷ retained.redoable };
-            delta = state.delta;
-          };
-          is = refl;
-          step = record {
-            number = refl;
-            working = before.0.table;
-            states = record {
-              number = ap (λ (n : ℕ). n + 1) are.number;
-              latest = before.0;
-              undoable = before.2;
-              redoable = (are.latest, before.1, are.redoable);
+        → AreStatesAhead direction same meanings now.graph.latest (step ∷ steps) (b ∷ buffers) held (state ∷ states)
+        → AreRetained same meanings (parts_with (with_first direction now.graph step steps) (versions_after direction now.versions b buffers)) held
+        (with_first direction retained state states)
+    states-after Undo step steps b buffers state states first = record {
+      number = ap (λ (n : ℕ). n + 1) are.number;
+      latest = first.0;
+      undoable = first.2;
+      redoable = (are.latest, first.1, are.redoable);
+    }
+    states-after Redo step steps b buffers state states first = record {
+      number = ap (λ (n : ℕ). n + 1) are.number;
+      latest = first.0;
+      undoable = (are.latest, first.1, are.undoable);
+      redoable = first.2;
+    }
+
+    module _ (direction : Direction) where
+      step-states : (step : Separated (Side Op) Rectangles) (steps : List (Separated (Side Op) Rectangles)) (b : BufferTable) (buffers : List BufferTable)
+          (state : Committed Table Op) (states : List (Committed Table Op))
+          → AreStatesAhead direction same meanings now.graph.latest (step ∷ steps) (b ∷ buffers) held (state ∷ states)
+          → DamagesOf direction (with_first direction now.graph step steps) step.delta
+          → Leads (with_first direction now.graph step steps) (versions_after direction now.versions b buffers) step.delta retained (step_to direction retained (state ∷ states))
+      step-states step steps b buffers state states first promised =
+          let change : Change Op = commit_between direction now.graph.latest step.state state.delta in
+          let promise = promised state.delta first.1 in
+          record {
+            stepped = record { next = with_first direction retained state states; delta = state.delta };
+            is = step_first direction retained state states;
+            step = record {
+              number = refl;
+              working = first.0.table;
+              states = states-after direction step steps b buffers state states first;
+              stated = promise.stated;
+              change = change;
+              damages = first.1;
+              each = λ name. sym (listed_damage same meanings change name) ∙ ap (λ (ds : Rectangles). rectangle_of ds name) (sym first.1) ∙ promise.each name;
             };
-            stated = promise.stated;
-            change = change;
-            damages = before.1;
-            each = λ name. sym (listed_damage same meanings change name) ∙ ap (λ (ds : Rectangles). rectangle_of ds name) (sym before.1) ∙ promise.each name;
-          };
-        }
+          }
 
-    module _ (next : Graph Op) (versions : Versions BufferTable) (delta : Rectangles) where
-      undo-lists : (steps : List (Separated (Side Op) Rectangles)) (buffers : List BufferTable) (states : List (Committed Table Op))
-          → AreBefore same meanings now.graph.latest steps buffers held states
-          → undo_to now.graph steps ≡ Ok (record { next = next; delta = delta })
-          → ((back : BufferTable) (rest : List BufferTable) → buffers ≡ back ∷ rest → versions ≡ after_undo now.versions back rest)
-          → DamagesBack next delta → Leads next versions delta retained (undo_to retained states)
-      undo-lists [] buffers states before is made promised = absurd (cc)
-      undo-lists (step ∷ steps) [] states before is made promised = absurd before
-      undo-lists (step ∷ steps) (b ∷ buffers) [] before is made promised = absurd before
-      undo-lists (step ∷ steps) (b ∷ buffers) (state ∷ states) before is made promised =
-          let to : GraphStep Op = record { next = graph_back step steps; delta = step.delta } in
-          let final : GraphStep Op = record { next = next; delta = delta } in
-          let whole : to ≡ final = cc in
-          leads-at to (after_undo now.versions b buffers) next versions delta retained (undo_to retained (state ∷ states)) whole (made b buffers refl)
-          (undo-states step steps b buffers state states before (subst (λ (s : GraphStep Op). DamagesBack s.next s.delta) (sym whole) promised))
+      module _ (next : Graph Op) (versions : Versions BufferTable) (delta : Rectangles) where
+        step-lists : (steps : List (Separated (Side Op) Rectangles)) (buffers : List BufferTable) (states : List (Committed Table Op))
+            → AreStatesAhead direction same meanings now.graph.latest steps buffers held states
+            → step_to direction now.graph steps ≡ Ok (record { next = next; delta = delta })
+            → ((first : BufferTable) (rest : List BufferTable) → buffers ≡ first ∷ rest → versions ≡ versions_after direction now.versions first rest)
+            → DamagesOf direction next delta → Leads next versions delta retained (step_to direction retained states)
+        step-lists [] buffers states there is made promised = absurd (nowhere_given direction now.graph (record { next = next; delta = delta }) is)
+        step-lists (step ∷ steps) [] states there is made promised = absurd there
+        step-lists (step ∷ steps) (b ∷ buffers) [] there is made promised = absurd there
+        step-lists (step ∷ steps) (b ∷ buffers) (state ∷ states) there is made promised =
+            let to : GraphStep Op = record { next = with_first direction now.graph step steps; delta = step.delta } in
+            let whole = first_given direction now.graph step steps (record { next = next; delta = delta }) is in
+            leads-at to (versions_after direction now.versions b buffers) next versions delta retained (step_to direction retained (state ∷ states)) whole (made b buffers refl)
+            (step-states step steps b buffers state states there (subst (λ (s : GraphStep Op). DamagesOf direction s.next s.delta) (sym whole) promised))
 
-      pub undo-leads : undone now.graph ≡ Ok (record { next = next; delta = delta })
-          → ((back : BufferTable) (rest : List BufferTable) → now.versions.undoable ≡ back ∷ rest → versions ≡ after_undo now.versions back rest)
-          → DamagesBack next delta → Leads next versions delta retained (undone retained)
-      undo-leads is made promised =
-          leads-open next versions delta retained (undo_to now.graph now.graph.undoable) (undo_to retained retained.undoable) are.number is
-          (λ opened. undo-lists now.graph.undoable now.versions.undoable retained.undoable are.undoable opened made promised)
+        pub step-leads : stepped direction now.graph ≡ Ok (record { next = next; delta = delta })
+            → ((first : BufferTable) (rest : List BufferTable) → versions_ahead direction now.versions ≡ first ∷ rest → versions ≡ versions_after direction now.versions first rest)
+            → DamagesOf direction next delta → Leads next versions delta retained (stepped direction retained)
+        step-leads is made promised =
+            leads-open next versions delta retained (step_to direction now.graph (ahead direction now.graph)) (step_to direction retained (ahead direction retained)) are.number is
+            (λ opened. step-lists (ahead direction now.graph) (versions_ahead direction now.versions) (ahead direction retained) (ahead-are direction) opened made promised)
 
-    undo-none : (why : StateRefused) (steps : List (Separated (Side Op) Rectangles)) (buffers : List BufferTable) (states : List (Committed Table Op))
-        → AreBefore same meanings now.graph.latest steps buffers held states → undo_to now.graph steps ≡ Err why → undo_to retained states ≡ Err why
-    undo-none why [] [] [] before is = cc
-    undo-none why [] [] (state ∷ states) before is = absurd before
-    undo-none why [] (b ∷ buffers) states before is = absurd before
-    undo-none why (step ∷ steps) buffers states before is = absurd (cc)
+      step-none : (why : StateRefused) (steps : List (Separated (Side Op) Rectangles)) (buffers : List BufferTable) (states : List (Committed Table Op))
+          → AreStatesAhead direction same meanings now.graph.latest steps buffers held states → step_to direction now.graph steps ≡ Err why → step_to direction retained states ≡ Err why
+      step-none why [] [] [] there is = let nowhere = step_nowhere direction now.graph in let too = step_nowhere direction retained in cc
+      step-none why [] [] (state ∷ states) there is = absurd there
+      step-none why [] (b ∷ buffers) states there is = absurd there
+      step-none why (step ∷ steps) buffers states there is = let both = sym (step_first direction now.graph step steps) ∙ is in absurd (cc)
 
-    pub undo-refused : (why : StateRefused) → undone now.graph ≡ Err why → undone retained ≡ Err why
-    undo-refused why is =
-        refused-is now.graph.number retained.number (undo_to now.graph now.graph.undoable) (undo_to retained retained.undoable) why are.number
-        (undo-none why now.graph.undoable now.versions.undoable retained.undoable are.undoable) is
+      pub step-refused : (why : StateRefused) → stepped direction now.graph ≡ Err why → stepped direction retained ≡ Err why
+      step-refused why is =
+          refused-is now.graph.number retained.number (step_to direction now.graph (ahead direction now.graph)) (step_to direction retained (ahead direction retained)) why are.number
+          (step-none why (ahead direction now.graph) (versions_ahead direction now.versions) (ahead direction retained) (ahead-are direction)) is
 
-    -- no buffers to undo to are no states
-    pub none-undoable : now.versions.undoable ≡ [] → now.graph.undoable ≡ []
-    none-undoable none = by now.graph.undoable now.versions.undoable retained.undoable are.undoable none
-      where
-        by : (steps : List (Separated (Side Op) Rectangles)) (buffers : List BufferTable) (states : List (Committed Table Op))
-            → AreBefore same meanings now.graph.latest steps buffers held states → buffers ≡ [] → steps ≡ []
-        by [] buffers states before none = refl
-        by (step ∷ steps) [] states before none = absurd before
-        by (step ∷ steps) (b ∷ buffers) states before none = absurd (cc)
-
-    -- ---- a redo
-
-    redo-states : (step : Separated (Side Op) Rectangles) (steps : List (Separated (Side Op) Rectangles)) (b : BufferTable) (buffers : List BufferTable)
-        (state : Committed Table Op) (states : List (Committed Table Op))
-        → AreAfter same meanings now.graph.latest (step ∷ steps) (b ∷ buffers) held (state ∷ states)
-        → DamagesOn (graph_on step steps) step.delta
-        → Leads (graph_on step steps) (after_redo now.versions b buffers) step.delta retained (redo_to retained (state ∷ states))
-    redo-states step steps b buffers state states after promised =
-        record {
-          stepped = record {
-            next = record { number = retained.number + 1; latest = state.state; undoable = left_state retained state.delta ∷ retained.undoable; redoable = states };
-            delta = state.delta;
-          };
-          is = refl;
-          step = record {
-            number = refl;
-            working = after.0.table;
-            states = record {
-              number = ap (λ (n : ℕ). n + 1) are.number;
-              latest = after.0;
-              undoable = (are.latest, after.1, are.undoable);
-              redoable = after.2;
-            };
-            stated = (promised state.delta after.1).stated;
-            change = record { old = now.graph.latest; new = step.state; rectangles = state.delta };
-            damages = after.1;
-            each = λ name. refl;
-          };
-        }
-
-    module _ (next : Graph Op) (versions : Versions BufferTable) (delta : Rectangles) where
-      redo-lists : (steps : List (Separated (Side Op) Rectangles)) (buffers : List BufferTable) (states : List (Committed Table Op))
-          → AreAfter same meanings now.graph.latest steps buffers held states
-          → redo_to now.graph steps ≡ Ok (record { next = next; delta = delta })
-          → ((on : BufferTable) (rest : List BufferTable) → buffers ≡ on ∷ rest → versions ≡ after_redo now.versions on rest)
-          → DamagesOn next delta → Leads next versions delta retained (redo_to retained states)
-      redo-lists [] buffers states after is made promised = absurd (cc)
-      redo-lists (step ∷ steps) [] states after is made promised = absurd after
-      redo-lists (step ∷ steps) (b ∷ buffers) [] after is made promised = absurd after
-      redo-lists (step ∷ steps) (b ∷ buffers) (state ∷ states) after is made promised =
-          let to : GraphStep Op = record { next = graph_on step steps; delta = step.delta } in
-          let final : GraphStep Op = record { next = next; delta = delta } in
-          let whole : to ≡ final = cc in
-          leads-at to (after_redo now.versions b buffers) next versions delta retained (redo_to retained (state ∷ states)) whole (made b buffers refl)
-          (redo-states step steps b buffers state states after (subst (λ (s : GraphStep Op). DamagesOn s.next s.delta) (sym whole) promised))
-
-      pub redo-leads : redone now.graph ≡ Ok (record { next = next; delta = delta })
-          → ((on : BufferTable) (rest : List BufferTable) → now.versions.redoable ≡ on ∷ rest → versions ≡ after_redo now.versions on rest)
-          → DamagesOn next delta → Leads next versions delta retained (redone retained)
-      redo-leads is made promised =
-          leads-open next versions delta retained (redo_to now.graph now.graph.redoable) (redo_to retained retained.redoable) are.number is
-          (λ opened. redo-lists now.graph.redoable now.versions.redoable retained.redoable are.redoable opened made promised)
-
-    redo-none : (why : StateRefused) (steps : List (Separated (Side Op) Rectangles)) (buffers : List BufferTable) (states : List (Committed Table Op))
-        → AreAfter same meanings now.graph.latest steps buffers held states → redo_to now.graph steps ≡ Err why → redo_to retained states ≡ Err why
-    redo-none why [] [] [] after is = cc
-    redo-none why [] [] (state ∷ states) after is = absurd after
-    redo-none why [] (b ∷ buffers) states after is = absurd after
-    redo-none why (step ∷ steps) buffers states after is = absurd (cc)
-
-    pub redo-refused : (why : StateRefused) → redone now.graph ≡ Err why → redone retained ≡ Err why
-    redo-refused why is =
-        refused-is now.graph.number retained.number (redo_to now.graph now.graph.redoable) (redo_to retained retained.redoable) why are.number
-        (redo-none why now.graph.redoable now.versions.redoable retained.redoable are.redoable) is
-
-    pub none-redoable : now.versions.redoable ≡ [] → now.graph.redoable ≡ []
-    none-redoable none = by now.graph.redoable now.versions.redoable retained.redoable are.redoable none
-      where
-        by : (steps : List (Separated (Side Op) Rectangles)) (buffers : List BufferTable) (states : List (Committed Table Op))
-            → AreAfter same meanings now.graph.latest steps buffers held states → buffers ≡ [] → steps ≡ []
-        by [] buffers states after none = refl
-        by (step ∷ steps) [] states after none = absurd after
-        by (step ∷ steps) (b ∷ buffers) states after none = absurd (cc)
+      -- no buffers ahead are no states
+      pub none-ahead : versions_ahead direction now.versions ≡ [] → ahead direction now.graph ≡ []
+      none-ahead none = by (ahead direction now.graph) (versions_ahead direction now.versions) (ahead direction retained) (ahead-are direction) none
+        where
+          by : (steps : List (Separated (Side Op) Rectangles)) (buffers : List BufferTable) (states : List (Committed Table Op))
+              → AreStatesAhead direction same meanings now.graph.latest steps buffers held states → buffers ≡ [] → steps ≡ []
+          by [] buffers states there none = refl
+          by (step ∷ steps) [] states there none = absurd there
+          by (step ∷ steps) (b ∷ buffers) states there none = absurd (cc)

@@ -25,13 +25,14 @@ use Rattle.model_sessions.specs.Sessions.{IsSession, Make, Session, with_state}
 use Rattle.model_sessions.specs.Steps.{EditBuffer, EditNode, HistoryEdit, IsProper, after_edit, after_step, with_edit, with_working}
 use Rattle.model_sessions.proofs.Actions.{action_keeps}
 use Rattle.node_cache.specs.NodeNames.{Entries, cached_in, sizes_in}
+use Rattle.graph_commits.specs.declared.direction.Direction.TheVariants.{Undo, Redo}
 use Rattle.buffer_view.specs.BufferTables.{BufferTable, table_of}
 use Rattle.session_states.specs.OverChains.{AreShownAgain, IsEdited, tables_of}
 use Rattle.session_states.specs.Versions.{Versions}
 use Rattle.commit_session.specs.Parts.{Parts}
 use Rattle.commit_session.specs.Seen.{AreCached, AreOfTable, AreRetained, IsSessionOf}
 use Rattle.commit_session.specs.Steps.{after_writing}
-use Rattle.commit_session.proofs.Held.{IsSame, after-again, before-again, state-again}
+use Rattle.commit_session.proofs.Held.{IsSame, ahead-again, state-again}
 
 -- ---- tables
 
@@ -81,8 +82,8 @@ module _ {Op : Type 0} (same : Op → Op → Bool) (meanings : Meanings Op) (par
         record {
           number = are.number;
           latest = state-again old new parts.graph.latest parts.versions.latest retained.latest latest are.latest;
-          undoable = before-again old new same meanings parts.graph.latest parts.graph.undoable parts.versions.undoable retained.undoable undoable are.undoable;
-          redoable = after-again old new same meanings parts.graph.latest parts.graph.redoable parts.versions.redoable retained.redoable redoable are.redoable;
+          undoable = ahead-again old new same meanings Undo parts.graph.latest parts.graph.undoable parts.versions.undoable retained.undoable undoable are.undoable;
+          redoable = ahead-again old new same meanings Redo parts.graph.latest parts.graph.redoable parts.versions.redoable retained.redoable redoable are.redoable;
         }
 
 module _ (entries : Entries) (old new : Held) (bytes : cached_in entries new ≡ cached_in entries old) (sizes : sizes_in entries new ≡ sizes_in entries old) where

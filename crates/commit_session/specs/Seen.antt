@@ -13,6 +13,9 @@ use Rattle.model_states.specs.Rectangles.{Rectangles}
 use Rattle.model_states.specs.Retained.{Retained, Separated}
 use Rattle.model_states.specs.State.{State}
 use Rattle.model_sessions.specs.Sessions.{IsSession, Session, counts_of}
+use Rattle.graph_commits.specs.declared.direction.Direction.{Direction}
+use Rattle.graph_commits.specs.declared.direction.Direction.TheVariants.{Undo, Redo}
+use Rattle.graph_commits.specs.Directions.{commit_between}
 use Rattle.node_cache.specs.NodeNames.{Entries, IsNodeCache, cached_in, pairs_in, sizes_in}
 use Rattle.node_cache.specs.Stores.{HaveOneOwner, sized_of}
 use Rattle.buffer_view.specs.BufferTables.{BufferTable, table_of}
@@ -31,42 +34,25 @@ pub record AreOfState {Op : Type 0} (side : Side Op) (buffers : BufferTable) (he
   pub nodes : specs_of side.nodes ≡ state.nodes
   pub table : AreOfTable buffers held state.table
 
--- what a step from one state to another damages, by these rectangles of roots
-abbrev pub step_damage : {Op : Type 0} → (Op → Op → Bool) → Meanings Op → Side Op → Side Op → Rectangles → Rectangles
-step_damage same meanings old new rectangles =
-    damage_list same meanings (record { old = old; new = new; rectangles = rectangles })
-
--- States before one, the last first, with what separates each from the one after it: of a graph by the damage of the nodes,
--- of a history by the rectangles of roots from which this damage is.
-abbrev pub AreBefore : {Op : Type 0} → (Op → Op → Bool) → Meanings Op → Side Op → List (Separated (Side Op) Rectangles) → List BufferTable → Held → List (Committed Table Op) → Type 0
-AreBefore same meanings latest [] [] held [] = ⊤
-AreBefore same meanings latest [] [] held (state ∷ states) = ⊥
-AreBefore same meanings latest [] (buffers ∷ more) held states = ⊥
-AreBefore same meanings latest (step ∷ steps) [] held states = ⊥
-AreBefore same meanings latest (step ∷ steps) (buffers ∷ more) held [] = ⊥
-AreBefore same meanings latest (step ∷ steps) (buffers ∷ more) held (state ∷ states) =
+-- States ahead of one in a direction, the next first, with what separates each from the one before it: of a graph the
+-- damage of the nodes, of a history the rectangles of roots from which this damage is.
+abbrev pub AreStatesAhead : {Op : Type 0} → Direction → (Op → Op → Bool) → Meanings Op → Side Op → List (Separated (Side Op) Rectangles) → List BufferTable → Held → List (Committed Table Op) → Type 0
+AreStatesAhead direction same meanings latest [] [] held [] = ⊤
+AreStatesAhead direction same meanings latest [] [] held (state ∷ states) = ⊥
+AreStatesAhead direction same meanings latest [] (buffers ∷ more) held states = ⊥
+AreStatesAhead direction same meanings latest (step ∷ steps) [] held states = ⊥
+AreStatesAhead direction same meanings latest (step ∷ steps) (buffers ∷ more) held [] = ⊥
+AreStatesAhead direction same meanings latest (step ∷ steps) (buffers ∷ more) held (state ∷ states) =
     AreOfState step.state buffers held state.state
-    × (step.delta ≡ step_damage same meanings step.state latest state.delta)
-    × AreBefore same meanings step.state steps more held states
-
--- The same of states after one, the next first.
-abbrev pub AreAfter : {Op : Type 0} → (Op → Op → Bool) → Meanings Op → Side Op → List (Separated (Side Op) Rectangles) → List BufferTable → Held → List (Committed Table Op) → Type 0
-AreAfter same meanings latest [] [] held [] = ⊤
-AreAfter same meanings latest [] [] held (state ∷ states) = ⊥
-AreAfter same meanings latest [] (buffers ∷ more) held states = ⊥
-AreAfter same meanings latest (step ∷ steps) [] held states = ⊥
-AreAfter same meanings latest (step ∷ steps) (buffers ∷ more) held [] = ⊥
-AreAfter same meanings latest (step ∷ steps) (buffers ∷ more) held (state ∷ states) =
-    AreOfState step.state buffers held state.state
-    × (step.delta ≡ step_damage same meanings latest step.state state.delta)
-    × AreAfter same meanings step.state steps more held states
+    × (step.delta ≡ damage_list same meanings (commit_between direction latest step.state state.delta))
+    × AreStatesAhead direction same meanings step.state steps more held states
 
 -- The states that a graph and versions of buffers retain are those of a history.
 pub record AreRetained {Op : Type 0} (same : Op → Op → Bool) (meanings : Meanings Op) (parts : Parts Op) (held : Held) (retained : Retained (State Table Op) Rectangles) : Type 0 where
   pub number : retained.number ≡ parts.graph.number
   pub latest : AreOfState parts.graph.latest parts.versions.latest held retained.latest
-  pub undoable : AreBefore same meanings parts.graph.latest parts.graph.undoable parts.versions.undoable held retained.undoable
-  pub redoable : AreAfter same meanings parts.graph.latest parts.graph.redoable parts.versions.redoable held retained.redoable
+  pub undoable : AreStatesAhead Undo same meanings parts.graph.latest parts.graph.undoable parts.versions.undoable held retained.undoable
+  pub redoable : AreStatesAhead Redo same meanings parts.graph.latest parts.graph.redoable parts.versions.redoable held retained.redoable
 
 -- Names of cached tiles are those of a list: of its pairs, of as many bytes, and of these where the chain exposes them.
 pub record AreCached (entries : Entries) (held : Held) (list : List Cached) : Type 0 where

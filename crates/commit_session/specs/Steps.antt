@@ -9,9 +9,11 @@ use Rattle.model_states.specs.Cache.{all_voided, itself, without_damaged}
 use Rattle.model_states.specs.Commits.{change_to, committed}
 use Rattle.model_states.specs.Damage.{damage}
 use Rattle.model_states.specs.Rectangles.{Rectangles, with_written}
-use Rattle.model_states.specs.Retained.{redone, undone}
+use Rattle.model_states.specs.History.{History, redone, undone}
 use Rattle.buffer_view.specs.BufferTables.{BufferTable}
-use Rattle.session_states.specs.Versions.{after_commit, after_redo, after_undo}
+use Rattle.graph_commits.specs.declared.direction.Direction.{Direction}
+use Rattle.graph_commits.specs.Directions.{by_direction, stepped}
+use Rattle.session_states.specs.Versions.{after_commit, versions_after, versions_ahead}
 use Rattle.commit_session.specs.Parts.{Parts, cached_pairs, working_facts}
 
 -- rectangles of roots after at most one more was written
@@ -40,21 +42,17 @@ pub record IsCommitted {Op : Type 0} (same : Op → Op → Bool) (meanings : Mea
   pub voided : cached_pairs new
       ≡ without_damaged itself (damage same meanings (change_to old.graph new.graph.latest old.written)) (cached_pairs old)
 
--- The last commit was undone, and its damage is voided.
-pub record IsUndone {Op : Type 0} (old new : Parts Op) : Type 0 where
+-- An undo or a redo was made, and the damage of its commit is voided.
+pub record IsStepped {Op : Type 0} (direction : Direction) (old new : Parts Op) : Type 0 where
   pub damages : Rectangles
-  pub graph : undone old.graph ≡ Ok (record { next = new.graph; delta = damages })
-  pub versions : (back : BufferTable) (rest : List BufferTable) → old.versions.undoable ≡ back ∷ rest →
-      new.versions ≡ after_undo old.versions back rest
+  pub graph : stepped direction old.graph ≡ Ok (record { next = new.graph; delta = damages })
+  pub versions : (next : BufferTable) (rest : List BufferTable) → versions_ahead direction old.versions ≡ next ∷ rest →
+      new.versions ≡ versions_after direction old.versions next rest
   pub settled : IsSettled damages old new
 
--- The last undo was taken back, and its damage is voided.
-pub record IsRedone {Op : Type 0} (old new : Parts Op) : Type 0 where
-  pub damages : Rectangles
-  pub graph : redone old.graph ≡ Ok (record { next = new.graph; delta = damages })
-  pub versions : (next : BufferTable) (rest : List BufferTable) → old.versions.redoable ≡ next ∷ rest →
-      new.versions ≡ after_redo old.versions next rest
-  pub settled : IsSettled damages old new
+-- an undo or a redo of a history
+abbrev pub history_step : {Table Op : Type 0} → Direction → History Table Op → Result (History Table Op) StateRefused
+history_step direction history = by_direction direction (undone history) (redone history)
 
 -- An edit was made of the buffers that are edited, and what it writes was noted.
 pub record IsEditedBy {Op : Type 0} (edit : BufferEdit) (old new : Parts Op) : Type 0 where

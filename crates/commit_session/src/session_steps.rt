@@ -1,6 +1,6 @@
 //! Commits, undos and redos of a session.
 
-ghost use Rattle.std.specs.Prelude.{◌≡◌, IfErr, IfOk, List, OnErr, OnOk};
+ghost use Rattle.std.specs.Prelude.{◌≡◌, IfErr, IfOk, OnErr, OnOk};
 ghost use Rattle.std.specs.Map.{values_of};
 ghost use Rattle.model_buffers.specs.Table.{Table};
 ghost use Rattle.model_sessions.specs.Sessions.{Make, Session as SessionOf, after_action};
@@ -15,7 +15,8 @@ ghost use Rattle.session_states.specs.OverChains.{Leaves};
 ghost use Rattle.commit_session.specs.Parts.{session_names, working_facts};
 ghost use Rattle.commit_session.specs.Refusals.{IsRefusedAs, by_graph};
 ghost use Rattle.commit_session.specs.Seen.{IsOver, IsSessionOf};
-ghost use Rattle.commit_session.specs.Steps.{IsCommitted, IsRedone, IsUndone};
+ghost use Rattle.commit_session.specs.Steps.{IsCommitted, IsStepped};
+ghost use Rattle.graph_commits.specs.declared.direction.Direction.TheVariants as directions;
 
 use crate::refused::SessionRefused;
 use crate::session::OwnedSession;
@@ -72,7 +73,7 @@ impl<K: OpKit, C: TileChain> OwnedSession<K, C> {
             (after_action K.Op.same K.Op.meanings self.old.state.capacity session (Make Undo))) }
         ensures same { (session : SessionOf Table K.Op) → IsSessionOf K.Op.same K.Op.meanings self.old.state (C.held self.old.chain) session →
             OnErr result (IsSessionOf K.Op.same K.Op.meanings self.new.state (C.held self.new.chain) session) }
-        ensures undone { OnOk result (IsUndone self.old.state self.new.state) }
+        ensures undone { OnOk result (IsStepped directions.Undo self.old.state self.new.state) }
         ensures number { IfOk result (λ number. number ≡ self.new.state.graph.number) }
         ensures unchanged { OnErr result (self.new.state ≡ self.old.state) }
         ensures refused { IfErr result (IsRefusedAs by_graph (IsRefusalOf (undo_of self.old.state.graph))) }
@@ -100,7 +101,7 @@ impl<K: OpKit, C: TileChain> OwnedSession<K, C> {
             (after_action K.Op.same K.Op.meanings self.old.state.capacity session (Make Redo))) }
         ensures same { (session : SessionOf Table K.Op) → IsSessionOf K.Op.same K.Op.meanings self.old.state (C.held self.old.chain) session →
             OnErr result (IsSessionOf K.Op.same K.Op.meanings self.new.state (C.held self.new.chain) session) }
-        ensures redone { OnOk result (IsRedone self.old.state self.new.state) }
+        ensures redone { OnOk result (IsStepped directions.Redo self.old.state self.new.state) }
         ensures number { IfOk result (λ number. number ≡ self.new.state.graph.number) }
         ensures unchanged { OnErr result (self.new.state ≡ self.old.state) }
         ensures refused { IfErr result (IsRefusedAs by_graph (IsRefusalOf (redo_of self.old.state.graph))) }

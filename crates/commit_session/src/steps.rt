@@ -1,6 +1,6 @@
 //! Commits, undos and redos.
 
-ghost use Rattle.std.specs.Prelude.{◌≡◌, [], IfErr, IfOk, List, OnErr, OnOk};
+ghost use Rattle.std.specs.Prelude.{◌≡◌, [], IfErr, IfOk, OnErr, OnOk};
 ghost use Rattle.std.specs.Map.{values_of};
 ghost use Rattle.std.specs.Option.{option_map};
 ghost use Rattle.model_buffers.specs.Table.{Table};
@@ -10,6 +10,8 @@ ghost use Rattle.model_states.specs.Cache.{all_voided, by_pair};
 ghost use Rattle.model_states.specs.Commits.{committed as commit_of};
 ghost use Rattle.model_states.specs.History.{committed as committed_history, redone as redone_history, undone as undone_history};
 ghost use Rattle.model_states.specs.Retained.{redone as redo_of, undone as undo_of};
+ghost use Rattle.graph_commits.specs.declared.direction.Direction.TheVariants.{Undo, Redo};
+ghost use Rattle.graph_commits.specs.Directions.{ahead, stepped};
 ghost use Rattle.node_cache.specs.NodeNames.{IsNodeCache, cached_in, sizes_in};
 ghost use Rattle.node_cache.specs.Stores.{AddsNoOther, HaveOneOwner, by_sized};
 ghost use Rattle.graph_edits.specs.Refusals.{IsRefusalOf};
@@ -17,13 +19,13 @@ ghost use Rattle.session_states.specs.OverChains.{Leaves};
 ghost use Rattle.commit_session.specs.Parts.{session_names, working_facts};
 ghost use Rattle.commit_session.specs.Refusals.{IsRefusedAs, by_graph};
 ghost use Rattle.commit_session.specs.Seen.{IsOver, IsSessionOf};
-ghost use Rattle.commit_session.specs.Steps.{IsCommitted, IsRedone, IsSettled, IsUndone, LeadsTo};
+ghost use Rattle.commit_session.specs.Steps.{IsCommitted, IsSettled, IsStepped, LeadsTo, history_step};
 
 use crate::refused::SessionRefused;
 use crate::state::SessionState;
 use crate::voids::void_all;
 use chain_contracts::TileChain;
-use graph_commits::{Damage, Graph};
+use graph_commits::{Damage, Direction, Graph};
 use model_graphs::OpMeaning;
 use op_contracts::OpKit;
 
@@ -87,7 +89,7 @@ impl<Op: OpMeaning + Drop> SessionState<Op> {
     /// is unchanged.
     pub fn undo<C: TileChain>(&mut self, chain: &mut C) -> Result<u64, SessionRefused>
         requires { IsOver Op.same Op.meanings self.old (C.held chain.old) }
-        ensures undone { OnOk result (IsUndone self.old self.new) }
+        ensures undone { OnOk result (IsStepped Undo self.old self.new) }
         ensures number { IfOk result (λ number. number ≡ self.new.graph.number) }
         ensures unchanged { OnErr result (self.new ≡ self.old) }
         ensures session { (session : Session Table Op) → IsSessionOf Op.same Op.meanings self.old (C.held chain.old) session →
@@ -104,21 +106,7 @@ impl<Op: OpMeaning + Drop> SessionState<Op> {
             (record { held = C.held chain.old; counts = C.counts chain.old; loans = C.loans chain.old; valid = C.is_valid chain.old })
             (record { held = C.held chain.new; counts = C.counts chain.new; loans = C.loans chain.new; valid = C.is_valid chain.new }) }
     {
-        if self.versions.undo_count() == 0 {
-            return Err(refused_undo(&mut self.graph));
-        }
-        let shared = self.versions.share_undoable(chain)?;
-        match self.graph.undo() {
-            Ok(damage) => {
-                self.versions.undo(chain, shared);
-                self.settle(chain, &damage);
-                Ok(damage.number)
-            }
-            Err(refused) => {
-                shared.release(chain);
-                Err(SessionRefused::from(refused))
-            }
-        }
+        self.step(chain, Direction::Undo)
     }
 
     /// Goes on to the state that the last undo that is not yet redone left, as [`SessionState::undo`] goes back.
@@ -129,7 +117,7 @@ impl<Op: OpMeaning + Drop> SessionState<Op> {
     /// is unchanged.
     pub fn redo<C: TileChain>(&mut self, chain: &mut C) -> Result<u64, SessionRefused>
         requires { IsOver Op.same Op.meanings self.old (C.held chain.old) }
-        ensures redone { OnOk result (IsRedone self.old self.new) }
+        ensures redone { OnOk result (IsStepped Redo self.old self.new) }
         ensures number { IfOk result (λ number. number ≡ self.new.graph.number) }
         ensures unchanged { OnErr result (self.new ≡ self.old) }
         ensures session { (session : Session Table Op) → IsSessionOf Op.same Op.meanings self.old (C.held chain.old) session →
@@ -146,13 +134,45 @@ impl<Op: OpMeaning + Drop> SessionState<Op> {
             (record { held = C.held chain.old; counts = C.counts chain.old; loans = C.loans chain.old; valid = C.is_valid chain.old })
             (record { held = C.held chain.new; counts = C.counts chain.new; loans = C.loans chain.new; valid = C.is_valid chain.new }) }
     {
-        if self.versions.redo_count() == 0 {
-            return Err(refused_redo(&mut self.graph));
+        self.step(chain, Direction::Redo)
+    }
+
+    /// Goes back or on, by an undo or a redo.
+    ///
+    /// # Errors
+    ///
+    /// `Graph` with `TooManyCommits`, or else with `NothingToUndo` or `NothingToRedo`; and `NoMemory` if memory runs
+    /// out. The session is unchanged.
+    fn step<C: TileChain>(
+        &mut self,
+        chain: &mut C,
+        direction: Direction,
+    ) -> Result<u64, SessionRefused>
+        requires { IsOver Op.same Op.meanings self.old (C.held chain.old) }
+        ensures stepped { OnOk result (IsStepped direction self.old self.new) }
+        ensures number { IfOk result (λ number. number ≡ self.new.graph.number) }
+        ensures unchanged { OnErr result (self.new ≡ self.old) }
+        ensures session { (session : Session Table Op) → IsSessionOf Op.same Op.meanings self.old (C.held chain.old) session →
+            OnOk result (LeadsTo (history_step direction session.history)
+            (λ next. IsSessionOf Op.same Op.meanings self.new (C.held chain.new) (with_state Op.same Op.meanings session next))) }
+        ensures same { (session : Session Table Op) → IsSessionOf Op.same Op.meanings self.old (C.held chain.old) session →
+            OnErr result (IsSessionOf Op.same Op.meanings self.new (C.held chain.new) session) }
+        ensures refused { IfErr result (IsRefusedAs by_graph (IsRefusalOf (stepped direction self.old.graph))) }
+        ensures refused_session { (session : Session Table Op) → IsSessionOf Op.same Op.meanings self.old (C.held chain.old) session →
+            IfErr result (IsRefusedAs by_graph (IsRefusalOf (history_step direction session.history))) }
+        ensures over { IsOver Op.same Op.meanings self.new (C.held chain.new) }
+        ensures other_names { AddsNoOther (C.counts chain.old) (C.counts chain.new) (values_of self.old.entries) (values_of self.new.entries) }
+        ensures left { Leaves 0 (session_names self.old) (session_names self.new)
+            (record { held = C.held chain.old; counts = C.counts chain.old; loans = C.loans chain.old; valid = C.is_valid chain.old })
+            (record { held = C.held chain.new; counts = C.counts chain.new; loans = C.loans chain.new; valid = C.is_valid chain.new }) }
+    {
+        if self.versions.count_ahead(direction) == 0 {
+            return Err(refused_step(&mut self.graph, direction));
         }
-        let shared = self.versions.share_redoable(chain)?;
-        match self.graph.redo() {
+        let shared = self.versions.share_ahead(chain, direction)?;
+        match self.graph.step(direction) {
             Ok(damage) => {
-                self.versions.redo(chain, shared);
+                self.versions.step(chain, direction, shared);
                 self.settle(chain, &damage);
                 Ok(damage.number)
             }
@@ -187,25 +207,13 @@ impl<Op: OpMeaning + Drop> SessionState<Op> {
     }
 }
 
-/// Returns why an undo is refused that has no state to go back to.
-fn refused_undo<Op: OpMeaning + Drop>(graph: &mut Graph<Op>) -> SessionRefused
-    requires { graph.old.undoable ≡ [] }
+/// Returns why a step is refused that has no state to lead to.
+fn refused_step<Op: OpMeaning + Drop>(graph: &mut Graph<Op>, direction: Direction) -> SessionRefused
+    requires { ahead direction graph.old ≡ [] }
     ensures unchanged { graph.new ≡ graph.old }
-    ensures refused { IsRefusedAs by_graph (IsRefusalOf (undo_of graph.old)) result }
+    ensures refused { IsRefusedAs by_graph (IsRefusalOf (stepped direction graph.old)) result }
 {
-    match graph.undo() {
-        Ok(_) => unreachable!(),
-        Err(refused) => SessionRefused::from(refused),
-    }
-}
-
-/// Returns why a redo is refused that has no state to go on to.
-fn refused_redo<Op: OpMeaning + Drop>(graph: &mut Graph<Op>) -> SessionRefused
-    requires { graph.old.redoable ≡ [] }
-    ensures unchanged { graph.new ≡ graph.old }
-    ensures refused { IsRefusedAs by_graph (IsRefusalOf (redo_of graph.old)) result }
-{
-    match graph.redo() {
+    match graph.step(direction) {
         Ok(_) => unreachable!(),
         Err(refused) => SessionRefused::from(refused),
     }

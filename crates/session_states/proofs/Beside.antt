@@ -1,5 +1,5 @@
 -- Tables of buffers that a call on the chain wasn't handed.
-use Rattle.std.proofs.Common.{◌≡◌, ℕ, List, [], ◌∷◌, ◌++◌, refl, arith}
+use Rattle.std.proofs.Common.{◌≡◌, ℕ, ◌+◌, ◌≤◌, List, [], ◌∷◌, ◌++◌, refl, arith}
 use Rattle.std.specs.List.{AllByRecursion}
 use Rattle.chain_owners.specs.Held.{Held}
 use Rattle.chain_owners.specs.Owners.{Owns, Respects, times}
@@ -26,25 +26,24 @@ module _ (P : BufferTable → Type 0) where
 -- ---- a call
 
 module _ (old new : Held) (before after : List ℕ) (respects : Respects old new before after) where
-  owns-first : (b : BufferTable) (rest : List BufferTable) → Owns old (before ++ names_of_all (b ∷ rest)) → Owns old (before ++ buffers_names b)
-  owns-first b rest owns =
-      owns-fewer old (before ++ names_of_all (b ∷ rest)) (before ++ buffers_names b)
+  -- some of the names that are beside
+  owns-some : (b : BufferTable) (rest : List BufferTable) (some : List ℕ) → ((q : ℕ) → times some q ≤ times (buffers_names b) q + times (names_of_all rest) q)
+      → Owns old (before ++ names_of_all (b ∷ rest)) → Owns old (before ++ some)
+  owns-some b rest some fewer owns =
+      owns-fewer old (before ++ names_of_all (b ∷ rest)) (before ++ some)
       (λ q. omega (
         arith,
-        times-append before (buffers_names b) q,
+        fewer q,
+        times-append before some q,
         times-append before (names_of_all (b ∷ rest)) q,
         times-append (buffers_names b) (names_of_all rest) q,
       )) owns
 
+  owns-first : (b : BufferTable) (rest : List BufferTable) → Owns old (before ++ names_of_all (b ∷ rest)) → Owns old (before ++ buffers_names b)
+  owns-first b rest = owns-some b rest (buffers_names b) (λ q. omega arith)
+
   owns-rest : (b : BufferTable) (rest : List BufferTable) → Owns old (before ++ names_of_all (b ∷ rest)) → Owns old (before ++ names_of_all rest)
-  owns-rest b rest owns =
-      owns-fewer old (before ++ names_of_all (b ∷ rest)) (before ++ names_of_all rest)
-      (λ q. omega (
-        arith,
-        times-append before (names_of_all rest) q,
-        times-append before (names_of_all (b ∷ rest)) q,
-        times-append (buffers_names b) (names_of_all rest) q,
-      )) owns
+  owns-rest b rest = owns-some b rest (names_of_all rest) (λ q. omega arith)
 
   pub over-again : (buffers : List BufferTable) → Owns old (before ++ names_of_all buffers) → AreAllOver buffers old → AreAllOver buffers new
   over-again [] owns over = tt

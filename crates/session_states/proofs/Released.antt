@@ -1,24 +1,17 @@
 -- Versions of buffers of which some were released.
 use Rattle.std.proofs.Common.{◌≡◌, ℕ, ◌+◌, List, [], ◌∷◌, ◌++◌, take, sym, ap, subst, ◌∙◌, arith}
 use Rattle.pixel_formats.specs.Limits.{max_undoable}
-use Rattle.chain_owners.specs.Held.{Held}
 use Rattle.chain_owners.specs.Owners.{Owns, times}
 use Rattle.chain_owners.proofs.Ownership.{owns-fewer, times-append}
 use Rattle.root_tiles.specs.Chains.{ChainState}
 use Rattle.buffer_view.specs.BufferTables.{AreBuffersOver, BufferTable, buffers_names, table_of}
-use Rattle.session_states.specs.OverChains.{AreAllOver, AreAllSame, AreVersionsOver, Leaves, names_of_all, tables_of, versions_names}
-use Rattle.session_states.specs.Versions.{Versions, after_commit, after_redo, after_undo, all_versions}
+use Rattle.session_states.specs.OverChains.{AreAllOver, AreAllSame, AreVersionsOver, IsReleased, Leaves, names_of_all, tables_of, versions_names}
+use Rattle.session_states.specs.Versions.{Versions, after_commit, all_versions}
 use Rattle.session_states.proofs.Beside.{all-append, all-first, all-second, over-again, owned-again, same-again}
 use Rattle.session_states.proofs.Names.{leaves-beside, leaves-both, names-append}
 use Rattle.session_states.proofs.Seen.{versions-same}
 
 -- ---- one is released, and the others are kept
-
--- what calls that released some of these names left of the versions
-pub record IsReleased (before : List ℕ) (final : Versions BufferTable) (s0 s1 : ChainState) : Type 0 where
-  pub tables : tables_of final s1.held ≡ tables_of final s0.held
-  pub over : AreVersionsOver final s1.held
-  pub left : Leaves 0 before (versions_names final) s0 s1
 
 module _ (before : List ℕ) (released : BufferTable) (final : Versions BufferTable) (s0 s1 : ChainState)
     (leaves : Leaves 0 (buffers_names released) [] s0 s1) (owned : Owns s0.held before)
@@ -44,63 +37,6 @@ module _ (before : List ℕ) (released : BufferTable) (final : Versions BufferTa
 
   pub one-released : IsReleased before final s0 s1
   one-released = record { tables = released-tables; over = released-over; left = released-left }
-
--- ---- undo and redo
-
-module _ (now : Versions BufferTable) (shared : BufferTable) (rest : List BufferTable) where
-  pub undo-counts : now.undoable ≡ shared ∷ rest → (q : ℕ) →
-      times (buffers_names shared ++ versions_names now) q ≡ times (buffers_names now.working) q + times (versions_names (after_undo now shared rest)) q
-  undo-counts is q =
-      subst (λ (undoable : List BufferTable).
-      times (buffers_names shared ++ names_of_all (now.working ∷ now.latest ∷ (undoable ++ now.redoable))) q
-      ≡ times (buffers_names now.working) q + times (versions_names (after_undo now shared rest)) q) (sym is)
-      (omega (
-        arith,
-        times-append (buffers_names shared) (names_of_all (now.working ∷ now.latest ∷ ((shared ∷ rest) ++ now.redoable))) q,
-        times-append (buffers_names now.working) (names_of_all (now.latest ∷ ((shared ∷ rest) ++ now.redoable))) q,
-        times-append (buffers_names now.latest) (names_of_all ((shared ∷ rest) ++ now.redoable)) q,
-        times-append (buffers_names shared) (names_of_all (rest ++ now.redoable)) q,
-        names-append rest now.redoable q,
-        times-append (buffers_names shared) (names_of_all (shared ∷ (rest ++ (now.latest ∷ now.redoable)))) q,
-        times-append (buffers_names shared) (names_of_all (rest ++ (now.latest ∷ now.redoable))) q,
-        names-append rest (now.latest ∷ now.redoable) q,
-        times-append (buffers_names now.latest) (names_of_all now.redoable) q,
-      ))
-
-  pub redo-counts : now.redoable ≡ shared ∷ rest → (q : ℕ) →
-      times (buffers_names shared ++ versions_names now) q ≡ times (buffers_names now.working) q + times (versions_names (after_redo now shared rest)) q
-  redo-counts is q =
-      subst (λ (redoable : List BufferTable).
-      times (buffers_names shared ++ names_of_all (now.working ∷ now.latest ∷ (now.undoable ++ redoable))) q
-      ≡ times (buffers_names now.working) q + times (versions_names (after_redo now shared rest)) q) (sym is)
-      (omega (
-        arith,
-        times-append (buffers_names shared) (names_of_all (now.working ∷ now.latest ∷ (now.undoable ++ (shared ∷ rest)))) q,
-        times-append (buffers_names now.working) (names_of_all (now.latest ∷ (now.undoable ++ (shared ∷ rest)))) q,
-        times-append (buffers_names now.latest) (names_of_all (now.undoable ++ (shared ∷ rest))) q,
-        names-append now.undoable (shared ∷ rest) q,
-        times-append (buffers_names shared) (names_of_all rest) q,
-        times-append (buffers_names shared) (names_of_all (shared ∷ ((now.latest ∷ now.undoable) ++ rest))) q,
-        times-append (buffers_names shared) (names_of_all ((now.latest ∷ now.undoable) ++ rest)) q,
-        times-append (buffers_names now.latest) (names_of_all (now.undoable ++ rest)) q,
-        names-append now.undoable rest q,
-      ))
-
-  module _ (held : Held) (over : AreAllOver (all_versions now) held) (first : AreBuffersOver shared held) where
-    abbrev P : BufferTable → Type 0
-    P b = AreBuffersOver b held
-
-    pub undo-over : now.undoable ≡ shared ∷ rest → AreAllOver (all_versions (after_undo now shared rest)) held
-    undo-over is =
-        let states = over.1.1 in
-        let back : AreAllOver (shared ∷ rest) held = subst (λ (bs : List BufferTable). AreAllOver bs held) is (all-first P now.undoable now.redoable states) in
-        (first, (first, all-append P rest (now.latest ∷ now.redoable) back.1 (over.1.0, all-second P now.undoable now.redoable states)))
-
-    pub redo-over : now.redoable ≡ shared ∷ rest → AreAllOver (all_versions (after_redo now shared rest)) held
-    redo-over is =
-        let states = over.1.1 in
-        let on : AreAllOver (shared ∷ rest) held = subst (λ (bs : List BufferTable). AreAllOver bs held) is (all-second P now.undoable now.redoable states) in
-        (first, (first, (over.1.0, all-append P now.undoable rest (all-first P now.undoable now.redoable states) on.1)))
 
 -- ---- commit
 

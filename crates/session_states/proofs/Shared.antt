@@ -1,12 +1,17 @@
 -- Buffers that are shared among versions of them.
-use Rattle.std.proofs.Common.{◌≡◌, ℕ, ◌+◌, ◌<◌, List, [], ◌∷◌, ◌++◌, length, drop, get_or, sym, ap, subst, ◌∙◌, arith}
+use Rattle.std.proofs.Common.{◌≡◌, ℕ, ◌+◌, List, [], ◌∷◌, ◌++◌, drop, sym, ap, subst, ◌∙◌, Some, Result, Ok, Err, IfOk, arith}
+use Rattle.std.specs.Prelude.{slice_get}
 use Rattle.std.specs.List.{AllByRecursion}
-use Rattle.chain_owners.specs.Owners.{Owns, times}
+use Rattle.std.specs.Result.{MatchResult}
+use Rattle.chain_owners.specs.Counts.{Grows}
+use Rattle.chain_owners.specs.Owners.{Owns, Respects, times}
 use Rattle.chain_owners.proofs.Ownership.{owns-fewer, times-append}
 use Rattle.root_tiles.specs.Chains.{ChainState}
+use Rattle.graph_commits.specs.declared.direction.Direction.{Direction}
+use Rattle.graph_commits.specs.declared.direction.Direction.TheVariants.{Undo, Redo}
 use Rattle.buffer_view.specs.BufferTables.{AreBuffersOver, BufferTable, buffers_names, table_of}
-use Rattle.session_states.specs.OverChains.{AreAllOver, AreAllSame, AreVersionsOver, Leaves, names_of_all, tables_of, versions_names}
-use Rattle.session_states.specs.Versions.{Versions, all_versions, committed_versions}
+use Rattle.session_states.specs.OverChains.{AreAllOver, AreAllSame, AreShared, AreVersionsOver, IsShared, Leaves, names_of_all, tables_of, versions_names}
+use Rattle.session_states.specs.Versions.{IsOneOf, Versions, all_versions, committed_versions, versions_ahead}
 use Rattle.session_states.proofs.Beside.{all-append, all-first, all-second, over-again, owned-again, same-again}
 use Rattle.session_states.proofs.Names.{leaves-beside, names-append}
 use Rattle.session_states.proofs.Returned.{list-first}
@@ -85,41 +90,20 @@ module _ (now : Versions BufferTable) (xs ys : List BufferTable) (b : BufferTabl
 
 -- ---- one of the versions is shared
 
--- buffers that are among others
-pub record IsOneOf (b : BufferTable) (all : List BufferTable) : Type 0 where
-  pub before : List BufferTable
-  pub after : List BufferTable
-  pub parts : all ≡ before ++ b ∷ after
+pub working-one : (v : Versions BufferTable) (b : BufferTable) → b ≡ v.working → IsOneOf b (all_versions v)
+working-one v b is = record { before = []; after = committed_versions v; parts = ap (λ (x : BufferTable). x ∷ committed_versions v) (sym is) }
 
-module _ (v now : Versions BufferTable) (is : v ≡ now) where
-  pub working-one : IsOneOf v.working (all_versions now)
-  working-one = record { before = []; after = committed_versions v; parts = ap (λ (w : Versions BufferTable). all_versions w) (sym is) }
-
-  module _ (b : BufferTable) where
-    pub undoable-one : 0 < length now.undoable → b ≡ get_or v.undoable 0 b → IsOneOf b (all_versions now)
-    undoable-one some first = record {
-      before = v.working ∷ v.latest ∷ [];
-      after = drop 1 v.undoable ++ v.redoable;
-      parts = ap (λ (w : Versions BufferTable). all_versions w) (sym is)
-          ∙ ap (λ (bs : List BufferTable). v.working ∷ v.latest ∷ (bs ++ v.redoable))
-          (list-first v.undoable b (subst (λ (w : Versions BufferTable). 0 < length w.undoable) (sym is) some) first);
-    }
-
-    pub redoable-one : 0 < length now.redoable → b ≡ get_or v.redoable 0 b → IsOneOf b (all_versions now)
-    redoable-one some first = record {
-      before = v.working ∷ v.latest ∷ v.undoable;
-      after = drop 1 v.redoable;
-      parts = ap (λ (w : Versions BufferTable). all_versions w) (sym is)
-          ∙ ap (λ (bs : List BufferTable). v.working ∷ v.latest ∷ (v.undoable ++ bs))
-          (list-first v.redoable b (subst (λ (w : Versions BufferTable). 0 < length w.redoable) (sym is) some) first);
-    }
-
--- the versions are unchanged, and these names are owned beside theirs
-pub record IsShared (now : Versions BufferTable) (more : List ℕ) (s0 s1 : ChainState) : Type 0 where
-  pub tables : tables_of now s1.held ≡ tables_of now s0.held
-  pub over : AreVersionsOver now s1.held
-  pub owned : Owns s1.held (more ++ versions_names now)
-  pub left : Leaves 0 (versions_names now) (more ++ versions_names now) s0 s1
+pub ahead-one : (direction : Direction) (v : Versions BufferTable) (b : BufferTable) → slice_get (versions_ahead direction v) 0 ≡ Some b → IsOneOf b (all_versions v)
+ahead-one Undo v b there = record {
+  before = v.working ∷ v.latest ∷ [];
+  after = drop 1 v.undoable ++ v.redoable;
+  parts = ap (λ (bs : List BufferTable). v.working ∷ v.latest ∷ (bs ++ v.redoable)) (list-first v.undoable b there);
+}
+ahead-one Redo v b there = record {
+  before = v.working ∷ v.latest ∷ v.undoable;
+  after = drop 1 v.redoable;
+  parts = ap (λ (bs : List BufferTable). v.working ∷ v.latest ∷ (v.undoable ++ bs)) (list-first v.redoable b there);
+}
 
 module _ (now : Versions BufferTable) (b : BufferTable) (one : IsOneOf b (all_versions now)) (s0 : ChainState) (requires : AreVersionsOver now s0.held) where
   pub asked : AreBuffersOver b s0.held
@@ -134,10 +118,13 @@ module _ (now : Versions BufferTable) (b : BufferTable) (one : IsOneOf b (all_ve
       left = shared-left now one.before one.after b one.parts s0 requires s1 after leaves more is;
     }
 
-    pub refused : Leaves 0 (buffers_names b) (buffers_names b) s0 s1 → IsShared now [] s0 s1
-    refused leaves = shared-with (buffers_names b) [] leaves (λ q. omega arith)
-
-    pub given : (shared : BufferTable) → shared ≡ b → Leaves 0 (buffers_names b) (buffers_names b ++ buffers_names b) s0 s1 → IsShared now (buffers_names shared) s0 s1
-    given shared is leaves =
-        shared-with (buffers_names b ++ buffers_names b) (buffers_names shared) leaves
+    -- what one more owner of them leaves of the versions, or a refusal
+    pub shared-as : {E : Type 0} (given : Result BufferTable E) → Grows 0 s0.counts s1.counts → s1.loans ≡ s0.loans → (s0.valid → s1.valid)
+        → MatchResult given (λ shared. Respects s0.held s1.held (buffers_names b) (buffers_names b ++ buffers_names b))
+        (λ refused. Respects s0.held s1.held (buffers_names b) (buffers_names b))
+        → IfOk given (λ shared. shared ≡ b) → AreShared now given s0 s1
+    shared-as {E} (Ok shared) counts loans valid others is =
+        shared-with (buffers_names b ++ buffers_names b) (buffers_names shared) (record { others = others; counts = counts; loans = loans; valid = valid })
         (λ q. times-append (buffers_names b) (buffers_names b) q ∙ ap (λ (x : BufferTable). times (buffers_names b) q + times (buffers_names x) q) (sym is))
+    shared-as {E} (Err refused) counts loans valid others is =
+        shared-with (buffers_names b) [] (record { others = others; counts = counts; loans = loans; valid = valid }) (λ q. omega arith)

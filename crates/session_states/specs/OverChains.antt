@@ -1,5 +1,5 @@
 -- Versions of buffers whose tiles are in one chain.
-use Rattle.std.specs.Prelude.{◌≡◌, ℕ, List, [], ◌∷◌, ◌++◌, None, Option}
+use Rattle.std.specs.Prelude.{◌≡◌, ℕ, List, [], ◌∷◌, ◌++◌, MatchResult, None, Option, Result}
 use Rattle.std.specs.List.{AllByRecursion}
 use Rattle.std.specs.Option.{option_map}
 use Rattle.chain_owners.specs.Counts.{Grows}
@@ -51,6 +51,24 @@ pub record Leaves (added : ℕ) (before after : List ℕ) (old new : ChainState)
   pub counts : Grows added old.counts new.counts
   pub loans : new.loans ≡ old.loans
   pub valid : old.valid → new.valid
+
+-- The versions show what they showed over the chain before, and others of these names that were held are released.
+pub record IsReleased (before : List ℕ) (final : Versions BufferTable) (old new : ChainState) : Type 0 where
+  pub tables : tables_of final new.held ≡ tables_of final old.held
+  pub over : AreVersionsOver final new.held
+  pub left : Leaves 0 before (versions_names final) old new
+
+-- The versions show what they showed, and these names are owned beside theirs.
+pub record IsShared (now : Versions BufferTable) (more : List ℕ) (old new : ChainState) : Type 0 where
+  pub tables : tables_of now new.held ≡ tables_of now old.held
+  pub over : AreVersionsOver now new.held
+  pub owned : Owns new.held (more ++ versions_names now)
+  pub left : Leaves 0 (versions_names now) (more ++ versions_names now) old new
+
+-- Buffers that are given are owned beside the versions, and where none are, nothing more is.
+abbrev pub AreShared : {E : Type 0} → Versions BufferTable → Result BufferTable E → ChainState → ChainState → Type 0
+AreShared now given old new =
+    MatchResult given (λ shared. IsShared now (buffers_names shared) old new) (λ refused. IsShared now [] old new)
 
 -- An edit was carried out on buffers.
 pub record IsEdited (edit : BufferEdit) (before after : BufferTable) (old new : Held) : Type 0 where

@@ -1,6 +1,8 @@
 -- What is edited and what was committed, of whatever type: one value as it is edited, and those of the retained states.
-use Rattle.std.specs.Prelude.{List, [], ◌∷◌, ◌++◌, map, take}
+use Rattle.std.specs.Prelude.{◌≡◌, List, [], ◌∷◌, ◌++◌, map, take}
 use Rattle.pixel_formats.specs.Limits.{max_undoable}
+use Rattle.graph_commits.specs.declared.direction.Direction.{Direction}
+use Rattle.graph_commits.specs.Directions.{by_direction}
 
 -- The value as it is edited, that of the last state, and those of the states that can be undone and redone to, the next
 -- one first.
@@ -31,6 +33,12 @@ map_versions f versions = record {
   redoable = map f versions.redoable;
 }
 
+-- a value that is among some
+pub record IsOneOf {X : Type 0} (x : X) (all : List X) : Type 0 where
+  pub before : List X
+  pub after : List X
+  pub parts : all ≡ before ++ x ∷ after
+
 -- ---- steps
 
 -- The working value is committed: the one before it can be undone to, the oldest is dropped past the largest number, and
@@ -43,20 +51,25 @@ after_commit versions = record {
   redoable = [];
 }
 
--- Back to a state, of which these are left to undo to: what is edited goes.
-abbrev pub after_undo : {X : Type 0} → Versions X → X → List X → Versions X
-after_undo versions back rest = record {
-  working = back;
-  latest = back;
-  undoable = rest;
-  redoable = versions.latest ∷ versions.redoable;
-}
+-- those of the states to which an undo or a redo leads, the next one first
+abbrev pub versions_ahead : {X : Type 0} → Direction → Versions X → List X
+versions_ahead direction versions = by_direction direction versions.undoable versions.redoable
 
--- On to a state, of which these are left to redo to: what is edited goes.
-abbrev pub after_redo : {X : Type 0} → Versions X → X → List X → Versions X
-after_redo versions next rest = record {
+-- those of the states to which the other one leads
+abbrev pub versions_behind : {X : Type 0} → Direction → Versions X → List X
+versions_behind direction versions = by_direction direction versions.redoable versions.undoable
+
+-- An undo or a redo to a state, behind which these are left: what is edited goes.
+abbrev pub versions_after : {X : Type 0} → Direction → Versions X → X → List X → Versions X
+versions_after direction versions next rest = record {
   working = next;
   latest = next;
-  undoable = versions.latest ∷ versions.undoable;
-  redoable = rest;
+  undoable = by_direction direction rest (versions.latest ∷ versions.undoable);
+  redoable = by_direction direction (versions.latest ∷ versions.redoable) rest;
 }
+
+-- The first of those ahead is that of the last state, and the one that was is the first of those behind.
+pub record IsMoved {X : Type 0} (direction : Direction) (old new : Versions X) : Type 0 where
+  pub taken : versions_ahead direction old ≡ new.latest ∷ versions_ahead direction new
+  pub put : versions_behind direction new ≡ old.latest ∷ versions_behind direction old
+  pub working : new.working ≡ old.working

@@ -58,8 +58,7 @@ impl BufferVersions {
             (record { held = C.held chain.old; counts = C.counts chain.old; loans = C.loans chain.old; valid = C.is_valid chain.old })
             (record { held = C.held chain.new; counts = C.counts chain.new; loans = C.loans chain.new; valid = C.is_valid chain.new }) }
     {
-        edit_buffers(&mut self.working, chain, edit, workers)?;
-        Ok(())
+        edit_buffers(&mut self.working, chain, edit, workers)
     }
 
     /// Writes raw bytes over a rectangle of a buffer that is edited, as the edit `Put` does, and returns memory that is
@@ -93,8 +92,7 @@ impl BufferVersions {
             (record { held = C.held chain.old; counts = C.counts chain.old; loans = C.loans chain.old; valid = C.is_valid chain.old })
             (record { held = C.held chain.new; counts = C.counts chain.new; loans = C.loans chain.new; valid = C.is_valid chain.new }) }
     {
-        let left = put_buffers(&mut self.working, chain, name, rect, bytes, workers)?;
-        Ok(left)
+        put_buffers(&mut self.working, chain, name, rect, bytes, workers)
     }
 
     /// Returns a rectangle of a level of the image of a buffer that is edited, under a policy outside the

@@ -1,16 +1,17 @@
 //! Commits, undos and redos of buffers.
 
-ghost use Rattle.std.specs.Prelude.{◌≡◌, ◌<◌, ◌≤◌, ◌+◌, ◌-◌, ◌++◌, ◌∷◌, [], IfOk, List, MatchResult, OnOk, Some, length, slice_get, take};
-ghost use Rattle.std.specs.VecDeque.{deque_capacity};
+ghost use Rattle.std.specs.Prelude.{◌≡◌, ◌<◌, ◌≤◌, ◌+◌, ◌-◌, ◌++◌, ◌∷◌, [], IfOk, List, Some, length, slice_get, take};
+ghost use Rattle.std.specs.VecDeque.{deque_capacity, deque_len};
 ghost use Rattle.chain_owners.specs.Owners.{Owns};
 ghost use Rattle.pixel_formats.specs.Limits.{max_undoable};
 ghost use Rattle.buffer_view.specs.BufferTables.{AreBuffersOver, BufferTable, buffers_names};
-ghost use Rattle.session_states.specs.OverChains.{AreAllOver, AreAllSame, AreVersionsOver, Leaves, names_of_all, tables_of, versions_names};
-ghost use Rattle.session_states.specs.Versions.{after_commit, after_redo, after_undo};
+ghost use Rattle.session_states.specs.OverChains.{AreAllOver, AreAllSame, AreShared, AreVersionsOver, IsReleased, Leaves, names_of_all, versions_names};
+ghost use Rattle.session_states.specs.Versions.{IsMoved, IsOneOf, after_commit, all_versions, versions_after, versions_ahead};
 
 use crate::versions::{BufferVersions, MAX_UNDOABLE};
 use buffer_view::Buffers;
 use chain_contracts::TileChain;
+use graph_commits::Direction;
 use no_memory::NoMemory;
 use std::collections::VecDeque;
 use std::mem;
@@ -25,75 +26,58 @@ impl BufferVersions {
     pub fn share_working<C: TileChain>(&self, chain: &mut C) -> Result<Buffers, NoMemory>
         requires { AreVersionsOver self.now (C.held chain.old) }
         ensures shared { IfOk result (λ shared. shared ≡ self.now.working) }
-        ensures tables { tables_of self.now (C.held chain.new) ≡ tables_of self.now (C.held chain.old) }
-        ensures over { AreVersionsOver self.now (C.held chain.new) }
         ensures shared_over { IfOk result (λ shared. AreBuffersOver shared (C.held chain.new)) }
-        ensures owned { OnOk result
-            (Owns (C.held chain.new) (buffers_names self.now.working ++ versions_names self.now)) }
-        ensures left { MatchResult result
-            (λ shared. Leaves 0 (versions_names self.now) (buffers_names shared ++ versions_names self.now)
+        ensures kept { AreShared self.now result
             (record { held = C.held chain.old; counts = C.counts chain.old; loans = C.loans chain.old; valid = C.is_valid chain.old })
-            (record { held = C.held chain.new; counts = C.counts chain.new; loans = C.loans chain.new; valid = C.is_valid chain.new }))
-            (λ _. Leaves 0 (versions_names self.now) (versions_names self.now)
-            (record { held = C.held chain.old; counts = C.counts chain.old; loans = C.loans chain.old; valid = C.is_valid chain.old })
-            (record { held = C.held chain.new; counts = C.counts chain.new; loans = C.loans chain.new; valid = C.is_valid chain.new })) }
+            (record { held = C.held chain.new; counts = C.counts chain.new; loans = C.loans chain.new; valid = C.is_valid chain.new }) }
     {
-        let shared = self.working.snapshot(chain)?;
-        Ok(shared)
+        self.share(chain, self.working())
     }
 
-    /// Returns buffers that are equal to those of the first state that can be undone to, and owners of the same
-    /// names, for a [`BufferVersions::undo`]. Takes one look at each of their tiles, and copies none.
+    /// Returns buffers that are equal to those of the first state ahead in a direction, and owners of the same names,
+    /// for a [`BufferVersions::step`]. Takes one look at each of their tiles, and copies none.
     ///
     /// # Errors
     ///
     /// `NoMemory` if memory runs out.
-    pub fn share_undoable<C: TileChain>(&self, chain: &mut C) -> Result<Buffers, NoMemory>
+    pub fn share_ahead<C: TileChain>(
+        &self,
+        chain: &mut C,
+        direction: Direction,
+    ) -> Result<Buffers, NoMemory>
         requires over { AreVersionsOver self.now (C.held chain.old) }
-        requires some { 0 < length self.now.undoable }
-        ensures shared { IfOk result (λ shared. slice_get self.now.undoable 0 ≡ Some shared) }
-        ensures tables { tables_of self.now (C.held chain.new) ≡ tables_of self.now (C.held chain.old) }
-        ensures over { AreVersionsOver self.now (C.held chain.new) }
+        requires some { 0 < length (versions_ahead direction self.now) }
+        ensures shared { IfOk result (λ shared. slice_get (versions_ahead direction self.now) 0 ≡ Some shared) }
         ensures shared_over { IfOk result (λ shared. AreBuffersOver shared (C.held chain.new)) }
-        ensures owned { IfOk result (λ shared.
-            Owns (C.held chain.new) (buffers_names shared ++ versions_names self.now)) }
-        ensures left { MatchResult result
-            (λ shared. Leaves 0 (versions_names self.now) (buffers_names shared ++ versions_names self.now)
+        ensures kept { AreShared self.now result
             (record { held = C.held chain.old; counts = C.counts chain.old; loans = C.loans chain.old; valid = C.is_valid chain.old })
-            (record { held = C.held chain.new; counts = C.counts chain.new; loans = C.loans chain.new; valid = C.is_valid chain.new }))
-            (λ _. Leaves 0 (versions_names self.now) (versions_names self.now)
-            (record { held = C.held chain.old; counts = C.counts chain.old; loans = C.loans chain.old; valid = C.is_valid chain.old })
-            (record { held = C.held chain.new; counts = C.counts chain.new; loans = C.loans chain.new; valid = C.is_valid chain.new })) }
+            (record { held = C.held chain.new; counts = C.counts chain.new; loans = C.loans chain.new; valid = C.is_valid chain.new }) }
     {
-        let shared = self.undoable[0].snapshot(chain)?;
-        Ok(shared)
+        self.share(chain, self.first_ahead(direction))
     }
 
-    /// Returns buffers that are equal to those of the first state that can be redone to, and owners of the same
-    /// names, for a [`BufferVersions::redo`]. Takes one look at each of their tiles, and copies none.
-    ///
-    /// # Errors
-    ///
-    /// `NoMemory` if memory runs out.
-    pub fn share_redoable<C: TileChain>(&self, chain: &mut C) -> Result<Buffers, NoMemory>
+    /// Returns buffers that are equal to one of the versions, and owners of the same names.
+    fn share<C: TileChain>(&self, chain: &mut C, buffers: &Buffers) -> Result<Buffers, NoMemory>
         requires over { AreVersionsOver self.now (C.held chain.old) }
-        requires some { 0 < length self.now.redoable }
-        ensures shared { IfOk result (λ shared. slice_get self.now.redoable 0 ≡ Some shared) }
-        ensures tables { tables_of self.now (C.held chain.new) ≡ tables_of self.now (C.held chain.old) }
-        ensures over { AreVersionsOver self.now (C.held chain.new) }
+        requires one { IsOneOf buffers.now (all_versions self.now) }
+        ensures shared { IfOk result (λ shared. shared ≡ buffers.now) }
         ensures shared_over { IfOk result (λ shared. AreBuffersOver shared (C.held chain.new)) }
-        ensures owned { IfOk result (λ shared.
-            Owns (C.held chain.new) (buffers_names shared ++ versions_names self.now)) }
-        ensures left { MatchResult result
-            (λ shared. Leaves 0 (versions_names self.now) (buffers_names shared ++ versions_names self.now)
+        ensures kept { AreShared self.now result
             (record { held = C.held chain.old; counts = C.counts chain.old; loans = C.loans chain.old; valid = C.is_valid chain.old })
-            (record { held = C.held chain.new; counts = C.counts chain.new; loans = C.loans chain.new; valid = C.is_valid chain.new }))
-            (λ _. Leaves 0 (versions_names self.now) (versions_names self.now)
-            (record { held = C.held chain.old; counts = C.counts chain.old; loans = C.loans chain.old; valid = C.is_valid chain.old })
-            (record { held = C.held chain.new; counts = C.counts chain.new; loans = C.loans chain.new; valid = C.is_valid chain.new })) }
+            (record { held = C.held chain.new; counts = C.counts chain.new; loans = C.loans chain.new; valid = C.is_valid chain.new }) }
     {
-        let shared = self.redoable[0].snapshot(chain)?;
-        Ok(shared)
+        buffers.snapshot(chain)
+    }
+
+    /// Returns the buffers of the first state ahead in a direction.
+    fn first_ahead(&self, direction: Direction) -> &Buffers
+        requires { 0 < length (versions_ahead direction self.now) }
+        ensures { slice_get (versions_ahead direction self.now) 0 ≡ Some result.now }
+    {
+        match direction {
+            Direction::Undo => &self.undoable[0],
+            Direction::Redo => &self.redoable[0],
+        }
     }
 
     /// Commits the buffers that are edited, of which `shared` are equal ones: they become those of the last
@@ -104,9 +88,7 @@ impl BufferVersions {
         requires shared_over { AreBuffersOver shared (C.held chain.old) }
         requires owned { Owns (C.held chain.old) (buffers_names shared ++ versions_names self.old) }
         ensures committed { self.new ≡ after_commit self.old }
-        ensures tables { tables_of self.new (C.held chain.new) ≡ tables_of self.new (C.held chain.old) }
-        ensures over { AreVersionsOver self.new (C.held chain.new) }
-        ensures left { Leaves 0 (buffers_names shared ++ versions_names self.old) (versions_names self.new)
+        ensures released { IsReleased (buffers_names shared ++ versions_names self.old) self.new
             (record { held = C.held chain.old; counts = C.counts chain.old; loans = C.loans chain.old; valid = C.is_valid chain.old })
             (record { held = C.held chain.new; counts = C.counts chain.new; loans = C.loans chain.new; valid = C.is_valid chain.new }) }
     {
@@ -116,49 +98,49 @@ impl BufferVersions {
         release_all(&mut self.redoable, chain);
     }
 
-    /// Goes back to the first state that can be undone to, of whose buffers `shared` are equal ones, to be
+    /// Goes back or on to the first state ahead in a direction, of whose buffers `shared` are equal ones, to be
     /// edited from then on. The buffers that were edited are released. Takes no memory.
-    pub fn undo<C: TileChain>(&mut self, chain: &mut C, shared: Buffers)
+    pub fn step<C: TileChain>(&mut self, chain: &mut C, direction: Direction, shared: Buffers)
         requires over { AreVersionsOver self.old (C.held chain.old) }
-        requires shared { slice_get self.old.undoable 0 ≡ Some shared }
+        requires shared { slice_get (versions_ahead direction self.old) 0 ≡ Some shared }
         requires shared_over { AreBuffersOver shared (C.held chain.old) }
         requires owned { Owns (C.held chain.old) (buffers_names shared ++ versions_names self.old) }
-        ensures undone { (rest : List BufferTable) → self.old.undoable ≡ shared ∷ rest →
-            self.new ≡ after_undo self.old shared rest }
-        ensures tables { tables_of self.new (C.held chain.new) ≡ tables_of self.new (C.held chain.old) }
-        ensures over { AreVersionsOver self.new (C.held chain.new) }
-        ensures left { Leaves 0 (buffers_names shared ++ versions_names self.old) (versions_names self.new)
+        ensures stepped { (rest : List BufferTable) → versions_ahead direction self.old ≡ shared ∷ rest →
+            self.new ≡ versions_after direction self.old shared rest }
+        ensures released { IsReleased (buffers_names shared ++ versions_names self.old) self.new
             (record { held = C.held chain.old; counts = C.counts chain.old; loans = C.loans chain.old; valid = C.is_valid chain.old })
             (record { held = C.held chain.new; counts = C.counts chain.new; loans = C.loans chain.new; valid = C.is_valid chain.new }) }
     {
-        let first = self.undoable.pop_front().unwrap();
-        let left = mem::replace(&mut self.latest, first);
-        self.redoable.push_front_reserved(left);
+        self.move_latest(direction);
         let edited = mem::replace(&mut self.working, shared);
         edited.release(chain);
     }
 
-    /// Goes on to the first state that can be redone to, of whose buffers `shared` are equal ones, to be
-    /// edited from then on. The buffers that were edited are released. Takes no memory.
-    pub fn redo<C: TileChain>(&mut self, chain: &mut C, shared: Buffers)
-        requires over { AreVersionsOver self.old (C.held chain.old) }
-        requires shared { slice_get self.old.redoable 0 ≡ Some shared }
-        requires shared_over { AreBuffersOver shared (C.held chain.old) }
-        requires owned { Owns (C.held chain.old) (buffers_names shared ++ versions_names self.old) }
-        ensures redone { (rest : List BufferTable) → self.old.redoable ≡ shared ∷ rest →
-            self.new ≡ after_redo self.old shared rest }
-        ensures tables { tables_of self.new (C.held chain.new) ≡ tables_of self.new (C.held chain.old) }
-        ensures over { AreVersionsOver self.new (C.held chain.new) }
-        ensures left { Leaves 0 (buffers_names shared ++ versions_names self.old) (versions_names self.new)
-            (record { held = C.held chain.old; counts = C.counts chain.old; loans = C.loans chain.old; valid = C.is_valid chain.old })
-            (record { held = C.held chain.new; counts = C.counts chain.new; loans = C.loans chain.new; valid = C.is_valid chain.new }) }
+    /// Makes the first state ahead in a direction, which is there, the last one. What is edited is unchanged.
+    fn move_latest(&mut self, direction: Direction)
+        requires { 0 < length (versions_ahead direction self.old) }
+        ensures { IsMoved direction self.old self.new }
     {
-        let first = self.redoable.pop_front().unwrap();
-        let left = mem::replace(&mut self.latest, first);
-        self.undoable.push_front_reserved(left);
-        let edited = mem::replace(&mut self.working, shared);
-        edited.release(chain);
+        match direction {
+            Direction::Undo => move_first(&mut self.undoable, &mut self.redoable, &mut self.latest),
+            Direction::Redo => move_first(&mut self.redoable, &mut self.undoable, &mut self.latest),
+        }
     }
+}
+
+/// Makes the first of the buffers ahead, which are there, those of the last state, and puts those that were before the
+/// ones behind. Takes no memory.
+fn move_first(ahead: &mut VecDeque<Buffers>, behind: &mut VecDeque<Buffers>, latest: &mut Buffers)
+    requires some { 0 < length ahead.old.items }
+    requires room { deque_len behind.old < deque_capacity behind.old }
+    ensures taken { ahead.old.items ≡ latest.new ∷ ahead.new.items }
+    ensures put { behind.new.items ≡ latest.old ∷ behind.old.items }
+    ensures ahead_capacity { deque_capacity ahead.new ≡ deque_capacity ahead.old }
+    ensures behind_capacity { deque_capacity behind.new ≡ deque_capacity behind.old }
+{
+    let first = ahead.pop_front().unwrap();
+    let left = mem::replace(latest, first);
+    behind.push_front_reserved(left);
 }
 
 /// Releases the last of some buffers where they are more than the states that can be undone to, which are one

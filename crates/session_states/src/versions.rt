@@ -4,9 +4,10 @@ ghost use Rattle.std.specs.Prelude.{◌≡◌, IfOk, length};
 ghost use Rattle.chain_owners.specs.Held.{Held};
 ghost use Rattle.buffer_view.specs.BufferTables.{empty_table};
 ghost use Rattle.session_states.specs.OverChains.{AreVersionsOver};
-ghost use Rattle.session_states.specs.Versions.{new_versions};
+ghost use Rattle.session_states.specs.Versions.{new_versions, versions_ahead};
 
 use buffer_view::{Buffers, no_buffers_ask_nothing};
+use graph_commits::Direction;
 use no_memory::NoMemory;
 use std::alloc::Global;
 use std::collections::VecDeque;
@@ -79,17 +80,13 @@ impl BufferVersions {
         &self.latest
     }
 
-    /// Returns how many states can be undone to.
-    pub fn undo_count(&self) -> usize
-        ensures { result ≡ length self.now.undoable }
+    /// Returns how many states are ahead in a direction.
+    pub fn count_ahead(&self, direction: Direction) -> usize
+        ensures { result ≡ length (versions_ahead direction self.now) }
     {
-        self.undoable.len()
-    }
-
-    /// Returns how many states can be redone to.
-    pub fn redo_count(&self) -> usize
-        ensures { result ≡ length self.now.redoable }
-    {
-        self.redoable.len()
+        match direction {
+            Direction::Undo => self.undoable.len(),
+            Direction::Redo => self.redoable.len(),
+        }
     }
 }

@@ -1,35 +1,27 @@
-use Rattle.std.proofs.Common.{rules, sym, subst, IfOk}
+use Rattle.std.proofs.Common.{rules, sym, subst}
 use Rattle.model_buffers.specs.declared.edit.BufferEdit.{BufferEdit}
 use Rattle.model_buffers.specs.Counts.{tiles_added}
 use Rattle.root_tiles.specs.Chains.{ChainState}
 use Rattle.buffer_view.specs.BufferTables.{buffers_names}
-use Rattle.session_states.specs.OverChains.{IsEdited, Leaves}
-use Rattle.session_states.proofs.Returned.{err-record, ok-record}
+use Rattle.session_states.specs.OverChains.{Leaves}
+use Rattle.session_states.proofs.Edited.{edited-by, shown-by}
 use Rattle.session_states.proofs.edits.edit_buffers.Goals as goal
 
 pub returns-in-Create-clause-edited : goal.returns-in-Create-clause-edited
 returns-in-Create-clause-edited g c =
-    let held = g.C.ChainMeaning.held c.args.chain.now in
-    subst (λ (e : BufferEdit). IfOk c.create.result (λ x. IsEdited e c.args.buffers.now c.create.new.self held held)) (sym c.in-Create.is)
-    (ok-record c.create.result _ _ _ _ _ _ c.create.ensures.layout (c.create.ensures.table held) c.create.ensures.carried_out
-    (λ layout table none. record { carried_out = none; layout = layout; table = table }))
+    edited-by _ _ _ _ _ c.create.result c.in-Create.is c.create.ensures.layout (c.create.ensures.table (g.C.ChainMeaning.held c.args.chain.now)) c.create.ensures.carried_out
 
 pub returns-in-Create-clause-unchanged : goal.returns-in-Create-clause-unchanged
 returns-in-Create-clause-unchanged g c =
-    err-record c.create.result _ _ _ _ _ c.create.ensures.layout (c.create.ensures.table (g.C.ChainMeaning.held c.args.chain.now))
-    (λ layout table. record { layout = layout; table = table })
+    shown-by _ _ _ _ _ c.create.result c.create.ensures.layout (c.create.ensures.table (g.C.ChainMeaning.held c.args.chain.now))
 
 pub returns-in-Sub-clause-edited : goal.returns-in-Sub-clause-edited
 returns-in-Sub-clause-edited g c =
-    let held = g.C.ChainMeaning.held c.args.chain.now in
-    subst (λ (e : BufferEdit). IfOk c.sub.result (λ x. IsEdited e c.args.buffers.now c.sub.new.self held held)) (sym c.in-Sub.is)
-    (ok-record c.sub.result _ _ _ _ _ _ c.sub.ensures.layout (c.sub.ensures.table held) c.sub.ensures.carried_out
-    (λ layout table none. record { carried_out = none; layout = layout; table = table }))
+    edited-by _ _ _ _ _ c.sub.result c.in-Sub.is c.sub.ensures.layout (c.sub.ensures.table (g.C.ChainMeaning.held c.args.chain.now)) c.sub.ensures.carried_out
 
 pub returns-in-Sub-clause-unchanged : goal.returns-in-Sub-clause-unchanged
 returns-in-Sub-clause-unchanged g c =
-    err-record c.sub.result _ _ _ _ _ c.sub.ensures.layout (c.sub.ensures.table (g.C.ChainMeaning.held c.args.chain.now))
-    (λ layout table. record { layout = layout; table = table })
+    shown-by _ _ _ _ _ c.sub.result c.sub.ensures.layout (c.sub.ensures.table (g.C.ChainMeaning.held c.args.chain.now))
 
 pub returns-in-Copy-clause-left : goal.returns-in-Copy-clause-left
 returns-in-Copy-clause-left g c =

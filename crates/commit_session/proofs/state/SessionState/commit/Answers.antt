@@ -1,13 +1,11 @@
-use Rattle.std.proofs.Common.{◌≡◌, ◌++◌, sym, ap, subst, ◌∙◌}
+use Rattle.std.proofs.Common.{◌≡◌, sym, ap, subst, ◌∙◌}
 use Rattle.root_tiles.specs.Chains.{ChainState}
 use Rattle.model_graphs.specs.Facts.{rectangles_of}
 use Rattle.model_graphs.specs.Laws.{KeepsLaws}
 use Rattle.model_states.specs.Commits.{committed}
 use Rattle.model_states.specs.History as history
 use Rattle.model_sessions.specs.Tables.{table_shapes}
-use Rattle.session_states.specs.OverChains.{AreVersionsOver, versions_names}
-use Rattle.buffer_view.specs.BufferTables.{BufferTable, buffers_names}
-use Rattle.chain_owners.specs.Owners.{Owns}
+use Rattle.session_states.specs.OverChains.{AreVersionsOver}
 use Rattle.graph_edits.specs.Refusals.{IsRefusalOf}
 use Rattle.commit_session.specs.Parts.{Parts, working_facts}
 use Rattle.commit_session.specs.Refusals.{IsRefusedAs, by_graph}
@@ -15,7 +13,7 @@ use Rattle.commit_session.specs.Steps.{IsCommitted}
 use Rattle.commit_session.proofs.CommitStep.{commit-refused-too}
 use Rattle.commit_session.proofs.Still.{commit-here, working-still}
 use Rattle.commit_session.proofs.Changed.{on-err, versions-over}
-use Rattle.commit_session.proofs.Done.{IsStepped, commit-both-made, ready}
+use Rattle.commit_session.proofs.Done.{IsMade, commit-both-made, ready}
 use Rattle.commit_session.proofs.Kept.{IsKept, kept, over-here, refused-too, regraphed, unshared}
 use Rattle.commit_session.proofs.state.SessionState.commit.Given
 use Rattle.commit_session.proofs.state.SessionState.commit.Goals.{After-deref-2}
@@ -33,15 +31,14 @@ module _ (g : Given.Over) where
   unshared_still : (c : goal.After-from_residual g) → IsKept g.Op.OpMeaning.same g.Op.OpMeaning.meanings 0 c.args.self.now c.args.self.now (state c.args.chain.now) (state c.share_working.new.chain)
   unshared_still c =
       kept g.Op.OpMeaning.same g.Op.OpMeaning.meanings _ c.args.self.now c.self.view_is (state c.args.chain.now) (state c.share_working.new.chain) c.requires
-      c.in_err-shared.ensures.left c.share_working.ensures.tables c.share_working.ensures.over
+      c.in_err-shared.ensures.kept
 
   -- ---- the graph refused
 
   refused_still : (c : goal.After-from g) → IsKept g.Op.OpMeaning.same g.Op.OpMeaning.meanings 0 c.args.self.now (record c.args.self.now { graph = c.commit.new.self }) (state c.args.chain.now) (state c.release.new.chain)
   refused_still c =
       unshared g.Op.OpMeaning.same g.Op.OpMeaning.meanings _ c.args.self.now c.self.view_is (state c.args.chain.now) (state c.release.new.chain) c.requires c.in_ok-shared.shared (state c.share_working.new.chain)
-      c.in_ok-shared.ensures.left c.share_working.ensures.tables c.share_working.ensures.over
-      (subst (λ (b : BufferTable). Owns (g.C.ChainMeaning.held c.share_working.new.chain) (buffers_names b ++ versions_names c.self.inside.versions)) (sym c.in_ok-shared.ensures.shared) c.in_ok-shared.ensures.owned)
+      c.in_ok-shared.ensures.kept
       (record { others = c.release.ensures.others; counts = c.release.ensures.counts; loans = c.release.ensures.loans; valid = c.release.ensures.valid })
       c.commit.new.self c.in-Err.ensures.unchanged
 
@@ -64,17 +61,14 @@ module _ (g : Given.Over) where
   module _ (c : goal.After-drop-damage g)
       (is : committed g.Op.OpMeaning.same g.Op.OpMeaning.meanings c.self.inside.graph c.deref.result.now c.facts-facts.result.now (rectangles_of c.deref-2.result.now)
       ≡ committed g.Op.OpMeaning.same g.Op.OpMeaning.meanings c.args.self.now.graph c.args.self.now.pending (working_facts c.args.self.now) c.args.self.now.written) where
-    step : IsStepped g.Op.OpMeaning.same g.Op.OpMeaning.meanings c.args.self.now c.settle.new.self (history.committed g.Op.OpMeaning.meanings table_shapes) (state c.args.chain.now) (state c.settle.new.chain)
+    step : IsMade g.Op.OpMeaning.same g.Op.OpMeaning.meanings c.args.self.now c.settle.new.self (history.committed g.Op.OpMeaning.meanings table_shapes) (state c.args.chain.now) (state c.settle.new.chain)
         × IsCommitted g.Op.OpMeaning.same g.Op.OpMeaning.meanings c.args.self.now c.settle.new.self
     step =
         commit-both-made g.Op.OpMeaning.same g.Op.OpMeaning.meanings _ c.args.self.now c.self.view_is (state c.args.chain.now) (state c.share_working.new.chain) (state c.commit-in-Ok.new.chain) c.requires
         c.commit-in-Ok.new.self _ (state c.settle.new.chain) c.settle.new.self c.commit.new.self c.in-Ok.damage.rects
         (record {
-          shared = c.in_ok-shared.ensures.left;
-          shared_tables = c.share_working.ensures.tables;
-          put = c.commit-in-Ok.ensures.left;
-          put_tables = c.commit-in-Ok.ensures.tables;
-          put_over = c.commit-in-Ok.ensures.over;
+          shared = c.in_ok-shared.ensures.kept;
+          put = c.commit-in-Ok.ensures.released;
           settled = c.settle.ensures.settled;
           versions_are = c.settle.ensures.versions;
           graph_is = c.settle.ensures.graph;
@@ -100,12 +94,12 @@ returns-in_err-shared-clause-left g c = (unshared_still g c).left
 pub settle-requires-clause-cache : goal.settle-requires-clause-cache
 settle-requires-clause-cache g c =
     (ready g.Op.OpMeaning.same g.Op.OpMeaning.meanings _ c.args.self.now c.self.view_is (state g c.args.chain.now) (state g c.share_working.new.chain) (state g c.commit-in-Ok.new.chain) c.requires
-    c.commit-in-Ok.new.self _ c.in_ok-shared.ensures.left c.commit-in-Ok.ensures.left).cache
+    c.commit-in-Ok.new.self _ c.in_ok-shared.ensures.kept c.commit-in-Ok.ensures.released).cache
 
 pub settle-requires-clause-alone : goal.settle-requires-clause-alone
 settle-requires-clause-alone g c =
     (ready g.Op.OpMeaning.same g.Op.OpMeaning.meanings _ c.args.self.now c.self.view_is (state g c.args.chain.now) (state g c.share_working.new.chain) (state g c.commit-in-Ok.new.chain) c.requires
-    c.commit-in-Ok.new.self _ c.in_ok-shared.ensures.left c.commit-in-Ok.ensures.left).alone
+    c.commit-in-Ok.new.self _ c.in_ok-shared.ensures.kept c.commit-in-Ok.ensures.released).alone
 
 pub returns-in-Ok-clause-committed : goal.returns-in-Ok-clause-committed
 returns-in-Ok-clause-committed g c = (step g c (commit_is g (goal.at.returns-in-Ok-clause-committed g c).After-deref-2)).1

@@ -4,9 +4,9 @@ use Rattle.pixel_formats.specs.Limits.{max_undoable}
 use Rattle.chain_owners.specs.Owners.{Owns}
 use Rattle.root_tiles.specs.Chains.{ChainState}
 use Rattle.buffer_view.specs.BufferTables.{BufferTable, buffers_names}
-use Rattle.session_states.specs.OverChains.{AreAllOver, AreAllSame, Leaves, names_of_all, versions_names}
+use Rattle.session_states.specs.OverChains.{AreAllOver, AreAllSame, IsReleased, Leaves, names_of_all, versions_names}
 use Rattle.session_states.specs.Versions.{Versions, after_commit}
-use Rattle.session_states.proofs.Released.{IsCut, IsReleased, committed, past-over, past-owned, redo-handed, redo-owned}
+use Rattle.session_states.proofs.Released.{IsCut, committed, past-over, past-owned, redo-handed, redo-owned}
 use Rattle.session_states.proofs.Returned.{committed-is, four, pushed-is}
 use Rattle.session_states.proofs.versions.BufferVersions.commit.Given
 use Rattle.session_states.proofs.versions.BufferVersions.commit.Goals.{After-push_front_reserved, After-release_past, After-release_all}
@@ -102,14 +102,9 @@ release_all-requires-clause-owned g c =
 pub returns-clause-committed : goal.returns-clause-committed
 returns-clause-committed g c = final g (goal.at.returns-clause-committed g c).After-release_all
 
-pub returns-clause-tables : goal.returns-clause-tables
-returns-clause-tables g c = let at = goal.at.returns-clause-tables g c in (done g at.After-release_all (cut g at.After-release_past (pushed g at.After-push_front_reserved))).tables
-
-pub returns-clause-over : goal.returns-clause-over
-returns-clause-over g c = let at = goal.at.returns-clause-over g c in (done g at.After-release_all (cut g at.After-release_past (pushed g at.After-push_front_reserved))).over
-
-pub returns-clause-left : goal.returns-clause-left
-returns-clause-left g c = let at = goal.at.returns-clause-left g c in (done g at.After-release_all (cut g at.After-release_past (pushed g at.After-push_front_reserved))).left
+pub returns-clause-released : goal.returns-clause-released
+returns-clause-released g c =
+    let at = goal.at.returns-clause-released g c in done g at.After-release_all (cut g at.After-release_past (pushed g at.After-push_front_reserved))
 
 pub invariant_of-self : goal.invariant_of-self
 invariant_of-self g c =

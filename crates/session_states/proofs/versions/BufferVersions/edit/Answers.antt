@@ -17,15 +17,6 @@ module _ (g : Given.Over) where
         worked-on _ c.args.self.now c.self.view_is c.edit_buffers.new.buffers (tiles_added c.args.edit.now) (state c.args.chain.now) (state c.edit_buffers.new.chain)
         c.edit_buffers.ensures.left c.requires.over c.edit_buffers.ensures.over
 
-pub returns-in_err-edit_buffers-clause-tables : goal.returns-in_err-edit_buffers-clause-tables
-returns-in_err-edit_buffers-clause-tables g c = (done g (goal.at.returns-in_err-edit_buffers-clause-tables g c).After-edit_buffers).tables
-
-pub returns-in_err-edit_buffers-clause-over : goal.returns-in_err-edit_buffers-clause-over
-returns-in_err-edit_buffers-clause-over g c = (done g (goal.at.returns-in_err-edit_buffers-clause-over g c).After-edit_buffers).over
-
-pub returns-in_err-edit_buffers-clause-left : goal.returns-in_err-edit_buffers-clause-left
-returns-in_err-edit_buffers-clause-left g c = (done g (goal.at.returns-in_err-edit_buffers-clause-left g c).After-edit_buffers).left
-
 pub returns-clause-tables : goal.returns-clause-tables
 returns-clause-tables g c = (done g (goal.at.returns-clause-tables g c).After-edit_buffers).tables
 

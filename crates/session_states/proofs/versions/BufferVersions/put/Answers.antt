@@ -18,15 +18,6 @@ module _ (g : Given.Over) where
         worked-on _ c.args.self.now c.self.view_is c.put_buffers.new.buffers (tiles_added (Put c.args.name c.args.rect c.args.bytes.items)) (state c.args.chain.now)
         (state c.put_buffers.new.chain) c.put_buffers.ensures.left c.requires.over c.put_buffers.ensures.over
 
-pub returns-in_err-left-clause-tables : goal.returns-in_err-left-clause-tables
-returns-in_err-left-clause-tables g c = (done g (goal.at.returns-in_err-left-clause-tables g c).After-put_buffers).tables
-
-pub returns-in_err-left-clause-over : goal.returns-in_err-left-clause-over
-returns-in_err-left-clause-over g c = (done g (goal.at.returns-in_err-left-clause-over g c).After-put_buffers).over
-
-pub returns-in_err-left-clause-left : goal.returns-in_err-left-clause-left
-returns-in_err-left-clause-left g c = (done g (goal.at.returns-in_err-left-clause-left g c).After-put_buffers).left
-
 pub returns-clause-tables : goal.returns-clause-tables
 returns-clause-tables g c = (done g (goal.at.returns-clause-tables g c).After-put_buffers).tables
 
