@@ -1,6 +1,7 @@
 //! What files must hold.
 
-use std::alloc::{AllocError, Global};
+use std::alloc::Global;
+use std::process::Abort;
 
 /// How many equal rows follow one another, and the runs of equal bytes that each is: how many, and of which.
 pub type Band = (usize, &'static [(usize, u8)]);
@@ -18,47 +19,63 @@ pub enum Content {
     Hashed(usize, u64),
 }
 
+/// How much of a file is there.
+#[derive(Clone, Copy)]
+pub enum Kept {
+    /// There is no such file.
+    Nothing,
+    /// The first half of its bytes, rounded down.
+    Half,
+    /// Some of its first bytes, or there is no such file.
+    Beginning,
+    /// All of its bytes.
+    Whole,
+}
+
 impl Content {
+    /// Returns whether so much of this is there. Of a hash, only the whole is known.
+    pub fn is(&self, rt: &impl Abort, alloc: Global, file: Option<&[u8]>, kept: Kept) -> bool {
+        match (kept, file) {
+            (Kept::Nothing, found) => found.is_none(),
+            (Kept::Whole, found) => self.is_whole(rt, alloc, found),
+            (Kept::Beginning, None) => true,
+            (Kept::Half, None) => false,
+            (Kept::Beginning, Some(found)) => self.begins(rt, alloc, found).is_some(),
+            (Kept::Half, Some(found)) => match self.begins(rt, alloc, found) {
+                Some(count) => found.len() == count / 2,
+                None => false,
+            },
+        }
+    }
+
     /// Returns whether a file holds this.
-    ///
-    /// # Errors
-    ///
-    /// `AllocError` if memory runs out.
-    pub fn is(&self, alloc: Global, file: Option<&[u8]>) -> Result<bool, AllocError> {
+    fn is_whole(&self, rt: &impl Abort, alloc: Global, file: Option<&[u8]>) -> bool {
         match (self, file) {
-            (Content::Absent, found) => Ok(found.is_none()),
-            (_, None) => Ok(false),
-            (Content::Bytes(wanted), Some(found)) => Ok(found == *wanted),
-            (Content::Bands(bands), Some(found)) => {
-                let wanted = bytes_of(alloc, bands)?;
-                Ok(found == wanted.as_slice())
-            }
+            (Content::Absent, found) => found.is_none(),
+            (_, None) => false,
             (Content::Hashed(count, wanted), Some(found)) => {
-                Ok(found.len() == *count && hash_of(found) == *wanted)
+                found.len() == *count && hash_of(found) == *wanted
             }
+            (_, Some(found)) => self.begins(rt, alloc, found) == Some(found.len()),
         }
     }
 
-    /// Returns whether there is no file, or one that begins this, where the bytes are known.
-    ///
-    /// # Errors
-    ///
-    /// `AllocError` if memory runs out.
-    pub fn is_begun(&self, alloc: Global, file: Option<&[u8]>) -> Result<bool, AllocError> {
-        match (self, file) {
-            (_, None) => Ok(true),
-            (Content::Bytes(wanted), Some(found)) => Ok(wanted.starts_with(found)),
-            (Content::Bands(bands), Some(found)) => Ok(bytes_of(alloc, bands)?.starts_with(found)),
-            _ => Ok(false),
+    /// Returns how many bytes this has, where they are known and begin with those that were found.
+    fn begins(&self, rt: &impl Abort, alloc: Global, found: &[u8]) -> Option<usize> {
+        match self {
+            Content::Bytes(wanted) => begun(wanted, found),
+            Content::Bands(bands) => begun(&bytes_of(rt, alloc, bands), found),
+            _ => None,
         }
     }
+}
 
-    /// Returns whether a file holds the first half of this, rounded down.
-    pub fn is_half(&self, file: Option<&[u8]>) -> bool {
-        match (self, file) {
-            (Content::Bytes(wanted), Some(found)) => found == &wanted[..wanted.len() / 2],
-            _ => false,
-        }
+/// Returns how many bytes there are, where they begin with those that were found.
+fn begun(wanted: &[u8], found: &[u8]) -> Option<usize> {
+    if wanted.starts_with(found) {
+        Some(wanted.len())
+    } else {
+        None
     }
 }
 
@@ -71,31 +88,29 @@ fn hash_of(bytes: &[u8]) -> u64 {
     hash
 }
 
-fn bytes_of(alloc: Global, bands: &[Band]) -> Result<Vec<u8>, AllocError> {
+/// Returns the bytes of rows.
+fn bytes_of(rt: &impl Abort, alloc: Global, bands: &[Band]) -> Vec<u8> {
     let mut bytes = Vec::new(alloc);
     for band in bands {
-        push_band(&mut bytes, band)?;
+        push_band(rt, &mut bytes, band);
     }
-    Ok(bytes)
+    bytes
 }
 
-fn push_band(bytes: &mut Vec<u8>, band: &Band) -> Result<(), AllocError> {
+fn push_band(rt: &impl Abort, bytes: &mut Vec<u8>, band: &Band) {
     for _row in 0..band.0 {
-        push_row(bytes, band.1)?;
+        push_row(rt, bytes, band.1);
     }
-    Ok(())
 }
 
-fn push_row(bytes: &mut Vec<u8>, runs: &[(usize, u8)]) -> Result<(), AllocError> {
+fn push_row(rt: &impl Abort, bytes: &mut Vec<u8>, runs: &[(usize, u8)]) {
     for (count, byte) in runs {
-        push_run(bytes, *count, *byte)?;
+        push_run(rt, bytes, *count, *byte);
     }
-    Ok(())
 }
 
-fn push_run(bytes: &mut Vec<u8>, count: usize, byte: u8) -> Result<(), AllocError> {
+fn push_run(rt: &impl Abort, bytes: &mut Vec<u8>, count: usize, byte: u8) {
     for _index in 0..count {
-        bytes.push(byte)?;
+        bytes.push(byte).expect(rt, "memory");
     }
-    Ok(())
 }

@@ -1,10 +1,9 @@
 //! A job of usual size.
 
-use crate::cases::{Devices, PLAIN, SOUND, run_over, shelf_of};
-use crate::contents::Content;
-use std::alloc::{AllocError, Global};
+use crate::contents::{Content, Kept};
+use crate::runs::{Devices, PLAIN, SOUND, check_run};
+use std::alloc::Global;
 use std::process::Abort;
-use std::test::Fail;
 use std::thread::Threads;
 
 /// A photograph is cropped, made brighter and softer, and composited under its caption.
@@ -25,7 +24,7 @@ const SCRIPT: &[u8] = b"# caption a photograph\n\
     render o 0 16 16 992 736 out.raw\n\
     render o 2 4 4 248 184 small.raw\n";
 
-const TEXT: &[u8] = b"render 15 commit 1 bytes 2920448\n\
+const TEXT: &str = "render 15 commit 1 bytes 2920448\n\
     render 16 commit 1 bytes 182528\n\
     report applied 974 reused 2382\n";
 
@@ -48,14 +47,14 @@ const LINES: [&str; 8] = [
 ];
 
 /// Returns so many bytes that look random: the highest ones of x → 1664525 x + 1013904223 mod 2^32.
-fn noise(alloc: Global, seed: u32, count: u32) -> Result<Vec<u8>, AllocError> {
+fn noise(rt: &impl Abort, alloc: Global, seed: u32, count: u32) -> Vec<u8> {
     let mut bytes = Vec::new(alloc);
     let mut state = seed;
     for _index in 0..count {
         state = state.wrapping_mul(1_664_525).wrapping_add(1_013_904_223);
-        bytes.push((state >> 24) as u8)?;
+        bytes.push((state >> 24) as u8).expect(rt, "memory");
     }
-    Ok(bytes)
+    bytes
 }
 
 /// Runs a line over the photograph and its caption, and checks text and files.
@@ -64,37 +63,35 @@ fn check_photograph(
     alloc: Global,
     line: &str,
     devices: Devices,
-) -> Result<(), Fail> {
-    let photo = noise(alloc, 1, 1024 * 768 * 3)?;
-    let caption = noise(alloc, 2, 400 * 60 * 2)?;
+) {
+    let photo = noise(rt, alloc, 1, 1024 * 768 * 3);
+    let caption = noise(rt, alloc, 2, 400 * 60 * 2);
     let files = [
         ("script.txt", SCRIPT),
         ("photo.raw", photo.as_slice()),
         ("caption.raw", caption.as_slice()),
     ];
-    let mut shelf = shelf_of(alloc, &files, devices)?;
-    let ended = run_over(rt, alloc, line, &mut shelf, devices)?;
-    assert_eq!(rt; ended.status, 0, "{line}");
-    assert_eq!(rt; ended.text.as_slice(), TEXT, "{line}");
+    let shelf = check_run(rt, alloc, line, &files, devices, (0, TEXT));
     for (name, content) in FILES {
-        assert!(rt; content.is(alloc, shelf.get(name))?, "{name} of {line}");
+        assert!(rt;
+            content.is(rt, alloc, shelf.get(name), Kept::Whole),
+            "{name} of {line}"
+        );
     }
-    Ok(())
 }
 
 #[test]
-fn a_photograph_is_captioned(rt: HostRuntime) -> Result<(), Fail> {
-    check_photograph(&rt, rt.alloc(), PLAIN, SOUND)
+fn a_photograph_is_captioned(rt: HostRuntime) {
+    check_photograph(&rt, rt.alloc(), PLAIN, SOUND);
 }
 
 #[test]
-fn workers_and_resident_tiles_change_no_byte(rt: HostRuntime) -> Result<(), Fail> {
+fn workers_and_resident_tiles_change_no_byte(rt: HostRuntime) {
     let devices = Devices {
         blocks: 40_960,
         ..SOUND
     };
     for line in LINES {
-        check_photograph(&rt, rt.alloc(), line, devices)?;
+        check_photograph(&rt, rt.alloc(), line, devices);
     }
-    Ok(())
 }
