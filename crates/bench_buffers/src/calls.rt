@@ -54,11 +54,7 @@ pub fn name(word: &str) -> Result<Name> {
 pub fn rect(x: u16, y: u16, width: u16, height: u16) -> Rect
     ensures { InLimits result }
 {
-    let [x, y, width, height] = [x, y, width, height].map(i64::from);
-    match Rect::new(x, y, width, height) {
-        Ok(rect) if rect.in_limits() => rect,
-        _ => Rect::EMPTY,
-    }
+    test_rects::rect([x, y, width, height].map(i64::from))
 }
 
 /// Adds a buffer of zeros.

@@ -63,16 +63,21 @@ fn time_image<R: Clock + Print + Eprint + Threads + Sync + Alloc<A = Global>, C:
     Ok(())
 }
 
+/// Returns a part from the origin on that is read so often, and not written.
+fn unwritten(level: u8, width: u16, height: u16, rounds: u8) -> Part {
+    Part {
+        level,
+        first: 0,
+        width,
+        height,
+        rounds,
+        is_written: false,
+    }
+}
+
 /// Returns the whole image, and parts of it that begin with a tile and inside one.
 fn image_parts(columns: u8) -> [(&'static str, Part); 3] {
-    let whole = Part {
-        level: 0,
-        first: 0,
-        width: 64 * u16::from(columns),
-        height: 32 * u16::from(columns),
-        rounds: 3,
-        is_written: false,
-    };
+    let whole = unwritten(0, 64 * u16::from(columns), 32 * u16::from(columns), 3);
     let part = Part {
         width: part_side(columns),
         height: part_side(columns),
@@ -88,14 +93,7 @@ fn image_parts(columns: u8) -> [(&'static str, Part); 3] {
 
 /// Returns level 3, that is first averaged, then held, and then averaged where a square was written.
 fn level_parts(columns: u8) -> [(&'static str, Part); 3] {
-    let first = Part {
-        level: 3,
-        first: 0,
-        width: 8 * u16::from(columns),
-        height: 4 * u16::from(columns),
-        rounds: 1,
-        is_written: false,
-    };
+    let first = unwritten(3, 8 * u16::from(columns), 4 * u16::from(columns), 1);
     let again = Part {
         rounds: 10,
         ..first

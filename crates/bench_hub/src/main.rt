@@ -5,10 +5,8 @@
 //! printed. It prints what each loop found, which is the same at each run; times go to standard error.
 #![tactic(auto)]
 
-mod page;
 mod rounds;
 
-use crate::page::Page;
 use crate::rounds::{enter_often, publish_often};
 use anyhow::Result;
 use scene_hub::{Editor, Hub, Viewer};
@@ -17,6 +15,7 @@ use std::io;
 use std::rt::{Clock, Env};
 use std::sync::Wait;
 use std::time::Instant;
+use test_hub::Page;
 
 /// How many rounds there are where the command line says nothing.
 const FEW_ROUNDS: u32 = 100;

@@ -1,8 +1,8 @@
 //! The loops that are timed.
 
-use crate::page::Page;
 use scene_hub::{Editor, Viewer};
 use std::sync::Wait;
+use test_hub::Page;
 
 /// Enters so often by the first viewer. Returns the sum of the numbers that it saw.
 pub fn enter_often(viewers: &mut [Viewer<Page>], rounds: u32) -> u64 {

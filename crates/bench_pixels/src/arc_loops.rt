@@ -1,6 +1,6 @@
 //! The loops that tiles are compared with: the same over a vector that `Arc` counts the owners of.
 
-use crate::tile_loops::{last, mark};
+use crate::byte_loops::{last, mark};
 use std::alloc::{AllocError, Global};
 use std::sync::Arc;
 

@@ -9,6 +9,7 @@
 #![tactic(auto)]
 
 mod arc_loops;
+mod byte_loops;
 mod patch_bench;
 mod patch_loops;
 mod pictures;

@@ -1,7 +1,7 @@
 //! The loops over patches of one size and format.
 
 use crate::speed::Speed;
-use crate::{patch_loops, pictures};
+use crate::{byte_loops, patch_loops, pictures};
 use anyhow::Result;
 use patch_abyss::{Abyss, Patch, fetch, halve};
 use pixel_formats::Format;
@@ -51,10 +51,10 @@ impl PatchBench {
         let mut to = vec![in alloc; 0; from.len()]?;
         let made = count.saturating_mul(u64::from(rounds));
         let start = Instant::now(rt)?;
-        let copied = patch_loops::copy(from, &mut to, rounds);
+        let copied = byte_loops::copy(from, &mut to, rounds);
         let ready = Speed::since(rt, start, made)?;
         let start = Instant::now(rt)?;
-        let copied_afresh = patch_loops::copy_afresh(alloc, from, rounds)?;
+        let copied_afresh = byte_loops::copy_afresh(alloc, from, rounds)?;
         let afresh = Speed::since(rt, start, made)?;
         let bench = PatchBench {
             side,
@@ -63,13 +63,8 @@ impl PatchBench {
             ready,
             afresh,
         };
-        bench.print(
-            rt,
-            "copy",
-            copied.wrapping_add(patch_loops::sum(&to)),
-            ready,
-        )?;
-        let sum = patch_loops::sum(from);
+        bench.print(rt, "copy", copied.wrapping_add(byte_loops::sum(&to)), ready)?;
+        let sum = byte_loops::sum(from);
         bench.print(rt, "copy afresh", copied_afresh.wrapping_add(sum), afresh)?;
         Ok(bench)
     }
@@ -158,7 +153,7 @@ impl PatchBench {
     ) -> Result<()> {
         let made = (bytes.len() as u64).saturating_mul(u64::from(self.rounds));
         let speed = Speed::since(rt, start, made)?;
-        self.print(rt, name, found.wrapping_add(patch_loops::sum(bytes)), speed)
+        self.print(rt, name, found.wrapping_add(byte_loops::sum(bytes)), speed)
     }
 
     fn print<R: Print + Eprint>(self, rt: &R, name: &str, found: u64, speed: Speed) -> Result<()> {

@@ -5,8 +5,8 @@ ghost use Rattle.pixel_formats.specs.Format.{has_alpha};
 
 use crate::row_label::Label;
 use crate::row_loops::{self, Kernel};
-use crate::rows;
 use crate::speed::Speed;
+use crate::{byte_loops, rows};
 use anyhow::Result;
 use pixel_formats::Format;
 use std::alloc::Global;
@@ -59,7 +59,7 @@ impl RowBench {
         let mut src = rows::bytes(rt.alloc(), length, 7)?;
         let mut dst = rows::bytes(rt.alloc(), length, 0)?;
         let start = Instant::now(rt)?;
-        let found = row_loops::copy(&mut src, &mut dst, rounds);
+        let found = byte_loops::copy(&mut src, &mut dst, rounds);
         let copy = Speed::since(
             rt,
             start,
@@ -67,7 +67,7 @@ impl RowBench {
         )?;
         println!(rt;
             "{length} bytes: copy {}",
-            found.wrapping_add(row_loops::sum(&dst))
+            found.wrapping_add(byte_loops::sum(&dst))
         )?;
         eprintln!(rt; "{length} bytes: copy {copy}")?;
         Ok(RowBench {
@@ -201,7 +201,7 @@ impl RowBench {
         println!(rt;
             "{} bytes: {label} {}",
             self.length,
-            found.wrapping_add(row_loops::sum(dst))
+            found.wrapping_add(byte_loops::sum(dst))
         )?;
         eprintln!(rt;
             "{} bytes: {label} {speed}, {} of a copy",

@@ -4,6 +4,7 @@ ghost use Rattle.std.specs.Prelude.{◌≡◌, ◌*◌, ◌/◌, ◌%◌, IsTrue
 ghost use Rattle.pixel_formats.specs.Format.{depth, has_alpha, pixel_bytes};
 ghost use Rattle.pixel_formats.specs.Row.{pixel_count};
 
+use crate::byte_loops::{last, mark};
 use pixel_formats::Format;
 use sample_rows::{
     convert_row, row_add, row_average4, row_gain, row_invert, row_mask, row_max, row_min, row_over,
@@ -48,19 +49,6 @@ impl Kernel {
             Kernel::Max => row_max(f, first, second, dst),
         }
     }
-}
-
-/// Copies a row.
-pub fn copy(src: &mut [u8], dst: &mut [u8], rounds: u32) -> u64
-    requires { length dst.old ≡ length src.old }
-{
-    let mut found = 0u64;
-    for round in 0..rounds {
-        mark(src, round);
-        dst.copy_from_slice(src);
-        found = found.wrapping_add(last(dst));
-    }
-    found
 }
 
 /// Runs a kernel.
@@ -143,22 +131,4 @@ pub fn convert(from: Format, src: &mut [u8], to: Format, dst: &mut [u8], rounds:
         found = found.wrapping_add(last(dst));
     }
     found
-}
-
-/// The sum of a row's bytes.
-pub fn sum(row: &[u8]) -> u64 {
-    row.iter()
-        .fold(0u64, |sum, byte| sum.wrapping_add(u64::from(*byte)))
-}
-
-/// Makes the first byte tell the rounds apart.
-fn mark(row: &mut [u8], round: u32) {
-    if let Some(first) = row.first_mut() {
-        *first = (round % 256) as u8;
-    }
-}
-
-/// The last byte.
-fn last(row: &[u8]) -> u64 {
-    row.last().copied().map_or(0, u64::from)
 }

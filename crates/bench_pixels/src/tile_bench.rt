@@ -3,7 +3,7 @@
 
 ghost use Rattle.tile_cow.specs.Tile.{IsTileLength};
 
-use crate::{arc_loops, tile_loops};
+use crate::{arc_loops, byte_loops, tile_loops};
 use anyhow::Result;
 use std::alloc::Global;
 use std::io;
@@ -133,11 +133,11 @@ fn time_copies<R: Clock + Print + Eprint + Alloc<A = Global>>(
     let mut into = vec![in alloc; 0; length as usize]?;
 
     let start = Instant::now(rt)?;
-    let found = tile_loops::copy(&mut row, &mut into, bench.rounds);
+    let found = byte_loops::copy(&mut row, &mut into, bench.rounds);
     bench.report(rt, "copy", start, found)?;
 
     let start = Instant::now(rt)?;
-    let found = tile_loops::copy_afresh(alloc, &mut row, bench.rounds)?;
+    let found = byte_loops::copy_afresh(alloc, &mut row, bench.rounds)?;
     bench.report(rt, "copy afresh", start, found)?;
     Ok(())
 }

@@ -3,8 +3,9 @@
 ghost use Rattle.std.specs.Prelude.{◌≡◌, ◌≤◌, length};
 ghost use Rattle.tile_cow.specs.Tile.{IsTileLength};
 
+use crate::byte_loops::{last, mark};
 use no_memory::NoMemory;
-use std::alloc::{AllocError, Global};
+use std::alloc::Global;
 use tile_cow::{Tile, Wrote};
 
 /// Makes another owner and drops it.
@@ -74,40 +75,4 @@ pub fn write_shared(
         }
     }
     Ok(found)
-}
-
-/// Copies the bytes to other bytes.
-pub fn copy(row: &mut [u8], into: &mut [u8], rounds: u32) -> u64
-    requires { length row.old ≡ length into.old }
-{
-    let mut found = 0u64;
-    for round in 0..rounds {
-        mark(row, round);
-        into.copy_from_slice(row);
-        found = found.wrapping_add(last(into));
-    }
-    found
-}
-
-/// Copies the bytes into memory that is asked for.
-pub fn copy_afresh(alloc: Global, row: &mut [u8], rounds: u32) -> Result<u64, AllocError> {
-    let mut found = 0u64;
-    for round in 0..rounds {
-        mark(row, round);
-        let copy = Vec::from_slice(alloc, row)?;
-        found = found.wrapping_add(last(&copy));
-    }
-    Ok(found)
-}
-
-/// Makes the first byte tell the rounds apart.
-pub fn mark(row: &mut [u8], round: u32) {
-    if let Some(first) = row.first_mut() {
-        *first = (round % 256) as u8;
-    }
-}
-
-/// The last byte.
-pub fn last(bytes: &[u8]) -> u64 {
-    bytes.last().copied().map_or(0, u64::from)
 }

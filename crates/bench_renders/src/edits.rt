@@ -6,7 +6,7 @@ ghost use Rattle.model_operations.specs.Meanings.{int_meanings};
 ghost use Rattle.buffer_view.specs.BufferTables.{AreBuffersOver, buffers_names};
 ghost use Rattle.test_renders.specs.Ready.{AreOver, AreReady};
 
-use crate::jobs::{Job, name, node, ready, rect, request, source};
+use crate::jobs::{Job, name, node, ready, request, source};
 use crate::pairs::{MANY, show_again};
 use crate::report::{Report, least};
 use anyhow::Result;
@@ -22,6 +22,7 @@ use std::alloc::Global;
 use std::rt::Clock;
 use std::thread::Threads;
 use std::time::Instant;
+use test_rects::rect;
 use test_renders::{Canvas, Request, over_buffers};
 use worker_pieces::Workers;
 

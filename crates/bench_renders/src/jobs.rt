@@ -13,6 +13,7 @@ use model_graphs::{Body, NodeEdit, NodeSpec};
 use pixel_formats::Format;
 use plane_rect::{Name, NameList, Rect};
 use std::alloc::{AllocError, Global};
+use test_rects::rect;
 use test_renders::Request;
 
 /// How many rounds there are, and the image's columns and rows of pixels.
@@ -21,17 +22,6 @@ pub struct Job {
     pub rounds: u32,
     pub columns: u32,
     pub rows: u32,
-}
-
-/// Returns the rectangle of four fields, or the one without a position where they are none in limits.
-pub fn rect(fields: [i64; 4]) -> Rect
-    ensures { InLimits result }
-{
-    let [x, y, w, h] = fields;
-    match Rect::new(x, y, w, h) {
-        Ok(rect) if rect.in_limits() => rect,
-        _ => Rect::EMPTY,
-    }
 }
 
 /// Returns the name that a word is.

@@ -6,7 +6,7 @@ ghost use Rattle.model_operations.specs.Meanings.{int_meanings};
 ghost use Rattle.buffer_view.specs.BufferTables.{AreBuffersOver, buffers_names};
 ghost use Rattle.test_renders.specs.Ready.{AreOver, AreReady};
 
-use crate::jobs::{Job, name, node, ready, rect, request, source};
+use crate::jobs::{Job, name, node, ready, request, source};
 use crate::report::{Report, least};
 use anyhow::Result;
 use buffer_view::Buffers;
@@ -21,6 +21,7 @@ use std::alloc::{AllocError, Global};
 use std::rt::Clock;
 use std::thread::Threads;
 use std::time::Instant;
+use test_rects::rect;
 use test_renders::{Canvas, Request, over_buffers};
 use worker_pieces::Workers;
 

@@ -1,79 +1,72 @@
 //! Calls on buffers of gray pixels, by words and rectangles of four numbers.
 
-ghost use Rattle.std.specs.Prelude.{◌≡◌, ◌≤◌, IfOk};
+ghost use Rattle.std.specs.Prelude.{◌≡◌, ◌≤◌};
 ghost use Rattle.chain_owners.specs.Held.{Held};
-ghost use Rattle.plane_rect.specs.Rectangle.{InLimits};
 ghost use Rattle.buffer_view.specs.BufferTables.{AreBuffersOver};
 
 use buffer_view::{BufferRefused, Buffers, no_buffers_ask_nothing};
 use chain_handlers::TileChain;
 use op_contracts::SourceTiles;
 use pixel_formats::{Abyss, Format};
-use plane_rect::{Name, Rect, TileAt};
+use plane_rect::{Name, TileAt};
 use std::alloc::Global;
 use std::process::Abort;
-use std::test::Fail;
+use test_rects::rect;
+
+/// A buffer, a level of it, a policy, and a rectangle of the level, which are read.
+pub type Read = (&'static str, u32, Abyss, [i64; 4]);
 
 /// Returns the name that a word is.
-pub fn name(word: &str) -> Result<Name, Fail> {
-    Ok(Name::parse(word.as_bytes()).ok_or("a name")?)
-}
-
-/// Returns the rectangle of four fields, or the one without a position where they are none in limits.
-pub fn rect(fields: [i64; 4]) -> Rect
-    ensures { InLimits result }
-{
-    let [x, y, w, h] = fields;
-    match Rect::new(x, y, w, h) {
-        Ok(rect) if rect.in_limits() => rect,
-        _ => Rect::EMPTY,
-    }
+pub fn name(rt: &impl Abort, word: &str) -> Name {
+    Name::parse(word.as_bytes()).expect(rt, "a name")
 }
 
 /// Adds a buffer of zeros.
-pub fn create(buffers: &mut Buffers, word: &str, fields: [i64; 4]) -> Result<(), Fail>
+pub fn create(rt: &impl Abort, buffers: &mut Buffers, word: &str, fields: [i64; 4])
     ensures { (held : Held) → AreBuffersOver buffers.old held → AreBuffersOver buffers.new held }
 {
-    buffers.create(name(word)?, Format::Y8, rect(fields))?;
-    Ok(())
+    let created = buffers.create(name(rt, word), Format::Y8, rect(fields));
+    created.expect(rt, "a buffer");
 }
 
 /// Returns a table of one buffer of zeros.
 pub fn one_buffer<C: TileChain>(
+    rt: &impl Abort,
     chain: &C,
     alloc: Global,
     word: &str,
     fields: [i64; 4],
-) -> Result<Buffers, Fail>
-    ensures { IfOk result (λ buffers. AreBuffersOver buffers (C.held chain.now)) }
+) -> Buffers
+    ensures { AreBuffersOver result (C.held chain.now) }
 {
     no_buffers_ask_nothing();
     let mut buffers = Buffers::new(alloc);
-    create(&mut buffers, word, fields)?;
-    Ok(buffers)
+    create(rt, &mut buffers, word, fields);
+    buffers
 }
 
 /// Adds a part of a buffer.
-pub fn part(buffers: &mut Buffers, word: &str, parent: &str, fields: [i64; 4]) -> Result<(), Fail>
+pub fn part(rt: &impl Abort, buffers: &mut Buffers, word: &str, parent: &str, fields: [i64; 4])
     ensures { (held : Held) → AreBuffersOver buffers.old held → AreBuffersOver buffers.new held }
 {
-    buffers.sub(name(word)?, name(parent)?, rect(fields))?;
-    Ok(())
+    let added = buffers.sub(name(rt, word), name(rt, parent), rect(fields));
+    added.expect(rt, "a part");
 }
 
 /// Writes one byte everywhere in a rectangle of a buffer.
 pub fn fill<C: TileChain>(
+    rt: &impl Abort,
     buffers: &mut Buffers,
     chain: &mut C,
     word: &str,
     fields: [i64; 4],
     byte: u8,
-) -> Result<(), Fail>
+)
     requires { AreBuffersOver buffers.old (C.held chain.old) }
     ensures { AreBuffersOver buffers.new (C.held chain.new) }
 {
-    buffers.fill(chain, name(word)?, rect(fields), &[u32::from(byte)])?;
-    Ok(())
+    let filled = buffers.fill(chain, name(rt, word), rect(fields), &[u32::from(byte)]);
+    filled.expect(rt, "a rectangle of the buffer");
 }
 
 /// Fills a rectangle of a buffer and checks why that is refused.
@@ -85,13 +78,12 @@ pub fn fill_refused<C: TileChain>(
     fields: [i64; 4],
     samples: &[u32],
     wanted: BufferRefused,
-) -> Result<(), Fail>
+)
     requires { AreBuffersOver buffers.old (C.held chain.old) }
     ensures { AreBuffersOver buffers.new (C.held chain.new) }
 {
-    let answer = buffers.fill(chain, name(word)?, rect(fields), samples);
+    let answer = buffers.fill(chain, name(rt, word), rect(fields), samples);
     assert_eq!(rt; answer, Err(wanted));
-    Ok(())
 }
 
 /// Checks a byte of the tile at the plane's origin of a buffer.
@@ -102,15 +94,15 @@ pub fn check<C: TileChain>(
     word: &str,
     index: usize,
     wanted: u8,
-) -> Result<(), Fail>
+)
     requires { AreBuffersOver buffers.old (C.held chain.old) }
     ensures { AreBuffersOver buffers.new (C.held chain.new) }
 {
-    let name = name(word)?;
+    let name = name(rt, word);
     assert!(rt; buffers.fact(name).is_some());
-    let tile = buffers.tile(chain, name, TileAt::of(0, 0))?;
+    let tile = buffers.tile(chain, name, TileAt::of(0, 0));
+    let tile = tile.expect(rt, "a tile");
     assert_eq!(rt; tile.bytes().get(index).copied(), Some(wanted));
-    Ok(())
 }
 
 /// Checks the bytes of a rectangle of a level of a buffer, read under a policy.
@@ -118,17 +110,15 @@ pub fn check_level<C: TileChain>(
     rt: &impl Abort,
     buffers: &mut Buffers,
     chain: &mut C,
-    word: &str,
-    level: u32,
-    abyss: Abyss,
-    fields: [i64; 4],
+    read: Read,
     wanted: &[u8],
-) -> Result<(), Fail>
-    requires over { AreBuffersOver buffers.old (C.held chain.old) }
-    requires level { level ≤ 8 }
+)
+    requires { AreBuffersOver buffers.old (C.held chain.old) }
     ensures { AreBuffersOver buffers.new (C.held chain.new) }
 {
-    let patch = buffers.get(chain, name(word)?, level, abyss, rect(fields))?;
+    let (word, level, abyss, fields) = read;
+    assert!(rt; level <= 8);
+    let patch = buffers.get(chain, name(rt, word), level, abyss, rect(fields));
+    let patch = patch.expect(rt, "a part");
     assert_eq!(rt; patch.raw_bytes(), wanted);
-    Ok(())
 }

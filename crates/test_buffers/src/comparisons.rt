@@ -1,9 +1,9 @@
 //! Buffers beside plain lists of bytes.
 
-ghost use Rattle.std.specs.Prelude.{◌≤◌, IfOk};
+ghost use Rattle.std.specs.Prelude.{◌≤◌};
 ghost use Rattle.buffer_view.specs.BufferTables.{AreBuffersOver};
 
-use crate::calls::{check_level, name, one_buffer, rect};
+use crate::calls::{check_level, name, one_buffer};
 use crate::plain::Plain;
 use buffer_view::Buffers;
 use chain_handlers::TileChain;
@@ -11,8 +11,8 @@ use pixel_formats::Abyss;
 use plane_rect::Name;
 use std::alloc::Global;
 use std::process::Abort;
-use std::test::Fail;
 use std::thread::Threads;
+use test_rects::rect;
 use worker_pieces::Workers;
 
 /// All policies.
@@ -38,18 +38,19 @@ const MOVES: [[i8; 2]; 8] = [
 
 /// Returns a table of one buffer that shows a plain image.
 fn buffer_of<C: TileChain>(
-    rt: &(impl Threads + Sync),
+    rt: &(impl Abort + Threads + Sync),
     chain: &mut C,
     alloc: Global,
     plain: &Plain,
-) -> Result<Buffers, Fail>
-    ensures { IfOk result (λ buffers. AreBuffersOver buffers (C.held chain.new)) }
+) -> Buffers
+    ensures { AreBuffersOver result (C.held chain.new) }
 {
-    let mut buffers = one_buffer(chain, alloc, "n00", plain.fields())?;
+    let mut buffers = one_buffer(rt, chain, alloc, "n00", plain.fields());
     let all = rect(plain.fields());
     let workers = Workers::new(rt, 3);
-    buffers.put_raw(chain, name("n00")?, all, &plain.bytes, workers)?;
-    Ok(buffers)
+    let put = buffers.put_raw(chain, name(rt, "n00"), all, &plain.bytes, workers);
+    put.expect(rt, "bytes of a rectangle");
+    buffers
 }
 
 /// Reads each level of a buffer that begins and ends inside tiles, and around it under each policy.
@@ -57,15 +58,14 @@ pub fn compare_levels<C: TileChain>(
     rt: &(impl Abort + Threads + Sync),
     chain: &mut C,
     alloc: Global,
-) -> Result<(), Fail> {
-    let mut plain = Plain::noise(alloc, [-37, 21], [150, 70])?;
-    let mut buffers = buffer_of(rt, chain, alloc, &plain)?;
+) {
+    let mut plain = Plain::noise(alloc, [-37, 21], [150, 70]).expect(rt, "memory");
+    let mut buffers = buffer_of(rt, chain, alloc, &plain);
     for level in 0..9u32 {
-        compare_policies(rt, &mut buffers, chain, alloc, level, &plain)?;
-        plain = plain.halved(alloc)?;
+        compare_policies(rt, &mut buffers, chain, alloc, level, &plain);
+        plain = plain.halved(alloc).expect(rt, "memory");
     }
     buffers.release(chain);
-    Ok(())
 }
 
 /// Reads a level of a buffer, and three pixels around it, under each policy.
@@ -76,9 +76,8 @@ fn compare_policies<C: TileChain>(
     alloc: Global,
     level: u32,
     plain: &Plain,
-) -> Result<(), Fail>
-    requires over { AreBuffersOver buffers.old (C.held chain.old) }
-    requires level { level ≤ 8 }
+)
+    requires { AreBuffersOver buffers.old (C.held chain.old) }
     ensures { AreBuffersOver buffers.new (C.held chain.new) }
 {
     let around = [
@@ -88,16 +87,15 @@ fn compare_policies<C: TileChain>(
         i64::from(plain.height).saturating_add(6),
     ];
     for abyss in POLICIES {
-        let wanted = plain.around(alloc, abyss)?;
-        check_level(rt, buffers, chain, "n00", level, abyss, around, &wanted)?;
+        let wanted = plain.around(alloc, abyss).expect(rt, "memory");
+        check_level(rt, buffers, chain, ("n00", level, abyss, around), &wanted);
     }
-    Ok(())
 }
 
 /// Returns the name of a number below 64.
-fn numbered(number: u8) -> Result<Name, Fail> {
+fn numbered(rt: &impl Abort, number: u8) -> Name {
     let digits = [b'n', b'0' + number / 8, b'0' + number % 8];
-    Ok(Name::parse(&digits).ok_or("a name")?)
+    Name::parse(&digits).expect(rt, "a name")
 }
 
 /// Duplicates a buffer 63 times, writes a pixel of its own to it and to each duplicate, and reads all of them.
@@ -105,37 +103,37 @@ pub fn compare_duplicates<C: TileChain>(
     rt: &(impl Abort + Threads + Sync),
     chain: &mut C,
     alloc: Global,
-) -> Result<(), Fail> {
-    let plain = Plain::noise(alloc, [0, 0], [130, 2])?;
-    let mut buffers = buffer_of(rt, chain, alloc, &plain)?;
-    duplicate_each(&mut buffers, chain)?;
-    write_each(&mut buffers, chain)?;
-    compare_each(rt, &mut buffers, chain, alloc, &plain)?;
+) {
+    let plain = Plain::noise(alloc, [0, 0], [130, 2]).expect(rt, "memory");
+    let mut buffers = buffer_of(rt, chain, alloc, &plain);
+    duplicate_each(rt, &mut buffers, chain);
+    write_each(rt, &mut buffers, chain);
+    compare_each(rt, &mut buffers, chain, alloc, &plain);
     buffers.release(chain);
-    Ok(())
 }
 
 /// Adds 63 duplicates of the first buffer.
-fn duplicate_each<C: TileChain>(buffers: &mut Buffers, chain: &mut C) -> Result<(), Fail>
+fn duplicate_each<C: TileChain>(rt: &impl Abort, buffers: &mut Buffers, chain: &mut C)
     requires { AreBuffersOver buffers.old (C.held chain.old) }
     ensures { AreBuffersOver buffers.new (C.held chain.new) }
 {
     for number in 1..64u8 {
-        buffers.dup(chain, numbered(number)?, numbered(0)?)?;
+        let duplicate = buffers.dup(chain, numbered(rt, number), numbered(rt, 0));
+        duplicate.expect(rt, "a duplicate");
     }
-    Ok(())
 }
 
 /// Writes a pixel of each buffer: another position and another byte each.
-fn write_each<C: TileChain>(buffers: &mut Buffers, chain: &mut C) -> Result<(), Fail>
+fn write_each<C: TileChain>(rt: &impl Abort, buffers: &mut Buffers, chain: &mut C)
     requires { AreBuffersOver buffers.old (C.held chain.old) }
     ensures { AreBuffersOver buffers.new (C.held chain.new) }
 {
     for number in 0..64u8 {
         let pixel = rect([2 * i64::from(number), 0, 1, 1]);
-        buffers.fill(chain, numbered(number)?, pixel, &[u32::from(number) + 100])?;
+        let samples = [u32::from(number) + 100];
+        let filled = buffers.fill(chain, numbered(rt, number), pixel, &samples);
+        filled.expect(rt, "a pixel of the buffer");
     }
-    Ok(())
 }
 
 /// Compares each buffer with the plain image of which only its own pixel was written.
@@ -145,20 +143,20 @@ fn compare_each<C: TileChain>(
     chain: &mut C,
     alloc: Global,
     plain: &Plain,
-) -> Result<(), Fail>
+)
     requires { AreBuffersOver buffers.old (C.held chain.old) }
     ensures { AreBuffersOver buffers.new (C.held chain.new) }
 {
     for number in 0..64u8 {
-        let mut wanted = Vec::from_slice(alloc, &plain.bytes)?;
+        let mut wanted = Vec::from_slice(alloc, &plain.bytes).expect(rt, "memory");
         if let Some(byte) = wanted.get_mut(2 * usize::from(number)) {
             *byte = number + 100;
         }
         let whole = rect(plain.fields());
-        let patch = buffers.get(chain, numbered(number)?, 0, Abyss::None, whole)?;
+        let patch = buffers.get(chain, numbered(rt, number), 0, Abyss::None, whole);
+        let patch = patch.expect(rt, "the buffer");
         assert_eq!(rt; patch.raw_bytes(), wanted.as_slice(), "buffer {number}");
     }
-    Ok(())
 }
 
 /// Copies a rectangle of a buffer onto itself, in each direction by less than its size.
@@ -166,41 +164,33 @@ pub fn compare_moves<C: TileChain>(
     rt: &(impl Abort + Threads + Sync),
     chain: &mut C,
     alloc: Global,
-) -> Result<(), Fail> {
+) {
     let from = [10, 10, 80, 70];
-    let mut plain = Plain::noise(alloc, [0, 0], [100, 90])?;
-    let mut buffers = buffer_of(rt, chain, alloc, &plain)?;
+    let mut plain = Plain::noise(alloc, [0, 0], [100, 90]).expect(rt, "memory");
+    let mut buffers = buffer_of(rt, chain, alloc, &plain);
     for by in MOVES {
-        plain = plain.moved(alloc, from, by)?;
-        copy_to_itself(&mut buffers, chain, from, by)?;
-        check_level(
-            rt,
-            &mut buffers,
-            chain,
-            "n00",
-            0,
-            Abyss::None,
-            plain.fields(),
-            &plain.bytes,
-        )?;
+        plain = plain.moved(alloc, from, by).expect(rt, "memory");
+        copy_to_itself(rt, &mut buffers, chain, from, by);
+        let all = ("n00", 0, Abyss::None, plain.fields());
+        check_level(rt, &mut buffers, chain, all, &plain.bytes);
     }
     buffers.release(chain);
-    Ok(())
 }
 
 /// Copies a rectangle of the first buffer onto itself.
 fn copy_to_itself<C: TileChain>(
+    rt: &impl Abort,
     buffers: &mut Buffers,
     chain: &mut C,
     from: [u8; 4],
     by: [i8; 2],
-) -> Result<(), Fail>
+)
     requires { AreBuffersOver buffers.old (C.held chain.old) }
     ensures { AreBuffersOver buffers.new (C.held chain.new) }
 {
-    let name = numbered(0)?;
+    let name = numbered(rt, 0);
     let from = rect(from.map(i64::from));
     let [dx, dy] = by.map(i64::from);
-    buffers.copy(chain, name, name, from, dx, dy)?;
-    Ok(())
+    let copied = buffers.copy(chain, name, name, from, dx, dy);
+    copied.expect(rt, "a rectangle of the buffer");
 }

@@ -1,6 +1,6 @@
 //! Refused edits, each cause before those that come later.
 
-use crate::calls::{fill_refused, name, one_buffer, rect};
+use crate::calls::{fill_refused, name, one_buffer};
 use buffer_layouts::EditRefused;
 use buffer_view::{BufferRefused, Buffers};
 use chain_handlers::TileChain;
@@ -8,44 +8,43 @@ use pixel_formats::Format;
 use plane_rect::Name;
 use std::alloc::Global;
 use std::process::Abort;
-use std::test::Fail;
 use std::thread::Threads;
+use test_rects::rect;
 use worker_pieces::Workers;
 
 /// The words of as many buffers as a table may have are made of a letter and of these.
 const DIGITS: [u8; 8] = *b"01234567";
 
 /// Adds a buffer for each of 64 names.
-fn fill_table(buffers: &mut Buffers) -> Result<(), Fail> {
+fn fill_table(rt: &impl Abort, buffers: &mut Buffers) {
     for high in DIGITS {
         for low in DIGITS {
-            let name = Name::parse(&[b'n', high, low]).ok_or("a name")?;
-            buffers.create(name, Format::Y8, rect([0, 0, 1, 1]))?;
+            let name = Name::parse(&[b'n', high, low]).expect(rt, "a name");
+            let created = buffers.create(name, Format::Y8, rect([0, 0, 1, 1]));
+            created.expect(rt, "a buffer");
         }
     }
-    Ok(())
 }
 
 /// Adds buffers to a table of 64: a taken name is reported before the number, and an unknown parent before
 /// the name.
-pub fn add_too_many(rt: &impl Abort, alloc: Global) -> Result<(), Fail> {
+pub fn add_too_many(rt: &impl Abort, alloc: Global) {
     let mut buffers = Buffers::new(alloc);
-    fill_table(&mut buffers)?;
+    fill_table(rt, &mut buffers);
     let extent = rect([0, 0, 1, 1]);
-    let answer = buffers.create(name("n00")?, Format::Y8, extent);
+    let answer = buffers.create(name(rt, "n00"), Format::Y8, extent);
     assert_eq!(rt; answer, Err(BufferRefused::Edit(EditRefused::NameTaken)));
-    let answer = buffers.create(name("m")?, Format::Y8, extent);
+    let answer = buffers.create(name(rt, "m"), Format::Y8, extent);
     assert_eq!(rt;
         answer,
         Err(BufferRefused::Edit(EditRefused::TooManyBuffers))
     );
-    let answer = buffers.sub(name("n00")?, name("m")?, extent);
+    let answer = buffers.sub(name(rt, "n00"), name(rt, "m"), extent);
     assert_eq!(rt;
         answer,
         Err(BufferRefused::Edit(EditRefused::UnknownBuffer))
     );
     assert_eq!(rt; buffers.facts().len(), 64);
-    Ok(())
 }
 
 /// Writes to a buffer where that is refused.
@@ -53,28 +52,22 @@ pub fn write_refused<C: TileChain>(
     rt: &(impl Abort + Threads + Sync),
     chain: &mut C,
     alloc: Global,
-) -> Result<(), Fail> {
-    let mut buffers = one_buffer(chain, alloc, "a", [0, 0, 4, 1])?;
+) {
+    let mut buffers = one_buffer(rt, chain, alloc, "a", [0, 0, 4, 1]);
     let unknown = BufferRefused::Edit(EditRefused::UnknownBuffer);
-    fill_refused(rt, &mut buffers, chain, "b", [0, 0, 9, 1], &[], unknown)?;
+    fill_refused(rt, &mut buffers, chain, "b", [0, 0, 9, 1], &[], unknown);
     let outside = BufferRefused::Edit(EditRefused::OutOfBounds);
-    fill_refused(rt, &mut buffers, chain, "a", [0, 0, 9, 1], &[], outside)?;
+    fill_refused(rt, &mut buffers, chain, "a", [0, 0, 9, 1], &[], outside);
     let formats = BufferRefused::Edit(EditRefused::Formats);
-    fill_refused(rt, &mut buffers, chain, "a", [0, 0, 4, 1], &[256], formats)?;
-    let answer = buffers.put_raw(
-        chain,
-        name("a")?,
-        rect([0, 0, 4, 1]),
-        &[1, 2, 3],
-        Workers::new(rt, 2),
-    );
+    fill_refused(rt, &mut buffers, chain, "a", [0, 0, 4, 1], &[256], formats);
+    let (extent, workers) = (rect([0, 0, 4, 1]), Workers::new(rt, 2));
+    let answer = buffers.put_raw(chain, name(rt, "a"), extent, &[1, 2, 3], workers);
     let size = EditRefused::WrongSize {
         found: 3,
         wanted: 4,
     };
     assert_eq!(rt; answer, Err(BufferRefused::Edit(size)));
-    let answer = buffers.copy(chain, name("a")?, name("a")?, rect([0, 0, 4, 1]), 1, 0);
+    let answer = buffers.copy(chain, name(rt, "a"), name(rt, "a"), extent, 1, 0);
     assert_eq!(rt; answer, Err(outside));
     buffers.release(chain);
-    Ok(())
 }

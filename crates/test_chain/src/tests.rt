@@ -1,10 +1,12 @@
 //! Expected values are worked out by hand from the doc comments, or are those of a plain list.
 
-use crate::examples::{BLOCK_GIVEN_UP, BY_TURNS, TWO_NAMES, UNTIL_FULL};
+mod examples;
+
 use crate::handlers::put_in_each;
 use crate::pages::chain_over;
 use crate::play::play;
 use crate::steps::make;
+use crate::tests::examples::{BLOCK_GIVEN_UP, BY_TURNS, TWO_NAMES, UNTIL_FULL};
 use chain_handlers::TileChain;
 use outside_io::{MemSwap, SureSwap, SwapDisk};
 use std::alloc::Global;

@@ -1,7 +1,6 @@
 //! Viewers and an editor that meet at a gate, each on a thread.
 
 use outside_io::{Gate, MeetGate};
-use std::test::Fail;
 use std::thread::join;
 
 /// A viewer that reports so many frames, one after another.
@@ -19,8 +18,8 @@ fn publish(gate: &MeetGate, commits: u64) {
 }
 
 #[test]
-fn viewers_and_an_editor_meet(rt: HostRuntime) -> Result<(), Fail> {
-    let gate = MeetGate::new(rt.alloc(), 2, 2, 1_000_000_000)?;
+fn viewers_and_an_editor_meet(rt: HostRuntime) {
+    let gate = MeetGate::new(rt.alloc(), 2, 2, 1_000_000_000).expect(&rt, "memory");
     join(
         &rt,
         || {
@@ -30,22 +29,20 @@ fn viewers_and_an_editor_meet(rt: HostRuntime) -> Result<(), Fail> {
     );
     assert_eq!(rt; gate.ran_out(), 0);
     assert_eq!(rt; gate.calls(), 7);
-    Ok(())
 }
 
 #[test]
-fn a_single_viewer_waits_for_nobody(rt: HostRuntime) -> Result<(), Fail> {
-    let gate = MeetGate::new(rt.alloc(), 1, 1, 10)?;
+fn a_single_viewer_waits_for_nobody(rt: HostRuntime) {
+    let gate = MeetGate::new(rt.alloc(), 1, 1, 10).expect(&rt, "memory");
     gate.looked(0, 0);
     gate.published(2);
     assert_eq!(rt; gate.ran_out(), 0);
     assert_eq!(rt; gate.calls(), 2);
-    Ok(())
 }
 
 #[test]
-fn waits_end_after_their_turns(rt: HostRuntime) -> Result<(), Fail> {
-    let gate = MeetGate::new(rt.alloc(), 2, 2, 3)?;
+fn waits_end_after_their_turns(rt: HostRuntime) {
+    let gate = MeetGate::new(rt.alloc(), 2, 2, 3).expect(&rt, "memory");
     gate.looked(2, 0);
     gate.looked(0, 2);
     assert_eq!(rt;
@@ -76,5 +73,4 @@ fn waits_end_after_their_turns(rt: HostRuntime) -> Result<(), Fail> {
         "all of frame 1 are there, and there is no frame 2"
     );
     assert_eq!(rt; gate.calls(), 10);
-    Ok(())
 }

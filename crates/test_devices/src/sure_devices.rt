@@ -13,13 +13,12 @@ use outside_io::{
 use std::alloc::Global;
 use std::fmt::Display;
 use std::process::Abort;
-use std::test::Fail;
 
 #[test]
-fn names_of_files(rt: HostRuntime) -> Result<(), Fail> {
+fn names_of_files(rt: HostRuntime) {
     let alloc = rt.alloc();
-    let longest = vec![in alloc; b'n'; 64]?;
-    let too_long = vec![in alloc; b'n'; 65]?;
+    let longest = vec![in alloc; b'n'; 64].expect(&rt, "memory");
+    let too_long = vec![in alloc; b'n'; 65].expect(&rt, "memory");
     let names: [(&[u8], bool); 10] = [
         (b"", false),
         (b"out.raw", true),
@@ -35,60 +34,60 @@ fn names_of_files(rt: HostRuntime) -> Result<(), Fail> {
     for (name, wanted) in &names {
         assert_eq!(rt; is_file_name(name), *wanted, "{name:?}");
     }
-    Ok(())
 }
 
 #[test]
-fn a_sure_shelf(rt: HostRuntime) -> Result<(), Fail> {
+fn a_sure_shelf(rt: HostRuntime) {
     let alloc = rt.alloc();
     let mut shelf = SureShelf::new(alloc, Vec::new(alloc));
-    shelf.write("five", &[1, 2, 3, 4, 5])?;
+    assert_eq!(rt; shelf.write("five", &[1, 2, 3, 4, 5]), Ok(()));
     let too_long = ShelfAnswer::TooLong { taken: 5 };
     for (limit, wanted) in [(4, Err(too_long)), (5, Ok([1, 2, 3, 4, 5].as_slice()))] {
         let answer = shelf.read("five", limit);
         assert!(rt; is_answer(&answer, &wanted), "up to {limit}");
     }
     assert_eq!(rt; shelf.read("none", 4), Err(ShelfAnswer::Absent));
-    Ok(())
 }
 
 #[test]
-fn a_sure_sink(rt: HostRuntime) -> Result<(), Fail> {
+fn a_sure_sink(rt: HostRuntime) {
     let mut sink = SureSink::new(rt.alloc());
-    sink.put(b"one")?;
-    sink.put(b"two")?;
+    assert_eq!(rt; sink.put(b"one"), Ok(()));
+    assert_eq!(rt; sink.put(b"two"), Ok(()));
     assert_eq!(rt; sink.bytes(), b"onetwo".as_slice());
-    Ok(())
 }
 
-#[test]
-fn a_sure_swap_disk(rt: HostRuntime) -> Result<(), Fail> {
+/// Checks that all bytes of a block are the same.
+pub fn check_block<D: SwapDisk>(rt: &impl Abort, disk: &mut D, number: u32, byte: u8) {
     let mut block = [1u8; 4096];
-    let mut disk = SureSwap::new(rt.alloc(), 2)?;
-    disk.read_block(0, &mut block)?;
-    assert_eq!(rt; block, [0; 4096]);
-    disk.write_block(1, &[7; 4096])?;
-    disk.read_block(1, &mut block)?;
-    assert_eq!(rt; block, [7; 4096]);
-    Ok(())
+    assert!(rt; number < disk.size());
+    assert_eq!(rt; disk.read_block(number, &mut block), Ok(()));
+    assert_eq!(rt; block, [byte; 4096], "block {number}");
 }
 
 #[test]
-fn several_blocks_in_one_call(rt: HostRuntime) -> Result<(), Fail> {
+fn a_sure_swap_disk(rt: HostRuntime) {
+    let mut disk = SureSwap::new(rt.alloc(), 2).expect(&rt, "memory");
+    check_block(&rt, &mut disk, 0, 0);
+    assert_eq!(rt; disk.size(), 2);
+    assert_eq!(rt; disk.write_block(1, &[7; 4096]), Ok(()));
+    check_block(&rt, &mut disk, 1, 7);
+}
+
+/// The second block of the second call is the fourth write.
+#[test]
+fn several_blocks_in_one_call(rt: HostRuntime) {
     let alloc = rt.alloc();
-    let mut block = [1u8; 4096];
     let mut two = [1u8; 8192];
-    let mut disk = MemSwap::new(alloc, 4, Vec::new(alloc), vec![in alloc; 4]?)?;
-    disk.write_blocks(1, &[7; 8192])?;
-    disk.read_blocks(1, &mut two)?;
+    let writes = vec![in alloc; 4].expect(&rt, "memory");
+    let mut disk = MemSwap::new(alloc, 4, Vec::new(alloc), writes).expect(&rt, "memory");
+    assert_eq!(rt; disk.size(), 4);
+    assert_eq!(rt; disk.write_blocks(1, &[7; 8192]), Ok(()));
+    assert_eq!(rt; disk.read_blocks(1, &mut two), Ok(()));
     assert_eq!(rt; two, [7; 8192]);
-    // Its second block is the fourth write.
     assert_eq!(rt; disk.write_blocks(2, &[8; 8192]), Err(SwapAnswer::Failed));
-    disk.read_block(2, &mut block)?;
-    assert_eq!(rt; block, [8; 4096]);
-    disk.read_block(3, &mut block)?;
-    assert_eq!(rt; block, [0xEE; 4096]);
-    Ok(())
+    check_block(&rt, &mut disk, 2, 8);
+    check_block(&rt, &mut disk, 3, 0xEE);
 }
 
 /// Holds a disk by value, as a store does.
@@ -132,37 +131,33 @@ fn write_lent<D: SwapDisk>(disk: &mut D, bytes: &[u8]) -> Result<(), SwapAnswer>
 }
 
 #[test]
-fn a_lent_swap_disk(rt: HostRuntime) -> Result<(), Fail> {
+fn a_lent_swap_disk(rt: HostRuntime) {
     let mut block = [1u8; 4096];
-    let mut disk = SureSwap::new(rt.alloc(), 2)?;
-    write_lent(&mut disk, &[7; 4096])?;
+    let mut disk = SureSwap::new(rt.alloc(), 2).expect(&rt, "memory");
+    assert_eq!(rt; disk.size(), 2);
+    assert_eq!(rt; write_lent(&mut disk, &[7; 4096]), Ok(()));
+    check_block(&rt, &mut Lent { disk: &mut disk }, 0, 7);
     assert_eq!(rt; Lent { disk: &mut disk }.size(), 2);
-    Lent { disk: &mut disk }.read_block(0, &mut block)?;
-    assert_eq!(rt; block, [7; 4096]);
-    Lent { disk: &mut disk }.write_blocks(1, &[8; 4096])?;
-    Lent { disk: &mut disk }.read_blocks(1, &mut block)?;
+    let answer = Lent { disk: &mut disk }.write_blocks(1, &[8; 4096]);
+    assert_eq!(rt; answer, Ok(()));
+    let answer = Lent { disk: &mut disk }.read_blocks(1, &mut block);
+    assert_eq!(rt; answer, Ok(()));
     assert_eq!(rt; block, [8; 4096]);
-    Ok(())
 }
 
 /// Checks the text of an answer.
-fn check_text<T: Display>(
-    rt: &(impl Abort + Alloc<A = Global>),
-    answer: &T,
-    wanted: &str,
-) -> Result<(), Fail> {
-    let text = answer.to_string(rt.alloc())?;
+fn check_text<T: Display>(rt: &(impl Abort + Alloc<A = Global>), answer: &T, wanted: &str) {
+    let text = answer.to_string(rt.alloc()).expect(rt, "memory");
     assert_eq!(rt; text.as_str(), wanted);
-    Ok(())
 }
 
 #[test]
-fn texts_of_the_answers(rt: HostRuntime) -> Result<(), Fail> {
+fn texts_of_the_answers(rt: HostRuntime) {
     let too_long = ShelfAnswer::TooLong { taken: 5 };
-    check_text(&rt, &ShelfAnswer::Failed, "the shelf failed")?;
-    check_text(&rt, &ShelfAnswer::Absent, "there is no such file")?;
-    check_text(&rt, &too_long, "the file is too long: 5 bytes were taken")?;
-    check_text(&rt, &SwapAnswer::Failed, "the swap disk failed")?;
-    check_text(&rt, &SinkAnswer::Failed, "the sink failed")?;
-    check_text(&rt, &NoMemory, "no memory was left")
+    check_text(&rt, &ShelfAnswer::Failed, "the shelf failed");
+    check_text(&rt, &ShelfAnswer::Absent, "there is no such file");
+    check_text(&rt, &too_long, "the file is too long: 5 bytes were taken");
+    check_text(&rt, &SwapAnswer::Failed, "the swap disk failed");
+    check_text(&rt, &SinkAnswer::Failed, "the sink failed");
+    check_text(&rt, &NoMemory, "no memory was left");
 }

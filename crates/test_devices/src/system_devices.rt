@@ -3,16 +3,16 @@
 ghost use Rattle.std.specs.Prelude.{IsTrue};
 ghost use Rattle.outside_io.specs.FileName.{is_file_name};
 
+use crate::sure_devices::check_block;
 use crate::tests::is_answer;
 use outside_io::{
     FileSwap, FolderShelf, Shelf, ShelfAnswer, Sink, SinkAnswer, StdSink, SwapAnswer, SwapDisk,
 };
-use std::alloc::{AllocError, Global};
+use std::alloc::Global;
 use std::fmt::Display;
 use std::io::ErrorKind;
 use std::os::unix::fs::symlink;
 use std::process::Abort;
-use std::test::Fail;
 use std::{fs, io};
 
 /// Checks what a read of a shelf answers.
@@ -30,48 +30,46 @@ fn check_read<S: Shelf>(
 }
 
 #[test]
-fn the_current_folder(rt: HostRuntime) -> Result<(), Fail> {
+fn the_current_folder(rt: HostRuntime) {
     let mut shelf = FolderShelf::new(&rt);
     let name = "folder_shelf.five";
     check_read(&rt, &mut shelf, name, 5, Err(ShelfAnswer::Absent));
-    shelf.write(name, &[1, 2, 3, 4, 5])?;
+    assert_eq!(rt; shelf.write(name, &[1, 2, 3, 4, 5]), Ok(()));
     let too_long = ShelfAnswer::TooLong { taken: 5 };
     check_read(&rt, &mut shelf, name, 4, Err(too_long));
     check_read(&rt, &mut shelf, name, 5, Ok(&[1, 2, 3, 4, 5]));
     check_read(&rt, &mut shelf, name, u64::MAX, Ok(&[1, 2, 3, 4, 5]));
-    shelf.write(name, &[6])?;
+    assert_eq!(rt; shelf.write(name, &[6]), Ok(()));
     check_read(&rt, &mut shelf, name, 5, Ok(&[6]));
-    shelf.write(name, &[])?;
+    assert_eq!(rt; shelf.write(name, &[]), Ok(()));
     check_read(&rt, &mut shelf, name, 0, Ok(&[]));
-    fs::remove_file(&rt, name)?;
-    Ok(())
+    fs::remove_file(&rt, name).expect(&rt, "the file");
 }
 
 /// How long files are that are read in several turns of 128 KiB, or in turns that are full.
 const LONG_FILES: [u64; 3] = [131_072, 262_144, 300_001];
 
 /// Returns bytes that no turn repeats.
-fn long_bytes(alloc: Global, len: u64) -> Result<Vec<u8>, AllocError> {
+fn long_bytes(rt: &impl Abort, alloc: Global, len: u64) -> Vec<u8> {
     let mut bytes = Vec::new(alloc);
     for index in 0..len {
-        bytes.push((index % 251) as u8)?;
+        bytes.push((index % 251) as u8).expect(rt, "memory");
     }
-    Ok(bytes)
+    bytes
 }
 
 #[test]
-fn files_of_several_turns(rt: HostRuntime) -> Result<(), Fail> {
+fn files_of_several_turns(rt: HostRuntime) {
     let mut shelf = FolderShelf::new(&rt);
     let name = "folder_shelf.long";
     for len in LONG_FILES {
-        let bytes = long_bytes(rt.alloc(), len)?;
-        shelf.write(name, &bytes)?;
+        let bytes = long_bytes(&rt, rt.alloc(), len);
+        assert_eq!(rt; shelf.write(name, &bytes), Ok(()));
         check_read(&rt, &mut shelf, name, len, Ok(&bytes));
         let too_long = ShelfAnswer::TooLong { taken: len };
         check_read(&rt, &mut shelf, name, len.saturating_sub(1), Err(too_long));
     }
-    fs::remove_file(&rt, name)?;
-    Ok(())
+    fs::remove_file(&rt, name).expect(&rt, "the file");
 }
 
 /// How long a file is, how many bytes memory has that was used before, and whether the file is read into it: only where it
@@ -85,80 +83,73 @@ const USED_MEMORY: [(u64, usize, bool); 5] = [
 ];
 
 #[test]
-fn memory_that_was_used_before(rt: HostRuntime) -> Result<(), Fail> {
+fn memory_that_was_used_before(rt: HostRuntime) {
     let mut shelf = FolderShelf::new(&rt);
     let name = "folder_shelf.used";
     for (len, used, taken) in USED_MEMORY {
-        let bytes = long_bytes(rt.alloc(), len)?;
-        shelf.write(name, &bytes)?;
-        let mut memory = vec![in rt.alloc(); 255u8; used]?;
+        let bytes = long_bytes(&rt, rt.alloc(), len);
+        assert_eq!(rt; shelf.write(name, &bytes), Ok(()));
+        let mut memory = vec![in rt.alloc(); 255u8; used].expect(&rt, "memory");
         let answer = shelf.read_reusing(name, len, &mut memory);
         assert!(rt; is_answer(&answer, &Ok(&bytes)), "{len} bytes over {used}");
         assert_eq!(rt; memory.is_empty(), taken, "{len} bytes over {used}");
     }
-    fs::remove_file(&rt, name)?;
-    Ok(())
+    fs::remove_file(&rt, name).expect(&rt, "the file");
 }
 
 #[test]
-fn a_folder_is_no_file(rt: HostRuntime) -> Result<(), Fail> {
+fn a_folder_is_no_file(rt: HostRuntime) {
     let mut shelf = FolderShelf::new(&rt);
     let name = "folder_shelf.folder";
-    fs::create_dir(&rt, name)?;
+    fs::create_dir(&rt, name).expect(&rt, "a folder");
     check_read(&rt, &mut shelf, name, 5, Err(ShelfAnswer::Failed));
     assert_eq!(rt; shelf.write(name, &[1]), Err(ShelfAnswer::Failed));
-    fs::remove_dir(&rt, name)?;
-    Ok(())
+    fs::remove_dir(&rt, name).expect(&rt, "the folder");
 }
 
 #[test]
-fn a_file_of_unknown_length(rt: HostRuntime) -> Result<(), Fail> {
+fn a_file_of_unknown_length(rt: HostRuntime) {
     let mut shelf = FolderShelf::new(&rt);
     let name = "folder_shelf.link";
     // The system says that this file has no bytes, and then gives some.
-    symlink(&rt, "/proc/self/status", name)?;
+    symlink(&rt, "/proc/self/status", name).expect(&rt, "a link");
     let too_long = ShelfAnswer::TooLong { taken: 10 };
     check_read(&rt, &mut shelf, name, 9, Err(too_long));
-    assert!(rt; shelf.read(name, 1 << 20)?.starts_with(b"Name:"));
-    fs::remove_file(&rt, name)?;
-    Ok(())
+    let status = shelf.read(name, 1 << 20).expect(&rt, "the file");
+    assert!(rt; status.starts_with(b"Name:"));
+    fs::remove_file(&rt, name).expect(&rt, "the file");
 }
 
 #[test]
-fn a_swap_disk_in_a_file(rt: HostRuntime) -> Result<(), Fail> {
+fn a_swap_disk_in_a_file(rt: HostRuntime) {
     let mut block = [1u8; 4096];
     let mut disk = FileSwap::new(&rt, 3);
-    fs::create_dir(&rt, ".tilegraph-swap")?;
+    let name = ".tilegraph-swap";
+    fs::create_dir(&rt, name).expect(&rt, "a folder");
     assert_eq!(rt; disk.read_block(0, &mut block), Err(SwapAnswer::Failed));
-    fs::remove_dir(&rt, ".tilegraph-swap")?;
-    keep_blocks(&rt, &mut disk)?;
-    keep_several_blocks(&rt, &mut disk)?;
-    assert!(rt; !fs::exists(&rt, ".tilegraph-swap")?);
-    Ok(())
+    fs::remove_dir(&rt, name).expect(&rt, "the folder");
+    keep_blocks(&rt, &mut disk);
+    keep_several_blocks(&rt, &mut disk);
+    assert!(rt; !fs::exists(&rt, name).expect(&rt, "the folder is read"));
 }
 
 /// Writes two blocks of three, and reads all.
-fn keep_blocks<D: SwapDisk>(rt: &impl Abort, disk: &mut D) -> Result<(), Fail> {
+fn keep_blocks<D: SwapDisk>(rt: &impl Abort, disk: &mut D) {
     assert_eq!(rt; disk.size(), 3);
-    disk.write_block(2, &[7; 4096])?;
-    disk.write_block(0, &[8; 4096])?;
-    let mut block = [1u8; 4096];
+    assert_eq!(rt; disk.write_block(2, &[7; 4096]), Ok(()));
+    assert_eq!(rt; disk.write_block(0, &[8; 4096]), Ok(()));
     for (number, byte) in [(2, 7), (0, 8), (1, 0)] {
-        assert!(rt; number < disk.size());
-        disk.read_block(number, &mut block)?;
-        assert_eq!(rt; block, [byte; 4096], "block {number}");
+        check_block(rt, disk, number, byte);
     }
-    Ok(())
 }
 
 /// Writes and reads two blocks of three in one call.
-fn keep_several_blocks<D: SwapDisk>(rt: &impl Abort, disk: &mut D) -> Result<(), Fail> {
+fn keep_several_blocks<D: SwapDisk>(rt: &impl Abort, disk: &mut D) {
     let mut two = [1u8; 8192];
     assert_eq!(rt; disk.size(), 3);
-    disk.write_blocks(1, &[9; 8192])?;
-    disk.read_blocks(1, &mut two)?;
+    assert_eq!(rt; disk.write_blocks(1, &[9; 8192]), Ok(()));
+    assert_eq!(rt; disk.read_blocks(1, &mut two), Ok(()));
     assert_eq!(rt; two, [9; 8192]);
-    Ok(())
 }
 
 /// A standard output that is closed.
@@ -179,9 +170,9 @@ impl Print for Closed {
 }
 
 #[test]
-fn standard_output(rt: HostRuntime) -> Result<(), Fail> {
-    StdSink::new(&rt).put(b"a piece\n")?;
+fn standard_output(rt: HostRuntime) {
+    let answer = StdSink::new(&rt).put(b"a piece\n");
+    assert_eq!(rt; answer, Ok(()));
     let answer = StdSink::new(&Closed).put(b"a piece\n");
     assert_eq!(rt; answer, Err(SinkAnswer::Failed));
-    Ok(())
 }

@@ -1,15 +1,16 @@
 //! For each kind of call a few calls, of which none fails, and then each in turn.
 
+use crate::sure_devices::check_block;
 use outside_io::{
     MemShelf, MemSink, MemSwap, Shelf, ShelfAnswer, Sink, SinkAnswer, SwapAnswer, SwapDisk,
     is_file_name,
 };
-use std::alloc::{AllocError, Global};
-use std::test::Fail;
+use std::alloc::Global;
+use std::process::Abort;
 
 /// Returns the number of the call that fails, counted from 1.
-fn chosen(alloc: Global, call: u64) -> Result<Vec<u64>, AllocError> {
-    Ok(vec![in alloc; call]?)
+fn chosen(rt: &impl Abort, alloc: Global, call: u64) -> Vec<u64> {
+    vec![in alloc; call].expect(rt, "memory")
 }
 
 /// The bytes of the files `one` and `two`.
@@ -18,13 +19,16 @@ const ONE: &[u8] = &[1];
 const TWO: &[u8] = &[2, 2];
 
 /// Returns a shelf of these two files, of which the reads and writes of these numbers fail.
-fn shelf(alloc: Global, fail_read: u64, fail_write: u64) -> Result<MemShelf, AllocError> {
+fn shelf(rt: &impl Abort, alloc: Global, fail_read: u64, fail_write: u64) -> MemShelf {
     let mut files = Vec::new(alloc);
-    files.push(("one".to_string(alloc)?, ONE.to_vec(alloc)?))?;
-    files.push(("two".to_string(alloc)?, TWO.to_vec(alloc)?))?;
-    let reads = chosen(alloc, fail_read)?;
-    let writes = chosen(alloc, fail_write)?;
-    Ok(MemShelf::new(alloc, files, reads, writes))
+    for (name, bytes) in [("one", ONE), ("two", TWO)] {
+        let name = name.to_string(alloc).expect(rt, "memory");
+        let bytes = bytes.to_vec(alloc).expect(rt, "memory");
+        files.push((name, bytes)).expect(rt, "memory");
+    }
+    let reads = chosen(rt, alloc, fail_read);
+    let writes = chosen(rt, alloc, fail_write);
+    MemShelf::new(alloc, files, reads, writes)
 }
 
 /// Four reads, and what each returns where it doesn't fail.
@@ -48,9 +52,9 @@ pub fn is_answer(
 }
 
 #[test]
-fn each_read_of_a_shelf_fails_in_turn(rt: HostRuntime) -> Result<(), Fail> {
+fn each_read_of_a_shelf_fails_in_turn(rt: HostRuntime) {
     for failing in 0..=5 {
-        let mut shelf = shelf(rt.alloc(), failing, 0)?;
+        let mut shelf = shelf(&rt, rt.alloc(), failing, 0);
         for (index, (name, limit, wanted)) in READS.iter().enumerate() {
             assert!(rt; is_file_name(name.as_bytes()));
             let answer = shelf.read(name, *limit);
@@ -67,7 +71,6 @@ fn each_read_of_a_shelf_fails_in_turn(rt: HostRuntime) -> Result<(), Fail> {
         assert_eq!(rt; shelf.get("one"), Some(ONE));
         assert_eq!(rt; shelf.get("two"), Some(TWO));
     }
-    Ok(())
 }
 
 /// Writes a new file, writes it again, empties an old file, and writes a second new one.
@@ -89,9 +92,9 @@ const WRITTEN: [(u64, &[u8], &[u8], &[u8]); 6] = [
 ];
 
 #[test]
-fn each_write_of_a_shelf_fails_in_turn(rt: HostRuntime) -> Result<(), Fail> {
+fn each_write_of_a_shelf_fails_in_turn(rt: HostRuntime) {
     for (failing, new, two, last) in &WRITTEN {
-        let mut shelf = shelf(rt.alloc(), 0, *failing)?;
+        let mut shelf = shelf(&rt, rt.alloc(), 0, *failing);
         for (index, (name, bytes)) in WRITES.iter().enumerate() {
             assert!(rt; is_file_name(name.as_bytes()));
             let answer = shelf.write(name, bytes);
@@ -107,7 +110,6 @@ fn each_write_of_a_shelf_fails_in_turn(rt: HostRuntime) -> Result<(), Fail> {
         assert_eq!(rt; shelf.get("two"), Some(*two), "where {failing} fails");
         assert_eq!(rt; shelf.get("last"), Some(*last), "where {failing} fails");
     }
-    Ok(())
 }
 
 /// The pieces that are put.
@@ -124,9 +126,10 @@ const PUT: [(u64, &[u8]); 6] = [
 ];
 
 #[test]
-fn each_put_of_a_sink_fails_in_turn(rt: HostRuntime) -> Result<(), Fail> {
+fn each_put_of_a_sink_fails_in_turn(rt: HostRuntime) {
     for (failing, written) in &PUT {
-        let mut sink = MemSink::new(rt.alloc(), chosen(rt.alloc(), *failing)?);
+        let chosen = chosen(&rt, rt.alloc(), *failing);
+        let mut sink = MemSink::new(rt.alloc(), chosen);
         for (index, piece) in PIECES.iter().enumerate() {
             let answer = sink.put(piece);
             let wanted = if index as u64 + 1 == *failing {
@@ -138,7 +141,6 @@ fn each_put_of_a_sink_fails_in_turn(rt: HostRuntime) -> Result<(), Fail> {
         }
         assert_eq!(rt; sink.bytes(), *written, "where {failing} fails");
     }
-    Ok(())
 }
 
 /// The block that is written, and the byte that fills it.
@@ -148,49 +150,51 @@ const BLOCK_WRITES: [(u32, u8); 3] = [(0, 7), (1, 8), (0, 9)];
 /// block with EE.
 const BLOCKS: [(u64, u8, u8); 5] = [(0, 9, 8), (1, 9, 8), (2, 9, 0xEE), (3, 0xEE, 8), (4, 9, 8)];
 
-#[test]
-fn each_write_of_a_swap_disk_fails_in_turn(rt: HostRuntime) -> Result<(), Fail> {
-    let alloc = rt.alloc();
-    let mut block = [0u8; 4096];
-    for (failing, first, second) in &BLOCKS {
-        let mut disk = MemSwap::new(alloc, 2, chosen(alloc, 0)?, chosen(alloc, *failing)?)?;
-        for (index, (number, fill)) in BLOCK_WRITES.iter().enumerate() {
-            assert!(rt; *number < disk.size());
-            let answer = disk.write_block(*number, &[*fill; 4096]);
-            let wanted = if index as u64 + 1 == *failing {
-                Err(SwapAnswer::Failed)
-            } else {
-                Ok(())
-            };
-            assert_eq!(rt; answer, wanted, "write {index} where {failing} fails");
-        }
-        assert_eq!(rt; disk.size(), 2);
-        disk.read_block(0, &mut block)?;
-        assert_eq!(rt; block, [*first; 4096], "where {failing} fails");
-        disk.read_block(1, &mut block)?;
-        assert_eq!(rt; block, [*second; 4096], "where {failing} fails");
+/// Returns a disk of so many blocks, of which the reads and writes of these numbers fail.
+fn disk(rt: &impl Abort, alloc: Global, blocks: u32, fail_read: u64, fail_write: u64) -> MemSwap {
+    let reads = chosen(rt, alloc, fail_read);
+    let writes = chosen(rt, alloc, fail_write);
+    MemSwap::new(alloc, blocks.min(1 << 20), reads, writes).expect(rt, "memory")
+}
+
+/// Returns what a call of a disk answers, where it is the one that fails or isn't.
+fn answer_of(fails: bool) -> Result<(), SwapAnswer> {
+    if fails {
+        Err(SwapAnswer::Failed)
+    } else {
+        Ok(())
     }
-    Ok(())
 }
 
 #[test]
-fn each_read_of_a_swap_disk_fails_in_turn(rt: HostRuntime) -> Result<(), Fail> {
-    let alloc = rt.alloc();
+fn each_write_of_a_swap_disk_fails_in_turn(rt: HostRuntime) {
+    for (failing, first, second) in &BLOCKS {
+        let mut disk = disk(&rt, rt.alloc(), 2, 0, *failing);
+        for (index, (number, fill)) in BLOCK_WRITES.iter().enumerate() {
+            assert!(rt; *number < disk.size());
+            let answer = disk.write_block(*number, &[*fill; 4096]);
+            let wanted = answer_of(index as u64 + 1 == *failing);
+            assert_eq!(rt; answer, wanted, "write {index} where {failing} fails");
+        }
+        assert_eq!(rt; disk.size(), 2);
+        check_block(&rt, &mut disk, 0, *first);
+        check_block(&rt, &mut disk, 1, *second);
+    }
+}
+
+#[test]
+fn each_read_of_a_swap_disk_fails_in_turn(rt: HostRuntime) {
     let mut block = [0u8; 4096];
     for failing in 0..=4u64 {
-        let mut disk = MemSwap::new(alloc, 1, chosen(alloc, failing)?, chosen(alloc, 0)?)?;
-        disk.write_block(0, &[7; 4096])?;
+        let mut disk = disk(&rt, rt.alloc(), 1, failing, 0);
+        assert!(rt; disk.size() == 1);
+        assert_eq!(rt; disk.write_block(0, &[7; 4096]), Ok(()));
         for number in 1..=3u64 {
             assert!(rt; disk.size() == 1);
             let answer = disk.read_block(0, &mut block);
-            let wanted = if number == failing {
-                Err(SwapAnswer::Failed)
-            } else {
-                Ok(())
-            };
+            let wanted = answer_of(number == failing);
             assert_eq!(rt; answer, wanted, "read {number} where {failing} fails");
             assert!(rt; answer.is_err() || block == [7; 4096]);
         }
     }
-    Ok(())
 }

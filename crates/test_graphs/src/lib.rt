@@ -11,4 +11,6 @@ mod histories;
 #[cfg(test)]
 mod refusals;
 #[cfg(test)]
+mod steps;
+#[cfg(test)]
 mod trial;

@@ -1,19 +1,21 @@
 //! A graph under test.
 
+use crate::briefs::Fields;
 use graph_commits::{Damage, Graph, GraphRefused};
 use model_graphs::{BufferFact, Edited, NodeEdit};
 use model_states::StateRefused;
 use op_contracts::OpKit;
-use plane_rect::Rect;
 use std::alloc::Global;
-use std::test::Fail;
+use std::process::Abort;
+use test_rects::rect;
 
-/// A graph, its kit, and the buffers that its next commit is over.
+/// A graph, its kit, the buffers that its next commit is over, and what the last step damaged.
 #[derive(Drop)]
 pub(crate) struct Trial<K: OpKit> {
     kit: K,
     graph: Graph<K::Op>,
     pub(crate) buffers: Vec<BufferFact>,
+    damage: Option<Damage>,
 }
 
 impl<K: OpKit + Drop> Trial<K> {
@@ -23,84 +25,81 @@ impl<K: OpKit + Drop> Trial<K> {
             kit,
             graph: Graph::new(alloc),
             buffers,
+            damage: None,
         }
-    }
-
-    /// Returns the number of the last state, and the number of its nodes.
-    pub(crate) fn counts(&self) -> (u64, usize) {
-        (self.graph.number(), self.graph.nodes().len())
-    }
-
-    /// Returns whether the nodes of the last state have these names, in their order.
-    pub(crate) fn has_nodes(&self, wanted: &[&str]) -> bool {
-        let nodes = self.graph.nodes();
-        nodes.len() == wanted.len()
-            && nodes.iter().zip(wanted).all(|(fact, word)| fact.spec.name.as_bytes()
-                == word.as_bytes())
     }
 
     /// Commits edits over the buffers, some of which were written.
-    pub(crate) fn commit(
-        &mut self,
-        edits: &[NodeEdit<K::Op>],
-        edited: &[Edited],
-    ) -> Result<Damage, Fail> {
-        if !self.graph.has_all_buffers_in(&self.buffers) {
-            return Err(Fail::from("a buffer is gone"));
-        }
-        Ok(self.graph.commit(&self.kit, edits, &self.buffers, edited)?)
-    }
-
-    /// Returns why a commit of these edits is refused, and fails where it is not.
-    pub(crate) fn refusal(&mut self, edits: &[NodeEdit<K::Op>]) -> Result<StateRefused, Fail> {
-        if !self.graph.has_all_buffers_in(&self.buffers) {
-            return Err(Fail::from("a buffer is gone"));
-        }
-        cause(self.graph.commit(&self.kit, edits, &self.buffers, &[]))
+    pub(crate) fn commit(&mut self, rt: &impl Abort, edits: &[NodeEdit<K::Op>], edited: &[Edited]) {
+        assert!(rt; self.graph.has_all_buffers_in(&self.buffers));
+        let damage = self.graph.commit(&self.kit, edits, &self.buffers, edited);
+        self.damage = Some(damage.expect(rt, "a commit that is not refused"));
     }
 
     /// Goes back by one state.
-    pub(crate) fn undo(&mut self) -> Result<Damage, Fail> {
-        Ok(self.graph.undo()?)
+    pub(crate) fn undo(&mut self, rt: &impl Abort) {
+        self.damage = Some(self.graph.undo().expect(rt, "a state to undo to"));
     }
 
     /// Goes on by one state.
-    pub(crate) fn redo(&mut self) -> Result<Damage, Fail> {
-        Ok(self.graph.redo()?)
+    pub(crate) fn redo(&mut self, rt: &impl Abort) {
+        self.damage = Some(self.graph.redo().expect(rt, "a state to redo to"));
     }
 
-    /// Returns why an undo is refused, and fails where it is not.
-    pub(crate) fn undo_refusal(&mut self) -> Result<StateRefused, Fail> {
-        cause(self.graph.undo())
+    /// Checks why a commit of edits is refused.
+    pub(crate) fn check_refused(
+        &mut self,
+        rt: &impl Abort,
+        edits: &[NodeEdit<K::Op>],
+        wanted: StateRefused,
+    ) {
+        assert!(rt; self.graph.has_all_buffers_in(&self.buffers));
+        let answer = self.graph.commit(&self.kit, edits, &self.buffers, &[]);
+        check_cause(rt, answer, wanted);
     }
 
-    /// Returns why a redo is refused, and fails where it is not.
-    pub(crate) fn redo_refusal(&mut self) -> Result<StateRefused, Fail> {
-        cause(self.graph.redo())
+    /// Checks that there is nothing to undo.
+    pub(crate) fn check_first(&mut self, rt: &impl Abort) {
+        check_cause(rt, self.graph.undo(), StateRefused::NothingToUndo);
+    }
+
+    /// Checks that there is nothing to redo.
+    pub(crate) fn check_last(&mut self, rt: &impl Abort) {
+        check_cause(rt, self.graph.redo(), StateRefused::NothingToRedo);
+    }
+
+    /// Checks the number of the last state, and what the step to it damaged of its nodes, in their order.
+    pub(crate) fn check_damage(&self, rt: &impl Abort, number: u64, wanted: &[(&str, Fields)]) {
+        let damage = self.damage.as_ref().expect(rt, "a step");
+        check_rects(rt, damage, number, wanted);
+    }
+
+    /// Checks the number of the last state, and the number of its nodes.
+    pub(crate) fn check_counts(&self, rt: &impl Abort, number: u64, nodes: usize) {
+        assert_eq!(rt; self.graph.number(), number);
+        assert_eq!(rt; self.graph.nodes().len(), nodes);
+    }
+
+    /// Checks the number of the last state, and the names of its nodes in their order.
+    pub(crate) fn check_nodes(&self, rt: &impl Abort, number: u64, names: &[&str]) {
+        self.check_counts(rt, number, names.len());
+        for (fact, name) in self.graph.nodes().iter().zip(names) {
+            assert_eq!(rt; fact.spec.name.as_bytes(), name.as_bytes());
+        }
     }
 }
 
-/// Returns why a step is refused.
-fn cause(answer: Result<Damage, GraphRefused>) -> Result<StateRefused, Fail> {
-    match answer {
-        Err(GraphRefused::State(refused)) => Ok(refused),
-        Err(GraphRefused::NoMemory) => Err(Fail::from("no memory was left")),
-        Ok(_) => Err(Fail::from("it is not refused")),
-    }
+/// Checks why a step is refused.
+fn check_cause(rt: &impl Abort, answer: Result<Damage, GraphRefused>, wanted: StateRefused) {
+    assert!(rt; answer.err() == Some(GraphRefused::State(wanted)));
 }
 
-/// Returns whether a damage has this number and these rectangles, in their order.
-pub(crate) fn is_damage(damage: &Damage, number: u64, wanted: &[(&str, [i64; 4])]) -> bool {
+/// Checks the number and the rectangles of a damage, in their order.
+fn check_rects(rt: &impl Abort, damage: &Damage, number: u64, wanted: &[(&str, Fields)]) {
     let rects = damage.rects.as_slice();
-    damage.number == number
-        && rects.len() == wanted.len()
-        && rects.iter().zip(wanted).all(|(found, entry)| {
-            found.0.as_bytes() == entry.0.as_bytes() && is_rect(&found.1, entry.1)
-        })
-}
-
-/// Returns whether a rectangle has these four fields.
-fn is_rect(found: &Rect, fields: [i64; 4]) -> bool {
-    let [x, y, w, h] = fields;
-    Rect::new(x, y, w, h).is_ok_and(|wanted| wanted == *found)
+    assert_eq!(rt; (damage.number, rects.len()), (number, wanted.len()));
+    for (found, (name, fields)) in rects.iter().zip(wanted) {
+        assert_eq!(rt; found.0.as_bytes(), name.as_bytes());
+        assert!(rt; found.1 == rect(*fields), "{fields:?}");
+    }
 }

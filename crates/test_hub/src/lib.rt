@@ -4,6 +4,7 @@
 mod pages;
 #[cfg(test)]
 mod tests;
+#[cfg(test)]
 mod watches;
 
 pub use pages::Page;

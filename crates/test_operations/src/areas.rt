@@ -1,7 +1,7 @@
 //! The operations on squares at a corner of an image and of the plane, under each policy, and operations
 //! on whole tiles and on parts of several tiles.
 
-use crate::shown::{Fields, applied, check, window};
+use crate::shown::{Fields, applied, bytes_of, check, window};
 use int_ops::IntOp;
 use pixel_formats::{Abyss, Format};
 use std::alloc::Global;
@@ -10,7 +10,7 @@ use test_rects::rect;
 
 /// What is made of the samples of a square.
 #[derive(Clone, Copy)]
-enum Kind {
+pub(crate) enum Kind {
     BoxMean,
     Dilate,
     Erode,
@@ -18,7 +18,7 @@ enum Kind {
 
 impl Kind {
     /// Returns the operation.
-    fn op(self, radius: u32, abyss: Abyss) -> IntOp {
+    pub(crate) fn op(self, radius: u32, abyss: Abyss) -> IntOp {
         match self {
             Kind::BoxMean => IntOp::BoxMean { radius, abyss },
             Kind::Dilate => IntOp::Dilate { radius, abyss },
@@ -38,67 +38,57 @@ const PARTS: [(Abyss, Fields); 4] = [
     (Abyss::White, [0, 0, 2, 1]),
 ];
 
-/// Operations with their radius, and the raw bytes of these parts. They were computed from the formulas by a program
-/// of its own.
-const CORNERS: [(Kind, u32, [&[u8]; 4]); 6] = [
+/// Operations with their radius, and the raw bytes of these parts as decimal numbers. They were computed from the
+/// formulas by a program of its own.
+const CORNERS: [(Kind, u32, [&str; 4]); 6] = [
     (
         Kind::BoxMean,
         1,
-        [
-            &[1, 22],
-            &[57, 182, 67, 134],
-            &[42, 225, 56, 169],
-            &[184, 225, 141, 169],
-        ],
+        ["1 22", "57 182 67 134", "42 225 56 169", "184 225 141 169"],
     ),
     (
         Kind::BoxMean,
         20,
-        [
-            &[0, 0],
-            &[43, 70, 44, 67],
-            &[0, 255, 0, 255],
-            &[254, 255, 254, 255],
-        ],
+        ["0 0", "43 70 44 67", "0 255 0 255", "254 255 254 255"],
     ),
     (
         Kind::Dilate,
         1,
         [
-            &[5, 200],
-            &[250, 255, 250, 255],
-            &[250, 255, 250, 255],
-            &[255, 255, 255, 255],
+            "5 200",
+            "250 255 250 255",
+            "250 255 250 255",
+            "255 255 255 255",
         ],
     ),
     (
         Kind::Dilate,
         20,
         [
-            &[250, 255],
-            &[250, 255, 250, 255],
-            &[250, 255, 250, 255],
-            &[255, 255, 255, 255],
+            "250 255",
+            "250 255 250 255",
+            "250 255 250 255",
+            "255 255 255 255",
         ],
     ),
-    (
-        Kind::Erode,
-        1,
-        [&[0, 0], &[5, 40, 0, 0], &[0, 40, 0, 0], &[5, 40, 0, 0]],
-    ),
-    (
-        Kind::Erode,
-        20,
-        [&[0, 0], &[0, 0, 0, 0], &[0, 0, 0, 0], &[0, 0, 0, 0]],
-    ),
+    (Kind::Erode, 1, ["0 0", "5 40 0 0", "0 40 0 0", "5 40 0 0"]),
+    (Kind::Erode, 20, ["0 0", "0 0 0 0", "0 0 0 0", "0 0 0 0"]),
 ];
 
 #[test]
 fn squares_at_a_corner(rt: HostRuntime) {
     let windows = [window(&rt, rt.alloc(), [0, 0, 3, 2], Format::YA8, &IMAGE)];
     for (kind, radius, results) in CORNERS {
-        for ((abyss, out), raw) in PARTS.into_iter().zip(results) {
-            check(&rt, rt.alloc(), &kind.op(radius, abyss), &windows, out, raw);
+        for ((abyss, out), text) in PARTS.into_iter().zip(results) {
+            let raw = bytes_of(&rt, rt.alloc(), text);
+            check(
+                &rt,
+                rt.alloc(),
+                &kind.op(radius, abyss),
+                &windows,
+                out,
+                &raw,
+            );
         }
     }
 }
@@ -109,13 +99,10 @@ fn squares_at_the_corner_of_the_plane(rt: HostRuntime) {
     let corner = [-16_777_216, -16_777_216, 1, 1];
     let windows = [window(&rt, alloc, corner, Format::Y8, &[9])];
     for (abyss, mean) in [(Abyss::Clamp, 9), (Abyss::Black, 1), (Abyss::White, 228)] {
-        let op = IntOp::BoxMean { radius: 1, abyss };
+        let op = Kind::BoxMean.op(1, abyss);
         check(&rt, alloc, &op, &windows, corner, &[mean]);
     }
-    let outside = IntOp::Dilate {
-        radius: 1,
-        abyss: Abyss::None,
-    };
+    let outside = Kind::Dilate.op(1, Abyss::None);
     assert!(rt; applied(&rt, alloc, &outside, &windows, corner).is_none());
 }
 
@@ -134,40 +121,18 @@ fn parts_of_several_tiles(rt: HostRuntime) {
     let alloc = rt.alloc();
     let bytes = repeated(&rt, alloc, 200);
     let windows = [window(&rt, alloc, [0, 0, 200, 1], Format::Y8, &bytes)];
-    let flip = IntOp::Flip { sideways: true };
-    check(&rt, alloc, &flip, &windows, [64, 0, 3, 1], &[135, 134, 133]);
     let translate = IntOp::Translate { dx: 30, dy: 0 };
-    check(
-        &rt,
-        alloc,
-        &translate,
-        &windows,
-        [93, 0, 3, 1],
-        &[63, 64, 65],
-    );
-    let crop = IntOp::Crop {
-        rect: rect([126, 0, 9, 9]),
-    };
-    check(
-        &rt,
-        alloc,
-        &crop,
-        &windows,
-        [128, 0, 3, 1],
-        &[128, 129, 130],
-    );
-    let dilate = IntOp::Dilate {
-        radius: 64,
-        abyss: Abyss::Clamp,
-    };
-    check(
-        &rt,
-        alloc,
-        &dilate,
-        &windows,
-        [64, 0, 3, 1],
-        &[128, 129, 130],
-    );
+    let rect = rect([126, 0, 9, 9]);
+    let dilate = Kind::Dilate.op(64, Abyss::Clamp);
+    let parts = [
+        (IntOp::Flip { sideways: true }, 64, [135, 134, 133]),
+        (translate, 93, [63, 64, 65]),
+        (IntOp::Crop { rect }, 128, [128, 129, 130]),
+        (dilate, 64, [128, 129, 130]),
+    ];
+    for (op, x, raw) in &parts {
+        check(&rt, alloc, op, &windows, [*x, 0, 3, 1], raw);
+    }
 }
 
 #[test]

@@ -1,10 +1,11 @@
 //! The operations on two pixels of each format, on parts of tiles, and where they are refused.
 
+use crate::areas::Kind;
 use crate::cases::{
     ABOVE, CHECKERED, COMPOSITED, CONVERTED, DILATED, ERODED, FIRST, FORMATS, GAINED, INVERTED,
     MASKED, MEANS, PIXEL, Rows, SECOND, SUMS,
 };
-use crate::shown::{Fields, applied, check, row, window};
+use crate::shown::{Fields, applied, bytes_of, check, check_text, row, window};
 use int_ops::{IntKit, IntOp};
 use op_contracts::{OpKit, Window};
 use pixel_formats::{Abyss, Format, PixelSamples};
@@ -21,27 +22,9 @@ fn changes() -> [(IntOp, Rows); 6] {
         (IntOp::Invert, INVERTED),
         (IntOp::Threshold { at: 100 }, ABOVE),
         (IntOp::Gain { num: 5, den: 4 }, GAINED),
-        (
-            IntOp::BoxMean {
-                radius: 1,
-                abyss: Abyss::Clamp,
-            },
-            MEANS,
-        ),
-        (
-            IntOp::Dilate {
-                radius: 1,
-                abyss: Abyss::Black,
-            },
-            DILATED,
-        ),
-        (
-            IntOp::Erode {
-                radius: 1,
-                abyss: Abyss::White,
-            },
-            ERODED,
-        ),
+        (Kind::BoxMean.op(1, Abyss::Clamp), MEANS),
+        (Kind::Dilate.op(1, Abyss::Black), DILATED),
+        (Kind::Erode.op(1, Abyss::White), ERODED),
     ]
 }
 
@@ -59,9 +42,9 @@ fn moves() -> [(IntOp, Fields, &'static [usize]); 4] {
 
 /// Checks the results of an operation of the first image of each format.
 fn check_change(rt: &impl Abort, alloc: Global, op: &IntOp, results: Rows) {
-    for ((format, image), raw) in FORMATS.into_iter().zip(FIRST).zip(results) {
+    for ((format, image), wanted) in FORMATS.into_iter().zip(FIRST).zip(results) {
         let windows = [row(rt, alloc, format, image)];
-        check(rt, alloc, op, &windows, PAIR, raw);
+        check_text(rt, alloc, op, &windows, PAIR, wanted);
     }
 }
 
@@ -88,7 +71,8 @@ fn picked(rt: &impl Abort, alloc: Global, width: usize, image: &[u8], pixels: &[
 fn check_move(rt: &impl Abort, alloc: Global, op: &IntOp, out: Fields, pixels: &[usize]) {
     for (format, image) in FORMATS.into_iter().zip(FIRST) {
         let windows = [row(rt, alloc, format, image)];
-        let raw = picked(rt, alloc, format.pixel_bytes() as usize, image, pixels);
+        let image = bytes_of(rt, alloc, image);
+        let raw = picked(rt, alloc, format.pixel_bytes() as usize, &image, pixels);
         check(rt, alloc, op, &windows, out, &raw);
     }
 }
@@ -104,21 +88,15 @@ fn moves_of_pixels(rt: HostRuntime) {
 fn conversions(rt: HostRuntime) {
     for ((format, image), results) in FORMATS.into_iter().zip(FIRST).zip(CONVERTED) {
         let windows = [row(&rt, rt.alloc(), format, image)];
-        for (format, raw) in FORMATS.into_iter().zip(results) {
+        for (format, wanted) in FORMATS.into_iter().zip(results) {
             let op = IntOp::Convert { format };
-            check(&rt, rt.alloc(), &op, &windows, PAIR, raw);
+            check_text(&rt, rt.alloc(), &op, &windows, PAIR, wanted);
         }
     }
 }
 
 /// Returns the windows of both images of a format.
-fn both(
-    rt: &impl Abort,
-    alloc: Global,
-    format: Format,
-    first: &[u8],
-    second: &[u8],
-) -> [Window; 2] {
+fn both(rt: &impl Abort, alloc: Global, format: Format, first: &str, second: &str) -> [Window; 2] {
     [
         row(rt, alloc, format, first),
         row(rt, alloc, format, second),
@@ -128,34 +106,34 @@ fn both(
 /// Returns a mask of two pixels for images of a format.
 fn mask_of(rt: &impl Abort, alloc: Global, format: Format) -> Window {
     match format.depth() {
-        1 => row(rt, alloc, Format::Y8, &[128, 255]),
-        _ => row(rt, alloc, Format::Y16, &[0, 128, 244, 1]),
+        1 => row(rt, alloc, Format::Y8, "128 255"),
+        _ => row(rt, alloc, Format::Y16, "0 128 244 1"),
     }
 }
 
 #[test]
 fn sums(rt: HostRuntime) {
-    for (((format, first), second), raw) in FORMATS.into_iter().zip(FIRST).zip(SECOND).zip(SUMS) {
+    for (((format, first), second), sum) in FORMATS.into_iter().zip(FIRST).zip(SECOND).zip(SUMS) {
         let windows = both(&rt, rt.alloc(), format, first, second);
-        check(&rt, rt.alloc(), &IntOp::Add, &windows, PAIR, raw);
+        check_text(&rt, rt.alloc(), &IntOp::Add, &windows, PAIR, sum);
     }
 }
 
 #[test]
 fn masked_images(rt: HostRuntime) {
-    for ((format, first), raw) in FORMATS.into_iter().zip(FIRST).zip(MASKED) {
+    for ((format, first), wanted) in FORMATS.into_iter().zip(FIRST).zip(MASKED) {
         let windows = [
             row(&rt, rt.alloc(), format, first),
             mask_of(&rt, rt.alloc(), format),
         ];
-        check(&rt, rt.alloc(), &IntOp::Mask, &windows, PAIR, raw);
+        check_text(&rt, rt.alloc(), &IntOp::Mask, &windows, PAIR, wanted);
     }
 }
 
 /// Checks what two windows of a format give that are composited. Without alpha they are refused.
-fn check_over(rt: &impl Abort, alloc: Global, format: Format, windows: &[Window], raw: &[u8]) {
+fn check_over(rt: &impl Abort, alloc: Global, format: Format, windows: &[Window], text: &str) {
     if format.has_alpha() {
-        check(rt, alloc, &IntOp::Over, windows, PAIR, raw);
+        check_text(rt, alloc, &IntOp::Over, windows, PAIR, text);
     } else {
         assert!(rt; applied(rt, alloc, &IntOp::Over, windows, PAIR).is_none());
     }
@@ -163,14 +141,14 @@ fn check_over(rt: &impl Abort, alloc: Global, format: Format, windows: &[Window]
 
 #[test]
 fn composited_images(rt: HostRuntime) {
-    for (((format, first), second), raw) in FORMATS
+    for (((format, first), second), wanted) in FORMATS
         .into_iter()
         .zip(FIRST)
         .zip(SECOND)
         .zip(COMPOSITED)
     {
         let windows = both(&rt, rt.alloc(), format, first, second);
-        check_over(&rt, rt.alloc(), format, &windows, raw);
+        check_over(&rt, rt.alloc(), format, &windows, wanted);
     }
 }
 
@@ -206,6 +184,8 @@ fn check_of_none(rt: &impl Abort, alloc: Global, op: &IntOp, left: &[u8], right:
 fn colors(rt: HostRuntime) {
     for ((format, image), pixel) in FORMATS.into_iter().zip(FIRST).zip(PIXEL) {
         let color = color_of(&rt, rt.alloc(), format, pixel);
+        let bytes = bytes_of(&rt, rt.alloc(), image);
+        let image = bytes.as_slice();
         let (raw, _) = image.split_at(image.len() / 2);
         check_of_none(&rt, rt.alloc(), &color, raw, raw);
     }
@@ -214,6 +194,8 @@ fn colors(rt: HostRuntime) {
 #[test]
 fn checkerboards(rt: HostRuntime) {
     for (format, image) in FORMATS.into_iter().zip(CHECKERED) {
+        let bytes = bytes_of(&rt, rt.alloc(), image);
+        let image = bytes.as_slice();
         let (left, right) = image.split_at(image.len() / 2);
         check_of_none(&rt, rt.alloc(), &checker_of(format), left, right);
     }
@@ -245,15 +227,8 @@ fn sums_and_masks_of_other_boxes(rt: HostRuntime) {
         window(&rt, alloc, [0, 0, 2, 1], Format::Y8, &[1, 2]),
         window(&rt, alloc, [1, 0, 3, 1], Format::Y8, &[255, 128, 7]),
     ];
-    check(
-        &rt,
-        alloc,
-        &IntOp::Add,
-        &pair,
-        [0, 0, 4, 1],
-        &[1, 255, 128, 7],
-    );
-    check(&rt, alloc, &IntOp::Mask, &pair, [1, 0, 1, 1], &[2]);
+    check_text(&rt, alloc, &IntOp::Add, &pair, [0, 0, 4, 1], "1 255 128 7");
+    check_text(&rt, alloc, &IntOp::Mask, &pair, [1, 0, 1, 1], "2");
     let outside = applied(&rt, alloc, &IntOp::Mask, &pair, [0, 0, 2, 1]);
     assert!(rt; outside.is_none());
 }
@@ -264,9 +239,9 @@ fn results_that_are_empty(rt: HostRuntime) {
     let apart = IntOp::Crop {
         rect: rect([5, 5, 1, 1]),
     };
-    let image = [row(&rt, alloc, Format::RGB8, &[1, 2, 3])];
+    let image = [row(&rt, alloc, Format::RGB8, "1 2 3")];
     check(&rt, alloc, &apart, &image, [0, 0, 0, 0], &[]);
-    let empty = [row(&rt, alloc, Format::Y16, &[])];
+    let empty = [row(&rt, alloc, Format::Y16, "")];
     for (op, _) in &changes() {
         check(&rt, alloc, op, &empty, [0, 0, 0, 0], &[]);
     }

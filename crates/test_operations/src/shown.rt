@@ -31,10 +31,21 @@ pub(crate) fn window(
     Window::new(bounds, format, bounds, WindowTiles::new(entries))
 }
 
+/// Returns the bytes that decimal numbers are.
+pub(crate) fn bytes_of(rt: &impl Abort, alloc: Global, text: &str) -> Vec<u8> {
+    let mut bytes = Vec::new(alloc);
+    for word in text.split_whitespace() {
+        let byte = word.parse::<u8>().expect(rt, "a byte");
+        bytes.push(byte).expect(rt, "memory");
+    }
+    bytes
+}
+
 /// Returns the window of a row of pixels from the origin on.
-pub(crate) fn row(rt: &impl Abort, alloc: Global, format: Format, raw: &[u8]) -> Window {
+pub(crate) fn row(rt: &impl Abort, alloc: Global, format: Format, text: &str) -> Window {
+    let raw = bytes_of(rt, alloc, text);
     let pixels = raw.len() / format.pixel_bytes() as usize;
-    window(rt, alloc, [0, 0, pixels as i64, 1], format, raw)
+    window(rt, alloc, [0, 0, pixels as i64, 1], format, &raw)
 }
 
 /// Returns a part of what an operation gives of windows, in the tile where it begins, if it takes them.
@@ -62,4 +73,16 @@ pub(crate) fn check(
 ) {
     let patch = applied(rt, alloc, op, windows, out).expect(rt, "a part of a result");
     assert_eq!(rt; patch.raw_bytes(), raw, "{out:?}");
+}
+
+/// Checks the raw bytes that an operation gives over a rectangle, as decimal numbers.
+pub(crate) fn check_text(
+    rt: &impl Abort,
+    alloc: Global,
+    op: &IntOp,
+    windows: &[Window],
+    out: Fields,
+    text: &str,
+) {
+    check(rt, alloc, op, windows, out, &bytes_of(rt, alloc, text));
 }

@@ -2,41 +2,40 @@
 
 use graph_commits::Graph;
 use model_states::Strip;
-use no_memory::NoMemory;
 use op_contracts::OpKit;
 use plane_rect::Rect;
 use roi_planner::{PlanRefused, StripList, check_widths, plan, strip_need};
 use std::alloc::Global;
+use std::process::Abort;
 
-/// Plans a request of a graph's node at a position. None where there is no such node.
-pub fn planned<K: OpKit>(
+/// Plans a request of a graph's node at a position.
+///
+/// # Errors
+///
+/// As [`plan`].
+pub(crate) fn planned<K: OpKit>(
+    rt: &impl Abort,
     kit: &K,
     alloc: Global,
     graph: &Graph<K::Op>,
-    node: u32,
-    rect: Rect,
+    (node, rect): (u32, Rect),
     capacity: u32,
-) -> Result<Option<StripList>, PlanRefused> {
+) -> Result<StripList, PlanRefused> {
     let nodes = graph.nodes();
-    if node as usize >= nodes.len() {
-        return Ok(None);
-    }
+    assert!(rt; (node as usize) < nodes.len());
     check_widths(kit, alloc, nodes, node, rect, capacity)?;
-    Ok(Some(plan(kit, alloc, nodes, node, rect, capacity)?))
+    plan(kit, alloc, nodes, node, rect, capacity)
 }
 
-/// Returns what is needed for a rectangle of a graph's node at a position. None where there is no such
-/// node.
-pub fn needed<K: OpKit>(
+/// Returns what is needed for a rectangle of a graph's node at a position.
+pub(crate) fn needed<K: OpKit>(
+    rt: &impl Abort,
     kit: &K,
     alloc: Global,
     graph: &Graph<K::Op>,
-    node: u32,
-    rect: Rect,
-) -> Result<Option<Strip>, NoMemory> {
+    (node, rect): (u32, Rect),
+) -> Strip {
     let nodes = graph.nodes();
-    if node as usize >= nodes.len() {
-        return Ok(None);
-    }
-    Ok(Some(strip_need(kit, alloc, nodes, node, rect)?))
+    assert!(rt; (node as usize) < nodes.len());
+    strip_need(kit, alloc, nodes, node, rect).expect(rt, "memory")
 }

@@ -1,7 +1,7 @@
 //! Work after edits, over a chain. The results are worked out by hand.
 
 use crate::checks::{check_bytes, over, recommitted};
-use crate::small_graphs::{name, node, one_buffer, paint, rect, request, source};
+use crate::small_graphs::{name, node, one_buffer, paint, request, source};
 use chain_contracts::TileChain;
 use int_ops::IntOp;
 use model_graphs::Edited;
@@ -10,6 +10,7 @@ use pixel_formats::{Abyss, Format};
 use std::alloc::Global;
 use std::process::Abort;
 use std::thread::Threads;
+use test_rects::rect;
 
 /// Takes the mean around each of 128 by 128 pixels twice, and again after one pixel was written and committed:
 /// the tiles that meet its damage are evaluated again, and no others.

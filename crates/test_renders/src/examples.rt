@@ -1,7 +1,7 @@
 //! Small examples over a chain, whose results are worked out by hand.
 
 use crate::checks::over;
-use crate::small_graphs::{node, one_buffer, paint, put, rect, request, source};
+use crate::small_graphs::{node, one_buffer, paint, put, request, source};
 use buffer_view::{Buffers, no_buffers_ask_nothing};
 use chain_contracts::TileChain;
 use int_ops::IntOp;
@@ -9,6 +9,7 @@ use pixel_formats::{Abyss, Format, PixelSamples};
 use std::alloc::Global;
 use std::process::Abort;
 use std::thread::Threads;
+use test_rects::rect;
 
 /// Inverts four pixels: all of them, none, and across the edges, outside of which is zero. The buffer itself
 /// has no cached tile.

@@ -10,7 +10,7 @@ use crate::canvas::Canvas;
 use crate::checks::over;
 use crate::plain::bytes;
 use crate::renders::Request;
-use crate::small_graphs::{Fields, name, node, one_buffer, put, rect, request, source};
+use crate::small_graphs::{Fields, name, node, one_buffer, put, request, source};
 use buffer_view::Buffers;
 use chain_contracts::TileChain;
 use int_ops::IntOp;
@@ -21,6 +21,7 @@ use render_workers::RenderRefused;
 use std::alloc::Global;
 use std::process::Abort;
 use std::thread::Threads;
+use test_rects::rect;
 use worker_pieces::Workers;
 
 /// The box of the buffer, of two tiles.

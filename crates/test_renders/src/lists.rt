@@ -9,7 +9,7 @@ ghost use Rattle.test_renders.specs.Ready.{AreOver, AreReady};
 use crate::canvas::Canvas;
 use crate::checks::{order_of, over};
 use crate::renders::Request;
-use crate::small_graphs::{Fields, name, node, one_buffer, rect, source};
+use crate::small_graphs::{Fields, name, node, one_buffer, source};
 use buffer_view::Buffers;
 use chain_contracts::TileChain;
 use int_ops::IntOp;
@@ -21,6 +21,7 @@ use plane_rect::{Name, TileAt};
 use std::alloc::Global;
 use std::process::Abort;
 use std::thread::Threads;
+use test_rects::rect;
 
 /// How many pairs the cache keeps, which is what the widest strip needs.
 const CAPACITY: u32 = 8;

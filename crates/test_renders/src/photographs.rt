@@ -10,7 +10,7 @@ ghost use Rattle.test_renders.specs.Ready.{AreOver, AreReady};
 use crate::canvas::Canvas;
 use crate::checks::over;
 use crate::plain::{apply, bytes, images, level_bytes, picture};
-use crate::small_graphs::{Fields, create, name, node, one_buffer, put, rect, request, source};
+use crate::small_graphs::{Fields, create, name, node, one_buffer, put, request, source};
 use buffer_view::Buffers;
 use chain_contracts::TileChain;
 use int_ops::IntOp;
@@ -21,6 +21,7 @@ use plain_images::{Buffer, Picture, Step};
 use std::alloc::Global;
 use std::process::Abort;
 use std::thread::Threads;
+use test_rects::rect;
 
 /// The boxes of a photograph and of its caption, and what is shown of them.
 #[derive(Clone, Copy)]

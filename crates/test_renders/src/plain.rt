@@ -1,11 +1,12 @@
 //! Images by the plain program.
 
-use crate::small_graphs::{Fields, rect};
+use crate::small_graphs::Fields;
 use int_ops::IntOp;
 use pixel_formats::{Abyss, Format};
 use plain_images::{Buffer, Picture, Step, evaluate, from_raw, level, raw_with};
 use std::alloc::Global;
 use std::process::Abort;
+use test_rects::rect;
 
 /// Returns so many bytes that look random.
 pub fn bytes(rt: &impl Abort, alloc: Global, seed: u32, count: u64) -> Vec<u8> {

@@ -4,7 +4,7 @@ ghost use Rattle.std.specs.Prelude.{◌≡◌};
 
 use crate::checks::{check_bytes, over};
 use crate::renders::Request;
-use crate::small_graphs::{name, node, one_buffer, rect, request, source};
+use crate::small_graphs::{name, node, one_buffer, request, source};
 use chain_contracts::TileChain;
 use int_ops::IntOp;
 use pixel_formats::Format;
@@ -12,6 +12,7 @@ use render_workers::RenderRefused;
 use std::alloc::Global;
 use std::process::Abort;
 use std::thread::Threads;
+use test_rects::rect;
 
 /// Asks for nodes that aren't there, and for rectangles that are too wide at level 0, of sources too.
 pub fn refuse_requests<C: TileChain>(

@@ -1,7 +1,6 @@
 //! Buffers, graphs and requests in few words.
 
 ghost use Rattle.std.specs.Prelude.{◌≡◌};
-ghost use Rattle.plane_rect.specs.Rectangle.{InLimits};
 ghost use Rattle.chain_owners.specs.Held.{Held};
 ghost use Rattle.buffer_view.specs.BufferTables.{AreBuffersOver};
 
@@ -9,12 +8,13 @@ use crate::renders::Request;
 use buffer_view::{Buffers, no_buffers_ask_nothing};
 use chain_contracts::TileChain;
 use int_ops::IntOp;
-use model_graphs::{Body, NodeEdit, NodeSpec};
+use model_graphs::NodeEdit;
 use pixel_formats::Format;
-use plane_rect::{Name, NameList, Rect};
+use plane_rect::Name;
 use std::alloc::Global;
 use std::process::Abort;
 use std::thread::Threads;
+use test_rects::rect;
 use worker_pieces::Workers;
 
 /// A rectangle by x, y, width and height.
@@ -22,18 +22,7 @@ pub type Fields = [i64; 4];
 
 /// Returns the name that a word is.
 pub fn name(rt: &impl Abort, word: &str) -> Name {
-    Name::parse(word.as_bytes()).expect(rt, "a name")
-}
-
-/// Returns the rectangle of four fields, or the one without a position where they are none in limits.
-pub fn rect(fields: Fields) -> Rect
-    ensures { InLimits result }
-{
-    let [x, y, w, h] = fields;
-    match Rect::new(x, y, w, h) {
-        Ok(rect) if rect.in_limits() => rect,
-        _ => Rect::EMPTY,
-    }
+    test_nodes::name(word).expect(rt, "a name")
 }
 
 /// Returns a request for a rectangle of a level of a node, of whose strips each may need 200 tiles.
@@ -50,11 +39,7 @@ pub fn request(rt: &impl Abort, word: &str, level: u32, fields: Fields) -> Reque
 
 /// Returns an edit that sets a node of the image of a buffer.
 pub fn source(rt: &impl Abort, word: &str, buffer: &str) -> NodeEdit<IntOp> {
-    let buffer = name(rt, buffer);
-    NodeEdit::Set(NodeSpec {
-        name: name(rt, word),
-        body: Body::Source { buffer },
-    })
+    NodeEdit::Set(test_nodes::source(word, buffer).expect(rt, "a node"))
 }
 
 /// Returns an edit that sets a node of an operation.
@@ -65,17 +50,7 @@ pub fn node(
     op: IntOp,
     inputs: &[&str],
 ) -> NodeEdit<IntOp> {
-    let mut names = Vec::new(alloc);
-    for input in inputs {
-        names.push(name(rt, input)).expect(rt, "memory");
-    }
-    NodeEdit::Set(NodeSpec {
-        name: name(rt, word),
-        body: Body::Compute {
-            op,
-            inputs: NameList::new(names),
-        },
-    })
+    NodeEdit::Set(test_nodes::node(alloc, word, op, inputs).expect(rt, "a node"))
 }
 
 /// Adds a buffer of zeros.

@@ -1,7 +1,6 @@
 //! Calls on sessions of gray pixels, by words and rectangles of four numbers.
 
 ghost use Rattle.std.specs.Prelude.{◌≡◌, ◌≤◌};
-ghost use Rattle.plane_rect.specs.Rectangle.{InLimits};
 ghost use Rattle.model_operations.specs.Meanings.{int_meanings, same_operation};
 ghost use Rattle.model_sessions.specs.Steps.{IsProper};
 ghost use Rattle.commit_session.specs.Edits.{step_of};
@@ -11,13 +10,14 @@ use chain_contracts::TileChain;
 use commit_session::{Edit, OwnedSession, SessionRefused};
 use int_ops::{IntKit, IntOp, IntPurse};
 use model_buffers::RawBytes;
-use model_graphs::{Body, NodeEdit, NodeSpec};
+use model_graphs::NodeEdit;
 use patch_abyss::{Abyss, Patch};
 use pixel_formats::{Format, PixelSamples};
-use plane_rect::{Name, NameList, Rect};
+use plane_rect::Name;
 use std::alloc::Global;
 use std::process::Abort;
 use std::thread::Threads;
+use test_rects::rect;
 
 /// A rectangle by x, y, width and height.
 pub type Fields = [i64; 4];
@@ -27,18 +27,7 @@ const PERMITS: u64 = 1 << 32;
 
 /// Returns the name that a word is.
 pub fn name(rt: &impl Abort, word: &str) -> Name {
-    Name::parse(word.as_bytes()).expect(rt, "a name")
-}
-
-/// Returns the rectangle of four fields, or the one without a position where they are none in limits.
-pub fn rect(fields: Fields) -> Rect
-    ensures { InLimits result }
-{
-    let [x, y, w, h] = fields;
-    match Rect::new(x, y, w, h) {
-        Ok(rect) if rect.in_limits() => rect,
-        _ => Rect::EMPTY,
-    }
+    test_nodes::name(word).expect(rt, "a name")
 }
 
 /// Returns the edit that adds a buffer of zeros.
@@ -80,25 +69,16 @@ pub fn load(rt: &impl Abort, alloc: Global, word: &str, fields: Fields, bytes: &
 pub fn source(rt: &impl Abort, word: &str, buffer: &str) -> Edit<IntOp>
     ensures { IsProper (step_of result) }
 {
-    let buffer = name(rt, buffer);
-    Edit::Node(NodeEdit::Set(NodeSpec {
-        name: name(rt, word),
-        body: Body::Source { buffer },
-    }))
+    let source = test_nodes::source(word, buffer).expect(rt, "a node");
+    Edit::Node(NodeEdit::Set(source))
 }
 
 /// Returns the edit that sets a node of an operation on one input.
 pub fn node(rt: &impl Abort, alloc: Global, word: &str, op: IntOp, input: &str) -> Edit<IntOp>
     ensures { IsProper (step_of result) }
 {
-    let names = vec![in alloc; name(rt, input)].expect(rt, "memory");
-    Edit::Node(NodeEdit::Set(NodeSpec {
-        name: name(rt, word),
-        body: Body::Compute {
-            op,
-            inputs: NameList::new(names),
-        },
-    }))
+    let node = test_nodes::node(alloc, word, op, &[input]).expect(rt, "a node");
+    Edit::Node(NodeEdit::Set(node))
 }
 
 /// Makes an edit, which is not refused.

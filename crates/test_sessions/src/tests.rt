@@ -9,43 +9,59 @@ use int_ops::IntKit;
 use outside_io::{MemSwap, SwapDisk};
 use std::alloc::Global;
 use std::process::Abort;
-use std::test::Fail;
 use std::thread::Threads;
 
-#[test]
-fn a_commit_voids_what_an_edit_damages(rt: HostRuntime) -> Result<(), Fail> {
-    let alloc = rt.alloc();
-    let mut disk = MemSwap::new(alloc, 64, Vec::new(alloc), Vec::new(alloc))?;
-    let mut session = Session::new(alloc, IntKit, &mut disk, 64, 1, 100, 3)?;
-    average_and_undo(&rt, &mut session, alloc);
-    Ok(())
+/// A job of edits, commits and renders.
+#[derive(Clone, Copy)]
+enum Job {
+    /// A commit voids what an edit damages.
+    AverageAndUndo,
+    /// Edits of nodes are pending until a commit.
+    LoadAndGain,
+    /// A cache of one pair is enough.
+    CacheOnePair,
+    /// Patches take memory that was used.
+    RenderInUsedMemory,
+}
+
+/// Runs a job over a session of one tile in memory and so many cached ones.
+fn run_over<D: SwapDisk>(
+    rt: &(impl Abort + Threads + Sync),
+    alloc: Global,
+    disk: &mut D,
+    cached: u32,
+    job: Job,
+) {
+    assert!(rt; cached >= 1);
+    let session = Session::new(alloc, IntKit, disk, 64, 1, cached, 3);
+    let mut session = session.expect(rt, "memory");
+    match job {
+        Job::AverageAndUndo => average_and_undo(rt, &mut session, alloc),
+        Job::LoadAndGain => load_and_gain(rt, &mut session, alloc),
+        Job::CacheOnePair => cache_one_pair(rt, &mut session, alloc),
+        Job::RenderInUsedMemory => render_in_used_memory(rt, &mut session, alloc),
+    }
+}
+
+/// Returns a disk of which these reads and writes fail, by their numbers.
+fn disk_of(rt: &impl Abort, alloc: Global, reads: &[u64], writes: &[u64]) -> MemSwap {
+    let reads = reads.to_vec(alloc).expect(rt, "memory");
+    let writes = writes.to_vec(alloc).expect(rt, "memory");
+    MemSwap::new(alloc, 64, reads, writes).expect(rt, "memory")
 }
 
 #[test]
-fn edits_of_nodes_are_pending_until_a_commit(rt: HostRuntime) -> Result<(), Fail> {
-    let alloc = rt.alloc();
-    let mut disk = MemSwap::new(alloc, 64, Vec::new(alloc), Vec::new(alloc))?;
-    let mut session = Session::new(alloc, IntKit, &mut disk, 64, 1, 100, 3)?;
-    load_and_gain(&rt, &mut session, alloc);
-    Ok(())
-}
-
-#[test]
-fn a_cache_of_one_pair_is_enough(rt: HostRuntime) -> Result<(), Fail> {
-    let alloc = rt.alloc();
-    let mut disk = MemSwap::new(alloc, 64, Vec::new(alloc), Vec::new(alloc))?;
-    let mut session = Session::new(alloc, IntKit, &mut disk, 64, 1, 1, 3)?;
-    cache_one_pair(&rt, &mut session, alloc);
-    Ok(())
-}
-
-#[test]
-fn patches_take_memory_that_was_used(rt: HostRuntime) -> Result<(), Fail> {
-    let alloc = rt.alloc();
-    let mut disk = MemSwap::new(alloc, 64, Vec::new(alloc), Vec::new(alloc))?;
-    let mut session = Session::new(alloc, IntKit, &mut disk, 64, 1, 100, 3)?;
-    render_in_used_memory(&rt, &mut session, alloc);
-    Ok(())
+fn sessions_show_what_is_committed(rt: HostRuntime) {
+    let jobs = [
+        (100, Job::AverageAndUndo),
+        (100, Job::LoadAndGain),
+        (1, Job::CacheOnePair),
+        (100, Job::RenderInUsedMemory),
+    ];
+    for (cached, job) in jobs {
+        let mut disk = disk_of(&rt, rt.alloc(), &[], &[]);
+        run_over(&rt, rt.alloc(), &mut disk, cached, job);
+    }
 }
 
 /// Returns the bytes of two tiles of gray, and the same with a part painted.
@@ -64,32 +80,31 @@ fn fault_over<D: SwapDisk>(
     rt: &(impl Abort + Threads + Sync),
     alloc: Global,
     disk: &mut D,
-) -> Result<bool, Fail> {
+) -> bool {
     let (raw, painted) = grays(rt, alloc);
-    let mut session = Session::new(alloc, IntKit, disk, 64, 1, 4, 3)?;
-    Ok(invert_and_paint(rt, &mut session, alloc, &raw, &painted))
+    let session = Session::new(alloc, IntKit, disk, 64, 1, 4, 3);
+    let mut session = session.expect(rt, "memory");
+    invert_and_paint(rt, &mut session, alloc, &raw, &painted)
+}
+
+/// Runs the job over a disk of which these reads and writes fail. Returns whether one refused a call.
+fn is_refused(
+    rt: &(impl Abort + Threads + Sync),
+    alloc: Global,
+    reads: &[u64],
+    writes: &[u64],
+) -> bool {
+    let mut disk = disk_of(rt, alloc, reads, writes);
+    fault_over(rt, alloc, &mut disk)
 }
 
 #[test]
-fn a_call_that_a_read_refuses_is_made_again(rt: HostRuntime) -> Result<(), Fail> {
+fn a_call_that_the_disk_refuses_is_made_again(rt: HostRuntime) {
     let alloc = rt.alloc();
-    let mut refused = false;
+    let (mut by_a_read, mut by_a_write) = (false, false);
     for call in 1..=40 {
-        let mut disk = MemSwap::new(alloc, 64, vec![in alloc; call]?, Vec::new(alloc))?;
-        refused = fault_over(&rt, alloc, &mut disk)? || refused;
+        by_a_read = is_refused(&rt, alloc, &[call], &[]) || by_a_read;
+        by_a_write = is_refused(&rt, alloc, &[], &[call]) || by_a_write;
     }
-    assert!(rt; refused);
-    Ok(())
-}
-
-#[test]
-fn a_call_that_a_write_refuses_is_made_again(rt: HostRuntime) -> Result<(), Fail> {
-    let alloc = rt.alloc();
-    let mut refused = false;
-    for call in 1..=40 {
-        let mut disk = MemSwap::new(alloc, 64, Vec::new(alloc), vec![in alloc; call]?)?;
-        refused = fault_over(&rt, alloc, &mut disk)? || refused;
-    }
-    assert!(rt; refused);
-    Ok(())
+    assert!(rt; by_a_read && by_a_write);
 }

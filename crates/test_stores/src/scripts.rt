@@ -1,15 +1,14 @@
 //! Calls that are made on a store and on a naive one.
 
 use crate::naive::NaiveStore;
-use outside_io::{NoMemory, SwapDisk};
+use outside_io::SwapDisk;
 use std::alloc::Global;
 use std::process::Abort;
-use std::test::Fail;
 use swap_store::{Store, SwapRefused, SwapStore};
 use tile_cow::Tile;
 
 /// A tile of so many bytes, which differ by their positions and by `seed`.
-pub fn tile_of(rt: &impl Abort, alloc: Global, len: u64, seed: u64) -> Result<Tile, NoMemory> {
+pub fn tile_of(rt: &impl Abort, alloc: Global, len: u64, seed: u64) -> Tile {
     let mut bytes = Vec::new(alloc);
     for place in 0..len {
         let byte = place
@@ -17,11 +16,11 @@ pub fn tile_of(rt: &impl Abort, alloc: Global, len: u64, seed: u64) -> Result<Ti
             .wrapping_add(place / 4096)
             .wrapping_add(seed)
             % 251;
-        bytes.push(byte as u8)?;
+        bytes.push(byte as u8).expect(rt, "memory");
     }
     assert!(rt; !bytes.is_empty());
     assert!(rt; bytes.len() <= 65_536);
-    Tile::of(alloc, &bytes)
+    Tile::of(alloc, &bytes).expect(rt, "memory")
 }
 
 /// Puts a tile under a name that isn't there.
@@ -69,20 +68,25 @@ fn next(random: u64) -> u64 {
         .wrapping_add(1_442_695_040_888_963_407)
 }
 
+/// Checks that the store has the naive one's free runs.
+fn check_free<D: SwapDisk>(rt: &impl Abort, alloc: Global, store: &Store<D>, naive: &NaiveStore) {
+    let runs = naive.free_runs(alloc).expect(rt, "memory");
+    assert_eq!(rt; store.free_runs(), runs.as_slice());
+}
+
 /// Checks that the store has the naive one's free runs, and the bytes of each of its names.
 fn compare<D: SwapDisk>(
     rt: &impl Abort,
     alloc: Global,
     store: &mut Store<D>,
     naive: &NaiveStore,
-) -> Result<u32, Fail> {
-    let runs = naive.free_runs(alloc)?;
-    assert_eq!(rt; store.free_runs(), runs.as_slice());
+) -> u32 {
+    check_free(rt, alloc, store, naive);
     let mut faults = 0u32;
     for entry in &naive.entries {
         faults = faults.saturating_add(compare_bytes(rt, store, entry.0, &entry.1));
     }
-    Ok(faults)
+    faults
 }
 
 /// Checks that a name has these bytes. The one read that fails is made again.
@@ -114,20 +118,46 @@ fn put_into_both<D: SwapDisk>(
     naive: &mut NaiveStore,
     name: u64,
     tile: &Tile,
-) -> Result<u32, Fail> {
-    let wanted = naive.wanted_answer(alloc, tile.bytes().len())?;
+) -> u32 {
+    let len = tile.bytes().len();
+    let wanted = naive.wanted_answer(alloc, len).expect(rt, "memory");
     let mut faults = 0u32;
     let mut answer = put(rt, store, name, tile);
     if answer == Err(SwapRefused::SwapFault) {
         assert!(rt; !store.has(name), "{name} was kept");
-        faults = compare(rt, alloc, store, naive)?.saturating_add(1);
+        faults = compare(rt, alloc, store, naive).saturating_add(1);
         answer = put(rt, store, name, tile);
     }
     assert_eq!(rt; answer, wanted);
     if wanted.is_ok() {
-        naive.put(alloc, name, tile.bytes())?;
+        let noted = naive.put(alloc, name, tile.bytes());
+        noted.expect(rt, "memory");
     }
-    Ok(faults)
+    faults
+}
+
+/// Makes the call that a random number chooses on both. Returns how many times it answered an I/O error.
+fn make_both<D: SwapDisk>(
+    rt: &impl Abort,
+    alloc: Global,
+    store: &mut Store<D>,
+    naive: &mut NaiveStore,
+    random: u64,
+    seed: u64,
+) -> u32 {
+    let name = (random >> 33) % 6;
+    match naive.bytes(name) {
+        None => {
+            let tile = tile_of(rt, alloc, 1 + (random >> 40) % 9_000, seed);
+            put_into_both(rt, alloc, store, naive, name, &tile)
+        }
+        Some(_) if random >> 62 == 0 => {
+            forget(rt, store, name);
+            naive.forget(name);
+            0
+        }
+        Some(bytes) => compare_bytes(rt, store, name, bytes),
+    }
 }
 
 /// Makes this many calls on a store over the disk, compares it with a naive one after each, and
@@ -138,37 +168,16 @@ pub fn play<D: SwapDisk>(
     disk: &mut D,
     blocks: u32,
     steps: u64,
-) -> Result<u32, Fail> {
-    let mut store = SwapStore::new(alloc, disk, blocks)?;
-    let mut naive = NaiveStore::new(alloc, blocks as usize)?;
+) -> u32 {
+    let mut store = SwapStore::new(alloc, disk, blocks).expect(rt, "memory");
+    let mut naive = NaiveStore::new(alloc, blocks as usize).expect(rt, "memory");
     let mut faults = 0u32;
     let mut random = next(steps);
     for step in 0..steps {
         random = next(random);
-        let name = (random >> 33) % 6;
-        let len = 1 + (random >> 40) % 9_000;
-        let more = match naive.bytes(name) {
-            None => put_into_both(
-                rt,
-                alloc,
-                &mut store,
-                &mut naive,
-                name,
-                &tile_of(rt, alloc, len, step)?,
-            )?,
-            Some(_) if random >> 62 == 0 => {
-                forget(rt, &mut store, name);
-                naive.forget(name);
-                0
-            }
-            Some(bytes) => compare_bytes(rt, &mut store, name, bytes),
-        };
+        let more = make_both(rt, alloc, &mut store, &mut naive, random, step);
         faults = faults.saturating_add(more);
-        assert_eq!(rt;
-            store.free_runs(),
-            naive.free_runs(alloc)?.as_slice(),
-            "at step {step}"
-        );
+        check_free(rt, alloc, &store, &naive);
     }
-    Ok(faults.saturating_add(compare(rt, alloc, &mut store, &naive)?))
+    faults.saturating_add(compare(rt, alloc, &mut store, &naive))
 }
