@@ -109,19 +109,20 @@ fn operations_over_a_crop(rt: HostRuntime) {
 }
 
 /// A row of 65 tiles.
+const ROW: Fields = [0, 0, 4160, 64];
+
 #[test]
 fn strip_of_65_tiles(rt: HostRuntime) {
     let alloc = rt.alloc();
-    let request = (0, rect([0, 0, 4160, 64]));
-    let graph = checkerboard(&rt, alloc, [0, 0, 4160, 64]);
+    let graph = checkerboard(&rt, alloc, ROW);
     let wanted = PlanRefused::Strip {
         needed: 65,
         capacity: 64,
     };
-    let refused = planned(&rt, &IntKit, alloc, &graph, request, 64);
+    let refused = planned(&rt, &IntKit, alloc, &graph, (0, rect(ROW)), 64);
     assert!(rt; refused.err() == Some(wanted));
-    let planned = planned(&rt, &IntKit, alloc, &graph, request, 65);
-    let list = planned.expect(&rt, "a plan");
+    let widest = planned(&rt, &IntKit, alloc, &graph, (0, rect(ROW)), 65);
+    let list = widest.expect(&rt, "a plan");
     let strip = list.as_slice().first().expect(&rt, "a strip");
     assert_eq!(rt; strip.need.as_slice().len(), 65);
     let last = strip.need.as_slice().last().expect(&rt, "a tile");
