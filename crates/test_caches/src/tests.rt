@@ -7,6 +7,7 @@ use crate::examples::{FAULTS, FOUR_OF_ONE, LOOKS, THREE_OF_TWO, UNTIL_FULL, VOID
 use crate::steps::{Step, make};
 use chain_handlers::Chain;
 use chain_owners::ChainMeaning;
+use no_memory::NoMemory;
 use node_cache::PairStore;
 use outside_io::{MemSwap, SureSwap, SwapDisk};
 use std::alloc::Global;
@@ -27,7 +28,7 @@ fn make_over<D: SwapDisk>(
     blocks: u32,
     pairs: u32,
     examples: &[&[Step]],
-) -> Result<(), Fail>
+) -> Result<(), NoMemory>
     requires { 1 ≤ pairs }
 {
     let mut chain = Chain::new(alloc, disk, blocks, 1)?;
@@ -39,29 +40,34 @@ fn make_over<D: SwapDisk>(
     Ok(())
 }
 
-#[test]
-fn pairs_over_a_chain(rt: HostRuntime) -> Result<(), Fail> {
-    let alloc = rt.alloc();
-    let mut disk = SureSwap::new(alloc, 16)?;
-    make_over(&rt, alloc, &mut disk, 16, 2, &[&THREE_OF_TWO])?;
-    let mut disk = SureSwap::new(alloc, 16)?;
-    make_over(&rt, alloc, &mut disk, 16, 6, &[&LOOKS, &VOIDS])
+/// Makes examples over a chain of a sound disk of so many blocks.
+fn make_on(rt: &impl Abort, alloc: Global, blocks: u32, pairs: u32, examples: &[&[Step]])
+    requires { 1 ≤ pairs }
+{
+    let mut disk = SureSwap::new(alloc, blocks.min(1 << 20)).expect(rt, "memory");
+    let made = make_over(rt, alloc, &mut disk, blocks, pairs, examples);
+    made.expect(rt, "memory");
 }
 
 #[test]
-fn pairs_over_a_disk_of_one_block(rt: HostRuntime) -> Result<(), Fail> {
-    let alloc = rt.alloc();
-    let mut disk = SureSwap::new(alloc, 1)?;
-    make_over(&rt, alloc, &mut disk, 1, 1, &[&FOUR_OF_ONE])?;
-    let mut disk = SureSwap::new(alloc, 1)?;
-    make_over(&rt, alloc, &mut disk, 1, 9, &[&UNTIL_FULL])
+fn pairs_over_a_chain(rt: HostRuntime) {
+    make_on(&rt, rt.alloc(), 16, 2, &[&THREE_OF_TWO]);
+    make_on(&rt, rt.alloc(), 16, 6, &[&LOOKS, &VOIDS]);
 }
 
 #[test]
-fn calls_that_the_disk_refuses_are_made_again(rt: HostRuntime) -> Result<(), Fail> {
+fn pairs_over_a_disk_of_one_block(rt: HostRuntime) {
+    make_on(&rt, rt.alloc(), 1, 1, &[&FOUR_OF_ONE]);
+    make_on(&rt, rt.alloc(), 1, 9, &[&UNTIL_FULL]);
+}
+
+#[test]
+fn calls_that_the_disk_refuses_are_made_again(rt: HostRuntime) {
     let alloc = rt.alloc();
-    let mut disk = MemSwap::new(alloc, 16, vec![in alloc; 1]?, vec![in alloc; 1]?)?;
-    make_over(&rt, alloc, &mut disk, 16, 2, &[&FAULTS])
+    let reads = vec![in alloc; 1].expect(&rt, "memory");
+    let writes = vec![in alloc; 1].expect(&rt, "memory");
+    let mut disk = MemSwap::new(alloc, 16, reads, writes).expect(&rt, "memory");
+    make_over(&rt, alloc, &mut disk, 16, 2, &[&FAULTS]).expect(&rt, "memory");
 }
 
 #[test]
