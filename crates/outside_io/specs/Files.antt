@@ -18,3 +18,7 @@ filed files name bytes = insert files name bytes
 -- the files, with more bytes at the end of a file, which is begun where there is none
 abbrev pub appended : Files → List ℕ → List ℕ → Files
 appended files name bytes = filed files name (unwrap_or (file files name) [] ++ bytes)
+
+-- a way to store bytes under a name: in place of what is there (`filed`), or after it (`appended`)
+abbrev pub Storing : Type 0
+Storing = Files → List ℕ → List ℕ → Files

@@ -2,7 +2,7 @@
 use Rattle.std.specs.Prelude.{ℕ, ◌/◌, List, length, take, Result, Ok, Err, refl}
 use Rattle.std.specs.Coded.{Coded, code_by, coded×}
 use Rattle.outside_io.specs.Calls.{Calls, calls_code}
-use Rattle.outside_io.specs.Files.{Files, appended, filed}
+use Rattle.outside_io.specs.Files.{Files, Storing}
 use Rattle.outside_io.specs.StoredFiles.{files_code}
 use Rattle.outside_io.specs.declared.shelf.ShelfAnswer.{ShelfAnswer}
 use Rattle.outside_io.specs.declared.shelf.ShelfAnswer.TheVariants as answers
@@ -20,19 +20,11 @@ shelf_code =
     (λ shelf. (shelf.files, (shelf.reads, shelf.writes)))
     (λ parts. record { files = parts.0; reads = parts.1.0; writes = parts.1.1 }) (λ _. refl)
 
--- The files that a write leaves: the name has all bytes at Ok, and the first half of them, rounded
--- down, after an I/O error. For running out of memory nothing changes.
-abbrev pub left_by : Result (Unit {0}) ShelfAnswer → Files → List ℕ → List ℕ → Files
-left_by (Ok done) files name bytes = filed files name bytes
-left_by (Err answers.Failed) files name bytes = filed files name (take (length bytes / 2) bytes)
-left_by (Err answers.NoMemory) files name bytes = files
-left_by (Err answers.Absent) files name bytes = files
-left_by (Err (answers.TooLong taken)) files name bytes = files
-
--- the same where bytes are added at the end of a file
-abbrev pub appended_by : Result (Unit {0}) ShelfAnswer → Files → List ℕ → List ℕ → Files
-appended_by (Ok done) files name bytes = appended files name bytes
-appended_by (Err answers.Failed) files name bytes = appended files name (take (length bytes / 2) bytes)
-appended_by (Err answers.NoMemory) files name bytes = files
-appended_by (Err answers.Absent) files name bytes = files
-appended_by (Err (answers.TooLong taken)) files name bytes = files
+-- The files that a call leaves that stores bytes so: all of them at Ok, and the first half of them, rounded down, after an
+-- I/O error. For running out of memory nothing changes.
+abbrev pub stored_by : Storing → Result (Unit {0}) ShelfAnswer → Files → List ℕ → List ℕ → Files
+stored_by store (Ok done) files name bytes = store files name bytes
+stored_by store (Err answers.Failed) files name bytes = store files name (take (length bytes / 2) bytes)
+stored_by store (Err answers.NoMemory) files name bytes = files
+stored_by store (Err answers.Absent) files name bytes = files
+stored_by store (Err (answers.TooLong taken)) files name bytes = files

@@ -7,12 +7,12 @@ ghost use Rattle.outside_io.specs.Shelf.{AppendLeaves, TakesAtMost, WriteLeaves,
 ghost use Rattle.outside_io.specs.FolderShelf.{ShelfFaults};
 
 use crate::shelf::{Shelf, ShelfAnswer};
-use std::alloc::{AllocError, Global};
+use std::alloc::Global;
 use std::fs::{Files, OpenFile, OpenOptions};
 use std::io::{ErrorKind, Read, Write};
 use std::marker::Model;
 use std::os::unix::fs::FileExt;
-use std::{fs, io, mem};
+use std::{fs, io};
 
 /// How often a read is made again that a signal interrupted.
 const MAX_INTERRUPTIONS: u32 = 1000;
@@ -92,24 +92,7 @@ where
         // A read that failed is counted, and no other.
         ensures counted { self.new ≡ record self.old { reads = faults_after (has_failed result) self.old.reads } }
     {
-        let mut memory = Vec::new(self.rt.alloc());
-        self.read_reusing(name, limit, &mut memory)
-    }
-
-    fn read_reusing(
-        &mut self,
-        name: &str,
-        limit: u64,
-        memory: &mut Vec<u8>,
-    ) -> Result<Vec<u8>, ShelfAnswer>
-        requires { IsTrue (is_file_name name.now) }
-        ensures within { TakesAtMost limit result }
-        ensures later { self.old.reads ≤ self.new.reads }
-
-        // A read that failed is counted, and no other.
-        ensures counted { self.new ≡ record self.old { reads = faults_after (has_failed result) self.old.reads } }
-    {
-        let answer = read_file(&self.rt, name, limit, memory);
+        let answer = read_file(&self.rt, name, limit);
         self.note_read(&answer);
         answer
     }
@@ -219,17 +202,12 @@ fn open_file<R: Files>(rt: &R, name: &str) -> Result<R::File, ShelfAnswer>
 }
 
 /// Reads a file of the current folder.
-fn read_file<R: Files + AllocGlobal>(
-    rt: &R,
-    name: &str,
-    limit: u64,
-    memory: &mut Vec<u8>,
-) -> Result<Vec<u8>, ShelfAnswer>
+fn read_file<R: Files + AllocGlobal>(rt: &R, name: &str, limit: u64) -> Result<Vec<u8>, ShelfAnswer>
     ensures within { TakesAtMost limit result }
 {
     let file = open_file(rt, name)?;
     let most = limit.saturating_add(1);
-    let bytes = read_prefix(rt.alloc(), file, most, memory).map_err(refusal)?;
+    let bytes = read_prefix(rt.alloc(), file, most).map_err(refusal)?;
     let taken = bytes.len() as u64;
     if taken > limit {
         Err(ShelfAnswer::TooLong { taken })
@@ -253,28 +231,13 @@ fn read_prefix<F: Read + OpenFile + Drop>(
     alloc: Global,
     mut file: F,
     most: u64,
-    memory: &mut Vec<u8>,
 ) -> io::Result<Vec<u8>>
     ensures { IfOk result (λ bytes. vec_len bytes ≤ most) }
 {
     let room = file.metadata()?.len().saturating_add(1).min(most);
-    let mut bytes = with_room(alloc, memory, room as usize)?;
+    let mut bytes = Vec::with_capacity(alloc, room as usize)?;
     let filled = fill(&mut file, &mut bytes, most as usize)?;
     bytes.truncate(filled);
-    Ok(bytes)
-}
-
-/// Returns a vector that has room for so many bytes, and no more bytes than these: the memory where it suits, which is
-/// where its room isn't more than four times theirs, since a short file would hold all of it.
-fn with_room(alloc: Global, memory: &mut Vec<u8>, room: usize) -> Result<Vec<u8>, AllocError>
-    ensures { IfOk result (λ bytes. vec_len bytes ≤ room) }
-{
-    let found = memory.capacity();
-    if found < room || room < found / 4 {
-        return Vec::with_capacity(alloc, room);
-    }
-    let mut bytes = mem::replace(memory, Vec::new(alloc));
-    bytes.truncate(room);
     Ok(bytes)
 }
 

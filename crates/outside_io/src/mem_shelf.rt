@@ -4,8 +4,8 @@ ghost use Rattle.std.specs.Prelude.{◌≡◌, ◌≤◌, ◌↔◌, false, Some
 ghost use Rattle.std.specs.Option.{option_copied};
 ghost use Rattle.outside_io.specs.Calls.{no_calls, next_fails, after_call};
 ghost use Rattle.outside_io.specs.FileName.{is_file_name};
-ghost use Rattle.outside_io.specs.Files.{file};
-ghost use Rattle.outside_io.specs.MemShelf.{appended_by, left_by};
+ghost use Rattle.outside_io.specs.Files.{appended, file, filed};
+ghost use Rattle.outside_io.specs.MemShelf.{stored_by};
 ghost use Rattle.outside_io.specs.Shelf.{Answers, AppendLeaves, GivesPart, TakesAtMost, WriteLeaves};
 ghost use Rattle.outside_io.specs.StoredFiles.{files_of};
 
@@ -110,7 +110,7 @@ impl Shelf for MemShelf {
         // It fails at the chosen calls and at no others.
         ensures chosen { IsErrOf result ShelfAnswer.Failed → IsTrue (next_fails self.old.writes) }
         ensures others { OnOk result (next_fails self.old.writes ≡ false) }
-        ensures written { self.new.files ≡ left_by result self.old.files name.now bytes.now }
+        ensures written { self.new.files ≡ stored_by filed result self.old.files name.now bytes.now }
         ensures counted { self.new.writes ≡ after_call self.old.writes }
         ensures reads { self.new.reads ≡ self.old.reads }
     {
@@ -131,7 +131,7 @@ impl Shelf for MemShelf {
         // It fails at the chosen calls and at no others.
         ensures chosen { IsErrOf result ShelfAnswer.Failed → IsTrue (next_fails self.old.writes) }
         ensures others { OnOk result (next_fails self.old.writes ≡ false) }
-        ensures written { self.new.files ≡ appended_by result self.old.files name.now bytes.now }
+        ensures written { self.new.files ≡ stored_by appended result self.old.files name.now bytes.now }
         ensures counted { self.new.writes ≡ after_call self.old.writes }
         ensures reads { self.new.reads ≡ self.old.reads }
     {

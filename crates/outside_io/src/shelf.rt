@@ -57,26 +57,6 @@ pub trait Shelf {
         ensures files { files self.new ≡ files self.old }
         ensures write_faults { write_faults self.new ≡ write_faults self.old };
 
-    /// Reads a file that has at most `limit` bytes. A shelf that has a way to reads it into `memory`, whatever that has,
-    /// where it suits the file's size, and leaves an empty vector there.
-    fn read_reusing(
-        &mut self,
-        name: &str,
-        limit: u64,
-        memory: &mut Vec<u8>,
-    ) -> Result<Vec<u8>, ShelfAnswer>
-        requires { IsTrue (is_file_name name.now) }
-        ensures gives { IfSome (files self.old) (λ all. Answers (file all name.now) limit result) }
-        ensures within { TakesAtMost limit result }
-        ensures failed { IsErrOf result ShelfAnswer.Failed → Rose (read_faults self.old) (read_faults self.new) }
-        ensures absent { IsErrOf result ShelfAnswer.Absent → read_faults self.new ≡ read_faults self.old }
-        ensures later { read_faults self.old ≤ read_faults self.new }
-        ensures files { files self.new ≡ files self.old }
-        ensures write_faults { write_faults self.new ≡ write_faults self.old }
-    {
-        self.read(name, limit)
-    }
-
     /// Reads the bytes of a file from the position `start` on, as many as the slice has room for, and fewer only
     /// where the file ends; returns how many.
     fn read_part(&mut self, name: &str, start: u64, into: &mut [u8]) -> Result<usize, ShelfAnswer>

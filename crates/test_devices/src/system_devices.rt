@@ -72,31 +72,6 @@ fn files_of_several_turns(rt: HostRuntime) {
     fs::remove_file(&rt, name).expect(&rt, "the file");
 }
 
-/// How long a file is, how many bytes memory has that was used before, and whether the file is read into it: only where it
-/// has room for one byte more than the file, and isn't much larger.
-const USED_MEMORY: [(u64, usize, bool); 5] = [
-    (4, 16, true),
-    (131_072, 131_073, true),
-    (300_001, 400_000, true),
-    (300_001, 300_001, false),
-    (4, 400_000, false),
-];
-
-#[test]
-fn memory_that_was_used_before(rt: HostRuntime) {
-    let mut shelf = FolderShelf::new(&rt);
-    let name = "folder_shelf.used";
-    for (len, used, taken) in USED_MEMORY {
-        let bytes = long_bytes(&rt, rt.alloc(), len);
-        assert_eq!(rt; shelf.write(name, &bytes), Ok(()));
-        let mut memory = vec![in rt.alloc(); 255u8; used].expect(&rt, "memory");
-        let answer = shelf.read_reusing(name, len, &mut memory);
-        assert!(rt; is_answer(&answer, &Ok(&bytes)), "{len} bytes over {used}");
-        assert_eq!(rt; memory.is_empty(), taken, "{len} bytes over {used}");
-    }
-    fs::remove_file(&rt, name).expect(&rt, "the file");
-}
-
 #[test]
 fn a_folder_is_no_file(rt: HostRuntime) {
     let mut shelf = FolderShelf::new(&rt);
