@@ -15,7 +15,7 @@ ghost use Rattle.buffer_view.specs.declared.refused.BufferRefused.TheVariants.{E
 
 use crate::buffers::Buffers;
 use crate::refused::BufferRefused;
-use crate::written::{Even, OwnedRaw, SplitRaw};
+use crate::written::{Even, SplitRaw};
 use chain_contracts::TileChain;
 use plane_rect::{Name, Rect};
 use std::thread::Threads;
@@ -107,48 +107,5 @@ impl Buffers {
         };
         self.write(chain, view.root, rect, &mut SplitRaw { bytes, workers })?;
         Ok(())
-    }
-
-    /// Writes raw bytes over a rectangle of a buffer as [`Buffers::put_raw`] does, and returns memory that is left of
-    /// them, of which nothing is known. The memory of a large raster is given back while its tiles are made, by
-    /// [`root_tiles::Root::put_vec`].
-    ///
-    /// # Errors
-    ///
-    /// As [`Buffers::put_raw`].
-    pub fn put_vec<C: TileChain, R: Threads + Sync>(
-        &mut self,
-        chain: &mut C,
-        name: Name,
-        rect: Rect,
-        bytes: Vec<u8>,
-        workers: Workers<'_, R>,
-    ) -> Result<Vec<u8>, BufferRefused>
-        requires { AreBuffersOver self.old (C.held chain.old) }
-        ensures layout { MatchResult result
-            (λ _. self.new.layout ≡ layout_with self.old.layout (Put name rect bytes.items))
-            (λ _. self.new.layout ≡ self.old.layout) }
-        ensures table { MatchResult result
-            (λ _. table_of self.new (C.held chain.new)
-            ≡ option_map (λ table. table_with table (Put name rect bytes.items)) (table_of self.old (C.held chain.old)))
-            (λ _. table_of self.new (C.held chain.new) ≡ table_of self.old (C.held chain.old)) }
-        ensures exact { (cause : Cause) → edit_refused self.old.layout (Put name rect bytes.items) ≡ Some cause →
-            result ≡ Err (Edit cause) }
-        ensures cause { IfErr result (HasEditCause self.old.layout (Put name rect bytes.items)
-            (C.counts chain.old) (C.counts chain.new)) }
-        ensures carried_out { IfOk result (λ _. edit_refused self.old.layout (Put name rect bytes.items) ≡ None) }
-        ensures over { AreBuffersOver self.new (C.held chain.new) }
-        ensures others { Respects (C.held chain.old) (C.held chain.new) (buffers_names self.old) (buffers_names self.new) }
-        ensures counts { Grows (tiles_added (Put name rect bytes.items)) (C.counts chain.old) (C.counts chain.new) }
-        ensures loans { C.loans chain.new ≡ C.loans chain.old }
-        ensures valid { C.is_valid chain.old → C.is_valid chain.new }
-    {
-        let view = match self.layout.put_target(name, rect, &bytes) {
-            Ok(view) => view,
-            Err(refused) => return Err(BufferRefused::Edit(refused)),
-        };
-        let mut written = OwnedRaw { bytes, workers };
-        self.write(chain, view.root, rect, &mut written)?;
-        Ok(written.bytes)
     }
 }

@@ -19,7 +19,6 @@ ghost use Rattle.swap_store.specs.Cause.{HasSwapCause};
 use chain_contracts::TileChain;
 use plane_rect::Rect;
 use root_tiles::Root;
-use std::mem::replace;
 use std::thread::Threads;
 use swap_store::SwapRefused;
 use worker_pieces::Workers;
@@ -118,30 +117,5 @@ impl<R: Threads + Sync> Written for SplitRaw<'_, R> {
         rect: Rect,
     ) -> Result<(), SwapRefused> {
         root.put_raw(chain, rect, self.bytes, self.workers)
-    }
-}
-
-/// The raw bytes of the rectangle, row by row, of which several workers may cut the tiles, and whose memory may be
-/// given back meanwhile. Once they are written it has memory that is left, of which nothing is known.
-#[derive(Drop)]
-pub(crate) struct OwnedRaw<'a, R: Threads + Sync> {
-    pub bytes: Vec<u8>,
-    pub workers: Workers<'a, R>,
-}
-
-impl<R: Threads + Sync> Written for OwnedRaw<'_, R> {
-    ghost fits = { λ written format r. IsSync R.row × (length written.bytes.items ≡ byte_count r format) };
-
-    ghost pixels = { λ written format r. pixels_from_raw r format written.bytes.items };
-
-    fn write<C: TileChain>(
-        &mut self,
-        root: &mut Root,
-        chain: &mut C,
-        rect: Rect,
-    ) -> Result<(), SwapRefused> {
-        let bytes = replace(&mut self.bytes, Vec::new(root.allocator()));
-        self.bytes = root.put_vec(chain, rect, bytes, self.workers)?;
-        Ok(())
     }
 }

@@ -1,40 +1,11 @@
 //! The edits of tables, as data.
 
-ghost use Rattle.std.specs.Prelude.{◌≡◌};
-
+use item_lists::ItemList;
 use pixel_formats::{Format, PixelSamples};
 use plane_rect::{Name, Rect};
-use std::marker::Model;
 
 /// The raw bytes of a rectangle, row by row from the top, each row from the left. A clause sees their list.
-#[derive(Drop)]
-pub struct RawBytes {
-    bytes: Vec<u8>,
-}
-
-impl Model for RawBytes {
-    ghost use Rattle.std.specs.Prelude.{ℕ, List};
-
-    ghost Value = { List ℕ };
-
-    ghost view = { λ raw. raw.bytes.items };
-}
-
-impl RawBytes {
-    /// Returns these bytes as the raw bytes of a rectangle.
-    pub fn new(bytes: Vec<u8>) -> RawBytes
-        ensures { result ≡ bytes.items }
-    {
-        RawBytes { bytes }
-    }
-
-    /// Returns the bytes as a slice.
-    pub fn as_slice(&self) -> &[u8]
-        ensures { result.now ≡ self.now }
-    {
-        &self.bytes
-    }
-}
+pub type RawBytes = ItemList<u8>;
 
 /// An edit of a table of buffers. Coordinates and sizes are in pixels.
 #[derive(Drop)]

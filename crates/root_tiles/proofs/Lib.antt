@@ -1,4 +1,3 @@
-pub mod Banding
 pub mod Blitting
 pub mod ChainReads
 pub mod Solid

@@ -1,4 +1,3 @@
-pub mod Bands
 pub mod Chains
 pub mod Cutting
 pub mod Growth

@@ -16,7 +16,7 @@ use tile_cow::Tile;
 use worker_pieces::Workers;
 
 /// How many bytes of tiles a batch has at most, which is how much of a raster is held a second time.
-pub(crate) const BATCH_BYTES: usize = 4 << 20;
+const BATCH_BYTES: usize = 4 << 20;
 
 /// How many bytes of covered tiles make a batch worth splitting. One thread writes so many in 310 us into memory
 /// that was in use before, and in 550 into new memory, at best, and the threads of four workers start in 40 to 150.

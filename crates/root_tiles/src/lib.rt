@@ -1,7 +1,6 @@
 //! The images of root buffers, each held by the tiles of a table over a chain.
 #![tactic(auto)]
 
-mod bands;
 mod cut_tiles;
 mod cutting;
 mod laws;
@@ -17,4 +16,3 @@ mod writing;
 
 pub use laws::{more_root_tiles_are_held, new_roots_are_blank, other_roots_are_unchanged};
 pub use root::Root;
-pub use writing::IDLE_BYTES;

@@ -15,8 +15,6 @@ ghost use Rattle.swap_store.specs.Cause.{HasSwapCause};
 ghost use Rattle.root_tiles.specs.Paints.{IsSolid};
 ghost use Rattle.root_tiles.specs.Roots.{IsRootOver, root_image, root_names, root_shape};
 
-use crate::bands::Bands;
-use crate::cut_tiles::BATCH_BYTES;
 use crate::makers::{SplitRaw, TileMaker};
 use crate::paint::Paint;
 use crate::root::Root;
@@ -29,10 +27,6 @@ use std::thread::Threads;
 use swap_store::SwapRefused;
 use tile_cow::Tile;
 use worker_pieces::Workers;
-
-/// How many bytes of memory are kept to be used again: pages that were used before cost less than new ones, but
-/// while they lie idle they are missing elsewhere. As many as 4,096 tiles of RGBA8, the default of what is resident.
-pub const IDLE_BYTES: usize = 64 << 20;
 
 impl Root {
     /// Writes raw bytes over a rectangle of the box: its pixels row by row, each row from the left. Several workers
@@ -69,91 +63,6 @@ impl Root {
         ensures valid { C.is_valid chain.old → C.is_valid chain.new }
     {
         self.write(chain, rect, &mut SplitRaw { bytes, workers })
-    }
-
-    /// Writes raw bytes over a rectangle of the box as [`Root::put_raw`] does, and returns memory that is left of
-    /// them, of which nothing is known: all of them up to [`IDLE_BYTES`]. The memory of more is given back while the
-    /// tiles are made, so that the raster and its tiles together take little more than one of them.
-    ///
-    /// # Errors
-    ///
-    /// As [`Root::put_raw`].
-    pub fn put_vec<C: TileChain, R: Threads + Sync>(
-        &mut self,
-        chain: &mut C,
-        rect: Rect,
-        bytes: Vec<u8>,
-        workers: Workers<'_, R>,
-    ) -> Result<Vec<u8>, SwapRefused>
-        requires over { IsRootOver self.old (C.held chain.old) }
-        requires inside { Includes self.old.box rect }
-        requires count { length bytes.items ≡ byte_count rect self.old.tiles.format }
-        ensures image { OnOk result (root_image self.new (C.held chain.new) ≡ option_map
-            (λ image. painted image rect (pixels_from_raw rect self.old.tiles.format bytes.items))
-            (root_image self.old (C.held chain.old))) }
-        ensures shape { root_shape self.new ≡ root_shape self.old }
-        ensures unchanged { OnErr result (self.new ≡ self.old) }
-        ensures same { OnErr result (root_image self.new (C.held chain.new) ≡ root_image self.old (C.held chain.old)) }
-        ensures over { IsRootOver self.new (C.held chain.new) }
-        ensures others { Respects (C.held chain.old) (C.held chain.new) (root_names self.old) (root_names self.new) }
-        ensures counts { Grows (tile_count rect) (C.counts chain.old) (C.counts chain.new) }
-        ensures cause { IfErr result (HasSwapCause (C.counts chain.old) (C.counts chain.new)
-            ((C.counts chain.old).names + tile_count rect)) }
-        ensures loans { C.loans chain.new ≡ C.loans chain.old }
-        ensures valid { C.is_valid chain.old → C.is_valid chain.new }
-    {
-        if bytes.len() <= IDLE_BYTES {
-            self.put_raw(chain, rect, &bytes, workers)?;
-            return Ok(bytes);
-        }
-        let lines = self.lines_of_batch(&rect);
-        self.put_bands(chain, rect, bytes, lines, workers)?;
-        Ok(Vec::new(self.alloc))
-    }
-
-    /// Writes raw bytes over a rectangle of the box as [`Root::put_raw`] does, in bands of so many rows of tiles, or of
-    /// one if none is asked for, from the last on. The memory of a band is given back once its tiles are made.
-    ///
-    /// # Errors
-    ///
-    /// As [`Root::put_raw`].
-    pub fn put_bands<C: TileChain, R: Threads + Sync>(
-        &mut self,
-        chain: &mut C,
-        rect: Rect,
-        bytes: Vec<u8>,
-        lines: u32,
-        workers: Workers<'_, R>,
-    ) -> Result<(), SwapRefused>
-        requires over { IsRootOver self.old (C.held chain.old) }
-        requires inside { Includes self.old.box rect }
-        requires count { length bytes.items ≡ byte_count rect self.old.tiles.format }
-        ensures image { OnOk result (root_image self.new (C.held chain.new) ≡ option_map
-            (λ image. painted image rect (pixels_from_raw rect self.old.tiles.format bytes.items))
-            (root_image self.old (C.held chain.old))) }
-        ensures shape { root_shape self.new ≡ root_shape self.old }
-        ensures unchanged { OnErr result (self.new ≡ self.old) }
-        ensures same { OnErr result (root_image self.new (C.held chain.new) ≡ root_image self.old (C.held chain.old)) }
-        ensures over { IsRootOver self.new (C.held chain.new) }
-        ensures others { Respects (C.held chain.old) (C.held chain.new) (root_names self.old) (root_names self.new) }
-        ensures counts { Grows (tile_count rect) (C.counts chain.old) (C.counts chain.new) }
-        ensures cause { IfErr result (HasSwapCause (C.counts chain.old) (C.counts chain.new)
-            ((C.counts chain.old).names + tile_count rect)) }
-        ensures loans { C.loans chain.new ≡ C.loans chain.old }
-        ensures valid { C.is_valid chain.old → C.is_valid chain.new }
-    {
-        let mut bands = Bands {
-            bytes,
-            lines,
-            workers,
-        };
-        self.write(chain, rect, &mut bands)
-    }
-
-    /// Returns how many rows of tiles of a rectangle make a batch that several workers cut, or 0 if one is more.
-    fn lines_of_batch(&self, rect: &Rect) -> u32 {
-        let tiles = BATCH_BYTES as u32 / self.table.tile_len();
-        tiles / (rect.w / TILE_SIDE + 1)
     }
 
     /// Writes raw bytes over a rectangle of the box as [`Root::put_raw`] does, on the caller's thread alone.

@@ -6,7 +6,6 @@ ghost use Rattle.level_tables.specs.Over.{max_level};
 ghost use Rattle.model_buffers.specs.BufferEdit.{IsProperEdit, edit_refused};
 ghost use Rattle.model_buffers.specs.Counts.{tiles_added};
 ghost use Rattle.model_buffers.specs.Layout.{find};
-ghost use Rattle.model_buffers.specs.declared.edit.BufferEdit.TheVariants.{Put};
 ghost use Rattle.model_buffers.specs.declared.refused.EditRefused.{EditRefused as Cause};
 ghost use Rattle.model_buffers.specs.declared.refused.EditRefused.TheVariants.{UnknownBuffer};
 ghost use Rattle.model_images.specs.TileCounts.{level_tiles};
@@ -59,40 +58,6 @@ impl BufferVersions {
             (record { held = C.held chain.new; counts = C.counts chain.new; loans = C.loans chain.new; valid = C.is_valid chain.new }) }
     {
         edit_buffers(&mut self.working, chain, edit, workers)
-    }
-
-    /// Writes raw bytes over a rectangle of a buffer that is edited, as the edit `Put` does, and returns memory that is
-    /// left of them, as [`Buffers::put_vec`] does. All states are unchanged.
-    ///
-    /// # Errors
-    ///
-    /// As [`Buffers::put_vec`]: then the buffers and their images are unchanged.
-    pub fn put<C: TileChain, R: Threads + Sync>(
-        &mut self,
-        chain: &mut C,
-        name: Name,
-        rect: Rect,
-        bytes: Vec<u8>,
-        workers: Workers<'_, R>,
-    ) -> Result<Vec<u8>, BufferRefused>
-        requires over { AreVersionsOver self.old (C.held chain.old) }
-        ensures edited { IfOk result (λ _.
-            IsEdited (Put name rect bytes.items) self.old.working self.new.working (C.held chain.old) (C.held chain.new)) }
-        ensures unchanged { OnErr result
-            (AreShownAgain self.old.working self.new.working (C.held chain.old) (C.held chain.new)) }
-        ensures exact { (cause : Cause) → edit_refused self.old.working.layout (Put name rect bytes.items) ≡ Some cause →
-            result ≡ Err (Edit cause) }
-        ensures cause { IfErr result
-            (HasEditCause self.old.working.layout (Put name rect bytes.items) (C.counts chain.old) (C.counts chain.new)) }
-        ensures states { self.new ≡ record self.old { working = self.new.working } }
-        ensures tables { tables_of self.new (C.held chain.new)
-            ≡ record (tables_of self.old (C.held chain.old)) { working = table_of self.new.working (C.held chain.new) } }
-        ensures over { AreVersionsOver self.new (C.held chain.new) }
-        ensures left { Leaves (tiles_added (Put name rect bytes.items)) (versions_names self.old) (versions_names self.new)
-            (record { held = C.held chain.old; counts = C.counts chain.old; loans = C.loans chain.old; valid = C.is_valid chain.old })
-            (record { held = C.held chain.new; counts = C.counts chain.new; loans = C.loans chain.new; valid = C.is_valid chain.new }) }
-    {
-        put_buffers(&mut self.working, chain, name, rect, bytes, workers)
     }
 
     /// Returns a rectangle of a level of the image of a buffer that is edited, under a policy outside the
@@ -178,33 +143,4 @@ fn edit_buffers<C: TileChain, R: Threads + Sync>(
             dy,
         } => buffers.copy(chain, *from, *to, *rect, *dx, *dy),
     }
-}
-
-/// Writes raw bytes over a rectangle of a buffer, and returns memory that is left of them.
-///
-/// # Errors
-///
-/// As [`Buffers::put_vec`].
-fn put_buffers<C: TileChain, R: Threads + Sync>(
-    buffers: &mut Buffers,
-    chain: &mut C,
-    name: Name,
-    rect: Rect,
-    bytes: Vec<u8>,
-    workers: Workers<'_, R>,
-) -> Result<Vec<u8>, BufferRefused>
-    requires { AreBuffersOver buffers.old (C.held chain.old) }
-    ensures edited { IfOk result (λ _.
-        IsEdited (Put name rect bytes.items) buffers.old buffers.new (C.held chain.old) (C.held chain.new)) }
-    ensures unchanged { OnErr result (AreShownAgain buffers.old buffers.new (C.held chain.old) (C.held chain.new)) }
-    ensures exact { (cause : Cause) → edit_refused buffers.old.layout (Put name rect bytes.items) ≡ Some cause →
-        result ≡ Err (Edit cause) }
-    ensures cause { IfErr result
-        (HasEditCause buffers.old.layout (Put name rect bytes.items) (C.counts chain.old) (C.counts chain.new)) }
-    ensures over { AreBuffersOver buffers.new (C.held chain.new) }
-    ensures left { Leaves (tiles_added (Put name rect bytes.items)) (buffers_names buffers.old) (buffers_names buffers.new)
-        (record { held = C.held chain.old; counts = C.counts chain.old; loans = C.loans chain.old; valid = C.is_valid chain.old })
-        (record { held = C.held chain.new; counts = C.counts chain.new; loans = C.loans chain.new; valid = C.is_valid chain.new }) }
-{
-    buffers.put_vec(chain, name, rect, bytes, workers)
 }

@@ -40,9 +40,8 @@ pub fn write_to_parts<C: TileChain>(
     check(rt, &mut buffers, chain, "p", 1, 0);
     check(rt, &mut buffers, chain, "p", 7, 5);
     check(rt, &mut buffers, chain, "p", 8, 0);
-    let bytes = [1, 2, 3].to_vec(alloc).expect(rt, "memory");
     let (extent, workers) = (rect([2, 0, 3, 1]), Workers::new(rt, 2));
-    let put = buffers.put_vec(chain, name(rt, "p"), extent, bytes, workers);
+    let put = buffers.put_raw(chain, name(rt, "p"), extent, &[1, 2, 3], workers);
     put.expect(rt, "bytes of a rectangle");
     check(rt, &mut buffers, chain, "a", 3, 2);
     let copied = buffers.copy(chain, name(rt, "p"), name(rt, "a"), extent, 1, 0);

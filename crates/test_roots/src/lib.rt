@@ -2,11 +2,11 @@
 #![tactic(auto)]
 
 #[cfg(test)]
-mod bands;
-#[cfg(test)]
 mod calls;
 #[cfg(test)]
 mod examples;
+#[cfg(test)]
+mod refused_writes;
 #[cfg(test)]
 mod steps;
 #[cfg(test)]

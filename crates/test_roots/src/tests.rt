@@ -1,14 +1,13 @@
 //! Expected values are worked out by hand from the doc comments.
 
-use crate::bands::{write_in_bands, write_or_refuse};
 use crate::examples::{BORDERS, LARGE_PARTS, LEVELS, POLICIES, SHARED, VIEWS};
+use crate::refused_writes::write_or_refuse;
 use crate::steps::{Example, make};
 use chain_handlers::Chain;
 use outside_io::{MemSwap, SureSwap, SwapDisk};
 use std::alloc::Global;
 use std::process::Abort;
 use std::test::Fail;
-use std::thread::Threads;
 
 /// Makes examples one after another over a chain of so many blocks, of one tile in memory.
 fn make_over<D: SwapDisk>(
@@ -43,26 +42,9 @@ fn levels_are_means_of_roots_and_of_views(rt: HostRuntime) -> Result<(), Fail> {
     make_over(&rt, alloc, &mut disk, 256, &[VIEWS, POLICIES])
 }
 
-/// Writes in bands over a chain of one tile in memory.
-fn write_bands_over<D: SwapDisk>(
-    rt: &(impl Abort + Threads + Sync),
-    alloc: Global,
-    disk: &mut D,
-) -> Result<(), Fail> {
-    let mut chain = Chain::new(alloc, disk, 256, 1)?;
-    write_in_bands(rt, &mut chain, alloc);
-    Ok(())
-}
-
-#[test]
-fn bands_write_what_is_written_whole(rt: HostRuntime) -> Result<(), Fail> {
-    let mut disk = SureSwap::new(rt.alloc(), 256)?;
-    write_bands_over(&rt, rt.alloc(), &mut disk)
-}
-
-/// Writes in bands over a chain of so many blocks and one tile in memory.
+/// Writes over a chain of so many blocks and one tile in memory. Returns whether that was refused.
 fn refuse_over<D: SwapDisk>(
-    rt: &(impl Abort + Threads + Sync),
+    rt: &impl Abort,
     alloc: Global,
     disk: &mut D,
     blocks: u32,
@@ -72,7 +54,7 @@ fn refuse_over<D: SwapDisk>(
 }
 
 #[test]
-fn bands_that_do_not_fit_the_disk_leave_the_image(rt: HostRuntime) -> Result<(), Fail> {
+fn a_write_that_does_not_fit_the_disk_leaves_the_image(rt: HostRuntime) -> Result<(), Fail> {
     let alloc = rt.alloc();
     let mut full = SureSwap::new(alloc, 6)?;
     assert!(rt; refuse_over(&rt, alloc, &mut full, 6)?);
@@ -82,7 +64,7 @@ fn bands_that_do_not_fit_the_disk_leave_the_image(rt: HostRuntime) -> Result<(),
 }
 
 #[test]
-fn a_write_that_fails_in_a_later_band_leaves_the_image(rt: HostRuntime) -> Result<(), Fail> {
+fn a_write_that_fails_at_a_later_tile_leaves_the_image(rt: HostRuntime) -> Result<(), Fail> {
     let alloc = rt.alloc();
     for failing in 5..8 {
         let mut disk = MemSwap::new(alloc, 16, Vec::new(alloc), vec![in alloc; failing]?)?;
