@@ -227,7 +227,7 @@ all-added image patch s b small aligned is is_s whole box format samples =
 
 -- ---- the same of requests
 
-source-some : (found : Option Rectangle) → IsSome found → found ≡ Some (unwrap_or found empty)
+pub source-some : (found : Option Rectangle) → IsSome found → found ≡ Some (unwrap_or found empty)
 source-some None some = absurd (cc some)
 source-some (Some s) some = refl
 

@@ -4,3 +4,4 @@ pub mod Served
 pub mod Halves
 pub mod Scaled
 pub mod Adding
+pub mod Tiled

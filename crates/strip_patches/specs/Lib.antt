@@ -1,3 +1,5 @@
 pub mod Bands
 pub mod LevelStrips
 pub mod Nodes
+pub mod Pictures
+pub mod Shown

@@ -16,7 +16,6 @@ ghost use Rattle.strip_patches.specs.LevelStrips.{AreOfOne, HasStrips, LevelStri
 ghost use Rattle.strip_patches.specs.Nodes.{HoldsPart, image_at};
 
 use crate::patching::{put_tiles, strip_patch};
-use crate::used_memory::patch_in;
 use chain_owners::ChainMeaning;
 use model_graphs::NodeFact;
 use no_memory::NoMemory;
@@ -54,15 +53,13 @@ impl Model for LevelPatch {
 }
 
 impl LevelPatch {
-    /// Returns the patch to which no strip was added. It takes memory that was used before where that
-    /// suits its size, and writes none of it; else it takes new memory.
+    /// Returns the patch to which no strip was added.
     ///
     /// # Errors
     ///
     /// `NoMemory` if memory runs out.
     pub fn new(
         alloc: Global,
-        memory: Vec<u8>,
         rect: Rect,
         level: u32,
         format: Format,
@@ -79,7 +76,7 @@ impl LevelPatch {
         // Both are rectangles of the plane, as these calls say.
         let _areas = (rect.area(), source.area());
         let over = halved_rect(source, level.min(STRIP_LEVELS));
-        let patch = patch_in(alloc, memory, over, format)?;
+        let patch = Patch::zero(alloc, over, format)?;
         Ok(LevelPatch { rect, level, patch })
     }
 

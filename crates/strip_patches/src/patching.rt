@@ -1,23 +1,27 @@
 //! Tiles that are held, and those of sources, put into patches.
 
-ghost use Rattle.std.specs.Prelude.{◌≡◌, ℕ, ◌<◌, IfErr, IfOk, OnOk, Some, length};
+ghost use Rattle.std.specs.Prelude.{◌≡◌, ℕ, ◌*◌, ◌<◌, All, IfErr, IfOk, OnOk, Some, length};
 ghost use Rattle.chain_owners.specs.Counts.{Grows};
 ghost use Rattle.model_graphs.specs.Evaluation.{Buffers};
 ghost use Rattle.model_graphs.specs.Facts.{shapes_of_facts};
 ghost use Rattle.model_images.specs.Image.{IsImage};
 ghost use Rattle.model_images.specs.Paint.{cut};
 ghost use Rattle.model_states.specs.Valid.{AreStated};
-ghost use Rattle.plane_rect.specs.Rectangle.{InLimits};
+ghost use Rattle.plane_rect.specs.Rectangle.{InLimits, meet};
+ghost use Rattle.plane_rect.specs.Tile.{IsWhole};
+ghost use Rattle.pixel_formats.specs.Format.{pixel_bytes};
 ghost use Rattle.swap_store.specs.Cause.{HasSwapCause};
+ghost use Rattle.op_contracts.specs.TileList.{HasLength};
 ghost use Rattle.node_tiles.specs.Reads.{Reads, seen};
 ghost use Rattle.node_tiles.specs.Stated.{AreTilesOf, HaveLengths, shape_at};
 ghost use Rattle.strip_patches.specs.Nodes.{HasPart, HoldsPart, image_at};
+ghost use Rattle.strip_patches.specs.Pictures.{AreTilesOver};
 
 use crate::bands::put_by_bands;
 use chain_owners::ChainMeaning;
 use model_graphs::NodeFact;
 use node_tiles::{StripTiles, input_tiles};
-use op_contracts::{OpMeaning, SourceTiles};
+use op_contracts::{OpMeaning, SourceTiles, WindowTiles};
 use patch_abyss::Patch;
 use plane_rect::Rect;
 use std::alloc::Global;
@@ -64,6 +68,47 @@ pub fn strip_patch<H: ChainMeaning, S: SourceTiles<H>, Op: OpMeaning>(
     Ok(patch)
 }
 
+/// Returns the tiles of the node at a position that meet a rectangle within the node's box, in their order. They are
+/// shared and not copied. Takes time in proportion to their number.
+///
+/// # Errors
+///
+/// As [`strip_patch`].
+pub(crate) fn part_tiles<H: ChainMeaning, S: SourceTiles<H>, Op: OpMeaning>(
+    alloc: Global,
+    nodes: &[NodeFact<Op>],
+    held: &StripTiles,
+    sources: &mut S,
+    chain: &mut H,
+    node: u32,
+    rect: Rect,
+) -> Result<WindowTiles, SwapRefused>
+    requires stated { AreStated Op.meanings (shapes_of_facts (S.facts sources.old)) nodes.now }
+    requires node { node < length nodes.now }
+    requires there { HoldsPart nodes.now held.now node rect }
+    requires lengths { HaveLengths nodes.now held.now }
+    requires over { S.is_over sources.old (H.held chain.old) }
+    ensures in_plane { IfOk result (All (λ entry. IsWhole entry.0)) }
+    ensures lengths { IfOk result (All (HasLength (4096 * pixel_bytes (shape_at nodes.now node).format))) }
+    ensures image { (images : Buffers) → S.images sources.old (H.held chain.old) ≡ Some images →
+        AreTilesOf Op.meanings nodes.now images held.now →
+        IfOk result (AreTilesOver (image_at Op.meanings nodes.now images node)
+        (meet rect (image_at Op.meanings nodes.now images node).box)) }
+    ensures over { S.is_over sources.new (H.held chain.new) }
+    ensures reads { Reads
+        (seen (S.facts sources.old) (S.images sources.old (H.held chain.old)) (S.names sources.old) (H.held chain.old) (H.counts chain.old) (H.loans chain.old))
+        (seen (S.facts sources.new) (S.images sources.new (H.held chain.new)) (S.names sources.new) (H.held chain.new) (H.counts chain.new) (H.loans chain.new)) }
+    ensures cause { IfErr result (HasSwapCause (H.counts chain.old) (H.counts chain.new) (H.counts chain.old).names) }
+    ensures valid { H.is_valid chain.old → H.is_valid chain.new }
+{
+    let fact = &nodes[node as usize];
+    let part = rect.meet(&fact.bounds);
+    // It is a rectangle of the plane, as this call says.
+    let _area = part.area();
+    let tiles = input_tiles(alloc, &fact.spec.body, held, sources, chain, node, part)?;
+    Ok(tiles)
+}
+
 /// Puts each tile of the node at a position that meets a rectangle within the node's box into a patch, as
 /// much of it as the patch has positions. So the patch has the image's samples at the rectangle's positions
 /// in the box; its other samples are these or those that it had. Takes time in proportion to the tiles' pixels.
@@ -101,11 +146,7 @@ pub(crate) fn put_tiles<H: ChainMeaning, S: SourceTiles<H>, Op: OpMeaning>(
     ensures cause { IfErr result (HasSwapCause (H.counts chain.old) (H.counts chain.new) (H.counts chain.old).names) }
     ensures valid { H.is_valid chain.old → H.is_valid chain.new }
 {
-    let fact = &nodes[node as usize];
-    let part = rect.meet(&fact.bounds);
-    // It is a rectangle of the plane, as this call says.
-    let _area = part.area();
-    let tiles = input_tiles(alloc, &fact.spec.body, held, sources, chain, node, part)?;
+    let tiles = part_tiles(alloc, nodes, held, sources, chain, node, rect)?;
     put_by_bands(patch, tiles.as_slice());
     Ok(())
 }

@@ -10,13 +10,8 @@ use std::alloc::Global;
 use std::test::Fail;
 use strip_patches::LevelPatch;
 
-/// Returns the patch of a request to which no strip was added, which may take the memory.
-fn request_in(
-    alloc: Global,
-    memory: Vec<u8>,
-    fields: Fields,
-    level: u32,
-) -> Result<LevelPatch, Fail>
+/// Returns the patch of a request to which no strip was added.
+fn request(alloc: Global, fields: Fields, level: u32) -> Result<LevelPatch, Fail>
     requires { level ≤ 8 }
     ensures { IfOk result (λ strips. strips.patch.format ≡ Y8) }
 {
@@ -24,15 +19,7 @@ fn request_in(
     if rect.scaled(level).is_none() {
         return Err(Fail::from("a rectangle of the level"));
     }
-    Ok(LevelPatch::new(alloc, memory, rect, level, Format::Y8)?)
-}
-
-/// Returns the patch of a request to which no strip was added, in new memory.
-fn request(alloc: Global, fields: Fields, level: u32) -> Result<LevelPatch, Fail>
-    requires { level ≤ 8 }
-    ensures { IfOk result (λ strips. strips.patch.format ≡ Y8) }
-{
-    request_in(alloc, Vec::new(alloc), fields, level)
+    Ok(LevelPatch::new(alloc, rect, level, Format::Y8)?)
 }
 
 /// Returns the patch of a request of one strip.
@@ -42,26 +29,6 @@ fn of_one(alloc: Global, fields: Fields, level: u32, strip: Patch) -> Result<Pat
 {
     let mut strips = request(alloc, fields, level)?;
     strips.add(alloc, strip)?;
-    Ok(strips.finish(alloc)?)
-}
-
-/// Returns the patch of a request of two strips, in memory of so many bytes of 99.
-fn of_two(
-    alloc: Global,
-    count: usize,
-    fields: Fields,
-    level: u32,
-    upper: Patch,
-    lower: Patch,
-) -> Result<Patch, Fail>
-    requires level { level ≤ 8 }
-    requires upper { upper.format ≡ Y8 }
-    requires lower { lower.format ≡ Y8 }
-{
-    let memory = vec![in alloc; 99; count]?;
-    let mut strips = request_in(alloc, memory, fields, level)?;
-    strips.add(alloc, upper)?;
-    strips.add(alloc, lower)?;
     Ok(strips.finish(alloc)?)
 }
 
@@ -107,31 +74,5 @@ fn request_of_no_position(rt: HostRuntime) -> Result<(), Fail> {
     let level = request(alloc, [0, 0, 0, 0], 8)?.finish(alloc)?;
     assert!(rt; level.rect().is_empty());
     assert!(rt; level.raw_bytes().is_empty());
-    Ok(())
-}
-
-/// Requests of levels 0, 2 and 7 of two strips, which are put into patches of 8, 2 and 4 bytes, in memory of other
-/// bytes that is too small for them, just large enough, and larger.
-#[test]
-fn requests_in_memory_that_was_used(rt: HostRuntime) -> Result<(), Fail> {
-    let alloc = rt.alloc();
-    for count in [1, 2, 3, 4, 7, 8, 9, 5000] {
-        let upper = gray(alloc, [0, 63, 4, 1], &[1, 2, 3, 4])?;
-        let lower = gray(alloc, [0, 64, 4, 1], &[5, 6, 7, 8])?;
-        let level = of_two(alloc, count, [0, 63, 4, 2], 0, upper, lower)?;
-        assert!(rt; level.raw_bytes() == [1, 2, 3, 4, 5, 6, 7, 8].as_slice());
-        let (upper, lower) = (
-            even(alloc, [0, 60, 4, 4], 12)?,
-            even(alloc, [0, 64, 4, 4], 14)?,
-        );
-        let level = of_two(alloc, count, [0, 15, 1, 2], 2, upper, lower)?;
-        assert!(rt; level.raw_bytes() == [12, 14].as_slice());
-        let (upper, lower) = (
-            even(alloc, [0, 0, 128, 64], 10)?,
-            even(alloc, [0, 64, 128, 64], 31)?,
-        );
-        let level = of_two(alloc, count, [0, 0, 1, 1], 7, upper, lower)?;
-        assert!(rt; level.raw_bytes() == [21].as_slice());
-    }
     Ok(())
 }

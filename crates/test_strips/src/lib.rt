@@ -1,4 +1,4 @@
-//! Worked examples of patches of levels and of frozen images, as tests. The expected samples were worked
+//! Worked examples of patches of levels, of pictures that keep tiles and of frozen images, as tests. The expected samples were worked
 //! out by hand.
 #![tactic(auto)]
 
@@ -8,3 +8,5 @@ mod frozen_tiles;
 mod levels;
 #[cfg(test)]
 mod patches;
+#[cfg(test)]
+mod pictures;

@@ -1,81 +1,37 @@
-use Rattle.std.proofs.Common.{◌≡◌, ℕ, ◌*◌, All, Contains, List, Option, Some, refl, sym, ap, ◌∙◌, subst}
-use Rattle.std.specs.Prelude.{slice_get}
-use Rattle.std.proofs.lemmas.Option.{slice_get-get_or}
-use Rattle.plane_rect.specs.Tile.{Meets, Tile}
-use Rattle.plane_rect.proofs.TileLists.{tiles-meeting}
+use Rattle.std.proofs.Common.{◌≡◌, ℕ, ◌*◌, All, List, refl, sym, ap, ◌∙◌, subst}
+use Rattle.plane_rect.specs.Rectangle.{meet}
+use Rattle.plane_rect.specs.Tile.{IsWhole, Tile}
 use Rattle.pixel_formats.specs.Format.{pixel_bytes}
 use Rattle.pixel_formats.specs.declared.format.Format.{Format}
-use Rattle.model_graphs.specs.Evaluation.{Buffers}
 use Rattle.model_graphs.specs.Facts.{AreImagesOf}
 use Rattle.model_graphs.specs.Shapes.{Shape}
-use Rattle.op_contracts.specs.TileList.{HasLength, tiles_in}
-use Rattle.node_tiles.specs.Inputs.{AreInputTiles}
-use Rattle.node_tiles.proofs.Places.{shape-at}
-use Rattle.node_tiles.proofs.Whole.{tile-long}
-use Rattle.strip_patches.specs.Bands.{AreOfImage}
+use Rattle.op_contracts.specs.TileList.{HasLength}
 use Rattle.strip_patches.specs.Nodes.{image_at}
-use Rattle.strip_patches.proofs.Banded.{all-bands, all-in-plane}
-use Rattle.strip_patches.proofs.Served.{box-shown, format-shown, part-there, tile-shown}
-use Rattle.strip_patches.proofs.patching.put_tiles.Given
-use Rattle.strip_patches.proofs.patching.put_tiles.Goals.{After-meet-part}
+use Rattle.strip_patches.specs.Pictures.{AreTilesOver}
+use Rattle.strip_patches.proofs.Banded.{all-bands}
+use Rattle.strip_patches.proofs.Served.{member-at, shape-shown}
 use Rattle.strip_patches.proofs.patching.put_tiles.Goals as goal
-
-module _ (g : Given.Over) (c : After-meet-part g) where
-  found : slice_get c.args.nodes.now c.args.node ≡ Some c.index-nodes-node.result
-  found = slice_get-get_or c.args.nodes.now c.args.node c.index-nodes-node.result c.requires.node ∙ ap Some (sym c.index-nodes-node.is)
-
-pub input_tiles-requires-clause-there : goal.input_tiles-requires-clause-there
-input_tiles-requires-clause-there g c =
-    let nodes = c.args.nodes.now in
-    let fact = c.index-nodes-node.result in
-    let facts = g.S.SourceTiles.facts c.args.sources.now in
-    record {
-      each = λ tile met.
-          part-there g.Op.OpMeaning.meanings facts nodes c.requires.stated c.args.node fact
-          (found g (goal.at.input_tiles-requires-clause-there g c).After-meet-part) c.args.held.now c.args.rect tile c.requires.there
-          (subst (Meets tile) c.meet-part.ensures.value met);
-    }
 
 pub put_by_bands-requires-clause-in_plane : goal.put_by_bands-requires-clause-in_plane
 put_by_bands-requires-clause-in_plane g c =
-    all-in-plane c.meet-part.result c.as_slice.result.now c.area-area.ensures.rectangle
-    (ap tiles_in c.as_slice.ensures ∙ c.in_ok-tiles.ensures.positions)
+    subst (All (λ (entry : Tile × List ℕ). IsWhole entry.0)) (sym c.as_slice.ensures) c.in_ok-tiles.ensures.in_plane
 
 pub put_by_bands-requires-clause-lengths : goal.put_by_bands-requires-clause-lengths
 put_by_bands-requires-clause-lengths g c =
-    let nodes = c.args.nodes.now in
-    let fact = c.index-nodes-node.result in
-    let facts = g.S.SourceTiles.facts c.args.sources.now in
-    let images = g.S.SourceTiles.images c.args.sources.now (g.H.ChainMeaning.held c.args.chain.now) in
-    let is_fact = found g (goal.at.put_by_bands-requires-clause-lengths g c).After-meet-part in
-    let format : c.args.patch.now.format ≡ fact.format =
-    c.requires.format ∙ ap (λ (shape : Shape). shape.format) (shape-at nodes c.args.node fact is_fact) in
     subst (All (HasLength (4096 * pixel_bytes c.args.patch.now.format))) (sym c.as_slice.ensures)
-    (λ k d below.
-    tile-long g.Op.OpMeaning.meanings facts nodes c.requires.stated c.args.held.now c.requires.lengths images c.args.node fact _ _ is_fact fact.spec.body refl
-    (c.in_ok-tiles.ensures.each k d below)
-    ∙ ap (λ (f : Format). 4096 * pixel_bytes f) (sym format))
+    (subst (λ (f : Format). All (HasLength (4096 * pixel_bytes f)) c.in_ok-tiles.tiles) (sym c.requires.format) c.in_ok-tiles.ensures.lengths)
 
 pub returns-clause-image : goal.returns-clause-image
 returns-clause-image g c = λ images known are.
     let nodes = c.args.nodes.now in
-    let fact = c.index-nodes-node.result in
     let meanings = g.Op.OpMeaning.meanings in
     let facts = g.S.SourceTiles.facts c.args.sources.now in
-    let is_fact = found g (goal.at.returns-clause-image g c).After-meet-part in
+    let fact = member-at nodes c.args.node c.requires.node in
     let image = image_at meanings nodes images c.args.node in
     let shown : AreImagesOf facts images = rw known at (g.met.S.SourceTiles.exposed c.args.sources.now (g.H.ChainMeaning.held c.args.chain.now) c.requires.over).shapes in
     let format : image.format ≡ c.args.patch.now.format =
-    sym (format-shown meanings facts nodes c.requires.stated c.args.node fact is_fact images shown)
-    ∙ sym (c.requires.format ∙ ap (λ (shape : Shape). shape.format) (shape-at nodes c.args.node fact is_fact)) in
-    let each = subst (λ (o : Option Buffers). AreInputTiles facts o c.args.held.now fact.spec.body c.args.node c.in_ok-tiles.tiles) known c.in_ok-tiles.ensures.each in
-    let of_image : AreOfImage image c.as_slice.result.now =
-    subst (AreOfImage image) (sym c.as_slice.ensures)
-    (λ k d below. tile-shown meanings facts nodes c.requires.stated c.args.node fact is_fact images shown c.args.held.now are _ _ (each k d below)) in
-    all-bands image c.args.patch.now c.put_by_bands.new.patch c.args.rect fact.bounds c.as_slice.result.now
-    (box-shown meanings facts nodes c.requires.stated c.args.node fact is_fact images shown)
-    (λ tile met.
-    subst (λ (es : List (Tile × List ℕ)). Contains (tiles_in es) tile) (sym c.as_slice.ensures)
-    (subst (λ (ts : List Tile). Contains ts tile) (sym c.in_ok-tiles.ensures.positions)
-    ((tiles-meeting c.meet-part.result c.area-area.ensures.rectangle tile).1 (subst (Meets tile) (sym c.meet-part.ensures.value) met))))
-    (c.put_by_bands.ensures.image image format of_image)
+    sym (c.requires.format ∙ ap (λ (shape : Shape). shape.format) (shape-shown meanings facts nodes c.requires.stated c.args.node fact.0 fact.1 images shown)) in
+    let over : AreTilesOver image (meet c.args.rect image.box) c.as_slice.result.now =
+    subst (AreTilesOver image (meet c.args.rect image.box)) (sym c.as_slice.ensures) (c.in_ok-tiles.ensures.image images known are) in
+    all-bands image c.args.patch.now c.put_by_bands.new.patch c.args.rect image.box c.as_slice.result.now refl over.all
+    (c.put_by_bands.ensures.image image format over.tiles)
