@@ -17,7 +17,6 @@ use Rattle.model_graphs.specs.Facts.{AreImagesOf, shapes_of_facts, specs_of}
 use Rattle.model_graphs.specs.Meanings.{Meanings}
 use Rattle.model_images.specs.Image.{Image}
 use Rattle.model_images.specs.Level.{level}
-use Rattle.model_images.specs.Paint.{cut}
 use Rattle.model_states.specs.Cache.{AreRight, Cached, Counted, Pair, all_looked_up, itself, uncounted}
 use Rattle.model_states.specs.Damage.{IsStated}
 use Rattle.model_states.specs.Edits.{has_node}
@@ -34,7 +33,9 @@ use Rattle.strip_renders.specs.Strips.{AreKnownRight, AreSizedPairs, counted, li
 use Rattle.render_workers.specs.declared.refused.RenderRefused.{RenderRefused}
 use Rattle.render_workers.specs.declared.refused.RenderRefused.TheVariants as renders
 use Rattle.render_workers.specs.Refusals.{CanBeRendered, ChangesNothing, IsRefusedBy}
-use Rattle.render_workers.specs.Requests.{Request, image_requested, pairs_requested, strips_needed}
+use Rattle.render_workers.specs.Requests.{Request, level_requested, pairs_requested, strips_needed}
+use Rattle.strip_patches.specs.Shown.{Shows}
+use Rattle.strip_patches.specs.declared.picture.Picture.{Picture}
 use Rattle.buffer_view.specs.BufferTables.{AreBuffersOver, BufferTable, buffer_images, buffers_names}
 use Rattle.session_states.specs.OverChains.{Leaves, names_of_all, versions_names}
 use Rattle.session_states.proofs.Names.{leaves-beside}
@@ -42,7 +43,7 @@ use Rattle.commit_session.specs.Parts.{Parts, session_names}
 use Rattle.commit_session.specs.Refusals.{by_render}
 use Rattle.commit_session.specs.Rendering.{HasSameButCache, IsRecached, IsRendered, OnPlanRefused, looked_up_by, names_in_render}
 use Rattle.commit_session.specs.Seen.{IsOver, IsSessionOf}
-use Rattle.commit_session.proofs.Rendered.{image-rendered, images, images-known, known-exposed, list-known, over-after, refreshed, right-known, scene, scene-is, session-refreshed, session-rendered, shown, sized-old, stated-latest}
+use Rattle.commit_session.proofs.Rendered.{level-rendered, images, images-known, known-exposed, list-known, over-after, refreshed, right-known, scene, scene-is, session-refreshed, session-rendered, shown, sized-old, stated-latest}
 
 -- ---- what an answer rules out
 
@@ -109,15 +110,15 @@ module _ {Op : Type 0} (meanings : Meanings Op) (v : Parts Op) (s0 s1 : ChainSta
     pub loans : s1.loans ≡ s0.loans
     pub valid : s0.valid → s1.valid
 
-  -- What a patch shows, how many pairs were applied and reused for it, and both counts of the session from then on.
-  pub record IsShownBy (patch : Image) (limit more again applied reused : ℕ) : Type 0 where
+  -- What a picture shows, how many pairs were applied and reused for it, and both counts of the session from then on.
+  pub record IsShownBy (picture : Picture) (limit more again applied reused : ℕ) : Type 0 where
     pub can : CanBeRendered meanings nodes asked limit
     pub pairs : counted (pairs_in entries) more again
         ≡ all_looked_up itself itself (Some v.capacity) (uncounted (pairs_in v.entries)) (pairs_requested meanings nodes asked)
     pub shown : (images : Buffers) (list : List Cached) → buffer_images buffers s0.held ≡ Some images → cached_in v.entries s0.held ≡ Some list
         → AreRight meanings (scene_of nodes images) list
         → (cached_in entries s1.held ≡ Some (list_after meanings nodes images (Some v.capacity) list (pairs_requested meanings nodes asked)))
-        × (patch ≡ image_requested meanings nodes images asked)
+        × Shows (level_requested meanings nodes images asked) asked.rect picture
     pub applied_is : applied ≡ min (v.applied + more) max_count
     pub reused_is : reused ≡ min (v.reused + again) max_count
     -- what renders need, and so what the definition's need
@@ -220,12 +221,12 @@ module _ {Op : Type 0} (same : Op → Op → Bool) (meanings : Meanings Op) (v n
       }
 
       -- with the pairs of a request looked up
-      module _ (asked : Request) (patch : Image)
+      module _ (asked : Request) (picture : Picture)
           (pairs : pairs_in entries ≡ (looked_up_by meanings v asked).list)
           (first : applied ≡ min max_count (v.applied + (looked_up_by meanings v asked).applied))
           (second : reused ≡ min max_count (v.reused + (looked_up_by meanings v asked).reused))
           (shows : (images : Buffers) (list : List Cached) → buffer_images latest s0.held ≡ Some images → cached_in v.entries s0.held ≡ Some list → AreRight meanings (scene_of nodes images) list
-          → (cached_in entries s1.held ≡ Some (list_after meanings nodes images (Some v.capacity) list (pairs_requested meanings nodes asked))) × (patch ≡ image_requested meanings nodes images asked)) where
+          → (cached_in entries s1.held ≡ Some (list_after meanings nodes images (Some v.capacity) list (pairs_requested meanings nodes asked))) × Shows (level_requested meanings nodes images asked) asked.rect picture) where
         counted-up : (old more told : ℕ) → min max_count old ≡ told → min max_count (old + more) ≡ min max_count (told + more)
         counted-up old more told told-is = omega (arith, told-is)
 
@@ -245,7 +246,7 @@ module _ {Op : Type 0} (same : Op → Op → Bool) (meanings : Meanings Op) (v n
 
           shown-at : (some : IsSome s0.held.content)
               → (cached_in entries s1.held ≡ Some (list_after meanings nodes (images same meanings v s0.held over stated session its) (Some v.capacity) session.cached.list (pairs_requested meanings nodes asked)))
-              × (patch ≡ image_requested meanings nodes (images same meanings v s0.held over stated session its) asked)
+              × Shows (level_requested meanings nodes (images same meanings v s0.held over stated session its) asked) asked.rect picture
           shown-at some =
               shows (images same meanings v s0.held over stated session its) session.cached.list (images-known same meanings v s0.held over stated session its some)
               (list-known same meanings v s0.held over stated session its some) (right-known same meanings v s0.held over stated session its some)
@@ -276,12 +277,13 @@ module _ {Op : Type 0} (same : Op → Op → Bool) (meanings : Meanings Op) (v n
               (needs (images same meanings v s0.held over stated session its) (shown same meanings v s0.held over stated session its)) pairs first second
               (λ list known. sym respects.exposed ∙ known-exposed entries s1.held list known) (λ some. (shown-at some).0)))
 
-          image-after : IsSome s0.held.content → patch ≡ cut (level (image_of meanings (last_scene session) asked.node) asked.at_level) asked.rect
+          image-after : IsSome s0.held.content → Shows (level (image_of meanings (last_scene session) asked.node) asked.at_level) asked.rect picture
           image-after some =
-              (shown-at some).1
-              ∙ image-rendered same meanings v s0.held over stated entries most capacity applied reused s1.held cache sized respects asked session its
+              subst (λ (image : Image). Shows image asked.rect picture)
+              (level-rendered same meanings v s0.held over stated entries most capacity applied reused s1.held cache sized respects asked session its
               (needs (images same meanings v s0.held over stated session its) (shown same meanings v s0.held over stated session its)) pairs first second
-              (λ list known. sym respects.exposed ∙ known-exposed entries s1.held list known) (λ some. (shown-at some).0)
+              (λ list known. sym respects.exposed ∙ known-exposed entries s1.held list known) (λ some. (shown-at some).0))
+              (shown-at some).1
 
 -- ---- by what is handed and answered
 
@@ -384,12 +386,12 @@ module _ {Op : Type 0} {same : Op → Op → Bool} {meanings : Meanings Op} {v n
 
       -- a rendered one
 
-      module _ {patch : Image} {more again : ℕ} (done : IsShownBy meanings v s0 s1 buffers nodes request entries patch limit more again applied reused) where
-        of_last : IsShownBy meanings v s0 s1 v.versions.latest v.graph.latest.nodes request entries patch v.capacity more again applied reused
+      module _ {picture : Picture} {more again : ℕ} (done : IsShownBy meanings v s0 s1 buffers nodes request entries picture limit more again applied reused) where
+        of_last : IsShownBy meanings v s0 s1 v.versions.latest v.graph.latest.nodes request entries picture v.capacity more again applied reused
         of_last =
-            subst (λ (n : ℕ). IsShownBy meanings v s0 s1 v.versions.latest v.graph.latest.nodes request entries patch n more again applied reused) asked.limit_is
-            (subst (λ (b : BufferTable). IsShownBy meanings v s0 s1 b v.graph.latest.nodes request entries patch limit more again applied reused) asked.buffers_are
-            (subst (λ (xs : Nodes). IsShownBy meanings v s0 s1 buffers xs request entries patch limit more again applied reused) asked.nodes_are done))
+            subst (λ (n : ℕ). IsShownBy meanings v s0 s1 v.versions.latest v.graph.latest.nodes request entries picture n more again applied reused) asked.limit_is
+            (subst (λ (b : BufferTable). IsShownBy meanings v s0 s1 b v.graph.latest.nodes request entries picture limit more again applied reused) asked.buffers_are
+            (subst (λ (xs : Nodes). IsShownBy meanings v s0 s1 buffers xs request entries picture limit more again applied reused) asked.nodes_are done))
 
         rendered-v : IsRendered meanings request v (parts_left applied reused)
         rendered-v = record {
@@ -404,7 +406,7 @@ module _ {Op : Type 0} {same : Op → Op → Bool} {meanings : Meanings Op} {v n
         pub done-over : IsOver same meanings (parts_left applied reused) s1.held
         done-over =
             over-rendered same meanings v now asked.is s0 s1 asked.over asked.stated entries most capacity applied reused of_latest.cache of_latest.sized left.bound left.respects
-            of_latest.right request patch rendered-v.pairs rendered-v.applied rendered-v.reused of_last.shown left.one_owner
+            of_latest.right request picture rendered-v.pairs rendered-v.applied rendered-v.reused of_last.shown left.one_owner
 
         needed : (images : Buffers) → AreImagesOf (facts_of v.versions.latest.layout) images
             → strips_needed meanings v.graph.latest.nodes request ≡ render_need meanings (scene_of v.graph.latest.nodes images) request.node request.at_level request.rect
@@ -414,10 +416,10 @@ module _ {Op : Type 0} {same : Op → Op → Bool} {meanings : Meanings Op} {v n
             → IsSessionOf same meanings (parts_left applied reused) s1.held (after_render meanings now.capacity session request.node request.at_level request.rect)
         done-session =
             session-after same meanings v now asked.is s0 s1 asked.over asked.stated entries most capacity applied reused of_latest.cache of_latest.sized left.bound left.respects
-            of_latest.right request patch rendered-v.pairs rendered-v.applied rendered-v.reused of_last.shown of_last.can needed
+            of_latest.right request picture rendered-v.pairs rendered-v.applied rendered-v.reused of_last.shown of_last.can needed
 
         pub done-image : (session : Session Table Op) → IsSessionOf same meanings now s0.held session → IsSome s0.held.content
-            → patch ≡ cut (level (image_of meanings (last_scene session) request.node) request.at_level) request.rect
+            → Shows (level (image_of meanings (last_scene session) request.node) request.at_level) request.rect picture
         done-image =
             image-after same meanings v now asked.is s0 s1 asked.over asked.stated entries most capacity applied reused of_latest.cache of_latest.sized left.bound left.respects
-            of_latest.right request patch rendered-v.pairs rendered-v.applied rendered-v.reused of_last.shown of_last.can needed
+            of_latest.right request picture rendered-v.pairs rendered-v.applied rendered-v.reused of_last.shown of_last.can needed

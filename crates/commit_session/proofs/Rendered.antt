@@ -17,7 +17,6 @@ use Rattle.model_graphs.specs.Facts.{AreImagesOf, Facts, shapes_of_facts, specs_
 use Rattle.model_graphs.specs.Meanings.{Meanings}
 use Rattle.model_graphs.specs.Node.{Node}
 use Rattle.model_images.specs.Level.{level}
-use Rattle.model_images.specs.Paint.{cut}
 use Rattle.model_states.specs.Cache.{AreRight, Cached, Counted, Pair, all_looked_up, by_pair, counted_pairs, itself, needed_pairs, pairs_of, same_pair, uncounted, with_bytes}
 use Rattle.model_states.specs.Damage.{IsStated}
 use Rattle.model_states.specs.State.{Scene, State, image_of}
@@ -33,7 +32,7 @@ use Rattle.node_cache.specs.Stores.{HaveOneOwner}
 use Rattle.node_tiles.specs.Stated.{scene_of}
 use Rattle.strip_renders.specs.Strips.{AreKnownRight, AreSizedPairs, counted, list_after}
 use Rattle.strip_renders.proofs.Looked.{pairs-exposed}
-use Rattle.render_workers.specs.Requests.{Request, image_requested, pairs_requested, strips_needed}
+use Rattle.render_workers.specs.Requests.{Request, level_requested, pairs_requested, strips_needed}
 use Rattle.render_workers.proofs.Folds.{looked-counted, more}
 use Rattle.buffer_view.specs.BufferTables.{BufferTable, buffer_images, table_of}
 use Rattle.session_states.specs.OverChains.{AreAllSame, versions_names}
@@ -298,5 +297,5 @@ module _ {Op : Type 0} (same : Op → Op → Bool) (meanings : Meanings Op) (par
             (subst (IsSessionOf same meanings after left) rendered-is session-looked)
 
         -- the image of a request is that of the node in the last state
-        pub image-rendered : image_requested meanings nodes (images session is) asked ≡ cut (level (image_of meanings (last_scene session) asked.node) asked.at_level) asked.rect
-        image-rendered = ap (λ (s : Scene Op). cut (level (image_of meanings s asked.node) asked.at_level) asked.rect) (scene-is session is)
+        pub level-rendered : level_requested meanings nodes (images session is) asked ≡ level (image_of meanings (last_scene session) asked.node) asked.at_level
+        level-rendered = ap (λ (s : Scene Op). level (image_of meanings s asked.node) asked.at_level) (scene-is session is)

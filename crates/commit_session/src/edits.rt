@@ -7,7 +7,6 @@ ghost use Rattle.model_buffers.specs.BufferEdit.{IsProperEdit, edit_refused};
 ghost use Rattle.model_buffers.specs.Counts.{tiles_added};
 ghost use Rattle.model_buffers.specs.Layout.{find};
 ghost use Rattle.model_buffers.specs.Table.{Table};
-ghost use Rattle.model_buffers.specs.declared.edit.BufferEdit.TheVariants.{Put};
 ghost use Rattle.model_buffers.specs.declared.refused.EditRefused.{EditRefused as Cause};
 ghost use Rattle.model_buffers.specs.declared.refused.EditRefused.TheVariants.{UnknownBuffer};
 ghost use Rattle.model_images.specs.TileCounts.{level_tiles};
@@ -27,9 +26,8 @@ ghost use Rattle.commit_session.specs.Steps.{HasSameStates, IsEditedBy};
 ghost use Rattle.commit_session.specs.declared.refused.SessionRefused.TheVariants.{Buffer, NoMemory};
 
 use crate::refused::SessionRefused;
-use crate::renders::keep_larger;
 use crate::state::SessionState;
-use crate::written::{Target, note_target, note_written};
+use crate::written::note_written;
 use chain_contracts::TileChain;
 use model_buffers::BufferEdit;
 use model_graphs::{NodeEdit, OpMeaning};
@@ -76,48 +74,6 @@ impl<Op: OpMeaning + Drop> SessionState<Op> {
         self.written.reserve(1)?;
         self.versions.edit(chain, edit, workers)?;
         note_written(&mut self.written, self.versions.working(), edit);
-        Ok(())
-    }
-
-    /// Writes raw bytes over a rectangle of a buffer that is edited, as the edit `Put` does, and notes the rectangle of
-    /// its root. Memory that is left of them is for the next render. The states and the cached pairs are unchanged.
-    ///
-    /// # Errors
-    ///
-    /// As [`SessionState::edit`].
-    pub fn put<C: TileChain, R: Threads + Sync>(
-        &mut self,
-        chain: &mut C,
-        name: Name,
-        rect: Rect,
-        bytes: Vec<u8>,
-        workers: Workers<'_, R>,
-    ) -> Result<(), SessionRefused>
-        requires over { IsOver Op.same Op.meanings self.old (C.held chain.old) }
-        ensures edited { OnOk result (IsEditedBy (Put name rect bytes.items) self.old self.new) }
-        ensures unchanged { OnErr result (self.new.versions.working.layout ≡ self.old.versions.working.layout) }
-        ensures unwritten { OnErr result (self.new.written ≡ self.old.written) }
-        ensures states { HasSameStates self.old self.new }
-        ensures pending { self.new.pending ≡ self.old.pending }
-        ensures session { (session : Session Table Op) → IsSessionOf Op.same Op.meanings self.old (C.held chain.old) session →
-            OnOk result (IsSessionOf Op.same Op.meanings self.new (C.held chain.new)
-            (record session { history = after_step Op.meanings session.history (EditBuffer (Put name rect bytes.items)) })) }
-        ensures same { (session : Session Table Op) → IsSessionOf Op.same Op.meanings self.old (C.held chain.old) session →
-            OnErr result (IsSessionOf Op.same Op.meanings self.new (C.held chain.new) session) }
-        ensures exact { (cause : Cause) → edit_refused self.old.versions.working.layout (Put name rect bytes.items) ≡ Some cause →
-            result ≢ Err NoMemory → result ≡ Err (Buffer (Edit cause)) }
-        ensures cause { IfErr result (IsRefusedAs by_buffers
-            (HasEditCause self.old.versions.working.layout (Put name rect bytes.items) (C.counts chain.old) (C.counts chain.new))) }
-        ensures over { IsOver Op.same Op.meanings self.new (C.held chain.new) }
-        ensures left { Leaves (tiles_added (Put name rect bytes.items)) (session_names self.old) (session_names self.new)
-            (record { held = C.held chain.old; counts = C.counts chain.old; loans = C.loans chain.old; valid = C.is_valid chain.old })
-            (record { held = C.held chain.new; counts = C.counts chain.new; loans = C.loans chain.new; valid = C.is_valid chain.new }) }
-    {
-        self.written.reserve(1)?;
-        let left = self.versions.put(chain, name, rect, bytes, workers)?;
-        let target = Target { buffer: name, rect };
-        note_target(&mut self.written, self.versions.working(), target);
-        keep_larger(&mut self.memory, left);
         Ok(())
     }
 

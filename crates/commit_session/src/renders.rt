@@ -8,7 +8,6 @@ ghost use Rattle.model_graphs.specs.Facts.{specs_of};
 ghost use Rattle.model_graphs.specs.Node.{index_of};
 ghost use Rattle.model_graphs.specs.Permits.{Spent};
 ghost use Rattle.model_images.specs.Level.{level as level_of};
-ghost use Rattle.model_images.specs.Paint.{cut};
 ghost use Rattle.model_sessions.specs.Sessions.{Session, after_render, last_scene};
 ghost use Rattle.model_states.specs.Damage.{IsStated};
 ghost use Rattle.model_states.specs.Edits.{has_node};
@@ -19,6 +18,7 @@ ghost use Rattle.node_tiles.specs.Stated.{shape_at};
 ghost use Rattle.render_workers.specs.Refusals.{CanBeRendered, IsRefusedBy};
 ghost use Rattle.render_workers.specs.Requests.{pairs_requested, request};
 ghost use Rattle.render_workers.specs.declared.refused.RenderRefused.TheVariants.{Rect as OutsideLimits, UnknownNode};
+ghost use Rattle.strip_patches.specs.Shown.{Shows, is_patch, picture_box, picture_format};
 ghost use Rattle.session_states.specs.OverChains.{Leaves};
 ghost use Rattle.commit_session.specs.Parts.{session_names};
 ghost use Rattle.commit_session.specs.Refusals.{IsRefusedAs, by_render};
@@ -33,23 +33,16 @@ use chain_contracts::TileChain;
 use model_graphs::OpMeaning;
 use node_cache::PairStore;
 use op_contracts::OpKit;
-use patch_abyss::Patch;
 use plane_rect::{Name, Rect};
 use render_workers::laws::requests_need_what_renders_need;
-use root_tiles::IDLE_BYTES;
-use std::mem;
 use std::thread::Threads;
+use strip_patches::{Picture, PictureForm};
 use worker_pieces::Workers;
 
-/// How many bytes of room memory may have that lies idle between two renders: a page more than a raster has whose
-/// memory is handed on, since who reads one asks for room beyond its end.
-const IDLE_ROOM: usize = IDLE_BYTES + 4096;
-
 impl<Op: OpMeaning + Drop> SessionState<Op> {
-    /// Returns a rectangle of a level of the image of a node of the last state. Each tile that it needs is looked
-    /// up in the cache, or else evaluated, kept there, and paid for by one permit. The patch takes the memory that
-    /// the session was given for it, where that suits its size. Takes time in proportion to the needed tiles and to the
-    /// rectangle at level 0.
+    /// Returns a rectangle of a level of the image of a node of the last state, in the form that is asked for. Each tile
+    /// that it needs is looked up in the cache, or else evaluated, kept there, and paid for by one permit. Takes time in
+    /// proportion to the needed tiles and to the rectangle at level 0.
     ///
     /// # Errors
     ///
@@ -66,20 +59,22 @@ impl<Op: OpMeaning + Drop> SessionState<Op> {
         node: Name,
         level: u32,
         rect: Rect,
+        form: PictureForm,
         workers: Workers<'_, R>,
-    ) -> Result<Patch, SessionRefused>
+    ) -> Result<Picture, SessionRefused>
     where
         Op: Sync,
         K::Permit: Send,
         requires over { IsOver Op.same Op.meanings self.old (C.held chain.old) }
         requires level { level ≤ 8 }
         requires permits { 2 ^ 32 ≤ K.permits purse.old }
-        ensures rect { IfOk result (λ patch. patch.box ≡ rect) }
-        ensures format { IfOk result (λ patch. patch.format
+        ensures rect { IfOk result (λ picture. picture_box picture ≡ rect) }
+        ensures format { IfOk result (λ picture. picture_format picture
             ≡ (shape_at self.old.graph.latest.nodes (index_of (specs_of self.old.graph.latest.nodes) node)).format) }
         ensures image { (session : Session Table Op) → IsSessionOf Op.same Op.meanings self.old (C.held chain.old) session →
-            IsSome (C.held chain.old).content → IfOk result (λ patch. patch
-            ≡ cut (level_of (image_of Op.meanings (last_scene session) node) level) rect) }
+            IsSome (C.held chain.old).content → IfOk result
+            (Shows (level_of (image_of Op.meanings (last_scene session) node) level) rect) }
+        ensures patch { form ≡ PictureForm.Patch → IfOk result (λ picture. is_patch picture ≡ true) }
         ensures rendered { OnOk result (IsRendered Op.meanings (request node level rect) self.old self.new) }
         ensures session { (session : Session Table Op) → IsSessionOf Op.same Op.meanings self.old (C.held chain.old) session →
             OnOk result (IsSessionOf Op.same Op.meanings self.new (C.held chain.new)
@@ -114,7 +109,6 @@ impl<Op: OpMeaning + Drop> SessionState<Op> {
         requests_need_what_renders_need::<Op>();
         let capacity = PairStore::<C>::bound(&self.cache).unwrap();
         let mut sources = BufferTiles::new(self.versions.latest());
-        let memory = mem::replace(&mut self.memory, Vec::new(self.alloc));
         let done = render_workers::render(
             kit,
             self.alloc,
@@ -127,36 +121,11 @@ impl<Op: OpMeaning + Drop> SessionState<Op> {
             level,
             rect,
             capacity,
-            memory,
+            form,
             workers,
         )?;
         self.counts.applied = self.counts.applied.saturating_add(done.applied);
         self.counts.reused = self.counts.reused.saturating_add(done.reused);
-        Ok(done.patch)
-    }
-
-    /// Gives the session memory that the patch of its next render may take, whatever that memory has. Keeps the
-    /// one of this and what is kept that has room for more, and drops the other; never keeps more than 64 MiB and
-    /// a page. Takes no memory.
-    pub fn reuse(&mut self, memory: Vec<u8>)
-        ensures { self.new ≡ self.old }
-    {
-        keep_larger(&mut self.memory, memory);
-    }
-
-    /// Returns the memory that the session was given by [`reuse`](SessionState::reuse), for another use until it is given
-    /// back. Takes no memory.
-    pub fn idle_memory(&mut self) -> Vec<u8>
-        ensures { self.new ≡ self.old }
-    {
-        mem::replace(&mut self.memory, Vec::new(self.alloc))
-    }
-}
-
-/// Keeps the memory that has more room, if it isn't more than may lie idle, and drops the other.
-pub(crate) fn keep_larger(kept: &mut Vec<u8>, memory: Vec<u8>) {
-    let room = memory.capacity();
-    if kept.capacity() < room && room <= IDLE_ROOM {
-        *kept = memory;
+        Ok(done.picture)
     }
 }

@@ -32,13 +32,13 @@ use op_contracts::OpKit;
 use patch_abyss::Patch;
 use plane_rect::{Name, Rect};
 use std::thread::Threads;
+use strip_patches::PictureForm;
 use worker_pieces::Workers;
 
 impl<K: OpKit + Sync, C: TileChain> OwnedSession<K, C> {
     /// Returns a rectangle of a level of the image of a node of the last state. Each tile that it needs is looked
-    /// up in the cache, or else evaluated, kept there, and paid for by one permit. The patch takes the memory that
-    /// the session was given for it, where that suits its size. Takes time in proportion to the needed tiles and to the
-    /// rectangle at level 0.
+    /// up in the cache, or else evaluated, kept there, and paid for by one permit. Takes time in
+    /// proportion to the needed tiles and to the rectangle at level 0.
     ///
     /// # Errors
     ///
@@ -98,21 +98,16 @@ impl<K: OpKit + Sync, C: TileChain> OwnedSession<K, C> {
             (record { held = C.held self.new.chain; counts = C.counts self.new.chain; loans = C.loans self.new.chain; valid = C.is_valid self.new.chain }) }
     {
         let workers = Workers::new(threads, self.workers);
-        self.state.render(
+        let picture = self.state.render(
             &self.kit,
             &mut self.chain,
             purse,
             node,
             level,
             rect,
+            PictureForm::Patch,
             workers,
-        )
-    }
-
-    /// Gives the session memory that the patch of its next render may take, as [`SessionState::reuse`](crate::SessionState::reuse).
-    pub fn reuse(&mut self, memory: Vec<u8>)
-        ensures { self.new ≡ self.old }
-    {
-        self.state.reuse(memory);
+        )?;
+        Ok(picture.into_patch())
     }
 }

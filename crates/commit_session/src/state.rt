@@ -38,8 +38,6 @@ pub struct SessionState<Op: OpMeaning> {
     pub(crate) cache: NodeCache,
     pub(crate) counts: Counts,
     pub(crate) alloc: Global,
-    /// What the next render's patch may take, whatever it has.
-    pub(crate) memory: Vec<u8>,
 }
 
 impl<Op: OpMeaning> Model for SessionState<Op> {
@@ -87,7 +85,6 @@ impl<Op: OpMeaning + Drop> SessionState<Op> {
                 reused: 0,
             },
             alloc,
-            memory: Vec::new(alloc),
         })
     }
 

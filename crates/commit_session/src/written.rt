@@ -80,7 +80,7 @@ pub(crate) fn note_written(written: &mut Vec<Edited>, buffers: &Buffers, edit: &
 }
 
 /// Notes the rectangle of a root that a rectangle of one of these buffers is. There is room for one more.
-pub(crate) fn note_target(written: &mut Vec<Edited>, buffers: &Buffers, target: Target)
+fn note_target(written: &mut Vec<Edited>, buffers: &Buffers, target: Target)
     requires { vec_len written.old < vec_capacity written.old }
     ensures { rectangles_of written.new.items
         ≡ after_writing (rectangles_of written.old.items) (on_root buffers.now.layout target.buffer (Ok target.rect)) }

@@ -1,9 +1,9 @@
 -- What one turn of the loop over strips meets.
-use Rattle.std.proofs.Common.{◌≡◌, ℕ, suc, ◌+◌, ◌^◌, ◌<◌, ◌≤◌, List, ◌++◌, take, drop, length, get_or, unwrap_or, Some, sym, ap, ◌∙◌, subst, arith, length-append}
+use Rattle.std.proofs.Common.{◌≡◌, ℕ, suc, ◌+◌, ◌^◌, ◌<◌, ◌≤◌, List, ◌++◌, take, drop, length, get_or, Some, sym, ap, ◌∙◌, subst, arith, length-append}
 use Rattle.std.specs.Prelude.{slice_get}
 use Rattle.std.proofs.lemmas.List.{length-map}
 use Rattle.std.proofs.lemmas.Option.{slice_get-get_or}
-use Rattle.plane_rect.specs.Rectangle.{InLimits, Rectangle, empty, scaled}
+use Rattle.plane_rect.specs.Rectangle.{InLimits, Rectangle}
 use Rattle.model_graphs.specs.declared.node.NodeFact.{NodeFact}
 use Rattle.model_graphs.specs.Facts.{specs_of}
 use Rattle.model_graphs.specs.Meanings.{Meanings}
@@ -11,19 +11,22 @@ use Rattle.model_states.specs.Cache.{Pair, needed_pairs, pair_of}
 use Rattle.model_states.specs.Need.{need, strip_of, strip_rectangles}
 use Rattle.strip_renders.specs.Moments.{Moment}
 use Rattle.strip_renders.specs.Strips.{IsStripOf, pairs_needed}
-use Rattle.strip_patches.specs.LevelStrips.{AreOfOne, LevelStrips, source_of}
+use Rattle.strip_patches.specs.Shown.{AreOfOneRequest}
+use Rattle.strip_patches.specs.declared.picture_strips.PictureStrips.{PictureStrips}
 use Rattle.render_workers.specs.Parts.{LooksUp}
 use Rattle.render_workers.proofs.Joined.{looks-count}
 use Rattle.render_workers.proofs.Needs.{pairs-parted, pairs_of, strip-limits, strip-of}
 
--- ---- the patch of the request
+-- ---- the picture of the request
 
-pub of-one : (a b c : LevelStrips) → AreOfOne a b → AreOfOne b c → AreOfOne a c
-of-one a b c one two = record { rect = two.rect ∙ one.rect; at_level = two.at_level ∙ one.at_level; format = two.format ∙ one.format }
-
-pub source-kept : (a b : LevelStrips) → AreOfOne a b → source_of a ≡ source_of b
-source-kept a b one =
-    ap (λ (z : ℕ). unwrap_or (scaled z a.rect) empty) (sym one.at_level) ∙ ap (λ (s : Rectangle). unwrap_or (scaled b.at_level s) empty) (sym one.rect)
+pub of-one : (a b c : PictureStrips) → AreOfOneRequest a b → AreOfOneRequest b c → AreOfOneRequest a c
+of-one a b c one two = record {
+  rect = two.rect ∙ one.rect;
+  at_level = two.at_level ∙ one.at_level;
+  source = two.source ∙ one.source;
+  format = two.format ∙ one.format;
+  patch = two.patch ∙ one.patch;
+}
 
 -- ---- its strips
 

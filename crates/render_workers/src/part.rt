@@ -7,8 +7,8 @@ ghost use Rattle.model_states.specs.Need.{strip_of, strip_rectangles};
 ghost use Rattle.node_tiles.specs.Stated.{AreTilesOf, shape_at};
 ghost use Rattle.strip_renders.specs.Moments.{AreOver, moment};
 ghost use Rattle.strip_renders.specs.Strips.{AreKnownRight, AreSizedPairs, AreStatedWith, HoldsNeed, IsStripOf, pairs_needed};
-ghost use Rattle.strip_patches.specs.LevelStrips.{AreOfOne, HasStrips, source_of};
 ghost use Rattle.strip_patches.specs.Nodes.{image_at};
+ghost use Rattle.strip_patches.specs.Shown.{AreOfOneRequest, HasStripsOf, format_in, source_in};
 ghost use Rattle.render_workers.specs.Parts.{IsExcused, Leaves, LooksUp};
 
 use chain_owners::ChainMeaning;
@@ -17,7 +17,7 @@ use op_contracts::{OpKit, SourceTiles};
 use plane_rect::Rect;
 use roi_planner::strip_of;
 use std::thread::Threads;
-use strip_patches::LevelPatch;
+use strip_patches::PictureStrips;
 use strip_renders::{Evaluator, StripDone, render_strip};
 use swap_store::SwapRefused;
 use worker_pieces::Workers;
@@ -78,7 +78,7 @@ where
     Ok(done)
 }
 
-/// Renders a strip of a request for the node at a position, and adds it to the patch of the request.
+/// Renders a strip of a request for the node at a position, and adds it to the picture of the request.
 /// Returns how many of its tiles were evaluated and how many the cache had.
 ///
 /// # Errors
@@ -92,7 +92,7 @@ pub(crate) fn add_part<H: ChainMeaning, S: SourceTiles<H>, C: PairStore<H>, K: O
     cache: &mut C,
     chain: &mut H,
     purse: &mut K::Purse,
-    level_patch: &mut LevelPatch,
+    strips: &mut PictureStrips,
     workers: Workers<'_, R>,
 ) -> Result<LookCounts, SwapRefused>
 where
@@ -102,7 +102,7 @@ where
     requires stated { AreStatedWith K.Op.meanings (S.facts sources.old) by.now.nodes.now by.now.inputs.now }
     requires node { node < length by.now.nodes.now }
     requires limits { InLimits rect }
-    requires format { level_patch.old.patch.format ≡ (shape_at by.now.nodes.now node).format }
+    requires format { format_in strips.old ≡ (shape_at by.now.nodes.now node).format }
     requires strip { IsStripOf K.Op.meanings by.now.nodes.now (strip_of K.Op.meanings by.now.nodes.now node rect) }
     requires over { AreOver H.ChainMeaning S.SourceTiles C.PairStore sources.old cache.old chain.old }
     requires sized { AreSizedPairs by.now.nodes.now (C.sizes cache.old (H.held chain.old)) }
@@ -111,12 +111,12 @@ where
         (moment H.ChainMeaning S.SourceTiles C.PairStore sources.old cache.old chain.old)
         (moment H.ChainMeaning S.SourceTiles C.PairStore sources.new cache.new chain.new)
         (K.permits purse.old) (K.permits purse.new)) }
-    ensures request { AreOfOne level_patch.old level_patch.new }
+    ensures request { AreOfOneRequest strips.old strips.new }
     ensures image { (images : Buffers) → S.images sources.old (H.held chain.old) ≡ Some images →
         AreKnownRight K.Op.meanings by.now.nodes.now images (C.cached cache.old (H.held chain.old)) →
-        (k : ℕ) → HasStrips (image_at K.Op.meanings by.now.nodes.now images node) k level_patch.old →
-        slice_get (strip_rectangles (source_of level_patch.old)) k ≡ Some rect →
-        OnOk result (HasStrips (image_at K.Op.meanings by.now.nodes.now images node) (k + 1) level_patch.new) }
+        (k : ℕ) → HasStripsOf (image_at K.Op.meanings by.now.nodes.now images node) k strips.old →
+        slice_get (strip_rectangles (source_in strips.old)) k ≡ Some rect →
+        OnOk result (HasStripsOf (image_at K.Op.meanings by.now.nodes.now images node) (k + 1) strips.new) }
     ensures leaves { Leaves K.Op.meanings by.now.nodes.now (pairs_needed by.now.nodes.now (strip_of K.Op.meanings by.now.nodes.now node rect).need)
         (moment H.ChainMeaning S.SourceTiles C.PairStore sources.old cache.old chain.old)
         (moment H.ChainMeaning S.SourceTiles C.PairStore sources.new cache.new chain.new)
@@ -128,7 +128,7 @@ where
         (moment H.ChainMeaning S.SourceTiles C.PairStore sources.new cache.new chain.new)) }
 {
     let done = held_strip(by, node, rect, purse, sources, cache, chain, workers)?;
-    level_patch.add_strip(by.alloc, by.nodes, &done.tiles, sources, chain, node, rect)?;
+    strips.add_strip(by.alloc, by.nodes, &done.tiles, sources, chain, node, rect)?;
     Ok(LookCounts {
         applied: done.applied,
         reused: done.reused,

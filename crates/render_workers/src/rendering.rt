@@ -1,13 +1,14 @@
 //! Renders of requests.
 
 ghost use Rattle.std.specs.Prelude.{◌≡◌, ℕ, ◌<◌, ◌+◌, ◌≤◌, ◌^◌, ◌++◌, Bool, false, true, IfErr, IfOk, IsErrOf, IsSome, List, MatchResult, None, OnOk, Some, length};
-ghost use Rattle.plane_rect.specs.Rectangle.{IsRectangle, scaled};
+ghost use Rattle.plane_rect.specs.Rectangle.{scaled};
 ghost use Rattle.chain_owners.specs.Owners.{Owns};
+ghost use Rattle.model_images.specs.Image.{Image};
 ghost use Rattle.model_images.specs.Level.{level as level_of};
-ghost use Rattle.model_images.specs.Paint.{cut};
 ghost use Rattle.model_graphs.specs.Evaluation.{Buffers};
 ghost use Rattle.model_graphs.specs.Facts.{shapes_of_facts, specs_of};
 ghost use Rattle.model_graphs.specs.Node.{index_of};
+ghost use Rattle.model_graphs.specs.Shapes.{shape_of_image};
 ghost use Rattle.model_graphs.specs.Permits.{Spent};
 ghost use Rattle.model_states.specs.Cache.{AreRight, Cached, all_looked_up, itself, needed_pairs, uncounted};
 ghost use Rattle.model_states.specs.Edits.{has_node};
@@ -20,6 +21,7 @@ ghost use Rattle.node_tiles.specs.Stated.{scene_of, shape_at};
 ghost use Rattle.strip_renders.specs.Moments.{AreOver, Keeps, moment};
 ghost use Rattle.strip_renders.specs.Strips.{AreKnownRight, AreSizedPairs, counted, most_names};
 ghost use Rattle.strip_patches.specs.Nodes.{image_at};
+ghost use Rattle.strip_patches.specs.Shown.{HasStripsOf, Shows, format_in, is_patch, level_in, makes_patch, picture_box, picture_format, rect_in, source_in};
 ghost use Rattle.render_workers.specs.Parts.{IsExcused, Leaves, LooksUp};
 ghost use Rattle.render_workers.specs.Refusals.{ChangesNothing, IsRefusedBy};
 ghost use Rattle.render_workers.specs.Requests.{IsShown, pairs_requested, request, strips_needed};
@@ -29,14 +31,13 @@ use crate::refused::RenderRefused;
 use crate::strips::render_strips;
 use chain_owners::ChainMeaning;
 use model_graphs::NodeFact;
+use no_memory::NoMemory;
 use node_cache::PairStore;
 use op_contracts::{OpKit, SourceTiles};
-use patch_abyss::Patch;
-use pixel_formats::Format;
 use plane_rect::{Name, Rect};
 use std::alloc::Global;
 use std::thread::Threads;
-use strip_patches::LevelPatch;
+use strip_patches::{Picture, PictureForm, PictureStrips};
 use swap_store::SwapRefused;
 use worker_pieces::Workers;
 
@@ -44,25 +45,42 @@ use worker_pieces::Workers;
 /// were evaluated, and how many the cache had.
 #[derive(Drop)]
 pub struct Rendered {
-    pub patch: Patch,
+    pub picture: Picture,
     pub applied: u64,
     pub reused: u64,
 }
 
-/// Returns the format of the node at a position, whose box is a rectangle of the plane.
-fn format_of<Op>(nodes: &[NodeFact<Op>], node: u32) -> Format
-    requires { node < length nodes.now }
-    ensures format { result ≡ (shape_at nodes.now node).format }
-    ensures rectangle { IsRectangle (shape_at nodes.now node).box }
+/// Returns the picture of a request for the node at a position, to which no strip was added.
+///
+/// # Errors
+///
+/// `NoMemory` if memory runs out.
+fn no_strips<Op>(
+    alloc: Global,
+    nodes: &[NodeFact<Op>],
+    node: u32,
+    level: u32,
+    rect: Rect,
+    form: PictureForm,
+) -> Result<PictureStrips, NoMemory>
+    requires node { node < length nodes.now }
+    requires level { level ≤ 8 }
+    requires source { IsSome (scaled level rect) }
+    ensures rect { IfOk result (λ strips. rect_in strips ≡ rect) }
+    ensures level { IfOk result (λ strips. level_in strips ≡ level) }
+    ensures source { IfOk result (λ strips. scaled level rect ≡ Some (source_in strips)) }
+    ensures format { IfOk result (λ strips. format_in strips ≡ (shape_at nodes.now node).format) }
+    ensures none { IfOk result (λ strips. (image : Image) → shape_of_image image ≡ shape_at nodes.now node →
+        HasStripsOf image 0 strips) }
+    ensures patch { form ≡ PictureForm.Patch → IfOk result (λ strips. makes_patch strips ≡ true) }
 {
     let fact = &nodes[node as usize];
     // The box is a rectangle of the plane, as this call says.
     let _area = fact.bounds.area();
-    fact.format
+    PictureStrips::new(alloc, rect, level, fact.format, fact.bounds, form)
 }
 
-/// Renders a request that can be: one for a rectangle of a level of the node at a position. The patch may take
-/// the memory.
+/// Renders a request that can be: one for a rectangle of a level of the node at a position.
 ///
 /// # Errors
 ///
@@ -74,7 +92,7 @@ fn render_planned<H: ChainMeaning, S: SourceTiles<H>, C: PairStore<H>, K: OpKit 
     node: u32,
     level: u32,
     rect: Rect,
-    memory: Vec<u8>,
+    form: PictureForm,
     sources: &mut S,
     cache: &mut C,
     chain: &mut H,
@@ -96,11 +114,12 @@ where
         (moment H.ChainMeaning S.SourceTiles C.PairStore sources.old cache.old chain.old)
         (moment H.ChainMeaning S.SourceTiles C.PairStore sources.new cache.new chain.new)
         (K.permits purse.old) (K.permits purse.new)) }
-    ensures rect { IfOk result (λ done. done.patch.box ≡ rect) }
-    ensures format { IfOk result (λ done. done.patch.format ≡ (shape_at nodes.now node).format) }
+    ensures rect { IfOk result (λ done. picture_box done.picture ≡ rect) }
+    ensures format { IfOk result (λ done. picture_format done.picture ≡ (shape_at nodes.now node).format) }
     ensures image { (images : Buffers) → S.images sources.old (H.held chain.old) ≡ Some images →
         AreKnownRight K.Op.meanings nodes.now images (C.cached cache.old (H.held chain.old)) →
-        IfOk result (λ done. done.patch ≡ cut (level_of (image_at K.Op.meanings nodes.now images node) level) rect) }
+        IfOk result (λ done. Shows (level_of (image_at K.Op.meanings nodes.now images node) level) rect done.picture) }
+    ensures patch { form ≡ PictureForm.Patch → IfOk result (λ done. is_patch done.picture ≡ true) }
     ensures leaves { Leaves K.Op.meanings nodes.now (needed_pairs (specs_of nodes.now) (need K.Op.meanings nodes.now node (at_level_zero level rect)))
         (moment H.ChainMeaning S.SourceTiles C.PairStore sources.old cache.old chain.old)
         (moment H.ChainMeaning S.SourceTiles C.PairStore sources.new cache.new chain.new)
@@ -112,8 +131,7 @@ where
         (moment H.ChainMeaning S.SourceTiles C.PairStore sources.new cache.new chain.new)) }
 {
     let source = rect.scaled(level).unwrap();
-    let format = format_of(nodes, node);
-    let mut level_patch = LevelPatch::new(alloc, memory, rect, level, format)?;
+    let mut strips = no_strips(alloc, nodes, node, level, rect, form)?;
     let counts = render_strips(
         kit,
         alloc,
@@ -122,14 +140,14 @@ where
         cache,
         chain,
         purse,
-        &mut level_patch,
+        &mut strips,
         node,
         source,
         workers,
     )?;
-    let patch = level_patch.finish(alloc)?;
+    let picture = strips.finish(alloc)?;
     Ok(Rendered {
-        patch,
+        picture,
         applied: counts.applied,
         reused: counts.reused,
     })
@@ -138,12 +156,11 @@ where
 /// Renders a rectangle of a level of the node of a name, strip by strip: for each tile that a strip of the
 /// rectangle at level 0 needs, looks its pair up in the cache, and evaluates and keeps the tile where it
 /// isn't there. One permit is spent for each tile that is evaluated. Over images that are known, and where
-/// the cached pairs are right, the patch is that rectangle of the level of the node's image, whatever the
+/// the cached pairs are right, the picture is that rectangle of the level of the node's image, whatever the
 /// cache had; the cached pairs and both counts are those of the list after these pairs are looked up, also
 /// where no bytes are known. No strip may need more tiles than the capacity, which is tested before
-/// anything is looked up. The patch takes `memory`, whatever it has, where its room suits the patch's size, and
-/// else new memory. Takes time in proportion to the needed tiles, to the rectangle at level 0, and to
-/// the inputs times the nodes for each strip.
+/// anything is looked up. The picture has the form that is asked for. Takes time in proportion to the needed
+/// tiles, to the rectangle at level 0, and to the inputs times the nodes for each strip.
 ///
 /// # Errors
 ///
@@ -166,7 +183,7 @@ pub fn render<H: ChainMeaning, S: SourceTiles<H>, C: PairStore<H>, K: OpKit + Sy
     level: u32,
     rect: Rect,
     capacity: u32,
-    memory: Vec<u8>,
+    form: PictureForm,
     workers: Workers<'_, R>,
 ) -> Result<Rendered, RenderRefused>
 where
@@ -191,14 +208,15 @@ where
     ensures pairs { IfOk result (λ done. counted (C.pairs cache.new) done.applied done.reused
         ≡ all_looked_up itself itself (C.capacity cache.old) (uncounted (C.pairs cache.old))
         (pairs_requested K.Op.meanings nodes.now (request node level rect))) }
-    ensures rect { IfOk result (λ done. done.patch.box ≡ rect) }
-    ensures format { IfOk result (λ done. done.patch.format ≡ (shape_at nodes.now (index_of (specs_of nodes.now) node)).format) }
+    ensures rect { IfOk result (λ done. picture_box done.picture ≡ rect) }
+    ensures format { IfOk result (λ done. picture_format done.picture ≡ (shape_at nodes.now (index_of (specs_of nodes.now) node)).format) }
     ensures shown { (images : Buffers) (list : List Cached) → S.images sources.old (H.held chain.old) ≡ Some images →
         C.cached cache.old (H.held chain.old) ≡ Some list → AreRight K.Op.meanings (scene_of nodes.now images) list →
         IfOk result (λ done. IsShown K.Op.meanings nodes.now images (request node level rect)
         (moment H.ChainMeaning S.SourceTiles C.PairStore sources.old cache.old chain.old)
         (moment H.ChainMeaning S.SourceTiles C.PairStore sources.new cache.new chain.new)
-        list done.patch) }
+        list done.picture) }
+    ensures patch { form ≡ PictureForm.Patch → IfOk result (λ done. is_patch done.picture ≡ true) }
     ensures right { (images : Buffers) → S.images sources.old (H.held chain.old) ≡ Some images →
         AreKnownRight K.Op.meanings nodes.now images (C.cached cache.old (H.held chain.old)) →
         AreKnownRight K.Op.meanings nodes.now images (C.cached cache.new (H.held chain.new)) }
@@ -223,7 +241,7 @@ where
 {
     let position = planned_position(kit, alloc, nodes, node, level, rect, capacity)?;
     let done = render_planned(
-        kit, alloc, nodes, position, level, rect, memory, sources, cache, chain, purse, workers,
+        kit, alloc, nodes, position, level, rect, form, sources, cache, chain, purse, workers,
     )?;
     Ok(done)
 }

@@ -10,8 +10,8 @@ ghost use Rattle.model_states.specs.Valid.{AreStated};
 ghost use Rattle.node_tiles.specs.Stated.{shape_at};
 ghost use Rattle.strip_renders.specs.Moments.{AreOver, moment};
 ghost use Rattle.strip_renders.specs.Strips.{AreKnownRight, AreSizedPairs};
-ghost use Rattle.strip_patches.specs.LevelStrips.{AreOfOne, HasStrips, source_of};
 ghost use Rattle.strip_patches.specs.Nodes.{image_at};
+ghost use Rattle.strip_patches.specs.Shown.{AreOfOneRequest, HasStripsOf, format_in, source_in};
 ghost use Rattle.render_workers.specs.Parts.{IsExcused, Leaves, LooksUp};
 
 use crate::part::{LookCounts, add_part};
@@ -23,13 +23,13 @@ use plane_rect::Rect;
 use roi_planner::{all_inputs, strip_rects};
 use std::alloc::Global;
 use std::thread::Threads;
-use strip_patches::LevelPatch;
+use strip_patches::PictureStrips;
 use strip_renders::Evaluator;
 use swap_store::SwapRefused;
 use worker_pieces::Workers;
 
-/// Renders the strips of a request for the node at a position, from the top, and adds each to the patch
-/// of the request. Returns how many of the needed tiles were evaluated and how many the cache had.
+/// Renders the strips of a request for the node at a position, from the top, and adds each to the
+/// picture of the request. Returns how many of the needed tiles were evaluated and how many the cache had.
 ///
 /// # Errors
 ///
@@ -48,7 +48,7 @@ pub(crate) fn render_strips<
     cache: &mut C,
     chain: &mut H,
     purse: &mut K::Purse,
-    level_patch: &mut LevelPatch,
+    strips: &mut PictureStrips,
     node: u32,
     request: Rect,
     workers: Workers<'_, R>,
@@ -60,8 +60,8 @@ where
     requires stated { AreStated K.Op.meanings (shapes_of_facts (S.facts sources.old)) nodes.now }
     requires node { node < length nodes.now }
     requires limits { InLimits request }
-    requires source { request ≡ source_of level_patch.old }
-    requires format { level_patch.old.patch.format ≡ (shape_at nodes.now node).format }
+    requires source { request ≡ source_in strips.old }
+    requires format { format_in strips.old ≡ (shape_at nodes.now node).format }
     requires over { AreOver H.ChainMeaning S.SourceTiles C.PairStore sources.old cache.old chain.old }
     requires sized { AreSizedPairs nodes.now (C.sizes cache.old (H.held chain.old)) }
     requires few { length (needed_pairs (specs_of nodes.now) (need K.Op.meanings nodes.now node request)) < 2 ^ 32 }
@@ -70,11 +70,11 @@ where
         (moment H.ChainMeaning S.SourceTiles C.PairStore sources.old cache.old chain.old)
         (moment H.ChainMeaning S.SourceTiles C.PairStore sources.new cache.new chain.new)
         (K.permits purse.old) (K.permits purse.new)) }
-    ensures request { AreOfOne level_patch.old level_patch.new }
+    ensures request { AreOfOneRequest strips.old strips.new }
     ensures image { (images : Buffers) → S.images sources.old (H.held chain.old) ≡ Some images →
         AreKnownRight K.Op.meanings nodes.now images (C.cached cache.old (H.held chain.old)) →
-        HasStrips (image_at K.Op.meanings nodes.now images node) 0 level_patch.old →
-        OnOk result (HasStrips (image_at K.Op.meanings nodes.now images node) (length (strip_rectangles request)) level_patch.new) }
+        HasStripsOf (image_at K.Op.meanings nodes.now images node) 0 strips.old →
+        OnOk result (HasStripsOf (image_at K.Op.meanings nodes.now images node) (length (strip_rectangles request)) strips.new) }
     ensures leaves { Leaves K.Op.meanings nodes.now (needed_pairs (specs_of nodes.now) (need K.Op.meanings nodes.now node request))
         (moment H.ChainMeaning S.SourceTiles C.PairStore sources.old cache.old chain.old)
         (moment H.ChainMeaning S.SourceTiles C.PairStore sources.new cache.new chain.new)
@@ -97,15 +97,7 @@ where
     let mut reused = 0;
     for rect in &rects {
         let counts = add_part(
-            &by,
-            node,
-            *rect,
-            sources,
-            cache,
-            chain,
-            purse,
-            level_patch,
-            workers,
+            &by, node, *rect, sources, cache, chain, purse, strips, workers,
         )?;
         applied += counts.applied;
         reused += counts.reused;

@@ -1,6 +1,6 @@
 //! Nodes over a source of tiles, with a cache.
 
-ghost use Rattle.std.specs.Prelude.{◌≡◌, ◌≤◌, [], ⊤, IfOk, map};
+ghost use Rattle.std.specs.Prelude.{◌≡◌, ◌≤◌, [], ⊤, true, IfOk, map};
 ghost use Rattle.std.specs.Map.{values_of};
 ghost use Rattle.chain_owners.specs.Held.{nothing_held};
 ghost use Rattle.model_buffers.specs.Layout.{facts_of};
@@ -9,6 +9,7 @@ ghost use Rattle.node_cache.specs.HandTiles.{IsHandCache, hand_size};
 ghost use Rattle.node_cache.specs.NodeNames.{IsNodeCache, sizes_in};
 ghost use Rattle.buffer_view.specs.BufferTables.{AreBuffersOver, buffers_names};
 ghost use Rattle.frozen_images.specs.Scenes.{facts_in};
+ghost use Rattle.strip_patches.specs.Shown.{is_patch};
 ghost use Rattle.test_renders.specs.Ready.{AreOver, AreReady};
 
 use crate::changes::{commit, fill};
@@ -100,7 +101,8 @@ pub fn over_frozen<'a>(
 }
 
 impl<S, P> Canvas<S, P> {
-    /// Renders a request with permits of its own. Returns what is shown, and how many permits were spent.
+    /// Renders a request with permits of its own, in the form of one patch. Returns what is shown, and how many permits
+    /// were spent.
     ///
     /// # Errors
     ///
@@ -119,6 +121,7 @@ impl<S, P> Canvas<S, P> {
             (S.names self.old.sources) (P.names self.old.cache) (H.held chain.old) }
         requires ready { AreReady int_meanings (S.facts self.old.sources) self.old.graph.latest.nodes
             (P.sizes self.old.cache (H.held chain.old)) }
+        ensures patch { IfOk result (λ done. is_patch done.0.picture ≡ true) }
         ensures over { AreOver (S.is_over self.new.sources (H.held chain.new)) (P.is_over self.new.cache (H.held chain.new))
             (S.names self.new.sources) (P.names self.new.cache) (H.held chain.new) }
         ensures ready { AreReady int_meanings (S.facts self.new.sources) self.new.graph.latest.nodes

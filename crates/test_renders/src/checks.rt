@@ -52,10 +52,10 @@ impl<S, P> Canvas<S, P> {
         let (shown, spent) = self
             .shown(chain, request, Workers::new(rt, 3))
             .expect(rt, "a render");
-        assert!(rt; shown.patch.rect() == request.rect);
+        assert!(rt; shown.picture.rect() == request.rect);
         assert_eq!(rt; (shown.applied, shown.reused), counts);
         assert_eq!(rt; spent, shown.applied);
-        shown.patch
+        shown.picture.into_patch()
     }
 
     /// Renders a request, and checks its bytes and these counts.

@@ -65,13 +65,13 @@ fn show_again<C: TileChain, P: PairStore<C>>(
 {
     let first = canvas.shown(chain, request, Workers::new(rt, 3));
     if let Ok(shown) = first {
-        return (shown.0.patch, false);
+        return (shown.0.picture.into_patch(), false);
     }
     assert!(rt; first.err() == Some(RenderRefused::SwapFault));
     let second = canvas
         .shown(chain, request, Workers::new(rt, 3))
         .expect(rt, "one call that fails");
-    (second.0.patch, true)
+    (second.0.picture.into_patch(), true)
 }
 
 /// Inverts a buffer twice over a disk of which one call fails, and shows the buffer so. Returns whether the disk

@@ -1,6 +1,7 @@
 //! Renders that can be followed by others.
 
-ghost use Rattle.std.specs.Prelude.{◌≡◌, ◌≤◌, ◌^◌, IfOk};
+ghost use Rattle.std.specs.Prelude.{◌≡◌, ◌≤◌, ◌^◌, true, IfOk};
+ghost use Rattle.strip_patches.specs.Shown.{is_patch};
 ghost use Rattle.test_renders.specs.Ready.{AreOver, AreReady};
 
 use chain_owners::ChainMeaning;
@@ -11,6 +12,7 @@ use plane_rect::{Name, Rect};
 use render_workers::{RenderRefused, Rendered, render};
 use std::alloc::Global;
 use std::thread::Threads;
+use strip_patches::PictureForm;
 use worker_pieces::Workers;
 
 /// What is asked of a render: a rectangle of a level of a node, of whose strips none needs more tiles than the
@@ -23,7 +25,7 @@ pub struct Request {
     pub capacity: u32,
 }
 
-/// Renders a request over a source of tiles and a cache.
+/// Renders a request over a source of tiles and a cache, in the form of one patch.
 ///
 /// # Errors
 ///
@@ -53,6 +55,7 @@ where
         (S.names sources.old) (P.names cache.old) (H.held chain.old) }
     requires ready { AreReady K.Op.meanings (S.facts sources.old) graph.now.latest.nodes (P.sizes cache.old (H.held chain.old)) }
     requires permits { 2 ^ 32 ≤ K.permits purse.old }
+    ensures patch { IfOk result (λ done. is_patch done.picture ≡ true) }
     ensures over { AreOver (S.is_over sources.new (H.held chain.new)) (P.is_over cache.new (H.held chain.new))
         (S.names sources.new) (P.names cache.new) (H.held chain.new) }
     ensures ready { AreReady K.Op.meanings (S.facts sources.new) graph.now.latest.nodes (P.sizes cache.new (H.held chain.new)) }
@@ -70,7 +73,7 @@ where
         level,
         rect,
         request.capacity,
-        Vec::new(alloc),
+        PictureForm::Patch,
         workers,
     )?;
     Ok(shown)

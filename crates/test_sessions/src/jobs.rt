@@ -5,8 +5,7 @@ ghost use Rattle.model_operations.specs.Meanings.{int_meanings, same_operation};
 ghost use Rattle.commit_session.specs.Seen.{IsOver};
 
 use crate::calls::{
-    Fields, commit, create, grabbed, load, make, name, node, paint, redo, render, shown, source,
-    undo,
+    commit, create, grabbed, load, make, name, node, paint, redo, render, shown, source, undo,
 };
 use chain_contracts::TileChain;
 use commit_session::{OwnedSession, SessionRefused};
@@ -165,30 +164,8 @@ pub fn cache_one_pair<C: TileChain>(
     shown(rt, session, "b", [0, 64, 64, 64], (4, 3));
 }
 
-/// Renders a rectangle of a level of the mean in new memory, and again in memory of other bytes. Both are the same.
-fn render_again<C: TileChain>(
-    rt: &(impl Abort + Threads + Sync),
-    session: &mut OwnedSession<IntKit, C>,
-    alloc: Global,
-    level: u32,
-    fields: Fields,
-)
-    requires over { IsOver same_operation int_meanings session.old.state (C.held session.old.chain) }
-    requires level { level ≤ 8 }
-    ensures { IsOver same_operation int_meanings session.new.state (C.held session.new.chain) }
-{
-    let first = render(rt, session, "b", level, fields);
-    let first = first.expect(rt, "a request that is not refused");
-    let memory = vec![in alloc; 99; 30_000].expect(rt, "memory");
-    session.reuse(memory);
-    let again = render(rt, session, "b", level, fields);
-    let again = again.expect(rt, "a request that is not refused");
-    check_all(rt, &again, first.raw_bytes());
-}
-
-/// Renders parts of a mean in memory that was used before: within its box, across its border and past it, at levels
-/// 0, 2 and 7; and at last in the memory of a render before it, of which the mean has only a part.
-pub fn render_in_used_memory<C: TileChain>(
+/// Renders rows of a mean that are within its box, across its border, of which the mean has only a part, and past it.
+pub fn render_across_the_border<C: TileChain>(
     rt: &(impl Abort + Threads + Sync),
     session: &mut OwnedSession<IntKit, C>,
     alloc: Global,
@@ -197,17 +174,10 @@ pub fn render_in_used_memory<C: TileChain>(
     ensures { IsOver same_operation int_meanings session.new.state (C.held session.new.chain) }
 {
     commit_a_mean(rt, session, alloc);
-    render_again(rt, session, alloc, 0, [0, 0, 128, 128]);
-    render_again(rt, session, alloc, 0, [5, 62, 70, 3]);
-    render_again(rt, session, alloc, 0, [-9, 100, 150, 40]);
-    render_again(rt, session, alloc, 0, [300, 60, 9, 9]);
-    render_again(rt, session, alloc, 2, [-3, 14, 40, 20]);
-    render_again(rt, session, alloc, 7, [0, 0, 2, 1]);
-    let inner = render(rt, session, "b", 0, [10, 10, 4, 1]);
-    let inner = inner.expect(rt, "a request that is not refused");
+    let inner = shown(rt, session, "b", [10, 10, 4, 1], (1, 0));
     check_all(rt, &inner, &[100; 4]);
-    session.reuse(inner.into_raw());
-    let corner = render(rt, session, "b", 0, [127, 5, 4, 1]);
-    let corner = corner.expect(rt, "a request that is not refused");
-    check_all(rt, &corner, &[67, 33, 0, 0]);
+    let border = shown(rt, session, "b", [127, 5, 4, 1], (3, 0));
+    check_all(rt, &border, &[67, 33, 0, 0]);
+    let past = shown(rt, session, "b", [300, 60, 4, 1], (3, 0));
+    check_all(rt, &past, &[0; 4]);
 }

@@ -3,7 +3,7 @@
 ghost use Rattle.std.specs.Prelude.{◌≤◌};
 
 use crate::faults::invert_and_paint;
-use crate::jobs::{average_and_undo, cache_one_pair, load_and_gain, render_in_used_memory};
+use crate::jobs::{average_and_undo, cache_one_pair, load_and_gain, render_across_the_border};
 use commit_session::Session;
 use int_ops::IntKit;
 use outside_io::{MemSwap, SwapDisk};
@@ -20,8 +20,8 @@ enum Job {
     LoadAndGain,
     /// A cache of one pair is enough.
     CacheOnePair,
-    /// Patches take memory that was used.
-    RenderInUsedMemory,
+    /// A patch is zero outside the box of its node.
+    RenderAcrossTheBorder,
 }
 
 /// Runs a job over a session of one tile in memory and so many cached ones.
@@ -39,7 +39,7 @@ fn run_over<D: SwapDisk>(
         Job::AverageAndUndo => average_and_undo(rt, &mut session, alloc),
         Job::LoadAndGain => load_and_gain(rt, &mut session, alloc),
         Job::CacheOnePair => cache_one_pair(rt, &mut session, alloc),
-        Job::RenderInUsedMemory => render_in_used_memory(rt, &mut session, alloc),
+        Job::RenderAcrossTheBorder => render_across_the_border(rt, &mut session, alloc),
     }
 }
 
@@ -56,7 +56,7 @@ fn sessions_show_what_is_committed(rt: HostRuntime) {
         (100, Job::AverageAndUndo),
         (100, Job::LoadAndGain),
         (1, Job::CacheOnePair),
-        (100, Job::RenderInUsedMemory),
+        (100, Job::RenderAcrossTheBorder),
     ];
     for (cached, job) in jobs {
         let mut disk = disk_of(&rt, rt.alloc(), &[], &[]);

@@ -1,4 +1,4 @@
-use Rattle.std.proofs.Common.{◌≡◌, ℕ, List, length, refl, sym, ◌∙◌, subst}
+use Rattle.std.proofs.Common.{◌≡◌, ℕ, List, refl, sym, ◌∙◌, subst}
 use Rattle.chain_owners.proofs.Ownership.{seen-unchanged}
 use Rattle.model_graphs.specs.declared.node.NodeFact.{NodeFact}
 use Rattle.model_graphs.specs.Facts.{Facts, shapes_of_facts}
@@ -7,11 +7,10 @@ use Rattle.model_states.specs.Cache.{Pair}
 use Rattle.model_states.specs.Need.{strip_of}
 use Rattle.model_states.specs.Valid.{AreStated}
 use Rattle.roi_planner.proofs.Widths.{handed-on}
-use Rattle.node_tiles.specs.Reads.{Reads}
 use Rattle.node_tiles.proofs.Reading.{reads-others}
 use Rattle.strip_renders.specs.Moments.{AreOver, Moment, moment}
 use Rattle.strip_renders.specs.Strips.{pairs_needed}
-use Rattle.strip_renders.proofs.Moments.{over-reads, source_of}
+use Rattle.strip_renders.proofs.Moments.{over-reads}
 use Rattle.render_workers.specs.Parts.{IsExcused, Leaves}
 use Rattle.render_workers.proofs.Held.{part-held}
 use Rattle.render_workers.proofs.Joined.{excused-reads, leaves-reads, looks-reads}

@@ -1,6 +1,5 @@
 use Rattle.std.proofs.Common.{◌≡◌, ℕ, ◌+◌, ◌<◌, List, length, sym, ap, ◌∙◌, subst}
 use Rattle.model_images.specs.Level.{level}
-use Rattle.model_images.specs.Paint.{cut}
 use Rattle.model_graphs.specs.declared.node.NodeFact.{NodeFact}
 use Rattle.model_graphs.specs.Facts.{specs_of}
 use Rattle.model_graphs.specs.Meanings.{Meanings}
@@ -15,6 +14,7 @@ use Rattle.node_tiles.specs.Stated.{scene_of}
 use Rattle.strip_renders.specs.Moments.{Moment, moment}
 use Rattle.strip_renders.specs.Strips.{most_names}
 use Rattle.strip_patches.specs.Nodes.{name_at}
+use Rattle.strip_patches.specs.Shown.{Shows}
 use Rattle.render_workers.specs.Parts.{IsExcused, LooksUp}
 use Rattle.render_workers.specs.Refusals.{CanBeRendered, IsRefusedBy, by_swap}
 use Rattle.render_workers.specs.Requests.{Request, pairs_requested, request}
@@ -118,8 +118,9 @@ returns-clause-shown g c = λ images list known is right.
     ap (name_at (nodes g at)) c.in_ok-position.ensures.position ∙ name-found (nodes g at) c.args.node c.in_ok-position.ensures.there in
     record {
       cached = looks.cached images list known is right;
-      patch_is = c.in_ok-done.ensures.image images known (record { list = list; known = is; right = right })
-          ∙ ap (λ (q : List ℕ). cut (level (image_of (meanings g at) (scene_of (nodes g at) images) q) c.args.level) c.args.rect) name;
+      shows =
+          subst (λ (q : List ℕ). Shows (level (image_of (meanings g at) (scene_of (nodes g at) images) q) c.args.level) c.args.rect done.picture) name
+          (c.in_ok-done.ensures.image images known (record { list = list; known = is; right = right }));
     }
 
 pub returns-clause-sized : goal.returns-clause-sized

@@ -9,12 +9,12 @@ use Rattle.plane_rect.specs.Rectangle.{Rectangle}
 use Rattle.roi_planner.proofs.Widths.{handed-on}
 use Rattle.strip_renders.specs.Moments.{Moment, moment}
 use Rattle.strip_renders.specs.Strips.{pairs_needed}
-use Rattle.strip_patches.specs.LevelStrips.{HasStrips, source_of}
 use Rattle.strip_patches.specs.Nodes.{image_at}
+use Rattle.strip_patches.specs.Shown.{HasStripsOf, source_in}
 use Rattle.render_workers.specs.Parts.{IsExcused, Leaves, LooksUp}
 use Rattle.render_workers.proofs.Joined.{excused-later, leaves-both, leaves-more, leaves-none, looks-both, looks-none}
 use Rattle.render_workers.proofs.Needs.{pairs-more, pairs_of}
-use Rattle.render_workers.proofs.Turns.{item-found, item-limits, item-parts, item-permits, item-strip, of-one, source-kept, sums-small}
+use Rattle.render_workers.proofs.Turns.{item-found, item-limits, item-parts, item-permits, item-strip, of-one, sums-small}
 use Rattle.render_workers.proofs.strips.render_strips.Given
 use Rattle.render_workers.proofs.strips.render_strips.Goals.{After-add_part, After-rect-item}
 use Rattle.render_workers.proofs.strips.render_strips.Goals as goal
@@ -28,7 +28,7 @@ loop-rect-init g c =
       leaves = leaves-none g.K.Op.OpMeaning.meanings c.args.nodes.now first permits;
       over = c.requires.over;
       valid = λ valid. valid;
-      request = record { rect = refl; at_level = refl; format = refl };
+      request = record { rect = refl; at_level = refl; source = refl; format = refl; patch = refl };
       image = λ images known right has. has;
     }
 
@@ -159,7 +159,7 @@ loop-rect-preserved g c =
     let invariant = c.loop-rect.invariant in
     let counts = c.in_ok-counts.counts in
     let does = c.in_ok-counts.ensures in
-    let source : source_of c.loop-rect.level_patch ≡ c.args.request = sym (c.requires.source ∙ source-kept c.args.level_patch.now c.loop-rect.level_patch invariant.request) in
+    let source : source_in c.loop-rect.strips ≡ c.args.request = invariant.request.source ∙ sym c.requires.source in
     record {
       looks =
           subst (λ (pairs : List Pair). LooksUp (meanings g at) (nodes g at) pairs (c.loop-rect.applied + counts.applied) (c.loop-rect.reused + counts.reused) (first g at) (next g at) (before g at) (after g at))
@@ -171,7 +171,7 @@ loop-rect-preserved g c =
           (leaves-both (meanings g at) (nodes g at) (done g at) (mine g at) (first g at) (now g at) (next g at) (before g at) (mid g at) (after g at) invariant.leaves does.leaves);
       over = does.over;
       valid = λ valid. does.valid (invariant.valid valid);
-      request = of-one c.args.level_patch.now c.loop-rect.level_patch c.add_part.new.level_patch invariant.request does.request;
+      request = of-one c.args.strips.now c.loop-rect.strips c.add_part.new.strips invariant.request does.request;
       image = λ images known right has.
           does.image images (invariant.leaves.keeps.images ∙ known) (invariant.leaves.right images known right) (i g at) (invariant.image images known right has)
           (subst (λ (s : Rectangle). slice_get (strip_rectangles s) (i g at) ≡ Some (r g at)) (sym source)
@@ -183,5 +183,5 @@ returns-clause-image g c = λ images known right has.
     let items = c.deref-rect-items.result.now in
     let same : items ≡ strip_rectangles c.args.request = c.deref-rect-items.ensures.value ∙ c.in_ok-rects.ensures in
     let all : c.loop-rect.rect-index ≡ length (strip_rectangles c.args.request) = omega (arith, c.loop-rect-test.false, c.loop-rect.auto.rect-index-end, ap length same) in
-    subst (λ (k : ℕ). HasStrips (image_at g.K.Op.OpMeaning.meanings c.args.nodes.now images c.args.node) k c.loop-rect.level_patch) all
+    subst (λ (k : ℕ). HasStripsOf (image_at g.K.Op.OpMeaning.meanings c.args.nodes.now images c.args.node) k c.loop-rect.strips) all
     (c.loop-rect.invariant.image images known right has)

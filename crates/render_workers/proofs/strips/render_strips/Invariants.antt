@@ -2,8 +2,8 @@ use Rattle.std.proofs.Common.{◌≡◌, Some, take}
 use Rattle.model_graphs.specs.Evaluation.{Buffers}
 use Rattle.strip_renders.specs.Moments.{AreOver, moment}
 use Rattle.strip_renders.specs.Strips.{AreKnownRight}
-use Rattle.strip_patches.specs.LevelStrips.{AreOfOne, HasStrips}
 use Rattle.strip_patches.specs.Nodes.{image_at}
+use Rattle.strip_patches.specs.Shown.{AreOfOneRequest, HasStripsOf}
 use Rattle.render_workers.specs.Parts.{Leaves, LooksUp}
 use Rattle.render_workers.proofs.Needs.{pairs_of}
 use Rattle.render_workers.proofs.strips.render_strips.Given as goal
@@ -19,8 +19,8 @@ invariant-loop-rect g l =
       leaves : Leaves meanings l.nodes pairs first now (g.K.OpKit.permits l.fn.purse) (g.K.OpKit.permits l.purse);
       over : AreOver g.H.ChainMeaning g.S.SourceTiles g.C.PairStore l.sources l.cache l.chain;
       valid : g.H.ChainMeaning.is_valid l.fn.chain → g.H.ChainMeaning.is_valid l.chain;
-      request : AreOfOne l.fn.level_patch l.level_patch;
+      request : AreOfOneRequest l.fn.strips l.strips;
       image : (images : Buffers) → g.S.SourceTiles.images l.fn.sources (g.H.ChainMeaning.held l.fn.chain) ≡ Some images
           → AreKnownRight meanings l.nodes images (g.C.PairStore.cached l.fn.cache (g.H.ChainMeaning.held l.fn.chain))
-          → HasStrips (image_at meanings l.nodes images l.node) 0 l.fn.level_patch → HasStrips (image_at meanings l.nodes images l.node) l.rect-index l.level_patch;
+          → HasStripsOf (image_at meanings l.nodes images l.node) 0 l.fn.strips → HasStripsOf (image_at meanings l.nodes images l.node) l.rect-index l.strips;
     }

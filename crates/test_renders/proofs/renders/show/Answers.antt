@@ -1,4 +1,4 @@
-use Rattle.std.proofs.Common.{◌++◌}
+use Rattle.std.proofs.Common.{◌++◌, refl}
 use Rattle.strip_renders.proofs.Moments.{keeps-others}
 use Rattle.test_renders.proofs.ReadyLaws.{owned-on}
 use Rattle.test_renders.proofs.renders.show.Goals as goal
@@ -24,3 +24,6 @@ returns-clause-over g c =
           (g.S.SourceTiles.names c.render.new.sources ++ g.P.PairStore.names c.render.new.cache)
           (keeps-others _ _ _ c.render.ensures.keeps) c.requires.over.owned;
     }
+
+pub returns-clause-patch : goal.returns-clause-patch
+returns-clause-patch g c = c.in_ok-shown.ensures.patch refl

@@ -64,7 +64,7 @@ module _ (g : Given.Over) where
 
   module _ (c : goal.After-self-2-1 g) where
     done : IsShownBy g.Op.OpMeaning.meanings (this c.self.view_is) (state c.args.chain.now) (state c.render.new.chain) c.new-sources.result.buffers.now c.nodes.result.now
-        (request c.args.node c.args.level c.args.rect) c.render.new.cache.names.entries c.in_ok-done.done.patch c.unwrap-capacity.result c.in_ok-done.done.applied c.in_ok-done.done.reused
+        (request c.args.node c.args.level c.args.rect) c.render.new.cache.names.entries c.in_ok-done.done.picture c.unwrap-capacity.result c.in_ok-done.done.applied c.in_ok-done.done.reused
         c.saturating_add-self-inside.result c.saturating_add-self-inside-2.result
     done =
         let there : has_node (specs_of c.nodes.result.now) c.args.node ≡ true =
@@ -76,7 +76,7 @@ module _ (g : Given.Over) where
             narrow = c.in_ok-done.ensures.narrow;
           };
           pairs = c.in_ok-done.ensures.pairs;
-          shown = λ images list known its are. let shows = c.in_ok-done.ensures.shown images list known its are in (shows.cached, shows.patch_is);
+          shown = λ images list known its are. let shows = c.in_ok-done.ensures.shown images list known its are in (shows.cached, shows.shows);
           applied_is = c.saturating_add-self-inside.ensures;
           reused_is = c.saturating_add-self-inside-2.ensures;
           needs = λ images shown stated. c.requests_need_what_renders_need.ensures g.Op.OpMeaning.meanings (facts_of (this c.self.view_is).versions.latest.layout) (this c.self.view_is).graph.latest.nodes images (request c.args.node c.args.level c.args.rect) stated shown;
