@@ -100,6 +100,19 @@ refused_cause old new first = record {
   puts = first.puts;
 }
 
+-- nor is the end of a part that is done
+pub done_cause : (old new : Counts) → NoneFell old new → HasCause (Ok tt) old new
+done_cause old new first = record {
+  read = λ e. absurd (cc);
+  write = λ e. absurd (cc);
+  put = λ e. absurd (cc);
+  swap = λ e. cc;
+  room = λ e. cc;
+  reads = first.reads;
+  writes = first.writes;
+  puts = first.puts;
+}
+
 -- the same text
 pub Leaves-same_text : (a b : List ℕ) (result : Result (Unit {0}) End) (old new : World) → a ≡ b →
     Leaves (events_alone (Puts a ∷ [])) result old new → Leaves (events_alone (Puts b ∷ [])) result old new

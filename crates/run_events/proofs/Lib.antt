@@ -4,3 +4,4 @@ pub mod Carrying
 pub mod Lines
 pub mod Endings
 pub mod Faults
+pub mod Appending

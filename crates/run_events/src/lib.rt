@@ -3,4 +3,4 @@
 
 mod events;
 
-pub use events::{put_text, refuse, write_file};
+pub use events::{append_file, put_text, refuse, write_file};

@@ -1,6 +1,5 @@
 -- Lines that edit the buffers of a session.
-use Rattle.std.proofs.Common.{◌≡◌, ◌≢◌, ℕ, ◌+◌, Bool, true, List, Option, Some, None, Result, Ok, Err, IfErr, is_some, refl, sym, ap, ◌∙◌, subst, arith}
-use Rattle.std.specs.Result.{OnOk}
+use Rattle.std.proofs.Common.{◌≡◌, ◌≢◌, ℕ, ◌+◌, Bool, true, List, Option, Some, None, Result, Ok, Err, is_some, refl, sym, ap, ◌∙◌, subst, arith}
 use Rattle.buffer_view.specs.Causes.{HasEditCause}
 use Rattle.buffer_view.specs.declared.refused.BufferRefused.{BufferRefused}
 use Rattle.buffer_view.specs.declared.refused.BufferRefused.TheVariants as buffer_refusals
@@ -9,7 +8,6 @@ use Rattle.chain_owners.specs.Held.{Held}
 use Rattle.commit_session.proofs.Working.{edit-number, valid-edited}
 use Rattle.commit_session.specs.Parts.{Parts}
 use Rattle.commit_session.specs.Refusals.{IsRefusedAs, by_buffers}
-use Rattle.commit_session.specs.Seen.{IsSessionOf}
 use Rattle.commit_session.specs.declared.refused.SessionRefused.{SessionRefused}
 use Rattle.commit_session.specs.declared.refused.SessionRefused.TheVariants.{Buffer, NoMemory}
 use Rattle.model_buffers.specs.BufferEdit.{IsProperEdit, Refusal, edit_refused}
@@ -41,6 +39,7 @@ use Rattle.run_events.specs.Carried.{Exceeds, most_of_line, outcome_of_line}
 use Rattle.run_events.specs.Moments.{HasFaults, Moment}
 use Rattle.run_lines.proofs.Bounds.{full_exceeds, names_grow, names_within}
 use Rattle.run_lines.specs.Commands.{edit_of}
+use Rattle.run_lines.specs.Edited.{IsEdited, IsHeld, SessionOver, layout_in, stepped}
 use Rattle.run_lines.specs.States.{Holds}
 use Rattle.run_lines.specs.Stops.{Did, IsDone, IsEnded, end_of, stop_of}
 use Rattle.run_lines.specs.declared.stop.Stop.TheVariants as stops
@@ -50,38 +49,12 @@ use Rattle.swap_store.specs.declared.refusal.SwapRefused.TheVariants as swap_ref
 
 -- ---- sessions
 
-abbrev pub IsHeld : Parts IntOp → Held → Session Table IntOp → Type 0
-IsHeld parts held session = IsSessionOf same_operation int_meanings parts held session
-
--- the session after a step of its history that appends no state
-abbrev pub stepped : Session Table IntOp → HistoryEdit IntOp → Session Table IntOp
-stepped session step = record session { history = after_step int_meanings session.history step }
-
 laws : KeepsLaws int_meanings
 laws = record { local = is_local; dual = is_dual }
 
 pub step_valid : (capacity : ℕ) (session : Session Table IntOp) (step : HistoryEdit IntOp) → IsSession int_meanings capacity session → IsProper step →
     number_of (after_step int_meanings session.history step) ≡ number_of session.history → IsSession int_meanings capacity (stepped session step)
 step_valid capacity session step = valid-edited same_operation int_meanings laws is_boxed is_equality.apart capacity session step
-
--- a session over a chain, with the counts of the chain
-pub record SessionOver : Type 0 where
-  pub parts : Parts IntOp
-  pub held : Held
-  pub counts : Counts
-
-abbrev pub layout_in : SessionOver → TableLayout
-layout_in over = over.parts.versions.working.layout
-
--- What an edit of a session's buffers did.
-pub record IsEdited (edit : BufferEdit) (result : Result (Unit {0}) SessionRefused) (old new : SessionOver) : Type 0 where
-  pub carried_out : OnOk result (edit_refused (layout_in old) edit ≡ None)
-  pub session : (before : Session Table IntOp) → IsHeld old.parts old.held before → OnOk result (IsHeld new.parts new.held (stepped before (EditBuffer edit)))
-  pub exact : (refused : EditRefused) → edit_refused (layout_in old) edit ≡ Some refused → result ≢ Err NoMemory → result ≡ Err (Buffer (buffer_refusals.Edit refused))
-  pub cause : IfErr result (IsRefusedAs by_buffers (HasEditCause (layout_in old) edit old.counts new.counts))
-  pub capacity : new.parts.capacity ≡ old.parts.capacity
-  pub content : is_some new.held.content ≡ is_some old.held.content
-  pub counts : Grows (tiles_added edit) old.counts new.counts
 
 abbrev refusal : SessionRefused → Result (Unit {0}) SessionRefused
 refusal refused = Err refused

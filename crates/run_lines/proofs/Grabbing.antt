@@ -32,9 +32,9 @@ use Rattle.run_events.proofs.Carrying.{Exceeds-more, nothing_carried}
 use Rattle.run_events.specs.Carried.{CarriesOut, Exceeds, most_of_line, outcome_of_line}
 use Rattle.run_events.specs.Moments.{Moment, world_at}
 use Rattle.run_lines.proofs.Bounds.{full_exceeds, names_grow, names_within}
-use Rattle.run_lines.proofs.EditLines.{IsHeld}
 use Rattle.run_lines.proofs.Grabs.{grab_bytes, grab_given, grab_length, grab_tiles, grab_unknown, grabbed, planned}
 use Rattle.run_lines.proofs.Writing.{Wants, file-carried, file-ended, file-written}
+use Rattle.run_lines.specs.Edited.{IsHeld}
 use Rattle.run_lines.specs.States.{Holds}
 use Rattle.run_lines.specs.Stops.{Did, IsDone, IsEnded, stop_of}
 use Rattle.run_texts.specs.Events.{events_alone}

@@ -1,7 +1,13 @@
 mod Bounds
 mod EditLines
 mod Puts
-mod Loads
+mod Cuts
+mod PutBands
+mod Reading
+mod BandParts
+mod LoadBands
+mod LoadTurns
+mod Loading
 mod Grabs
 mod Grabbing
 mod NodeLines
@@ -14,3 +20,7 @@ mod Writing
 mod StepLines
 mod RenderLines
 mod Rendered
+mod RawBands
+mod BandBytes
+mod BandWrites
+mod PictureWrites

@@ -15,7 +15,8 @@ use Rattle.run_events.proofs.Faults.{continues_same}
 use Rattle.run_events.proofs.Texts.{put_none}
 use Rattle.run_events.specs.Moments.{Moment}
 use Rattle.run_lines.proofs.Bounds.{names_grow}
-use Rattle.run_lines.proofs.EditLines.{IsHeld, step_valid, stepped}
+use Rattle.run_lines.proofs.EditLines.{step_valid}
+use Rattle.run_lines.specs.Edited.{IsHeld, stepped}
 use Rattle.run_lines.specs.Commands.{node_edit_of}
 use Rattle.run_lines.specs.States.{Holds}
 use Rattle.run_lines.specs.Stops.{IsDone}

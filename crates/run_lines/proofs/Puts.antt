@@ -20,7 +20,7 @@ use Rattle.model_operations.specs.declared.operation.IntOp.{IntOp}
 use Rattle.model_sessions.specs.Sessions.{Session}
 use Rattle.model_sessions.specs.Steps.{EditBuffer, with_edit, with_working, with_workspace}
 use Rattle.plane_rect.specs.Rectangle.{Rectangle, includes}
-use Rattle.run_lines.proofs.EditLines.{IsEdited, IsHeld, SessionOver, layout_in, stepped}
+use Rattle.run_lines.specs.Edited.{IsEdited, IsHeld, SessionOver, layout_in, stepped}
 
 -- ---- working tables of one layout
 

@@ -1,5 +1,5 @@
 -- What a render line is to do, by what a session holds.
-use Rattle.std.proofs.Common.{◌≡◌, ℕ, ◌+◌, ◌-◌, ◌*◌, ◌≤◌, Bool, true, false, cond, List, length, Option, Some, None, is_none, refl, sym, ap, ◌∙◌, arith}
+use Rattle.std.proofs.Common.{◌≡◌, ℕ, ◌+◌, ◌-◌, ◌≤◌, Bool, true, false, cond, List, length, Option, Some, None, is_none, refl, sym, ap, ◌∙◌, arith}
 use Rattle.std.specs.Prelude.{min, slice_index_or}
 use Rattle.std.specs.Map.{values_of}
 use Rattle.std.proofs.lemmas.List.{length-map}
@@ -12,13 +12,9 @@ use Rattle.model_graphs.specs.Facts.{Facts, shapes_of_facts, specs_of, stated_sh
 use Rattle.model_graphs.specs.Node.{Node, index_of}
 use Rattle.model_graphs.specs.Shapes.{Shape, Shapes, no_shape}
 use Rattle.model_graphs.specs.declared.node.NodeFact.{NodeFact}
-use Rattle.model_images.proofs.Agreeing.{at-cut}
-use Rattle.model_images.proofs.ByteLaws.{length-raw_with, raw_with-none}
 use Rattle.model_images.proofs.LevelLaws.{level-format}
-use Rattle.model_images.proofs.RawLaws.{raw-over}
-use Rattle.model_images.specs.Image.{Image}
+use Rattle.model_images.specs.FromRaw.{byte_count}
 use Rattle.model_images.specs.Level.{level}
-use Rattle.model_images.specs.Paint.{cut}
 use Rattle.model_images.specs.Raw.{raw}
 use Rattle.model_operations.specs.Meanings.{int_meanings}
 use Rattle.model_operations.specs.declared.operation.IntOp.{IntOp}
@@ -35,20 +31,15 @@ use Rattle.model_states.specs.State.{Scene, node_shapes, stated_nodes}
 use Rattle.model_states.specs.Valid.{stated}
 use Rattle.node_tiles.specs.Stated.{shape_at}
 use Rattle.outside_io.specs.Files.{Files}
-use Rattle.pixel_formats.specs.Format.{pixel_bytes}
-use Rattle.pixel_formats.specs.declared.abyss.Abyss.TheVariants as policies
 use Rattle.pixel_formats.specs.declared.format.Format.{Format}
-use Rattle.plane_rect.specs.Rectangle.{Rectangle, area}
+use Rattle.plane_rect.specs.Rectangle.{Rectangle}
 use Rattle.render_workers.specs.Requests.{Request, pairs_requested, request, strips_needed}
 use Rattle.run_events.specs.Carried.{most_of_line}
+use Rattle.run_lines.proofs.BandBytes.{length-raw}
 use Rattle.run_lines.proofs.CachedNames.{as-many-names}
 use Rattle.run_lines.proofs.LookingUp.{applied-alone}
 use Rattle.run_lines.specs.States.{Holds}
 use Rattle.run_texts.specs.declared.cause.Cause.TheVariants as causes
-
--- a rectangle that is cut out of an image has the image's bytes
-cut-raw : (image : Image) (r : Rectangle) → raw (cut image r) r ≡ raw image r
-cut-raw image r = raw-over (cut image r) image r refl (λ u v c inside. at-cut image r u v c inside)
 
 module _ (exposed : Bool) (capacity line : ℕ) (state : RunState) (files : Files) (parts : Parts IntOp) (held : Held) (shelf : Option Files) (name : List ℕ) (z : ℕ) (r : Rectangle) (target : List ℕ)
     (holds : Holds exposed capacity state files parts held shelf) (stated_is : IsStated int_meanings parts.graph.latest) where
@@ -125,18 +116,11 @@ module _ (exposed : Bool) (capacity line : ℕ) (state : RunState) (files : File
       ∙ ap (λ (ns : List (Node IntOp)). shape (slice_index_or (node_shapes int_meanings scene) (index_of ns name) no_shape)) nodes-same
       ∙ ap shape (scene_shape-is int_meanings scene name)
 
-  -- those that were rendered are as many
-  pub render-length : (patch : Image) (bytes : List ℕ) → patch.box ≡ r → patch.format ≡ (shape_at facts (index_of (specs_of facts) name)).format → length bytes ≡ area patch.box * pixel_bytes patch.format →
-      length planned ≡ length bytes
-  render-length patch bytes box format count =
+  -- those that were written are as many
+  pub render-length : (bytes : List ℕ) → length bytes ≡ byte_count r (shape_at facts (index_of (specs_of facts) name)).format → length planned ≡ length bytes
+  render-length bytes count =
       let image = level (node_image state name) z in
-      ap length (sym (raw_with-none image r)) ∙ length-raw_with image policies.None r
-      ∙ ap (λ (f : Format). area r * pixel_bytes f) (level-format (node_image state name) z ∙ sym format-same ∙ sym format)
-      ∙ sym (count ∙ ap (λ (b : Rectangle). area b * pixel_bytes patch.format) box)
-
-  -- and are these where the patch is the image
-  pub render-bytes : (patch : Image) → patch.box ≡ r → patch ≡ cut (level (node_image state name) z) r → raw patch patch.box ≡ planned
-  render-bytes patch box is = ap (λ (b : Rectangle). raw patch b) box ∙ ap (λ (p : Image). raw p r) is ∙ cut-raw (level (node_image state name) z) r
+      length-raw image r ∙ ap (byte_count r) (level-format (node_image state name) z ∙ sym format-same) ∙ sym count
 
   -- ---- how many names the chain has
 

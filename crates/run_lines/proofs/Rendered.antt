@@ -1,5 +1,5 @@
 -- What lines leave that write a file of a node.
-use Rattle.std.proofs.Common.{◌≡◌, ◌≢◌, ℕ, ◌*◌, Bool, true, IsTrue, cond, List, length, Option, Some, None, Result, Ok, Err, IsSome, is_some, is_none, refl, sym, ap, ◌∙◌, subst, arith}
+use Rattle.std.proofs.Common.{◌≡◌, ◌≢◌, ℕ, Bool, true, false, IsTrue, cond, List, length, Option, Some, None, Result, Ok, Err, IfSome, IsSome, is_some, is_none, refl, sym, ap, ◌∙◌, subst, arith}
 use Rattle.std.specs.Prelude.{◌&&◌}
 use Rattle.std.specs.Map.{values_of}
 use Rattle.chain_owners.specs.Counts.{Continues, Counts, IsFullOver}
@@ -11,9 +11,9 @@ use Rattle.commit_session.specs.Seen.{IsSessionOf}
 use Rattle.commit_session.specs.declared.refused.SessionRefused.{SessionRefused}
 use Rattle.model_graphs.specs.Facts.{specs_of}
 use Rattle.model_graphs.specs.Node.{index_of}
+use Rattle.model_images.specs.FromRaw.{byte_count}
 use Rattle.model_images.specs.Image.{Image}
 use Rattle.model_images.specs.Level.{level}
-use Rattle.model_images.specs.Paint.{cut}
 use Rattle.model_images.specs.Raw.{raw}
 use Rattle.model_operations.specs.Lawful.MeaningLaws.{is_boxed, is_dual, is_local}
 use Rattle.model_operations.specs.Lawful.SameLaws.{is_equality}
@@ -36,8 +36,7 @@ use Rattle.node_cache.specs.Stores.{AddsNoOther}
 use Rattle.node_tiles.specs.Stated.{shape_at}
 use Rattle.outside_io.specs.Faults.{Rose}
 use Rattle.outside_io.specs.Files.{Files}
-use Rattle.pixel_formats.specs.Format.{pixel_bytes}
-use Rattle.plane_rect.specs.Rectangle.{Rectangle, area, scaled}
+use Rattle.plane_rect.specs.Rectangle.{Rectangle, scaled}
 use Rattle.render_workers.specs.Refusals.{CanBeRendered, IsRefusedBy}
 use Rattle.render_workers.specs.Requests.{Request, request}
 use Rattle.render_workers.specs.declared.refused.RenderRefused.{RenderRefused}
@@ -49,12 +48,16 @@ use Rattle.run_events.specs.Moments.{HasFaults, Moment, world_at}
 use Rattle.run_lines.proofs.Bounds.{full_exceeds}
 use Rattle.run_lines.proofs.CachedNames.{names-fall}
 use Rattle.run_lines.proofs.LookingUp.{all-grow}
-use Rattle.run_lines.proofs.RenderLines.{has-same, planned, render-bytes, render-length, render-names, render-narrow, render-unknown, render-wide, rendered, wide-same}
+use Rattle.run_lines.proofs.RenderLines.{has-same, planned, render-length, render-names, render-narrow, render-unknown, render-wide, rendered, wide-same}
 use Rattle.run_lines.proofs.Writing.{Wants, file-carried, file-ended, file-written}
+use Rattle.run_lines.specs.PictureBytes.{LeavesBytes}
 use Rattle.run_lines.specs.States.{Holds}
 use Rattle.run_lines.specs.Stops.{Did, IsDone, IsEnded, end_of, stop_of}
-use Rattle.run_texts.specs.Events.{events_alone}
+use Rattle.run_texts.specs.Events.{Outcome, events_alone}
 use Rattle.run_texts.specs.Texts.{render_text}
+use Rattle.run_texts.specs.World.{World}
+use Rattle.strip_patches.specs.Shown.{Shows, picture_box, picture_format}
+use Rattle.strip_patches.specs.declared.picture.Picture.{Picture}
 use Rattle.swap_store.specs.Cause.{HasSwapCause}
 
 none-there : (o : Option Rectangle) → IsSome o → o ≡ None → ⊥
@@ -75,19 +78,27 @@ render-valid : (capacity : ℕ) (session : Session Table IntOp) (name : List ℕ
 render-valid capacity session name z r valid =
     action_keeps same_operation int_meanings (record { local = is_local; dual = is_dual }) is_boxed is_equality.apart capacity session (Render name z r) valid tt
 
--- What a render answered: a patch of the rectangle, in the node's format, and of its image where the chain exposes its
--- bytes.
-pub record IsShown (exposed : Bool) (state : RunState) (parts : Parts IntOp) (name : List ℕ) (z : ℕ) (r : Rectangle) (patch : Image) (bytes : List ℕ) : Type 0 where
-  pub box : patch.box ≡ r
-  pub format : patch.format ≡ (shape_at parts.graph.latest.nodes (index_of (specs_of parts.graph.latest.nodes) name)).format
-  pub image : IsTrue exposed → patch ≡ cut (level (node_image state name) z) r
-  pub raw_is : bytes ≡ raw patch patch.box
-  pub count : length bytes ≡ area patch.box * pixel_bytes patch.format
+-- The bytes that a render line writes: as many as its rectangle has in the node's format, and those of the node's image
+-- where the chain exposes its bytes.
+pub record IsShown (exposed : Bool) (state : RunState) (parts : Parts IntOp) (name : List ℕ) (z : ℕ) (r : Rectangle) (bytes : List ℕ) : Type 0 where
+  pub count : length bytes ≡ byte_count r (shape_at parts.graph.latest.nodes (index_of (specs_of parts.graph.latest.nodes) name)).format
+  pub image : IsTrue exposed → bytes ≡ raw (level (node_image state name) z) r
 
-pub shown-by : (exposed : Bool) (state : RunState) (parts : Parts IntOp) (name : List ℕ) (z : ℕ) (r : Rectangle) (patch : Image) (bytes : List ℕ) → patch.box ≡ r →
-    patch.format ≡ (shape_at parts.graph.latest.nodes (index_of (specs_of parts.graph.latest.nodes) name)).format → (IsTrue exposed → patch ≡ cut (level (node_image state name) z) r) →
-    bytes ≡ raw patch patch.box → length bytes ≡ area patch.box * pixel_bytes patch.format → IsShown exposed state parts name z r patch bytes
-shown-by exposed state parts name z r patch bytes box format image raw_is count = record { box = box; format = format; image = image; raw_is = raw_is; count = count }
+-- what a picture leaves that is written is left by such bytes
+pub shown-by : (exposed : Bool) (state : RunState) (parts : Parts IntOp) (name : List ℕ) (z : ℕ) (r : Rectangle) (picture : Picture) → picture_box picture ≡ r →
+    picture_format picture ≡ (shape_at parts.graph.latest.nodes (index_of (specs_of parts.graph.latest.nodes) name)).format → (IsTrue exposed → Shows (level (node_image state name) z) r picture) →
+    (outcome : List ℕ → Outcome) (result : Result (Unit {0}) End) (old new : World) →
+    ((known : Option Image) → IfSome known (λ image. Shows image (picture_box picture) picture) → LeavesBytes known (picture_box picture) (picture_format picture) outcome result old new) →
+    (bytes : List ℕ) × IsShown exposed state parts name z r bytes × Leaves (outcome bytes) result old new
+shown-by false state parts name z r picture box format shows outcome result old new leaves =
+    let left = leaves None tt in
+    let count = left.1.count ∙ ap (λ (b : Rectangle). byte_count b (picture_format picture)) box ∙ ap (byte_count r) format in
+    (left.0, record { count = count; image = λ e. absurd (cc) }, left.2)
+shown-by true state parts name z r picture box format shows outcome result old new leaves =
+    let image = level (node_image state name) z in
+    let left = leaves (Some image) (subst (λ (b : Rectangle). Shows image b picture) (sym box) (shows refl)) in
+    let count = left.1.count ∙ ap (λ (b : Rectangle). byte_count b (picture_format picture)) box ∙ ap (byte_count r) format in
+    (left.0, record { count = count; image = λ e. left.1.image ∙ ap (raw image) box }, left.2)
 
 -- The session that a render left which isn't refused.
 pub record IsLeft (state : RunState) (old new : Parts IntOp) (held later : Held) (name : List ℕ) (z : ℕ) (r : Rectangle) (before after : Counts) : Type 0 where
@@ -151,7 +162,7 @@ module _ (exposed : Bool) (capacity line : ℕ) (state : RunState) (files : File
   -- ---- a render that isn't refused
 
   module _ (can : CanBeRendered int_meanings parts.graph.latest.nodes asked parts.capacity)
-      (patch : Image) (bytes : List ℕ) (shown : IsShown exposed state parts name z r patch bytes) (number : ℕ) (number_is : number ≡ number_in state)
+      (bytes : List ℕ) (shown : IsShown exposed state parts name z r bytes) (number : ℕ) (number_is : number ≡ number_in state)
       (result : Result (Unit {0}) End) (room : result ≢ Err ends.SwapFull)
       (leaves : Leaves (events_alone (writes target bytes (render_text line number (length bytes)))) result (world_at before) (world_at after)) where
     gives : done ≡ given
@@ -159,12 +170,12 @@ module _ (exposed : Bool) (capacity line : ℕ) (state : RunState) (files : File
 
     wants : Wants exposed given target wanted bytes (render_text line number (length bytes))
     wants =
-        let long = render-length exposed capacity line state files parts held before.files name z r target holds stated_is patch bytes shown.box shown.format shown.count in
+        let long = render-length exposed capacity line state files parts held before.files name z r target holds stated_is bytes shown.count in
         record {
           events = ap (λ (n : ℕ). writes target wanted (render_text line n (length wanted))) (sym number_is) ∙ ap (λ (n : ℕ). writes target wanted (render_text line number n)) long;
           none = refl;
           as_long = long;
-          as_wanted = λ e. shown.raw_is ∙ render-bytes exposed capacity line state files parts held before.files name z r target holds stated_is patch shown.box (shown.image e);
+          as_wanted = shown.image;
         }
 
     -- its file or its text ends the run

@@ -1,4 +1,4 @@
-//! Lines that read a file into a buffer, or write a file of one.
+//! Lines that write a file of a buffer.
 
 ghost use Rattle.std.specs.Prelude.{◌≡◌, [], ◌∷◌, ℕ, Bool, IfSome, IsTrue, List, Option, length};
 ghost use Rattle.chain_owners.specs.Counts.{Counts};
@@ -11,7 +11,6 @@ ghost use Rattle.outside_io.specs.Files.{Files, file as bytes_of};
 ghost use Rattle.run_events.specs.Causes.{HasCause};
 ghost use Rattle.run_events.specs.Moments.{HasFaults};
 ghost use Rattle.run_lines.specs.Commands.{is_grab, is_load};
-ghost use Rattle.run_lines.specs.Rasters.{IsRaster};
 ghost use Rattle.run_lines.specs.States.{Holds};
 ghost use Rattle.run_lines.specs.Stops.{Did, end_of};
 ghost use Rattle.run_texts.specs.Events.{Puts, events_alone};
@@ -30,70 +29,6 @@ use script_read::{Command, FileName, Line};
 use std::alloc::Global;
 use std::thread::Threads;
 use worker_pieces::Workers;
-
-/// Carries out a line that loads a file into a buffer.
-pub(crate) fn load<C: TileChain, F: Shelf, R: Threads + Sync>(
-    line: &Line,
-    session: &mut SessionState<IntOp>,
-    chain: &mut C,
-    shelf: &mut F,
-    workers: Workers<'_, R>,
-) -> Result<(), Stop>
-    requires over { IsOver same_operation int_meanings session.old (C.held chain.old) }
-    requires limits { IsInLimits line.now.command }
-    requires load { IsTrue (is_load line.now.command) }
-    ensures did { (text : Option (List ℕ)) (puts : ℕ) (exposed : Bool) (capacity : ℕ) (state : RunState) (files : Files) →
-        Holds exposed capacity state files session.old (C.held chain.old) (F.files shelf.old) →
-        Did exposed capacity line.now.number state files (effect capacity state files line.now.number line.now.command) result
-        (record { files = F.files shelf.old; text = text; reads = F.read_faults shelf.old; writes = F.write_faults shelf.old; puts = puts; chain = C.counts chain.old })
-        (record { files = F.files shelf.new; text = text; reads = F.read_faults shelf.new; writes = F.write_faults shelf.new; puts = puts; chain = C.counts chain.new })
-        session.new (C.held chain.new) }
-    ensures faults { (text : Option (List ℕ)) (puts : ℕ) → HasFaults (end_of result)
-        (record { files = F.files shelf.old; text = text; reads = F.read_faults shelf.old; writes = F.write_faults shelf.old; puts = puts; chain = C.counts chain.old })
-        (record { files = F.files shelf.new; text = text; reads = F.read_faults shelf.new; writes = F.write_faults shelf.new; puts = puts; chain = C.counts chain.new }) }
-    ensures over { IsOver same_operation int_meanings session.new (C.held chain.new) }
-    ensures loans { C.loans chain.new ≡ C.loans chain.old }
-    ensures valid { C.is_valid chain.old → C.is_valid chain.new }
-{
-    let Command::Load { name, rect, file } = &line.command else {
-        unreachable!()
-    };
-    let Some(fact) = session.extent(*name) else {
-        return Err(Stop::Refused(Cause::UnknownBuffer));
-    };
-    if !fact.bounds.contains(rect) {
-        return Err(Stop::Refused(Cause::OutOfBounds));
-    }
-    let wanted = rect.area() * u64::from(fact.format.pixel_bytes());
-    let mut memory = session.idle_memory();
-    let read = read_raster(file, wanted, &mut memory, shelf);
-    session.reuse(memory);
-    let raster = read?;
-    session.put(chain, *name, *rect, raster, workers)?;
-    Ok(())
-}
-
-/// Reads a file that is to have at most so many bytes, into memory that was used before where the shelf has a way to.
-fn read_raster<F: Shelf>(
-    file: &FileName,
-    wanted: u64,
-    memory: &mut Vec<u8>,
-    shelf: &mut F,
-) -> Result<Vec<u8>, Stop>
-    ensures raster { IfSome (F.files shelf.old) (λ files. IsRaster (bytes_of files file.now) wanted result) }
-    ensures files { F.files shelf.new ≡ F.files shelf.old }
-    ensures faults { (text : Option (List ℕ)) (puts : ℕ) (chain : Counts) → HasFaults (end_of result)
-        (record { files = F.files shelf.old; text = text; reads = F.read_faults shelf.old; writes = F.write_faults shelf.old; puts = puts; chain = chain })
-        (record { files = F.files shelf.new; text = text; reads = F.read_faults shelf.new; writes = F.write_faults shelf.new; puts = puts; chain = chain }) }
-{
-    match shelf.read_reusing(file.as_str(), wanted, memory) {
-        Ok(bytes) => Ok(bytes),
-        Err(ShelfAnswer::TooLong { .. }) => Err(Stop::Refused(Cause::WrongSize)),
-        Err(ShelfAnswer::Absent) => Err(Stop::Refused(Cause::Absent)),
-        Err(ShelfAnswer::Failed) => Err(Stop::Ended(End::ReadFault)),
-        Err(ShelfAnswer::NoMemory) => Err(Stop::Ended(End::NoMemory)),
-    }
-}
 
 /// Carries out a line that writes a file of a level of a buffer.
 pub(crate) fn grab<C: TileChain, F: Shelf, O: Sink>(
@@ -132,7 +67,6 @@ pub(crate) fn grab<C: TileChain, F: Shelf, O: Sink>(
     };
     let patch = session.grab(chain, *name, *level, *abyss, *rect)?;
     write_grab(alloc, line.number, patch.raw_bytes(), file, shelf, out)?;
-    session.reuse(patch.into_raw());
     Ok(())
 }
 

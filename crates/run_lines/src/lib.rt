@@ -4,7 +4,9 @@
 mod edits;
 mod files;
 mod lines;
+mod loads;
 mod nodes;
+mod rasters;
 mod renders;
 mod script;
 mod steps;

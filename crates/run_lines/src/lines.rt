@@ -16,7 +16,8 @@ ghost use Rattle.run_lines.specs.States.{Holds};
 ghost use Rattle.run_lines.specs.Stops.{Did, Does, end_of};
 
 use crate::edits::edit;
-use crate::files::{grab, load};
+use crate::files::grab;
+use crate::loads::load;
 use crate::nodes::note;
 use crate::renders::render;
 use crate::steps::step;
@@ -132,7 +133,7 @@ fn carry_out_command<C: TileChain, F: Shelf, O: Sink, R: Threads + Sync>(
     ensures valid { C.is_valid chain.old → C.is_valid chain.new }
 {
     match &line.command {
-        Command::Load { .. } => load(line, session, chain, shelf, workers),
+        Command::Load { .. } => load(alloc, line, session, chain, shelf, workers),
         Command::Grab { .. } => grab(alloc, line, session, chain, shelf, out),
         Command::Render { .. } => render(alloc, line, session, chain, shelf, out, workers),
         Command::Node { .. } | Command::Drop { .. } => note(line, session),

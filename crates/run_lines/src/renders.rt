@@ -1,21 +1,24 @@
 //! Lines that write a file of a node.
 
-ghost use Rattle.std.specs.Prelude.{◌≡◌, ℕ, Bool, IsTrue, length};
+ghost use Rattle.std.specs.Prelude.{◌≡◌, ℕ, Bool, IfSome, IsTrue, Option, length};
 ghost use Rattle.commit_session.specs.Seen.{IsOver};
+ghost use Rattle.model_images.specs.Image.{Image};
 ghost use Rattle.model_operations.specs.Meanings.{int_meanings, same_operation};
 ghost use Rattle.model_runs.specs.Effects.{effect, writes};
-ghost use Rattle.model_runs.specs.Ending.{Leaves};
 ghost use Rattle.model_runs.specs.State.{RunState};
 ghost use Rattle.outside_io.specs.Files.{Files};
 ghost use Rattle.run_events.specs.Causes.{HasCause};
 ghost use Rattle.run_events.specs.Moments.{HasFaults};
 ghost use Rattle.run_lines.specs.Commands.{is_render};
+ghost use Rattle.run_lines.specs.PictureBytes.{LeavesBytes};
 ghost use Rattle.run_lines.specs.States.{Holds};
 ghost use Rattle.run_lines.specs.Stops.{Did, end_of};
 ghost use Rattle.run_texts.specs.Events.{events_alone};
 ghost use Rattle.run_texts.specs.Texts.{render_text as text_of_render};
 ghost use Rattle.script_read.specs.Limits.{IsInLimits};
+ghost use Rattle.strip_patches.specs.Shown.{Shows, picture_box, picture_format};
 
+use crate::rasters::{picture_bytes, write_picture};
 use crate::stop::Stop;
 use chain_contracts::TileChain;
 use commit_session::SessionState;
@@ -23,11 +26,12 @@ use int_ops::{IntKit, IntPurse};
 use model_operations::IntOp;
 use model_runs::End;
 use outside_io::{Shelf, Sink};
-use run_events::{put_text, write_file};
+use run_events::put_text;
 use run_texts::render_text;
 use script_read::{Command, FileName, Line};
 use std::alloc::Global;
 use std::thread::Threads;
+use strip_patches::{Picture, PictureForm};
 use worker_pieces::Workers;
 
 /// How many permits a render has: as many as any may spend.
@@ -69,18 +73,25 @@ pub(crate) fn render<C: TileChain, F: Shelf, O: Sink, R: Threads + Sync>(
         unreachable!()
     };
     let mut purse = IntPurse::new(RENDER_PERMITS);
-    let patch = session.render(&IntKit, chain, &mut purse, *name, *level, *rect, workers)?;
-    let bytes = patch.raw_bytes();
+    let picture = session.render(
+        &IntKit,
+        chain,
+        &mut purse,
+        *name,
+        *level,
+        *rect,
+        PictureForm::Tiles,
+        workers,
+    )?;
     write_render(
         alloc,
         line.number,
         session.number(),
-        bytes,
+        picture,
         file,
         shelf,
         out,
     )?;
-    session.reuse(patch.into_raw());
     Ok(())
 }
 
@@ -89,18 +100,20 @@ fn write_render<F: Shelf, O: Sink>(
     alloc: Global,
     line: u32,
     commit: u64,
-    bytes: &[u8],
+    picture: Picture,
     file: &FileName,
     shelf: &mut F,
     out: &mut O,
 ) -> Result<(), End>
-    ensures leaves { Leaves (events_alone (writes file.now bytes.now (text_of_render line commit (length bytes.now)))) result
+    ensures leaves { (known : Option Image) → IfSome known (λ image. Shows image (picture_box picture) picture) →
+        LeavesBytes known (picture_box picture) (picture_format picture)
+        (λ bytes. events_alone (writes file.now bytes (text_of_render line commit (length bytes)))) result
         (record { files = F.files shelf.old; text = O.written out.old }) (record { files = F.files shelf.new; text = O.written out.new }) }
     ensures cause { HasCause result
         (record { reads = F.read_faults shelf.old; writes = F.write_faults shelf.old; puts = O.faults out.old })
         (record { reads = F.read_faults shelf.new; writes = F.write_faults shelf.new; puts = O.faults out.new }) }
 {
-    let text = render_text(alloc, line, commit, bytes.len())?;
-    write_file(bytes, file, shelf)?;
+    let text = render_text(alloc, line, commit, picture_bytes(&picture))?;
+    write_picture(alloc, picture, file, shelf)?;
     put_text(&text, out)
 }

@@ -26,6 +26,8 @@ pub enum Kept {
     Nothing,
     /// The first half of its bytes, rounded down.
     Half,
+    /// So many of its first bytes.
+    First(usize),
     /// Some of its first bytes, or there is no such file.
     Beginning,
     /// All of its bytes.
@@ -39,7 +41,10 @@ impl Content {
             (Kept::Nothing, found) => found.is_none(),
             (Kept::Whole, found) => self.is_whole(rt, alloc, found),
             (Kept::Beginning, None) => true,
-            (Kept::Half, None) => false,
+            (Kept::First(_) | Kept::Half, None) => false,
+            (Kept::First(count), Some(found)) => {
+                found.len() == count && self.begins(rt, alloc, found).is_some()
+            }
             (Kept::Beginning, Some(found)) => self.begins(rt, alloc, found).is_some(),
             (Kept::Half, Some(found)) => match self.begins(rt, alloc, found) {
                 Some(count) => found.len() == count / 2,

@@ -1,5 +1,6 @@
 //! The examples of buffers and of nodes.
 
+mod bands;
 mod faults;
 mod jobs;
 mod limits;
@@ -11,6 +12,7 @@ use crate::examples::buffers::{BUFFERS, EDGES};
 use crate::examples::edits::EDITED;
 use crate::examples::faults::{EDITING_JOB, EDITING_JOB_IN_7, EDITING_JOB_IN_8};
 use crate::examples::graphs::{RENDERED, STRIP_TOO_WIDE, WIDEST_STRIP};
+use crate::examples::pictures::FOUR_BANDS;
 use crate::runs::{PLAIN, check_case, check_cases};
 
 /// Words that ask for the same run of a small script, with few tiles in memory and with many.
@@ -35,6 +37,11 @@ fn nodes_are_rendered_edited_and_undone(rt: HostRuntime) {
         check_cases(&rt, rt.alloc(), line, &EDITED);
         check_case(&rt, rt.alloc(), line, &EDITING_JOB);
     }
+}
+
+#[test]
+fn large_rectangles_are_rendered(rt: HostRuntime) {
+    check_case(&rt, rt.alloc(), PLAIN, &FOUR_BANDS);
 }
 
 #[test]

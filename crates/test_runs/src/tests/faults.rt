@@ -4,6 +4,7 @@ use crate::contents::Kept;
 use crate::examples::edits::MEANS_AFTER_AN_EDIT;
 use crate::examples::faults::{EDITING_JOB, EITHER_SIDE, FOUR_GRABS, FOUR_TILES, TWO_LOADS};
 use crate::examples::graphs::ONE_RENDER;
+use crate::examples::pictures::FOUR_BANDS;
 use crate::examples::{Case, Example, example_of};
 use crate::runs::{Devices, Ended, PLAIN, SOUND, check_end, check_files, folder_of, run_over};
 use outside_io::MemShelf;
@@ -193,6 +194,24 @@ fn a_call_of_the_shelf_that_fails_ends_the_run(rt: HostRuntime) {
     check_faults(&rt, rt.alloc(), Call::Write, (4, Kept::Half), &WRITES);
 }
 
+/// Writes that fail of the four of which a file is made, the first of which makes it and each other adds a band of rows. Each
+/// leaves half of its bytes after those that were there.
+const BANDS: [(u64, usize); 4] = [(1, 2060), (2, 70_040), (3, 201_880), (4, 268_830)];
+
+#[test]
+fn a_band_of_rows_that_fails_ends_the_run(rt: HostRuntime) {
+    for (number, count) in BANDS {
+        let cases = [(FOUR_BANDS, number, "")];
+        check_faults(
+            &rt,
+            rt.alloc(),
+            Call::Write,
+            (4, Kept::First(count)),
+            &cases,
+        );
+    }
+}
+
 /// Runs an example over a swap of so many blocks, and checks that it ends early with status 8, or does all. Returns the
 /// status.
 fn run_in_blocks(
@@ -222,8 +241,8 @@ fn check_few_blocks(rt: &(impl Abort + Threads + Sync), alloc: Global) {
     }
 }
 
-/// Four tiles and one more suffice for the first script, and 27 for the other: so many in memory, or 32 blocks for each
-/// and for one more.
+/// Four tiles and one more suffice for the first script, and 27 for the last: so many in memory, or 32 blocks for each and
+/// for one more. No swap's end tears a file that is written by bands.
 #[test]
 fn a_full_swap_ends_the_run(rt: HostRuntime) {
     let alloc = rt.alloc();
@@ -248,6 +267,9 @@ fn a_full_swap_ends_the_run(rt: HostRuntime) {
             192,
             0,
         ),
+        (ONE_RESIDENT, FOUR_BANDS, 64, 8),
+        (ONE_RESIDENT, FOUR_BANDS, 16_384, 0),
+        ("run script.txt --workers 3", FOUR_BANDS, 1, 0),
         (ONE_RESIDENT, EDITING_JOB, 4, 8),
         (ONE_RESIDENT, EDITING_JOB, 896, 0),
         ("run script.txt --resident 27", EDITING_JOB, 1, 0),

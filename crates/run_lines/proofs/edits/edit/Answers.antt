@@ -2,8 +2,9 @@ use Rattle.std.proofs.Common.{Result, Ok, Err, refl, subst}
 use Rattle.model_runs.specs.State.{Effect}
 use Rattle.model_runs.specs.declared.ending.End.TheVariants as ends
 use Rattle.run_events.specs.Moments.{Moment}
-use Rattle.run_lines.proofs.EditLines.{IsEdited, SessionOver, at_chain, carried_edit, edit_done, edit_effect, edit_stopped, out_of_memory, refused_edit, stopped_faults}
+use Rattle.run_lines.proofs.EditLines.{at_chain, carried_edit, edit_done, edit_effect, edit_stopped, out_of_memory, refused_edit, stopped_faults}
 use Rattle.run_lines.proofs.Stopping.{same_stop, same_stop_faults}
+use Rattle.run_lines.specs.Edited.{IsEdited, SessionOver}
 use Rattle.run_lines.specs.Stops.{Did, IsDone, stop_of}
 use Rattle.run_lines.specs.declared.stop.Stop.{Stop}
 use Rattle.run_lines.specs.declared.stop.Stop.TheVariants as stops

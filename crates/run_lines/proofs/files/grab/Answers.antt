@@ -54,7 +54,7 @@ returns-clause-did g c = λ exposed capacity state files holds.
     let before : Moment = record { files = g.F.Shelf.files c.args.shelf.now; text = g.O.Sink.written c.args.out.now; reads = g.F.Shelf.read_faults c.args.shelf.now; writes = g.F.Shelf.write_faults c.args.shelf.now; puts = g.O.Sink.faults c.args.out.now; chain = g.C.ChainMeaning.counts c.args.chain.now } in
     let after : Moment = record { files = g.F.Shelf.files c.write_grab.new.shelf; text = g.O.Sink.written c.write_grab.new.out; reads = g.F.Shelf.read_faults c.write_grab.new.shelf; writes = g.F.Shelf.write_faults c.write_grab.new.shelf; puts = g.O.Sink.faults c.write_grab.new.out; chain = g.C.ChainMeaning.counts c.grab.new.chain } in
     let there : find parts.versions.working.layout.buffers c.in-Grab.name ≢ None = λ none. (let other = c.in_ok-patch.ensures.unknown none in cc) in
-    rw (c.in-Grab.is, c.reuse.ensures)
+    rw c.in-Grab.is
     (grab_done exposed capacity line state files parts c.grab.new.self held later c.in-Grab.name c.in-Grab.level c.in-Grab.abyss c.in-Grab.rect c.in-Grab.file before after holds
     there _ _ c.in_ok-patch.ensures.shape c.in_ok-patch.ensures.image c.raw_bytes.ensures.value c.raw_bytes.ensures.count _ c.in_ok-write_grab.ensures.cause.room c.in_ok-write_grab.ensures.leaves
     refl c.in_ok-patch.ensures.states.capacity c.in_ok-patch.ensures.left.others.exposed (c.in_ok-patch.ensures.same state.session holds.session) c.in_ok-patch.ensures.left.counts)

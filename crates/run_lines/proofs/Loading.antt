@@ -1,5 +1,5 @@
 -- Lines that load a file into a buffer.
-use Rattle.std.proofs.Common.{◌≡◌, ℕ, ◌*◌, ◌^◌, ◌<◌, ◌≤◌, ◌==◌, Bool, true, false, IsTrue, cond, List, length, Option, Some, None, Ok, Err, IsSomeAnd, IfSome, ◌⊎◌, inl, inr, refl, sym, ap, ◌∙◌, subst, arith}
+use Rattle.std.proofs.Common.{◌≡◌, ◌≢◌, ℕ, ◌*◌, ◌^◌, ◌<◌, ◌≤◌, ◌==◌, Bool, true, false, IsTrue, cond, List, length, Option, Some, None, Result, Ok, Err, IsSomeAnd, IfSome, ◌⊎◌, inl, inr, refl, sym, ap, ◌∙◌, subst, arith}
 use Rattle.std.specs.Option.{option_map}
 use Rattle.std.specs.Prelude.{◌&&◌, nat_le}
 use Rattle.std.proofs.Math.Nat.{mul-le-mul}
@@ -24,12 +24,15 @@ use Rattle.model_runs.specs.State.{Effect, RunState, refuses, workspace_of}
 use Rattle.model_runs.specs.declared.ending.End.{End}
 use Rattle.model_runs.specs.declared.ending.End.TheVariants as ends
 use Rattle.outside_io.specs.Files.{Files, file}
+use Rattle.pixel_formats.specs.declared.format.Format.{Format}
 use Rattle.plane_rect.specs.Rectangle.{Rectangle, area, in_limits, includes}
 use Rattle.run_events.proofs.Carrying.{nothing_carried}
 use Rattle.run_events.specs.Moments.{Moment}
-use Rattle.run_lines.proofs.EditLines.{IsEdited, SessionOver, at_chain, edit_done, edit_stopped}
+use Rattle.run_lines.proofs.EditLines.{at_chain, edit_done, edit_stopped}
+use Rattle.run_lines.proofs.LoadBands.{IsLoad}
 use Rattle.run_lines.proofs.Puts.{put_alike}
-use Rattle.run_lines.specs.Rasters.{IsNoRaster, IsRaster}
+use Rattle.run_lines.specs.Edited.{IsEdited, SessionOver}
+use Rattle.run_lines.specs.Rasters.{IsNoRaster, IsTarget, IsUnread}
 use Rattle.run_lines.specs.States.{AreAlike, Holds}
 use Rattle.run_lines.specs.Stops.{Did, IsDone, IsEnded, stop_of}
 use Rattle.run_lines.specs.declared.stop.Stop.{Stop}
@@ -54,6 +57,13 @@ raster_fits r bytes limits few =
     let product : area r * bytes ≤ 2 ^ 25 * 2 ^ 32 = mul-le-mul (small_area r limits) under in
     omega (arith, product)
 
+unequal : (a b : ℕ) → a ≢ b → (a == b) ≡ false
+unequal a b apart =
+    elim (a == b) as (λ t. (a == b) ≡ t → t ≡ false) [
+      | true ↦ λ same. absurd (apart (grind (arith, nat_tests, same)))
+      | false ↦ λ _. refl
+    ] refl
+
 -- ---- files of the same length
 
 -- a file that is there, in files that are alike
@@ -64,6 +74,13 @@ there_alike None b bytes same is = absurd (let there : option_map length b ≡ S
 absent_alike : (a b : Option (List ℕ)) → option_map length a ≡ option_map length b → b ≡ None → a ≡ None
 absent_alike None b same is = refl
 absent_alike (Some planned) b same is = absurd (let none : option_map length b ≡ None = ap (option_map length) is in cc)
+
+-- ---- the buffer
+
+-- what is known of a buffer
+pub known_fact : (r : Rectangle) (format : Format) (known : Option BufferFact) → IsSomeAnd known (IsTarget r format) → (fact : BufferFact) × (known ≡ Some fact) × IsTarget r format fact
+known_fact r format None target = absurd target
+known_fact r format (Some fact) target = (fact, refl, target)
 
 -- ---- refusals before a byte is put
 
@@ -123,7 +140,7 @@ module _ (exposed : Bool) (capacity line : ℕ) (state : RunState) (files : File
       let there = view_of (find layout.buffers name) fact refl is in
       out_of_bounds (file files source) there.0 there.1 (ap (λ (f : BufferFact). includes f.bounds r) (sym there.2) ∙ out)
 
-  -- a raster that is not there, or is too long
+  -- a raster that is not there, or is too short or too long
   missing : (found : Option (List ℕ)) (fact : BufferFact) (cause : Cause) (actual : Option (List ℕ)) → facts ≡ Some fact → includes fact.bounds r ≡ true →
       option_map length found ≡ option_map length actual → IsNoRaster actual (byte_count r fact.format) cause → loads line state name r found ≡ refuses line state cause
   missing found fact cause actual is inside same (inl none) =
@@ -139,8 +156,7 @@ module _ (exposed : Bool) (capacity line : ℕ) (state : RunState) (files : File
       let wanted = byte_count r shape.format in
       let within : includes shape.box r ≡ true = ap (λ (f : BufferFact). includes f.bounds r) (sym there.2) ∙ inside in
       let format : byte_count r shape.format ≡ byte_count r fact.format = ap (λ (s : Shape). byte_count r s.format) (shape_there there.0) ∙ ap (λ (f : BufferFact). byte_count r f.format) (sym there.2) in
-      let more : byte_count r fact.format < length long.0 = long.2 in
-      let other : (length bytes == wanted) ≡ false = grind (arith, nat_tests, format, planned.2, more) in
+      let other : (length bytes == wanted) ≡ false = unequal (length bytes) wanted (λ same. long.2 (sym planned.2 ∙ same ∙ format)) in
       ap (loads line state name r) planned.1
       ∙ refused_there bytes there.0 there.1 (Some (WrongSize (length bytes) wanted))
       (ap (λ b. unless b OutOfBounds (unless (length bytes == wanted) (WrongSize (length bytes) wanted) None)) within
@@ -170,7 +186,7 @@ module _ (exposed : Bool) (capacity line : ℕ) (state : RunState) (files : File
 
   -- a raster that was not read
   pub load_not_read : (source : List ℕ) (stop : Stop) (fact : BufferFact) (before after : Moment) (later : Parts IntOp) (after_held : Held) → facts ≡ Some fact → includes fact.bounds r ≡ true →
-      IfSome shelf (λ actual. IsRaster (file actual source) (byte_count r fact.format) (Err stop)) → after.files ≡ before.files → after.text ≡ before.text →
+      IfSome shelf (λ actual. IsUnread (file actual source) (byte_count r fact.format) stop) → after.files ≡ before.files → after.text ≡ before.text →
       Did exposed capacity line state files (loads line state name r (file files source)) (Err stop) before after later after_held
   load_not_read source stop fact before after later after_held is inside raster same_files same_text = by shelf refl stop raster holds.alike
     where
@@ -178,17 +194,17 @@ module _ (exposed : Bool) (capacity line : ℕ) (state : RunState) (files : File
       ended end (inl read) = record { other = λ e. cc; carried = nothing_carried exposed _ _ end before after (λ e. cc) same_files same_text (λ e. absurd (cc)) }
       ended end (inr memory) = record { other = λ e. cc; carried = nothing_carried exposed _ _ end before after (λ e. cc) same_files same_text (λ e. absurd (cc)) }
 
-      by : (o : Option Files) → shelf ≡ o → (stop : Stop) → IfSome o (λ actual. IsRaster (file actual source) (byte_count r fact.format) (Err stop)) → IsSomeAnd shelf (AreAlike files) →
+      by : (o : Option Files) → shelf ≡ o → (stop : Stop) → IfSome o (λ actual. IsUnread (file actual source) (byte_count r fact.format) stop) → IsSomeAnd shelf (AreAlike files) →
           Did exposed capacity line state files (loads line state name r (file files source)) (Err stop) before after later after_held
       by None shown stop raster alike = absurd (subst (λ (o : Option Files). IsSomeAnd o (AreAlike files)) shown alike)
       by (Some actual) shown (stops.Refused cause) raster alike = record { effect = load_missing source fact cause actual is inside shown raster; files = same_files; text = same_text }
       by (Some actual) shown (stops.Ended end) raster alike = ended end raster
 
--- ---- a raster that was read
+-- ---- a raster that was read, and put
 
-module _ (exposed : Bool) (capacity line : ℕ) (state : RunState) (files : Files) (old new : SessionOver) (shelf : Option Files) (name : List ℕ) (r : Rectangle) (source bytes : List ℕ) (fact : BufferFact)
+module _ (exposed : Bool) (capacity line : ℕ) (state : RunState) (files : Files) (old new : SessionOver) (shelf : Option Files) (name : List ℕ) (r : Rectangle) (source : List ℕ) (fact : BufferFact)
     (text : Option (List ℕ)) (reads writes puts more_reads more_writes more_puts : ℕ) (now : Option Files) (same_files : now ≡ shelf) (holds : Holds exposed capacity state files old.parts old.held shelf)
-    (is : fact_of (working_facts old.parts) name ≡ Some fact) (read : IfSome shelf (λ actual. file actual source ≡ Some bytes)) where
+    (is : fact_of (working_facts old.parts) name ≡ Some fact) where
   abbrev before : Moment
   before = at_chain shelf text reads writes puts old.counts
 
@@ -198,33 +214,30 @@ module _ (exposed : Bool) (capacity line : ℕ) (state : RunState) (files : File
   abbrev after : Moment
   after = after_at now
 
-  -- the raster that is planned
-  record Planned : Type 0 where
+  -- the raster that is planned, and its put
+  record Planned (result : Result (Unit {0}) SessionRefused) : Type 0 where
     raster : List ℕ
-    long : length bytes ≡ length raster
-    same : IsTrue exposed → bytes ≡ raster
     effect : loads line state name r (file files source) ≡ edits line state (Put name r raster)
+    edited : IsEdited (Put name r raster) result old new
 
-  there : (o : Option Files) → shelf ≡ o → IfSome o (λ actual. file actual source ≡ Some bytes) → IsSomeAnd shelf (AreAlike files) → Planned
-  there None shown read alike = absurd (subst (λ (o : Option Files). IsSomeAnd o (AreAlike files)) shown alike)
-  there (Some actual) shown read alike =
-      let planned = load_read exposed capacity line state files old.parts old.held shelf name r holds source bytes fact actual is shown read in
-      record { raster = planned.0; long = planned.2; same = planned.3; effect = planned.4 }
+  there : (result : Result (Unit {0}) SessionRefused) (o : Option Files) → shelf ≡ o → IfSome o (λ actual. IsLoad (file actual source) name r result old new) → IsSomeAnd shelf (AreAlike files) → Planned result
+  there result None shown load alike = absurd (subst (λ (o : Option Files). IsSomeAnd o (AreAlike files)) shown alike)
+  there result (Some actual) shown load alike =
+      let planned = load_read exposed capacity line state files old.parts old.held shelf name r holds source load.bytes fact actual is shown load.there in
+      record { raster = planned.0; effect = planned.4; edited = put_alike name r load.bytes planned.0 planned.2 exposed result old new planned.3 holds.content load.edited }
 
-  abbrev plan : Planned
-  plan = there shelf refl read holds.alike
-
-  pub load_done : IsEdited (Put name r bytes) (Ok tt) old new → IsDone exposed capacity state files (loads line state name r (file files source)) before after new.parts new.held
-  load_done edited =
-      let alike = put_alike name r bytes plan.raster plan.long exposed (Ok tt) old new plan.same holds.content edited in
+  pub load_done : IfSome shelf (λ actual. IsLoad (file actual source) name r (Ok tt) old new) →
+      IsDone exposed capacity state files (loads line state name r (file files source)) before after new.parts new.held
+  load_done load =
+      let plan = there (Ok tt) shelf refl load holds.alike in
       subst (λ (o : Option Files). IsDone exposed capacity state files (loads line state name r (file files source)) before (after_at o) new.parts new.held) (sym same_files)
       (subst (λ (done : Effect). IsDone exposed capacity state files done before (after_at shelf) new.parts new.held) (sym plan.effect)
-      (edit_done exposed capacity line state files (Put name r plan.raster) old new shelf text reads writes puts more_reads more_writes more_puts holds tt alike))
+      (edit_done exposed capacity line state files (Put name r plan.raster) old new shelf text reads writes puts more_reads more_writes more_puts holds tt plan.edited))
 
-  pub load_stopped : (refused : SessionRefused) → IsEdited (Put name r bytes) (Err refused) old new →
+  pub load_stopped : (refused : SessionRefused) → IfSome shelf (λ actual. IsLoad (file actual source) name r (Err refused) old new) →
       Did exposed capacity line state files (loads line state name r (file files source)) (Err (stop_of refused)) before after new.parts new.held
-  load_stopped refused edited =
-      let alike = put_alike name r bytes plan.raster plan.long exposed (Err refused) old new plan.same holds.content edited in
+  load_stopped refused load =
+      let plan = there (Err refused) shelf refl load holds.alike in
       subst (λ (o : Option Files). Did exposed capacity line state files (loads line state name r (file files source)) (Err (stop_of refused)) before (after_at o) new.parts new.held) (sym same_files)
       (subst (λ (done : Effect). Did exposed capacity line state files done (Err (stop_of refused)) before (after_at shelf) new.parts new.held) (sym plan.effect)
-      (edit_stopped exposed capacity line state files (Put name r plan.raster) old new shelf text reads writes puts more_reads more_writes more_puts holds refused alike))
+      (edit_stopped exposed capacity line state files (Put name r plan.raster) old new shelf text reads writes puts more_reads more_writes more_puts holds refused plan.edited))
