@@ -1,12 +1,11 @@
 //! How many threads work is split among.
 
-ghost use Rattle.std.specs.Prelude.{◌≡◌, All, IfOk, Ok, length};
+ghost use Rattle.std.specs.Prelude.{◌≡◌, ◌<◌, All, IfOk, Ok, length};
 ghost use Rattle.std.specs.List.{AllZip};
 
 use no_memory::NoMemory;
-use rayon::prelude::*;
 use std::alloc::{AllocError, Global};
-use std::thread::Threads;
+use std::thread::{Threads, join};
 
 /// How much work a piece is worth at least, in nanoseconds: some times what it takes to start its thread.
 const LEAST_PIECE: u64 = 150_000;
@@ -51,7 +50,8 @@ impl<'r, R: Threads + Sync> Workers<'r, R> {
     }
 
     /// Does each of these jobs once, in pieces of consecutive ones, each piece on a thread of its own, and at most
-    /// as many as there are workers. Returns what the jobs made, in their order.
+    /// as many as there are workers; one worker's piece stays on the caller's thread. Returns what the jobs made, in
+    /// their order.
     ///
     /// # Errors
     ///
@@ -64,12 +64,56 @@ impl<'r, R: Threads + Sync> Workers<'r, R> {
         requires { All (F.pre job) jobs.items }
         ensures { IfOk result (λ made. AllZip (λ x y. F.post job x (Ok y)) jobs.items made.items) }
     {
-        let least = jobs.len().div_ceil(self.count.max(1) as usize);
-        let made: Result<Vec<U>, NoMemory> = jobs
-            .into_par_iter()
-            .with_min_len(least)
-            .map(job)
-            .collect(self.threads, alloc)?;
-        made
+        if self.count < 2 {
+            return in_turn(alloc, jobs, job);
+        }
+        in_pieces(self.threads, alloc, jobs, self.count as usize, job)
     }
+}
+
+/// Does these jobs in at most so many pieces, each on a thread of its own. This thread only starts them and waits: the
+/// system may put a new thread on the processor of the one that starts it, where it would wait for a piece that was done
+/// here.
+#[cycle(pieces)]
+fn in_pieces<
+    R: Threads + Sync,
+    T: Send + Drop,
+    U: Send + Drop,
+    F: Fn(T) -> Result<U, NoMemory> + Copy + Send + Sync,
+>(threads: &R, alloc: Global, mut jobs: Vec<T>, pieces: usize, job: F) -> Result<Vec<U>, NoMemory>
+    requires { All (F.pre job) jobs.items }
+    ensures { IfOk result (λ made. AllZip (λ x y. F.post job x (Ok y)) jobs.items made.items) }
+{
+    if pieces == 0 || jobs.is_empty() {
+        return in_turn(alloc, jobs, job);
+    }
+    let rest = jobs.split_off(jobs.len().div_ceil(pieces))?;
+    let first = move || -> Result<Vec<U>, NoMemory>
+        requires { All (F.pre job) jobs.items }
+        ensures { IfOk result (λ made. AllZip (λ x y. F.post job x (Ok y)) jobs.items made.items) }
+    { in_turn(alloc, jobs, job) };
+    let others = move || -> Result<Vec<U>, NoMemory>
+        requires { (0 < pieces) × All (F.pre job) rest.items }
+        ensures { IfOk result (λ made. AllZip (λ x y. F.post job x (Ok y)) rest.items made.items) }
+    { in_pieces(threads, alloc, rest, pieces - 1, job) };
+    let (made, more) = join(threads, first, others);
+    let mut all = made?;
+    all.append(&mut more?)?;
+    Ok(all)
+}
+
+/// Does these jobs one after another.
+fn in_turn<T: Drop, U: Drop, F: Fn(T) -> Result<U, NoMemory> + Copy>(
+    alloc: Global,
+    jobs: Vec<T>,
+    job: F,
+) -> Result<Vec<U>, NoMemory>
+    requires { All (F.pre job) jobs.items }
+    ensures { IfOk result (λ made. AllZip (λ x y. F.post job x (Ok y)) jobs.items made.items) }
+{
+    let mut made = Vec::with_capacity(alloc, jobs.len())?;
+    for next in jobs {
+        made.push(job(next)?)?;
+    }
+    Ok(made)
 }
