@@ -1,5 +1,5 @@
 -- The samples of a row in groups of one size, as a kernel takes them: pixels, single samples, or pairs of pixels.
-use Rattle.std.specs.Prelude.{◌≡◌, ℕ, ◌+◌, ◌*◌, ◌/◌, ◌%◌, ◌<◌, List, length}
+use Rattle.std.specs.Prelude.{◌≡◌, ℕ, ◌+◌, ◌*◌, ◌/◌, ◌%◌, ◌<◌, ◌≤◌, List, length}
 use Rattle.pixel_formats.specs.Row.{sample_at}
 
 -- how many samples a group has, and how many bytes each
@@ -17,6 +17,12 @@ group_bytes g = g.size * g.depth
 -- group number k of a row: its samples in order
 abbrev pub group_at : Groups → List ℕ → ℕ → ℕ → ℕ
 group_at g row k = λ i. sample_at g.depth row (k * g.size + i)
+
+-- the blocks of a row have so many groups and bytes each
+pub record Blocks (bytes count : ℕ) (g : Groups) : Type 0 where
+  pub some_group : 0 < group_bytes g
+  pub whole : bytes ≡ count * group_bytes g
+  pub few : bytes ≤ 192
 
 -- The first n groups of one row come each from the group of the same number of another.
 abbrev pub Maps : Groups → Groups → ℕ → ((ℕ → ℕ) → ℕ → ℕ) → List ℕ → List ℕ → Type 0

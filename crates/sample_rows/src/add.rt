@@ -7,17 +7,17 @@ ghost use Rattle.pixel_formats.specs.Row.{HasPixels, pixel_at};
 
 use crate::combine::{Combine, combine_rows};
 use pixel_formats::Format;
-use simd_samples::{ByteLanes, Lanes, WordLanes};
+use simd_samples::Lanes;
 
 /// The sum of two samples, at most the largest.
 #[derive(Clone, Copy)]
 struct Add;
 
-impl<L: Lanes> Combine<L> for Add {
+impl Combine for Add {
     ghost combined = { λ s. added };
 
     #[inline(always)]
-    fn combine(&self, a: L, b: L) -> L {
+    fn combine<L: Lanes>(&self, a: L, b: L) -> L {
         a.saturating_add(b)
     }
 }
@@ -30,8 +30,5 @@ pub fn row_add(f: Format, a: &[u8], b: &[u8], dst: &mut [u8])
     requires written_length { length dst.old ≡ length a.now }
     ensures { HasPixels f dst.new (λ k. added_pixel f (pixel_at f a.now k) (pixel_at f b.now k)) }
 {
-    match f.depth() {
-        1 => combine_rows::<ByteLanes, Add>(f, Add, a, b, dst),
-        _ => combine_rows::<WordLanes, Add>(f, Add, a, b, dst),
-    }
+    combine_rows(f, Add, a, b, dst);
 }

@@ -8,8 +8,7 @@ ghost use Rattle.pixel_formats.specs.Format.{pixel_bytes};
 ghost use Rattle.sample_rows.specs.Groups.{MapsPairs, SameGroups, groups};
 ghost use Rattle.simd_samples.specs.Lanes.{HoldTwo};
 ghost use Rattle.pixel_formats.specs.Row.{HasPixels, pixel_at, sample_at};
-ghost use Rattle.sample_rows.specs.SizeLaws.{pair_bytes, some_bytes, twice_some, vector_bytes};
-ghost use Rattle.simd_pixels.specs.SizeLaws.{planes_bytes};
+ghost use Rattle.sample_rows.specs.SizeLaws.{pair_blocks, vector_blocks, vectors_blocks};
 
 use crate::blocks::{PairKernel, transform_rows};
 use pixel_formats::Format;
@@ -91,23 +90,11 @@ impl<L: Lanes, P: Layout> PairKernel for Average<L, P> {
 
     ghost some_groups = { P.some_pixels };
 
-    ghost some_first = { some_bytes (2 * P.channels) L.depth (twice_some P.channels P.some_channels) L.some_depth };
+    ghost first_blocks = { pair_blocks L.BYTES L.depth L.sixteen L.few L.some_depth P.pixels P.channels P.sixteen };
 
-    ghost some_second = { some_bytes (2 * P.channels) L.depth (twice_some P.channels P.some_channels) L.some_depth };
+    ghost second_blocks = { pair_blocks L.BYTES L.depth L.sixteen L.few L.some_depth P.pixels P.channels P.sixteen };
 
-    ghost some_written = { some_bytes P.channels L.depth P.some_channels L.some_depth };
-
-    ghost first_bytes = { pair_bytes L.BYTES L.depth P.pixels P.channels L.sixteen P.sixteen };
-
-    ghost second_bytes = { pair_bytes L.BYTES L.depth P.pixels P.channels L.sixteen P.sixteen };
-
-    ghost written_bytes = { vector_bytes L.BYTES L.depth P.pixels P.channels L.sixteen P.sixteen };
-
-    ghost first_few = { Prim.search (rules, L.few) };
-
-    ghost second_few = { Prim.search (rules, L.few) };
-
-    ghost written_few = { Prim.search (rules, L.few) };
+    ghost written_blocks = { vector_blocks L.BYTES L.depth L.sixteen L.few L.some_depth P.pixels P.channels P.sixteen };
 }
 
 /// The means of each two pixels of two vectors and the two of two others.
@@ -165,23 +152,11 @@ impl<L: Lanes> PairKernel for AverageColors<L> {
 
     ghost some_groups = { Prim.search rules };
 
-    ghost some_first = { some_bytes 6 L.depth (Prim.search rules) L.some_depth };
+    ghost first_blocks = { vectors_blocks L.BYTES L.depth L.sixteen L.few L.some_depth 6 (6 * L.BYTES) refl (Prim.search rules) (Prim.search rules) };
 
-    ghost some_second = { some_bytes 6 L.depth (Prim.search rules) L.some_depth };
+    ghost second_blocks = { vectors_blocks L.BYTES L.depth L.sixteen L.few L.some_depth 6 (6 * L.BYTES) refl (Prim.search rules) (Prim.search rules) };
 
-    ghost some_written = { some_bytes 3 L.depth (Prim.search rules) L.some_depth };
-
-    ghost first_bytes = { planes_bytes 6 (6 * L.BYTES) L.BYTES L.depth refl L.sixteen };
-
-    ghost second_bytes = { planes_bytes 6 (6 * L.BYTES) L.BYTES L.depth refl L.sixteen };
-
-    ghost written_bytes = { planes_bytes 3 (3 * L.BYTES) L.BYTES L.depth refl L.sixteen };
-
-    ghost first_few = { Prim.search (rules, L.few) };
-
-    ghost second_few = { Prim.search (rules, L.few) };
-
-    ghost written_few = { Prim.search (rules, L.few) };
+    ghost written_blocks = { vectors_blocks L.BYTES L.depth L.sixteen L.few L.some_depth 3 (3 * L.BYTES) refl (Prim.search rules) (Prim.search rules) };
 }
 
 /// The planes of thirty-two pixels of three colors, each of two vectors.

@@ -1,7 +1,7 @@
 //! Kernels over blocks of bytes, and the rows that are made by them.
 
 ghost use Rattle.std.specs.Prelude.{◌≡◌, ℕ, ◌+◌, ◌*◌, ◌/◌, ◌<◌, ◌≤◌, length, slice_index};
-ghost use Rattle.sample_rows.specs.Groups.{Groups, group_at, group_bytes, Maps, MapsPairs, SameGroups};
+ghost use Rattle.sample_rows.specs.Groups.{Blocks, Groups, group_at, group_bytes, Maps, MapsPairs, SameGroups};
 
 /// The most bytes that a block has.
 const MOST: usize = 192;
@@ -47,23 +47,11 @@ pub(crate) trait PairKernel {
 
     ghost some_groups: { 0 < count };
 
-    ghost some_first: { 0 < group_bytes first };
+    ghost first_blocks: { Blocks FIRST count first };
 
-    ghost some_second: { 0 < group_bytes second };
+    ghost second_blocks: { Blocks SECOND count second };
 
-    ghost some_written: { 0 < group_bytes to };
-
-    ghost first_bytes: { FIRST ≡ count * group_bytes first };
-
-    ghost second_bytes: { SECOND ≡ count * group_bytes second };
-
-    ghost written_bytes: { WRITTEN ≡ count * group_bytes to };
-
-    ghost first_few: { FIRST ≤ 192 };
-
-    ghost second_few: { SECOND ≤ 192 };
-
-    ghost written_few: { WRITTEN ≤ 192 };
+    ghost written_blocks: { Blocks WRITTEN count to };
 }
 
 /// Makes one row of two others.
@@ -163,17 +151,9 @@ pub(crate) trait RowKernel: Copy {
 
     ghost some_groups: { 0 < count };
 
-    ghost some_read: { 0 < group_bytes from };
+    ghost read_blocks: { Blocks READ count from };
 
-    ghost some_written: { 0 < group_bytes to };
-
-    ghost read_bytes: { READ ≡ count * group_bytes from };
-
-    ghost written_bytes: { WRITTEN ≡ count * group_bytes to };
-
-    ghost read_few: { READ ≤ 192 };
-
-    ghost written_few: { WRITTEN ≤ 192 };
+    ghost written_blocks: { Blocks WRITTEN count to };
 }
 
 /// A kernel over one row, as one over two rows that leaves the second aside.
@@ -210,23 +190,11 @@ impl<K: RowKernel> PairKernel for Alone<K> {
 
     ghost some_groups = { K.some_groups };
 
-    ghost some_first = { K.some_read };
+    ghost first_blocks = { K.read_blocks };
 
-    ghost some_second = { K.some_read };
+    ghost second_blocks = { K.read_blocks };
 
-    ghost some_written = { K.some_written };
-
-    ghost first_bytes = { K.read_bytes };
-
-    ghost second_bytes = { K.read_bytes };
-
-    ghost written_bytes = { K.written_bytes };
-
-    ghost first_few = { K.read_few };
-
-    ghost second_few = { K.read_few };
-
-    ghost written_few = { K.written_few };
+    ghost written_blocks = { K.written_blocks };
 }
 
 /// Makes one row of another.

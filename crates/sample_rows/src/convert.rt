@@ -7,7 +7,7 @@ ghost use Rattle.pixel_formats.specs.Format.{channels, depth, max_sample_of, pix
 ghost use Rattle.sample_rows.specs.Groups.{Maps, SameGroups, groups};
 ghost use Rattle.simd_pixels.specs.Components.{component_for};
 ghost use Rattle.pixel_formats.specs.Row.{HasPixels, pixel_at, pixel_count};
-ghost use Rattle.sample_rows.specs.SizeLaws.{some_bytes};
+ghost use Rattle.sample_rows.specs.SizeLaws.{planes_blocks};
 
 use crate::blocks::{RowKernel, transform_row};
 use pixel_formats::Format;
@@ -102,17 +102,9 @@ impl<S: Rescale<D>, D: Lanes, P: Components<S>, Q: FromComponents<D>> RowKernel
 
     ghost some_groups = { Prim.search rules };
 
-    ghost some_read = { some_bytes P.channels S.depth P.some_channels S.some_depth };
+    ghost read_blocks = { planes_blocks S.BYTES S.depth S.sixteen S.few S.some_depth P.channels P.BYTES P.sizes };
 
-    ghost some_written = { some_bytes Q.channels D.depth Q.some_channels D.some_depth };
-
-    ghost read_bytes = { P.whole };
-
-    ghost written_bytes = { Q.whole };
-
-    ghost read_few = { Prim.search (rules, P.few) };
-
-    ghost written_few = { Prim.search (rules, Q.few) };
+    ghost written_blocks = { planes_blocks D.BYTES D.depth D.sixteen D.few D.some_depth Q.channels Q.BYTES Q.sizes };
 }
 
 fn convert_pixels<S: Rescale<D>, D: Lanes, P: Components<S>, Q: FromComponents<D>>(

@@ -7,17 +7,17 @@ ghost use Rattle.pixel_formats.specs.Row.{HasPixels, pixel_at};
 
 use crate::combine::{Combine, combine_rows};
 use pixel_formats::Format;
-use simd_samples::{ByteLanes, Lanes, WordLanes};
+use simd_samples::Lanes;
 
 /// The smaller of two samples.
 #[derive(Clone, Copy)]
 struct Minimum;
 
-impl<L: Lanes> Combine<L> for Minimum {
+impl Combine for Minimum {
     ghost combined = { λ s max_sample. min };
 
     #[inline(always)]
-    fn combine(&self, a: L, b: L) -> L {
+    fn combine<L: Lanes>(&self, a: L, b: L) -> L {
         a.min(b)
     }
 }
@@ -26,11 +26,11 @@ impl<L: Lanes> Combine<L> for Minimum {
 #[derive(Clone, Copy)]
 struct Maximum;
 
-impl<L: Lanes> Combine<L> for Maximum {
+impl Combine for Maximum {
     ghost combined = { λ s max_sample. max };
 
     #[inline(always)]
-    fn combine(&self, a: L, b: L) -> L {
+    fn combine<L: Lanes>(&self, a: L, b: L) -> L {
         a.max(b)
     }
 }
@@ -42,10 +42,7 @@ pub fn row_min(f: Format, a: &[u8], b: &[u8], dst: &mut [u8])
     requires written_length { length dst.old ≡ length a.now }
     ensures { HasPixels f dst.new (λ k. min_pixel (pixel_at f a.now k) (pixel_at f b.now k)) }
 {
-    match f.depth() {
-        1 => combine_rows::<ByteLanes, Minimum>(f, Minimum, a, b, dst),
-        _ => combine_rows::<WordLanes, Minimum>(f, Minimum, a, b, dst),
-    }
+    combine_rows(f, Minimum, a, b, dst);
 }
 
 /// Writes to `dst` the greater of each two samples of two rows.
@@ -55,8 +52,5 @@ pub fn row_max(f: Format, a: &[u8], b: &[u8], dst: &mut [u8])
     requires written_length { length dst.old ≡ length a.now }
     ensures { HasPixels f dst.new (λ k. max_pixel (pixel_at f a.now k) (pixel_at f b.now k)) }
 {
-    match f.depth() {
-        1 => combine_rows::<ByteLanes, Maximum>(f, Maximum, a, b, dst),
-        _ => combine_rows::<WordLanes, Maximum>(f, Maximum, a, b, dst),
-    }
+    combine_rows(f, Maximum, a, b, dst);
 }

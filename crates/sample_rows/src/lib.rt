@@ -13,6 +13,7 @@ mod mask;
 mod over;
 mod recolor;
 mod threshold;
+mod vectors;
 
 pub use add::row_add;
 pub use average::row_average4;

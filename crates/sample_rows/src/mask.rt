@@ -6,7 +6,7 @@ ghost use Rattle.pixel_formats.specs.Format.{depth, max_sample_of, pixel_bytes};
 ghost use Rattle.sample_rows.specs.Groups.{MapsPairs, SameGroups, groups};
 ghost use Rattle.pixel_formats.specs.Mask.{masked_pixel, scaled_by};
 ghost use Rattle.pixel_formats.specs.Row.{HasPixels, pixel_at, pixel_count, sample_at};
-ghost use Rattle.sample_rows.specs.SizeLaws.{some_bytes, vector_bytes};
+ghost use Rattle.sample_rows.specs.SizeLaws.{planes_blocks, vector_blocks};
 
 use crate::blocks::{PairKernel, transform_rows};
 use pixel_formats::Format;
@@ -50,23 +50,11 @@ impl<L: Lanes, P: Planes<L>> PairKernel for Mask<L, P> {
 
     ghost some_groups = { Prim.search rules };
 
-    ghost some_first = { some_bytes P.channels L.depth P.some_channels L.some_depth };
+    ghost first_blocks = { planes_blocks L.BYTES L.depth L.sixteen L.few L.some_depth P.channels P.BYTES P.sizes };
 
-    ghost some_second = { some_bytes 1 L.depth (Prim.search rules) L.some_depth };
+    ghost second_blocks = { vector_blocks L.BYTES L.depth L.sixteen L.few L.some_depth 16 1 refl };
 
-    ghost some_written = { some_bytes P.channels L.depth P.some_channels L.some_depth };
-
-    ghost first_bytes = { P.whole };
-
-    ghost second_bytes = { vector_bytes L.BYTES L.depth 16 1 L.sixteen refl };
-
-    ghost written_bytes = { P.whole };
-
-    ghost first_few = { Prim.search (rules, P.few) };
-
-    ghost second_few = { Prim.search (rules, L.few) };
-
-    ghost written_few = { Prim.search (rules, P.few) };
+    ghost written_blocks = { planes_blocks L.BYTES L.depth L.sixteen L.few L.some_depth P.channels P.BYTES P.sizes };
 }
 
 /// Writes the row `src` to `dst` with each sample scaled by the mask's sample of its pixel: the

@@ -1,14 +1,12 @@
 //! Laying one row over another.
 
 ghost use Rattle.std.specs.Prelude.{◌≡◌, ℕ, ◌+◌, ◌*◌, ◌/◌, ◌%◌, ◌<◌, ◌≤◌, IsTrue, length};
-ghost use Rattle.std.proofs.Common.{rules};
 ghost use Rattle.pixel_formats.specs.Format.{depth, max_sample_of, has_alpha, pixel_bytes};
 ghost use Rattle.sample_rows.specs.Groups.{MapsPairs, SameGroups, groups};
 ghost use Rattle.pixel_formats.specs.Over.{composited, over_pixel};
 ghost use Rattle.pixel_formats.specs.Row.{HasPixels, pixel_at};
-ghost use Rattle.sample_rows.specs.SizeLaws.{some_bytes, vector_bytes};
 
-use crate::blocks::{PairKernel, transform_rows};
+use crate::vectors::{VectorKernel, transform_vectors};
 use pixel_formats::Format;
 use simd_pixels::{AlphaOfFour, AlphaOfTwo, Layout};
 use simd_samples::{ByteLanes, Lanes, WordLanes};
@@ -16,60 +14,27 @@ use std::marker::PhantomData;
 
 /// Pixels of a layout over others.
 #[derive(Clone, Copy)]
-struct Over<L, P> {
-    of: PhantomData<(L, P)>,
+struct Over<P> {
+    of: PhantomData<P>,
 }
 
-impl<L: Lanes, P: Layout> PairKernel for Over<L, P> {
+impl<L: Lanes, P: Layout> VectorKernel<L> for Over<P> {
     ghost value = { λ s top bottom i. composited (max_sample_of L.depth) (P.cap (max_sample_of L.depth) top) (top i) (bottom i) };
 
-    ghost first = { groups P.channels L.depth };
-
-    ghost second = { groups P.channels L.depth };
-
-    ghost to = { groups P.channels L.depth };
+    ghost size = { P.channels };
 
     ghost count = { P.pixels };
 
-    ghost FIRST = { L.BYTES };
-
-    ghost SECOND = { L.BYTES };
-
-    ghost WRITTEN = { L.BYTES };
-
-    const FIRST: usize = L::BYTES;
-
-    const SECOND: usize = L::BYTES;
-
-    const WRITTEN: usize = L::BYTES;
-
     #[inline(always)]
-    fn block(&self, a: &[u8], b: &[u8], dst: &mut [u8]) {
-        let top = L::load(a);
-        let left = L::max_sample().saturating_sub(P::caps(top));
-        let below = L::load(b).scale_by(left);
-        top.saturating_add(below).store(dst);
+    fn vector(&self, a: L, b: L) -> L {
+        let left = L::max_sample().saturating_sub(P::caps(a));
+        a.saturating_add(b.scale_by(left))
     }
 
-    ghost some_groups = { P.some_pixels };
+    ghost sixteen = { P.sixteen };
 
-    ghost some_first = { some_bytes P.channels L.depth P.some_channels L.some_depth };
-
-    ghost some_second = { some_bytes P.channels L.depth P.some_channels L.some_depth };
-
-    ghost some_written = { some_bytes P.channels L.depth P.some_channels L.some_depth };
-
-    ghost first_bytes = { vector_bytes L.BYTES L.depth P.pixels P.channels L.sixteen P.sixteen };
-
-    ghost second_bytes = { vector_bytes L.BYTES L.depth P.pixels P.channels L.sixteen P.sixteen };
-
-    ghost written_bytes = { vector_bytes L.BYTES L.depth P.pixels P.channels L.sixteen P.sixteen };
-
-    ghost first_few = { Prim.search (rules, L.few) };
-
-    ghost second_few = { Prim.search (rules, L.few) };
-
-    ghost written_few = { Prim.search (rules, L.few) };
+    ghost value_of_groups = { λ s a b c d same same_bottom i within t.
+        composited (max_sample_of L.depth) (P.cap_of_pixel (max_sample_of L.depth) a c same t) (same i within t) (same_bottom i within t) };
 }
 
 /// Writes to `dst` the row `top` composited over the row `bottom`: of each lower sample the part that
@@ -97,5 +62,5 @@ fn over_pixels<L: Lanes, P: Layout>(top: &[u8], bottom: &[u8], dst: &mut [u8])
     ensures { MapsPairs (groups P.channels L.depth) (groups P.channels L.depth) (groups P.channels L.depth) (length dst.new / (P.channels * L.depth))
         (λ a b i. composited (max_sample_of L.depth) (P.cap (max_sample_of L.depth) a) (a i) (b i)) top.now bottom.now dst.new }
 {
-    transform_rows(&Over::<L, P> { of: PhantomData }, top, bottom, dst);
+    transform_vectors::<L, Over<P>>(Over { of: PhantomData }, top, bottom, dst);
 }

@@ -1,8 +1,7 @@
 //! Changing each color of a row under its cap.
 
 ghost use Rattle.std.specs.Prelude.{◌≡◌, ℕ, ◌+◌, ◌*◌, ◌/◌, ◌%◌, ◌<◌, length, if◌then◌else◌};
-ghost use Rattle.std.proofs.Common.{rules};
-ghost use Rattle.sample_rows.specs.SizeLaws.{some_bytes, twice_some, two_vectors_bytes};
+ghost use Rattle.sample_rows.specs.SizeLaws.{twice_some, two_vectors_blocks};
 ghost use Rattle.pixel_formats.specs.Format.{depth, max_sample_of, pixel_bytes};
 ghost use Rattle.sample_rows.specs.Groups.{Maps, SameGroups, groups};
 ghost use Rattle.pixel_formats.specs.Recolor.{recolored};
@@ -61,17 +60,9 @@ impl<L: Lanes, P: Layout, K: Recolor<L>> RowKernel for Recoloring<L, P, K> {
 
     ghost some_groups = { twice_some P.pixels P.some_pixels };
 
-    ghost some_read = { some_bytes P.channels L.depth P.some_channels L.some_depth };
+    ghost read_blocks = { two_vectors_blocks L.BYTES L.depth L.sixteen L.few L.some_depth P.pixels P.channels P.sixteen };
 
-    ghost some_written = { some_bytes P.channels L.depth P.some_channels L.some_depth };
-
-    ghost read_bytes = { two_vectors_bytes L.BYTES L.depth P.pixels P.channels L.sixteen P.sixteen };
-
-    ghost written_bytes = { two_vectors_bytes L.BYTES L.depth P.pixels P.channels L.sixteen P.sixteen };
-
-    ghost read_few = { Prim.search (rules, L.few) };
-
-    ghost written_few = { Prim.search (rules, L.few) };
+    ghost written_blocks = { two_vectors_blocks L.BYTES L.depth L.sixteen L.few L.some_depth P.pixels P.channels P.sixteen };
 }
 
 /// Writes the row `src` to `dst` with each color changed under its cap.

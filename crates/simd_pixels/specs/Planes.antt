@@ -1,5 +1,5 @@
 -- The samples of planes, by the channel and the pixel.
-use Rattle.std.specs.Prelude.{ℕ, zero, suc}
+use Rattle.std.specs.Prelude.{◌≡◌, ℕ, zero, suc, ◌*◌, ◌<◌, ◌≤◌}
 
 -- of one plane
 abbrev pub of_one : (ℕ → ℕ) → ℕ → ℕ → ℕ
@@ -19,3 +19,9 @@ of_three a b c (suc channel) = of_two b c channel
 abbrev pub of_four : (ℕ → ℕ) → (ℕ → ℕ) → (ℕ → ℕ) → (ℕ → ℕ) → ℕ → ℕ → ℕ
 of_four a b c d zero = a
 of_four a b c d (suc channel) = of_three b c d channel
+
+-- one plane to each channel, of so many bytes each, and their bytes together
+pub record PlaneSizes (channels of_one bytes : ℕ) : Type 0 where
+  pub some_channels : 0 < channels
+  pub few_channels : channels ≤ 4
+  pub whole : bytes ≡ channels * of_one

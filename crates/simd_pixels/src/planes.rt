@@ -3,8 +3,7 @@
 ghost use Rattle.std.specs.Prelude.{◌≡◌, ℕ, ◌+◌, ◌*◌, ◌<◌, ◌≤◌, length, slice_index, refl};
 ghost use Rattle.std.proofs.Common.{rules};
 ghost use Rattle.pixel_formats.specs.Sample.{max_sample_of, sample_at, scaled_by};
-ghost use Rattle.simd_pixels.specs.Planes.{of_one, of_two, of_three, of_four};
-ghost use Rattle.simd_pixels.specs.SizeLaws.{few_bytes, planes_bytes};
+ghost use Rattle.simd_pixels.specs.Planes.{PlaneSizes, of_one, of_two, of_three, of_four};
 
 use simd_samples::{Lanes, load_four, load_three, load_two, store_four, store_three, store_two};
 
@@ -36,13 +35,8 @@ pub trait Planes<L: Lanes>: Copy {
     fn scale_by(self, weights: L) -> Self
         ensures { (k i : ℕ) → k < 16 → i < channels → sample result i k ≡ scaled_by (max_sample_of L.depth) (sample self i k) (L.lane weights k) };
 
-    ghost some_channels: { 0 < channels };
-
-    ghost few_channels: { channels ≤ 4 };
-
-    ghost whole: { BYTES ≡ 16 * (channels * L.depth) };
-
-    ghost few: { BYTES ≤ 128 };
+    /// Each channel has a plane.
+    ghost sizes: { PlaneSizes channels L.BYTES BYTES };
 }
 
 /// Pixels of one sample.
@@ -77,13 +71,7 @@ impl<L: Lanes> Planes<L> for Gray<L> {
         }
     }
 
-    ghost some_channels = { Prim.search rules };
-
-    ghost few_channels = { Prim.search rules };
-
-    ghost whole = { planes_bytes 1 L.BYTES L.BYTES L.depth (Prim.search rules) L.sixteen };
-
-    ghost few = { few_bytes 1 L.BYTES L.BYTES (Prim.search rules) L.few (Prim.search rules) };
+    ghost sizes = { record { some_channels = Prim.search rules; few_channels = Prim.search rules; whole = Prim.search rules } };
 }
 
 /// Pixels of gray and alpha.
@@ -123,13 +111,7 @@ impl<L: Lanes> Planes<L> for GrayAlpha<L> {
         }
     }
 
-    ghost some_channels = { Prim.search rules };
-
-    ghost few_channels = { Prim.search rules };
-
-    ghost whole = { planes_bytes 2 (2 * L.BYTES) L.BYTES L.depth refl L.sixteen };
-
-    ghost few = { few_bytes 2 (2 * L.BYTES) L.BYTES refl L.few (Prim.search rules) };
+    ghost sizes = { record { some_channels = Prim.search rules; few_channels = Prim.search rules; whole = refl } };
 }
 
 /// Pixels of three colors.
@@ -171,13 +153,7 @@ impl<L: Lanes> Planes<L> for Colors<L> {
         }
     }
 
-    ghost some_channels = { Prim.search rules };
-
-    ghost few_channels = { Prim.search rules };
-
-    ghost whole = { planes_bytes 3 (3 * L.BYTES) L.BYTES L.depth refl L.sixteen };
-
-    ghost few = { few_bytes 3 (3 * L.BYTES) L.BYTES refl L.few (Prim.search rules) };
+    ghost sizes = { record { some_channels = Prim.search rules; few_channels = Prim.search rules; whole = refl } };
 }
 
 /// Pixels of three colors and alpha.
@@ -232,11 +208,5 @@ impl<L: Lanes> Planes<L> for ColorsAlpha<L> {
         }
     }
 
-    ghost some_channels = { Prim.search rules };
-
-    ghost few_channels = { Prim.search rules };
-
-    ghost whole = { planes_bytes 4 (4 * L.BYTES) L.BYTES L.depth refl L.sixteen };
-
-    ghost few = { few_bytes 4 (4 * L.BYTES) L.BYTES refl L.few (Prim.search rules) };
+    ghost sizes = { record { some_channels = Prim.search rules; few_channels = Prim.search rules; whole = refl } };
 }

@@ -126,6 +126,10 @@ AreLanes-cast bound v some long small =
     let value : ℕ → ℕ = λ j. get_or v j 0 in
     (Makes-cast bound v value some (Makes-from_lanes bound v value some long (λ j lt. refl) small)).0
 
+-- a cast of numbers below one bound, which are below a wider one too
+pub AreLanes-cast_up : (bound wide : ℕ) (v : List ℕ) → 0 < wide → bound ≤ wide → AreLanes bound v → AreLanes wide (map same v)
+AreLanes-cast_up bound wide v some le p = AreLanes-cast wide v some p.long (λ j lt. omega (arith, p.below j))
+
 -- what is computed of two vectors of numbers below a bound, lane by lane
 pub AreLanes-wrapped : (bound : ℕ) (f : ℕ → ℕ → ℕ) → 0 < bound → ((a b : ℕ) → f a b < bound) → (xs ys : List ℕ) → length xs ≡ 16 → length ys ≡ 16 → AreLanes bound (zip2 f xs ys)
 AreLanes-wrapped bound f some small xs ys p q =

@@ -4,14 +4,14 @@ use Rattle.std.proofs.Math.Nat.{mod-eq_of_lt, div-le_self, div-lt_iff_lt-mul, mu
 use Rattle.std.proofs.lemmas.Bool.{cases_lt}
 use Rattle.std.proofs.lemmas.List.{get_or_past}
 use lib.Lanes.{zip2}
-use Rattle.simd_samples.specs.Lanes.{AreLanes}
-use Rattle.simd_samples.proofs.Arithmetic.{below_le, over, plus, same, shifted, splat_at, times}
+use Rattle.simd_samples.specs.Lanes.{AreLanes, Hold}
+use Rattle.simd_samples.proofs.Arithmetic.{Makes-cast, below_le, over, plus, same, shifted, splat_at, times}
 use Rattle.simd_samples.proofs.Pointwise.{Makes, Makes-from_four, Makes-from_lanes, Makes-from_two}
 use Rattle.simd_samples.proofs.Saturation.{Makes-minimum, highest_of_longs, where_below}
 
 -- the products and sums of a vector
 abbrev pub multiplied : ℕ → List ℕ → List ℕ → List ℕ → List ℕ
-multiplied w xs ys zs = zip2 (plus w) (zip2 (times w) (map same xs) ys) zs
+multiplied w xs ys zs = zip2 (plus w) (zip2 (times w) xs ys) zs
 
 one_multiplied : (w a b c : ℕ) → a * b + c < w → plus w (times w a b) c ≡ a * b + c
 one_multiplied w a b c room = ap (λ n. (n + c) % w) (mod-eq_of_lt (omega (arith, room))) ∙ mod-eq_of_lt room
@@ -22,9 +22,9 @@ three_splats f j b c d lt = λ p. f (splat_at b j lt p) (splat_at c j lt p) (spl
 
 pub Makes-scaled : (w bound shift : ℕ) (xs : List ℕ) (factor offset : ℕ) → 0 < bound → 0 < 2 ^ shift → bound * 2 ^ shift ≤ w → length xs ≡ 16
     → ((j : ℕ) → j < 16 → get_or xs j 0 * factor + offset < bound * 2 ^ shift)
-    → Makes bound (zip2 shifted (multiplied w xs (replicate 16 factor) (replicate 16 offset)) (replicate 16 shift)) (λ j. (get_or xs j 0 * factor + offset) / 2 ^ shift)
+    → Makes bound (zip2 shifted (multiplied w (map same xs) (replicate 16 factor) (replicate 16 offset)) (replicate 16 shift)) (λ j. (get_or xs j 0 * factor + offset) / 2 ^ shift)
 Makes-scaled w bound shift xs factor offset some some_part wide long small =
-    Makes-from_four (λ xs ys zs ws. zip2 shifted (multiplied w xs ys zs) ws) (λ a b c d. shifted (plus w (times w a b) c) d) (λ a b c d xs ys zs ws. refl) refl bound _ some
+    Makes-from_four (λ xs ys zs ws. zip2 shifted (multiplied w (map same xs) ys zs) ws) (λ a b c d. shifted (plus w (times w a b) c) d) (λ a b c d xs ys zs ws. refl) refl bound _ some
     xs (replicate 16 factor) (replicate 16 offset) (replicate 16 shift) long refl refl refl
     (λ j lt. (
       three_splats (λ b c d. shifted (plus w (times w (get_or xs j 0) b) c) d) j factor offset shift lt
@@ -128,3 +128,11 @@ Makes-divided m xs number offset divisor few p n o =
     let minimum = Makes-minimum 63 w highest_of_longs v (replicate 16 m) made.0 (splat_lanes w m (omega arith)) in
     Makes-from_lanes (m + 1) (limited v (replicate 16 m)) _ (omega arith) minimum.0.long
     (λ j lt. minimum.1 j lt ∙ ap (min (get_or v j 0)) (splat_at m j lt) ∙ ap (λ k. min k m) (made.1 j lt) ∙ omega arith) (λ j lt. omega arith)
+
+-- the quotients of samples that are cast, when they are cast back
+pub Makes-cast_quotients : (m : ℕ) (xs v : List ℕ) (number offset divisor : ℕ) → AreLanes (m + 1) xs → AreLanes (m + 1) v
+    → Hold (λ j. get_or v j 0) (λ j. min m ((get_or (map same xs) j 0 * number + offset) / divisor))
+    → Makes (m + 1) (map same v) (λ j. min m ((get_or xs j 0 * number + offset) / divisor))
+Makes-cast_quotients m xs v number offset divisor p q holds =
+    let cast_up = Makes-cast (m + 1) xs (λ j. get_or xs j 0) (omega arith) (p, λ j lt. refl) in
+    Makes-cast (m + 1) v _ (omega arith) (q, λ j lt. holds j lt ∙ ap (λ a. min m ((a * number + offset) / divisor)) (cast_up.1 j lt))

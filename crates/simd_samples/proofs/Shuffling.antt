@@ -6,7 +6,7 @@ use Rattle.std.proofs.lemmas.List.{get_or-map, get_or_append_left, get_or-append
 use lib.Lanes.{pick_l}
 use mir.ValLaws.{and_both}
 use Rattle.simd_samples.specs.Lanes.{AreLanes, Hold, HoldTwo, HoldThree}
-use Rattle.simd_samples.specs.Shuffle.{position_of_three, position_of_two, shuffled_of_three, shuffled_of_two, table_of_last, table_of_three, table_of_two}
+use Rattle.simd_samples.specs.Shuffle.{picked, position_of_three, position_of_two, shuffled_of_three, shuffled_of_two, table_of_last, table_of_three, table_of_two}
 use Rattle.simd_samples.specs.declared.shuffles.ShuffleOfTwo.{ShuffleOfTwo}
 use Rattle.simd_samples.specs.declared.shuffles.ShuffleOfTwo.TheVariants.{SpreadSecond, SpreadFourth, WithSecond, WithFourth, Evens, Odds, EvenPairs, OddPairs, EvenFours, OddFours, JoinedLow, JoinedHigh}
 use Rattle.simd_samples.specs.declared.shuffles.ShuffleOfThree.{ShuffleOfThree}
@@ -160,8 +160,11 @@ module _ (bound : ℕ) (some : 0 < bound) (xs ys v : List ℕ) (p : AreLanes bou
       ∙ Hold-shuffled bound some xs ys p q (table_of_two w) (position_of_two w) is.0 is.1
       (λ i near. ltb→lt _ _ (under 16 (λ k. ltb (position_of_two w k) 32) is.2 i near)) s both j lt
 
-module _ (bound : ℕ) (some : 0 < bound) (xs ys zs v : List ℕ) (p : AreLanes bound xs) (q : AreLanes bound ys) (r : AreLanes bound zs) (w : ShuffleOfThree)
-    (made : v ≡ shuffled_of_three xs ys zs w) where
+module _ (bound : ℕ) (some : 0 < bound) (xs ys zs two v : List ℕ) (p : AreLanes bound xs) (q : AreLanes bound ys) (r : AreLanes bound zs) (w : ShuffleOfThree)
+    (made_two : two ≡ picked (xs ++ ys) (table_of_three w)) (made_last : v ≡ picked (two ++ zs) (table_of_last w)) where
+  made : v ≡ shuffled_of_three xs ys zs w
+  made = made_last ∙ ap (λ l. picked (l ++ zs) (table_of_last w)) made_two
+
   pub AreLanes-of_three : AreLanes bound v
   AreLanes-of_three =
       let is = table_of_three-is w in
@@ -172,6 +175,3 @@ module _ (bound : ℕ) (some : 0 < bound) (xs ys zs v : List ℕ) (p : AreLanes 
       let is = table_of_three-is w in
       ap (λ l. get_or l j 0) made
       ∙ Hold-shuffled_twice bound some xs ys zs p q r (table_of_three w) (table_of_last w) is.0 is.1 s all (position_of_three w) is.2 j lt
-
-pub same_shuffle : (xs ys zs : List ℕ) (w v : ShuffleOfThree) → w ≡ v → shuffled_of_three xs ys zs v ≡ shuffled_of_three xs ys zs w
-same_shuffle xs ys zs w v e = ap (shuffled_of_three xs ys zs) (sym e)

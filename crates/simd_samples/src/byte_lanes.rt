@@ -1,18 +1,15 @@
 //! Sixteen samples of one byte.
 
-ghost use Rattle.std.specs.Prelude.{◌≡◌, ◌*◌, slice_index, refl};
+ghost use Rattle.std.specs.Prelude.{◌≡◌, ◌*◌, ◌++◌, slice_index, refl};
 ghost use Rattle.std.proofs.Common.{rules};
 ghost use Rattle.simd_samples.specs.Lanes.{AreLanes};
-ghost use Rattle.simd_samples.specs.Shuffle.{shuffled_of_three, shuffled_of_two};
+ghost use Rattle.simd_samples.specs.Shuffle.{picked, shuffled_of_two, table_of_last, table_of_three};
 
 use crate::lanes::Lanes;
-use crate::positions::{
-    EVEN_FOURS, EVEN_PAIRS, EVENS, FIRST_JOINED_BY_LAST, FIRST_JOINED_BY_TWO, FIRST_OF_LAST,
-    FIRST_OF_THREE, FOURTH_OF_FOUR, HIGHS, KEEPING_FOURTH, KEEPING_SECOND, LOWS, ODD_FOURS,
-    ODD_PAIRS, ODDS, SECOND_JOINED_BY_LAST, SECOND_JOINED_BY_TWO, SECOND_OF_LAST, SECOND_OF_THREE,
-    SECOND_OF_TWO, THIRD_JOINED_BY_LAST, THIRD_JOINED_BY_TWO, THIRD_OF_LAST, THIRD_OF_THREE,
+use crate::quotients::limited_quotients;
+use crate::shuffles::{
+    ShuffleOfThree, ShuffleOfTwo, shuffle_of_first_two, shuffle_of_two, shuffle_with_third,
 };
-use crate::shuffles::{ShuffleOfThree, ShuffleOfTwo};
 use crate::wide_lanes::WideLanes;
 use std::simd::prelude::*;
 
@@ -131,12 +128,10 @@ impl Lanes for ByteLanes {
 
     #[inline(always)]
     fn divide(self, number: u64, offset: u64, divisor: u64) -> Self {
-        let products = self.lanes.cast::<u64>() * u64x16::splat(number);
-        let sums = products + u64x16::splat(offset);
-        let quotients = sums / u64x16::splat(divisor);
-        let most = u64x16::splat(255);
+        let samples = self.lanes.cast::<u64>();
+        let quotients = limited_quotients(samples, number, offset, divisor, 255);
         ByteLanes {
-            lanes: quotients.simd_min(most).cast::<u8>(),
+            lanes: quotients.cast::<u8>(),
         }
     }
 
@@ -176,8 +171,9 @@ impl Lanes for ByteLanes {
 
     #[inline(always)]
     fn shuffle_three(self, second: Self, third: Self, shuffle: ShuffleOfThree) -> Self {
+        let two = bytes_of_first_two(self.lanes, second.lanes, shuffle);
         ByteLanes {
-            lanes: bytes_of_three(self.lanes, second.lanes, third.lanes, shuffle),
+            lanes: bytes_with_third(two, third.lanes, shuffle),
         }
     }
 
@@ -201,45 +197,21 @@ impl Lanes for ByteLanes {
 fn bytes_of_two(first: u8x16, second: u8x16, shuffle: ShuffleOfTwo) -> u8x16
     ensures { result ≡ shuffled_of_two first second shuffle }
 {
-    match shuffle {
-        ShuffleOfTwo::SpreadSecond => first.shuffle(second, SECOND_OF_TWO),
-        ShuffleOfTwo::SpreadFourth => first.shuffle(second, FOURTH_OF_FOUR),
-        ShuffleOfTwo::WithSecond => first.shuffle(second, KEEPING_SECOND),
-        ShuffleOfTwo::WithFourth => first.shuffle(second, KEEPING_FOURTH),
-        ShuffleOfTwo::Evens => first.shuffle(second, EVENS),
-        ShuffleOfTwo::Odds => first.shuffle(second, ODDS),
-        ShuffleOfTwo::EvenPairs => first.shuffle(second, EVEN_PAIRS),
-        ShuffleOfTwo::OddPairs => first.shuffle(second, ODD_PAIRS),
-        ShuffleOfTwo::EvenFours => first.shuffle(second, EVEN_FOURS),
-        ShuffleOfTwo::OddFours => first.shuffle(second, ODD_FOURS),
-        ShuffleOfTwo::JoinedLow => first.shuffle(second, LOWS),
-        ShuffleOfTwo::JoinedHigh => first.shuffle(second, HIGHS),
-    }
+    shuffle_of_two!(first, second, shuffle)
 }
 
-/// Shuffles the lanes of three vectors: those of the first two, and then these with the third.
+/// Shuffles the lanes of the first two of three vectors.
 #[inline(always)]
-fn bytes_of_three(first: u8x16, second: u8x16, third: u8x16, shuffle: ShuffleOfThree) -> u8x16
-    ensures { result ≡ shuffled_of_three first second third shuffle }
+fn bytes_of_first_two(first: u8x16, second: u8x16, shuffle: ShuffleOfThree) -> u8x16
+    ensures { result ≡ picked (first ++ second) (table_of_three shuffle) }
 {
-    match shuffle {
-        ShuffleOfThree::Firsts => first
-            .shuffle(second, FIRST_OF_THREE)
-            .shuffle(third, FIRST_OF_LAST),
-        ShuffleOfThree::Seconds => first
-            .shuffle(second, SECOND_OF_THREE)
-            .shuffle(third, SECOND_OF_LAST),
-        ShuffleOfThree::Thirds => first
-            .shuffle(second, THIRD_OF_THREE)
-            .shuffle(third, THIRD_OF_LAST),
-        ShuffleOfThree::JoinedFirst => first
-            .shuffle(second, FIRST_JOINED_BY_TWO)
-            .shuffle(third, FIRST_JOINED_BY_LAST),
-        ShuffleOfThree::JoinedSecond => first
-            .shuffle(second, SECOND_JOINED_BY_TWO)
-            .shuffle(third, SECOND_JOINED_BY_LAST),
-        ShuffleOfThree::JoinedThird => first
-            .shuffle(second, THIRD_JOINED_BY_TWO)
-            .shuffle(third, THIRD_JOINED_BY_LAST),
-    }
+    shuffle_of_first_two!(first, second, shuffle)
+}
+
+/// Shuffles the lanes that the first two of three vectors gave, and the third vector's.
+#[inline(always)]
+fn bytes_with_third(two: u8x16, third: u8x16, shuffle: ShuffleOfThree) -> u8x16
+    ensures { result ≡ picked (two ++ third) (table_of_last shuffle) }
+{
+    shuffle_with_third!(two, third, shuffle)
 }

@@ -6,6 +6,7 @@ mod depths;
 mod four_lanes;
 mod lanes;
 mod positions;
+mod quotients;
 mod short_lanes;
 mod shuffles;
 mod vectors;

@@ -18,10 +18,10 @@ returns-clause-made g c k i lt within =
     let to = c.WRITTEN.result * block in
     let room : to ≤ length dst = omega (arith, c.requires.written, ap (λ n. n * block) c.WRITTEN.ensures) in
     let made = c.block.new.dst in
-    sym (group_at-block K.to made (put_mid to (length dst - to) dst made) c.WRITTEN.result K.count block k (c.WRITTEN.ensures ∙ L.written_bytes)
+    sym (group_at-block K.to made (put_mid to (length dst - to) dst made) c.WRITTEN.result K.count block k (c.WRITTEN.ensures ∙ L.written_blocks.whole)
     (λ p. part_written dst made to (length dst - to) p (omega arith) (c.block.auto.dst ∙ length-part_from dst to)) i)
     ∙ c.block.ensures k i lt within
     ∙ ap (λ (s : ℕ → ℕ). K.value c.args.kernel.now s (group_at K.second (part c.args.b.now (c.SECOND.result * block)) k) i)
-    (λ t j. group_at-block K.first (part c.args.a.now (c.FIRST.result * block)) c.args.a.now c.FIRST.result K.count block k (c.FIRST.ensures ∙ L.first_bytes) (part_from c.args.a.now (c.FIRST.result * block)) j t)
+    (λ t j. group_at-block K.first (part c.args.a.now (c.FIRST.result * block)) c.args.a.now c.FIRST.result K.count block k (c.FIRST.ensures ∙ L.first_blocks.whole) (part_from c.args.a.now (c.FIRST.result * block)) j t)
     ∙ ap (λ (s : ℕ → ℕ). K.value c.args.kernel.now (group_at K.first c.args.a.now (block * K.count + k)) s i)
-    (λ t j. group_at-block K.second (part c.args.b.now (c.SECOND.result * block)) c.args.b.now c.SECOND.result K.count block k (c.SECOND.ensures ∙ L.second_bytes) (part_from c.args.b.now (c.SECOND.result * block)) j t)
+    (λ t j. group_at-block K.second (part c.args.b.now (c.SECOND.result * block)) c.args.b.now c.SECOND.result K.count block k (c.SECOND.ensures ∙ L.second_blocks.whole) (part_from c.args.b.now (c.SECOND.result * block)) j t)

@@ -14,24 +14,24 @@ module _ (g : Given.Over) (c : After-WRITTEN g) where
     whole = c.requires.first.written;
     whole_other = whole;
     same = same;
-    some_u = g.met.K.PairKernel.some_written;
+    some_u = g.met.K.PairKernel.written_blocks.some_group;
     some_v = some;
     some = g.met.K.PairKernel.some_groups;
-    at_block = c.WRITTEN.ensures ∙ g.met.K.PairKernel.written_bytes;
+    at_block = c.WRITTEN.ensures ∙ g.met.K.PairKernel.written_blocks.whole;
     at_other = at_other;
   }
 
   first_blocks : HaveBlocks (length c.args.dst.now) (length c.args.a.now) (group_bytes g.K.PairKernel.to) (group_bytes g.K.PairKernel.first) g.K.PairKernel.count c.WRITTEN.result g.K.PairKernel.FIRST
   first_blocks =
-      blocks_of (length c.args.a.now) (group_bytes g.K.PairKernel.first) g.K.PairKernel.FIRST c.requires.first.read c.requires.first.same_count g.met.K.PairKernel.some_first g.met.K.PairKernel.first_bytes
+      blocks_of (length c.args.a.now) (group_bytes g.K.PairKernel.first) g.K.PairKernel.FIRST c.requires.first.read c.requires.first.same_count g.met.K.PairKernel.first_blocks.some_group g.met.K.PairKernel.first_blocks.whole
 
   second_blocks : HaveBlocks (length c.args.dst.now) (length c.args.b.now) (group_bytes g.K.PairKernel.to) (group_bytes g.K.PairKernel.second) g.K.PairKernel.count c.WRITTEN.result g.K.PairKernel.SECOND
   second_blocks =
-      blocks_of (length c.args.b.now) (group_bytes g.K.PairKernel.second) g.K.PairKernel.SECOND c.requires.second.read c.requires.second.same_count g.met.K.PairKernel.some_second g.met.K.PairKernel.second_bytes
+      blocks_of (length c.args.b.now) (group_bytes g.K.PairKernel.second) g.K.PairKernel.SECOND c.requires.second.read c.requires.second.same_count g.met.K.PairKernel.second_blocks.some_group g.met.K.PairKernel.second_blocks.whole
 
   written_blocks : HaveBlocks (length c.args.dst.now) (length c.args.dst.now) (group_bytes g.K.PairKernel.to) (group_bytes g.K.PairKernel.to) g.K.PairKernel.count c.WRITTEN.result g.K.PairKernel.WRITTEN
   written_blocks =
-      blocks_of (length c.args.dst.now) (group_bytes g.K.PairKernel.to) g.K.PairKernel.WRITTEN c.requires.first.written refl g.met.K.PairKernel.some_written g.met.K.PairKernel.written_bytes
+      blocks_of (length c.args.dst.now) (group_bytes g.K.PairKernel.to) g.K.PairKernel.WRITTEN c.requires.first.written refl g.met.K.PairKernel.written_blocks.some_group g.met.K.PairKernel.written_blocks.whole
 
 pub transform_block-requires-clause-first : goal.transform_block-requires-clause-first
 transform_block-requires-clause-first g c = begun (first_blocks g (goal.at.transform_block-requires-clause-first g c).After-WRITTEN) (c.loop-block.block + 1) (omega arith)
@@ -60,7 +60,7 @@ loop-block-preserved g c =
     let K = g.K.PairKernel in
     let block = c.loop-block.block in
     MapsPairs-extended K.first K.second K.to (K.value c.args.kernel.now) c.args.a.now c.args.b.now c.loop-block.dst c.transform_block.new.dst (block * K.count) (block * K.WRITTEN) ((block + 1) * K.count)
-    (omega (arith, ap (λ w. block * w) g.met.K.PairKernel.written_bytes)) c.loop-block.invariant c.transform_block.ensures.kept
+    (omega (arith, ap (λ w. block * w) g.met.K.PairKernel.written_blocks.whole)) c.loop-block.invariant c.transform_block.ensures.kept
     (λ k i lt within. c.transform_block.ensures.made k i (omega arith) within)
 
 pub returns-then-dst-WRITTEN-gt0 : goal.returns-then-dst-WRITTEN-gt0
@@ -72,7 +72,7 @@ returns-then-dst-WRITTEN-gt0 g c =
     let same_total : length new / group_bytes K.to ≡ length old / group_bytes K.to = ap (λ l. l / group_bytes K.to) c.transform_rest.auto.dst in
     let all : c.loop-block.block ≡ blocks = omega arith in
     MapsPairs-extended K.first K.second K.to (K.value c.args.kernel.now) c.args.a.now c.args.b.now old new (blocks * K.count) (blocks * K.WRITTEN) (length new / group_bytes K.to)
-    (omega (arith, ap (λ w. blocks * w) g.met.K.PairKernel.written_bytes))
+    (omega (arith, ap (λ w. blocks * w) g.met.K.PairKernel.written_blocks.whole))
     (λ k i lt within. c.loop-block.invariant k i (omega (arith, ap (λ b. b * K.count) all)) within) c.transform_rest.ensures.kept
     (λ k i lt within. c.transform_rest.ensures.made k i (omega (arith, same_total)) within)
 

@@ -14,4 +14,4 @@ returns g c k i lt within =
     c.store.ensures.here k i lt within ∙ c.from_components.ensures k i lt within
     ∙ ap (rescaled S.depth g.D.Lanes.depth)
     (g.met.P.Components.components_of_pixel (max_sample_of S.depth) (λ (j : ℕ). P.sample c.load.result j k) (group_at (groups P.channels S.depth) c.args.src.now k)
-    (λ j inside. c.load.ensures k j lt inside) (component_for Q.channels i) (component_for-le Q.channels i g.met.Q.Planes.few_channels within))
+    (λ j inside. c.load.ensures k j lt inside) (component_for Q.channels i) (component_for-le Q.channels i g.met.Q.Planes.sizes.few_channels within))

@@ -4,9 +4,9 @@ use Rattle.simd_samples.proofs.byte_lanes.ByteLanesLanes.shuffle_three.Goals as 
 
 pub invariant_of-result : goal.invariant_of-result
 invariant_of-result c = record {
-  samples = AreLanes-of_three 256 (omega arith) c.args.self.lanes c.args.second.lanes c.args.third.lanes c.bytes_of_three.result c.args.self.samples c.args.second.samples c.args.third.samples c.args.shuffle c.bytes_of_three.ensures;
+  samples = AreLanes-of_three 256 (omega arith) _ _ _ _ _ c.args.self.samples c.args.second.samples c.args.third.samples c.args.shuffle c.bytes_of_first_two-two.ensures c.bytes_with_third.ensures;
 }
 
 pub returns : goal.returns
 returns c =
-    Hold-of_three 256 (omega arith) c.args.self.lanes c.args.second.lanes c.args.third.lanes c.bytes_of_three.result c.args.self.samples c.args.second.samples c.args.third.samples c.args.shuffle c.bytes_of_three.ensures
+    Hold-of_three 256 (omega arith) _ _ _ _ _ c.args.self.samples c.args.second.samples c.args.third.samples c.args.shuffle c.bytes_of_first_two-two.ensures c.bytes_with_third.ensures
