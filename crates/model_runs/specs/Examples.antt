@@ -12,6 +12,8 @@ use Rattle.script_read.specs.declared.command.Line.{Line}
 use Rattle.script_read.specs.declared.command.OpWords.TheVariants as words
 use Rattle.model_runs.specs.Run.{effects_of, outcome_from, report}
 use Rattle.model_runs.specs.State.{Numbers, Effect, first_state}
+-- the digits of numbers in texts, which the proofs of the examples unfold
+pub use Rattle.std.specs.Fmt.{digits}
 
 -- commands as the lines of a script, from a number on
 abbrev pub lines_from : ℕ → List Command → List Line

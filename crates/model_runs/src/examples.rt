@@ -1,4 +1,5 @@
 //! Runs of small scripts, worked out by hand.
+#![tactic(auto, unfolding(crate::specs::Examples::digits, script_words::specs::Numbers::natural_in, model_images::specs::Image::at, model_images::specs::Raw::raw, model_images::specs::Abyss::abyss_at, model_images::specs::Abyss::raw_with, model_images::specs::Level::level, crate::specs::MadeJob::draws, crate::specs::MadeJob::fills, crate::specs::MadeJob::state_after_draws))]
 
 ghost use Rattle.std.specs.Prelude.{◌≡◌, [], ◌∷◌, ◌++◌, codes, slice_index_or, take, None, Some};
 ghost use Rattle.script_words.specs.Words.{joined};

@@ -7,7 +7,7 @@ use Rattle.model_runs.specs.declared.ending.End.TheVariants as ends
 use Rattle.run_texts.specs.Events.{Event, Writes, Puts, Outcome, Refusal, events_alone, then_do}
 use Rattle.run_texts.specs.World.{World, after_all, LeavesSome}
 use Rattle.run_texts.proofs.Leaving.{none_yet, all_came, after_all-append, some_after, some_of_first}
-use Rattle.model_runs.specs.Ending.{Leaves, MayTear}
+use Rattle.model_runs.specs.Ending.{IsWhole, Leaves, MayTear}
 use Rattle.run_events.specs.Causes.{Counts, HasCause, NoneFell}
 
 -- a part whose events have all come, and then the rest
@@ -37,33 +37,28 @@ nothing_read outcome world = record { refused = tt; whole = λ whole. absurd who
 pub nothing_left : (world : World) → Leaves (events_alone []) (Ok tt) world world
 nothing_left world = record { refused = refl; whole = λ whole. refl; some = refl }
 
+-- a part that ended, and not at a refusal, leaves of an outcome what has come of its events
+ended_early : (events : List Event) (end : End) (old new : World) → Leaves (events_alone events) (Err end) old new →
+    (outcome : Outcome) → LeavesSome (MayTear (Err end)) outcome.events old new → Leaves outcome (Err end) old new
+ended_early events ends.Refused old new leaves outcome some = absurd leaves.refused
+ended_early events ends.ReadFault old new leaves outcome some = record { refused = tt; whole = λ whole. absurd whole; some = some }
+ended_early events ends.WriteFault old new leaves outcome some = record { refused = tt; whole = λ whole. absurd whole; some = some }
+ended_early events ends.OutputFault old new leaves outcome some = record { refused = tt; whole = λ whole. absurd whole; some = some }
+ended_early events ends.NoMemory old new leaves outcome some = record { refused = tt; whole = λ whole. absurd whole; some = some }
+ended_early events ends.SwapFault old new leaves outcome some = record { refused = tt; whole = λ whole. absurd whole; some = some }
+ended_early events ends.SwapFull old new leaves outcome some = record { refused = tt; whole = λ whole. absurd whole; some = some }
+
 -- a part that ends early, and so ends what it is a part of
 pub Leaves-first : (events : List Event) (outcome : Outcome) (end : End) (old new : World) →
     Leaves (events_alone events) (Err end) old new → Leaves (then_do events outcome) (Err end) old new
-Leaves-first events outcome ends.Refused old new leaves = absurd leaves.refused
-Leaves-first events outcome ends.ReadFault old new leaves =
-    record { refused = tt; whole = λ whole. absurd whole; some = some_of_first _ events outcome.events old new leaves.some }
-Leaves-first events outcome ends.WriteFault old new leaves =
-    record { refused = tt; whole = λ whole. absurd whole; some = some_of_first _ events outcome.events old new leaves.some }
-Leaves-first events outcome ends.OutputFault old new leaves =
-    record { refused = tt; whole = λ whole. absurd whole; some = some_of_first _ events outcome.events old new leaves.some }
-Leaves-first events outcome ends.NoMemory old new leaves =
-    record { refused = tt; whole = λ whole. absurd whole; some = some_of_first _ events outcome.events old new leaves.some }
-Leaves-first events outcome ends.SwapFault old new leaves =
-    record { refused = tt; whole = λ whole. absurd whole; some = some_of_first _ events outcome.events old new leaves.some }
-Leaves-first events outcome ends.SwapFull old new leaves =
-    record { refused = tt; whole = λ whole. absurd whole; some = some_of_first _ events outcome.events old new leaves.some }
+Leaves-first events outcome end old new leaves =
+    ended_early events end old new leaves (then_do events outcome) (some_of_first _ events outcome.events old new leaves.some)
 
 -- the text of a refusal did not go out whole
 pub Leaves-exposed : (events : List Event) (refused : Option Refusal) (end : End) (old new : World) →
     Leaves (events_alone events) (Err end) old new → Leaves (record { events = events; refused = refused }) (Err end) old new
-Leaves-exposed events refused ends.Refused old new leaves = absurd leaves.refused
-Leaves-exposed events refused ends.ReadFault old new leaves = record { refused = tt; whole = λ whole. absurd whole; some = leaves.some }
-Leaves-exposed events refused ends.WriteFault old new leaves = record { refused = tt; whole = λ whole. absurd whole; some = leaves.some }
-Leaves-exposed events refused ends.OutputFault old new leaves = record { refused = tt; whole = λ whole. absurd whole; some = leaves.some }
-Leaves-exposed events refused ends.NoMemory old new leaves = record { refused = tt; whole = λ whole. absurd whole; some = leaves.some }
-Leaves-exposed events refused ends.SwapFault old new leaves = record { refused = tt; whole = λ whole. absurd whole; some = leaves.some }
-Leaves-exposed events refused ends.SwapFull old new leaves = record { refused = tt; whole = λ whole. absurd whole; some = leaves.some }
+Leaves-exposed events refused end old new leaves =
+    ended_early events end old new leaves (record { events = events; refused = refused }) leaves.some
 
 -- the text of a refusal went out
 pub Leaves-refused : (events : List Event) (refusal : Refusal) (old new : World) → new ≡ after_all events old →
@@ -87,31 +82,26 @@ HasCause-then result old mid new first cause = record {
   puts = omega arith;
 }
 
--- a refusal is no I/O error
-pub refused_cause : (old new : Counts) → NoneFell old new → HasCause (Err ends.Refused) old new
-refused_cause old new first = record {
-  read = λ e. absurd (cc);
-  write = λ e. absurd (cc);
-  put = λ e. absurd (cc);
-  swap = λ e. cc;
-  room = λ e. cc;
+-- no I/O error has ended a part after which every event has come
+whole_cause : (result : Result (Unit {0}) End) (old new : Counts) → IsWhole result → NoneFell old new → HasCause result old new
+whole_cause result old new whole first = record {
+  read = λ e. absurd (subst IsWhole e whole);
+  write = λ e. absurd (subst IsWhole e whole);
+  put = λ e. absurd (subst IsWhole e whole);
+  swap = λ e. subst IsWhole e whole;
+  room = λ e. subst IsWhole e whole;
   reads = first.reads;
   writes = first.writes;
   puts = first.puts;
 }
 
+-- a refusal is no I/O error
+pub refused_cause : (old new : Counts) → NoneFell old new → HasCause (Err ends.Refused) old new
+refused_cause old new first = whole_cause (Err ends.Refused) old new tt first
+
 -- nor is the end of a part that is done
 pub done_cause : (old new : Counts) → NoneFell old new → HasCause (Ok tt) old new
-done_cause old new first = record {
-  read = λ e. absurd (cc);
-  write = λ e. absurd (cc);
-  put = λ e. absurd (cc);
-  swap = λ e. cc;
-  room = λ e. cc;
-  reads = first.reads;
-  writes = first.writes;
-  puts = first.puts;
-}
+done_cause old new first = whole_cause (Ok tt) old new tt first
 
 -- the same text
 pub Leaves-same_text : (a b : List ℕ) (result : Result (Unit {0}) End) (old new : World) → a ≡ b →

@@ -27,3 +27,15 @@ pub record HasCause (result : Result (Unit {0}) End) (old new : Counts) : Type 0
   pub reads : old.reads ≤ new.reads
   pub writes : old.writes ≤ new.writes
   pub puts : old.puts ≤ new.puts
+
+-- the same of a part that uses a shelf alone, by its counts of reads and writes, whatever the sink's count
+abbrev pub HasShelfCause : {Shelf : Type 0} → (Shelf → ℕ) → (Shelf → ℕ) → Result (Unit {0}) End → Shelf → Shelf → Type 0
+HasShelfCause reads writes result old new =
+    (puts : ℕ) → HasCause result (record { reads = reads old; writes = writes old; puts = puts })
+    (record { reads = reads new; writes = writes new; puts = puts })
+
+-- the same of a part that uses a sink alone, by its count, whatever the shelf's counts
+abbrev pub HasSinkCause : {Sink : Type 0} → (Sink → ℕ) → Result (Unit {0}) End → Sink → Sink → Type 0
+HasSinkCause faults result old new =
+    (reads writes : ℕ) → HasCause result (record { reads = reads; writes = writes; puts = faults old })
+    (record { reads = reads; writes = writes; puts = faults new })

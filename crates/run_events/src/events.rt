@@ -5,7 +5,7 @@ ghost use Rattle.std.specs.Option.{option_map};
 ghost use Rattle.outside_io.specs.Files.{Files, filed};
 ghost use Rattle.model_runs.specs.Ending.{Leaves, MayTear};
 ghost use Rattle.run_texts.specs.Events.{Puts, Writes, events_alone, refusal};
-ghost use Rattle.run_events.specs.Causes.{HasCause};
+ghost use Rattle.run_events.specs.Causes.{HasShelfCause, HasSinkCause};
 
 use model_runs::End;
 use outside_io::{Shelf, ShelfAnswer, Sink, SinkAnswer};
@@ -18,9 +18,7 @@ pub fn write_file<F: Shelf>(bytes: &[u8], file: &FileName, shelf: &mut F) -> Res
     ensures leaves { (text : Option (List ℕ)) → Leaves (events_alone (Writes file.now bytes.now ∷ [])) result
         (record { files = F.files shelf.old; text = text }) (record { files = F.files shelf.new; text = text }) }
     ensures torn { IfErr result (λ end. MayTear (Err end)) }
-    ensures cause { (puts : ℕ) → HasCause result
-        (record { reads = F.read_faults shelf.old; writes = F.write_faults shelf.old; puts = puts })
-        (record { reads = F.read_faults shelf.new; writes = F.write_faults shelf.new; puts = puts }) }
+    ensures cause { HasShelfCause F.read_faults F.write_faults result shelf.old shelf.new }
 {
     match shelf.write(file.as_str(), bytes) {
         Ok(()) => Ok(()),
@@ -38,9 +36,7 @@ pub fn append_file<F: Shelf>(bytes: &[u8], file: &FileName, shelf: &mut F) -> Re
         Leaves (events_alone (Writes file.now (before ++ bytes.now) ∷ [])) result
         (record { files = begun; text = text }) (record { files = F.files shelf.new; text = text }) }
     ensures torn { IfErr result (λ end. MayTear (Err end)) }
-    ensures cause { (puts : ℕ) → HasCause result
-        (record { reads = F.read_faults shelf.old; writes = F.write_faults shelf.old; puts = puts })
-        (record { reads = F.read_faults shelf.new; writes = F.write_faults shelf.new; puts = puts }) }
+    ensures cause { HasShelfCause F.read_faults F.write_faults result shelf.old shelf.new }
 {
     match shelf.append(file.as_str(), bytes) {
         Ok(()) => Ok(()),
@@ -54,8 +50,7 @@ pub fn append_file<F: Shelf>(bytes: &[u8], file: &FileName, shelf: &mut F) -> Re
 pub fn refuse<O: Sink>(alloc: Global, line: u32, cause: Cause, out: &mut O) -> Result<(), End>
     ensures leaves { (files : Option Files) → Leaves (refusal line cause) result
         (record { files = files; text = O.written out.old }) (record { files = files; text = O.written out.new }) }
-    ensures cause { (reads writes : ℕ) → HasCause result
-        (record { reads = reads; writes = writes; puts = O.faults out.old }) (record { reads = reads; writes = writes; puts = O.faults out.new }) }
+    ensures cause { HasSinkCause O.faults result out.old out.new }
 {
     let text = refusal_text(alloc, line, cause)?;
     put_text(&text, out)?;
@@ -66,8 +61,7 @@ pub fn refuse<O: Sink>(alloc: Global, line: u32, cause: Cause, out: &mut O) -> R
 pub fn put_text<O: Sink>(text: &str, out: &mut O) -> Result<(), End>
     ensures leaves { (files : Option Files) → Leaves (events_alone (Puts text.now ∷ [])) result
         (record { files = files; text = O.written out.old }) (record { files = files; text = O.written out.new }) }
-    ensures cause { (reads writes : ℕ) → HasCause result
-        (record { reads = reads; writes = writes; puts = O.faults out.old }) (record { reads = reads; writes = writes; puts = O.faults out.new }) }
+    ensures cause { HasSinkCause O.faults result out.old out.new }
 {
     match out.put(text.as_bytes()) {
         Ok(()) => Ok(()),

@@ -4,7 +4,7 @@ use Rattle.std.specs.Str.{bytes_eq}
 use Rattle.std.proofs.lemmas.Slice.Eq.{bytes_eq-Decides}
 use Rattle.pixel_formats.specs.Format.{word}
 use Rattle.pixel_formats.specs.declared.format.Format.{Format}
-use Rattle.pixel_formats.specs.declared.format.Format.TheVariants.{Y8, YA8, RGB8, RGBA8, Y16, YA16, RGB16, RGBA16}
+use Rattle.pixel_formats.specs.declared.format.Format.TheVariants.{Y8}
 use Rattle.script_fields.specs.Fields.{format_named, formats}
 
 unlike : (a b : List ℕ) → b ≢ a → bytes_eq a b ≡ false

@@ -1,11 +1,12 @@
 -- How fields are printed, and the invariants of their types.
-use Rattle.std.specs.Prelude.{ℕ, pos, IsTrue, true, false, List, [], ◌∷◌, ◌++◌, codes, decimal}
+use Rattle.std.specs.Prelude.{◌≡◌, ℕ, pos, IsTrue, true, false, List, [], ◌∷◌, ◌++◌, codes, decimal, OnOk, Result}
 use Rattle.std.specs.Fmt.{signed_decimal}
 use Rattle.plane_rect.specs.Rectangle.{IsRectangle, plane_coordinate}
 use Rattle.plane_rect.specs.Name.{is_name}
 use Rattle.outside_io.specs.FileName.{is_file_name}
 use Rattle.pixel_formats.specs.Format.{word}
 use Rattle.pixel_formats.specs.Policies.{policy_word}
+use Rattle.script_words.specs.Words.{spaced}
 use Rattle.script_fields.specs.declared.field.Field.{Field}
 use Rattle.script_fields.specs.declared.field.Field.TheVariants as fields
 
@@ -41,6 +42,11 @@ IsValid field = Unit {0}
 abbrev pub AreValid : List Field → Type 0
 AreValid [] = Unit {0}
 AreValid (field ∷ others) = IsValid field × AreValid others
+
+-- Fields are appended to a text, each word after a space, unless memory runs out. They are then what their types keep.
+pub record PutsFields (fields : List Field) {E : Type 0} (result : Result (Unit {0}) E) (old new : List ℕ) : Type 0 where
+  pub text : OnOk result (new ≡ old ++ spaced (words_of_fields fields))
+  pub valid : OnOk result (AreValid fields)
 
 -- names are names
 abbrev pub AreNames : List (List ℕ) → Type 0

@@ -4,7 +4,7 @@ ghost use Rattle.std.specs.Prelude.{◌≡◌, ◌∷◌, ◌++◌, decimal, map
 ghost use Rattle.std.specs.Fmt.{signed_decimal};
 ghost use Rattle.script_words.specs.Words.{spaced};
 ghost use Rattle.plane_rect.specs.Rectangle.{IsRectangle};
-ghost use Rattle.script_fields.specs.Spelling.{field_words, AreValid, AreNames, words_of_fields};
+ghost use Rattle.script_fields.specs.Spelling.{AreNames, PutsFields, field_words};
 
 use no_memory::NoMemory;
 use pixel_formats::{Abyss, Format};
@@ -66,8 +66,7 @@ fn put_rect(text: &mut Vec<u8>, rect: &Rect) -> Result<(), NoMemory>
 ///
 /// `NoMemory` if memory runs out. The text then has some of the words at its end.
 pub fn put_fields(text: &mut Vec<u8>, fields: &[Field]) -> Result<(), NoMemory>
-    ensures text { OnOk result (text.new.items ≡ text.old.items ++ spaced (words_of_fields fields.now)) }
-    ensures valid { OnOk result (AreValid fields.now) }
+    ensures { PutsFields fields.now result text.old.items text.new.items }
 {
     for field in fields {
         field.put(text)?;

@@ -3,9 +3,9 @@
 //! Each checks the number of words, reads its numbers, then its names and choices, and then its
 //! rectangle, so that the lowest cause is reported: `Words`, `Number`, `Name` or `Rect`.
 
-ghost use Rattle.std.specs.Prelude.{◌≡◌, IfOk};
-ghost use Rattle.script_fields.specs.Answers.{Answers};
+ghost use Rattle.std.specs.Prelude.{◌≡◌};
 ghost use Rattle.pixel_formats.specs.Limits.{max_level};
+ghost use Rattle.script_read.specs.Answers.{ReadsCommand};
 ghost use Rattle.script_read.specs.Commands.{alone, buffer, copy, drop_node, dup, fill, grab, load, render, sub, watch};
 ghost use Rattle.script_fields.specs.Fields.{texts};
 ghost use Rattle.script_read.specs.Limits.{IsInLimits};
@@ -20,8 +20,7 @@ use std::alloc::Global;
 
 /// Reads `buffer B FORMAT X Y W H`.
 pub(crate) fn buffer(words: &[&[u8]]) -> Result<Command, LineAnswer>
-    ensures value { Answers result (buffer (texts words.now)) }
-    ensures limits { IfOk result IsInLimits }
+    ensures { ReadsCommand result (buffer (texts words.now)) }
 {
     count(7, words)?;
     let numbers = rect_numbers_at(words, 3)?;
@@ -33,8 +32,7 @@ pub(crate) fn buffer(words: &[&[u8]]) -> Result<Command, LineAnswer>
 
 /// Reads `sub B PARENT X Y W H`.
 pub(crate) fn sub(words: &[&[u8]]) -> Result<Command, LineAnswer>
-    ensures value { Answers result (sub (texts words.now)) }
-    ensures limits { IfOk result IsInLimits }
+    ensures { ReadsCommand result (sub (texts words.now)) }
 {
     count(7, words)?;
     let numbers = rect_numbers_at(words, 3)?;
@@ -46,8 +44,7 @@ pub(crate) fn sub(words: &[&[u8]]) -> Result<Command, LineAnswer>
 
 /// Reads `dup B FROM`.
 pub(crate) fn dup(words: &[&[u8]]) -> Result<Command, LineAnswer>
-    ensures value { Answers result (dup (texts words.now)) }
-    ensures limits { IfOk result IsInLimits }
+    ensures { ReadsCommand result (dup (texts words.now)) }
 {
     count(3, words)?;
     let name = name_at(words, 1)?;
@@ -57,8 +54,7 @@ pub(crate) fn dup(words: &[&[u8]]) -> Result<Command, LineAnswer>
 
 /// Reads `load B X Y W H FILE`.
 pub(crate) fn load(words: &[&[u8]]) -> Result<Command, LineAnswer>
-    ensures value { Answers result (load (texts words.now)) }
-    ensures limits { IfOk result IsInLimits }
+    ensures { ReadsCommand result (load (texts words.now)) }
 {
     count(7, words)?;
     let numbers = rect_numbers_at(words, 2)?;
@@ -70,8 +66,7 @@ pub(crate) fn load(words: &[&[u8]]) -> Result<Command, LineAnswer>
 
 /// Reads `fill B X Y W H S..`, of 1 to 4 samples.
 pub(crate) fn fill(alloc: Global, words: &[&[u8]]) -> Result<Command, LineAnswer>
-    ensures value { Answers result (fill (texts words.now)) }
-    ensures limits { IfOk result IsInLimits }
+    ensures { ReadsCommand result (fill (texts words.now)) }
 {
     count_in(7, 10, words)?;
     let numbers = rect_numbers_at(words, 2)?;
@@ -87,8 +82,7 @@ pub(crate) fn fill(alloc: Global, words: &[&[u8]]) -> Result<Command, LineAnswer
 
 /// Reads `copy FROM TO X Y W H DX DY`.
 pub(crate) fn copy(words: &[&[u8]]) -> Result<Command, LineAnswer>
-    ensures value { Answers result (copy (texts words.now)) }
-    ensures limits { IfOk result IsInLimits }
+    ensures { ReadsCommand result (copy (texts words.now)) }
 {
     count(9, words)?;
     let numbers = rect_numbers_at(words, 3)?;
@@ -108,8 +102,7 @@ pub(crate) fn copy(words: &[&[u8]]) -> Result<Command, LineAnswer>
 
 /// Reads `drop N`.
 pub(crate) fn drop_node(words: &[&[u8]]) -> Result<Command, LineAnswer>
-    ensures value { Answers result (drop_node (texts words.now)) }
-    ensures limits { IfOk result IsInLimits }
+    ensures { ReadsCommand result (drop_node (texts words.now)) }
 {
     count(2, words)?;
     let name = name_at(words, 1)?;
@@ -119,8 +112,7 @@ pub(crate) fn drop_node(words: &[&[u8]]) -> Result<Command, LineAnswer>
 /// Reads `commit`, `undo`, `redo` or `endwatch`, which are one word.
 pub(crate) fn alone(command: Command, words: &[&[u8]]) -> Result<Command, LineAnswer>
     requires { IsInLimits command }
-    ensures value { Answers result (alone command (texts words.now)) }
-    ensures limits { IfOk result IsInLimits }
+    ensures { ReadsCommand result (alone command (texts words.now)) }
 {
     count(1, words)?;
     Ok(command)
@@ -128,8 +120,7 @@ pub(crate) fn alone(command: Command, words: &[&[u8]]) -> Result<Command, LineAn
 
 /// Reads `render N LEVEL X Y W H FILE`.
 pub(crate) fn render(words: &[&[u8]]) -> Result<Command, LineAnswer>
-    ensures value { Answers result (render (texts words.now)) }
-    ensures limits { IfOk result IsInLimits }
+    ensures { ReadsCommand result (render (texts words.now)) }
 {
     count(8, words)?;
     let level = natural_at(0, MAX_LEVEL, words, 2)?;
@@ -147,8 +138,7 @@ pub(crate) fn render(words: &[&[u8]]) -> Result<Command, LineAnswer>
 
 /// Reads `grab B LEVEL ABYSS X Y W H FILE`.
 pub(crate) fn grab(words: &[&[u8]]) -> Result<Command, LineAnswer>
-    ensures value { Answers result (grab (texts words.now)) }
-    ensures limits { IfOk result IsInLimits }
+    ensures { ReadsCommand result (grab (texts words.now)) }
 {
     count(9, words)?;
     let level = natural_at(0, MAX_LEVEL, words, 2)?;
@@ -168,8 +158,7 @@ pub(crate) fn grab(words: &[&[u8]]) -> Result<Command, LineAnswer>
 
 /// Reads `watch N X Y W H VIEWERS FRAMES PREFIX`.
 pub(crate) fn watch(words: &[&[u8]]) -> Result<Command, LineAnswer>
-    ensures value { Answers result (watch (texts words.now)) }
-    ensures limits { IfOk result IsInLimits }
+    ensures { ReadsCommand result (watch (texts words.now)) }
 {
     count(9, words)?;
     let numbers = rect_numbers_at(words, 2)?;

@@ -1,7 +1,6 @@
 //! The first words of commands.
 
 ghost use Rattle.std.specs.Prelude.{◌≡◌};
-ghost use Rattle.std.specs.Str.{bytes_eq};
 ghost use Rattle.script_read.specs.Keywords.{keyword_of, keyword_word};
 
 /// The first word of a command.
@@ -49,14 +48,10 @@ impl Keyword {
     pub fn parse(word: &[u8]) -> Option<Keyword>
         ensures { result ≡ keyword_of word.now }
     {
-        KEYWORDS.iter().copied().find(|keyword| keyword.is(word))
-    }
-
-    /// Returns whether it is this word.
-    fn is(self, word: &[u8]) -> bool
-        ensures { result ≡ bytes_eq (keyword_word self) word.now }
-    {
-        self.word().as_bytes() == word
+        KEYWORDS
+            .iter()
+            .copied()
+            .find(|keyword| keyword.word().as_bytes() == word)
     }
 
     /// Returns the word.

@@ -3,10 +3,10 @@
 //! Each operation checks the number of words, reads its numbers, then all names and choices, and
 //! then its rectangle, so that the lowest cause is reported: `Words`, `Number`, `Name` or `Rect`.
 
-ghost use Rattle.std.specs.Prelude.{◌≡◌, ◌+◌, ◌≤◌, ◌<◌, IfOk, length};
-ghost use Rattle.script_fields.specs.Answers.{Answers};
+ghost use Rattle.std.specs.Prelude.{◌≡◌, ◌+◌, ◌≤◌, ◌<◌, length};
 ghost use Rattle.script_fields.specs.Fields.{texts};
 ghost use Rattle.model_operations.specs.Inputs.{input_count as inputs_of};
+ghost use Rattle.script_read.specs.Answers.{ReadsCommand};
 ghost use Rattle.script_read.specs.Limits.{AreInRange, IsInLimits};
 ghost use Rattle.script_read.specs.Nodes.{area_node, area_operation, bare, checker, color, convert, crop, flip, gain, node, node_by, source, threshold, translate};
 
@@ -111,8 +111,7 @@ impl Area {
 /// Reads `node N OP ARGUMENTS INPUTS`.
 #[tactic(auto, unfolding(crate::specs::Nodes::node))]
 pub(crate) fn node(alloc: Global, words: &[&[u8]]) -> Result<Command, LineAnswer>
-    ensures value { Answers result (node (texts words.now)) }
-    ensures limits { IfOk result IsInLimits }
+    ensures { ReadsCommand result (node (texts words.now)) }
 {
     if words.len() < 3 {
         return Err(LineAnswer::Refused(ScriptCause::Words));
@@ -124,8 +123,7 @@ pub(crate) fn node(alloc: Global, words: &[&[u8]]) -> Result<Command, LineAnswer
 /// Reads the node of an operation.
 #[tactic(auto, unfolding(crate::specs::Nodes::node_by))]
 fn node_by(alloc: Global, operation: OperationWord, words: &[&[u8]]) -> Result<Command, LineAnswer>
-    ensures value { Answers result (node_by operation (texts words.now)) }
-    ensures limits { IfOk result IsInLimits }
+    ensures { ReadsCommand result (node_by operation (texts words.now)) }
 {
     match operation {
         OperationWord::Source => source(alloc, words),
@@ -152,8 +150,7 @@ fn node_by(alloc: Global, operation: OperationWord, words: &[&[u8]]) -> Result<C
 fn bare(alloc: Global, op: IntOp, number: usize, words: &[&[u8]]) -> Result<Command, LineAnswer>
     requires range { AreInRange op }
     requires number { number ≡ 3 + inputs_of op }
-    ensures value { Answers result (bare op number (texts words.now)) }
-    ensures limits { IfOk result IsInLimits }
+    ensures { ReadsCommand result (bare op number (texts words.now)) }
 {
     count(number, words)?;
     let ends = Ends::parse(alloc, 3, words)?;
@@ -162,8 +159,7 @@ fn bare(alloc: Global, op: IntOp, number: usize, words: &[&[u8]]) -> Result<Comm
 
 /// Reads `node N source BUFFER`.
 fn source(alloc: Global, words: &[&[u8]]) -> Result<Command, LineAnswer>
-    ensures value { Answers result (source (texts words.now)) }
-    ensures limits { IfOk result IsInLimits }
+    ensures { ReadsCommand result (source (texts words.now)) }
 {
     count(4, words)?;
     let ends = Ends::parse(alloc, 4, words)?;
@@ -173,8 +169,7 @@ fn source(alloc: Global, words: &[&[u8]]) -> Result<Command, LineAnswer>
 
 /// Reads `node N color FORMAT X Y W H S..`, of 1 to 4 samples.
 fn color(alloc: Global, words: &[&[u8]]) -> Result<Command, LineAnswer>
-    ensures value { Answers result (color (texts words.now)) }
-    ensures limits { IfOk result IsInLimits }
+    ensures { ReadsCommand result (color (texts words.now)) }
 {
     count_in(9, 12, words)?;
     let numbers = rect_numbers_at(words, 4)?;
@@ -191,8 +186,7 @@ fn color(alloc: Global, words: &[&[u8]]) -> Result<Command, LineAnswer>
 
 /// Reads `node N checker FORMAT X Y W H SIZE V1 V2`.
 fn checker(alloc: Global, words: &[&[u8]]) -> Result<Command, LineAnswer>
-    ensures value { Answers result (checker (texts words.now)) }
-    ensures limits { IfOk result IsInLimits }
+    ensures { ReadsCommand result (checker (texts words.now)) }
 {
     count(11, words)?;
     let numbers = rect_numbers_at(words, 4)?;
@@ -213,8 +207,7 @@ fn checker(alloc: Global, words: &[&[u8]]) -> Result<Command, LineAnswer>
 
 /// Reads `node N convert FORMAT IN`.
 fn convert(alloc: Global, words: &[&[u8]]) -> Result<Command, LineAnswer>
-    ensures value { Answers result (convert (texts words.now)) }
-    ensures limits { IfOk result IsInLimits }
+    ensures { ReadsCommand result (convert (texts words.now)) }
 {
     count(5, words)?;
     let ends = Ends::parse(alloc, 4, words)?;
@@ -224,8 +217,7 @@ fn convert(alloc: Global, words: &[&[u8]]) -> Result<Command, LineAnswer>
 
 /// Reads `node N threshold T IN`.
 fn threshold(alloc: Global, words: &[&[u8]]) -> Result<Command, LineAnswer>
-    ensures value { Answers result (threshold (texts words.now)) }
-    ensures limits { IfOk result IsInLimits }
+    ensures { ReadsCommand result (threshold (texts words.now)) }
 {
     count(5, words)?;
     let at = sample_at(words, 3)?;
@@ -235,8 +227,7 @@ fn threshold(alloc: Global, words: &[&[u8]]) -> Result<Command, LineAnswer>
 
 /// Reads `node N gain NUM DEN IN`.
 fn gain(alloc: Global, words: &[&[u8]]) -> Result<Command, LineAnswer>
-    ensures value { Answers result (gain (texts words.now)) }
-    ensures limits { IfOk result IsInLimits }
+    ensures { ReadsCommand result (gain (texts words.now)) }
 {
     count(6, words)?;
     let num = sample_at(words, 3)?;
@@ -247,8 +238,7 @@ fn gain(alloc: Global, words: &[&[u8]]) -> Result<Command, LineAnswer>
 
 /// Reads `node N translate DX DY IN`.
 fn translate(alloc: Global, words: &[&[u8]]) -> Result<Command, LineAnswer>
-    ensures value { Answers result (translate (texts words.now)) }
-    ensures limits { IfOk result IsInLimits }
+    ensures { ReadsCommand result (translate (texts words.now)) }
 {
     count(6, words)?;
     let dx = move_at(words, 3)?;
@@ -259,8 +249,7 @@ fn translate(alloc: Global, words: &[&[u8]]) -> Result<Command, LineAnswer>
 
 /// Reads `node N crop X Y W H IN`.
 fn crop(alloc: Global, words: &[&[u8]]) -> Result<Command, LineAnswer>
-    ensures value { Answers result (crop (texts words.now)) }
-    ensures limits { IfOk result IsInLimits }
+    ensures { ReadsCommand result (crop (texts words.now)) }
 {
     count(8, words)?;
     let numbers = rect_numbers_at(words, 3)?;
@@ -271,8 +260,7 @@ fn crop(alloc: Global, words: &[&[u8]]) -> Result<Command, LineAnswer>
 
 /// Reads `node N flip h IN` and `node N flip v IN`.
 fn flip(alloc: Global, words: &[&[u8]]) -> Result<Command, LineAnswer>
-    ensures value { Answers result (flip (texts words.now)) }
-    ensures limits { IfOk result IsInLimits }
+    ensures { ReadsCommand result (flip (texts words.now)) }
 {
     count(5, words)?;
     let ends = Ends::parse(alloc, 4, words)?;
@@ -282,8 +270,7 @@ fn flip(alloc: Global, words: &[&[u8]]) -> Result<Command, LineAnswer>
 
 /// Reads `node N OP R ABYSS IN` of an area operation, by its word.
 fn area_node(alloc: Global, word: OperationWord, words: &[&[u8]]) -> Result<Command, LineAnswer>
-    ensures value { Answers result (area_node word (texts words.now)) }
-    ensures limits { IfOk result IsInLimits }
+    ensures { ReadsCommand result (area_node word (texts words.now)) }
 {
     let Area {
         ends,

@@ -1,7 +1,6 @@
 //! The words of operations, the third of a node.
 
 ghost use Rattle.std.specs.Prelude.{◌≡◌};
-ghost use Rattle.std.specs.Str.{bytes_eq};
 ghost use Rattle.script_read.specs.OperationWords.{operation_of, operation_word};
 ghost use Rattle.script_read.specs.Spelling.{word_of_operation};
 
@@ -57,7 +56,7 @@ impl OperationWord {
         OPERATION_WORDS
             .iter()
             .copied()
-            .find(|operation| operation.is(word))
+            .find(|operation| operation.word().as_bytes() == word)
     }
 
     /// Returns the word of an operation.
@@ -81,13 +80,6 @@ impl OperationWord {
             IntOp::Over => OperationWord::Over,
             IntOp::Mask => OperationWord::Mask,
         }
-    }
-
-    /// Returns whether it is this word.
-    fn is(self, word: &[u8]) -> bool
-        ensures { result ≡ bytes_eq (operation_word self) word.now }
-    {
-        self.word().as_bytes() == word
     }
 
     /// Returns the word.

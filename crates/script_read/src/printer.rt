@@ -2,7 +2,7 @@
 
 ghost use Rattle.std.specs.Prelude.{◌≡◌, ◌++◌, IfOk, OnOk, Ok, map, decimal, replicate};
 ghost use Rattle.script_words.specs.Words.{joined, spaced};
-ghost use Rattle.script_fields.specs.Spelling.{AreValid, words_of_fields};
+ghost use Rattle.script_fields.specs.Spelling.{AreValid, PutsFields};
 ghost use Rattle.script_read.specs.IsScript.{IsScript};
 ghost use Rattle.script_read.specs.Script.{script_of};
 ghost use Rattle.script_read.specs.Spelling.{HasValidFields, arguments, fields_of, list_words, operation_arguments, operation_words, output_fields, printed, samples_in, command_words};
@@ -61,8 +61,7 @@ fn put_command(text: &mut Vec<u8>, command: &Command) -> Result<(), NoMemory>
 
 /// Appends the fields of a command to a text, up to those that are lists, each word after a space.
 fn put_fields_of(text: &mut Vec<u8>, command: &Command) -> Result<(), NoMemory>
-    ensures text { OnOk result (text.new.items ≡ text.old.items ++ spaced (words_of_fields (fields_of command.now))) }
-    ensures valid { OnOk result (AreValid (fields_of command.now)) }
+    ensures { PutsFields (fields_of command.now) result text.old.items text.new.items }
 {
     match command {
         Command::Buffer { name, format, rect } => {
@@ -94,8 +93,7 @@ fn put_fields_of(text: &mut Vec<u8>, command: &Command) -> Result<(), NoMemory>
 /// Appends the fields of a command that writes files to a text, each word after a space. Others
 /// append nothing.
 fn put_output_fields(text: &mut Vec<u8>, command: &Command) -> Result<(), NoMemory>
-    ensures text { OnOk result (text.new.items ≡ text.old.items ++ spaced (words_of_fields (output_fields command.now))) }
-    ensures valid { OnOk result (AreValid (output_fields command.now)) }
+    ensures { PutsFields (output_fields command.now) result text.old.items text.new.items }
 {
     match command {
         Command::Render {
@@ -160,8 +158,7 @@ fn put_operation(text: &mut Vec<u8>, op: &OpWords) -> Result<(), NoMemory>
 
 /// Appends the buffer of a source, or the arguments of an operation but samples, to a text, each word after a space.
 fn put_arguments(text: &mut Vec<u8>, op: &OpWords) -> Result<(), NoMemory>
-    ensures text { OnOk result (text.new.items ≡ text.old.items ++ spaced (words_of_fields (arguments op.now))) }
-    ensures valid { OnOk result (AreValid (arguments op.now)) }
+    ensures { PutsFields (arguments op.now) result text.old.items text.new.items }
 {
     match op {
         OpWords::Source { buffer } => put_fields(text, &[Name(*buffer)]),
@@ -171,8 +168,7 @@ fn put_arguments(text: &mut Vec<u8>, op: &OpWords) -> Result<(), NoMemory>
 
 /// Appends the arguments of an operation to a text, but samples, each word after a space.
 fn put_operation_arguments(text: &mut Vec<u8>, op: &IntOp) -> Result<(), NoMemory>
-    ensures text { OnOk result (text.new.items ≡ text.old.items ++ spaced (words_of_fields (operation_arguments op.now))) }
-    ensures valid { OnOk result (AreValid (operation_arguments op.now)) }
+    ensures { PutsFields (operation_arguments op.now) result text.old.items text.new.items }
 {
     match op {
         IntOp::Color { format, rect, .. } => put_fields(text, &[Format(*format), Rect(*rect)]),

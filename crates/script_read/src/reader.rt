@@ -3,7 +3,7 @@
 ghost use Rattle.std.specs.Prelude.{◌≡◌, ◌+◌, ◌≤◌, ◌<◌, IfOk, IfSome, IsTrue, length};
 ghost use Rattle.script_words.specs.Lines.{is_text};
 ghost use Rattle.script_fields.specs.Answers.{Answers};
-ghost use Rattle.script_read.specs.Answers.{Reads};
+ghost use Rattle.script_read.specs.Answers.{Reads, ReadsCommand};
 ghost use Rattle.script_fields.specs.Fields.{texts};
 ghost use Rattle.script_read.specs.IsScript.{IsScript};
 ghost use Rattle.script_read.specs.Limits.{IsInLimits};
@@ -169,8 +169,7 @@ fn begins_comment(word: &[u8]) -> bool
 #[tactic(auto, unfolding(crate::specs::Script::command_of))]
 fn command_of(alloc: Global, words: &[&[u8]]) -> Result<Command, LineAnswer>
     requires { 0 < length words.now }
-    ensures value { Answers result (command_of (texts words.now)) }
-    ensures limits { IfOk result IsInLimits }
+    ensures { ReadsCommand result (command_of (texts words.now)) }
 {
     let keyword = Keyword::parse(word_at(words, 0)).ok_or(ScriptCause::UnknownCommand)?;
     command_by(alloc, keyword, words)
@@ -179,8 +178,7 @@ fn command_of(alloc: Global, words: &[&[u8]]) -> Result<Command, LineAnswer>
 /// Reads the command of words, by the first of them.
 #[tactic(auto, unfolding(crate::specs::Script::command_by))]
 fn command_by(alloc: Global, keyword: Keyword, words: &[&[u8]]) -> Result<Command, LineAnswer>
-    ensures value { Answers result (command_by keyword (texts words.now)) }
-    ensures limits { IfOk result IsInLimits }
+    ensures { ReadsCommand result (command_by keyword (texts words.now)) }
 {
     match keyword {
         Keyword::Buffer => commands::buffer(words),
