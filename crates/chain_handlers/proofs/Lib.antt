@@ -5,5 +5,6 @@ mod Overlays
 mod Shown
 mod EntryCounts
 mod Moves
+mod CacheCallLaws
 mod Owning
 mod Fresh

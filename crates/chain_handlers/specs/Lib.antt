@@ -2,3 +2,4 @@ pub mod DiskTiles
 pub mod Overlay
 pub mod Zeros
 pub mod OwnedTiles
+pub mod CacheCalls

@@ -9,7 +9,8 @@ ghost use Rattle.tile_cow.specs.Tile.{IsTileLength};
 ghost use Rattle.chain_owners.specs.Counts.{Continues};
 ghost use Rattle.chain_owners.specs.Held.{length_of, with_tile, without_tile};
 ghost use Rattle.swap_store.specs.Cause.{HasSwapCause};
-ghost use Rattle.chain_contracts.specs.Tiles.{OnFull, Reads, ReportsPut, ReportsRoom, emptied};
+ghost use Rattle.chain_contracts.specs.Tiles.{OnFull, Reads, ReportsPut, emptied};
+ghost use Rattle.chain_handlers.specs.CacheCalls.{CannotMove, MovesTiles};
 ghost use Rattle.chain_handlers.specs.Overlay.{IsCache, IsCrowded, cache_counts, cache_has_counts, cache_is_chain, overlay, overlay_has_same_names};
 
 use crate::below::{forget_where_there, give_up_places, put_where_missing};
@@ -86,20 +87,12 @@ impl<H: TileHandler + Drop> CacheHandler<H> {
     /// Puts the tile that was used the longest time ago below, unless it is there, and then takes it out of
     /// memory.
     fn move_last_once(&mut self) -> Result<(), SwapRefused>
-        ensures held { overlay self.new.tiles.entries (H.held self.new.below)
-            ≡ overlay self.old.tiles.entries (H.held self.old.below) }
+        ensures moves { MovesTiles H.ChainMeaning self.old.tiles self.new.tiles self.old.below self.new.below }
+        ensures refused { IfErr result (CannotMove H.ChainMeaning self.old.tiles self.old.below self.new.below) }
         ensures moved { OnOk result (length self.new.tiles.entries ≡ length self.old.tiles.entries - 1) }
         ensures unmoved { OnErr result (self.new.tiles ≡ self.old.tiles) }
-        ensures capacity { self.new.tiles.cap ≡ self.old.tiles.cap }
         ensures fewer { (k : ℕ) → lookup (nat_eq k) self.old.tiles.entries ≡ None
             → lookup (nat_eq k) self.new.tiles.entries ≡ None }
-        ensures cause { IfErr result (HasSwapCause (emptied (H.counts self.old.below)) (H.counts self.new.below)
-            (map.len (overlay self.old.tiles.entries (H.held self.old.below)).lengths)) }
-        ensures full { H.is_valid self.old.below → IfErr result
-            (ReportsRoom (overlay self.old.tiles.entries (H.held self.old.below)) (H.store self.new.below)) }
-        ensures continues { Continues (H.counts self.old.below) (H.counts self.new.below) }
-        ensures loans { H.loans self.new.below ≡ H.loans self.old.below }
-        ensures valid { H.is_valid self.old.below → H.is_valid self.new.below }
     {
         let Some((name, tile)) = self.tiles.peek_lru() else {
             return Ok(());
@@ -112,12 +105,8 @@ impl<H: TileHandler + Drop> CacheHandler<H> {
 
     /// Gives up the places below of all tiles in memory. It looks at each of them.
     fn give_up_places(&mut self)
-        ensures held { overlay self.new.tiles.entries (H.held self.new.below)
-            ≡ overlay self.old.tiles.entries (H.held self.old.below) }
+        ensures moves { MovesTiles H.ChainMeaning self.old.tiles self.new.tiles self.old.below self.new.below }
         ensures tiles { self.new.tiles ≡ self.old.tiles }
-        ensures continues { Continues (H.counts self.old.below) (H.counts self.new.below) }
-        ensures loans { H.loans self.new.below ≡ H.loans self.old.below }
-        ensures valid { H.is_valid self.old.below → H.is_valid self.new.below }
     {
         give_up_places(&mut self.below, &self.tiles);
     }
@@ -125,20 +114,12 @@ impl<H: TileHandler + Drop> CacheHandler<H> {
     /// Puts the tile that was used the longest time ago below, unless it is there, and then takes it out of
     /// memory. Where it finds no room, all tiles in memory give up their places below first.
     fn move_last(&mut self) -> Result<(), SwapRefused>
-        ensures held { overlay self.new.tiles.entries (H.held self.new.below)
-            ≡ overlay self.old.tiles.entries (H.held self.old.below) }
+        ensures moves { MovesTiles H.ChainMeaning self.old.tiles self.new.tiles self.old.below self.new.below }
+        ensures refused { IfErr result (CannotMove H.ChainMeaning self.old.tiles self.old.below self.new.below) }
         ensures moved { OnOk result (length self.new.tiles.entries ≡ length self.old.tiles.entries - 1) }
         ensures unmoved { OnErr result (self.new.tiles ≡ self.old.tiles) }
-        ensures capacity { self.new.tiles.cap ≡ self.old.tiles.cap }
         ensures fewer { (k : ℕ) → lookup (nat_eq k) self.old.tiles.entries ≡ None
             → lookup (nat_eq k) self.new.tiles.entries ≡ None }
-        ensures cause { IfErr result (HasSwapCause (emptied (H.counts self.old.below)) (H.counts self.new.below)
-            (map.len (overlay self.old.tiles.entries (H.held self.old.below)).lengths)) }
-        ensures full { H.is_valid self.old.below → IfErr result
-            (ReportsRoom (overlay self.old.tiles.entries (H.held self.old.below)) (H.store self.new.below)) }
-        ensures continues { Continues (H.counts self.old.below) (H.counts self.new.below) }
-        ensures loans { H.loans self.new.below ≡ H.loans self.old.below }
-        ensures valid { H.is_valid self.old.below → H.is_valid self.new.below }
     {
         match self.move_last_once() {
             Err(SwapRefused::SwapFull { .. }) => {
@@ -151,22 +132,14 @@ impl<H: TileHandler + Drop> CacheHandler<H> {
 
     /// Makes room for one tile more in memory.
     fn make_room(&mut self) -> Result<(), SwapRefused>
-        ensures held { overlay self.new.tiles.entries (H.held self.new.below)
-            ≡ overlay self.old.tiles.entries (H.held self.old.below) }
+        ensures moves { MovesTiles H.ChainMeaning self.old.tiles self.new.tiles self.old.below self.new.below }
+        ensures refused { IfErr result (CannotMove H.ChainMeaning self.old.tiles self.old.below self.new.below) }
         ensures room { OnOk result (length self.new.tiles.entries < self.new.tiles.cap) }
         ensures unmoved { OnErr result (self.new.tiles ≡ self.old.tiles) }
         ensures crowded { OnErr result (length self.old.tiles.entries ≡ self.old.tiles.cap) }
         ensures apart { IsDistinct nat_eq (keys_of self.old.tiles.entries) }
-        ensures capacity { self.new.tiles.cap ≡ self.old.tiles.cap }
         ensures fewer { (k : ℕ) → lookup (nat_eq k) self.old.tiles.entries ≡ None
             → lookup (nat_eq k) self.new.tiles.entries ≡ None }
-        ensures cause { IfErr result (HasSwapCause (emptied (H.counts self.old.below)) (H.counts self.new.below)
-            (map.len (overlay self.old.tiles.entries (H.held self.old.below)).lengths)) }
-        ensures full { H.is_valid self.old.below → IfErr result
-            (ReportsRoom (overlay self.old.tiles.entries (H.held self.old.below)) (H.store self.new.below)) }
-        ensures continues { Continues (H.counts self.old.below) (H.counts self.new.below) }
-        ensures loans { H.loans self.new.below ≡ H.loans self.old.below }
-        ensures valid { H.is_valid self.old.below → H.is_valid self.new.below }
     {
         if self.tiles.len() < self.tiles.cap().get() {
             return Ok(());
@@ -228,23 +201,15 @@ impl<H: TileHandler + Drop> CacheHandler<H> {
 
     /// Makes room in memory for a name, where it isn't there yet.
     fn make_room_for(&mut self, name: u64) -> Result<(), SwapRefused>
-        ensures held { overlay self.new.tiles.entries (H.held self.new.below)
-            ≡ overlay self.old.tiles.entries (H.held self.old.below) }
+        ensures moves { MovesTiles H.ChainMeaning self.old.tiles self.new.tiles self.old.below self.new.below }
+        ensures refused { IfErr result (CannotMove H.ChainMeaning self.old.tiles self.old.below self.new.below) }
         ensures room { OnOk result (lookup (nat_eq name) self.new.tiles.entries ≡ None
             → length self.new.tiles.entries < self.new.tiles.cap) }
         ensures crowded { OnErr result (length self.new.tiles.entries ≡ self.new.tiles.cap) }
         ensures absent { OnErr result (lookup (nat_eq name) self.new.tiles.entries ≡ None) }
         ensures apart { OnErr result (IsDistinct nat_eq (keys_of self.new.tiles.entries)) }
-        ensures capacity { self.new.tiles.cap ≡ self.old.tiles.cap }
         ensures fewer { lookup (nat_eq name) self.old.tiles.entries ≡ None
             → lookup (nat_eq name) self.new.tiles.entries ≡ None }
-        ensures cause { IfErr result (HasSwapCause (emptied (H.counts self.old.below)) (H.counts self.new.below)
-            (map.len (overlay self.old.tiles.entries (H.held self.old.below)).lengths)) }
-        ensures full { H.is_valid self.old.below → IfErr result
-            (ReportsRoom (overlay self.old.tiles.entries (H.held self.old.below)) (H.store self.new.below)) }
-        ensures continues { Continues (H.counts self.old.below) (H.counts self.new.below) }
-        ensures loans { H.loans self.new.below ≡ H.loans self.old.below }
-        ensures valid { H.is_valid self.old.below → H.is_valid self.new.below }
     {
         if self.tiles.contains(&name) {
             return Ok(());
@@ -295,19 +260,11 @@ impl<H: TileHandler + Drop> CacheHandler<H> {
         requires known { length_of (overlay self.old.tiles.entries (H.held self.old.below)) name ≡ Some len }
         requires absent { lookup (nat_eq name) self.old.tiles.entries ≡ None }
         ensures read { IfOk result (Reads (overlay self.old.tiles.entries (H.held self.old.below)) name len) }
-        ensures held { overlay self.new.tiles.entries (H.held self.new.below)
-            ≡ overlay self.old.tiles.entries (H.held self.old.below) }
-        ensures capacity { self.new.tiles.cap ≡ self.old.tiles.cap }
-        ensures cause { IfErr result (HasSwapCause (emptied (H.counts self.old.below)) (H.counts self.new.below)
-            (map.len (overlay self.old.tiles.entries (H.held self.old.below)).lengths)) }
-        ensures full { H.is_valid self.old.below → IfErr result
-            (ReportsRoom (overlay self.old.tiles.entries (H.held self.old.below)) (H.store self.new.below)) }
+        ensures moves { MovesTiles H.ChainMeaning self.old.tiles self.new.tiles self.old.below self.new.below }
+        ensures refused { IfErr result (CannotMove H.ChainMeaning self.old.tiles self.old.below self.new.below) }
         ensures resident { IfErr result (OnFull (IsCrowded (length self.new.tiles.entries) self.new.tiles.cap
             (map.len (overlay self.old.tiles.entries (H.held self.old.below)).lengths)
             ⊎ H.full_at_get self.new.below (H.counts self.new.below).names)) }
-        ensures continues { Continues (H.counts self.old.below) (H.counts self.new.below) }
-        ensures loans { H.loans self.new.below ≡ H.loans self.old.below }
-        ensures valid { H.is_valid self.old.below → H.is_valid self.new.below }
     {
         let tile = self.below.get(name, len)?;
         self.make_room()?;
@@ -317,17 +274,9 @@ impl<H: TileHandler + Drop> CacheHandler<H> {
 
     /// Puts all tiles below that are in memory, and takes them out of it.
     fn move_all(&mut self) -> Result<(), SwapRefused>
-        ensures held { overlay self.new.tiles.entries (H.held self.new.below)
-            ≡ overlay self.old.tiles.entries (H.held self.old.below) }
+        ensures moves { MovesTiles H.ChainMeaning self.old.tiles self.new.tiles self.old.below self.new.below }
+        ensures refused { IfErr result (CannotMove H.ChainMeaning self.old.tiles self.old.below self.new.below) }
         ensures empty { OnOk result (self.new.tiles.entries ≡ []) }
-        ensures capacity { self.new.tiles.cap ≡ self.old.tiles.cap }
-        ensures cause { IfErr result (HasSwapCause (emptied (H.counts self.old.below)) (H.counts self.new.below)
-            (map.len (overlay self.old.tiles.entries (H.held self.old.below)).lengths)) }
-        ensures full { H.is_valid self.old.below → IfErr result
-            (ReportsRoom (overlay self.old.tiles.entries (H.held self.old.below)) (H.store self.new.below)) }
-        ensures continues { Continues (H.counts self.old.below) (H.counts self.new.below) }
-        ensures loans { H.loans self.new.below ≡ H.loans self.old.below }
-        ensures valid { H.is_valid self.old.below → H.is_valid self.new.below }
     {
         while !self.tiles.is_empty() {
             self.move_last()?;

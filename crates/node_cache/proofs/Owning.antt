@@ -23,7 +23,7 @@ use Rattle.node_cache.specs.declared.pair_key.PairKey.{PairKey}
 use Rattle.node_cache.specs.Keys.{same_key}
 use Rattle.node_cache.specs.NodeNames.{AreTileNames, Entries, GivesUp, IsNodeCache, IsTileName}
 use Rattle.node_cache.specs.NodeLaws.{node_framed_condition, tile_name-unchanged}
-use Rattle.node_cache.specs.Stores.{AddsNoOther, HaveOneOwner}
+use Rattle.node_cache.specs.Stores.{AddsOnlyOwn, HaveOneOwner, KeepsOneOwner}
 use Rattle.node_cache.proofs.Lists.{entry-lookup, no-entry}
 
 -- ---- how often entries hold a name
@@ -293,8 +293,8 @@ pub record IsNamedBeside (held new : Held) (name : ℕ) (tile : List ℕ) (es : 
 -- what is left once the cache was handed it
 pub record IsHanded (held last : Held) (first third : Counts) (names names' : List ℕ) : Type 0 where
   pub others : Respects held last names names'
-  pub one_owner : HaveOneOwner held names → HaveOneOwner last names'
-  pub other_names : HaveOneOwner held names → AddsNoOther first third names names'
+  pub one_owner : KeepsOneOwner held last names names'
+  pub other_names : AddsOnlyOwn held first third names names'
   pub counts : Grows 1 first third
 
 module _ (held new : Held) (name : ℕ) (tile : List ℕ) (es : Entries) (most capacity : ℕ) (is : IsNodeCache es most capacity held)
@@ -336,7 +336,7 @@ module _ (held new : Held) (name : ℕ) (tile : List ℕ) (es : Entries) (most c
   new-over = node_framed_condition es most capacity held new is (new-respects).exposed new-unchanged
       (owns-fewer new (name ∷ names) names (λ q. omega arith) new-owns)
 
-  new-one : HaveOneOwner held names → HaveOneOwner new (name ∷ names)
+  new-one : KeepsOneOwner held new names (name ∷ names)
   new-one one = record {
     one = λ q some. ap (λ (h : Held). owners_of h q) named ∙ elim (cases_eq q name) [
       | inl same ↦ ap (λ o. unwrap_or o 0) (ap (map.get (map.insert held.owners name 1)) same ∙ get_here held.owners name 1)
@@ -349,10 +349,10 @@ module _ (held new : Held) (name : ℕ) (tile : List ℕ) (es : Entries) (most c
     keep-others : Respects held last names (values_of es')
     keep-others = respects-both held new names (name ∷ names) new-respects last (values_of es') given.others
 
-    keep-one : HaveOneOwner held names → HaveOneOwner last (values_of es')
+    keep-one : KeepsOneOwner held last names (values_of es')
     keep-one one = given.one_owner (new-one one)
 
-    keep-names : HaveOneOwner held names → AddsNoOther first third names (values_of es')
+    keep-names : AddsOnlyOwn held first third names (values_of es')
     keep-names one = record { names = omega (arith, grows.names, (given.other_names (new-one one)).names) }
 
     keep-grows : Grows 1 first third

@@ -141,7 +141,7 @@ module _ (k : PairKey) (name : ℕ) (tile : List ℕ) (es es' : Entries) (most c
       ap (map f) is ∙ keep-made key f keyed k name es most (omega arith) none
       ∙ ap (λ (n : ℕ). after_keep (Some n) (map f es) (f (k, name))) same
 
-  pub keep-pairs : pairs_in es' ≡ after_keep (Some capacity) (pairs_in es) (pair_of k)
+  keep-pairs : pairs_in es' ≡ after_keep (Some capacity) (pairs_in es) (pair_of k)
   keep-pairs = keep-list itself (entry_pair {V = ℕ}) (λ e. refl)
 
   module _ (held middle new : Held) (before : AreUnchanged held middle (values_of es)) (after : AreUnchanged middle new (values_of es'))
@@ -150,7 +150,7 @@ module _ (k : PairKey) (name : ℕ) (tile : List ℕ) (es es' : Entries) (most c
     new-size : entry_size middle (k, name) ≡ sized_at k.node k.at (length tile)
     new-size = ap (λ o. sized_at k.node k.at (unwrap_or o 0)) there
 
-    pub keep-sizes : sizes_in es' new ≡ after_keep (Some capacity) (sizes_in es held) (sized_at k.node k.at (length tile))
+    keep-sizes : sizes_in es' new ≡ after_keep (Some capacity) (sizes_in es held) (sized_at k.node k.at (length tile))
     keep-sizes =
         sizes-unchanged es' middle new after
         ∙ keep-list by_sized (entry_size middle) (λ e. refl)
@@ -168,12 +168,38 @@ module _ (k : PairKey) (name : ℕ) (tile : List ℕ) (es es' : Entries) (most c
         (keep-list by_pair (entry_bytes middle) (λ e. refl)
         ∙ ap₂ (λ (list : List Cached) (x : Cached). after_keep (Some capacity) list x) (bytes-unchanged es held middle before) (new-cached (ap is_some is)))
 
-    pub keep-cached : cached_in es' new ≡ option_map (λ list. after_keep (Some capacity) list (cached_at k.node k.at tile)) (cached_in es held)
+    keep-cached : cached_in es' new ≡ option_map (λ list. after_keep (Some capacity) list (cached_at k.node k.at tile)) (cached_in es held)
     keep-cached =
         cached-unchanged es' middle new exposed' after
         ∙ keep-known middle.content refl
         ∙ ap (option_map (λ list. after_keep (Some capacity) list (cached_at k.node k.at tile)))
         (known-constant held.content middle.content (map (entry_bytes held) es) exposed)
+
+-- What callers see after a keep: the pair is in front, or nothing changed.
+pub record IsListKept {T E : Type 0} (r : Result T E) (k : PairKey) (tile : List ℕ) (es es' : Entries) (capacity : ℕ) (held new : Held) : Type 0 where
+  pub pairs : MatchResult r (λ _. pairs_in es' ≡ after_keep (Some capacity) (pairs_in es) (pair_of k)) (λ _. pairs_in es' ≡ pairs_in es)
+  pub sizes : MatchResult r (λ _. sizes_in es' new ≡ after_keep (Some capacity) (sizes_in es held) (sized_at k.node k.at (length tile)))
+      (λ _. sizes_in es' new ≡ sizes_in es held)
+  pub cached : MatchResult r (λ _. cached_in es' new ≡ option_map (λ list. after_keep (Some capacity) list (cached_at k.node k.at tile)) (cached_in es held))
+      (λ _. cached_in es' new ≡ cached_in es held)
+
+module _ (k : PairKey) (name : ℕ) (tile : List ℕ) (es es' : Entries) (most capacity : ℕ) (some : 0 < capacity) (same : most ≡ capacity)
+    (none : lookup (same_key k) es ≡ None) (held middle new : Held) (before : AreUnchanged held middle (values_of es)) (after : AreUnchanged middle new (values_of es'))
+    (there : length_of middle name ≡ Some (length tile)) (bytes : is_some middle.content ≡ true → bytes_of middle name ≡ Some tile)
+    (exposed : is_some middle.content ≡ is_some held.content) (exposed' : is_some new.content ≡ is_some middle.content) where
+  pub list-kept : {T E : Type 0} (P : Type 0) (r : Result T E) → OnOk r (es' ≡ put_entries same_key (lru_cache es most) k name) → OnErr r P → (P → es' ≡ es)
+      → IsListKept r k tile es es' capacity held new
+  list-kept P (Ok done) is left entries = record {
+    pairs = keep-pairs k name tile es es' most capacity some same none is;
+    sizes = keep-sizes k name tile es es' most capacity some same none is held middle new before after there bytes exposed exposed';
+    cached = keep-cached k name tile es es' most capacity some same none is held middle new before after there bytes exposed exposed';
+  }
+  list-kept P (Err refused) is left entries = record {
+    pairs = ap (pairs_in {V = ℕ}) (entries left);
+    sizes = sizes-unchanged es' middle new after ∙ ap (λ (list : Entries). sizes_in list middle) (entries left) ∙ sizes-unchanged es held middle before;
+    cached = cached-unchanged es' middle new exposed' after ∙ ap (λ (list : Entries). cached_in list middle) (entries left)
+        ∙ cached-unchanged es held middle exposed before;
+  }
 
 -- ---- the list after a void
 

@@ -10,7 +10,7 @@ use Rattle.chain_owners.specs.Owners.{Owns, Respects, Unchanged, times}
 use Rattle.model_states.specs.Cache.{Cached, Pair}
 use Rattle.node_cache.specs.declared.pair_key.PairKey.{PairKey}
 use Rattle.node_cache.specs.Keys.{pair_of, same_key}
-use Rattle.node_cache.specs.Stores.{AddsNoOther, HaveOneOwner, Sized}
+use Rattle.node_cache.specs.Stores.{AddsOnlyOwn, KeepsOneOwner, Sized}
 
 -- keys with names, the most recent first
 abbrev pub Entry : Type 0
@@ -66,8 +66,8 @@ pub record GivesUp (old new : Held) (first last : Counts) (before after : List �
   pub others : Respects old new before after
   pub unchanged : (name : ℕ) → 0 < times after name → Unchanged old new name
   pub grows : Grows 0 first last
-  pub one_owner : HaveOneOwner old before → HaveOneOwner new after
-  pub other_names : HaveOneOwner old before → AddsNoOther first last before after
+  pub one_owner : KeepsOneOwner old new before after
+  pub other_names : AddsOnlyOwn old first last before after
 
 -- What a look finds of a name: nothing without a name, else a tile of so many bytes, which are the name's where the
 -- chain exposes them.

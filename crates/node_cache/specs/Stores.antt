@@ -65,3 +65,11 @@ pub record HaveOneOwner (held : Held) (names : List ℕ) : Type 0 where
 -- The chain has no more names beside those of the value that held these names and holds those now.
 pub record AddsNoOther (old new : Counts) (before after : List ℕ) : Type 0 where
   pub names : new.names + length before ≤ old.names + length after
+
+-- Where each name that a value held had one owner, each that it holds now has one.
+abbrev pub KeepsOneOwner : Held → Held → List ℕ → List ℕ → Type 0
+KeepsOneOwner old new before after = HaveOneOwner old before → HaveOneOwner new after
+
+-- Where each had one owner, the chain has no more names beside those of the value.
+abbrev pub AddsOnlyOwn : Held → Counts → Counts → List ℕ → List ℕ → Type 0
+AddsOnlyOwn held old new before after = HaveOneOwner held before → AddsNoOther old new before after

@@ -123,40 +123,23 @@ impl HandCache {
         self.tiles.len();
     }
 
-    /// Takes the pairs of a node out whose tiles meet a rectangle, one pair of the list after another.
-    fn void_pairs(&mut self, node: Name, rect: &Rect)
-        requires { IsHandCache self.old.tiles.entries self.old.tiles.cap }
-        ensures entries { self.new.tiles.entries ≡ entries_left node rect.now self.old.tiles.entries }
-        ensures over { IsHandCache self.new.tiles.entries self.new.tiles.cap }
-    {
-        let count = self.tiles.len();
-        for _turn in 0..count {
-            self.turn_last(node, rect);
-        }
-    }
-
-    /// Takes the pairs of a node out whose tiles meet a rectangle, one tile of the rectangle after another.
-    fn void_tiles(&mut self, node: Name, rect: &Rect)
-        requires { IsHandCache self.old.tiles.entries self.old.tiles.cap }
-        ensures entries { self.new.tiles.entries ≡ entries_left node rect.now self.old.tiles.entries }
-        ensures over { IsHandCache self.new.tiles.entries self.new.tiles.cap }
-    {
-        for at in rect.tiles() {
-            self.drop_pair(PairKey { node, at });
-        }
-    }
-
-    /// Takes the pairs of a node out whose tiles meet a rectangle; the others keep their order.
+    /// Takes the pairs of a node out whose tiles meet a rectangle; the others keep their order. It goes
+    /// over the tiles of the rectangle or over the list, whichever are fewer.
     fn take_out(&mut self, node: Name, rect: &Rect)
         requires { IsHandCache self.old.tiles.entries self.old.tiles.cap }
         ensures entries { self.new.tiles.entries ≡ entries_left node rect.now self.old.tiles.entries }
         ensures over { IsHandCache self.new.tiles.entries self.new.tiles.cap }
     {
-        if tile_count(rect) < self.tiles.len() {
-            self.void_tiles(node, rect);
+        let count = self.tiles.len();
+        if tile_count(rect) < count {
+            for at in rect.tiles() {
+                self.drop_pair(PairKey { node, at });
+            }
             return;
         }
-        self.void_pairs(node, rect);
+        for _turn in 0..count {
+            self.turn_last(node, rect);
+        }
     }
 }
 

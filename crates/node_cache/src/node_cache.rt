@@ -7,6 +7,7 @@ ghost use Rattle.chain_owners.specs.Counts.{Grows};
 ghost use Rattle.chain_owners.specs.Held.{Held, length_of};
 ghost use Rattle.chain_owners.specs.Owners.{Owns};
 ghost use Rattle.swap_store.specs.Cause.{HasSwapCause};
+ghost use Rattle.swap_store.specs.declared.refusal.SwapRefused.TheVariants as refusals;
 ghost use Rattle.chain_contracts.specs.Tiles.{Reads};
 ghost use Rattle.lru.specs.LruCache.{promoted, put_entries};
 ghost use Rattle.node_cache.specs.Keys.{entries_left, same_key};
@@ -109,7 +110,7 @@ impl NodeCache {
         chain: &mut C,
         key: PairKey,
         name: u64,
-    ) -> Result<(), NoMemory>
+    ) -> Result<(), SwapRefused>
         requires over { IsNodeCache self.old.names.entries self.old.names.cap self.old.capacity (C.held chain.old) }
         requires owned { Owns (C.held chain.old) (name ∷ values_of self.old.names.entries) }
         requires tile { IsTileName (C.held chain.old) name }
@@ -117,6 +118,7 @@ impl NodeCache {
         ensures entries { OnOk result
             (self.new.names.entries ≡ put_entries same_key self.old.names key name) }
         ensures unchanged { OnErr result (self.new.names ≡ self.old.names) }
+        ensures cause { IfErr result (λ refused. refused ≡ refusals.NoMemory) }
         ensures over { IsNodeCache self.new.names.entries self.new.names.cap self.new.capacity (C.held chain.new) }
         ensures capacity { self.new.capacity ≡ self.old.capacity }
         ensures given_up { GivesUp (C.held chain.old) (C.held chain.new) (C.counts chain.old) (C.counts chain.new)
@@ -136,7 +138,7 @@ impl NodeCache {
             }
             Err(_) => {
                 chain.disown(name);
-                Err(NoMemory)
+                Err(SwapRefused::NoMemory)
             }
         }
     }
@@ -166,40 +168,8 @@ impl NodeCache {
         self.names.len();
     }
 
-    /// Takes the pairs of a node out whose tiles meet a rectangle, one pair of the list after another.
-    fn void_pairs<C: TileChain>(&mut self, chain: &mut C, node: Name, rect: &Rect)
-        requires { IsNodeCache self.old.names.entries self.old.names.cap self.old.capacity (C.held chain.old) }
-        ensures entries { self.new.names.entries ≡ entries_left node rect.now self.old.names.entries }
-        ensures over { IsNodeCache self.new.names.entries self.new.names.cap self.new.capacity (C.held chain.new) }
-        ensures capacity { self.new.capacity ≡ self.old.capacity }
-        ensures given_up { GivesUp (C.held chain.old) (C.held chain.new) (C.counts chain.old) (C.counts chain.new)
-            (values_of self.old.names.entries) (values_of self.new.names.entries) }
-        ensures loans { C.loans chain.new ≡ C.loans chain.old }
-        ensures valid { C.is_valid chain.old → C.is_valid chain.new }
-    {
-        let count = self.names.len();
-        for _turn in 0..count {
-            self.turn_last(chain, node, rect);
-        }
-    }
-
-    /// Takes the pairs of a node out whose tiles meet a rectangle, one tile of the rectangle after another.
-    fn void_tiles<C: TileChain>(&mut self, chain: &mut C, node: Name, rect: &Rect)
-        requires { IsNodeCache self.old.names.entries self.old.names.cap self.old.capacity (C.held chain.old) }
-        ensures entries { self.new.names.entries ≡ entries_left node rect.now self.old.names.entries }
-        ensures over { IsNodeCache self.new.names.entries self.new.names.cap self.new.capacity (C.held chain.new) }
-        ensures capacity { self.new.capacity ≡ self.old.capacity }
-        ensures given_up { GivesUp (C.held chain.old) (C.held chain.new) (C.counts chain.old) (C.counts chain.new)
-            (values_of self.old.names.entries) (values_of self.new.names.entries) }
-        ensures loans { C.loans chain.new ≡ C.loans chain.old }
-        ensures valid { C.is_valid chain.old → C.is_valid chain.new }
-    {
-        for at in rect.tiles() {
-            self.drop_pair(chain, PairKey { node, at });
-        }
-    }
-
-    /// Takes the pairs of a node out whose tiles meet a rectangle; the others keep their order.
+    /// Takes the pairs of a node out whose tiles meet a rectangle; the others keep their order. It goes
+    /// over the tiles of the rectangle or over the list, whichever are fewer.
     fn take_out<C: TileChain>(&mut self, chain: &mut C, node: Name, rect: &Rect)
         requires { IsNodeCache self.old.names.entries self.old.names.cap self.old.capacity (C.held chain.old) }
         ensures entries { self.new.names.entries ≡ entries_left node rect.now self.old.names.entries }
@@ -210,11 +180,16 @@ impl NodeCache {
         ensures loans { C.loans chain.new ≡ C.loans chain.old }
         ensures valid { C.is_valid chain.old → C.is_valid chain.new }
     {
-        if tile_count(rect) < self.names.len() {
-            self.void_tiles(chain, node, rect);
+        let count = self.names.len();
+        if tile_count(rect) < count {
+            for at in rect.tiles() {
+                self.drop_pair(chain, PairKey { node, at });
+            }
             return;
         }
-        self.void_pairs(chain, node, rect);
+        for _turn in 0..count {
+            self.turn_last(chain, node, rect);
+        }
     }
 }
 
@@ -250,10 +225,7 @@ impl<C: TileChain> PairStore<C> for NodeCache {
     ) -> Result<(), SwapRefused> {
         tile.bytes();
         let name = chain.new_name(tile)?;
-        match self.put_name(chain, PairKey { node, at }, name) {
-            Ok(()) => Ok(()),
-            Err(_) => Err(SwapRefused::NoMemory),
-        }
+        self.put_name(chain, PairKey { node, at }, name)
     }
 
     fn void(&mut self, chain: &mut C, node: Name, rect: Rect) {

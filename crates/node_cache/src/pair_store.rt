@@ -7,7 +7,7 @@ ghost use Rattle.chain_owners.specs.Held.{Held};
 ghost use Rattle.chain_owners.specs.Owners.{IsFramed, Owns, Respects};
 ghost use Rattle.model_states.specs.Cache.{Cached, HasDistinctPairs, Pair, after_keep, after_look, by_pair, find_pair, itself, voided};
 ghost use Rattle.swap_store.specs.Cause.{HasSwapCause};
-ghost use Rattle.node_cache.specs.Stores.{AddsNoOther, AreExposed, AreWithin, Finds, HaveOneOwner, IsFramedCondition, Sized, by_sized, cached_at, pair_at, pairs_at, sized_at};
+ghost use Rattle.node_cache.specs.Stores.{AddsOnlyOwn, AreExposed, AreWithin, Finds, IsFramedCondition, KeepsOneOwner, Sized, by_sized, cached_at, pair_at, pairs_at, sized_at};
 
 use chain_owners::ChainMeaning;
 use no_memory::NoMemory;
@@ -70,9 +70,8 @@ pub trait PairStore<H: ChainMeaning> {
         ensures cause { IfErr result (HasSwapCause (H.counts chain.old) (H.counts chain.new) (H.counts chain.old).names) }
         ensures over { is_over self.new (H.held chain.new) }
         ensures others { Respects (H.held chain.old) (H.held chain.new) (names self.old) (names self.new) }
-        ensures one_owner { HaveOneOwner (H.held chain.old) (names self.old) → HaveOneOwner (H.held chain.new) (names self.new) }
-        ensures other_names { HaveOneOwner (H.held chain.old) (names self.old) →
-            AddsNoOther (H.counts chain.old) (H.counts chain.new) (names self.old) (names self.new) }
+        ensures one_owner { KeepsOneOwner (H.held chain.old) (H.held chain.new) (names self.old) (names self.new) }
+        ensures other_names { AddsOnlyOwn (H.held chain.old) (H.counts chain.old) (H.counts chain.new) (names self.old) (names self.new) }
         ensures counts { Grows 0 (H.counts chain.old) (H.counts chain.new) }
         ensures loans { H.loans chain.new ≡ H.loans chain.old }
         ensures valid { H.is_valid chain.old → H.is_valid chain.new };
@@ -104,10 +103,8 @@ pub trait PairStore<H: ChainMeaning> {
             ((H.counts chain.old).names + 1)) }
         ensures over { is_over self.new (H.held chain.new) }
         ensures others { Respects (H.held chain.old) (H.held chain.new) (names self.old) (names self.new) }
-        ensures one_owner { HaveOneOwner (H.held chain.old) (names self.old) →
-            HaveOneOwner (H.held chain.new) (names self.new) }
-        ensures other_names { HaveOneOwner (H.held chain.old) (names self.old) →
-            AddsNoOther (H.counts chain.old) (H.counts chain.new) (names self.old) (names self.new) }
+        ensures one_owner { KeepsOneOwner (H.held chain.old) (H.held chain.new) (names self.old) (names self.new) }
+        ensures other_names { AddsOnlyOwn (H.held chain.old) (H.counts chain.old) (H.counts chain.new) (names self.old) (names self.new) }
         ensures counts { Grows 1 (H.counts chain.old) (H.counts chain.new) }
         ensures loans { H.loans chain.new ≡ H.loans chain.old }
         ensures valid { H.is_valid chain.old → H.is_valid chain.new };
@@ -124,10 +121,8 @@ pub trait PairStore<H: ChainMeaning> {
         ensures capacity { capacity self.new ≡ capacity self.old }
         ensures over { is_over self.new (H.held chain.new) }
         ensures others { Respects (H.held chain.old) (H.held chain.new) (names self.old) (names self.new) }
-        ensures one_owner { HaveOneOwner (H.held chain.old) (names self.old) →
-            HaveOneOwner (H.held chain.new) (names self.new) }
-        ensures other_names { HaveOneOwner (H.held chain.old) (names self.old) →
-            AddsNoOther (H.counts chain.old) (H.counts chain.new) (names self.old) (names self.new) }
+        ensures one_owner { KeepsOneOwner (H.held chain.old) (H.held chain.new) (names self.old) (names self.new) }
+        ensures other_names { AddsOnlyOwn (H.held chain.old) (H.counts chain.old) (H.counts chain.new) (names self.old) (names self.new) }
         ensures counts { Grows 0 (H.counts chain.old) (H.counts chain.new) }
         ensures loans { H.loans chain.new ≡ H.loans chain.old }
         ensures valid { H.is_valid chain.old → H.is_valid chain.new };
