@@ -1,6 +1,6 @@
 -- What is known of buffers by their names, and why edits are refused by it.
-use Rattle.std.proofs.Common.{◌≡◌, ℕ, ◌<◌, ◌≤◌, Bool, true, false, arith, List, length, Option, Some, None, Result, Ok, refl, sym, ap, ◌∙◌}
-use Rattle.std.specs.Prelude.{nat_le}
+use Rattle.std.proofs.Common.{◌≡◌, ℕ, ◌<◌, ◌≤◌, Bool, true, false, arith, List, length, Option, Some, None, Result, Ok, Err, refl, sym, ap, ◌∙◌}
+use Rattle.std.specs.Prelude.{IfErr, IfOk, nat_le}
 use Rattle.std.proofs.lemmas.Bool.Decides.{nat_tests}
 use Rattle.std.specs.Option.{is_some, option_map}
 use Rattle.std.proofs.lemmas.List.{length-map}
@@ -12,12 +12,14 @@ use Rattle.pixel_formats.specs.declared.format.Format.{Format}
 use Rattle.model_graphs.specs.Facts.{fact_of}
 use Rattle.model_graphs.specs.Shapes.{Shape}
 use Rattle.model_graphs.specs.declared.buffer.BufferFact.{BufferFact}
+use Rattle.model_buffers.specs.declared.edit.BufferEdit.{BufferEdit}
+use Rattle.model_buffers.specs.declared.refused.EditRefused.{EditRefused}
 use Rattle.model_buffers.specs.declared.refused.EditRefused.TheVariants.{Formats, NameTaken, TooManyBuffers, UnknownBuffer}
-use Rattle.model_buffers.specs.BufferEdit.{Refusal, add_refused, copy_refused, if_known, unless}
+use Rattle.model_buffers.specs.BufferEdit.{Refusal, add_refused, copy_refused, edit_refused, if_known, unless}
 use Rattle.model_buffers.specs.Layout.{TableLayout, View, fact_in, facts_of, find, root_shape, view_shape}
 use Rattle.model_buffers.proofs.FactLaws.{fact-found}
 use Rattle.buffer_layouts.specs.declared.views.RootView.{RootView}
-use Rattle.buffer_layouts.specs.Views.{on_root, root_number, root_view, seen_shape}
+use Rattle.buffer_layouts.specs.Views.{IsTarget, on_root, root_number, root_view, seen_shape}
 
 module _ (layout : TableLayout) where
   -- ---- facts and views
@@ -88,6 +90,30 @@ module _ (layout : TableLayout) where
         by : (o : Option View) → option_map (on_root layout) o ≡ Some seen → if_known o (λ view. next (view_shape layout view)) ≡ next (seen_shape seen)
         by (Some view) e = let same : on_root layout view ≡ seen = cc in ap (λ (seen : RootView). next (seen_shape seen)) same
         by None e = absurd (cc)
+
+    -- what is answered where the edit asks of the buffer's shape alone
+    module _ (edit : BufferEdit) (next : Shape → Refusal)
+        (asks : edit_refused layout edit ≡ if_known (find layout.buffers name) (λ view. next (view_shape layout view))) where
+      pub target-unknown : root_view layout name ≡ None → IsTarget layout name edit (Err UnknownBuffer)
+      target-unknown none = record {
+        carried_out = tt;
+        target = tt;
+        refused = asks ∙ refused_unknown (λ view. next (view_shape layout view)) none;
+      }
+
+      pub target-known : (seen : RootView) (refusal : Refusal) (result : Result RootView EditRefused) → root_view layout name ≡ Some seen
+          → refusal ≡ next (seen_shape seen) → IfOk result (λ shown. (shown ≡ seen) × (refusal ≡ None)) → IfErr result (λ cause. refusal ≡ Some cause)
+          → IsTarget layout name edit result
+      target-known seen refusal (Ok shown) there is view refused = record {
+        carried_out = asks ∙ refused_by_view next seen there ∙ sym is ∙ view.1;
+        target = there ∙ ap (λ (view : RootView). Some view) (sym view.0);
+        refused = tt;
+      }
+      target-known seen refusal (Err cause) there is view refused = record {
+        carried_out = tt;
+        target = tt;
+        refused = asks ∙ refused_by_view next seen there ∙ sym is ∙ refused;
+      }
 
     -- whether a buffer has the name, by the facts
     abbrev has_fact : Bool

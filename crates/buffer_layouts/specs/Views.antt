@@ -1,11 +1,14 @@
 -- What buffers show of numbered roots.
-use Rattle.std.specs.Prelude.{◌≡◌, ℕ, ℤ, List, Option, Some, Ok, slice_get, unwrap_or}
+use Rattle.std.specs.Prelude.{◌≡◌, ℕ, ℤ, IfErr, IfOk, List, None, Option, Some, Ok, Result, slice_get, unwrap_or}
 use Rattle.std.specs.List.{position_or_len}
 use Rattle.std.specs.Option.{option_map}
 use Rattle.std.specs.Str.{bytes_eq}
 use Rattle.plane_rect.specs.Rectangle.{Rectangle, shifted}
 use Rattle.model_graphs.specs.Shapes.{Shape, no_shape}
+use Rattle.model_buffers.specs.BufferEdit.{edit_refused}
 use Rattle.model_buffers.specs.Layout.{TableLayout, View, find, root_shape}
+use Rattle.model_buffers.specs.declared.edit.BufferEdit.{BufferEdit}
+use Rattle.model_buffers.specs.declared.refused.EditRefused.{EditRefused}
 use Rattle.buffer_layouts.specs.declared.views.CopyParts.{CopyParts}
 use Rattle.buffer_layouts.specs.declared.views.RootView.{RootView}
 
@@ -40,3 +43,9 @@ pub record AreCopyParts (layout : TableLayout) (from to : List ℕ) (rectangle :
   pub source : root_view layout from ≡ Some parts.source
   pub target : root_view layout to ≡ Some parts.target
   pub moved : shifted dx dy rectangle ≡ Ok parts.moved
+
+-- What is answered before an edit of what a buffer shows: the view of it, or why the layout refuses the edit.
+pub record IsTarget (layout : TableLayout) (name : List ℕ) (edit : BufferEdit) (result : Result RootView EditRefused) : Type 0 where
+  pub carried_out : IfOk result (λ _. edit_refused layout edit ≡ None)
+  pub target : IfOk result (λ view. root_view layout name ≡ Some view)
+  pub refused : IfErr result (λ cause. edit_refused layout edit ≡ Some cause)

@@ -3,7 +3,7 @@
 ghost use Rattle.std.specs.Prelude.{◌≡◌, IfErr, IfOk, None, Some};
 ghost use Rattle.model_buffers.specs.declared.edit.BufferEdit.TheVariants.{Copy, Create, Duplicate, Fill, Put, Sub};
 ghost use Rattle.model_buffers.specs.BufferEdit.{edit_refused};
-ghost use Rattle.buffer_layouts.specs.Views.{AreCopyParts, root_view};
+ghost use Rattle.buffer_layouts.specs.Views.{AreCopyParts, IsTarget};
 
 use crate::layout::BufferLayout;
 use crate::refusals::{fill_refused, moved_part, put_refused};
@@ -47,16 +47,11 @@ impl BufferLayout {
     ///
     /// As [`BufferLayout::sub_refused`] has it, of the buffer in place of the parent.
     pub fn duplicate_source(&self, name: Name, from: Name) -> Result<RootView, EditRefused>
-        ensures carried_out { IfOk result (λ _. edit_refused self.now.layout (Duplicate name from) ≡ None) }
-        ensures source { IfOk result (λ view. root_view self.now.layout from ≡ Some view) }
-        ensures refused { IfErr result (λ cause. edit_refused self.now.layout (Duplicate name from) ≡ Some cause) }
+        ensures { IsTarget self.now.layout from (Duplicate name from) result }
     {
-        let Some(view) = self.view(from) else {
-            return Err(EditRefused::UnknownBuffer);
-        };
-        match self.create_refused(name) {
-            Some(refused) => Err(refused),
-            None => Ok(view),
+        match self.view(from) {
+            Some(view) => unless_refused(view, self.create_refused(name)),
+            None => Err(EditRefused::UnknownBuffer),
         }
     }
 
@@ -73,16 +68,11 @@ impl BufferLayout {
         rect: Rect,
         samples: &[u32],
     ) -> Result<RootView, EditRefused>
-        ensures carried_out { IfOk result (λ _. edit_refused self.now.layout (Fill name rect samples.now) ≡ None) }
-        ensures target { IfOk result (λ view. root_view self.now.layout name ≡ Some view) }
-        ensures refused { IfErr result (λ cause. edit_refused self.now.layout (Fill name rect samples.now) ≡ Some cause) }
+        ensures { IsTarget self.now.layout name (Fill name rect samples.now) result }
     {
-        let Some(view) = self.view(name) else {
-            return Err(EditRefused::UnknownBuffer);
-        };
-        match fill_refused(&view, &rect, samples) {
-            Some(refused) => Err(refused),
-            None => Ok(view),
+        match self.view(name) {
+            Some(view) => unless_refused(view, fill_refused(&view, &rect, samples)),
+            None => Err(EditRefused::UnknownBuffer),
         }
     }
 
@@ -93,16 +83,11 @@ impl BufferLayout {
     /// `UnknownBuffer` where no buffer has the name, else `OutOfBounds` where the buffer lacks a position of the
     /// rectangle, and else `WrongSize` where the bytes are more or fewer than those of the rectangle.
     pub fn put_target(&self, name: Name, rect: Rect, bytes: &[u8]) -> Result<RootView, EditRefused>
-        ensures carried_out { IfOk result (λ _. edit_refused self.now.layout (Put name rect bytes.now) ≡ None) }
-        ensures target { IfOk result (λ view. root_view self.now.layout name ≡ Some view) }
-        ensures refused { IfErr result (λ cause. edit_refused self.now.layout (Put name rect bytes.now) ≡ Some cause) }
+        ensures { IsTarget self.now.layout name (Put name rect bytes.now) result }
     {
-        let Some(view) = self.view(name) else {
-            return Err(EditRefused::UnknownBuffer);
-        };
-        match put_refused(&view, &rect, bytes) {
-            Some(refused) => Err(refused),
-            None => Ok(view),
+        match self.view(name) {
+            Some(view) => unless_refused(view, put_refused(&view, &rect, bytes)),
+            None => Err(EditRefused::UnknownBuffer),
         }
     }
 
@@ -140,5 +125,16 @@ impl BufferLayout {
             }),
             Err(refused) => Err(refused),
         }
+    }
+}
+
+/// Returns what a buffer shows, unless an edit of it is refused.
+fn unless_refused(view: RootView, refused: Option<EditRefused>) -> Result<RootView, EditRefused>
+    ensures view { IfOk result (λ shown. (shown ≡ view) × (refused ≡ None)) }
+    ensures refused { IfErr result (λ cause. refused ≡ Some cause) }
+{
+    match refused {
+        Some(refused) => Err(refused),
+        None => Ok(view),
     }
 }

@@ -9,6 +9,7 @@ pub mod Tables
 pub mod Sharing
 pub mod Added
 pub mod Refusals
+pub mod Edited
 pub mod Copies
 pub mod Reading
 pub mod RootReads

@@ -1,16 +1,8 @@
 //! Buffers that are added without a tile.
 
-ghost use Rattle.std.specs.Prelude.{◌≡◌, IfErr, IfOk, MatchResult, Err, None, Some};
-ghost use Rattle.std.specs.Option.{option_map};
 ghost use Rattle.plane_rect.specs.Rectangle.{InLimits};
-ghost use Rattle.chain_owners.specs.Held.{Held};
-ghost use Rattle.model_buffers.specs.BufferEdit.{edit_refused, layout_with};
-ghost use Rattle.model_buffers.specs.Edits.{table_with};
 ghost use Rattle.model_buffers.specs.declared.edit.BufferEdit.TheVariants.{Create, Sub};
-ghost use Rattle.model_buffers.specs.declared.refused.EditRefused.{EditRefused as Cause};
-ghost use Rattle.buffer_view.specs.BufferTables.{AreBuffersOver, buffers_names, table_of};
-ghost use Rattle.buffer_view.specs.Causes.{HasAddCause};
-ghost use Rattle.buffer_view.specs.declared.refused.BufferRefused.TheVariants.{Edit};
+ghost use Rattle.buffer_view.specs.Edits.{AddsBuffer};
 
 use crate::buffers::Buffers;
 use crate::refused::BufferRefused;
@@ -27,18 +19,7 @@ impl Buffers {
     /// memory runs out: the buffers are unchanged.
     pub fn create(&mut self, name: Name, format: Format, extent: Rect) -> Result<(), BufferRefused>
         requires { InLimits extent }
-        ensures layout { MatchResult result
-            (λ _. self.new.layout ≡ layout_with self.old.layout (Create name format extent))
-            (λ _. self.new.layout ≡ self.old.layout) }
-        ensures table { (held : Held) → MatchResult result
-            (λ _. table_of self.new held ≡ option_map (λ table. table_with table (Create name format extent)) (table_of self.old held))
-            (λ _. table_of self.new held ≡ table_of self.old held) }
-        ensures exact { (cause : Cause) → edit_refused self.old.layout (Create name format extent) ≡ Some cause →
-            result ≡ Err (Edit cause) }
-        ensures cause { IfErr result (HasAddCause self.old.layout (Create name format extent)) }
-        ensures carried_out { IfOk result (λ _. edit_refused self.old.layout (Create name format extent) ≡ None) }
-        ensures over { (held : Held) → AreBuffersOver self.old held → AreBuffersOver self.new held }
-        ensures names { buffers_names self.new ≡ buffers_names self.old }
+        ensures { AddsBuffer (Create name format extent) result self.old self.new }
     {
         if let Some(refused) = self.layout.create_refused(name) {
             return Err(BufferRefused::Edit(refused));
@@ -62,18 +43,7 @@ impl Buffers {
     /// `UnknownBuffer` where there is no parent of the name, else as [`Buffers::create`]: the buffers are
     /// unchanged.
     pub fn sub(&mut self, name: Name, parent: Name, rect: Rect) -> Result<(), BufferRefused>
-        ensures layout { MatchResult result
-            (λ _. self.new.layout ≡ layout_with self.old.layout (Sub name parent rect))
-            (λ _. self.new.layout ≡ self.old.layout) }
-        ensures table { (held : Held) → MatchResult result
-            (λ _. table_of self.new held ≡ option_map (λ table. table_with table (Sub name parent rect)) (table_of self.old held))
-            (λ _. table_of self.new held ≡ table_of self.old held) }
-        ensures exact { (cause : Cause) → edit_refused self.old.layout (Sub name parent rect) ≡ Some cause →
-            result ≡ Err (Edit cause) }
-        ensures cause { IfErr result (HasAddCause self.old.layout (Sub name parent rect)) }
-        ensures carried_out { IfOk result (λ _. edit_refused self.old.layout (Sub name parent rect) ≡ None) }
-        ensures over { (held : Held) → AreBuffersOver self.old held → AreBuffersOver self.new held }
-        ensures names { buffers_names self.new ≡ buffers_names self.old }
+        ensures { AddsBuffer (Sub name parent rect) result self.old self.new }
     {
         if let Some(refused) = self.layout.sub_refused(name, parent) {
             return Err(BufferRefused::Edit(refused));

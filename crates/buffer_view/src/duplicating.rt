@@ -52,10 +52,7 @@ impl Buffers {
         ensures loans { C.loans chain.new ≡ C.loans chain.old }
         ensures valid { C.is_valid chain.old → C.is_valid chain.new }
     {
-        let view = match self.layout.duplicate_source(name, from) {
-            Ok(view) => view,
-            Err(refused) => return Err(BufferRefused::Edit(refused)),
-        };
+        let view = self.layout.duplicate_source(name, from)?;
         self.layout.reserve()?;
         self.roots.reserve(1)?;
         let shared = self.roots[view.root].share(chain)?;

@@ -1,17 +1,8 @@
 //! Edits of buffers that write samples.
 
-ghost use Rattle.std.specs.Prelude.{◌≡◌, ◌+◌, IfErr, IfOk, MatchResult, Err, None, Some};
-ghost use Rattle.std.specs.Option.{option_map};
-ghost use Rattle.chain_owners.specs.Counts.{Grows};
-ghost use Rattle.chain_owners.specs.Owners.{Respects};
-ghost use Rattle.model_buffers.specs.BufferEdit.{edit_refused, layout_with};
-ghost use Rattle.model_buffers.specs.Counts.{tiles_added};
-ghost use Rattle.model_buffers.specs.Edits.{table_with};
 ghost use Rattle.model_buffers.specs.declared.edit.BufferEdit.TheVariants.{Fill, Put};
-ghost use Rattle.model_buffers.specs.declared.refused.EditRefused.{EditRefused as Cause};
-ghost use Rattle.buffer_view.specs.BufferTables.{AreBuffersOver, buffers_names, table_of};
-ghost use Rattle.buffer_view.specs.Causes.{HasEditCause};
-ghost use Rattle.buffer_view.specs.declared.refused.BufferRefused.TheVariants.{Edit};
+ghost use Rattle.buffer_view.specs.BufferTables.{AreBuffersOver};
+ghost use Rattle.buffer_view.specs.Edits.{WritesBuffers};
 
 use crate::buffers::Buffers;
 use crate::refused::BufferRefused;
@@ -40,28 +31,11 @@ impl Buffers {
         samples: &[u32],
     ) -> Result<(), BufferRefused>
         requires { AreBuffersOver self.old (C.held chain.old) }
-        ensures layout { MatchResult result
-            (λ _. self.new.layout ≡ layout_with self.old.layout (Fill name rect samples.now))
-            (λ _. self.new.layout ≡ self.old.layout) }
-        ensures table { MatchResult result
-            (λ _. table_of self.new (C.held chain.new)
-            ≡ option_map (λ table. table_with table (Fill name rect samples.now)) (table_of self.old (C.held chain.old)))
-            (λ _. table_of self.new (C.held chain.new) ≡ table_of self.old (C.held chain.old)) }
-        ensures exact { (cause : Cause) → edit_refused self.old.layout (Fill name rect samples.now) ≡ Some cause →
-            result ≡ Err (Edit cause) }
-        ensures cause { IfErr result (HasEditCause self.old.layout (Fill name rect samples.now)
-            (C.counts chain.old) (C.counts chain.new)) }
-        ensures carried_out { IfOk result (λ _. edit_refused self.old.layout (Fill name rect samples.now) ≡ None) }
-        ensures over { AreBuffersOver self.new (C.held chain.new) }
-        ensures others { Respects (C.held chain.old) (C.held chain.new) (buffers_names self.old) (buffers_names self.new) }
-        ensures counts { Grows (tiles_added (Fill name rect samples.now)) (C.counts chain.old) (C.counts chain.new) }
-        ensures loans { C.loans chain.new ≡ C.loans chain.old }
-        ensures valid { C.is_valid chain.old → C.is_valid chain.new }
+        ensures { WritesBuffers (Fill name rect samples.now) result self.old self.new
+            (record { held = C.held chain.old; counts = C.counts chain.old; loans = C.loans chain.old; valid = C.is_valid chain.old })
+            (record { held = C.held chain.new; counts = C.counts chain.new; loans = C.loans chain.new; valid = C.is_valid chain.new }) }
     {
-        let view = match self.layout.fill_target(name, rect, samples) {
-            Ok(view) => view,
-            Err(refused) => return Err(BufferRefused::Edit(refused)),
-        };
+        let view = self.layout.fill_target(name, rect, samples)?;
         self.write(chain, view.root, rect, &mut Even { samples })?;
         Ok(())
     }
@@ -83,28 +57,11 @@ impl Buffers {
         workers: Workers<'_, R>,
     ) -> Result<(), BufferRefused>
         requires { AreBuffersOver self.old (C.held chain.old) }
-        ensures layout { MatchResult result
-            (λ _. self.new.layout ≡ layout_with self.old.layout (Put name rect bytes.now))
-            (λ _. self.new.layout ≡ self.old.layout) }
-        ensures table { MatchResult result
-            (λ _. table_of self.new (C.held chain.new)
-            ≡ option_map (λ table. table_with table (Put name rect bytes.now)) (table_of self.old (C.held chain.old)))
-            (λ _. table_of self.new (C.held chain.new) ≡ table_of self.old (C.held chain.old)) }
-        ensures exact { (cause : Cause) → edit_refused self.old.layout (Put name rect bytes.now) ≡ Some cause →
-            result ≡ Err (Edit cause) }
-        ensures cause { IfErr result (HasEditCause self.old.layout (Put name rect bytes.now)
-            (C.counts chain.old) (C.counts chain.new)) }
-        ensures carried_out { IfOk result (λ _. edit_refused self.old.layout (Put name rect bytes.now) ≡ None) }
-        ensures over { AreBuffersOver self.new (C.held chain.new) }
-        ensures others { Respects (C.held chain.old) (C.held chain.new) (buffers_names self.old) (buffers_names self.new) }
-        ensures counts { Grows (tiles_added (Put name rect bytes.now)) (C.counts chain.old) (C.counts chain.new) }
-        ensures loans { C.loans chain.new ≡ C.loans chain.old }
-        ensures valid { C.is_valid chain.old → C.is_valid chain.new }
+        ensures { WritesBuffers (Put name rect bytes.now) result self.old self.new
+            (record { held = C.held chain.old; counts = C.counts chain.old; loans = C.loans chain.old; valid = C.is_valid chain.old })
+            (record { held = C.held chain.new; counts = C.counts chain.new; loans = C.loans chain.new; valid = C.is_valid chain.new }) }
     {
-        let view = match self.layout.put_target(name, rect, bytes) {
-            Ok(view) => view,
-            Err(refused) => return Err(BufferRefused::Edit(refused)),
-        };
+        let view = self.layout.put_target(name, rect, bytes)?;
         self.write(chain, view.root, rect, &mut SplitRaw { bytes, workers })?;
         Ok(())
     }

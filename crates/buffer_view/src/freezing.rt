@@ -1,19 +1,14 @@
 //! Images of buffers that are held by tiles in memory.
 
-ghost use Rattle.std.specs.Prelude.{◌≡◌, IfErr, IfOk, IfSome, Err, None, length};
-ghost use Rattle.frozen_images.specs.Frozen.{frozen_image};
-ghost use Rattle.level_tables.specs.Over.{tile_length};
+ghost use Rattle.std.specs.Prelude.{◌≡◌, IfErr, IfOk, IfSome, Err, None};
 ghost use Rattle.model_buffers.specs.Layout.{buffer_shape, find};
 ghost use Rattle.model_buffers.specs.declared.refused.EditRefused.TheVariants.{UnknownBuffer};
-ghost use Rattle.model_graphs.specs.Shapes.{Shape};
 ghost use Rattle.model_images.specs.Raw.{tile_bytes};
 ghost use Rattle.model_images.specs.Tiles.{AreZeroOutside};
-ghost use Rattle.plane_rect.specs.Rectangle.{Includes, IsRectangle};
 ghost use Rattle.plane_rect.specs.Tile.{IsWhole};
 ghost use Rattle.root_tiles.specs.Chains.{IsRead};
-ghost use Rattle.root_tiles.specs.Roots.{IsRootOver};
 ghost use Rattle.swap_store.specs.Cause.{HasSwapCause};
-ghost use Rattle.view_reads.specs.Views.{view_image};
+ghost use Rattle.view_reads.specs.Views.{IsViewOver, ReadsViewTile, view_image};
 ghost use Rattle.buffer_view.specs.BufferTables.{AreBuffersOver, table_of};
 ghost use Rattle.buffer_view.specs.Freezing.{IsFrozenBuffer, IsFrozenImage, IsFrozenOver, with_held};
 ghost use Rattle.buffer_view.specs.Reads.{HasReadCause};
@@ -67,9 +62,7 @@ fn frozen_view<C: TileChain>(
     chain: &mut C,
     extent: Rect,
 ) -> Result<Frozen, SwapRefused>
-    requires over { IsRootOver root.now (C.held chain.old) }
-    requires inside { Includes root.now.box extent }
-    requires rectangle { IsRectangle extent }
+    requires { IsViewOver root.now extent (C.held chain.old) }
     ensures shape { IfOk result (IsFrozenOver (record { box = extent; format = root.now.tiles.format })) }
     ensures image { IfOk result (IsFrozenImage (view_image root.now extent (C.held chain.old))) }
     ensures cause { IfErr result (HasSwapCause (C.counts chain.old) (C.counts chain.new) (C.counts chain.old).names) }
@@ -92,9 +85,7 @@ fn hold<C: TileChain>(
     extent: Rect,
     at: TileAt,
 ) -> Result<(), SwapRefused>
-    requires over { IsRootOver root.now (C.held chain.old) }
-    requires inside { Includes root.now.box extent }
-    requires rectangle { IsRectangle extent }
+    requires view { IsViewOver root.now extent (C.held chain.old) }
     requires whole { IsWhole at }
     requires shape { IsFrozenOver (record { box = extent; format = root.now.tiles.format }) frozen.old }
     ensures shape { IsFrozenOver (record { box = extent; format = root.now.tiles.format }) frozen.new }
@@ -118,16 +109,10 @@ fn zero_outside<C: TileChain>(
     extent: Rect,
     at: TileAt,
 ) -> Result<Tile, SwapRefused>
-    requires over { IsRootOver root.now (C.held chain.old) }
-    requires inside { Includes root.now.box extent }
-    requires rectangle { IsRectangle extent }
+    requires view { IsViewOver root.now extent (C.held chain.old) }
     requires whole { IsWhole at }
-    ensures bytes { IfOk result (λ tile. IfSome (view_image root.now extent (C.held chain.old))
-        (λ image. tile ≡ tile_bytes image at)) }
-    ensures length { IfOk result (λ tile. length tile ≡ tile_length root.now.tiles.format) }
     ensures zero { IfOk result (AreZeroOutside extent root.now.tiles.format at) }
-    ensures cause { IfErr result (HasSwapCause (C.counts chain.old) (C.counts chain.new) (C.counts chain.old).names) }
-    ensures read { IsRead
+    ensures tile { ReadsViewTile root.now extent at result
         (record { held = C.held chain.old; counts = C.counts chain.old; loans = C.loans chain.old; valid = C.is_valid chain.old })
         (record { held = C.held chain.new; counts = C.counts chain.new; loans = C.loans chain.new; valid = C.is_valid chain.new }) }
 {

@@ -6,7 +6,7 @@ ghost use Rattle.buffer_view.specs.declared.refused.BufferRefused.TheVariants as
 
 use model_buffers::EditRefused;
 use no_memory::NoMemory;
-use std::alloc::{AllocError, AllocFailed};
+use std::alloc::AllocError;
 use swap_store::SwapRefused;
 use thiserror::Error;
 
@@ -50,6 +50,14 @@ impl From<SwapRefused> for BufferRefused {
     }
 }
 
+impl From<EditRefused> for BufferRefused {
+    ghost from_gives = { λ edit refused. refused ≡ refusals.Edit edit };
+
+    fn from(refused: EditRefused) -> BufferRefused {
+        BufferRefused::Edit(refused)
+    }
+}
+
 impl From<NoMemory> for BufferRefused {
     ghost from_gives = { λ _ refused. refused ≡ refusals.NoMemory };
 
@@ -62,14 +70,6 @@ impl From<AllocError> for BufferRefused {
     ghost from_gives = { λ _ refused. refused ≡ refusals.NoMemory };
 
     fn from(_error: AllocError) -> BufferRefused {
-        BufferRefused::NoMemory
-    }
-}
-
-impl<T: Drop> From<AllocFailed<T>> for BufferRefused {
-    ghost from_gives = { λ _ refused. refused ≡ refusals.NoMemory };
-
-    fn from(_error: AllocFailed<T>) -> BufferRefused {
         BufferRefused::NoMemory
     }
 }

@@ -1,20 +1,15 @@
 //! What is written over a rectangle of a root.
 
-ghost use Rattle.std.specs.Prelude.{◌≡◌, ◌+◌, ℕ, IfErr, OnErr, OnOk, length};
+ghost use Rattle.std.specs.Prelude.{◌≡◌, ℕ, length};
 ghost use denote.Param.Send.{IsSync};
-ghost use Rattle.std.specs.Option.{option_map};
-ghost use Rattle.chain_owners.specs.Counts.{Grows};
-ghost use Rattle.chain_owners.specs.Owners.{Respects};
 ghost use Rattle.model_buffers.specs.BufferEdit.{IsPixel};
 ghost use Rattle.model_buffers.specs.Edits.{evenly};
 ghost use Rattle.model_images.specs.FromRaw.{byte_count, pixels_from_raw};
-ghost use Rattle.model_images.specs.Paint.{painted};
-ghost use Rattle.model_images.specs.TileCounts.{tile_count};
 ghost use Rattle.pixel_formats.specs.Row.{Pixel};
 ghost use Rattle.pixel_formats.specs.declared.format.Format.{Format};
 ghost use Rattle.plane_rect.specs.Rectangle.{Includes, Rectangle};
-ghost use Rattle.root_tiles.specs.Roots.{IsRootOver, root_image, root_names, root_shape};
-ghost use Rattle.swap_store.specs.Cause.{HasSwapCause};
+ghost use Rattle.root_tiles.specs.Roots.{IsRootOver};
+ghost use Rattle.root_tiles.specs.Writes.{IsWritten};
 
 use chain_contracts::TileChain;
 use plane_rect::Rect;
@@ -41,19 +36,9 @@ pub(crate) trait Written {
         requires over { IsRootOver root.old (C.held chain.old) }
         requires inside { Includes root.old.box rect }
         requires written { fits self.old root.old.tiles.format rect }
-        ensures image { OnOk result (root_image root.new (C.held chain.new) ≡ option_map
-            (λ image. painted image rect (pixels self.old root.old.tiles.format rect))
-            (root_image root.old (C.held chain.old))) }
-        ensures shape { root_shape root.new ≡ root_shape root.old }
-        ensures unchanged { OnErr result (root.new ≡ root.old) }
-        ensures same { OnErr result (root_image root.new (C.held chain.new) ≡ root_image root.old (C.held chain.old)) }
-        ensures over { IsRootOver root.new (C.held chain.new) }
-        ensures others { Respects (C.held chain.old) (C.held chain.new) (root_names root.old) (root_names root.new) }
-        ensures counts { Grows (tile_count rect) (C.counts chain.old) (C.counts chain.new) }
-        ensures cause { IfErr result (HasSwapCause (C.counts chain.old) (C.counts chain.new)
-            ((C.counts chain.old).names + tile_count rect)) }
-        ensures loans { C.loans chain.new ≡ C.loans chain.old }
-        ensures valid { C.is_valid chain.old → C.is_valid chain.new };
+        ensures { IsWritten rect (pixels self.old root.old.tiles.format rect) result root.old root.new
+            (record { held = C.held chain.old; counts = C.counts chain.old; loans = C.loans chain.old; valid = C.is_valid chain.old })
+            (record { held = C.held chain.new; counts = C.counts chain.new; loans = C.loans chain.new; valid = C.is_valid chain.new }) };
 }
 
 /// One pixel everywhere: a sample for each channel.

@@ -1,5 +1,5 @@
 -- Tiles of levels, and the four tiles below each.
-use Rattle.std.specs.Prelude.{◌≡◌, ◌≢◌, ℕ, ◌+◌, ◌-◌, ◌*◌, ◌<◌, ◌≤◌, ◌^◌, Contains, IfSome, IsSome, is_some, List, length, Option, None, Some, ◌==◌, if◌then◌else◌}
+use Rattle.std.specs.Prelude.{◌≡◌, ◌≢◌, ℕ, ◌+◌, ◌-◌, ◌*◌, ◌<◌, ◌≤◌, ◌^◌, Contains, IfErr, IfOk, IfSome, IsSome, is_some, List, length, Option, None, Result, Some, ◌==◌, if◌then◌else◌}
 use Rattle.plane_rect.specs.Rectangle.{Rectangle}
 use Rattle.std.specs.Map.{lookup}
 use Rattle.chain_owners.specs.Held.{Held}
@@ -10,6 +10,9 @@ use Rattle.model_images.specs.Image.{Image}
 use Rattle.model_images.specs.Level.{tile_at_level}
 use Rattle.model_images.specs.Paint.{blank, put_raw}
 use Rattle.level_tables.specs.Over.{IsTileOfLevel, tile_length}
+use Rattle.level_tables.specs.Steps.{HoldsMore, State, names_with_levels}
+use Rattle.swap_store.specs.Cause.{HasSwapCause}
+use Rattle.swap_store.specs.declared.refusal.SwapRefused.{SwapRefused}
 use Rattle.level_tables.specs.declared.four_tiles.FourTiles.{FourTiles}
 
 -- the bytes are those of a tile of a level, for which some tile that was put is averaged
@@ -26,6 +29,13 @@ HasNoneBelow put z at = (tile : Tile) → Contains put tile → tile_at_level ti
 abbrev pub IsFound : Option Image → List Tile → Format → ℕ → Tile → Option (List ℕ) → Type 0
 IsFound image put format z at None = HasNoneBelow put z at
 IsFound image put format z at (Some bytes) = IsFoundTile image put format z at bytes
+
+-- A tile of a level is found, or the swap refuses one that it is averaged from. Tiles of the levels 1 to z may be held then
+-- that weren't.
+pub record Finds (z : ℕ) (at : Tile) (result : Result (Option (List ℕ)) SwapRefused) (old new : State) : Type 0 where
+  pub found : IfOk result (IsFound (image_of old.tiles old.held) (positions old.tiles) old.tiles.format z at)
+  pub more : HoldsMore z old new
+  pub cause : (top : ℕ) → z ≤ top → IfErr result (HasSwapCause old.counts new.counts (names_with_levels top old))
 
 -- the name of a tile of a level, where the table holds it
 abbrev pub name_in : LevelTiles → ℕ → Tile → Option ℕ

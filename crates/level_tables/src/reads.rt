@@ -10,7 +10,7 @@ ghost use Rattle.swap_store.specs.Cause.{HasSwapCause};
 ghost use Rattle.level_tables.specs.LevelTiles.{hull_of, image_of, names, positions, same_level_tile};
 ghost use Rattle.level_tables.specs.Over.{IsOver, IsTileOfLevel, max_level, tile_length};
 ghost use Rattle.level_tables.specs.Steps.{HoldsMore, names_with_levels, state};
-ghost use Rattle.level_tables.specs.Found.{AreFound, HasNoneBelow, IsFound, IsHeldTile, IsInHalf, name_in};
+ghost use Rattle.level_tables.specs.Found.{AreFound, Finds, HasNoneBelow, IsHeldTile, IsInHalf, name_in};
 
 use crate::four_tiles::{FourTiles, at_level, is_in_half, tile_below};
 use crate::level_tile::LevelTile;
@@ -121,13 +121,9 @@ impl LevelTable {
         requires absent { lookup (same_level_tile (record { level = level; tile = at })) self.old.tiles.levels ≡ None }
         requires four { AreFound (image_of self.old.tiles (C.held chain.old)) (positions self.old.tiles)
             self.old.tiles.format (level - 1) at four.now }
-        ensures found { IfOk result (IsFound (image_of self.old.tiles (C.held chain.old)) (positions self.old.tiles)
-            self.old.tiles.format level at) }
-        ensures more { HoldsMore level
+        ensures finds { Finds level at result
             (state self.old.tiles (C.held chain.old) (C.counts chain.old))
             (state self.new.tiles (C.held chain.new) (C.counts chain.new)) }
-        ensures cause { (top : ℕ) → level ≤ top → IfErr result (HasSwapCause (C.counts chain.old) (C.counts chain.new)
-            (names_with_levels top (state self.old.tiles (C.held chain.old) (C.counts chain.old)))) }
         ensures loans { C.loans chain.new ≡ C.loans chain.old }
         ensures valid { C.is_valid chain.old → C.is_valid chain.new }
     {
@@ -176,13 +172,9 @@ impl LevelTable {
     ) -> Result<Option<Tile>, SwapRefused>
         requires over { IsOver self.old.tiles (C.held chain.old) }
         requires level { level ≤ max_level }
-        ensures found { IfOk result (IsFound (image_of self.old.tiles (C.held chain.old)) (positions self.old.tiles)
-            self.old.tiles.format level at) }
-        ensures more { HoldsMore level
+        ensures finds { Finds level at result
             (state self.old.tiles (C.held chain.old) (C.counts chain.old))
             (state self.new.tiles (C.held chain.new) (C.counts chain.new)) }
-        ensures cause { (top : ℕ) → level ≤ top → IfErr result (HasSwapCause (C.counts chain.old) (C.counts chain.new)
-            (names_with_levels top (state self.old.tiles (C.held chain.old) (C.counts chain.old)))) }
         ensures loans { C.loans chain.new ≡ C.loans chain.old }
         ensures valid { C.is_valid chain.old → C.is_valid chain.new }
     {

@@ -1,6 +1,6 @@
 //! The tiles of a root once something is written over a rectangle.
 
-ghost use Rattle.std.specs.Prelude.{◌≡◌, ◌≤◌, IfErr, IfOk, IsSome, IsTrue, OnOk, length, replicate, true, false};
+ghost use Rattle.std.specs.Prelude.{◌≡◌, IfErr, IfOk, IsSome, IsTrue, OnOk, length, replicate, true, false};
 ghost use Rattle.level_tables.specs.LevelTiles.{bytes_in};
 ghost use Rattle.level_tables.specs.Over.{tile_length};
 ghost use Rattle.model_images.specs.FromRaw.{byte_count, image_from_raw};
@@ -11,7 +11,8 @@ ghost use Rattle.plane_rect.specs.Tile.{IsWhole, tile_square};
 ghost use Rattle.swap_store.specs.Cause.{HasSwapCause};
 ghost use Rattle.root_tiles.specs.Chains.{IsRead};
 ghost use Rattle.root_tiles.specs.Cutting.{Covers, cutting_of};
-ghost use Rattle.root_tiles.specs.Paints.{IsPaint, IsPainted, paint_pixels};
+ghost use Rattle.root_tiles.specs.Paints.{IsPaint};
+ghost use Rattle.root_tiles.specs.Reads.{MakesTile};
 ghost use Rattle.root_tiles.specs.Roots.{IsRootOver};
 
 use crate::paint::Paint;
@@ -43,12 +44,7 @@ impl Root {
         requires paint { IsPaint self.now.tiles.format rect paint.now }
         requires ready { T.are_cut ready.old (cutting_of self.now rect paint.now) }
         ensures ready { OnOk result (T.are_cut ready.new (cutting_of self.now rect paint.now)) }
-        ensures length { IfOk result (λ tile. length tile ≡ tile_length self.now.tiles.format) }
-        ensures painted { IfOk result (λ tile. IsSome (C.held chain.old).content →
-            IsPainted self.now.tiles.format (bytes_in (C.held chain.old) self.now.tiles.put) rect
-            (paint_pixels self.now.tiles.format rect paint.now) at tile) }
-        ensures cause { IfErr result (HasSwapCause (C.counts chain.old) (C.counts chain.new) (C.counts chain.old).names) }
-        ensures read { IsRead
+        ensures made { MakesTile self.now rect paint.now at result
             (record { held = C.held chain.old; counts = C.counts chain.old; loans = C.loans chain.old; valid = C.is_valid chain.old })
             (record { held = C.held chain.new; counts = C.counts chain.new; loans = C.loans chain.new; valid = C.is_valid chain.new }) }
     {
@@ -70,12 +66,7 @@ impl Root {
         requires inside { Includes self.now.box rect }
         requires whole { IsWhole at }
         requires paint { IsPaint self.now.tiles.format rect paint.now }
-        ensures length { IfOk result (λ tile. length tile ≡ tile_length self.now.tiles.format) }
-        ensures painted { IfOk result (λ tile. IsSome (C.held chain.old).content →
-            IsPainted self.now.tiles.format (bytes_in (C.held chain.old) self.now.tiles.put) rect
-            (paint_pixels self.now.tiles.format rect paint.now) at tile) }
-        ensures cause { IfErr result (HasSwapCause (C.counts chain.old) (C.counts chain.new) (C.counts chain.old).names) }
-        ensures read { IsRead
+        ensures { MakesTile self.now rect paint.now at result
             (record { held = C.held chain.old; counts = C.counts chain.old; loans = C.loans chain.old; valid = C.is_valid chain.old })
             (record { held = C.held chain.new; counts = C.counts chain.new; loans = C.loans chain.new; valid = C.is_valid chain.new }) }
     {

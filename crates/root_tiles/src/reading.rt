@@ -9,7 +9,8 @@ ghost use Rattle.pixel_formats.specs.Format.{pixel_bytes};
 ghost use Rattle.tile_lines.specs.Lines.{AreLineTiles, HasFirstPixels, HasLine};
 ghost use Rattle.swap_store.specs.Cause.{HasSwapCause};
 ghost use Rattle.root_tiles.specs.Chains.{IsRead};
-ghost use Rattle.root_tiles.specs.Roots.{HasShape, IsPartOf, IsRootOver, part_shape, root_image, with_tile};
+ghost use Rattle.root_tiles.specs.Reads.{ReadsPart};
+ghost use Rattle.root_tiles.specs.Roots.{HasShape, IsRootOver, root_image, with_tile};
 
 use crate::root::Root;
 use chain_contracts::TileChain;
@@ -36,10 +37,7 @@ impl Root {
         requires over { IsRootOver self.now (C.held chain.old) }
         requires inside { Includes self.now.box rect }
         requires limits { InLimits rect }
-        ensures shape { IfOk result (HasShape (part_shape self.now rect)) }
-        ensures image { IfOk result (IsPartOf (root_image self.now (C.held chain.old)) rect) }
-        ensures cause { IfErr result (HasSwapCause (C.counts chain.old) (C.counts chain.new) (C.counts chain.old).names) }
-        ensures read { IsRead
+        ensures { ReadsPart self.now rect result
             (record { held = C.held chain.old; counts = C.counts chain.old; loans = C.loans chain.old; valid = C.is_valid chain.old })
             (record { held = C.held chain.new; counts = C.counts chain.new; loans = C.loans chain.new; valid = C.is_valid chain.new }) }
     {
@@ -54,10 +52,7 @@ impl Root {
         requires over { IsRootOver self.now (C.held chain.old) }
         requires inside { Includes self.now.box rect }
         requires limits { InLimits rect }
-        ensures shape { IfOk result (HasShape (part_shape self.now rect)) }
-        ensures image { IfOk result (IsPartOf (root_image self.now (C.held chain.old)) rect) }
-        ensures cause { IfErr result (HasSwapCause (C.counts chain.old) (C.counts chain.new) (C.counts chain.old).names) }
-        ensures read { IsRead
+        ensures { ReadsPart self.now rect result
             (record { held = C.held chain.old; counts = C.counts chain.old; loans = C.loans chain.old; valid = C.is_valid chain.old })
             (record { held = C.held chain.new; counts = C.counts chain.new; loans = C.loans chain.new; valid = C.is_valid chain.new }) }
     {
@@ -74,10 +69,7 @@ impl Root {
         requires over { IsRootOver self.now (C.held chain.old) }
         requires inside { Includes self.now.box rect }
         requires limits { InLimits rect }
-        ensures shape { IfOk result (HasShape (part_shape self.now rect)) }
-        ensures image { IfOk result (IsPartOf (root_image self.now (C.held chain.old)) rect) }
-        ensures cause { IfErr result (HasSwapCause (C.counts chain.old) (C.counts chain.new) (C.counts chain.old).names) }
-        ensures read { IsRead
+        ensures { ReadsPart self.now rect result
             (record { held = C.held chain.old; counts = C.counts chain.old; loans = C.loans chain.old; valid = C.is_valid chain.old })
             (record { held = C.held chain.new; counts = C.counts chain.new; loans = C.loans chain.new; valid = C.is_valid chain.new }) }
     {

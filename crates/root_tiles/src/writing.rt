@@ -1,19 +1,14 @@
 //! Rectangles of a root that are written, all or nothing.
 
-ghost use Rattle.std.specs.Prelude.{◌≡◌, ℕ, ◌+◌, ◌<◌, All, IfErr, IfOk, OnErr, OnOk, length, slice_index};
-ghost use Rattle.std.specs.Option.{option_map};
-ghost use Rattle.chain_owners.specs.Counts.{Grows};
-ghost use Rattle.chain_owners.specs.Owners.{Respects};
+ghost use Rattle.std.specs.Prelude.{◌≡◌, ℕ, ◌<◌, All, IfOk, length, slice_index};
 ghost use Rattle.model_images.specs.FromRaw.{byte_count, pixels_from_raw};
-ghost use Rattle.model_images.specs.Paint.{painted};
-ghost use Rattle.model_images.specs.TileCounts.{tile_count};
 ghost use Rattle.pixel_formats.specs.Format.{channels, depth};
 ghost use Rattle.pixel_formats.specs.Row.{sample_at};
 ghost use Rattle.plane_rect.specs.Rectangle.{Includes};
 ghost use Rattle.solid_patches.specs.Samples.{IsSampleOf};
-ghost use Rattle.swap_store.specs.Cause.{HasSwapCause};
 ghost use Rattle.root_tiles.specs.Paints.{IsSolid};
-ghost use Rattle.root_tiles.specs.Roots.{IsRootOver, root_image, root_names, root_shape};
+ghost use Rattle.root_tiles.specs.Roots.{IsRootOver};
+ghost use Rattle.root_tiles.specs.Writes.{IsWritten};
 
 use crate::makers::{SplitRaw, TileMaker};
 use crate::paint::Paint;
@@ -48,19 +43,9 @@ impl Root {
         requires over { IsRootOver self.old (C.held chain.old) }
         requires inside { Includes self.old.box rect }
         requires count { length bytes.now ≡ byte_count rect self.old.tiles.format }
-        ensures image { OnOk result (root_image self.new (C.held chain.new) ≡ option_map
-            (λ image. painted image rect (pixels_from_raw rect self.old.tiles.format bytes.now))
-            (root_image self.old (C.held chain.old))) }
-        ensures shape { root_shape self.new ≡ root_shape self.old }
-        ensures unchanged { OnErr result (self.new ≡ self.old) }
-        ensures same { OnErr result (root_image self.new (C.held chain.new) ≡ root_image self.old (C.held chain.old)) }
-        ensures over { IsRootOver self.new (C.held chain.new) }
-        ensures others { Respects (C.held chain.old) (C.held chain.new) (root_names self.old) (root_names self.new) }
-        ensures counts { Grows (tile_count rect) (C.counts chain.old) (C.counts chain.new) }
-        ensures cause { IfErr result (HasSwapCause (C.counts chain.old) (C.counts chain.new)
-            ((C.counts chain.old).names + tile_count rect)) }
-        ensures loans { C.loans chain.new ≡ C.loans chain.old }
-        ensures valid { C.is_valid chain.old → C.is_valid chain.new }
+        ensures { IsWritten rect (pixels_from_raw rect self.old.tiles.format bytes.now) result self.old self.new
+            (record { held = C.held chain.old; counts = C.counts chain.old; loans = C.loans chain.old; valid = C.is_valid chain.old })
+            (record { held = C.held chain.new; counts = C.counts chain.new; loans = C.loans chain.new; valid = C.is_valid chain.new }) }
     {
         self.write(chain, rect, &mut SplitRaw { bytes, workers })
     }
@@ -79,19 +64,9 @@ impl Root {
         requires over { IsRootOver self.old (C.held chain.old) }
         requires inside { Includes self.old.box rect }
         requires count { length bytes.now ≡ byte_count rect self.old.tiles.format }
-        ensures image { OnOk result (root_image self.new (C.held chain.new) ≡ option_map
-            (λ image. painted image rect (pixels_from_raw rect self.old.tiles.format bytes.now))
-            (root_image self.old (C.held chain.old))) }
-        ensures shape { root_shape self.new ≡ root_shape self.old }
-        ensures unchanged { OnErr result (self.new ≡ self.old) }
-        ensures same { OnErr result (root_image self.new (C.held chain.new) ≡ root_image self.old (C.held chain.old)) }
-        ensures over { IsRootOver self.new (C.held chain.new) }
-        ensures others { Respects (C.held chain.old) (C.held chain.new) (root_names self.old) (root_names self.new) }
-        ensures counts { Grows (tile_count rect) (C.counts chain.old) (C.counts chain.new) }
-        ensures cause { IfErr result (HasSwapCause (C.counts chain.old) (C.counts chain.new)
-            ((C.counts chain.old).names + tile_count rect)) }
-        ensures loans { C.loans chain.new ≡ C.loans chain.old }
-        ensures valid { C.is_valid chain.old → C.is_valid chain.new }
+        ensures { IsWritten rect (pixels_from_raw rect self.old.tiles.format bytes.now) result self.old self.new
+            (record { held = C.held chain.old; counts = C.counts chain.old; loans = C.loans chain.old; valid = C.is_valid chain.old })
+            (record { held = C.held chain.new; counts = C.counts chain.new; loans = C.loans chain.new; valid = C.is_valid chain.new }) }
     {
         self.write(chain, rect, &mut Paint::Raw(bytes))
     }
@@ -112,19 +87,9 @@ impl Root {
         requires inside { Includes self.old.box rect }
         requires count { length samples.now ≡ channels self.old.tiles.format }
         requires each { All (IsSampleOf self.old.tiles.format) samples.now }
-        ensures image { OnOk result (root_image self.new (C.held chain.new) ≡ option_map
-            (λ image. painted image rect (λ u v. slice_index samples.now))
-            (root_image self.old (C.held chain.old))) }
-        ensures shape { root_shape self.new ≡ root_shape self.old }
-        ensures unchanged { OnErr result (self.new ≡ self.old) }
-        ensures same { OnErr result (root_image self.new (C.held chain.new) ≡ root_image self.old (C.held chain.old)) }
-        ensures over { IsRootOver self.new (C.held chain.new) }
-        ensures others { Respects (C.held chain.old) (C.held chain.new) (root_names self.old) (root_names self.new) }
-        ensures counts { Grows (tile_count rect) (C.counts chain.old) (C.counts chain.new) }
-        ensures cause { IfErr result (HasSwapCause (C.counts chain.old) (C.counts chain.new)
-            ((C.counts chain.old).names + tile_count rect)) }
-        ensures loans { C.loans chain.new ≡ C.loans chain.old }
-        ensures valid { C.is_valid chain.old → C.is_valid chain.new }
+        ensures { IsWritten rect (λ u v. slice_index samples.now) result self.old self.new
+            (record { held = C.held chain.old; counts = C.counts chain.old; loans = C.loans chain.old; valid = C.is_valid chain.old })
+            (record { held = C.held chain.new; counts = C.counts chain.new; loans = C.loans chain.new; valid = C.is_valid chain.new }) }
     {
         let tile = self.solid_tile(samples)?;
         self.write(chain, rect, &mut Paint::Solid(&tile))
@@ -153,19 +118,9 @@ impl Root {
         requires over { IsRootOver self.old (C.held chain.old) }
         requires inside { Includes self.old.box rect }
         requires fits { M.fits maker.old self.old rect }
-        ensures image { OnOk result (root_image self.new (C.held chain.new) ≡ option_map
-            (λ image. painted image rect (M.pixels maker.old self.old.tiles.format rect))
-            (root_image self.old (C.held chain.old))) }
-        ensures shape { root_shape self.new ≡ root_shape self.old }
-        ensures unchanged { OnErr result (self.new ≡ self.old) }
-        ensures same { OnErr result (root_image self.new (C.held chain.new) ≡ root_image self.old (C.held chain.old)) }
-        ensures over { IsRootOver self.new (C.held chain.new) }
-        ensures others { Respects (C.held chain.old) (C.held chain.new) (root_names self.old) (root_names self.new) }
-        ensures counts { Grows (tile_count rect) (C.counts chain.old) (C.counts chain.new) }
-        ensures cause { IfErr result (HasSwapCause (C.counts chain.old) (C.counts chain.new)
-            ((C.counts chain.old).names + tile_count rect)) }
-        ensures loans { C.loans chain.new ≡ C.loans chain.old }
-        ensures valid { C.is_valid chain.old → C.is_valid chain.new }
+        ensures { IsWritten rect (M.pixels maker.old self.old.tiles.format rect) result self.old self.new
+            (record { held = C.held chain.old; counts = C.counts chain.old; loans = C.loans chain.old; valid = C.is_valid chain.old })
+            (record { held = C.held chain.new; counts = C.counts chain.new; loans = C.loans chain.new; valid = C.is_valid chain.new }) }
     {
         self.table.reserve(rect.tiles().count())?;
         let mut made = NewTiles::new(self.alloc, self.format());

@@ -1,5 +1,5 @@
 -- Parts of images by which alone rectangles can be read under a policy.
-use Rattle.std.proofs.Common.{◌≡◌, ℕ, zero, suc, ◌+◌, ◌-◌, ◌*◌, ◌<◌, ◌≤◌, false, max, min, refl, sym, ap, subst, ◌∙◌, arith}
+use Rattle.std.proofs.Common.{◌≡◌, ℕ, zero, suc, ◌+◌, ◌-◌, ◌*◌, ◌<◌, ◌≤◌, ◌⊎◌, inl, inr, false, max, min, refl, sym, ap, subst, ◌∙◌, arith}
 use Rattle.std.specs.Prelude.{IfSome}
 use Rattle.std.proofs.lemmas.Bool.Decides.{nat_tests}
 use Rattle.plane_rect.specs.Rectangle.{InLimits, Includes, Inside, IsRectangle, Rectangle, area, empty, end_column, end_row, is_empty, meet, spanning}
@@ -168,32 +168,25 @@ module _ (box r part : Rectangle) (wide : 0 < box.width) (high : 0 < box.height)
 no-inside : (u v : ℕ) → ¬ Inside u v empty
 no-inside u v there = omega (arith, there.column)
 
--- nothing is read of a box of no position
-pub empty-box-clamp : (box r : Rectangle) → box ≡ empty → IsPart Clamp box r empty
-empty-box-clamp box r none = record {
+-- nothing is read of a box of no position, or for a rectangle of none
+pub unread : (policy : Abyss) → ((image : Image) → ((m n : ℕ) → ¬ Inside m n image.box) → (u v c : ℕ) → abyss_at image policy u v c ≡ 0) → (box r : Rectangle)
+    → (r ≡ empty) ⊎ (box ≡ empty) → IsPart policy box r empty
+unread policy is_zero box r none = record {
   rectangle = λ is. IsRectangle-empty;
   inside = λ u v there. absurd (no-inside u v there);
-  samples = λ image u v c over there.
-      clamp-empty (cut image empty) no-inside u v c
-      ∙ sym (clamp-empty image (λ m n in_image. no-inside m n (subst (λ (b : Rectangle). Inside m n b) (over ∙ none) in_image)) u v c);
+  samples = λ image u v c over there. elim none [
+    | inl few ↦ absurd (no-inside u v (subst (λ (b : Rectangle). Inside u v b) few there))
+    | inr few ↦
+        is_zero (cut image empty) no-inside u v c
+        ∙ sym (is_zero image (λ m n in_image. no-inside m n (subst (λ (b : Rectangle). Inside m n b) (over ∙ few) in_image)) u v c)
+  ];
 }
 
-pub empty-box-loop : (box r : Rectangle) → box ≡ empty → IsPart Loop box r empty
-empty-box-loop box r none = record {
-  rectangle = λ is. IsRectangle-empty;
-  inside = λ u v there. absurd (no-inside u v there);
-  samples = λ image u v c over there.
-      loop-empty (cut image empty) no-inside u v c
-      ∙ sym (loop-empty image (λ m n in_image. no-inside m n (subst (λ (b : Rectangle). Inside m n b) (over ∙ none) in_image)) u v c);
-}
+pub unread-clamp : (box r : Rectangle) → (r ≡ empty) ⊎ (box ≡ empty) → IsPart Clamp box r empty
+unread-clamp = unread Clamp (λ image none u v c. clamp-empty image none u v c)
 
--- nothing is read for a rectangle of no position
-pub empty-enough : (policy : Abyss) (box r : Rectangle) → r ≡ empty → IsPart policy box r empty
-empty-enough policy box r none = record {
-  rectangle = λ is. IsRectangle-empty;
-  inside = λ u v there. absurd (no-inside u v there);
-  samples = λ image u v c over there. absurd (no-inside u v (subst (λ (b : Rectangle). Inside u v b) none there));
-}
+pub unread-loop : (box r : Rectangle) → (r ≡ empty) ⊎ (box ≡ empty) → IsPart Loop box r empty
+unread-loop = unread Loop (λ image none u v c. loop-empty image none u v c)
 
 -- ---- the levels of a view
 

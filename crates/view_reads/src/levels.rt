@@ -1,15 +1,14 @@
 //! Levels of the images of views.
 
-ghost use Rattle.std.specs.Prelude.{◌≡◌, ℕ, ◌≤◌, IfErr, IfOk, length, replicate};
+ghost use Rattle.std.specs.Prelude.{◌≡◌, ◌≤◌, IfErr, IfOk, length, replicate};
 ghost use Rattle.level_tables.specs.Over.{IsTileOfLevel, max_level, tile_length};
 ghost use Rattle.model_images.specs.Level.{halved_image};
 ghost use Rattle.model_images.specs.Raw.{tile_bytes};
-ghost use Rattle.plane_rect.specs.Rectangle.{InLimits, Includes, IsRectangle};
+ghost use Rattle.plane_rect.specs.Rectangle.{InLimits};
 ghost use Rattle.swap_store.specs.Cause.{HasSwapCause};
 ghost use Rattle.root_tiles.specs.Chains.{IsRead};
-ghost use Rattle.root_tiles.specs.Growth.{HoldsMoreTiles, names_with_root_levels, root_state};
 ghost use Rattle.root_tiles.specs.Roots.{HasShape, IsPartOf, IsRootOver, part_shape};
-ghost use Rattle.view_reads.specs.Views.{IsPartOfLevel, view_image};
+ghost use Rattle.view_reads.specs.Views.{IsPartOfLevel, IsViewOver, ReadsLevels, view_image};
 ghost use Rattle.view_reads.specs.Reaches.{IsReach};
 
 use crate::positions::{level_box, source_of, square_below};
@@ -68,24 +67,22 @@ pub fn level_tile<C: TileChain>(
     level: u32,
     at: TileAt,
 ) -> Result<Tile, SwapRefused>
-    requires over { IsRootOver root.old (C.held chain.old) }
-    requires inside { Includes root.old.box extent }
-    requires rectangle { IsRectangle extent }
+    requires view { IsViewOver root.old extent (C.held chain.old) }
     requires level { level ≤ max_level }
     ensures bytes { IfOk result (IsTileOfLevel (view_image root.old extent (C.held chain.old)) level at) }
     ensures length { IfOk result (λ tile. length tile ≡ tile_length root.old.tiles.format) }
-    ensures more { HoldsMoreTiles level
-        (root_state root.old (C.held chain.old) (C.counts chain.old))
-        (root_state root.new (C.held chain.new) (C.counts chain.new)) }
-    ensures causes { (top : ℕ) → level ≤ top → IfErr result (HasSwapCause (C.counts chain.old) (C.counts chain.new)
-        (names_with_root_levels top (root_state root.old (C.held chain.old) (C.counts chain.old)))) }
-    ensures loans { C.loans chain.new ≡ C.loans chain.old }
-    ensures valid { C.is_valid chain.old → C.is_valid chain.new }
+    ensures reads { ReadsLevels level result root.old root.new
+        (record { held = C.held chain.old; counts = C.counts chain.old; loans = C.loans chain.old; valid = C.is_valid chain.old })
+        (record { held = C.held chain.new; counts = C.counts chain.new; loans = C.loans chain.new; valid = C.is_valid chain.new }) }
 {
     match reach_of(root.bounds(), extent, level, at) {
         Reach::Outside => zero_tile(root, chain),
         Reach::Contained => root.tile(chain, level, at),
-        Reach::Edge => edge_tile(root, chain, extent, level, at),
+        Reach::Edge if level == 0 => view_tile(root, chain, extent, at),
+        Reach::Edge => {
+            let part = level_part(root, chain, extent, level - 1, square_below(at))?;
+            Ok(half_tile(root.allocator(), &part, at)?)
+        }
     }
 }
 
@@ -99,37 +96,6 @@ fn zero_tile<C: TileChain>(root: &Root, chain: &mut C) -> Result<Tile, SwapRefus
         (record { held = C.held chain.new; counts = C.counts chain.new; loans = C.loans chain.new; valid = C.is_valid chain.new }) }
 {
     Ok(chain.zero(TILE_PIXELS * root.format().pixel_bytes())?)
-}
-
-/// Returns a tile of a level that is averaged for the view alone, and isn't held.
-#[cycle(levels)]
-fn edge_tile<C: TileChain>(
-    root: &mut Root,
-    chain: &mut C,
-    extent: Rect,
-    level: u32,
-    at: TileAt,
-) -> Result<Tile, SwapRefused>
-    requires over { IsRootOver root.old (C.held chain.old) }
-    requires inside { Includes root.old.box extent }
-    requires rectangle { IsRectangle extent }
-    requires level { level ≤ max_level }
-    ensures bytes { IfOk result (IsTileOfLevel (view_image root.old extent (C.held chain.old)) level at) }
-    ensures length { IfOk result (λ tile. length tile ≡ tile_length root.old.tiles.format) }
-    ensures more { HoldsMoreTiles level
-        (root_state root.old (C.held chain.old) (C.counts chain.old))
-        (root_state root.new (C.held chain.new) (C.counts chain.new)) }
-    ensures causes { (top : ℕ) → level ≤ top → IfErr result (HasSwapCause (C.counts chain.old) (C.counts chain.new)
-        (names_with_root_levels top (root_state root.old (C.held chain.old) (C.counts chain.old)))) }
-    ensures loans { C.loans chain.new ≡ C.loans chain.old }
-    ensures valid { C.is_valid chain.old → C.is_valid chain.new }
-{
-    if level == 0 {
-        return view_tile(root, chain, extent, at);
-    }
-    let part = level_part(root, chain, extent, level - 1, square_below(at))?;
-    let tile = half_tile(root.allocator(), &part, at)?;
-    Ok(tile)
 }
 
 /// Returns a tile of the image of half an image's coordinates.
@@ -154,20 +120,14 @@ pub fn level_part<C: TileChain>(
     level: u32,
     rect: Rect,
 ) -> Result<Patch, SwapRefused>
-    requires over { IsRootOver root.old (C.held chain.old) }
-    requires inside { Includes root.old.box extent }
-    requires rectangle { IsRectangle extent }
+    requires view { IsViewOver root.old extent (C.held chain.old) }
     requires level { level ≤ max_level }
     requires limits { InLimits rect }
     ensures shape { IfOk result (HasShape (part_shape root.old rect)) }
     ensures image { IfOk result (IsPartOfLevel (view_image root.old extent (C.held chain.old)) level rect) }
-    ensures more { HoldsMoreTiles level
-        (root_state root.old (C.held chain.old) (C.counts chain.old))
-        (root_state root.new (C.held chain.new) (C.counts chain.new)) }
-    ensures causes { (top : ℕ) → level ≤ top → IfErr result (HasSwapCause (C.counts chain.old) (C.counts chain.new)
-        (names_with_root_levels top (root_state root.old (C.held chain.old) (C.counts chain.old)))) }
-    ensures loans { C.loans chain.new ≡ C.loans chain.old }
-    ensures valid { C.is_valid chain.old → C.is_valid chain.new }
+    ensures reads { ReadsLevels level result root.old root.new
+        (record { held = C.held chain.old; counts = C.counts chain.old; loans = C.loans chain.old; valid = C.is_valid chain.old })
+        (record { held = C.held chain.new; counts = C.counts chain.new; loans = C.loans chain.new; valid = C.is_valid chain.new }) }
 {
     if level == 0 {
         return first_part(root, chain, extent, rect);
@@ -187,9 +147,7 @@ fn first_part<C: TileChain>(
     extent: Rect,
     rect: Rect,
 ) -> Result<Patch, SwapRefused>
-    requires over { IsRootOver root.now (C.held chain.old) }
-    requires inside { Includes root.now.box extent }
-    requires rectangle { IsRectangle extent }
+    requires view { IsViewOver root.now extent (C.held chain.old) }
     requires limits { InLimits rect }
     ensures shape { IfOk result (HasShape (part_shape root.now rect)) }
     ensures image { IfOk result (IsPartOf (view_image root.now extent (C.held chain.old)) rect) }

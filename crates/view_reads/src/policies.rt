@@ -1,16 +1,16 @@
 //! Levels of the images of views, read under a policy.
 
-ghost use Rattle.std.specs.Prelude.{◌≡◌, ℕ, ◌+◌, ◌-◌, ◌<◌, ◌≤◌, IfErr, IfOk, max, min};
+ghost use Rattle.std.specs.Prelude.{◌≡◌, ◌+◌, ◌-◌, ◌<◌, ◌≤◌, ◌⊎◌, IfErr, IfOk, IsTrue, false, max, min};
 ghost use Rattle.level_tables.specs.Over.{max_level};
 ghost use Rattle.model_images.specs.Abyss.{abyss_at, wrapped};
 ghost use Rattle.model_images.specs.Image.{image_from_fn};
 ghost use Rattle.model_images.specs.TileCounts.{level_tiles};
-ghost use Rattle.plane_rect.specs.Rectangle.{InLimits, Includes, IsRectangle, Within, plane_side};
+ghost use Rattle.plane_rect.specs.Rectangle.{InLimits, Within, empty, is_empty, plane_side};
 ghost use Rattle.swap_store.specs.Cause.{HasSwapCause};
 ghost use Rattle.root_tiles.specs.Growth.{HoldsMoreTiles, root_state};
-ghost use Rattle.root_tiles.specs.Roots.{HasShape, IsRootOver, part_shape};
+ghost use Rattle.root_tiles.specs.Roots.{HasShape, part_shape};
 ghost use Rattle.view_reads.specs.Needed.{IsEnough, IsLoopSide, moved};
-ghost use Rattle.view_reads.specs.Views.{IsReadOfLevel, view_image};
+ghost use Rattle.view_reads.specs.Views.{IsReadOfLevel, IsViewOver, view_image};
 
 use crate::levels::level_part;
 use crate::positions::level_box;
@@ -39,9 +39,7 @@ pub fn get<C: TileChain>(
     abyss: Abyss,
     rect: Rect,
 ) -> Result<Patch, SwapRefused>
-    requires over { IsRootOver root.old (C.held chain.old) }
-    requires inside { Includes root.old.box extent }
-    requires rectangle { IsRectangle extent }
+    requires view { IsViewOver root.old extent (C.held chain.old) }
     requires level { level ≤ max_level }
     requires limits { InLimits rect }
     ensures shape { IfOk result (HasShape (part_shape root.old rect)) }
@@ -112,11 +110,19 @@ fn needed(abyss: Abyss, bounds: Rect, rect: Rect) -> Source
     }
 }
 
+/// Returns whether a policy reads nothing of a box for a rectangle, since one of them has no position.
+fn is_unread(bounds: &Rect, rect: &Rect) -> bool
+    ensures none { IsTrue result → (rect.now ≡ empty) ⊎ (bounds.now ≡ empty) }
+    ensures some { result ≡ false → (is_empty rect.now ≡ false) × (is_empty bounds.now ≡ false) }
+{
+    rect.is_empty() || bounds.is_empty()
+}
+
 /// Returns the smallest rectangle of the positions of a box that are nearest to those of a rectangle.
 fn clamped(bounds: Rect, rect: Rect) -> Source
     ensures { IsEnough Abyss.Clamp bounds rect result }
 {
-    if rect.is_empty() || bounds.is_empty() {
+    if is_unread(&bounds, &rect) {
         return Source::in_place(Rect::EMPTY);
     }
     let (first_column, end_column) = (bounds.first_column(), bounds.end_column());
@@ -143,10 +149,11 @@ fn nearest(start: u32, end: u32, n: u32) -> u32
 fn looped(bounds: Rect, rect: Rect) -> Source
     ensures { IsEnough Abyss.Loop bounds rect result }
 {
-    if rect.is_empty() || bounds.is_empty() {
+    if is_unread(&bounds, &rect) {
         return Source::in_place(Rect::EMPTY);
     }
-    let (columns, rows) = (loop_columns(&bounds, &rect), loop_rows(&bounds, &rect));
+    let columns = loop_side(columns_of(&bounds), columns_of(&rect));
+    let rows = loop_side(rows_of(&bounds), rows_of(&rect));
     Source {
         part: Rect::spanning(
             columns.from,
@@ -171,66 +178,65 @@ pub(crate) struct Side {
     pub count: u32,
 }
 
-/// Returns the columns of a box that a rectangle reads periodically.
-fn loop_columns(bounds: &Rect, rect: &Rect) -> Side
-    requires some { 0 < bounds.now.width }
-    requires few { 0 < rect.now.width }
-    ensures { IsLoopSide bounds.now.first_column bounds.now.width rect.now.first_column rect.now.width result }
-{
-    loop_side(
-        bounds.first_column(),
-        bounds.end_column() - bounds.first_column(),
-        rect.first_column(),
-        rect.end_column() - rect.first_column(),
-    )
+/// So many columns or rows of the plane from one on.
+#[derive(Clone, Copy)]
+struct Span {
+    start: u32,
+    len: u32,
+    ghost in_plane: { start + len ≤ plane_side },
 }
 
-/// Returns the rows of a box that a rectangle reads periodically.
-fn loop_rows(bounds: &Rect, rect: &Rect) -> Side
-    requires some { 0 < bounds.now.height }
-    requires few { 0 < rect.now.height }
-    ensures { IsLoopSide bounds.now.first_row bounds.now.height rect.now.first_row rect.now.height result }
+/// Returns the columns of a rectangle.
+fn columns_of(rect: &Rect) -> Span
+    ensures start { result.start ≡ rect.now.first_column }
+    ensures len { result.len ≡ rect.now.width }
 {
-    loop_side(
-        bounds.first_row(),
-        bounds.end_row() - bounds.first_row(),
-        rect.first_row(),
-        rect.end_row() - rect.first_row(),
-    )
+    Span {
+        start: rect.first_column(),
+        len: rect.end_column() - rect.first_column(),
+    }
 }
 
-/// Returns the part of `len` columns or rows from `start` on that `count` of them from `first` on read
-/// periodically: all of them, unless the others are in one period.
-fn loop_side(start: u32, len: u32, first: u32, count: u32) -> Side
-    requires some { 0 < len }
-    requires few { 0 < count }
-    requires plane { start + len ≤ plane_side }
-    requires other_plane { first + count ≤ plane_side }
-    ensures { IsLoopSide start len first count result }
+/// Returns the rows of a rectangle.
+fn rows_of(rect: &Rect) -> Span
+    ensures start { result.start ≡ rect.now.first_row }
+    ensures len { result.len ≡ rect.now.height }
 {
-    let from = wrapped(start, len, first);
-    if from + count <= start + len {
+    Span {
+        start: rect.first_row(),
+        len: rect.end_row() - rect.first_row(),
+    }
+}
+
+/// Returns the part of columns or rows that others read periodically: all of them, unless the others are in one
+/// period.
+fn loop_side(bounds: Span, read: Span) -> Side
+    requires some { 0 < bounds.len }
+    requires few { 0 < read.len }
+    ensures { IsLoopSide bounds.start bounds.len read.start read.len result }
+{
+    let from = wrapped(bounds, read.start);
+    if from + read.len <= bounds.start + bounds.len {
         return Side {
             from,
-            to: first,
-            count,
+            to: read.start,
+            count: read.len,
         };
     }
     Side {
-        from: start,
-        to: start,
-        count: len,
+        from: bounds.start,
+        to: bounds.start,
+        count: bounds.len,
     }
 }
 
-/// Returns, of the `len` numbers from `start` on, the one that is a whole multiple of `len` away from a number.
-fn wrapped(start: u32, len: u32, number: u32) -> u32
-    requires some { 0 < len }
-    requires plane { start + len ≤ plane_side }
-    ensures value { result ≡ wrapped start len number }
-    ensures within { Within start len result }
+/// Returns, of a span, the number that is a whole multiple of its length away from a number.
+fn wrapped(span: Span, number: u32) -> u32
+    requires { 0 < span.len }
+    ensures value { result ≡ wrapped span.start span.len number }
+    ensures within { Within span.start span.len result }
 {
-    let (first, period) = (u64::from(start), u64::from(len));
+    let (first, period) = (u64::from(span.start), u64::from(span.len));
     let shifted = u64::from(number) + first * period - first;
-    start + (shifted % period) as u32
+    span.start + (shifted % period) as u32
 }

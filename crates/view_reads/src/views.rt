@@ -1,13 +1,6 @@
 //! Tiles of the images of views.
 
-ghost use Rattle.std.specs.Prelude.{◌≡◌, IfErr, IfOk, IfSome, length};
-ghost use Rattle.level_tables.specs.Over.{tile_length};
-ghost use Rattle.model_images.specs.Raw.{tile_bytes};
-ghost use Rattle.plane_rect.specs.Rectangle.{Includes, IsRectangle};
-ghost use Rattle.swap_store.specs.Cause.{HasSwapCause};
-ghost use Rattle.root_tiles.specs.Chains.{IsRead};
-ghost use Rattle.root_tiles.specs.Roots.{IsRootOver};
-ghost use Rattle.view_reads.specs.Views.{view_image};
+ghost use Rattle.view_reads.specs.Views.{IsViewOver, ReadsViewTile};
 
 use chain_contracts::TileChain;
 use plane_rect::{Rect, TileAt};
@@ -29,14 +22,8 @@ pub fn view_tile<C: TileChain>(
     extent: Rect,
     at: TileAt,
 ) -> Result<Tile, SwapRefused>
-    requires over { IsRootOver root.now (C.held chain.old) }
-    requires inside { Includes root.now.box extent }
-    requires rectangle { IsRectangle extent }
-    ensures bytes { IfOk result (λ tile. IfSome (view_image root.now extent (C.held chain.old))
-        (λ image. tile ≡ tile_bytes image at)) }
-    ensures length { IfOk result (λ tile. length tile ≡ tile_length root.now.tiles.format) }
-    ensures cause { IfErr result (HasSwapCause (C.counts chain.old) (C.counts chain.new) (C.counts chain.old).names) }
-    ensures read { IsRead
+    requires { IsViewOver root.now extent (C.held chain.old) }
+    ensures { ReadsViewTile root.now extent at result
         (record { held = C.held chain.old; counts = C.counts chain.old; loans = C.loans chain.old; valid = C.is_valid chain.old })
         (record { held = C.held chain.new; counts = C.counts chain.new; loans = C.loans chain.new; valid = C.is_valid chain.new }) }
 {

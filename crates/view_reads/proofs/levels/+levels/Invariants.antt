@@ -5,14 +5,11 @@ use Rattle.root_tiles.specs.Roots.{HasShape, IsRootOver, part_shape}
 use Rattle.view_reads.proofs.LevelParts.{LaidLevel}
 use Rattle.view_reads.proofs.levels.+levels.Given as goal
 
-abbrev pub decreases-edge_tile : goal.decreases-edge_tile
-decreases-edge_tile g l = 3 * l.level
-
 abbrev pub decreases-level_part : goal.decreases-level_part
-decreases-level_part g l = 3 * l.level + 2
+decreases-level_part g l = 2 * l.level + 1
 
 abbrev pub decreases-level_tile : goal.decreases-level_tile
-decreases-level_tile g l = 3 * l.level + 1
+decreases-level_tile g l = 2 * l.level
 
 abbrev pub invariant-level_part-loop-at : goal.invariant-level_part-loop-at
 invariant-level_part-loop-at g l =

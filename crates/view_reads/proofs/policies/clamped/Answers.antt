@@ -1,24 +1,19 @@
-use Rattle.std.proofs.Common.{◌≡◌, ◌-◌, ◌∙◌, sym}
+use Rattle.std.proofs.Common.{◌≡◌, ◌-◌}
 use Rattle.pixel_formats.specs.declared.abyss.Abyss.TheVariants.{Clamp}
 use Rattle.plane_rect.specs.Rectangle.{empty, end_column, end_row, spanning}
-use Rattle.view_reads.proofs.ReadParts.{clamp-enough, empty-box-clamp, empty-enough, in-place, side_end, side_start, some-sides}
+use Rattle.view_reads.proofs.ReadParts.{clamp-enough, in-place, side_end, side_start, some-sides, unread-clamp}
 use Rattle.view_reads.proofs.policies.clamped.Goals as goal
-use Rattle.view_reads.proofs.policies.clamped.Goals.{then-is_empty-via-then-is_empty, then-is_empty-via-else-is_empty+then-is_empty-2}
 
-pub returns-then-is_empty : goal.returns-then-is_empty
-returns-then-is_empty c =
+pub returns-then-is_unread : goal.returns-then-is_unread
+returns-then-is_unread c =
     in-place Clamp c.args.bounds c.args.rect empty c.in_place.result c.in_place.ensures.part c.in_place.ensures.placed
-    (elim c.then-is_empty.branch [
-      | then-is_empty-via-then-is_empty w ↦ empty-enough Clamp c.args.bounds c.args.rect (c.is_empty.ensures.empty.0 w.if-is_empty.true)
-      | then-is_empty-via-else-is_empty+then-is_empty-2 w ↦
-          empty-box-clamp c.args.bounds c.args.rect (w.is_empty-else-is_empty.ensures.empty.0 w.if-is_empty-2.true)
-    ])
+    (unread-clamp c.args.bounds c.args.rect (c.is_unread.ensures.none c.if-is_unread.true))
 
 pub returns : goal.returns
 returns c =
     let box = c.args.bounds in
     let r = c.args.rect in
-    let some = some-sides box (sym c.is_empty-else-is_empty.ensures.value ∙ c.if-is_empty-2.false) in
+    let some = some-sides box (c.is_unread.ensures.some c.if-is_unread.false).1 in
     let is : c.spanning.result ≡ spanning (side_start box.first_column (end_column box) r.first_column) (side_start box.first_row (end_row box) r.first_row)
     (side_end box.first_column (end_column box) (end_column r - 1)) (side_end box.first_row (end_row box) (end_row r - 1)) =
     rw (

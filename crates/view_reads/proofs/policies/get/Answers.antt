@@ -12,14 +12,14 @@ use Rattle.view_reads.proofs.policies.get.Goals as goal
 pub level_part-requires-clause-limits : goal.level_part-requires-clause-limits
 level_part-requires-clause-limits g c =
     let P : Rectangle → Type 0 = λ box. IsEnough c.args.abyss box c.args.rect c.needed-source.result in
-    needed-limits c.args.abyss c.args.root.now.box c.args.extent c.args.rect c.needed-source.result c.args.level c.requires.over.limits c.requires.inside c.requires.rectangle
+    needed-limits c.args.abyss c.args.root.now.box c.args.extent c.args.rect c.needed-source.result c.args.level c.requires.view.over.limits c.requires.view.inside c.requires.view.rectangle
     (subst P c.level_box.ensures c.needed-source.ensures)
 
 pub put_at-placed-requires-clause-limits : goal.put_at-placed-requires-clause-limits
 put_at-placed-requires-clause-limits g c =
     let P : Rectangle → Type 0 = λ box. IsEnough c.args.abyss box c.args.rect c.needed-source.result in
     placed-limits c.needed-source.result.part c.needed-source.result.placed c.needed-source.ensures.width c.needed-source.ensures.height
-    (needed-limits c.args.abyss c.args.root.now.box c.args.extent c.args.rect c.needed-source.result c.args.level c.requires.over.limits c.requires.inside c.requires.rectangle
+    (needed-limits c.args.abyss c.args.root.now.box c.args.extent c.args.rect c.needed-source.result c.args.level c.requires.view.over.limits c.requires.view.inside c.requires.view.rectangle
     (subst P c.level_box.ensures c.needed-source.ensures))
 
 pub put_at-placed-requires-clause-width : goal.put_at-placed-requires-clause-width
@@ -36,7 +36,7 @@ returns-in_err-part-clause-cause g c =
     rw (p.1, p.2) (cause-plain c.args.level
     (root_state c.args.root.now (g.C.ChainMeaning.held c.args.chain.now) (g.C.ChainMeaning.counts c.args.chain.now))
     (root_state c.level_part.new.root (g.C.ChainMeaning.held c.level_part.new.chain) (g.C.ChainMeaning.counts c.level_part.new.chain)) _
-    (c.in_err-part.ensures.causes c.args.level (omega arith)))
+    (c.in_err-part.ensures.reads.causes c.args.level (omega arith)))
 
 pub returns-clause-image : goal.returns-clause-image
 returns-clause-image g c =

@@ -1,14 +1,15 @@
-use Rattle.std.proofs.Common.{sym, ◌∙◌}
+use Rattle.std.proofs.Common.{refl, sym, ◌∙◌}
 use Rattle.model_buffers.specs.BufferEdit.{fill_refused}
-use Rattle.buffer_layouts.proofs.Answering.{refused_by_view}
+use Rattle.model_buffers.specs.declared.edit.BufferEdit.TheVariants.{Fill}
+use Rattle.buffer_layouts.proofs.Answering.{target-known, target-unknown}
 use Rattle.buffer_layouts.proofs.layout.BufferLayout.fill_target.Goals as goal
 
-pub returns-in-Some-fill_refused-clause-refused : goal.returns-in-Some-fill_refused-clause-refused
-returns-in-Some-fill_refused-clause-refused c =
-    refused_by_view c.args.self.now.layout c.args.name (λ shape. fill_refused shape c.args.rect c.args.samples.now) c.in-Some.view
-    (sym c.view.ensures.value ∙ c.in-Some.is) ∙ sym c.fill_refused.ensures ∙ c.in-Some-fill_refused.is
+pub returns-in-Some : goal.returns-in-Some
+returns-in-Some c =
+    target-known c.args.self.now.layout c.args.name (Fill c.args.name c.args.rect c.args.samples.now) (λ shape. fill_refused shape c.args.rect c.args.samples.now) refl
+    c.in-Some.view c.fill_refused.result c.unless_refused.result (sym c.view.ensures.value ∙ c.in-Some.is) c.fill_refused.ensures c.unless_refused.ensures.view c.unless_refused.ensures.refused
 
-pub returns-in-None-clause-carried_out : goal.returns-in-None-clause-carried_out
-returns-in-None-clause-carried_out c =
-    refused_by_view c.args.self.now.layout c.args.name (λ shape. fill_refused shape c.args.rect c.args.samples.now) c.in-Some.view
-    (sym c.view.ensures.value ∙ c.in-Some.is) ∙ sym c.fill_refused.ensures ∙ c.in-None.is
+pub returns-in-None : goal.returns-in-None
+returns-in-None c =
+    target-unknown c.args.self.now.layout c.args.name (Fill c.args.name c.args.rect c.args.samples.now) (λ shape. fill_refused shape c.args.rect c.args.samples.now) refl
+    (sym c.view.ensures.value ∙ c.in-None.is)

@@ -36,16 +36,16 @@ index-requires g c =
     let same : length c.self.inside.roots.items ≡ length c.args.self.now.roots = ap (λ (b : BufferTable). length b.roots) c.self.view_is in
     omega (arith, inside, count, same)
 
-pub view_tile-requires-clause-over : goal.view_tile-requires-clause-over
-view_tile-requires-clause-over g c =
-    let at = goal.at.view_tile-requires-clause-over g c in
-    All-at (λ (r : RootTiles). IsRootOver r (g.C.ChainMeaning.held c.args.chain.now)) c.unwrap-view.result.root c.args.self.now.roots c.index.result.now
-    (below g at.After-unwrap-view) (here g at.After-index) c.requires.over.roots
-
-pub view_tile-requires-clause-inside : goal.view_tile-requires-clause-inside
-view_tile-requires-clause-inside g c =
-    let at = goal.at.view_tile-requires-clause-inside g c in
-    extent-inside c.args.self.now (g.C.ChainMeaning.held c.args.chain.now) c.requires.over.table c.args.buffer c.unwrap-view.result (target g at.After-unwrap-view) c.index.result.now (here g at.After-index)
+pub view_tile-requires : goal.view_tile-requires
+view_tile-requires g c =
+    let at = goal.at.view_tile-requires g c in
+    let seen = below g at.After-unwrap-view in
+    let there = here g at.After-index in
+    record {
+      over = All-at (λ (r : RootTiles). IsRootOver r (g.C.ChainMeaning.held c.args.chain.now)) c.unwrap-view.result.root c.args.self.now.roots c.index.result.now seen there c.requires.over.roots;
+      inside = extent-inside c.args.self.now (g.C.ChainMeaning.held c.args.chain.now) c.requires.over.table c.args.buffer c.unwrap-view.result (target g at.After-unwrap-view) c.index.result.now there;
+      rectangle = c.first_column.ensures.rectangle;
+    }
 
 pub returns-clause-bytes : goal.returns-clause-bytes
 returns-clause-bytes g c =

@@ -17,17 +17,17 @@ index-requires g c =
     let same : length c.self.inside.roots.items ≡ length now.roots = ap (λ (b : BufferTable). length b.roots) c.self.view_is in
     omega (arith, below, count, same)
 
-pub frozen_view-requires-clause-over : goal.frozen_view-requires-clause-over
-frozen_view-requires-clause-over g c =
+pub frozen_view-requires : goal.frozen_view-requires
+frozen_view-requires g c =
     let now = c.args.self.now in
-    let below = target-below now c.requires.table c.args.name c.in-Some.view (target-here _ _ c.self.view_is _ _ (sym c.in-Some.ensures.value)) in
-    All-at (λ (r : RootTiles). IsRootOver r (g.C.ChainMeaning.held c.args.chain.now)) c.in-Some.view.root now.roots c.index.result.now below
-    (root-here _ _ c.self.view_is _ _ c.index.ensures) c.requires.roots
-
-pub frozen_view-requires-clause-inside : goal.frozen_view-requires-clause-inside
-frozen_view-requires-clause-inside g c =
-    extent-inside c.args.self.now (g.C.ChainMeaning.held c.args.chain.now) c.requires.table c.args.name c.in-Some.view
-    (target-here _ _ c.self.view_is _ _ (sym c.in-Some.ensures.value)) c.index.result.now (root-here _ _ c.self.view_is _ _ c.index.ensures)
+    let held = g.C.ChainMeaning.held c.args.chain.now in
+    let target = target-here _ _ c.self.view_is _ _ (sym c.in-Some.ensures.value) in
+    let there = root-here _ _ c.self.view_is _ _ c.index.ensures in
+    record {
+      over = All-at (λ (r : RootTiles). IsRootOver r held) c.in-Some.view.root now.roots c.index.result.now (target-below now c.requires.table c.args.name c.in-Some.view target) there c.requires.roots;
+      inside = extent-inside now held c.requires.table c.args.name c.in-Some.view target c.index.result.now there;
+      rectangle = c.first_column.ensures.rectangle;
+    }
 
 pub returns-clause-shape : goal.returns-clause-shape
 returns-clause-shape g c =

@@ -25,16 +25,15 @@ module _ (g : Given.Over) (c : After-index_mut g) where
   below : c.args.view.now.root < length c.args.self.now.roots
   below = entry-below c.args.self.now c.requires.over.table c.args.view.now.root _ c.requires.inside
 
-pub get-requires-clause-over : goal.get-requires-clause-over
-get-requires-clause-over g c =
-    let at = (goal.at.get-requires-clause-over g c).After-index_mut in
+pub get-requires-clause-view : goal.get-requires-clause-view
+get-requires-clause-view g c =
+    let at = (goal.at.get-requires-clause-view g c).After-index_mut in
     let first = g.C.ChainMeaning.held c.args.chain.now in
-    All-at (λ (r : RootTiles). IsRootOver r first) c.args.view.now.root c.args.self.now.roots c.index_mut.result.now (below g at) (here g at) c.requires.over.roots
-
-pub get-requires-clause-inside : goal.get-requires-clause-inside
-get-requires-clause-inside g c =
-    entry-holds c.args.self.now c.requires.over.table c.args.view.now.root (λ (s : Shape). Includes s.box c.args.view.now.extent) c.index_mut.result.now
-    (here g (goal.at.get-requires-clause-inside g c).After-index_mut) c.requires.inside
+    record {
+      over = All-at (λ (r : RootTiles). IsRootOver r first) c.args.view.now.root c.args.self.now.roots c.index_mut.result.now (below g at) (here g at) c.requires.over.roots;
+      inside = entry-holds c.args.self.now c.requires.over.table c.args.view.now.root (λ (s : Shape). Includes s.box c.args.view.now.extent) c.index_mut.result.now (here g at) c.requires.inside;
+      rectangle = c.first_column.ensures.rectangle;
+    }
 
 -- ---- what is read
 

@@ -1,22 +1,41 @@
+use Rattle.std.proofs.Common.{ap, refl, sym, ◌∙◌}
+use Rattle.std.proofs.lemmas.Result.{err_from_is_err_and}
+use Rattle.model_buffers.specs.BufferEdit.{edit_refused}
 use Rattle.model_buffers.specs.declared.edit.BufferEdit.TheVariants.{Put}
 use Rattle.buffer_view.specs.BufferLaws.{layout-shown}
-use Rattle.buffer_view.specs.BufferTables.{images_over}
+use Rattle.buffer_view.specs.BufferTables.{BufferTable, images_over}
+use Rattle.buffer_view.proofs.Edited.{write-done, write-failed, write-refused}
 use Rattle.buffer_view.proofs.Targets.{carried-here, put-can, put-shown, put-split, target-here}
 use Rattle.buffer_view.proofs.buffers.Buffers.put_raw.Goals as goal
 
 pub write-requires-clause-inside : goal.write-requires-clause-inside
 write-requires-clause-inside g c =
-    (put-can c.args.self.now.layout c.requires.table.layout c.args.name c.in-Ok.view (target-here _ _ c.self.view_is _ _ c.in-Ok.ensures.target)
-    c.args.rect c.args.bytes.now (carried-here _ _ c.self.view_is (Put c.args.name c.args.rect c.args.bytes.now) c.in-Ok.ensures.carried_out)).0
+    (put-can c.args.self.now.layout c.requires.table.layout c.args.name c.in_ok-view.view (target-here _ _ c.self.view_is _ _ c.in_ok-view.ensures.target)
+    c.args.rect c.args.bytes.now (carried-here _ _ c.self.view_is (Put c.args.name c.args.rect c.args.bytes.now) c.in_ok-view.ensures.carried_out)).0
 
 pub write-requires-clause-samples : goal.write-requires-clause-samples
 write-requires-clause-samples g c =
-    put-split c.args.self.now.layout c.requires.table.layout c.args.name c.in-Ok.view (target-here _ _ c.self.view_is _ _ c.in-Ok.ensures.target)
-    c.args.rect c.args.bytes.now (carried-here _ _ c.self.view_is (Put c.args.name c.args.rect c.args.bytes.now) c.in-Ok.ensures.carried_out) (record { shared = c.type_bounds.sync-R.shared })
+    put-split c.args.self.now.layout c.requires.table.layout c.args.name c.in_ok-view.view (target-here _ _ c.self.view_is _ _ c.in_ok-view.ensures.target)
+    c.args.rect c.args.bytes.now (carried-here _ _ c.self.view_is (Put c.args.name c.args.rect c.args.bytes.now) c.in_ok-view.ensures.carried_out) (record { shared = c.type_bounds.sync-R.shared })
 
-pub returns-clause-table : goal.returns-clause-table
-returns-clause-table g c =
+pub returns-in_err-view : goal.returns-in_err-view
+returns-in_err-view g c =
+    let now = c.args.self.now in
+    let p = err_from_is_err_and c.from_residual.result c.from_residual.ensures.1 in
+    rw (p.1, p.2) (write-refused (Put c.args.name c.args.rect c.args.bytes.now) now now c.in_err-view.field-0.0 _ refl
+    (ap (λ (b : BufferTable). edit_refused b.layout (Put c.args.name c.args.rect c.args.bytes.now)) (sym c.self.view_is) ∙ c.in_err-view.ensures.refused) c.requires)
+
+pub returns-in_err-write : goal.returns-in_err-write
+returns-in_err-write g c =
+    let none = carried-here _ _ c.self.view_is (Put c.args.name c.args.rect c.args.bytes.now) c.in_ok-view.ensures.carried_out in
+    let p = err_from_is_err_and c.from_residual-in_err-write.result c.from_residual-in_err-write.ensures.1 in
+    rw (p.1, p.2) (write-failed (Put c.args.name c.args.rect c.args.bytes.now) _ _ _ c.args.rect _ _ _ none refl c.in_err-write.field-0.0 c.in_err-write.ensures)
+
+pub returns : goal.returns
+returns g c =
     let now = c.args.self.now in
     let first = g.C.ChainMeaning.held c.args.chain.now in
-    put-shown now.layout c.requires.table.layout c.args.name c.in-Ok.view (target-here _ _ c.self.view_is _ _ c.in-Ok.ensures.target)
-    first.content (images_over first now.layout.roots now.roots) _ c.args.rect c.args.bytes.now (layout-shown now first c.requires.table) c.in_ok-write.ensures.table
+    let none = carried-here _ _ c.self.view_is (Put c.args.name c.args.rect c.args.bytes.now) c.in_ok-view.ensures.carried_out in
+    let shown = put-shown now.layout c.requires.table.layout c.args.name c.in_ok-view.view (target-here _ _ c.self.view_is _ _ c.in_ok-view.ensures.target)
+    first.content (images_over first now.layout.roots now.roots) _ c.args.rect c.args.bytes.now (layout-shown now first c.requires.table) c.in_ok-write.ensures.table in
+    write-done (Put c.args.name c.args.rect c.args.bytes.now) _ _ _ c.args.rect _ _ _ none refl _ _ refl shown c.in_ok-write.ensures

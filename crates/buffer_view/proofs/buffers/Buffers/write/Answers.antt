@@ -1,4 +1,4 @@
-use Rattle.std.proofs.Common.{◌≡◌, ◌<◌, ◌∙◌, length, get_or, ap, subst}
+use Rattle.std.proofs.Common.{rules, ◌≡◌, ◌<◌, ◌∙◌, length, get_or, ap, subst}
 use Rattle.std.specs.Option.{option_map}
 use Rattle.std.proofs.Math.ListN.{set}
 use Rattle.std.proofs.lemmas.Result.{on_ok_weaker}
@@ -65,38 +65,34 @@ invariant_of-self g c =
     changed-of _ c.args.self.now c.self.view_is c.args.number c.write.new.root IsBufferTable
     (changed g at.After-write (here g at.After-index_mut) (below g at.After-index_mut)).table
 
-pub returns-clause-over : goal.returns-clause-over
-returns-clause-over g c =
-    let at = goal.at.returns-clause-over g c in
-    changed-of _ c.args.self.now c.self.view_is c.args.number c.write.new.root (λ (b : BufferTable). AreBuffersOver b (g.C.ChainMeaning.held c.write.new.chain))
-    (changed g at.After-write (here g at.After-index_mut) (below g at.After-index_mut)).over
-
-pub returns-clause-others : goal.returns-clause-others
-returns-clause-others g c =
-    let at = goal.at.returns-clause-others g c in
-    changed-of _ c.args.self.now c.self.view_is c.args.number c.write.new.root (λ (b : BufferTable). Respects (g.C.ChainMeaning.held c.args.chain.now) (g.C.ChainMeaning.held c.write.new.chain) (buffers_names c.args.self.now) (buffers_names b))
-    (changed g at.After-write (here g at.After-index_mut) (below g at.After-index_mut)).others
-
-pub returns-clause-table : goal.returns-clause-table
-returns-clause-table g c = λ name shape there.
-    let at = (goal.at.returns-clause-table g c).After-index_mut in
+pub returns : goal.returns
+returns g c =
+    let at = goal.at.returns g c in
+    let now = c.args.self.now in
     let root = c.index_mut.result.now in
     let new = c.write.new.root in
     let first = g.C.ChainMeaning.held c.args.chain.now in
     let last = g.C.ChainMeaning.held c.write.new.chain in
+    let there = here g at.After-index_mut in
+    let inside = below g at.After-index_mut in
+    let changed = changed g at.After-write there inside in
+    let as_table = ap (λ (b : BufferTable). table_of (held_as b.layout (set b.roots c.args.number new)) last) c.self.view_is in
     let paints : Format → RootTiles → Type 0 = λ format r. root_image r last ≡ option_map (λ (image : Image). painted image c.args.rect (g.W.Written.pixels c.args.samples.now format c.args.rect)) (root_image root first) in
-    on_ok_weaker c.write.result
-    (λ image. ap (λ (b : BufferTable). table_of (held_as b.layout (set b.roots c.args.number new)) last) c.self.view_is
-    ∙ shown-painted c.args.self.now c.args.number root new first last c.requires.over (below g at) (here g at) c.write.ensures.others c.write.ensures.shape name shape c.args.rect (g.W.Written.pixels c.args.samples.now shape.format c.args.rect) there
-    (subst (λ (f : Format). paints f new) (format-shown c.args.self.now first c.requires.over.table c.args.number root name shape there (here g at)) image)) c.write.ensures.image
-
-pub returns-clause-same : goal.returns-clause-same
-returns-clause-same g c =
-    let at = (goal.at.returns-clause-same g c).After-index_mut in
-    let new = c.write.new.root in
-    let first = g.C.ChainMeaning.held c.args.chain.now in
-    let last = g.C.ChainMeaning.held c.write.new.chain in
-    on_err_both c.write.result
-    (λ same image. ap (λ (b : BufferTable). table_of (held_as b.layout (set b.roots c.args.number new)) last) c.self.view_is
-    ∙ shown-same c.args.self.now c.args.number c.index_mut.result.now new first last c.requires.over (below g at) (here g at) c.write.ensures.others c.write.ensures.shape same image)
-    c.write.ensures.unchanged c.write.ensures.same
+    record {
+      layout = search rules;
+      table = λ name shape entry.
+          on_ok_weaker c.write.result
+          (λ image. as_table
+          ∙ shown-painted now c.args.number root new first last c.requires.over inside there c.write.ensures.others c.write.ensures.shape name shape c.args.rect (g.W.Written.pixels c.args.samples.now shape.format c.args.rect) entry
+          (subst (λ (f : Format). paints f new) (format-shown now first c.requires.over.table c.args.number root name shape entry there) image)) c.write.ensures.image;
+      same = on_err_both c.write.result
+          (λ same image. as_table
+          ∙ shown-same now c.args.number root new first last c.requires.over inside there c.write.ensures.others c.write.ensures.shape same image)
+          c.write.ensures.unchanged c.write.ensures.same;
+      over = changed-of _ now c.self.view_is c.args.number new (λ (b : BufferTable). AreBuffersOver b last) changed.over;
+      others = changed-of _ now c.self.view_is c.args.number new (λ (b : BufferTable). Respects first last (buffers_names now) (buffers_names b)) changed.others;
+      counts = c.write.ensures.counts;
+      cause = c.write.ensures.cause;
+      loans = c.write.ensures.loans;
+      valid = c.write.ensures.valid;
+    }

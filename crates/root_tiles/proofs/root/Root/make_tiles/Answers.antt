@@ -78,7 +78,7 @@ module _ (g : Given.Over) (c : After-next_tile g) where
   mid : MakesMore c.args.self.now c.args.part c.args.rect f c.loop-at.invariant.2.added s0 s2 c.args.made.now.entries c.loop-at.made.entries
   mid =
       more-read c.args.self.now c.args.part c.args.rect f c.loop-at.invariant.2.added s0 s1 s2 c.args.made.now.entries c.loop-at.made.entries
-      c.loop-at.invariant.2.makes c.next_tile.ensures.read
+      c.loop-at.invariant.2.makes c.next_tile.ensures.made.read
 
 pub loop-at-preserved : goal.loop-at-preserved
 loop-at-preserved g c =
@@ -97,7 +97,7 @@ loop-at-preserved g c =
     let here = before.left at (subst (λ (ts : List Tile). Contains ts at) (sym steps) (Contains-first at c.next.new.self at refl)) in
     let painted : IsSome (s0 g step).held.content → IsPainted root.tiles.format (bytes_in (s0 g step).held root.tiles.put) rect (f g step) at c.in_ok-tile.tile =
     λ exposed. painted-first root rect (f g step) (s0 g step).held (s1 g step).held at c.in_ok-tile.tile before.makes.bytes
-    (c.in_ok-tile.ensures.painted (before.makes.others.exposed ∙ exposed)) in
+    (c.in_ok-tile.ensures.made.painted (before.makes.others.exposed ∙ exposed)) in
     let is = added.added.entries in
     let name = added.added.name in
     let one : length more ≡ length entries + 1 = ap length is ∙ length-last entries (at, name) in (
@@ -137,7 +137,7 @@ returns-in_err-tile-clause-cause g c =
     let p = err_from_is_err_and c.from_residual.result c.from_residual.ensures.1 in
     rw (p.1, p.2) (refused-after before.added (tile_count c.args.part) 0 (g.C.ChainMeaning.counts c.loop-at.chain).names (g.C.ChainMeaning.counts c.args.chain.now) (g.C.ChainMeaning.counts c.loop-at.chain)
     (g.C.ChainMeaning.counts c.next_tile.new.chain) c.in_err-tile.field-0.0 (omega (arith, before.count)) (omega arith) before.makes.grows
-    (c.in_err-tile.ensures.cause))
+    (c.in_err-tile.ensures.made.cause))
 
 pub returns-in_err-add-clause-made : goal.returns-in_err-add-clause-made
 returns-in_err-add-clause-made g c =
@@ -163,5 +163,5 @@ returns-in_err-add-clause-cause g c =
     rw (p.1, p.2) (refused-after before.added (tile_count c.args.part) 1 ((g.C.ChainMeaning.counts c.next_tile.new.chain).names + 1) (g.C.ChainMeaning.counts c.args.chain.now) (g.C.ChainMeaning.counts c.next_tile.new.chain)
     (g.C.ChainMeaning.counts c.add.new.chain) c.in_err-add.field-0.0 some (omega arith)
     (grows-read before.added (g.C.ChainMeaning.counts c.args.chain.now) (g.C.ChainMeaning.counts c.loop-at.chain) (g.C.ChainMeaning.counts c.next_tile.new.chain)
-    before.makes.grows c.next_tile.ensures.read.counts)
+    before.makes.grows c.next_tile.ensures.made.read.counts)
     (c.in_err-add.ensures.cause))

@@ -1,4 +1,6 @@
-use Rattle.std.proofs.Common.{◌≡◌, ◌*◌, true, false, refl, subst, sym}
+use Rattle.std.proofs.Common.{◌≡◌, ◌*◌, rules, true, false, refl, subst, sym}
+use Rattle.std.specs.Prelude.{IsSome}
+use Rattle.std.proofs.lemmas.Result.{err_from_is_err_and}
 use Rattle.plane_rect.specs.Rectangle.{Inside}
 use Rattle.plane_rect.specs.Tile.{tile_square}
 use Rattle.pixel_formats.specs.Format.{pixel_bytes}
@@ -15,8 +17,13 @@ piece-piece-requires-clause-small g c =
     let whole = c.rect.ensures.whole c.requires.whole in
     rw (c.meet.ensures.value, whole) (few-in_square c.args.rect c.args.at)
 
-pub returns-clause-painted : goal.returns-clause-painted
-returns-clause-painted g c = λ exposed.
+pub returns-in_err-tile : goal.returns-in_err-tile
+returns-in_err-tile g c =
+    let p = err_from_is_err_and c.from_residual-in_err-tile.result c.from_residual-in_err-tile.ensures.1 in
+    rw (p.1, p.2) (record { length = tt; painted = tt; cause = tt; read = c.start_bytes.ensures.read })
+
+pub returns : goal.returns
+returns g c =
     let at = c.args.at in
     let rect = c.args.rect in
     let root = c.args.self.now in
@@ -26,7 +33,7 @@ returns-clause-painted g c = λ exposed.
     let start = c.in_ok-start.start.items in
     let tile = c.in_ok-tile.tile in
     let covers : c.is_covered-covered.result ≡ true → Covers root.box rect at = λ is. rw c.bounds.ensures at c.is_covered-covered.ensures is c.requires.whole in
-    let begun : IsStart format held rect at start =
+    let begun : IsSome (g.C.ChainMeaning.held c.args.chain.now).content → IsStart format held rect at start = λ exposed.
     elim c.is_covered-covered.result as (λ b. c.is_covered-covered.result ≡ b → IsStart format held rect at start) [
       | true ↦ λ e. start-zeros format held root.box rect at start (4096 * pixel_bytes format) (c.in_ok-start.ensures.zeros e) c.requires.over.zero (covers e)
       | false ↦ λ e. start-held format held rect at start (c.in_ok-start.ensures.held e exposed)
@@ -37,5 +44,10 @@ returns-clause-painted g c = λ exposed.
     let put : image_from_raw (tile_square at) format tile ≡ put_raw (image_from_raw (tile_square at) format start) between piece =
     rw c.format-2.ensures at c.in_ok-tile.ensures.painted in
     let paints : Paints format rect part (paint_pixels format rect c.args.paint.now) between piece = rw c.format.ensures at c.piece-piece.ensures in
-    painted-is format held rect part between at (paint_pixels format rect c.args.paint.now) piece start tile paints
-    (λ u v inside there. (c.meet.ensures.positions u v).1 (inside, subst (Inside u v) (sym whole) there)) put begun
+    record {
+      length = search rules;
+      painted = λ exposed. painted-is format held rect part between at (paint_pixels format rect c.args.paint.now) piece start tile paints
+          (λ u v inside there. (c.meet.ensures.positions u v).1 (inside, subst (Inside u v) (sym whole) there)) put (begun exposed);
+      cause = tt;
+      read = search rules;
+    }

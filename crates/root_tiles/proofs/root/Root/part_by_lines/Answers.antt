@@ -1,4 +1,4 @@
-use Rattle.std.proofs.Common.{◌≡◌, ℕ, ◌+◌, ◌*◌, ◌/◌, ◌<◌, ◌≤◌, ◌∙◌, length, max, min, sym, ap, subst, arith}
+use Rattle.std.proofs.Common.{◌≡◌, ℕ, ◌+◌, ◌*◌, ◌/◌, ◌<◌, ◌≤◌, ◌∙◌, rules, length, max, min, sym, ap, subst, arith}
 use Rattle.std.proofs.lemmas.Result.{err_from_is_err_and}
 use Rattle.level_tables.specs.LevelTiles.{bytes_in}
 use Rattle.model_images.specs.FromRaw.{image_from_raw}
@@ -33,14 +33,16 @@ loop-line-init g c =
           (no_pixels rect (reached_row rect line) rows) c.in_ok-bytes.ensures.items);
     }
 
-pub returns-in_err-add_line-clause-cause : goal.returns-in_err-add_line-clause-cause
-returns-in_err-add_line-clause-cause g c =
+pub returns-in_err-add_line : goal.returns-in_err-add_line
+returns-in_err-add_line g c =
     let p = err_from_is_err_and c.from_residual-in_err-add_line.result c.from_residual-in_err-add_line.ensures.1 in
-    rw (p.1, p.2) (refused-later (g.C.ChainMeaning.counts c.args.chain.now) (g.C.ChainMeaning.counts c.loop-line.chain) (g.C.ChainMeaning.counts c.add_line.new.chain)
-    c.in_err-add_line.field-0.0 c.loop-line.invariant.read.counts c.in_err-add_line.ensures.cause)
-
-pub returns-in_err-add_line-clause-read : goal.returns-in_err-add_line-clause-read
-returns-in_err-add_line-clause-read g c = read-both _ _ _ c.loop-line.invariant.read c.add_line.ensures.read
+    rw (p.1, p.2) (record {
+      shape = tt;
+      image = tt;
+      cause = refused-later (g.C.ChainMeaning.counts c.args.chain.now) (g.C.ChainMeaning.counts c.loop-line.chain) (g.C.ChainMeaning.counts c.add_line.new.chain)
+          c.in_err-add_line.field-0.0 c.loop-line.invariant.read.counts c.in_err-add_line.ensures.cause;
+      read = read-both _ _ _ c.loop-line.invariant.read c.add_line.ensures.read;
+    })
 
 pub loop-line-preserved : goal.loop-line-preserved
 loop-line-preserved g c =
@@ -77,8 +79,8 @@ from_vec-requires-clause-count g c =
     ∙ all_rows rect (reached_row rect c.loop-line.line) (pixel_bytes c.args.self.now.tiles.format) (reached_all rect c.loop-line.line all)
     ∙ ap (λ (format : Format). area rect * pixel_bytes format) (sym c.format-format.ensures)
 
-pub returns-clause-image : goal.returns-clause-image
-returns-clause-image g c =
+pub returns : goal.returns
+returns g c =
     let root = c.args.self.now in
     let rect = c.args.rect in
     let bytes = c.loop-line.bytes.items in
@@ -86,8 +88,13 @@ returns-clause-image g c =
     let image = held_image root.box root.tiles.format (bytes_in first root.tiles.put) in
     let all : c.loop-line.line ≡ tile_end (end_row rect) =
     omega (arith, c.loop-line-test.false, c.loop-line.auto.line, c.loop-line.auto.line-end, c.div_ceil-end.ensures, c.end_row.ensures.value, c.first_row-line.ensures.value) in
-    if-known first.content image (λ i. HasFirstPixels i rect (offset rect rect.first_column (reached_row rect c.loop-line.line)) bytes)
-    (λ i. c.from_vec.result ≡ cut i rect) c.loop-line.invariant.pixels
-    (λ has. c.from_vec.ensures ∙ ap (λ (format : Format). image_from_raw rect format bytes) c.format-format.ensures
-    ∙ HasFirstPixels-all image rect bytes
-    (subst (λ n. HasFirstPixels image rect n bytes) (all_pixels rect (reached_row rect c.loop-line.line) (reached_all rect c.loop-line.line all)) has))
+    record {
+      shape = search rules;
+      image = if-known first.content image (λ i. HasFirstPixels i rect (offset rect rect.first_column (reached_row rect c.loop-line.line)) bytes)
+          (λ i. c.from_vec.result ≡ cut i rect) c.loop-line.invariant.pixels
+          (λ has. c.from_vec.ensures ∙ ap (λ (format : Format). image_from_raw rect format bytes) c.format-format.ensures
+          ∙ HasFirstPixels-all image rect bytes
+          (subst (λ n. HasFirstPixels image rect n bytes) (all_pixels rect (reached_row rect c.loop-line.line) (reached_all rect c.loop-line.line all)) has));
+      cause = tt;
+      read = c.loop-line.invariant.read;
+    }

@@ -56,24 +56,31 @@ loop-at-preserved g c =
       },
     )
 
-pub returns-in_err-blit-clause-cause : goal.returns-in_err-blit-clause-cause
-returns-in_err-blit-clause-cause g c =
+pub returns-in_err-blit : goal.returns-in_err-blit
+returns-in_err-blit g c =
     let p = err_from_is_err_and c.from_residual-in_err-blit.result c.from_residual-in_err-blit.ensures.1 in
-    rw (p.1, p.2) (refused-later (g.C.ChainMeaning.counts c.args.chain.now) (g.C.ChainMeaning.counts c.loop-at.chain) (g.C.ChainMeaning.counts c.blit.new.chain)
-    c.in_err-blit.field-0.0 c.loop-at.invariant.2.read.counts c.in_err-blit.ensures.cause)
+    rw (p.1, p.2) (record {
+      shape = tt;
+      image = tt;
+      cause = refused-later (g.C.ChainMeaning.counts c.args.chain.now) (g.C.ChainMeaning.counts c.loop-at.chain) (g.C.ChainMeaning.counts c.blit.new.chain)
+          c.in_err-blit.field-0.0 c.loop-at.invariant.2.read.counts c.in_err-blit.ensures.cause;
+      read = read-both _ _ _ c.loop-at.invariant.2.read c.blit.ensures.read;
+    })
 
-pub returns-in_err-blit-clause-read : goal.returns-in_err-blit-clause-read
-returns-in_err-blit-clause-read g c = read-both _ _ _ c.loop-at.invariant.2.read c.blit.ensures.read
-
-pub returns-clause-image : goal.returns-clause-image
-returns-clause-image g c =
+pub returns : goal.returns
+returns g c =
     let root = c.args.self.now in
     let end = c.loop-at.invariant.2 in
     let first = g.C.ChainMeaning.held c.args.chain.now in
     let held = bytes_in first root.tiles.put in
     let patch = c.loop-at.patch in
-    part-known first.content (held_image root.box root.tiles.format held) patch c.args.rect
-    (λ exposed.
-    blitted-last held root.box root.tiles.format patch c.loop-at.at-iterator c.in-None.ensures.steps.0 end.shape.format
-    (rw end.shape.box c.requires.inside) (end.blitted exposed)
-    ∙ ap (cut (held_image root.box root.tiles.format held)) end.shape.box)
+    record {
+      shape = end.shape;
+      image = part-known first.content (held_image root.box root.tiles.format held) patch c.args.rect
+          (λ exposed.
+          blitted-last held root.box root.tiles.format patch c.loop-at.at-iterator c.in-None.ensures.steps.0 end.shape.format
+          (rw end.shape.box c.requires.inside) (end.blitted exposed)
+          ∙ ap (cut (held_image root.box root.tiles.format held)) end.shape.box);
+      cause = tt;
+      read = end.read;
+    }

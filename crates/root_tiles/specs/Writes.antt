@@ -1,0 +1,27 @@
+-- What is left after something is written over a rectangle of a root.
+use Rattle.std.specs.Prelude.{◌≡◌, ℕ, ◌+◌, IfErr, OnErr, OnOk, Result}
+use Rattle.std.specs.Option.{option_map}
+use Rattle.chain_owners.specs.Counts.{Grows}
+use Rattle.chain_owners.specs.Owners.{Respects}
+use Rattle.model_images.specs.Paint.{painted}
+use Rattle.model_images.specs.TileCounts.{tile_count}
+use Rattle.pixel_formats.specs.Row.{Pixel}
+use Rattle.plane_rect.specs.Rectangle.{Rectangle}
+use Rattle.swap_store.specs.Cause.{HasSwapCause}
+use Rattle.swap_store.specs.declared.refusal.SwapRefused.{SwapRefused}
+use Rattle.root_tiles.specs.Chains.{ChainState}
+use Rattle.root_tiles.specs.Roots.{IsRootOver, RootTiles, root_image, root_names, root_shape}
+
+-- f's samples were written over a rectangle of a root, all or nothing: its image has them there, or the root and its image
+-- are as before. What others hold of the chain is unchanged.
+pub record IsWritten {X : Type 0} (r : Rectangle) (f : ℕ → ℕ → Pixel) (result : Result X SwapRefused) (old new : RootTiles) (before after : ChainState) : Type 0 where
+  pub image : OnOk result (root_image new after.held ≡ option_map (λ image. painted image r f) (root_image old before.held))
+  pub shape : root_shape new ≡ root_shape old
+  pub unchanged : OnErr result (new ≡ old)
+  pub same : OnErr result (root_image new after.held ≡ root_image old before.held)
+  pub over : IsRootOver new after.held
+  pub others : Respects before.held after.held (root_names old) (root_names new)
+  pub counts : Grows (tile_count r) before.counts after.counts
+  pub cause : IfErr result (HasSwapCause before.counts after.counts (before.counts.names + tile_count r))
+  pub loans : after.loans ≡ before.loans
+  pub valid : before.valid → after.valid
