@@ -5,9 +5,8 @@ ghost use Rattle.std.specs.Bool.{OnTrue};
 ghost use Rattle.std.specs.List.{list_all};
 ghost use Rattle.model_graphs.specs.Facts.{rectangles_of};
 ghost use Rattle.model_states.specs.Commits.{change_to, committed, new_graph};
-ghost use Rattle.model_states.specs.Damage.{damage_list};
-ghost use Rattle.model_states.specs.Rectangles.{Rectangles};
 ghost use Rattle.model_states.specs.Retained.{redone, undone};
+ghost use Rattle.graph_commits.specs.declared.direction.Direction.TheVariants.{Redo, Undo};
 ghost use Rattle.graph_commits.specs.Directions.{stepped};
 ghost use Rattle.graph_commits.specs.Graphs.{AreDamagesOf, AreStillThere, IsAnswered, IsGraph, is_still_there};
 ghost use Rattle.graph_edits.specs.Refusals.{IsRefusalOf};
@@ -137,13 +136,7 @@ impl<Op: OpMeaning + Drop> Graph<Op> {
     ///
     /// `TooManyCommits` or `NothingToUndo`, and `NoMemory` if memory runs out. The graph is unchanged.
     pub fn undo(&mut self) -> Result<Damage, GraphRefused>
-        ensures undone { IfOk result (λ damage. undone self.old ≡ Ok (record { next = self.new; delta = damage.rects })) }
-        ensures number { IfOk result (λ damage. damage.number ≡ self.new.number) }
-        ensures damages { IfOk result (λ damage. (written : Rectangles) →
-            damage.rects ≡ damage_list Op.same Op.meanings (change_to self.new self.old.latest written) →
-            AreDamagesOf Op.same Op.meanings (change_to self.old self.new.latest written) damage.rects) }
-        ensures by_some { IfOk result (λ damage. (written : Rectangles)
-            × AreDamagesOf Op.same Op.meanings (change_to self.old self.new.latest written) damage.rects) }
+        ensures undone { IfOk result (λ damage. IsAnswered Op.same Op.meanings Undo self.old self.new damage.number damage.rects) }
         ensures refused { IfErr result (IsRefusalOf (undone self.old)) }
         ensures unchanged { OnErr result (self.new ≡ self.old) }
     {
@@ -156,13 +149,7 @@ impl<Op: OpMeaning + Drop> Graph<Op> {
     ///
     /// `TooManyCommits` or `NothingToRedo`, and `NoMemory` if memory runs out. The graph is unchanged.
     pub fn redo(&mut self) -> Result<Damage, GraphRefused>
-        ensures redone { IfOk result (λ damage. redone self.old ≡ Ok (record { next = self.new; delta = damage.rects })) }
-        ensures number { IfOk result (λ damage. damage.number ≡ self.new.number) }
-        ensures damages { IfOk result (λ damage. (written : Rectangles) →
-            damage.rects ≡ damage_list Op.same Op.meanings (change_to self.old self.new.latest written) →
-            AreDamagesOf Op.same Op.meanings (change_to self.old self.new.latest written) damage.rects) }
-        ensures by_some { IfOk result (λ damage. (written : Rectangles)
-            × AreDamagesOf Op.same Op.meanings (change_to self.old self.new.latest written) damage.rects) }
+        ensures redone { IfOk result (λ damage. IsAnswered Op.same Op.meanings Redo self.old self.new damage.number damage.rects) }
         ensures refused { IfErr result (IsRefusalOf (redone self.old)) }
         ensures unchanged { OnErr result (self.new ≡ self.old) }
     {

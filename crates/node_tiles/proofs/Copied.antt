@@ -1,10 +1,9 @@
 -- Tiles that are those of a window.
-use Rattle.std.proofs.Common.{◌≡◌, ℕ, ◌*◌, List, [], ◌∷◌, All, Bool, Bor, true, false, not, get_or, length, Option, Some, None, IfSome, refl, sym, ap, ◌∙◌, subst, arith}
-use Rattle.std.specs.Prelude.{IsSome, slice_get, if◌then◌else◌}
-use Rattle.std.specs.Option.{option_and_then, option_copied}
-use Rattle.plane_rect.specs.Rectangle.{Includes, Rectangle, in_limits}
+use Rattle.std.proofs.Common.{◌≡◌, ℕ, List, All, Bool, Bor, true, false, not, get_or, Option, Some, None, IfSome, refl, sym, ap, ◌∙◌, subst}
+use Rattle.std.specs.Prelude.{slice_get}
+use Rattle.std.specs.Option.{option_copied}
+use Rattle.plane_rect.specs.Rectangle.{Includes, Rectangle}
 use Rattle.plane_rect.specs.Tile.{Tile, tile_square}
-use Rattle.pixel_formats.specs.Format.{pixel_bytes}
 use Rattle.model_images.specs.Paint.{cut}
 use Rattle.model_images.specs.Raw.{tile_bytes}
 use Rattle.model_images.specs.Tiles.{AreTileBytes}

@@ -1,6 +1,5 @@
 -- Several reads of tiles are one.
-use Rattle.std.proofs.Common.{◌≡◌, ℕ, ◌+◌, ◌∙◌, List, [], refl, ap, arith}
-use Rattle.chain_owners.specs.Counts.{Counts, Grows}
+use Rattle.std.proofs.Common.{◌≡◌, ℕ, ◌∙◌, List, [], refl, ap, arith}
 use Rattle.chain_owners.specs.Owners.{Respects, times}
 use Rattle.chain_owners.proofs.Growing.{grows-both, grows-same}
 use Rattle.chain_owners.proofs.Ownership.{respects-beside, respects-both, respects-same}

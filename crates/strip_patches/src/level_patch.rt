@@ -1,32 +1,26 @@
 //! The patch of a request of a level, made of strips of level 0.
 
-ghost use Rattle.std.specs.Prelude.{◌≡◌, ℕ, ◌+◌, ◌<◌, ◌≤◌, IfErr, IfOk, IsSome, OnErr, OnOk, Some, length, min, slice_get};
-ghost use Rattle.plane_rect.specs.Rectangle.{InLimits, IsRectangle, Rectangle, scaled};
-ghost use Rattle.model_graphs.specs.Evaluation.{Buffers};
-ghost use Rattle.model_graphs.specs.Facts.{shapes_of_facts};
+ghost use Rattle.std.specs.Prelude.{◌≡◌, ℕ, ◌+◌, ◌*◌, ◌≤◌, All, IfOk, IsSome, OnErr, OnOk, Some, length, min, slice_get};
+ghost use Rattle.plane_rect.specs.Rectangle.{InLimits, IsRectangle, Rectangle, meet, scaled};
+ghost use Rattle.plane_rect.specs.Tile.{IsWhole};
+ghost use Rattle.pixel_formats.specs.Format.{pixel_bytes};
 ghost use Rattle.model_images.specs.Image.{Image, at};
 ghost use Rattle.model_images.specs.Level.{level as image_level, level_box};
 ghost use Rattle.model_images.specs.Paint.{cut, painted};
 ghost use Rattle.model_states.specs.Need.{strip_rectangles};
-ghost use Rattle.model_states.specs.Valid.{AreStated};
-ghost use Rattle.swap_store.specs.Cause.{HasSwapCause};
-ghost use Rattle.node_tiles.specs.Reads.{Reads, seen};
-ghost use Rattle.node_tiles.specs.Stated.{AreTilesOf, HaveLengths, shape_at};
+ghost use Rattle.op_contracts.specs.TileList.{HasLength};
 ghost use Rattle.strip_patches.specs.LevelStrips.{AreOfOne, HasStrips, LevelStrips, source_of};
-ghost use Rattle.strip_patches.specs.Nodes.{HoldsPart, image_at};
+ghost use Rattle.strip_patches.specs.Pictures.{AreTilesOver};
 
-use crate::patching::{put_tiles, strip_patch};
-use chain_owners::ChainMeaning;
-use model_graphs::NodeFact;
+use crate::bands::put_by_bands;
+use crate::patching::patch_of_tiles;
 use no_memory::NoMemory;
-use node_tiles::StripTiles;
-use op_contracts::{OpMeaning, SourceTiles};
 use patch_abyss::{Patch, halve};
 use pixel_formats::Format;
-use plane_rect::Rect;
+use plane_rect::{Rect, TileAt};
 use std::alloc::Global;
 use std::marker::Model;
-use swap_store::SwapRefused;
+use tile_cow::Tile;
 
 /// How many times a strip is halved by itself. Strips are cut at multiples of 64 rows, so up to here no
 /// row of a level is averaged of rows of two strips.
@@ -98,51 +92,35 @@ impl LevelPatch {
         Ok(())
     }
 
-    /// Adds the strip over a rectangle of the image of the node at a position, as [`strip_patch`] makes it and
-    /// [`add`](LevelPatch::add) adds it. At level 0, where the rectangle is in the node's box, the tiles are put
-    /// into the patch as they are, and no strip is made.
+    /// Adds the next strip as [`add`](LevelPatch::add) does, by the tiles of an image over `bounds` that meet the strip's
+    /// rectangle within them. At level 0, where the rectangle is within the bounds, the tiles are put into the patch as
+    /// they are, and no strip is made.
     ///
     /// # Errors
     ///
-    /// As [`strip_patch`]. Nothing is known of the samples then.
-    pub fn add_strip<H: ChainMeaning, S: SourceTiles<H>, Op: OpMeaning>(
+    /// `NoMemory` if memory runs out. Nothing is then added.
+    pub(crate) fn add_tiles(
         &mut self,
         alloc: Global,
-        nodes: &[NodeFact<Op>],
-        held: &StripTiles,
-        sources: &mut S,
-        chain: &mut H,
-        node: u32,
+        tiles: &[(TileAt, Tile)],
         rect: Rect,
-    ) -> Result<(), SwapRefused>
-        requires stated { AreStated Op.meanings (shapes_of_facts (S.facts sources.old)) nodes.now }
-        requires node { node < length nodes.now }
-        requires there { HoldsPart nodes.now held.now node rect }
-        requires lengths { HaveLengths nodes.now held.now }
+        bounds: Rect,
+    ) -> Result<(), NoMemory>
+        requires in_plane { All (λ entry. IsWhole entry.0) tiles.now }
+        requires lengths { All (HasLength (4096 * pixel_bytes self.old.patch.format)) tiles.now }
         requires limits { InLimits rect }
-        requires over { S.is_over sources.old (H.held chain.old) }
-        requires format { self.old.patch.format ≡ (shape_at nodes.now node).format }
         ensures request { AreOfOne self.old self.new }
-        ensures added { (images : Buffers) → S.images sources.old (H.held chain.old) ≡ Some images →
-            AreTilesOf Op.meanings nodes.now images held.now →
-            (k : ℕ) → HasStrips (image_at Op.meanings nodes.now images node) k self.old →
-            slice_get (strip_rectangles (source_of self.old)) k ≡ Some rect →
-            OnOk result (HasStrips (image_at Op.meanings nodes.now images node) (k + 1) self.new) }
-        ensures over { S.is_over sources.new (H.held chain.new) }
-        ensures reads { Reads
-            (seen (S.facts sources.old) (S.images sources.old (H.held chain.old)) (S.names sources.old) (H.held chain.old) (H.counts chain.old) (H.loans chain.old))
-            (seen (S.facts sources.new) (S.images sources.new (H.held chain.new)) (S.names sources.new) (H.held chain.new) (H.counts chain.new) (H.loans chain.new)) }
-        ensures cause { IfErr result (HasSwapCause (H.counts chain.old) (H.counts chain.new) (H.counts chain.old).names) }
-        ensures valid { H.is_valid chain.old → H.is_valid chain.new }
+        ensures added { (image : Image) → image.box ≡ bounds → AreTilesOver image (meet rect image.box) tiles.now →
+            (k : ℕ) → HasStrips image k self.old → slice_get (strip_rectangles (source_of self.old)) k ≡ Some rect →
+            OnOk result (HasStrips image (k + 1) self.new) }
+        ensures unchanged { OnErr result (self.new ≡ self.old) }
     {
-        let fact = &nodes[node as usize];
-        if self.level == 0 && fact.bounds.contains(&rect) {
-            let patch = &mut self.patch;
-            return put_tiles(alloc, nodes, held, sources, chain, node, rect, patch);
+        if self.level == 0 && bounds.contains(&rect) {
+            put_by_bands(&mut self.patch, tiles);
+            return Ok(());
         }
-        let strip = strip_patch(alloc, nodes, held, sources, chain, node, rect)?;
-        self.add(alloc, strip)?;
-        Ok(())
+        let strip = patch_of_tiles(alloc, tiles, rect, self.patch.format())?;
+        self.add(alloc, strip)
     }
 
     /// Returns the patch of the request, once each strip was added.

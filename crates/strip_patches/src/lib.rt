@@ -11,7 +11,6 @@ mod tiled_patch;
 mod used_memory;
 
 pub use level_patch::LevelPatch;
-pub use patching::strip_patch;
 pub use picture::{Picture, PictureForm};
 pub use picture_strips::PictureStrips;
 pub use tiled_patch::TiledPatch;

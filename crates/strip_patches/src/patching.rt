@@ -1,10 +1,10 @@
-//! Tiles that are held, and those of sources, put into patches.
+//! The tiles of a node that meet a rectangle, and patches that are made of them.
 
-ghost use Rattle.std.specs.Prelude.{◌≡◌, ℕ, ◌*◌, ◌<◌, All, IfErr, IfOk, OnOk, Some, length};
+ghost use Rattle.std.specs.Prelude.{◌≡◌, ℕ, ◌*◌, ◌<◌, All, IfErr, IfOk, Some, length};
 ghost use Rattle.chain_owners.specs.Counts.{Grows};
 ghost use Rattle.model_graphs.specs.Evaluation.{Buffers};
 ghost use Rattle.model_graphs.specs.Facts.{shapes_of_facts};
-ghost use Rattle.model_images.specs.Image.{IsImage};
+ghost use Rattle.model_images.specs.Image.{Image};
 ghost use Rattle.model_images.specs.Paint.{cut};
 ghost use Rattle.model_states.specs.Valid.{AreStated};
 ghost use Rattle.plane_rect.specs.Rectangle.{InLimits, meet};
@@ -14,66 +14,30 @@ ghost use Rattle.swap_store.specs.Cause.{HasSwapCause};
 ghost use Rattle.op_contracts.specs.TileList.{HasLength};
 ghost use Rattle.node_tiles.specs.Reads.{Reads, seen};
 ghost use Rattle.node_tiles.specs.Stated.{AreTilesOf, HaveLengths, shape_at};
-ghost use Rattle.strip_patches.specs.Nodes.{HasPart, HoldsPart, image_at};
+ghost use Rattle.strip_patches.specs.Nodes.{HoldsPart, image_at};
 ghost use Rattle.strip_patches.specs.Pictures.{AreTilesOver};
 
 use crate::bands::put_by_bands;
 use chain_owners::ChainMeaning;
 use model_graphs::NodeFact;
+use no_memory::NoMemory;
 use node_tiles::{StripTiles, input_tiles};
 use op_contracts::{OpMeaning, SourceTiles, WindowTiles};
 use patch_abyss::Patch;
-use plane_rect::Rect;
+use pixel_formats::Format;
+use plane_rect::{Rect, TileAt};
 use std::alloc::Global;
 use swap_store::SwapRefused;
+use tile_cow::Tile;
 
-/// Returns the part of the image of the node at a position over a rectangle, zero where the rectangle
-/// reaches outside the node's box. The tiles of an operation's node are those that are held, and those
-/// of a source come from its buffer. Takes time in proportion to the rectangle's pixels.
+/// Returns the tiles of the node at a position that meet a rectangle within the node's box, in their order: of an
+/// operation's node those that are held, and of a source those of its buffer. They are shared and not copied. Takes time
+/// in proportion to their number.
 ///
 /// # Errors
 ///
 /// `SwapFault` only where the swap's count of I/O errors rose in this call, `SwapFull` only where the
 /// chain's names can fill the swap, and `NoMemory` if memory runs out.
-pub fn strip_patch<H: ChainMeaning, S: SourceTiles<H>, Op: OpMeaning>(
-    alloc: Global,
-    nodes: &[NodeFact<Op>],
-    held: &StripTiles,
-    sources: &mut S,
-    chain: &mut H,
-    node: u32,
-    rect: Rect,
-) -> Result<Patch, SwapRefused>
-    requires stated { AreStated Op.meanings (shapes_of_facts (S.facts sources.old)) nodes.now }
-    requires node { node < length nodes.now }
-    requires there { HoldsPart nodes.now held.now node rect }
-    requires lengths { HaveLengths nodes.now held.now }
-    requires limits { InLimits rect }
-    requires over { S.is_over sources.old (H.held chain.old) }
-    ensures rect { IfOk result (λ patch. patch.box ≡ rect) }
-    ensures format { IfOk result (λ patch. patch.format ≡ (shape_at nodes.now node).format) }
-    ensures image { (images : Buffers) → S.images sources.old (H.held chain.old) ≡ Some images →
-        AreTilesOf Op.meanings nodes.now images held.now →
-        IfOk result (λ patch. patch ≡ cut (image_at Op.meanings nodes.now images node) rect) }
-    ensures over { S.is_over sources.new (H.held chain.new) }
-    ensures reads { Reads
-        (seen (S.facts sources.old) (S.images sources.old (H.held chain.old)) (S.names sources.old) (H.held chain.old) (H.counts chain.old) (H.loans chain.old))
-        (seen (S.facts sources.new) (S.images sources.new (H.held chain.new)) (S.names sources.new) (H.held chain.new) (H.counts chain.new) (H.loans chain.new)) }
-    ensures cause { IfErr result (HasSwapCause (H.counts chain.old) (H.counts chain.new) (H.counts chain.old).names) }
-    ensures valid { H.is_valid chain.old → H.is_valid chain.new }
-{
-    let fact = &nodes[node as usize];
-    let mut patch = Patch::zero(alloc, rect, fact.format)?;
-    put_tiles(alloc, nodes, held, sources, chain, node, rect, &mut patch)?;
-    Ok(patch)
-}
-
-/// Returns the tiles of the node at a position that meet a rectangle within the node's box, in their order. They are
-/// shared and not copied. Takes time in proportion to their number.
-///
-/// # Errors
-///
-/// As [`strip_patch`].
 pub(crate) fn part_tiles<H: ChainMeaning, S: SourceTiles<H>, Op: OpMeaning>(
     alloc: Global,
     nodes: &[NodeFact<Op>],
@@ -109,44 +73,26 @@ pub(crate) fn part_tiles<H: ChainMeaning, S: SourceTiles<H>, Op: OpMeaning>(
     Ok(tiles)
 }
 
-/// Puts each tile of the node at a position that meets a rectangle within the node's box into a patch, as
-/// much of it as the patch has positions. So the patch has the image's samples at the rectangle's positions
-/// in the box; its other samples are these or those that it had. Takes time in proportion to the tiles' pixels.
+/// Returns the part of an image over a rectangle, zero where the rectangle reaches outside the image's box, by the tiles
+/// of the image that meet the rectangle within the box. Takes time in proportion to the rectangle's pixels.
 ///
 /// # Errors
 ///
-/// As [`strip_patch`].
-pub(crate) fn put_tiles<H: ChainMeaning, S: SourceTiles<H>, Op: OpMeaning>(
+/// `NoMemory` if memory runs out.
+pub(crate) fn patch_of_tiles(
     alloc: Global,
-    nodes: &[NodeFact<Op>],
-    held: &StripTiles,
-    sources: &mut S,
-    chain: &mut H,
-    node: u32,
+    tiles: &[(TileAt, Tile)],
     rect: Rect,
-    patch: &mut Patch,
-) -> Result<(), SwapRefused>
-    requires stated { AreStated Op.meanings (shapes_of_facts (S.facts sources.old)) nodes.now }
-    requires node { node < length nodes.now }
-    requires there { HoldsPart nodes.now held.now node rect }
-    requires lengths { HaveLengths nodes.now held.now }
-    requires over { S.is_over sources.old (H.held chain.old) }
-    requires format { patch.old.format ≡ (shape_at nodes.now node).format }
-    requires whole { IsImage patch.old }
-    ensures rect { patch.new.box ≡ patch.old.box }
-    ensures format { patch.new.format ≡ patch.old.format }
-    ensures whole { IsImage patch.new }
-    ensures image { (images : Buffers) → S.images sources.old (H.held chain.old) ≡ Some images →
-        AreTilesOf Op.meanings nodes.now images held.now →
-        OnOk result (HasPart (image_at Op.meanings nodes.now images node) rect patch.old patch.new) }
-    ensures over { S.is_over sources.new (H.held chain.new) }
-    ensures reads { Reads
-        (seen (S.facts sources.old) (S.images sources.old (H.held chain.old)) (S.names sources.old) (H.held chain.old) (H.counts chain.old) (H.loans chain.old))
-        (seen (S.facts sources.new) (S.images sources.new (H.held chain.new)) (S.names sources.new) (H.held chain.new) (H.counts chain.new) (H.loans chain.new)) }
-    ensures cause { IfErr result (HasSwapCause (H.counts chain.old) (H.counts chain.new) (H.counts chain.old).names) }
-    ensures valid { H.is_valid chain.old → H.is_valid chain.new }
+    format: Format,
+) -> Result<Patch, NoMemory>
+    requires in_plane { All (λ entry. IsWhole entry.0) tiles.now }
+    requires lengths { All (HasLength (4096 * pixel_bytes format)) tiles.now }
+    requires limits { InLimits rect }
+    ensures format { IfOk result (λ patch. patch.format ≡ format) }
+    ensures image { (image : Image) → image.format ≡ format → AreTilesOver image (meet rect image.box) tiles.now →
+        IfOk result (λ patch. patch ≡ cut image rect) }
 {
-    let tiles = part_tiles(alloc, nodes, held, sources, chain, node, rect)?;
-    put_by_bands(patch, tiles.as_slice());
-    Ok(())
+    let mut patch = Patch::zero(alloc, rect, format)?;
+    put_by_bands(&mut patch, tiles);
+    Ok(patch)
 }

@@ -1,6 +1,6 @@
 //! A picture that is made of strips of level 0, one after another.
 
-ghost use Rattle.std.specs.Prelude.{◌≡◌, ℕ, ◌+◌, ◌<◌, ◌≤◌, IfErr, IfOk, IsSome, OnOk, Some, length, slice_get, true};
+ghost use Rattle.std.specs.Prelude.{◌≡◌, ℕ, ◌+◌, ◌<◌, ◌≤◌, IfErr, IfOk, IsSome, OnErr, OnOk, Some, length, slice_get, true};
 ghost use Rattle.plane_rect.specs.Rectangle.{InLimits, IsRectangle, scaled};
 ghost use Rattle.model_graphs.specs.Evaluation.{Buffers};
 ghost use Rattle.model_graphs.specs.Facts.{shapes_of_facts};
@@ -15,6 +15,7 @@ ghost use Rattle.strip_patches.specs.Nodes.{HoldsPart, image_at};
 ghost use Rattle.strip_patches.specs.Shown.{AreOfOneRequest, HasStripsOf, Shows, format_in, is_patch, level_in, makes_patch, picture_box, picture_format, rect_in, source_in};
 
 use crate::level_patch::LevelPatch;
+use crate::patching::part_tiles;
 use crate::picture::{Picture, PictureForm};
 use crate::tiled_patch::TiledPatch;
 use chain_owners::ChainMeaning;
@@ -62,7 +63,6 @@ impl PictureStrips {
     ) -> Result<PictureStrips, NoMemory>
         requires level { level ≤ 8 }
         requires source { IsSome (scaled level rect) }
-        requires bounds { IsRectangle bounds }
         ensures rect { IfOk result (λ strips. rect_in strips ≡ rect) }
         ensures level { IfOk result (λ strips. level_in strips ≡ level) }
         ensures source { IfOk result (λ strips. scaled level rect ≡ Some (source_in strips)) }
@@ -87,7 +87,8 @@ impl PictureStrips {
     ///
     /// # Errors
     ///
-    /// As [`strip_patch`](crate::strip_patch). Nothing is known of the samples then.
+    /// `SwapFault` only where the swap's count of I/O errors rose in this call, `SwapFull` only where the
+    /// chain's names can fill the swap, and `NoMemory` if memory runs out. Nothing is then added.
     pub fn add_strip<H: ChainMeaning, S: SourceTiles<H>, Op: OpMeaning>(
         &mut self,
         alloc: Global,
@@ -111,6 +112,7 @@ impl PictureStrips {
             (k : ℕ) → HasStripsOf (image_at Op.meanings nodes.now images node) k self.old →
             slice_get (strip_rectangles (source_in self.old)) k ≡ Some rect →
             OnOk result (HasStripsOf (image_at Op.meanings nodes.now images node) (k + 1) self.new) }
+        ensures unchanged { OnErr result (self.new ≡ self.old) }
         ensures over { S.is_over sources.new (H.held chain.new) }
         ensures reads { Reads
             (seen (S.facts sources.old) (S.images sources.old (H.held chain.old)) (S.names sources.old) (H.held chain.old) (H.counts chain.old) (H.loans chain.old))
@@ -118,12 +120,16 @@ impl PictureStrips {
         ensures cause { IfErr result (HasSwapCause (H.counts chain.old) (H.counts chain.new) (H.counts chain.old).names) }
         ensures valid { H.is_valid chain.old → H.is_valid chain.new }
     {
+        let tiles = part_tiles(alloc, nodes, held, sources, chain, node, rect)?;
+        let fact = &nodes[node as usize];
         match self {
             PictureStrips::Patch(patch) => {
-                patch.add_strip(alloc, nodes, held, sources, chain, node, rect)
+                patch.add_tiles(alloc, tiles.as_slice(), rect, fact.bounds)?;
+                Ok(())
             }
             PictureStrips::Tiles(tiled) => {
-                tiled.add_row(alloc, nodes, held, sources, chain, node, rect)
+                tiled.add_tiles(tiles)?;
+                Ok(())
             }
         }
     }

@@ -16,13 +16,14 @@ ghost use Rattle.strip_renders.specs.Strips.{AreStatedWith};
 use crate::evaluator::Evaluator;
 use chain_owners::ChainMeaning;
 use node_cache::PairStore;
-use node_tiles::{StripTiles, evaluate};
+use node_tiles::{StripTiles, apply_job, tile_job};
 use op_contracts::{OpKit, SourceTiles};
 use plane_rect::TileAt;
 use swap_store::SwapRefused;
 use tile_cow::Tile;
 
-/// Returns a tile of the node at a position: the one that was made ahead, with its permit, or else evaluates it.
+/// Returns a tile of the node at a position: the one that was made ahead, with its permit, or else carries out its job,
+/// by one permit.
 ///
 /// # Errors
 ///
@@ -64,9 +65,10 @@ where
     if let Some(tile) = made {
         return Ok(tile);
     }
-    evaluate(
+    let job = tile_job(
         by.kit, by.alloc, by.nodes, by.inputs, held, sources, chain, purse, node, at,
-    )
+    )?;
+    Ok(apply_job(by.kit, by.alloc, by.nodes, by.inputs, job)?)
 }
 
 /// Evaluates a tile of the node at a position, or takes the one that was made ahead, and keeps a share of it in the

@@ -118,8 +118,6 @@ fn keeps_tiles(alloc: Global, fields: Fields, level: u32, form: PictureForm) -> 
     if over.scaled(level).is_none() {
         return Err(Fail::from("a rectangle of the level"));
     }
-    // The bounds are a rectangle of the plane, as this call says.
-    let _area = bounds.area();
     let strips = PictureStrips::new(alloc, over, level, Format::Y8, bounds, form)?;
     let picture = strips.finish(alloc)?;
     if picture.rect() != over || picture.format() != Format::Y8 {
@@ -156,7 +154,6 @@ fn picture_that_is_a_patch(rt: HostRuntime) -> Result<(), Fail> {
         return Err(Fail::from("a rectangle of the level"));
     }
     let bounds = rect(IMAGE);
-    let _area = bounds.area();
     let strips = PictureStrips::new(alloc, over, 0, Format::Y8, bounds, PictureForm::Patch)?;
     let patch = strips.finish(alloc)?.into_patch();
     assert!(rt; patch.rect() == over);

@@ -1,9 +1,7 @@
-use Rattle.std.proofs.Common.{◌≡◌, ◌<◌, List, Some, length, refl, ap, ◌∙◌, subst, arith}
+use Rattle.std.proofs.Common.{◌≡◌, ◌<◌, Some, length, refl, ap, ◌∙◌, arith}
 use Rattle.std.specs.Prelude.{slice_get}
 use Rattle.std.proofs.lemmas.List.{length-map}
-use Rattle.plane_rect.specs.Rectangle.{Rectangle}
 use Rattle.model_images.specs.Image.{Image}
-use Rattle.model_graphs.specs.declared.node.Body.TheVariants.{Compute}
 use Rattle.model_images.specs.Raw.{tile_bytes}
 use Rattle.model_graphs.specs.declared.node.NodeFact.{NodeFact}
 use Rattle.roi_planner.specs.Inputs.{inputs_of}
