@@ -18,12 +18,14 @@ use Rattle.model_states.specs.History.{Appends, History, number_of}
 use Rattle.model_states.proofs.HistoryLaws.{commit_appends, redo_appends, undo_appends}
 use Rattle.model_states.specs.History as history
 use Rattle.model_sessions.specs.Sessions.{Make, Session, after_action, with_history, with_state}
-use Rattle.model_sessions.specs.Steps.{Commit, EditBuffer, HistoryEdit, Redo, Undo, after_step}
+use Rattle.model_sessions.specs.Steps.{Commit, EditBuffer, HistoryEdit, after_step}
 use Rattle.model_sessions.specs.Tables.{table_shapes}
+use Rattle.graph_commits.specs.declared.direction.Direction.{Direction}
+use Rattle.graph_commits.specs.declared.direction.Direction.TheVariants.{Redo, Undo}
 use Rattle.session_states.specs.OverChains.{Leaves}
 use Rattle.commit_session.specs.Parts.{Parts, session_names}
 use Rattle.commit_session.specs.Seen.{IsSessionOf}
-use Rattle.commit_session.specs.Steps.{HasSameStates, IsEditedBy, LeadsTo}
+use Rattle.commit_session.specs.Steps.{HasSameStates, IsEditedBy, LeadsTo, history_step, step_action}
 use Rattle.commit_session.proofs.Changed.{leaves-nothing}
 use Rattle.commit_session.proofs.Working.{edit-number}
 
@@ -100,8 +102,7 @@ module _ {Op : Type 0} (same : Op → Op → Bool) (meanings : Meanings Op) (ses
         → P (after_action same meanings capacity session (Make Commit))
     acts-commit = leads (history.committed meanings table_shapes session.history) (commit_appends meanings table_shapes session.history) P
 
-    pub acts-undo : LeadsTo (history.undone session.history) (λ (next : History Table Op). P (with_state same meanings session next)) → P (after_action same meanings capacity session (Make Undo))
-    acts-undo = leads (history.undone session.history) (undo_appends session.history) P
-
-    pub acts-redo : LeadsTo (history.redone session.history) (λ (next : History Table Op). P (with_state same meanings session next)) → P (after_action same meanings capacity session (Make Redo))
-    acts-redo = leads (history.redone session.history) (redo_appends session.history) P
+    pub acts-step : (direction : Direction) → LeadsTo (history_step direction session.history) (λ (next : History Table Op). P (with_state same meanings session next))
+        → P (after_action same meanings capacity session (Make (step_action direction)))
+    acts-step Undo = leads (history.undone session.history) (undo_appends session.history) P
+    acts-step Redo = leads (history.redone session.history) (redo_appends session.history) P

@@ -16,7 +16,6 @@ use Rattle.model_states.specs.History.{History, appended}
 use Rattle.model_states.specs.Rectangles.{Rectangles}
 use Rattle.model_states.specs.Workspace.{settled_step}
 use Rattle.model_sessions.specs.Sessions.{IsSession, Session, with_state}
-use Rattle.model_sessions.specs.Steps as actions
 use Rattle.model_sessions.specs.Steps.{Commit, HistoryEdit, IsProper, after_step}
 use Rattle.model_sessions.specs.Tables.{table_shapes}
 use Rattle.chain_owners.specs.Owners.{Owns}
@@ -33,7 +32,7 @@ use Rattle.session_states.specs.Versions.{Versions, after_commit, all_versions, 
 use Rattle.session_states.proofs.Returned.{first-is}
 use Rattle.commit_session.specs.Parts.{Parts, cached_pairs, session_names, working_facts}
 use Rattle.commit_session.specs.Seen.{AreOfTable, AreRetained, IsOver, IsSessionOf}
-use Rattle.commit_session.specs.Steps.{IsCommitted, IsSettled, LeadsTo, history_step}
+use Rattle.commit_session.specs.Steps.{IsCommitted, IsSettled, LeadsTo, history_step, step_action}
 use Rattle.commit_session.proofs.CommitStep.{CommitLeads, commit-leads}
 use Rattle.commit_session.proofs.Led.{IsAfter, history_after, leads-to, or-before, session-led, valid-led}
 use Rattle.commit_session.proofs.Kept.{over-here}
@@ -48,11 +47,6 @@ pub history-step-is : {Op : Type 0} (direction : Direction) (past : History Tabl
     → stepped direction past.workspace.retained ≡ result → history_step direction past ≡ appended past (settled_step result)
 history-step-is {Op} Undo past result is = ap (λ (r : Result (StatesStep Op) StateRefused). appended past (settled_step r)) is
 history-step-is {Op} Redo past result is = ap (λ (r : Result (StatesStep Op) StateRefused). appended past (settled_step r)) is
-
--- as an edit of a history
-abbrev step_action : {Op : Type 0} → Direction → HistoryEdit Op
-step_action Undo = actions.Undo
-step_action Redo = actions.Redo
 
 proper-step : (Op : Type 0) (direction : Direction) → IsProper (step_action {Op = Op} direction)
 proper-step Op Undo = tt

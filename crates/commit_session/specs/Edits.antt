@@ -1,5 +1,5 @@
 -- Edits of sessions, as steps of a history.
-use Rattle.std.specs.Prelude.{◌≡◌, ℕ, ⊤, None, Option}
+use Rattle.std.specs.Prelude.{◌≡◌, ℕ, None, Option}
 use Rattle.chain_owners.specs.Counts.{Counts}
 use Rattle.model_buffers.specs.declared.edit.BufferEdit.TheVariants as buffers
 use Rattle.model_buffers.specs.declared.refused.EditRefused.{EditRefused}

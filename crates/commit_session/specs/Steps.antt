@@ -10,8 +10,11 @@ use Rattle.model_states.specs.Commits.{change_to, committed}
 use Rattle.model_states.specs.Damage.{damage}
 use Rattle.model_states.specs.Rectangles.{Rectangles, with_written}
 use Rattle.model_states.specs.History.{History, redone, undone}
+use Rattle.model_sessions.specs.Steps as actions
+use Rattle.model_sessions.specs.Steps.{HistoryEdit}
 use Rattle.buffer_view.specs.BufferTables.{BufferTable}
 use Rattle.graph_commits.specs.declared.direction.Direction.{Direction}
+use Rattle.graph_commits.specs.declared.direction.Direction.TheVariants.{Redo, Undo}
 use Rattle.graph_commits.specs.Directions.{by_direction, stepped}
 use Rattle.session_states.specs.Versions.{after_commit, versions_after, versions_ahead}
 use Rattle.commit_session.specs.Parts.{Parts, cached_pairs, working_facts}
@@ -50,7 +53,12 @@ pub record IsStepped {Op : Type 0} (direction : Direction) (old new : Parts Op) 
       new.versions ≡ versions_after direction old.versions next rest
   pub settled : IsSettled damages old new
 
--- an undo or a redo of a history
+-- an undo or a redo, as an edit of a history
+abbrev pub step_action : {Op : Type 0} → Direction → HistoryEdit Op
+step_action Undo = actions.Undo
+step_action Redo = actions.Redo
+
+-- what it gives of a history
 abbrev pub history_step : {Table Op : Type 0} → Direction → History Table Op → Result (History Table Op) StateRefused
 history_step direction history = by_direction direction (undone history) (redone history)
 

@@ -4,23 +4,24 @@ ghost use Rattle.std.specs.Prelude.{◌≡◌, IfErr, IfOk, OnErr, OnOk};
 ghost use Rattle.std.specs.Map.{values_of};
 ghost use Rattle.model_buffers.specs.Table.{Table};
 ghost use Rattle.model_sessions.specs.Sessions.{Make, Session as SessionOf, after_action};
-ghost use Rattle.model_sessions.specs.Steps.{Commit, Redo, Undo};
+ghost use Rattle.model_sessions.specs.Steps.{Commit};
 ghost use Rattle.model_sessions.specs.Tables.{table_shapes};
 ghost use Rattle.model_states.specs.Commits.{committed as commit_of};
-ghost use Rattle.model_states.specs.History.{committed as committed_history, redone as redone_history, undone as undone_history};
-ghost use Rattle.model_states.specs.Retained.{redone as redo_of, undone as undo_of};
+ghost use Rattle.model_states.specs.History.{committed as committed_history};
 ghost use Rattle.node_cache.specs.Stores.{AddsNoOther};
 ghost use Rattle.graph_edits.specs.Refusals.{IsRefusalOf};
 ghost use Rattle.session_states.specs.OverChains.{Leaves};
+ghost use Rattle.commit_session.specs.HistorySteps.{MakesStep};
 ghost use Rattle.commit_session.specs.Parts.{session_names, working_facts};
 ghost use Rattle.commit_session.specs.Refusals.{IsRefusedAs, by_graph};
 ghost use Rattle.commit_session.specs.Seen.{IsOver, IsSessionOf};
-ghost use Rattle.commit_session.specs.Steps.{IsCommitted, IsStepped};
-ghost use Rattle.graph_commits.specs.declared.direction.Direction.TheVariants as directions;
+ghost use Rattle.commit_session.specs.Steps.{IsCommitted};
+ghost use Rattle.graph_commits.specs.declared.direction.Direction.TheVariants.{Redo, Undo};
 
 use crate::refused::SessionRefused;
 use crate::session::OwnedSession;
 use chain_contracts::TileChain;
+use graph_commits::Direction;
 use op_contracts::OpKit;
 
 impl<K: OpKit, C: TileChain> OwnedSession<K, C> {
@@ -68,24 +69,11 @@ impl<K: OpKit, C: TileChain> OwnedSession<K, C> {
     /// is unchanged.
     pub fn undo(&mut self) -> Result<u64, SessionRefused>
         requires { IsOver K.Op.same K.Op.meanings self.old.state (C.held self.old.chain) }
-        ensures session { (session : SessionOf Table K.Op) → IsSessionOf K.Op.same K.Op.meanings self.old.state (C.held self.old.chain) session →
-            OnOk result (IsSessionOf K.Op.same K.Op.meanings self.new.state (C.held self.new.chain)
-            (after_action K.Op.same K.Op.meanings self.old.state.capacity session (Make Undo))) }
-        ensures same { (session : SessionOf Table K.Op) → IsSessionOf K.Op.same K.Op.meanings self.old.state (C.held self.old.chain) session →
-            OnErr result (IsSessionOf K.Op.same K.Op.meanings self.new.state (C.held self.new.chain) session) }
-        ensures undone { OnOk result (IsStepped directions.Undo self.old.state self.new.state) }
-        ensures number { IfOk result (λ number. number ≡ self.new.state.graph.number) }
-        ensures unchanged { OnErr result (self.new.state ≡ self.old.state) }
-        ensures refused { IfErr result (IsRefusedAs by_graph (IsRefusalOf (undo_of self.old.state.graph))) }
-        ensures refused_session { (session : SessionOf Table K.Op) → IsSessionOf K.Op.same K.Op.meanings self.old.state (C.held self.old.chain) session →
-            IfErr result (IsRefusedAs by_graph (IsRefusalOf (undone_history session.history))) }
-        ensures over { IsOver K.Op.same K.Op.meanings self.new.state (C.held self.new.chain) }
-        ensures other_names { AddsNoOther (C.counts self.old.chain) (C.counts self.new.chain) (values_of self.old.state.entries) (values_of self.new.state.entries) }
-        ensures left { Leaves 0 (session_names self.old.state) (session_names self.new.state)
+        ensures { MakesStep Undo K.Op.same K.Op.meanings result self.old.state self.new.state
             (record { held = C.held self.old.chain; counts = C.counts self.old.chain; loans = C.loans self.old.chain; valid = C.is_valid self.old.chain })
             (record { held = C.held self.new.chain; counts = C.counts self.new.chain; loans = C.loans self.new.chain; valid = C.is_valid self.new.chain }) }
     {
-        self.state.undo(&mut self.chain)
+        self.step(Direction::Undo)
     }
 
     /// Goes on to the state that the last undo that is not yet redone left, as [`OwnedSession::undo`] goes back.
@@ -96,23 +84,25 @@ impl<K: OpKit, C: TileChain> OwnedSession<K, C> {
     /// is unchanged.
     pub fn redo(&mut self) -> Result<u64, SessionRefused>
         requires { IsOver K.Op.same K.Op.meanings self.old.state (C.held self.old.chain) }
-        ensures session { (session : SessionOf Table K.Op) → IsSessionOf K.Op.same K.Op.meanings self.old.state (C.held self.old.chain) session →
-            OnOk result (IsSessionOf K.Op.same K.Op.meanings self.new.state (C.held self.new.chain)
-            (after_action K.Op.same K.Op.meanings self.old.state.capacity session (Make Redo))) }
-        ensures same { (session : SessionOf Table K.Op) → IsSessionOf K.Op.same K.Op.meanings self.old.state (C.held self.old.chain) session →
-            OnErr result (IsSessionOf K.Op.same K.Op.meanings self.new.state (C.held self.new.chain) session) }
-        ensures redone { OnOk result (IsStepped directions.Redo self.old.state self.new.state) }
-        ensures number { IfOk result (λ number. number ≡ self.new.state.graph.number) }
-        ensures unchanged { OnErr result (self.new.state ≡ self.old.state) }
-        ensures refused { IfErr result (IsRefusedAs by_graph (IsRefusalOf (redo_of self.old.state.graph))) }
-        ensures refused_session { (session : SessionOf Table K.Op) → IsSessionOf K.Op.same K.Op.meanings self.old.state (C.held self.old.chain) session →
-            IfErr result (IsRefusedAs by_graph (IsRefusalOf (redone_history session.history))) }
-        ensures over { IsOver K.Op.same K.Op.meanings self.new.state (C.held self.new.chain) }
-        ensures other_names { AddsNoOther (C.counts self.old.chain) (C.counts self.new.chain) (values_of self.old.state.entries) (values_of self.new.state.entries) }
-        ensures left { Leaves 0 (session_names self.old.state) (session_names self.new.state)
+        ensures { MakesStep Redo K.Op.same K.Op.meanings result self.old.state self.new.state
             (record { held = C.held self.old.chain; counts = C.counts self.old.chain; loans = C.loans self.old.chain; valid = C.is_valid self.old.chain })
             (record { held = C.held self.new.chain; counts = C.counts self.new.chain; loans = C.loans self.new.chain; valid = C.is_valid self.new.chain }) }
     {
-        self.state.redo(&mut self.chain)
+        self.step(Direction::Redo)
+    }
+
+    /// Goes back or on, by an undo or a redo.
+    ///
+    /// # Errors
+    ///
+    /// `Graph` with `TooManyCommits`, or else with `NothingToUndo` or `NothingToRedo`; and `NoMemory` if memory runs
+    /// out. The session is unchanged.
+    fn step(&mut self, direction: Direction) -> Result<u64, SessionRefused>
+        requires { IsOver K.Op.same K.Op.meanings self.old.state (C.held self.old.chain) }
+        ensures { MakesStep direction K.Op.same K.Op.meanings result self.old.state self.new.state
+            (record { held = C.held self.old.chain; counts = C.counts self.old.chain; loans = C.loans self.old.chain; valid = C.is_valid self.old.chain })
+            (record { held = C.held self.new.chain; counts = C.counts self.new.chain; loans = C.loans self.new.chain; valid = C.is_valid self.new.chain }) }
+    {
+        self.state.step(&mut self.chain, direction)
     }
 }

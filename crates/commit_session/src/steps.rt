@@ -8,9 +8,7 @@ ghost use Rattle.model_sessions.specs.Sessions.{Session, with_state};
 ghost use Rattle.model_sessions.specs.Tables.{table_shapes};
 ghost use Rattle.model_states.specs.Cache.{all_voided, by_pair};
 ghost use Rattle.model_states.specs.Commits.{committed as commit_of};
-ghost use Rattle.model_states.specs.History.{committed as committed_history, redone as redone_history, undone as undone_history};
-ghost use Rattle.model_states.specs.Retained.{redone as redo_of, undone as undo_of};
-ghost use Rattle.graph_commits.specs.declared.direction.Direction.TheVariants.{Undo, Redo};
+ghost use Rattle.model_states.specs.History.{committed as committed_history};
 ghost use Rattle.graph_commits.specs.Directions.{ahead, stepped};
 ghost use Rattle.node_cache.specs.NodeNames.{IsNodeCache, cached_in, sizes_in};
 ghost use Rattle.node_cache.specs.Stores.{AddsNoOther, HaveOneOwner, by_sized};
@@ -78,72 +76,17 @@ impl<Op: OpMeaning + Drop> SessionState<Op> {
         }
     }
 
-    /// Goes back to the state before the last commit that is not yet undone, under the next number, which is
-    /// returned. What is edited goes: the buffers become those of the state, and no edit is pending. The cached
-    /// pairs are voided whose tile meets the damage of their node. It takes all its memory first. Takes time in
-    /// proportion to the damage, and one look at each tile that the state's buffers hold.
-    ///
-    /// # Errors
-    ///
-    /// `Graph` with `TooManyCommits`, or else with `NothingToUndo`; and `NoMemory` if memory runs out. The session
-    /// is unchanged.
-    pub fn undo<C: TileChain>(&mut self, chain: &mut C) -> Result<u64, SessionRefused>
-        requires { IsOver Op.same Op.meanings self.old (C.held chain.old) }
-        ensures undone { OnOk result (IsStepped Undo self.old self.new) }
-        ensures number { IfOk result (λ number. number ≡ self.new.graph.number) }
-        ensures unchanged { OnErr result (self.new ≡ self.old) }
-        ensures session { (session : Session Table Op) → IsSessionOf Op.same Op.meanings self.old (C.held chain.old) session →
-            OnOk result (LeadsTo (undone_history session.history)
-            (λ next. IsSessionOf Op.same Op.meanings self.new (C.held chain.new) (with_state Op.same Op.meanings session next))) }
-        ensures same { (session : Session Table Op) → IsSessionOf Op.same Op.meanings self.old (C.held chain.old) session →
-            OnErr result (IsSessionOf Op.same Op.meanings self.new (C.held chain.new) session) }
-        ensures refused { IfErr result (IsRefusedAs by_graph (IsRefusalOf (undo_of self.old.graph))) }
-        ensures refused_session { (session : Session Table Op) → IsSessionOf Op.same Op.meanings self.old (C.held chain.old) session →
-            IfErr result (IsRefusedAs by_graph (IsRefusalOf (undone_history session.history))) }
-        ensures over { IsOver Op.same Op.meanings self.new (C.held chain.new) }
-        ensures other_names { AddsNoOther (C.counts chain.old) (C.counts chain.new) (values_of self.old.entries) (values_of self.new.entries) }
-        ensures left { Leaves 0 (session_names self.old) (session_names self.new)
-            (record { held = C.held chain.old; counts = C.counts chain.old; loans = C.loans chain.old; valid = C.is_valid chain.old })
-            (record { held = C.held chain.new; counts = C.counts chain.new; loans = C.loans chain.new; valid = C.is_valid chain.new }) }
-    {
-        self.step(chain, Direction::Undo)
-    }
-
-    /// Goes on to the state that the last undo that is not yet redone left, as [`SessionState::undo`] goes back.
-    ///
-    /// # Errors
-    ///
-    /// `Graph` with `TooManyCommits`, or else with `NothingToRedo`; and `NoMemory` if memory runs out. The session
-    /// is unchanged.
-    pub fn redo<C: TileChain>(&mut self, chain: &mut C) -> Result<u64, SessionRefused>
-        requires { IsOver Op.same Op.meanings self.old (C.held chain.old) }
-        ensures redone { OnOk result (IsStepped Redo self.old self.new) }
-        ensures number { IfOk result (λ number. number ≡ self.new.graph.number) }
-        ensures unchanged { OnErr result (self.new ≡ self.old) }
-        ensures session { (session : Session Table Op) → IsSessionOf Op.same Op.meanings self.old (C.held chain.old) session →
-            OnOk result (LeadsTo (redone_history session.history)
-            (λ next. IsSessionOf Op.same Op.meanings self.new (C.held chain.new) (with_state Op.same Op.meanings session next))) }
-        ensures same { (session : Session Table Op) → IsSessionOf Op.same Op.meanings self.old (C.held chain.old) session →
-            OnErr result (IsSessionOf Op.same Op.meanings self.new (C.held chain.new) session) }
-        ensures refused { IfErr result (IsRefusedAs by_graph (IsRefusalOf (redo_of self.old.graph))) }
-        ensures refused_session { (session : Session Table Op) → IsSessionOf Op.same Op.meanings self.old (C.held chain.old) session →
-            IfErr result (IsRefusedAs by_graph (IsRefusalOf (redone_history session.history))) }
-        ensures over { IsOver Op.same Op.meanings self.new (C.held chain.new) }
-        ensures other_names { AddsNoOther (C.counts chain.old) (C.counts chain.new) (values_of self.old.entries) (values_of self.new.entries) }
-        ensures left { Leaves 0 (session_names self.old) (session_names self.new)
-            (record { held = C.held chain.old; counts = C.counts chain.old; loans = C.loans chain.old; valid = C.is_valid chain.old })
-            (record { held = C.held chain.new; counts = C.counts chain.new; loans = C.loans chain.new; valid = C.is_valid chain.new }) }
-    {
-        self.step(chain, Direction::Redo)
-    }
-
-    /// Goes back or on, by an undo or a redo.
+    /// Goes back to the state before the last commit that is not yet undone, or on to the one that the last undo that is
+    /// not yet redone left, under the next number, which is returned. What is edited goes: the buffers become those of
+    /// the state, and no edit is pending. The cached pairs are voided whose tile meets the damage of their node. It takes
+    /// all its memory first. Takes time in proportion to the damage, and one look at each tile that the state's buffers
+    /// hold.
     ///
     /// # Errors
     ///
     /// `Graph` with `TooManyCommits`, or else with `NothingToUndo` or `NothingToRedo`; and `NoMemory` if memory runs
     /// out. The session is unchanged.
-    fn step<C: TileChain>(
+    pub fn step<C: TileChain>(
         &mut self,
         chain: &mut C,
         direction: Direction,

@@ -1,10 +1,10 @@
 -- What lines leave that write a file of a buffer.
-use Rattle.std.proofs.Common.{◌≡◌, ◌≢◌, ℕ, ◌+◌, ◌*◌, Bool, IsTrue, List, length, None, Result, Ok, Err, is_some, sym, ap, ◌∙◌, subst, arith}
+use Rattle.std.proofs.Common.{◌≡◌, ◌≢◌, ℕ, ◌+◌, ◌*◌, Bool, true, IsTrue, List, length, None, Result, Ok, Err, is_some, refl, sym, ap, ◌∙◌, subst, arith}
 use Rattle.buffer_view.specs.BufferTables.{table_of}
 use Rattle.buffer_view.specs.Reads.{HasReadCause, IsReadOfBuffer, box_of_root, part_of_buffer}
 use Rattle.buffer_view.specs.declared.refused.BufferRefused.{BufferRefused}
 use Rattle.buffer_view.specs.declared.refused.BufferRefused.TheVariants as buffer_refusals
-use Rattle.chain_owners.specs.Counts.{Grows, IsFullOver}
+use Rattle.chain_owners.specs.Counts.{Continues, Grows, IsFullOver}
 use Rattle.chain_owners.specs.Held.{Held}
 use Rattle.commit_session.specs.Parts.{Parts}
 use Rattle.commit_session.specs.Refusals.{IsRefusedAs, by_buffers}
@@ -23,20 +23,22 @@ use Rattle.model_runs.specs.Run.{files_after_all}
 use Rattle.model_runs.specs.State.{Effect, RunState, refuses}
 use Rattle.model_runs.specs.declared.ending.End.{End}
 use Rattle.model_runs.specs.declared.ending.End.TheVariants as ends
+use Rattle.outside_io.specs.Faults.{Rose}
 use Rattle.outside_io.specs.Files.{Files}
 use Rattle.pixel_formats.specs.Format.{pixel_bytes}
 use Rattle.pixel_formats.specs.declared.abyss.Abyss.{Abyss}
 use Rattle.plane_rect.specs.Rectangle.{Rectangle, area}
 use Rattle.root_tiles.specs.Roots.{HasShape}
 use Rattle.run_events.proofs.Carrying.{Exceeds-more, nothing_carried}
+use Rattle.run_events.proofs.Faults.{faults_of_swap, only_swap}
 use Rattle.run_events.specs.Carried.{CarriesOut, Exceeds, most_of_line, outcome_of_line}
-use Rattle.run_events.specs.Moments.{Moment, world_at}
+use Rattle.run_events.specs.Moments.{HasFaults, Moment, world_at}
 use Rattle.run_lines.proofs.Bounds.{full_exceeds, names_grow, names_within}
 use Rattle.run_lines.proofs.Grabs.{grab_bytes, grab_given, grab_length, grab_tiles, grab_unknown, grabbed, planned}
 use Rattle.run_lines.proofs.Writing.{Wants, file-carried, file-ended, file-written}
 use Rattle.run_lines.specs.Edited.{IsHeld}
 use Rattle.run_lines.specs.States.{Holds}
-use Rattle.run_lines.specs.Stops.{Did, IsDone, IsEnded, stop_of}
+use Rattle.run_lines.specs.Stops.{Did, IsDone, IsEnded, end_of, stop_of}
 use Rattle.run_texts.specs.Events.{events_alone}
 use Rattle.run_texts.specs.Texts.{grab_text}
 use Rattle.swap_store.specs.declared.refusal.SwapRefused.TheVariants as swap_refusals
@@ -142,3 +144,19 @@ module _ (exposed : Bool) (capacity line : ℕ) (state : RunState) (files : File
     grab_stopped refused cause exact =
         subst (λ (r : SessionRefused). Did exposed capacity line state files done (Err (stop_of r)) before after later after_held) (sym cause.is)
         (by_lower cause.lower cause.by_cause (λ none. sym cause.is ∙ exact none))
+
+-- a read that is refused is no I/O error but the swap's
+pub grab-faults : (layout : TableLayout) (name : List ℕ) (z : ℕ) (refused : SessionRefused) (old new : Moment) → IsRefusedAs by_buffers (HasReadCause layout name z old.chain new.chain) refused →
+    new.reads ≡ old.reads → new.writes ≡ old.writes → new.puts ≡ old.puts → Continues old.chain new.chain → HasFaults (end_of {A = Unit {0}} (Err (stop_of refused))) old new
+grab-faults layout name z refused old new is reads writes puts continues =
+    subst (λ (s : SessionRefused). HasFaults (end_of {A = Unit {0}} (Err (stop_of s))) old new) (sym is.is) (by is.lower is.by_cause)
+  where
+    at : (end : End) → only_swap (Err end) ≡ true → (end ≡ ends.SwapFault → Rose old.chain.faults new.chain.faults) → HasFaults (Err end) old new
+    at end only rose = faults_of_swap (Err end) old new only (λ e. rose (cc)) (omega (arith, reads)) (omega (arith, writes)) (omega (arith, puts)) continues
+
+    by : (lower : BufferRefused) → HasReadCause layout name z old.chain new.chain lower → HasFaults (end_of {A = Unit {0}} (Err (stop_of (by_buffers lower)))) old new
+    by (buffer_refusals.Edit edit) cause = at ends.Refused refl (λ e. absurd (cc))
+    by (buffer_refusals.Swap swap_refusals.SwapFault) cause = at ends.SwapFault refl (λ e. cause)
+    by (buffer_refusals.Swap (swap_refusals.SwapFull needed longest)) cause = at ends.SwapFull refl (λ e. absurd (cc))
+    by (buffer_refusals.Swap swap_refusals.NoMemory) cause = at ends.NoMemory refl (λ e. absurd (cc))
+    by buffer_refusals.NoMemory cause = at ends.NoMemory refl (λ e. absurd (cc))

@@ -185,6 +185,27 @@ module _ (old now next : SessionOver) (name : List ℕ) (view : View) (there : f
   whole-passes : edit_refused (layout_in old) (Put name r part.bytes) ≡ None
   whole-passes = not_refused (layout_in old) name view there r part.bytes inside (whole ∙ ap (byte_count r) (sym format_is))
 
+  -- The band and the rows that were put are the two parts of the rows from the band's first on, which are cut where a row
+  -- of tiles ends.
+  record AreParts : Type 0 where
+    pub some : row < end
+    pub cut : IsCut (rows_at r row (end_row r - row)) end
+    pub edge : end ≡ 64 * (end / 64)
+    pub height : (row + (end_row r - row)) - end ≡ end_row r - end
+
+  rest-cut : end < end_row r → AreParts
+  rest-cut below =
+      let first : row < end = begins.some (reached.some (omega (arith, below, reached.first))) in
+      record {
+        some = first;
+        cut = record { wide = wide-rows r is (omega (arith, below, reached.first)); first = first; last = omega (arith, below, first) };
+        edge = elim reached.edge [
+          | inl at ↦ absurd (omega (arith, at, below))
+          | inr on ↦ on
+        ];
+        height = omega (arith, begins.last, reached.last);
+      }
+
   -- The band is put: so are the rows from its first on.
   rows-put : IsEdited (Put name (rows_between r row end) read) (Ok tt) now next → IsEdited (Put name (rows_at r row (end_row r - row)) (drop from part.bytes)) (Ok tt) old next
   rows-put edited = by loaded
@@ -199,24 +220,17 @@ module _ (old now next : SessionOver) (name : List ℕ) (view : View) (there : f
           (subst (λ (band : Rectangle). IsEdited (Put name band read) (Ok tt) now next) rows edited))
       by (inr (below, put)) =
           let rest = rows_at r row (end_row r - row) in
-          let some : row < end = begins.some (reached.some (omega (arith, below, reached.first))) in
-          let wide : 0 < r.width = wide-rows r is (omega (arith, below, reached.first)) in
-          let cut : IsCut rest end = record { wide = wide; first = some; last = omega (arith, below, some) } in
-          let edge : end ≡ 64 * (end / 64) = elim reached.edge [
-            | inl at ↦ absurd (omega (arith, at, below))
-            | inr on ↦ on
-          ] in
-          let height : (row + (end_row r - row)) - end ≡ end_row r - end = omega (arith, begins.last, reached.last) in
+          let parts = rest-cut below in
           let dropped : drop many (drop from part.bytes) ≡ drop (bytes_of_rows r format (end - r.first_row)) put.bytes =
           drop-drop many from part.bytes ∙ ap (λ (n : ℕ). drop n part.bytes) (before-end r format is end row reached begins)
           ∙ ap (drop (bytes_of_rows r format (end - r.first_row))) (same_bytes found part.bytes put.bytes part.there put.there) in
           let first : IsEdited (Put name (bottom rest end) (drop many (drop from part.bytes))) (Ok tt) old now =
-          subst (λ (h : ℕ). IsEdited (Put name (rows_at r end h) (drop many (drop from part.bytes))) (Ok tt) old now) (sym height)
+          subst (λ (h : ℕ). IsEdited (Put name (rows_at r end h) (drop many (drop from part.bytes))) (Ok tt) old now) (sym parts.height)
           (subst (λ (b : List ℕ). IsEdited (Put name (rows_at r end (end_row r - end)) b) (Ok tt) old now) (sym dropped) put.edited) in
           let second : IsEdited (Put name (top rest end) (take many (drop from part.bytes))) (Ok tt) now next =
           subst (λ (b : List ℕ). IsEdited (Put name (rows_at r row (end - row)) b) (Ok tt) now next) part.part
           (subst (λ (band : Rectangle). IsEdited (Put name band read) (Ok tt) now next) band-rows edited) in
-          edited-cut old now next name view there same distinct rest end cut edge (drop from part.bytes) many (ap (byte_count (top rest end)) (sym format_is)) rest-passes first second
+          edited-cut old now next name view there same distinct rest end parts.cut parts.edge (drop from part.bytes) many (ap (byte_count (top rest end)) (sym format_is)) rest-passes first second
 
   pub band-put : IsEdited (Put name (rows_between r row end) read) (Ok tt) now next → ArePut found name r format row old next
   band-put edited = record { bytes = part.bytes; there = part.there; whole = whole; edited = rows-put edited }
@@ -250,16 +264,10 @@ module _ (old now next : SessionOver) (name : List ℕ) (view : View) (there : f
           (ap (λ (session : SessionOver). session.parts.capacity) same_session) (ap (λ (session : SessionOver). is_some session.held.content) same_session) refused edited
       by (inr (below, put)) =
           let rest = rows_at r row (end_row r - row) in
-          let some : row < end = begins.some (reached.some (omega (arith, below, reached.first))) in
-          let wide : 0 < r.width = wide-rows r is (omega (arith, below, reached.first)) in
-          let cut : IsCut rest end = record { wide = wide; first = some; last = omega (arith, below, some) } in
-          let edge : end ≡ 64 * (end / 64) = elim reached.edge [
-            | inl at ↦ absurd (omega (arith, at, below))
-            | inr on ↦ on
-          ] in
-          let height : (row + (end_row r - row)) - end ≡ end_row r - end = omega (arith, begins.last, reached.last) in
+          let parts = rest-cut below in
+          let some : row < end = parts.some in
           let both : tile_count (rows_at r row (end - row)) + tile_count (rows_at r end (end_row r - end)) ≤ tile_count rest =
-          subst (λ (h : ℕ). tile_count (rows_at r row (end - row)) + tile_count (rows_at r end h) ≤ tile_count rest) height (tiles-cut rest end cut edge) in
+          subst (λ (h : ℕ). tile_count (rows_at r row (end - row)) + tile_count (rows_at r end h) ≤ tile_count rest) parts.height (tiles-cut rest end parts.cut parts.edge) in
           let rows : tile_count (rows_between r row end) ≡ tile_count (rows_at r row (end - row)) = ap tile_count band-rows in
           let all : tile_count rest ≤ tile_count r =
           subst (λ (part : Rectangle). tile_count part ≤ tile_count r)

@@ -1,15 +1,18 @@
 -- What a command did, by what it answers.
-use Rattle.std.specs.Prelude.{◌≡◌, ◌≢◌, ℕ, Bool, Result, Ok, Err, IfOk}
+use Rattle.std.specs.Borrow.{GName}
+use Rattle.std.specs.Prelude.{◌≡◌, ◌≢◌, ℕ, Bool, List, Result, Ok, Err, IfOk}
 use Rattle.buffer_view.specs.declared.refused.BufferRefused.{BufferRefused}
 use Rattle.buffer_view.specs.declared.refused.BufferRefused.TheVariants as buffer_refusals
 use Rattle.chain_owners.specs.Held.{Held}
 use Rattle.commit_session.specs.Parts.{Parts}
+use Rattle.commit_session.specs.Seen.{IsOver}
 use Rattle.commit_session.specs.declared.refused.SessionRefused.{SessionRefused}
 use Rattle.commit_session.specs.declared.refused.SessionRefused.TheVariants as session_refusals
 use Rattle.graph_edits.specs.declared.refused.GraphRefused.{GraphRefused}
 use Rattle.graph_edits.specs.declared.refused.GraphRefused.TheVariants as graph_refusals
+use Rattle.model_operations.specs.Meanings.{int_meanings, same_operation}
 use Rattle.model_operations.specs.declared.operation.IntOp.{IntOp}
-use Rattle.model_runs.specs.Effects.{cause_of_edit, cause_of_state}
+use Rattle.model_runs.specs.Effects.{cause_of_edit, cause_of_state, effect as effect_of}
 use Rattle.model_runs.specs.Run.{files_after_all}
 use Rattle.model_runs.specs.State.{Effect, RunState, refuses}
 use Rattle.model_runs.specs.declared.ending.End.{End}
@@ -19,12 +22,13 @@ use Rattle.render_workers.specs.declared.refused.RenderRefused.{RenderRefused}
 use Rattle.render_workers.specs.declared.refused.RenderRefused.TheVariants as render_refusals
 use Rattle.run_lines.specs.States.{Holds}
 use Rattle.run_events.specs.Carried.{CarriesOut, HasNames, most_of_line, outcome_of_line}
-use Rattle.run_events.specs.Moments.{Moment}
+use Rattle.run_events.specs.Moments.{HasFaults, Moment}
 use Rattle.run_lines.specs.declared.stop.Stop.{Stop}
 use Rattle.run_lines.specs.declared.stop.Stop.TheVariants as stops
 use Rattle.run_texts.specs.declared.cause.Cause.{Cause}
 use Rattle.run_texts.specs.declared.cause.Cause.TheVariants as causes
 use Rattle.script_fields.specs.declared.cause.ScriptCause.TheVariants as script_causes
+use Rattle.script_read.specs.declared.command.Line.{Line}
 use Rattle.swap_store.specs.declared.refusal.SwapRefused.{SwapRefused}
 use Rattle.swap_store.specs.declared.refusal.SwapRefused.TheVariants as swap_refusals
 
@@ -91,3 +95,38 @@ pub record Does (exposed : Bool) (capacity : ℕ) (state : RunState) (files : Fi
   pub carried : CarriesOut exposed (outcome_of_line effect) (most_of_line capacity state old.chain.names effect) result old new
   pub next : IfOk result (λ _. Holds exposed capacity effect.next (files_after_all effect.events files) parts held new.files)
   pub names : IfOk result (λ _. HasNames effect.tiles state effect.next old.chain new.chain)
+
+-- ---- what is left
+
+-- A point of a run: what its session holds and what its chain does, the chain's loans and whether it is valid, and what is
+-- seen of the devices.
+pub record RunPoint : Type 1 where
+  pub parts : Parts IntOp
+  pub held : Held
+  pub loans : List GName
+  pub valid : Type 0
+  pub moment : Moment
+
+-- What is left between two points where this was done of each state and files that the first one is: I/O errors only where
+-- their counts rose, and a session that is over its chain, whose loans and validity are as before.
+pub record Carries (done : Bool → ℕ → RunState → Files → Type 0) (result : Result (Unit {0}) End) (old new : RunPoint) : Type 0 where
+  pub did : (exposed : Bool) (capacity : ℕ) (state : RunState) (files : Files) → Holds exposed capacity state files old.parts old.held old.moment.files → done exposed capacity state files
+  pub faults : HasFaults result old.moment new.moment
+  pub over : IsOver same_operation int_meanings new.parts new.held
+  pub loans : new.loans ≡ old.loans
+  pub valid : old.valid → new.valid
+
+-- what is left of a command that is to have an effect, which a capacity, a state and files determine
+abbrev pub CarriesCommand : ℕ → (ℕ → RunState → Files → Effect) → Result (Unit {0}) Stop → RunPoint → RunPoint → Type 0
+CarriesCommand line effect result old new =
+    Carries (λ exposed capacity state files. Did exposed capacity line state files (effect capacity state files) result old.moment new.moment new.parts new.held) (end_of result) old new
+
+-- what is left of the command of a line
+abbrev pub CarriesOutCommand : Line → Result (Unit {0}) Stop → RunPoint → RunPoint → Type 0
+CarriesOutCommand line result old new =
+    CarriesCommand line.number (λ capacity state files. effect_of capacity state files line.number line.command) result old new
+
+-- what is left of a line, its text put where it is refused
+abbrev pub CarriesOutLine : Line → Result (Unit {0}) End → RunPoint → RunPoint → Type 0
+CarriesOutLine line result old new =
+    Carries (λ exposed capacity state files. Does exposed capacity state files (effect_of capacity state files line.number line.command) result old.moment new.moment new.parts new.held) result old new

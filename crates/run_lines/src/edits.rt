@@ -1,18 +1,13 @@
 //! Lines that edit buffers, and touch no file.
 
-ghost use Rattle.std.specs.Prelude.{◌≡◌, IfOk, IsSome, IsTrue, List, Option, Some, ℕ, Bool};
-ghost use Rattle.chain_owners.specs.Held.{Held};
+ghost use Rattle.std.specs.Prelude.{◌≡◌, IfOk, IsSome, IsTrue, List, Option, Some, ℕ};
 ghost use Rattle.commit_session.specs.Seen.{IsOver};
 ghost use Rattle.model_buffers.specs.BufferEdit.{IsProperEdit};
 ghost use Rattle.model_operations.specs.Meanings.{int_meanings, same_operation};
-ghost use Rattle.model_runs.specs.Effects.{effect};
-ghost use Rattle.model_runs.specs.State.{RunState};
 ghost use Rattle.outside_io.specs.Files.{Files};
 ghost use Rattle.plane_rect.specs.Rectangle.{in_limits};
-ghost use Rattle.run_events.specs.Moments.{HasFaults};
 ghost use Rattle.run_lines.specs.Commands.{edit_of};
-ghost use Rattle.run_lines.specs.States.{Holds};
-ghost use Rattle.run_lines.specs.Stops.{Did, end_of};
+ghost use Rattle.run_lines.specs.Stops.{CarriesOutCommand};
 ghost use Rattle.script_read.specs.Limits.{IsInLimits};
 
 use crate::stop::Stop;
@@ -37,18 +32,9 @@ pub(crate) fn edit<C: TileChain, R: Threads + Sync>(
     requires over { IsOver same_operation int_meanings session.old (C.held chain.old) }
     requires limits { IsInLimits line.now.command }
     requires edit { IsSome (edit_of line.now.command) }
-    ensures did { (shelf : Option Files) (text : Option (List ℕ)) (reads writes puts : ℕ) (exposed : Bool) (capacity : ℕ) (state : RunState) (files : Files) →
-        Holds exposed capacity state files session.old (C.held chain.old) shelf →
-        Did exposed capacity line.now.number state files (effect capacity state files line.now.number line.now.command) result
-        (record { files = shelf; text = text; reads = reads; writes = writes; puts = puts; chain = C.counts chain.old })
-        (record { files = shelf; text = text; reads = reads; writes = writes; puts = puts; chain = C.counts chain.new })
-        session.new (C.held chain.new) }
-    ensures faults { (shelf : Option Files) (text : Option (List ℕ)) (reads writes puts : ℕ) → HasFaults (end_of result)
-        (record { files = shelf; text = text; reads = reads; writes = writes; puts = puts; chain = C.counts chain.old })
-        (record { files = shelf; text = text; reads = reads; writes = writes; puts = puts; chain = C.counts chain.new }) }
-    ensures over { IsOver same_operation int_meanings session.new (C.held chain.new) }
-    ensures loans { C.loans chain.new ≡ C.loans chain.old }
-    ensures valid { C.is_valid chain.old → C.is_valid chain.new }
+    ensures { (shelf : Option Files) (text : Option (List ℕ)) (reads writes puts : ℕ) → CarriesOutCommand line.now result
+        (record { parts = session.old; held = C.held chain.old; loans = C.loans chain.old; valid = C.is_valid chain.old; moment = record { files = shelf; text = text; reads = reads; writes = writes; puts = puts; chain = C.counts chain.old } })
+        (record { parts = session.new; held = C.held chain.new; loans = C.loans chain.new; valid = C.is_valid chain.new; moment = record { files = shelf; text = text; reads = reads; writes = writes; puts = puts; chain = C.counts chain.new } }) }
 {
     let made = edit_by(&line.command)?;
     session.edit(chain, &made, workers)?;

@@ -1,18 +1,14 @@
 //! Lines that write a file of a buffer.
 
-ghost use Rattle.std.specs.Prelude.{◌≡◌, [], ◌∷◌, ℕ, Bool, IfSome, IsTrue, List, Option, length};
-ghost use Rattle.chain_owners.specs.Counts.{Counts};
+ghost use Rattle.std.specs.Prelude.{[], ◌∷◌, ℕ, IsTrue, Option, length};
 ghost use Rattle.commit_session.specs.Seen.{IsOver};
 ghost use Rattle.model_operations.specs.Meanings.{int_meanings, same_operation};
-ghost use Rattle.model_runs.specs.Effects.{effect, writes};
+ghost use Rattle.model_runs.specs.Effects.{writes};
 ghost use Rattle.model_runs.specs.Ending.{Leaves};
-ghost use Rattle.model_runs.specs.State.{RunState};
-ghost use Rattle.outside_io.specs.Files.{Files, file as bytes_of};
+ghost use Rattle.outside_io.specs.Files.{Files};
 ghost use Rattle.run_events.specs.Causes.{HasCause};
-ghost use Rattle.run_events.specs.Moments.{HasFaults};
-ghost use Rattle.run_lines.specs.Commands.{is_grab, is_load};
-ghost use Rattle.run_lines.specs.States.{Holds};
-ghost use Rattle.run_lines.specs.Stops.{Did, end_of};
+ghost use Rattle.run_lines.specs.Commands.{is_grab};
+ghost use Rattle.run_lines.specs.Stops.{CarriesOutCommand};
 ghost use Rattle.run_texts.specs.Events.{Puts, events_alone};
 ghost use Rattle.run_texts.specs.Texts.{grab_text as text_of_grab};
 ghost use Rattle.script_read.specs.Limits.{IsInLimits};
@@ -42,18 +38,9 @@ pub(crate) fn grab<C: TileChain, F: Shelf, O: Sink>(
     requires over { IsOver same_operation int_meanings session.old (C.held chain.old) }
     requires limits { IsInLimits line.now.command }
     requires grab { IsTrue (is_grab line.now.command) }
-    ensures did { (exposed : Bool) (capacity : ℕ) (state : RunState) (files : Files) →
-        Holds exposed capacity state files session.old (C.held chain.old) (F.files shelf.old) →
-        Did exposed capacity line.now.number state files (effect capacity state files line.now.number line.now.command) result
-        (record { files = F.files shelf.old; text = O.written out.old; reads = F.read_faults shelf.old; writes = F.write_faults shelf.old; puts = O.faults out.old; chain = C.counts chain.old })
-        (record { files = F.files shelf.new; text = O.written out.new; reads = F.read_faults shelf.new; writes = F.write_faults shelf.new; puts = O.faults out.new; chain = C.counts chain.new })
-        session.new (C.held chain.new) }
-    ensures faults { HasFaults (end_of result)
-        (record { files = F.files shelf.old; text = O.written out.old; reads = F.read_faults shelf.old; writes = F.write_faults shelf.old; puts = O.faults out.old; chain = C.counts chain.old })
-        (record { files = F.files shelf.new; text = O.written out.new; reads = F.read_faults shelf.new; writes = F.write_faults shelf.new; puts = O.faults out.new; chain = C.counts chain.new }) }
-    ensures over { IsOver same_operation int_meanings session.new (C.held chain.new) }
-    ensures loans { C.loans chain.new ≡ C.loans chain.old }
-    ensures valid { C.is_valid chain.old → C.is_valid chain.new }
+    ensures { CarriesOutCommand line.now result
+        (record { parts = session.old; held = C.held chain.old; loans = C.loans chain.old; valid = C.is_valid chain.old; moment = record { files = F.files shelf.old; text = O.written out.old; reads = F.read_faults shelf.old; writes = F.write_faults shelf.old; puts = O.faults out.old; chain = C.counts chain.old } })
+        (record { parts = session.new; held = C.held chain.new; loans = C.loans chain.new; valid = C.is_valid chain.new; moment = record { files = F.files shelf.new; text = O.written out.new; reads = F.read_faults shelf.new; writes = F.write_faults shelf.new; puts = O.faults out.new; chain = C.counts chain.new } }) }
 {
     let Command::Grab {
         name,

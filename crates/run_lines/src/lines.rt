@@ -5,7 +5,6 @@ ghost use Rattle.commit_session.specs.Seen.{IsOver};
 ghost use Rattle.model_bounds.specs.Counts.{HasTrueCounts};
 ghost use Rattle.model_operations.specs.Meanings.{int_meanings, same_operation};
 ghost use Rattle.model_runs.specs.Built.{is_of_watch as of_watch};
-ghost use Rattle.model_runs.specs.Effects.{effect};
 ghost use Rattle.model_runs.specs.Run.{effects, state_after};
 ghost use Rattle.model_runs.specs.State.{RunState};
 ghost use Rattle.outside_io.specs.Files.{Files};
@@ -13,7 +12,7 @@ ghost use Rattle.run_events.specs.Carried.{CarriesOutLines, IsCounted};
 ghost use Rattle.run_events.specs.Moments.{HasFaults};
 ghost use Rattle.run_lines.specs.Commands.{IsBuiltLine};
 ghost use Rattle.run_lines.specs.States.{Holds};
-ghost use Rattle.run_lines.specs.Stops.{Did, Does, end_of};
+ghost use Rattle.run_lines.specs.Stops.{CarriesOutCommand, CarriesOutLine};
 
 use crate::edits::edit;
 use crate::files::grab;
@@ -87,18 +86,9 @@ fn carry_out_line<C: TileChain, F: Shelf, O: Sink, R: Threads + Sync>(
 ) -> Result<(), End>
     requires over { IsOver same_operation int_meanings session.old (C.held chain.old) }
     requires line { IsBuiltLine line.now }
-    ensures does { (exposed : Bool) (capacity : ℕ) (state : RunState) (files : Files) →
-        Holds exposed capacity state files session.old (C.held chain.old) (F.files shelf.old) →
-        Does exposed capacity state files (effect capacity state files line.now.number line.now.command) result
-        (record { files = F.files shelf.old; text = O.written out.old; reads = F.read_faults shelf.old; writes = F.write_faults shelf.old; puts = O.faults out.old; chain = C.counts chain.old })
-        (record { files = F.files shelf.new; text = O.written out.new; reads = F.read_faults shelf.new; writes = F.write_faults shelf.new; puts = O.faults out.new; chain = C.counts chain.new })
-        session.new (C.held chain.new) }
-    ensures faults { HasFaults result
-        (record { files = F.files shelf.old; text = O.written out.old; reads = F.read_faults shelf.old; writes = F.write_faults shelf.old; puts = O.faults out.old; chain = C.counts chain.old })
-        (record { files = F.files shelf.new; text = O.written out.new; reads = F.read_faults shelf.new; writes = F.write_faults shelf.new; puts = O.faults out.new; chain = C.counts chain.new }) }
-    ensures over { IsOver same_operation int_meanings session.new (C.held chain.new) }
-    ensures loans { C.loans chain.new ≡ C.loans chain.old }
-    ensures valid { C.is_valid chain.old → C.is_valid chain.new }
+    ensures { CarriesOutLine line.now result
+        (record { parts = session.old; held = C.held chain.old; loans = C.loans chain.old; valid = C.is_valid chain.old; moment = record { files = F.files shelf.old; text = O.written out.old; reads = F.read_faults shelf.old; writes = F.write_faults shelf.old; puts = O.faults out.old; chain = C.counts chain.old } })
+        (record { parts = session.new; held = C.held chain.new; loans = C.loans chain.new; valid = C.is_valid chain.new; moment = record { files = F.files shelf.new; text = O.written out.new; reads = F.read_faults shelf.new; writes = F.write_faults shelf.new; puts = O.faults out.new; chain = C.counts chain.new } }) }
 {
     match carry_out_command(alloc, line, session, chain, shelf, out, workers) {
         Ok(()) => Ok(()),
@@ -119,18 +109,9 @@ fn carry_out_command<C: TileChain, F: Shelf, O: Sink, R: Threads + Sync>(
 ) -> Result<(), Stop>
     requires over { IsOver same_operation int_meanings session.old (C.held chain.old) }
     requires line { IsBuiltLine line.now }
-    ensures did { (exposed : Bool) (capacity : ℕ) (state : RunState) (files : Files) →
-        Holds exposed capacity state files session.old (C.held chain.old) (F.files shelf.old) →
-        Did exposed capacity line.now.number state files (effect capacity state files line.now.number line.now.command) result
-        (record { files = F.files shelf.old; text = O.written out.old; reads = F.read_faults shelf.old; writes = F.write_faults shelf.old; puts = O.faults out.old; chain = C.counts chain.old })
-        (record { files = F.files shelf.new; text = O.written out.new; reads = F.read_faults shelf.new; writes = F.write_faults shelf.new; puts = O.faults out.new; chain = C.counts chain.new })
-        session.new (C.held chain.new) }
-    ensures faults { HasFaults (end_of result)
-        (record { files = F.files shelf.old; text = O.written out.old; reads = F.read_faults shelf.old; writes = F.write_faults shelf.old; puts = O.faults out.old; chain = C.counts chain.old })
-        (record { files = F.files shelf.new; text = O.written out.new; reads = F.read_faults shelf.new; writes = F.write_faults shelf.new; puts = O.faults out.new; chain = C.counts chain.new }) }
-    ensures over { IsOver same_operation int_meanings session.new (C.held chain.new) }
-    ensures loans { C.loans chain.new ≡ C.loans chain.old }
-    ensures valid { C.is_valid chain.old → C.is_valid chain.new }
+    ensures { CarriesOutCommand line.now result
+        (record { parts = session.old; held = C.held chain.old; loans = C.loans chain.old; valid = C.is_valid chain.old; moment = record { files = F.files shelf.old; text = O.written out.old; reads = F.read_faults shelf.old; writes = F.write_faults shelf.old; puts = O.faults out.old; chain = C.counts chain.old } })
+        (record { parts = session.new; held = C.held chain.new; loans = C.loans chain.new; valid = C.is_valid chain.new; moment = record { files = F.files shelf.new; text = O.written out.new; reads = F.read_faults shelf.new; writes = F.write_faults shelf.new; puts = O.faults out.new; chain = C.counts chain.new } }) }
 {
     match &line.command {
         Command::Load { .. } => load(alloc, line, session, chain, shelf, workers),

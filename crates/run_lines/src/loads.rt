@@ -3,7 +3,7 @@
 //! A raster is read and put by bands of rows, so that no more than a band of it is in memory at once. The last band comes
 //! first: its read tells whether the file is too short or too long, before a byte is put.
 
-ghost use Rattle.std.specs.Prelude.{◌≡◌, ℕ, ◌+◌, ◌-◌, ◌*◌, ◌==◌, ◌<◌, ◌≤◌, ◌^◌, Bool, IfOk, IfSome, IsSomeAnd, IsTrue, List, Option, length};
+ghost use Rattle.std.specs.Prelude.{◌≡◌, ℕ, ◌+◌, ◌-◌, ◌*◌, ◌==◌, ◌<◌, ◌≤◌, ◌^◌, IfOk, IfSome, IsSomeAnd, IsTrue, List, Option, length};
 ghost use Rattle.std.specs.Result.{OnOk};
 ghost use Rattle.chain_owners.specs.Counts.{Counts};
 ghost use Rattle.commit_session.specs.Parts.{working_facts};
@@ -12,17 +12,15 @@ ghost use Rattle.model_buffers.specs.declared.edit.BufferEdit.TheVariants.{Put};
 ghost use Rattle.model_graphs.specs.Facts.{fact_of};
 ghost use Rattle.model_images.specs.FromRaw.{byte_count};
 ghost use Rattle.model_operations.specs.Meanings.{int_meanings, same_operation};
-ghost use Rattle.model_runs.specs.Effects.{effect, loads};
-ghost use Rattle.model_runs.specs.State.{RunState};
-ghost use Rattle.outside_io.specs.Files.{Files, file as bytes_of};
+ghost use Rattle.model_runs.specs.Effects.{loads};
+ghost use Rattle.outside_io.specs.Files.{file as bytes_of};
 ghost use Rattle.plane_rect.specs.Rectangle.{end_row as row_after, in_limits, plane_side};
 ghost use Rattle.run_events.specs.Moments.{HasFaults};
 ghost use Rattle.run_lines.specs.Bands.{BeginsBand, IsReached, bytes_of_rows, rows_between as rows_of};
 ghost use Rattle.run_lines.specs.Commands.{is_load};
 ghost use Rattle.run_lines.specs.Edited.{IsEdited, IsPut, done};
 ghost use Rattle.run_lines.specs.Rasters.{IsPart, IsTarget, Reads};
-ghost use Rattle.run_lines.specs.States.{Holds};
-ghost use Rattle.run_lines.specs.Stops.{Did, end_of};
+ghost use Rattle.run_lines.specs.Stops.{CarriesCommand, CarriesOutCommand, end_of};
 ghost use Rattle.script_read.specs.Limits.{IsInLimits};
 
 use crate::stop::Stop;
@@ -64,18 +62,9 @@ pub(crate) fn load<C: TileChain, F: Shelf, R: Threads + Sync>(
     requires over { IsOver same_operation int_meanings session.old (C.held chain.old) }
     requires limits { IsInLimits line.now.command }
     requires load { IsTrue (is_load line.now.command) }
-    ensures did { (text : Option (List ℕ)) (puts : ℕ) (exposed : Bool) (capacity : ℕ) (state : RunState) (files : Files) →
-        Holds exposed capacity state files session.old (C.held chain.old) (F.files shelf.old) →
-        Did exposed capacity line.now.number state files (effect capacity state files line.now.number line.now.command) result
-        (record { files = F.files shelf.old; text = text; reads = F.read_faults shelf.old; writes = F.write_faults shelf.old; puts = puts; chain = C.counts chain.old })
-        (record { files = F.files shelf.new; text = text; reads = F.read_faults shelf.new; writes = F.write_faults shelf.new; puts = puts; chain = C.counts chain.new })
-        session.new (C.held chain.new) }
-    ensures faults { (text : Option (List ℕ)) (puts : ℕ) → HasFaults (end_of result)
-        (record { files = F.files shelf.old; text = text; reads = F.read_faults shelf.old; writes = F.write_faults shelf.old; puts = puts; chain = C.counts chain.old })
-        (record { files = F.files shelf.new; text = text; reads = F.read_faults shelf.new; writes = F.write_faults shelf.new; puts = puts; chain = C.counts chain.new }) }
-    ensures over { IsOver same_operation int_meanings session.new (C.held chain.new) }
-    ensures loans { C.loans chain.new ≡ C.loans chain.old }
-    ensures valid { C.is_valid chain.old → C.is_valid chain.new }
+    ensures { (text : Option (List ℕ)) (puts : ℕ) → CarriesOutCommand line.now result
+        (record { parts = session.old; held = C.held chain.old; loans = C.loans chain.old; valid = C.is_valid chain.old; moment = record { files = F.files shelf.old; text = text; reads = F.read_faults shelf.old; writes = F.write_faults shelf.old; puts = puts; chain = C.counts chain.old } })
+        (record { parts = session.new; held = C.held chain.new; loans = C.loans chain.new; valid = C.is_valid chain.new; moment = record { files = F.files shelf.new; text = text; reads = F.read_faults shelf.new; writes = F.write_faults shelf.new; puts = puts; chain = C.counts chain.new } }) }
 {
     let Command::Load { name, rect, file } = &line.command else {
         unreachable!()
@@ -107,18 +96,10 @@ fn load_bands<C: TileChain, F: Shelf, R: Threads + Sync>(
     requires over { IsOver same_operation int_meanings session.old (C.held chain.old) }
     requires limits { IsTrue (in_limits target.now.rect) }
     requires target { IsSomeAnd (fact_of (working_facts session.old) target.now.name) (IsTarget target.now.rect target.now.format) }
-    ensures did { (line : ℕ) (text : Option (List ℕ)) (puts : ℕ) (exposed : Bool) (capacity : ℕ) (state : RunState) (files : Files) →
-        Holds exposed capacity state files session.old (C.held chain.old) (F.files shelf.old) →
-        Did exposed capacity line state files (loads line state target.now.name target.now.rect (bytes_of files file.now)) result
-        (record { files = F.files shelf.old; text = text; reads = F.read_faults shelf.old; writes = F.write_faults shelf.old; puts = puts; chain = C.counts chain.old })
-        (record { files = F.files shelf.new; text = text; reads = F.read_faults shelf.new; writes = F.write_faults shelf.new; puts = puts; chain = C.counts chain.new })
-        session.new (C.held chain.new) }
-    ensures faults { (text : Option (List ℕ)) (puts : ℕ) → HasFaults (end_of result)
-        (record { files = F.files shelf.old; text = text; reads = F.read_faults shelf.old; writes = F.write_faults shelf.old; puts = puts; chain = C.counts chain.old })
-        (record { files = F.files shelf.new; text = text; reads = F.read_faults shelf.new; writes = F.write_faults shelf.new; puts = puts; chain = C.counts chain.new }) }
-    ensures over { IsOver same_operation int_meanings session.new (C.held chain.new) }
-    ensures loans { C.loans chain.new ≡ C.loans chain.old }
-    ensures valid { C.is_valid chain.old → C.is_valid chain.new }
+    ensures { (line : ℕ) (text : Option (List ℕ)) (puts : ℕ) →
+        CarriesCommand line (λ capacity state files. loads line state target.now.name target.now.rect (bytes_of files file.now)) result
+        (record { parts = session.old; held = C.held chain.old; loans = C.loans chain.old; valid = C.is_valid chain.old; moment = record { files = F.files shelf.old; text = text; reads = F.read_faults shelf.old; writes = F.write_faults shelf.old; puts = puts; chain = C.counts chain.old } })
+        (record { parts = session.new; held = C.held chain.new; loans = C.loans chain.new; valid = C.is_valid chain.new; moment = record { files = F.files shelf.new; text = text; reads = F.read_faults shelf.new; writes = F.write_faults shelf.new; puts = puts; chain = C.counts chain.new } }) }
 {
     let tile_rows = band_tile_rows(target, workers);
     let mut bytes = Vec::new(alloc);

@@ -1,15 +1,22 @@
+use Rattle.std.proofs.Common.{refl}
 use Rattle.run_lines.proofs.lines.carry_out_command.Goals as goal
 
-pub returns-in-Load-clause-faults : goal.returns-in-Load-clause-faults
-returns-in-Load-clause-faults g c = c.load.ensures.faults (g.O.Sink.written c.args.out.now) (g.O.Sink.faults c.args.out.now)
+pub returns-in-Load : goal.returns-in-Load
+returns-in-Load g c = c.load.ensures (g.O.Sink.written c.args.out.now) (g.O.Sink.faults c.args.out.now)
 
-pub returns-in-Node-clause-faults : goal.returns-in-Node-clause-faults
-returns-in-Node-clause-faults g c = c.note.ensures.faults _
+pub returns-in-Node : goal.returns-in-Node
+returns-in-Node g c = record {
+  did = λ exposed capacity state files holds. c.note.ensures.did _ _ exposed capacity state files holds;
+  faults = c.note.ensures.faults _;
+  over = c.note.ensures.over _ c.requires.over;
+  loans = refl;
+  valid = λ valid. valid;
+}
 
-pub returns-in-Commit-clause-faults : goal.returns-in-Commit-clause-faults
-returns-in-Commit-clause-faults g c =
-    c.step.ensures.faults (g.F.Shelf.files c.args.shelf.now) (g.O.Sink.written c.args.out.now) (g.F.Shelf.read_faults c.args.shelf.now) (g.F.Shelf.write_faults c.args.shelf.now) (g.O.Sink.faults c.args.out.now)
+pub returns-in-Commit : goal.returns-in-Commit
+returns-in-Commit g c =
+    c.step.ensures (g.F.Shelf.files c.args.shelf.now) (g.O.Sink.written c.args.out.now) (g.F.Shelf.read_faults c.args.shelf.now) (g.F.Shelf.write_faults c.args.shelf.now) (g.O.Sink.faults c.args.out.now)
 
-pub returns-in_default-clause-faults : goal.returns-in_default-clause-faults
-returns-in_default-clause-faults g c =
-    c.edit.ensures.faults (g.F.Shelf.files c.args.shelf.now) (g.O.Sink.written c.args.out.now) (g.F.Shelf.read_faults c.args.shelf.now) (g.F.Shelf.write_faults c.args.shelf.now) (g.O.Sink.faults c.args.out.now)
+pub returns-in_default : goal.returns-in_default
+returns-in_default g c =
+    c.edit.ensures (g.F.Shelf.files c.args.shelf.now) (g.O.Sink.written c.args.out.now) (g.F.Shelf.read_faults c.args.shelf.now) (g.F.Shelf.write_faults c.args.shelf.now) (g.O.Sink.faults c.args.out.now)

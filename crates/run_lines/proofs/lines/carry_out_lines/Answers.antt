@@ -30,7 +30,7 @@ loop-line-preserved g c =
       faults = faults_then _ _ _ _ _ invariant.faults done.faults;
       reached = λ exposed capacity state files holds counts.
           let reached = rw here at (invariant.reached exposed capacity state files holds counts) in
-          reached_next exposed capacity state files lines _ x (drop (i + 1) lines) _ _ _ _ _ _ reached (done.does exposed capacity reached.there reached.found reached.holds);
+          reached_next exposed capacity state files lines _ x (drop (i + 1) lines) _ _ _ _ _ _ reached (done.did exposed capacity reached.there reached.found reached.holds);
     }
 
 pub returns-in_err-carry_out_line-clause-carried : goal.returns-in_err-carry_out_line-clause-carried
@@ -43,7 +43,7 @@ returns-in_err-carry_out_line-clause-carried g c = λ exposed capacity state fil
     let done = c.in_err-carry_out_line.ensures in
     let reached = rw here at (c.loop-line.invariant.reached exposed capacity state files holds counts) in
     lines_same_end exposed capacity state files lines _ _ _ _ c.from_residual.ensures.1
-    (reached_end exposed capacity state files lines _ x (drop (i + 1) lines) _ _ _ _ _ _ _ reached (done.does exposed capacity reached.there reached.found reached.holds))
+    (reached_end exposed capacity state files lines _ x (drop (i + 1) lines) _ _ _ _ _ _ _ reached (done.did exposed capacity reached.there reached.found reached.holds))
 
 pub returns-clause-carried : goal.returns-clause-carried
 returns-clause-carried g c = λ exposed capacity state files holds counts.

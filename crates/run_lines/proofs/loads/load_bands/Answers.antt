@@ -42,26 +42,29 @@ loop-bytes-init g c =
           (λ files. inl (end, refl));
     }
 
-pub returns-in_err-read_band-clause-did : goal.returns-in_err-read_band-clause-did
-returns-in_err-read_band-clause-did g c = λ line text puts exposed capacity state files holds.
-    let target = c.args.target.now in
-    let parts = c.args.session.now in
-    let held = g.C.ChainMeaning.held c.args.chain.now in
-    let later = g.C.ChainMeaning.held c.loop-bytes.chain in
-    let shelf = g.F.Shelf.files c.args.shelf.now in
-    let stop = c.in_err-read_band.field-0.0 in
-    let fact = known_fact target.rect target.format (fact_of (working_facts parts) target.name) c.requires.target in
-    let unread : IfSome shelf (λ (actual : Files). IsUnread (file actual c.args.file.now) (byte_count target.rect target.format) stop) =
-    subst (λ (o : Option Files). IfSome o (λ (actual : Files). IsUnread (file actual c.args.file.now) (byte_count target.rect target.format) stop)) c.loop-bytes.invariant.files c.in_err-read_band.ensures.read in
-    same_stop exposed capacity line state files _ stop _ _ _ c.loop-bytes.session later c.from_residual.ensures.1
-    (load_not_read exposed capacity line state files parts held shelf target.name target.rect holds c.args.file.now stop fact.0 _ _ c.loop-bytes.session later fact.1 fact.2.inside
-    (subst (λ (f : Format). IfSome shelf (λ (actual : Files). IsUnread (file actual c.args.file.now) (byte_count target.rect f) stop)) (sym fact.2.same) unread)
-    (c.in_err-read_band.ensures.files ∙ c.loop-bytes.invariant.files) refl)
-
-pub returns-in_err-read_band-clause-faults : goal.returns-in_err-read_band-clause-faults
-returns-in_err-read_band-clause-faults g c = λ text puts.
-    same_stop_faults c.read_band.result c.in_err-read_band.field-0.0 _ _ _ c.in_err-read_band.was c.from_residual.ensures.1
-    (faults_then (Ok tt) _ _ _ _ (c.loop-bytes.invariant.faults text puts) (c.read_band.ensures.faults text puts (g.C.ChainMeaning.counts c.loop-bytes.chain)))
+pub returns-in_err-read_band : goal.returns-in_err-read_band
+returns-in_err-read_band g c = λ line text puts. record {
+  did = λ exposed capacity state files holds.
+      let target = c.args.target.now in
+      let parts = c.args.session.now in
+      let held = g.C.ChainMeaning.held c.args.chain.now in
+      let later = g.C.ChainMeaning.held c.loop-bytes.chain in
+      let shelf = g.F.Shelf.files c.args.shelf.now in
+      let stop = c.in_err-read_band.field-0.0 in
+      let fact = known_fact target.rect target.format (fact_of (working_facts parts) target.name) c.requires.target in
+      let unread : IfSome shelf (λ (actual : Files). IsUnread (file actual c.args.file.now) (byte_count target.rect target.format) stop) =
+      subst (λ (o : Option Files). IfSome o (λ (actual : Files). IsUnread (file actual c.args.file.now) (byte_count target.rect target.format) stop)) c.loop-bytes.invariant.files c.in_err-read_band.ensures.read in
+      same_stop exposed capacity line state files _ stop _ _ _ c.loop-bytes.session later c.from_residual.ensures.1
+      (load_not_read exposed capacity line state files parts held shelf target.name target.rect holds c.args.file.now stop fact.0 _ _ c.loop-bytes.session later fact.1 fact.2.inside
+      (subst (λ (f : Format). IfSome shelf (λ (actual : Files). IsUnread (file actual c.args.file.now) (byte_count target.rect f) stop)) (sym fact.2.same) unread)
+      (c.in_err-read_band.ensures.files ∙ c.loop-bytes.invariant.files) refl);
+  faults =
+      same_stop_faults c.read_band.result c.in_err-read_band.field-0.0 _ _ _ c.in_err-read_band.was c.from_residual.ensures.1
+      (faults_then (Ok tt) _ _ _ _ (c.loop-bytes.invariant.faults text puts) (c.read_band.ensures.faults text puts (g.C.ChainMeaning.counts c.loop-bytes.chain)));
+  over = c.loop-bytes.invariant.over;
+  loans = c.loop-bytes.invariant.loans;
+  valid = c.loop-bytes.invariant.valid;
+}
 
 -- the band that is put
 module _ (g : Given.Over) (c : After-put_band g) where
@@ -122,36 +125,42 @@ module _ (g : Given.Over) (c : After-put_band g) where
       (at_chain (g.F.Shelf.files c.read_band.new.shelf) text (g.F.Shelf.read_faults c.read_band.new.shelf) (g.F.Shelf.write_faults c.read_band.new.shelf) puts now.counts)
   read_faults text puts = faults_then (Ok tt) (Ok tt) _ _ _ (c.loop-bytes.invariant.faults text puts) (c.in_ok-read_band.ensures.faults text puts now.counts)
 
-pub returns-in_err-bytes-clause-did : goal.returns-in_err-bytes-clause-did
-returns-in_err-bytes-clause-did g c = λ line text puts exposed capacity state files holds.
-    let at = (goal.at.returns-in_err-bytes-clause-did g c).After-put_band in
-    let target = c.args.target.now in
-    let refused = c.in_err-bytes.field-0.0 in
-    same_stop exposed capacity line state files _ (stop_of refused) _ _ _ (next g at).parts (next g at).held c.from_residual-in_err-bytes.ensures.1
-    (load_stopped exposed capacity line state files (old g at) (next g at) (shelf g at) target.name target.rect c.args.file.now (fact g at).0 text _ _ _ _ _ _ _ (same_files g at) holds (fact g at).1 refused
-    (stopped g at refused (band g at (Err refused) c.in_err-bytes.ensures.edited)))
+pub returns-in_err-bytes : goal.returns-in_err-bytes
+returns-in_err-bytes g c = λ line text puts. record {
+  did = λ exposed capacity state files holds.
+      let at = (goal.at.returns-in_err-bytes g c).After-put_band in
+      let target = c.args.target.now in
+      let refused = c.in_err-bytes.field-0.0 in
+      same_stop exposed capacity line state files _ (stop_of refused) _ _ _ (next g at).parts (next g at).held c.from_residual-in_err-bytes.ensures.1
+      (load_stopped exposed capacity line state files (old g at) (next g at) (shelf g at) target.name target.rect c.args.file.now (fact g at).0 text _ _ _ _ _ _ _ (same_files g at) holds (fact g at).1 refused
+      (stopped g at refused (band g at (Err refused) c.in_err-bytes.ensures.edited)));
+  faults =
+      let at = (goal.at.returns-in_err-bytes g c).After-put_band in
+      let refused = c.in_err-bytes.field-0.0 in
+      let put = Put c.args.target.now.name c.rows_between-band.result (read g at) in
+      let stopped : Result (Unit {0}) Stop = Err (stop_of refused) in
+      same_stop_faults stopped (stop_of refused) _ _ _ refl c.from_residual-in_err-bytes.ensures.1
+      (faults_then (Ok tt) _ _ _ _ (read_faults g at text puts) (stopped_faults put (now g at) (next g at) _ text _ _ puts refused c.in_err-bytes.ensures.edited));
+  over = c.in_err-bytes.ensures.over;
+  loans = c.in_err-bytes.ensures.loans ∙ c.loop-bytes.invariant.loans;
+  valid = λ valid. c.in_err-bytes.ensures.valid (c.loop-bytes.invariant.valid valid);
+}
 
-pub returns-in_err-bytes-clause-faults : goal.returns-in_err-bytes-clause-faults
-returns-in_err-bytes-clause-faults g c = λ text puts.
-    let at = (goal.at.returns-in_err-bytes-clause-faults g c).After-put_band in
-    let refused = c.in_err-bytes.field-0.0 in
-    let put = Put c.args.target.now.name c.rows_between-band.result (read g at) in
-    let stopped : Result (Unit {0}) Stop = Err (stop_of refused) in
-    same_stop_faults stopped (stop_of refused) _ _ _ refl c.from_residual-in_err-bytes.ensures.1
-    (faults_then (Ok tt) _ _ _ _ (read_faults g at text puts) (stopped_faults put (now g at) (next g at) _ text _ _ puts refused c.in_err-bytes.ensures.edited))
-
-pub returns-then-row-first_row-clause-did : goal.returns-then-row-first_row-clause-did
-returns-then-row-first_row-clause-did g c = λ line text puts exposed capacity state files holds.
-    let at = (goal.at.returns-then-row-first_row-clause-did g c).After-put_band in
-    let target = c.args.target.now in
-    let none : c.band_row-row.result ≤ target.rect.first_row = omega (arith, c.if-row-first_row.true, c.first_row.ensures.value) in
-    load_done exposed capacity line state files (old g at) (next g at) (shelf g at) target.name target.rect c.args.file.now (fact g at).0 text _ _ _ _ _ _ _ (same_files g at) holds (fact g at).1
-    (done g at none (band g at (Ok tt) c.in_ok-bytes.ensures.edited))
-
-pub returns-then-row-first_row-clause-faults : goal.returns-then-row-first_row-clause-faults
-returns-then-row-first_row-clause-faults g c = λ text puts.
-    let at = (goal.at.returns-then-row-first_row-clause-faults g c).After-put_band in
-    faults_then (Ok tt) (Ok tt) _ _ _ (read_faults g at text puts) (chain_faults _ _ refl refl refl c.in_ok-bytes.ensures.edited.counts.continues)
+pub returns-then-row-first_row : goal.returns-then-row-first_row
+returns-then-row-first_row g c = λ line text puts. record {
+  did = λ exposed capacity state files holds.
+      let at = (goal.at.returns-then-row-first_row g c).After-put_band in
+      let target = c.args.target.now in
+      let none : c.band_row-row.result ≤ target.rect.first_row = omega (arith, c.if-row-first_row.true, c.first_row.ensures.value) in
+      load_done exposed capacity line state files (old g at) (next g at) (shelf g at) target.name target.rect c.args.file.now (fact g at).0 text _ _ _ _ _ _ _ (same_files g at) holds (fact g at).1
+      (done g at none (band g at (Ok tt) c.in_ok-bytes.ensures.edited));
+  faults =
+      let at = (goal.at.returns-then-row-first_row g c).After-put_band in
+      faults_then (Ok tt) (Ok tt) _ _ _ (read_faults g at text puts) (chain_faults _ _ refl refl refl c.in_ok-bytes.ensures.edited.counts.continues);
+  over = c.in_ok-bytes.ensures.over;
+  loans = c.in_ok-bytes.ensures.loans ∙ c.loop-bytes.invariant.loans;
+  valid = λ valid. c.in_ok-bytes.ensures.valid (c.loop-bytes.invariant.valid valid);
+}
 
 pub loop-bytes-preserved : goal.loop-bytes-preserved
 loop-bytes-preserved g c =

@@ -1,7 +1,6 @@
-use Rattle.std.proofs.Common.{◌≡◌, ◌++◌, ◌<◌, List, ℕ, None, Option, Some, get_or, length, arith}
+use Rattle.std.proofs.Common.{◌≡◌, ◌<◌, List, None, Some, get_or, length, arith}
 use Rattle.std.specs.List.{slice_get}
 use Rattle.std.proofs.lemmas.Option.{slice_get-get_or}
-use Rattle.model_images.specs.Image.{Image}
 use Rattle.model_states.specs.Need.{strip_rectangles}
 use Rattle.plane_rect.specs.Rectangle.{Rectangle, empty}
 use Rattle.run_events.proofs.Leaving.{HasCause-same_end, HasCause-then, done_cause, falls_then, none_falls}

@@ -1,65 +1,48 @@
 use Rattle.std.proofs.Common.{refl}
-use Rattle.run_events.specs.Moments.{Moment}
-use Rattle.run_lines.proofs.StepLines.{commit-step, redo-step, step-done, step-stopped, undo-step}
-use Rattle.run_lines.proofs.Stopping.{same_stop}
+use Rattle.model_operations.specs.Meanings.{int_meanings}
+use Rattle.model_sessions.specs.Steps.{Commit, Redo, Undo}
+use Rattle.model_sessions.specs.Tables.{table_shapes}
+use Rattle.model_states.specs.History.{committed, redone, undone}
+use Rattle.root_tiles.specs.Chains.{ChainState}
+use Rattle.run_lines.proofs.StepLines.{commit-step, redo-step, step-carried, step-refused, undo-step}
+use Rattle.run_lines.proofs.steps.step.Given
 use Rattle.run_lines.proofs.steps.step.Goals as goal
 
-pub returns-in_ok-commit-in-Commit-clause-did : goal.returns-in_ok-commit-in-Commit-clause-did
-returns-in_ok-commit-in-Commit-clause-did g c = λ shelf text reads writes puts exposed capacity state files holds.
-    let ensures = c.in_ok-commit-in-Commit.ensures in
-    let before : Moment = record { files = shelf; text = text; reads = reads; writes = writes; puts = puts; chain = g.C.ChainMeaning.counts c.args.chain.now } in
-    let after : Moment = record before { chain = g.C.ChainMeaning.counts c.commit.new.chain } in
-    rw c.in-Commit.is
-    (step-done exposed capacity c.args.line.now.number state files c.args.session.now c.commit.new.self (g.C.ChainMeaning.held c.args.chain.now) (g.C.ChainMeaning.held c.commit.new.chain) before after holds refl refl
-    _ _ (commit-step state.session.history)
-    (record { leads = ensures.session state.session holds.session; capacity = ensures.committed.settled.capacity; content = ensures.left.others.exposed; counts = ensures.left.counts; others = ensures.other_names }))
+abbrev chain : (g : Given.Over) → g.row.C.Denot → ChainState
+chain g now = record { held = g.C.ChainMeaning.held now; counts = g.C.ChainMeaning.counts now; loans = g.C.ChainMeaning.loans now; valid = g.C.ChainMeaning.is_valid now }
 
-pub returns-in_err-commit-in-Commit-clause-did : goal.returns-in_err-commit-in-Commit-clause-did
-returns-in_err-commit-in-Commit-clause-did g c = λ shelf text reads writes puts exposed capacity state files holds.
-    let line = c.args.line.now.number in
-    let before : Moment = record { files = shelf; text = text; reads = reads; writes = writes; puts = puts; chain = g.C.ChainMeaning.counts c.args.chain.now } in
-    let after : Moment = record before { chain = g.C.ChainMeaning.counts c.commit.new.chain } in
-    rw c.in-Commit.is
-    (same_stop exposed capacity line state files _ _ _ _ _ _ _ c.from_residual.ensures.1
-    (step-stopped exposed capacity line state files c.args.session.now c.commit.new.self (g.C.ChainMeaning.held c.args.chain.now) (g.C.ChainMeaning.held c.commit.new.chain) before after holds refl refl
-    _ c.in_err-commit-in-Commit.field-0.0 (c.in_err-commit-in-Commit.ensures.refused_session state.session holds.session)))
+pub returns-in_ok-commit-in-Commit : goal.returns-in_ok-commit-in-Commit
+returns-in_ok-commit-in-Commit g c = λ shelf text reads writes puts.
+    let made = c.in_ok-commit-in-Commit.ensures in
+    step-carried c.args.line.now _ c.in-Commit.is (committed int_meanings table_shapes) (λ capacity state files. refl) c.args.session.now c.commit.new.self (chain g c.args.chain.now) (chain g c.commit.new.chain)
+    made.over made.left shelf text reads writes puts Commit commit-step made.session made.committed.settled.capacity made.other_names
 
-pub returns-in_ok-undo-in-Undo-clause-did : goal.returns-in_ok-undo-in-Undo-clause-did
-returns-in_ok-undo-in-Undo-clause-did g c = λ shelf text reads writes puts exposed capacity state files holds.
-    let ensures = c.in_ok-undo-in-Undo.ensures in
-    let before : Moment = record { files = shelf; text = text; reads = reads; writes = writes; puts = puts; chain = g.C.ChainMeaning.counts c.args.chain.now } in
-    let after : Moment = record before { chain = g.C.ChainMeaning.counts c.undo.new.chain } in
-    rw c.in-Undo.is
-    (step-done exposed capacity c.args.line.now.number state files c.args.session.now c.undo.new.self (g.C.ChainMeaning.held c.args.chain.now) (g.C.ChainMeaning.held c.undo.new.chain) before after holds refl refl
-    _ _ (undo-step state.session.history)
-    (record { leads = ensures.session state.session holds.session; capacity = ensures.undone.settled.capacity; content = ensures.left.others.exposed; counts = ensures.left.counts; others = ensures.other_names }))
+pub returns-in_err-commit-in-Commit : goal.returns-in_err-commit-in-Commit
+returns-in_err-commit-in-Commit g c = λ shelf text reads writes puts.
+    let refused = c.in_err-commit-in-Commit.ensures in
+    step-refused c.args.line.now _ c.in-Commit.is (committed int_meanings table_shapes) (λ capacity state files. refl) c.args.session.now c.commit.new.self (chain g c.args.chain.now) (chain g c.commit.new.chain)
+    refused.over refused.left shelf text reads writes puts c.in_err-commit-in-Commit.field-0.0 _ refused.refused refused.refused_session _ c.from_residual.ensures.1
 
-pub returns-in_err-undo-in-Undo-clause-did : goal.returns-in_err-undo-in-Undo-clause-did
-returns-in_err-undo-in-Undo-clause-did g c = λ shelf text reads writes puts exposed capacity state files holds.
-    let line = c.args.line.now.number in
-    let before : Moment = record { files = shelf; text = text; reads = reads; writes = writes; puts = puts; chain = g.C.ChainMeaning.counts c.args.chain.now } in
-    let after : Moment = record before { chain = g.C.ChainMeaning.counts c.undo.new.chain } in
-    rw c.in-Undo.is
-    (same_stop exposed capacity line state files _ _ _ _ _ _ _ c.from_residual-in_err-undo-in-Undo.ensures.1
-    (step-stopped exposed capacity line state files c.args.session.now c.undo.new.self (g.C.ChainMeaning.held c.args.chain.now) (g.C.ChainMeaning.held c.undo.new.chain) before after holds refl refl
-    _ c.in_err-undo-in-Undo.field-0.0 (c.in_err-undo-in-Undo.ensures.refused_session state.session holds.session)))
+pub returns-in_ok-step-in-Undo : goal.returns-in_ok-step-in-Undo
+returns-in_ok-step-in-Undo g c = λ shelf text reads writes puts.
+    let made = c.in_ok-step-in-Undo.ensures in
+    step-carried c.args.line.now _ c.in-Undo.is undone (λ capacity state files. refl) c.args.session.now c.step.new.self (chain g c.args.chain.now) (chain g c.step.new.chain)
+    made.over made.left shelf text reads writes puts Undo undo-step made.session made.stepped.settled.capacity made.other_names
 
-pub returns-in_ok-redo-in-Redo-clause-did : goal.returns-in_ok-redo-in-Redo-clause-did
-returns-in_ok-redo-in-Redo-clause-did g c = λ shelf text reads writes puts exposed capacity state files holds.
-    let ensures = c.in_ok-redo-in-Redo.ensures in
-    let before : Moment = record { files = shelf; text = text; reads = reads; writes = writes; puts = puts; chain = g.C.ChainMeaning.counts c.args.chain.now } in
-    let after : Moment = record before { chain = g.C.ChainMeaning.counts c.redo.new.chain } in
-    rw c.in-Redo.is
-    (step-done exposed capacity c.args.line.now.number state files c.args.session.now c.redo.new.self (g.C.ChainMeaning.held c.args.chain.now) (g.C.ChainMeaning.held c.redo.new.chain) before after holds refl refl
-    _ _ (redo-step state.session.history)
-    (record { leads = ensures.session state.session holds.session; capacity = ensures.redone.settled.capacity; content = ensures.left.others.exposed; counts = ensures.left.counts; others = ensures.other_names }))
+pub returns-in_err-step-in-Undo : goal.returns-in_err-step-in-Undo
+returns-in_err-step-in-Undo g c = λ shelf text reads writes puts.
+    let refused = c.in_err-step-in-Undo.ensures in
+    step-refused c.args.line.now _ c.in-Undo.is undone (λ capacity state files. refl) c.args.session.now c.step.new.self (chain g c.args.chain.now) (chain g c.step.new.chain)
+    refused.over refused.left shelf text reads writes puts c.in_err-step-in-Undo.field-0.0 _ refused.refused refused.refused_session _ c.from_residual-in_err-step-in-Undo.ensures.1
 
-pub returns-in_err-redo-in-Redo-clause-did : goal.returns-in_err-redo-in-Redo-clause-did
-returns-in_err-redo-in-Redo-clause-did g c = λ shelf text reads writes puts exposed capacity state files holds.
-    let line = c.args.line.now.number in
-    let before : Moment = record { files = shelf; text = text; reads = reads; writes = writes; puts = puts; chain = g.C.ChainMeaning.counts c.args.chain.now } in
-    let after : Moment = record before { chain = g.C.ChainMeaning.counts c.redo.new.chain } in
-    rw c.in-Redo.is
-    (same_stop exposed capacity line state files _ _ _ _ _ _ _ c.from_residual-in_err-redo-in-Redo.ensures.1
-    (step-stopped exposed capacity line state files c.args.session.now c.redo.new.self (g.C.ChainMeaning.held c.args.chain.now) (g.C.ChainMeaning.held c.redo.new.chain) before after holds refl refl
-    _ c.in_err-redo-in-Redo.field-0.0 (c.in_err-redo-in-Redo.ensures.refused_session state.session holds.session)))
+pub returns-in_ok-step-in-Redo : goal.returns-in_ok-step-in-Redo
+returns-in_ok-step-in-Redo g c = λ shelf text reads writes puts.
+    let made = c.in_ok-step-in-Redo.ensures in
+    step-carried c.args.line.now _ c.in-Redo.is redone (λ capacity state files. refl) c.args.session.now c.step-in-Redo.new.self (chain g c.args.chain.now) (chain g c.step-in-Redo.new.chain)
+    made.over made.left shelf text reads writes puts Redo redo-step made.session made.stepped.settled.capacity made.other_names
+
+pub returns-in_err-step-in-Redo : goal.returns-in_err-step-in-Redo
+returns-in_err-step-in-Redo g c = λ shelf text reads writes puts.
+    let refused = c.in_err-step-in-Redo.ensures in
+    step-refused c.args.line.now _ c.in-Redo.is redone (λ capacity state files. refl) c.args.session.now c.step-in-Redo.new.self (chain g c.args.chain.now) (chain g c.step-in-Redo.new.chain)
+    refused.over refused.left shelf text reads writes puts c.in_err-step-in-Redo.field-0.0 _ refused.refused refused.refused_session _ c.from_residual-in_err-step-in-Redo.ensures.1
