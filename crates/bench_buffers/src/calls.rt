@@ -5,9 +5,8 @@ ghost use Rattle.chain_owners.specs.Held.{Held};
 ghost use Rattle.plane_rect.specs.Rectangle.{InLimits};
 ghost use Rattle.buffer_view.specs.BufferTables.{AreBuffersOver};
 
-use crate::picture::sum;
-use crate::report::{Report, Times};
 use anyhow::{Context, Result};
+use bench_kit::{Report, Times, sum};
 use buffer_view::{BufferRefused, Buffers, no_buffers_ask_nothing};
 use chain_handlers::TileChain;
 use pixel_formats::{Abyss, Format};
@@ -107,7 +106,7 @@ pub fn time_puts<R: Clock + Print + Eprint + Threads + Sync, C: TileChain>(
         buffers.put_raw(chain, name, rect, bytes, Workers::new(rt, 1))?;
         times.add_since(rt, start)?;
     }
-    report.print(rt, "put", &times, bytes.len() as u64)?;
+    report.print(rt, "put", times, bytes.len() as u64)?;
     Ok(())
 }
 
@@ -158,7 +157,7 @@ pub fn time_gets<R: Clock + Print + Eprint, C: TileChain>(
     } else {
         "get"
     };
-    report.print(rt, call, &times, found)?;
+    report.print(rt, call, times, found)?;
     Ok(())
 }
 
@@ -181,7 +180,7 @@ pub fn time_duplicates<R: Clock + Print + Eprint, C: TileChain>(
         buffers.dup(chain, name, from)?;
         times.add_since(rt, start)?;
     }
-    report.print(rt, "duplicate", &times, words.len() as u64)?;
+    report.print(rt, "duplicate", times, words.len() as u64)?;
     Ok(())
 }
 
@@ -205,6 +204,6 @@ pub fn time_fills<R: Clock + Print + Eprint, C: TileChain>(
         buffers.fill(chain, name, square, &[1, 2, 3, 255])?;
         times.add_since(rt, start)?;
     }
-    report.print(rt, "fill", &times, u64::from(tiles))?;
+    report.print(rt, "fill", times, u64::from(tiles))?;
     Ok(())
 }

@@ -9,14 +9,13 @@
 mod calls;
 mod picture;
 mod plain_bench;
-mod report;
 mod resident_bench;
 mod swap_bench;
 mod swap_loops;
 
 use anyhow::Result;
+use bench_kit::Report;
 use outside_io::FileSwap;
-use report::Report;
 use std::alloc::Global;
 use std::rt::Env;
 

@@ -1,9 +1,9 @@
 //! Times of plain copies and of plain averages.
 
-use crate::picture::{level_three, sum};
-use crate::report::{Report, Times};
 use crate::resident_bench::part_side;
 use anyhow::Result;
+use bench_kit::{Report, Times, level_three, sum};
+use pixel_formats::Format;
 use std::alloc::Global;
 use std::rt::Clock;
 use std::time::Instant;
@@ -38,7 +38,7 @@ fn time_copies<R: Clock + Print + Eprint + Alloc<A = Global>>(
         times.add_since(rt, start)?;
         found = sum(&copy);
     }
-    report.print(rt, name, &times, found)?;
+    report.print(rt, name, times, found)?;
     Ok(())
 }
 
@@ -53,10 +53,10 @@ fn time_averages<R: Clock + Print + Eprint + Alloc<A = Global>>(
     let mut found = 0;
     for _round in 0..3u8 {
         let start = Instant::now(rt)?;
-        let level = level_three(rt.alloc(), bytes, stride)?;
+        let level = level_three(rt.alloc(), Format::RGBA8, bytes, stride)?;
         times.add_since(rt, start)?;
         found = sum(&level);
     }
-    report.print(rt, "level 3", &times, found)?;
+    report.print(rt, "level 3", times, found)?;
     Ok(())
 }

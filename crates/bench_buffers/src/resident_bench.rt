@@ -4,8 +4,8 @@ ghost use Rattle.std.specs.Prelude.{◌≤◌};
 ghost use Rattle.buffer_view.specs.BufferTables.{AreBuffersOver};
 
 use crate::calls::{Part, one_buffer, rect, time_duplicates, time_fills, time_gets, time_puts};
-use crate::report::Report;
 use anyhow::Result;
+use bench_kit::Report;
 use buffer_view::Buffers;
 use chain_handlers::{Chain, TileChain};
 use outside_io::SureSwap;

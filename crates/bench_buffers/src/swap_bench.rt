@@ -5,9 +5,9 @@ ghost use Rattle.std.specs.Prelude.{◌≤◌, ◌^◌};
 
 use crate::calls::{create, name, one_buffer, rect};
 use crate::picture::noise;
-use crate::report::{Report, Times};
 use crate::swap_loops::{get_bands, put_bands, read_blocks, write_blocks};
 use anyhow::Result;
+use bench_kit::{Report, Times};
 use chain_handlers::{Chain, TileChain};
 use outside_io::SwapDisk;
 use pixel_formats::Format;
@@ -33,10 +33,10 @@ pub fn time_blocks<R: Clock + Print + Eprint + Alloc<A = Global>, D: SwapDisk>(
     let mut block = vec![in rt.alloc(); 7; 4_096]?;
     let start = Instant::now(rt)?;
     let found = write_blocks(disk, &block)?;
-    report.print(rt, "blocks written", &Times::since(rt, start)?, found)?;
+    report.print(rt, "blocks written", Times::since(rt, start)?, found)?;
     let start = Instant::now(rt)?;
     let found = read_blocks(disk, &mut block)?;
-    report.print(rt, "blocks read", &Times::since(rt, start)?, found)?;
+    report.print(rt, "blocks read", Times::since(rt, start)?, found)?;
     Ok(())
 }
 
@@ -73,7 +73,7 @@ fn time_two<R: Clock + Print + Eprint + Threads + Sync + Alloc<A = Global>, C: T
         &band,
         columns,
     )?);
-    report.print(rt, "buffers written", &Times::since(rt, start)?, found)?;
+    report.print(rt, "buffers written", Times::since(rt, start)?, found)?;
     let start = Instant::now(rt)?;
     let found = get_bands(&mut buffers, chain, "a", columns)?.wrapping_add(get_bands(
         &mut buffers,
@@ -81,7 +81,7 @@ fn time_two<R: Clock + Print + Eprint + Threads + Sync + Alloc<A = Global>, C: T
         "b",
         columns,
     )?);
-    report.print(rt, "buffers read", &Times::since(rt, start)?, found)?;
+    report.print(rt, "buffers read", Times::since(rt, start)?, found)?;
     buffers.release(chain);
     Ok(())
 }

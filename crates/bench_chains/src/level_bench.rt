@@ -4,10 +4,10 @@ ghost use Rattle.std.specs.Prelude.{◌≡◌, ◌≤◌};
 ghost use Rattle.level_tables.specs.Over.{IsOver};
 
 use crate::name_bench::time_shares;
-use crate::report::Report;
 use crate::row_loops;
 use crate::table_loops::{Square, no_tiles, put_all, read_level};
 use anyhow::Result;
+use bench_kit::{Report, level_three, sum};
 use chain_handlers::{Chain, TileChain};
 use level_tables::LevelTable;
 use outside_io::SureSwap;
@@ -27,8 +27,9 @@ pub fn time_rows<R: Clock + Print + Eprint + Alloc<A = Global>>(
     let image = row_loops::image(rt.alloc(), columns)?;
     for _round in 0..3 {
         let start = Instant::now(rt)?;
-        let found = row_loops::level_three(rt.alloc(), &image, columns as usize * 192)?;
-        report.print(rt, "level 3", start, columns * columns / 2, found)?;
+        let level = level_three(rt.alloc(), Format::RGB8, &image, columns as usize * 192)?;
+        let found = sum(&level);
+        report.print_calls(rt, "level 3", start, columns * columns / 2, found)?;
     }
     Ok(())
 }
@@ -102,7 +103,7 @@ fn time_puts<R: Clock + Print + Eprint + Alloc<A = Global>, C: TileChain>(
     let bytes = vec![in rt.alloc(); 7; 12_288]?;
     let start = Instant::now(rt)?;
     let found = put_all(table, chain, rt.alloc(), &bytes, square)?;
-    report.print(rt, "tile made and put", start, square.count(), found)?;
+    report.print_calls(rt, "tile made and put", start, square.count(), found)?;
     Ok(())
 }
 
@@ -123,6 +124,6 @@ fn time_level<R: Clock + Print + Eprint + Alloc<A = Global>, C: TileChain>(
 {
     let start = Instant::now(rt)?;
     let found = read_level(table, chain, level, square)?;
-    report.print(rt, "tile of a level", start, square.count(), found)?;
+    report.print_calls(rt, "tile of a level", start, square.count(), found)?;
     Ok(())
 }

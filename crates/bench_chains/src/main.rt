@@ -8,13 +8,12 @@
 mod level_bench;
 mod name_bench;
 mod name_loops;
-mod report;
 mod row_loops;
 mod table_loops;
 
 use anyhow::Result;
+use bench_kit::Report;
 use outside_io::FileSwap;
-use report::Report;
 use std::alloc::Global;
 use std::rt::Env;
 

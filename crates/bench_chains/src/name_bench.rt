@@ -4,10 +4,10 @@
 ghost use Rattle.std.specs.Prelude.{◌≡◌, ◌≤◌};
 ghost use Rattle.level_tables.specs.Over.{IsOver};
 
-use crate::report::Report;
 use crate::table_loops::{Square, no_tiles, put_all, read_put};
 use crate::{name_loops, row_loops};
 use anyhow::Result;
+use bench_kit::Report;
 use chain_handlers::{Chain, TileChain};
 use level_tables::LevelTable;
 use outside_io::{SureSwap, SwapDisk};
@@ -39,7 +39,7 @@ fn time_copies<R: Clock + Print + Eprint + Alloc<A = Global>>(
     let mut into = vec![in rt.alloc(); 0; 4_096]?;
     let start = Instant::now(rt)?;
     let found = row_loops::copy(&mut row, &mut into, rounds);
-    report.print(rt, "copy 4,096 bytes", start, rounds, found)?;
+    report.print_calls(rt, "copy 4,096 bytes", start, rounds, found)?;
     Ok(())
 }
 
@@ -82,11 +82,11 @@ fn time_new<R: Clock + Print + Eprint + Alloc<A = Global>, C: TileChain>(
 
     let start = Instant::now(rt)?;
     let found = name_loops::add_all(&mut tiles, chain, alloc, &tile, names)?;
-    report.print(rt, "new name", start, names, found)?;
+    report.print_calls(rt, "new name", start, names, found)?;
 
     let start = Instant::now(rt)?;
     tiles.discard(chain);
-    report.print(rt, "name given up", start, names, 0)?;
+    report.print_calls(rt, "name given up", start, names, 0)?;
     Ok(())
 }
 
@@ -102,11 +102,11 @@ fn time_table<R: Clock + Print + Eprint + Alloc<A = Global>, C: TileChain>(
 
     let start = Instant::now(rt)?;
     let found = put_all(&mut table, chain, rt.alloc(), &bytes, square)?;
-    report.print(rt, "tile made and put", start, square.count(), found)?;
+    report.print_calls(rt, "tile made and put", start, square.count(), found)?;
 
     let start = Instant::now(rt)?;
     let found = read_put(&table, chain, square)?;
-    report.print(rt, "tile of a table read", start, square.count(), found)?;
+    report.print_calls(rt, "tile of a table read", start, square.count(), found)?;
     time_shares(rt, report, &table, chain, square.count())
 }
 
@@ -122,11 +122,11 @@ pub fn time_shares<R: Clock + Print + Eprint + Alloc<A = Global>, C: TileChain>(
 {
     let start = Instant::now(rt)?;
     let shared = table.share(chain)?;
-    report.print(rt, "tile of a table shared", start, count, 0)?;
+    report.print_calls(rt, "tile of a table shared", start, count, 0)?;
 
     let start = Instant::now(rt)?;
     shared.release(chain);
-    report.print(rt, "tile of a table released", start, count, 0)?;
+    report.print_calls(rt, "tile of a table released", start, count, 0)?;
     Ok(())
 }
 
@@ -142,10 +142,10 @@ fn time_one<R: Clock + Print + Eprint + Alloc<A = Global>, C: TileChain>(
 
     let start = Instant::now(rt)?;
     let found = name_loops::read_one(chain, name, rounds)?;
-    report.print(rt, "one name read", start, rounds, found)?;
+    report.print_calls(rt, "one name read", start, rounds, found)?;
 
     let start = Instant::now(rt)?;
     let found = name_loops::rewrite_one(chain, name, &tile, rounds)?;
-    report.print(rt, "one name rewritten", start, rounds, found)?;
+    report.print_calls(rt, "one name rewritten", start, rounds, found)?;
     Ok(())
 }

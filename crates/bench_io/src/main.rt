@@ -10,10 +10,10 @@ mod swap_bench;
 mod swap_loops;
 
 use anyhow::Result;
+use bench_kit::Report;
 use outside_io::FileSwap;
 use std::alloc::Global;
 use std::rt::Env;
-use swap_bench::SwapBench;
 
 fn main(rt: HostRuntime) -> Result<()> {
     let count = count_asked(&rt)?;
@@ -21,10 +21,11 @@ fn main(rt: HostRuntime) -> Result<()> {
     let times_swap = word.as_deref() != Some("script");
     let times_script = word.as_deref() != Some("swap");
     if times_swap {
-        let bench = SwapBench::new(count);
-        swap_bench::time_memory(&rt, bench)?;
-        let mut file = FileSwap::new(&rt, bench.blocks());
-        swap_bench::time_file(&rt, bench, &mut file)?;
+        let names = swap_bench::names_of(count);
+        let report = Report::new("in memory", count.is_some());
+        swap_bench::time_memory(&rt, report, names)?;
+        let mut file = FileSwap::new(&rt, swap_bench::blocks_of(names));
+        swap_bench::time_disk(&rt, report.at("in a file"), &mut file, names)?;
     }
     if times_script {
         script_bench::time_all(&rt, count)?;

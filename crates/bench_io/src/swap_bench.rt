@@ -5,9 +5,9 @@ ghost use Rattle.std.specs.Prelude.{◌≡◌, ◌≤◌, ◌^◌};
 
 use crate::swap_loops;
 use anyhow::Result;
+use bench_kit::Report;
 use outside_io::{Lent, SureSwap, SwapDisk};
 use std::alloc::Global;
-use std::io;
 use std::rt::Clock;
 use std::time::Instant;
 use swap_store::SwapStore;
@@ -16,74 +16,43 @@ use tile_cow::Tile;
 /// How many names there are where the command line says nothing.
 const FEW_NAMES: u32 = 100;
 
-/// How many names there are, and whether the times are printed.
-#[derive(Clone, Copy)]
-pub struct SwapBench {
-    names: u32,
-    is_timed: bool,
+/// Returns how many names there are: so many, or few where none are asked for.
+pub fn names_of(asked: Option<u32>) -> u32 {
+    asked.unwrap_or(FEW_NAMES)
 }
 
-impl SwapBench {
-    /// Returns a benchmark of so many names, or of few, without times, where none are asked for.
-    pub fn new(names: Option<u32>) -> SwapBench {
-        SwapBench {
-            names: names.unwrap_or(FEW_NAMES),
-            is_timed: names.is_some(),
-        }
-    }
-
-    /// Returns how many blocks the names are put into: few more than they take.
-    pub fn blocks(self) -> u32
-        ensures { result ≤ 2 ^ 20 }
-    {
-        self.names.saturating_mul(11).min(1 << 20)
-    }
-
-    /// Prints what a loop of so many rounds found and, where that is asked for, the time of a round
-    /// since `start`.
-    fn report<R: Clock + Print + Eprint>(
-        self,
-        rt: &R,
-        name: &str,
-        start: Instant,
-        rounds: u32,
-        found: u64,
-    ) -> io::Result<()> {
-        println!(rt; "{name}: {found}")?;
-        if self.is_timed {
-            let nanoseconds = start.elapsed(rt)?.as_nanos() / u128::from(rounds.max(1));
-            eprintln!(rt; "{name}: {nanoseconds} ns")?;
-        }
-        Ok(())
-    }
+/// Returns how many blocks so many names are put into: few more than they take.
+pub fn blocks_of(names: u32) -> u32
+    ensures { result ≤ 2 ^ 20 }
+{
+    names.saturating_mul(11).min(1 << 20)
 }
 
-/// Times plain blocks and the store over a disk in memory.
+/// Times plain blocks and the store of so many names over a disk in memory.
 pub fn time_memory<R: Clock + Print + Eprint + Alloc<A = Global>>(
     rt: &R,
-    bench: SwapBench,
+    report: Report,
+    names: u32,
 ) -> Result<()> {
-    println!(rt; "in memory")?;
-    let mut disk = SureSwap::new(rt.alloc(), bench.blocks())?;
-    time_blocks(rt, bench, &mut disk)?;
-    time_store(rt, bench, &mut disk)
+    let mut disk = SureSwap::new(rt.alloc(), blocks_of(names))?;
+    time_disk(rt, report, &mut disk, names)
 }
 
-/// Times plain blocks and the store over the real file.
-pub fn time_file<R: Clock + Print + Eprint + Alloc<A = Global>, D: SwapDisk>(
+/// Times plain blocks and the store of so many names over a disk.
+pub fn time_disk<R: Clock + Print + Eprint + Alloc<A = Global>, D: SwapDisk>(
     rt: &R,
-    bench: SwapBench,
-    file: &mut D,
+    report: Report,
+    disk: &mut D,
+    names: u32,
 ) -> Result<()> {
-    println!(rt; "in a file")?;
-    time_blocks(rt, bench, file)?;
-    time_store(rt, bench, file)
+    time_blocks(rt, report, disk)?;
+    time_store(rt, report, disk, names)
 }
 
 /// Times plain writes and reads of each block.
 fn time_blocks<R: Clock + Print + Eprint + Alloc<A = Global>, D: SwapDisk>(
     rt: &R,
-    bench: SwapBench,
+    report: Report,
     disk: &mut D,
 ) -> Result<()> {
     let mut row = vec![in rt.alloc(); 7; 4_096]?;
@@ -91,11 +60,11 @@ fn time_blocks<R: Clock + Print + Eprint + Alloc<A = Global>, D: SwapDisk>(
 
     let start = Instant::now(rt)?;
     let found = swap_loops::write_blocks(disk, &row, blocks)?;
-    bench.report(rt, "write a block", start, blocks, found)?;
+    report.print_calls(rt, "write a block", start, blocks, found)?;
 
     let start = Instant::now(rt)?;
     let found = swap_loops::read_blocks(disk, &mut row, blocks)?;
-    bench.report(rt, "read a block", start, blocks, found)?;
+    report.print_calls(rt, "read a block", start, blocks, found)?;
     Ok(())
 }
 
@@ -112,29 +81,30 @@ fn tiles_of_all_lengths(alloc: Global) -> Result<Vec<Tile>> {
 /// Times puts, gets, replacements and forgets of tiles of all lengths.
 fn time_store<R: Clock + Print + Eprint + Alloc<A = Global>, D: SwapDisk>(
     rt: &R,
-    bench: SwapBench,
+    report: Report,
     disk: &mut D,
+    names: u32,
 ) -> Result<()> {
     let alloc = rt.alloc();
     let tiles = tiles_of_all_lengths(alloc)?;
-    let names = u64::from(bench.names);
-    let mut store = SwapStore::new(alloc, disk, bench.blocks())?;
+    let count = u64::from(names);
+    let mut store = SwapStore::new(alloc, disk, blocks_of(names))?;
 
     let start = Instant::now(rt)?;
-    let found = swap_loops::put_all(&mut store, &tiles, names)?;
-    bench.report(rt, "put", start, bench.names, found)?;
+    let found = swap_loops::put_all(&mut store, &tiles, count)?;
+    report.print_calls(rt, "put", start, names, found)?;
 
     let start = Instant::now(rt)?;
-    let found = swap_loops::get_all(&mut store, names)?;
-    bench.report(rt, "get", start, bench.names, found)?;
+    let found = swap_loops::get_all(&mut store, count)?;
+    report.print_calls(rt, "get", start, names, found)?;
 
     let start = Instant::now(rt)?;
-    let found = swap_loops::replace_all(&mut store, &tiles, names)?;
-    bench.report(rt, "forget and put", start, bench.names, found)?;
+    let found = swap_loops::replace_all(&mut store, &tiles, count)?;
+    report.print_calls(rt, "forget and put", start, names, found)?;
 
     let start = Instant::now(rt)?;
-    let found = swap_loops::forget_all(&mut store, names);
-    bench.report(rt, "forget", start, bench.names, found)?;
+    let found = swap_loops::forget_all(&mut store, count);
+    report.print_calls(rt, "forget", start, names, found)?;
     let Lent { disk: _back } = store.end();
     Ok(())
 }

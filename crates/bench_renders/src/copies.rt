@@ -1,7 +1,7 @@
 //! Plain copies of memory, as a scale.
 
-use crate::report::{Report, least};
 use anyhow::Result;
+use bench_kit::{Report, Times};
 use std::alloc::Global;
 use std::rt::Clock;
 use std::time::Instant;
@@ -17,14 +17,14 @@ pub fn time_copies<R: Clock + Print + Eprint + Alloc<A = Global>>(
 ) -> Result<()> {
     let source = vec![in rt.alloc(); 7u8; PATCH_BYTES]?;
     let mut target = vec![in rt.alloc(); 0u8; PATCH_BYTES]?;
-    let mut best = u128::MAX;
+    let mut times = Times::none();
     for _round in 0..rounds {
         let start = Instant::now(rt)?;
         copy(&source, &mut target);
-        best = least(rt, best, start)?;
+        times.add_since(rt, start)?;
     }
     let found = target.last().copied().map_or(0, u64::from);
-    report.print(rt, "plain copy of a patch", best, 1, found)?;
+    report.print(rt, "copy of a patch", times, found)?;
     Ok(())
 }
 

@@ -1,15 +1,12 @@
 //! A request after a small edit.
 
 ghost use Rattle.std.specs.Prelude.{◌≡◌, IfOk};
-ghost use Rattle.model_buffers.specs.Layout.{facts_of};
-ghost use Rattle.model_operations.specs.Meanings.{int_meanings};
-ghost use Rattle.buffer_view.specs.BufferTables.{AreBuffersOver, buffers_names};
-ghost use Rattle.test_renders.specs.Ready.{AreOver, AreReady};
+ghost use Rattle.test_renders.specs.Ready.{AreBuffersAndCacheOver, IsReadyOverBuffers};
 
 use crate::jobs::{Job, name, node, ready, request, source};
 use crate::pairs::{MANY, show_again};
-use crate::report::{Report, least};
 use anyhow::Result;
+use bench_kit::{Report, Times};
 use buffer_view::Buffers;
 use chain_contracts::TileChain;
 use chain_handlers::Chain;
@@ -72,18 +69,18 @@ fn time_job<R: Clock + Print + Eprint + Threads + Sync + Alloc<A = Global>, C: T
     let part = request(name("c")?, [x, y, 512, 512]);
     let start = Instant::now(rt)?;
     let (shown, _spent) = canvas.shown(chain, &part, Workers::new(rt, 1))?;
-    let first = least(rt, u128::MAX, start)?;
-    report.print(rt, "request evaluated", first, shown.applied, shown.applied)?;
-    let (best, reused) = show_again(rt, &mut canvas, chain, &part, job.rounds)?;
-    report.print(rt, "request cached", best, reused, reused)?;
+    let times = Times::since(rt, start)?.of_parts(shown.applied);
+    report.print(rt, "request evaluated", times, shown.applied)?;
+    let (times, reused) = show_again(rt, &mut canvas, chain, &part, job.rounds)?;
+    report.print(rt, "request cached", times.of_parts(reused), reused)?;
     let written = [x + 100, y + 100, 32, 32];
-    let (best, applied) = edit_again(rt, &mut canvas, chain, &part, written, job.rounds)?;
-    report.print(rt, "request after an edit", best, 1, applied)?;
+    let (times, applied) = edit_again(rt, &mut canvas, chain, &part, written, job.rounds)?;
+    report.print(rt, "request after an edit", times, applied)?;
     Ok(())
 }
 
-/// Writes a rectangle and commits it, and renders a request, again and again. Returns the least time of the renders
-/// in nanoseconds, and how many tiles the last one evaluated.
+/// Writes a rectangle and commits it, and renders a request, again and again. Returns the times of the
+/// renders, and how many tiles the last one evaluated.
 fn edit_again<R: Clock + Threads + Sync, C: TileChain, P: PairStore<C>>(
     rt: &R,
     canvas: &mut Canvas<Buffers, P>,
@@ -91,23 +88,21 @@ fn edit_again<R: Clock + Threads + Sync, C: TileChain, P: PairStore<C>>(
     request: &Request,
     written: [i64; 4],
     rounds: u32,
-) -> Result<(u128, u64)>
+) -> Result<(Times, u64)>
     requires level { request.now.level ≡ 0 }
-    requires over { AreOver (AreBuffersOver canvas.old.sources (C.held chain.old)) (P.is_over canvas.old.cache (C.held chain.old))
-        (buffers_names canvas.old.sources) (P.names canvas.old.cache) (C.held chain.old) }
-    requires ready { AreReady int_meanings (facts_of canvas.old.sources.layout) canvas.old.graph.latest.nodes
-        (P.sizes canvas.old.cache (C.held chain.old)) }
+    requires over { AreBuffersAndCacheOver C.ChainMeaning P.PairStore canvas.old chain.old }
+    requires ready { IsReadyOverBuffers C.ChainMeaning P.PairStore canvas.old chain.old }
 {
-    let mut best = u128::MAX;
+    let mut times = Times::none();
     let mut applied = 0;
     for round in 0..rounds {
         edit(canvas, chain, written, round % 256)?;
         let start = Instant::now(rt)?;
         let (shown, _spent) = canvas.shown(chain, request, Workers::new(rt, 1))?;
-        best = least(rt, best, start)?;
+        times.add_since(rt, start)?;
         applied = shown.applied;
     }
-    Ok((best, applied))
+    Ok((times, applied))
 }
 
 /// Writes one color everywhere in a rectangle, and commits that.
@@ -117,14 +112,10 @@ fn edit<C: TileChain, P: PairStore<C>>(
     written: [i64; 4],
     sample: u32,
 ) -> Result<()>
-    requires over { AreOver (AreBuffersOver canvas.old.sources (C.held chain.old)) (P.is_over canvas.old.cache (C.held chain.old))
-        (buffers_names canvas.old.sources) (P.names canvas.old.cache) (C.held chain.old) }
-    requires ready { AreReady int_meanings (facts_of canvas.old.sources.layout) canvas.old.graph.latest.nodes
-        (P.sizes canvas.old.cache (C.held chain.old)) }
-    ensures over { AreOver (AreBuffersOver canvas.new.sources (C.held chain.new)) (P.is_over canvas.new.cache (C.held chain.new))
-        (buffers_names canvas.new.sources) (P.names canvas.new.cache) (C.held chain.new) }
-    ensures ready { IfOk result (λ _. AreReady int_meanings (facts_of canvas.new.sources.layout) canvas.new.graph.latest.nodes
-        (P.sizes canvas.new.cache (C.held chain.new))) }
+    requires over { AreBuffersAndCacheOver C.ChainMeaning P.PairStore canvas.old chain.old }
+    requires ready { IsReadyOverBuffers C.ChainMeaning P.PairStore canvas.old chain.old }
+    ensures over { AreBuffersAndCacheOver C.ChainMeaning P.PairStore canvas.new chain.new }
+    ensures ready { IfOk result (λ _. IsReadyOverBuffers C.ChainMeaning P.PairStore canvas.new chain.new) }
 {
     let root = name("a")?;
     let rect = rect(written);

@@ -9,11 +9,10 @@ mod copies;
 mod edits;
 mod jobs;
 mod pairs;
-mod report;
 
 use anyhow::Result;
+use bench_kit::Report;
 use jobs::Job;
-use report::Report;
 use std::alloc::Global;
 use std::rt::Env;
 
@@ -26,9 +25,9 @@ const SMALL: Job = Job {
 
 fn main(rt: HostRuntime) -> Result<()> {
     let asked = job_asked(&rt)?;
-    let report = Report::new(asked.is_some());
+    let report = Report::new("renders", asked.is_some());
     let job = asked.unwrap_or(SMALL);
-    copies::time_copies(&rt, report, job.rounds)?;
+    copies::time_copies(&rt, report.at("plain"), job.rounds)?;
     pairs::time_pairs(&rt, report, job)?;
     edits::time_edits(&rt, report, job)
 }

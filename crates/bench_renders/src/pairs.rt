@@ -1,20 +1,18 @@
 //! Cached tiles, and tiles that are evaluated.
 
 ghost use Rattle.std.specs.Prelude.{◌≡◌};
-ghost use Rattle.model_buffers.specs.Layout.{facts_of};
-ghost use Rattle.model_operations.specs.Meanings.{int_meanings};
-ghost use Rattle.buffer_view.specs.BufferTables.{AreBuffersOver, buffers_names};
-ghost use Rattle.test_renders.specs.Ready.{AreOver, AreReady};
+ghost use Rattle.test_renders.specs.Ready.{IsOver, IsReady};
 
 use crate::jobs::{Job, name, node, ready, request, source};
-use crate::report::{Report, least};
 use anyhow::Result;
-use buffer_view::Buffers;
+use bench_kit::{Report, Times};
 use chain_contracts::TileChain;
 use chain_handlers::Chain;
+use chain_owners::ChainMeaning;
 use int_ops::IntOp;
 use model_graphs::NodeEdit;
 use node_cache::PairStore;
+use op_contracts::SourceTiles;
 use outside_io::SureSwap;
 use plane_rect::Name;
 use std::alloc::{AllocError, Global};
@@ -80,38 +78,34 @@ fn time_depth<R: Clock + Print + Eprint + Threads + Sync + Alloc<A = Global>, C:
     let all = request(numbered(alloc, depth)?, [0, 0, side, side]);
     let start = Instant::now(rt)?;
     let (shown, _spent) = canvas.shown(chain, &all, Workers::new(rt, 1))?;
-    let first = least(rt, u128::MAX, start)?;
-    report.print(rt, "gain evaluated", first, shown.applied, shown.applied)?;
-    let (best, reused) = show_again(rt, &mut canvas, chain, &all, job.rounds)?;
-    report.print(rt, "gain cached", best, reused, reused)?;
+    let times = Times::since(rt, start)?.of_parts(shown.applied);
+    report.print(rt, "gain evaluated", times, shown.applied)?;
+    let (times, reused) = show_again(rt, &mut canvas, chain, &all, job.rounds)?;
+    report.print(rt, "gain cached", times.of_parts(reused), reused)?;
     Ok(())
 }
 
-/// Renders a request again and again. Returns the least time in nanoseconds, and how many tiles were cached.
-pub fn show_again<R: Clock + Threads + Sync, C: TileChain, P: PairStore<C>>(
+/// Renders a request again and again. Returns the times, and how many tiles were cached.
+pub fn show_again<R: Clock + Threads + Sync, H: ChainMeaning, S: SourceTiles<H>, P: PairStore<H>>(
     rt: &R,
-    canvas: &mut Canvas<Buffers, P>,
-    chain: &mut C,
+    canvas: &mut Canvas<S, P>,
+    chain: &mut H,
     request: &Request,
     rounds: u32,
-) -> Result<(u128, u64)>
+) -> Result<(Times, u64)>
     requires level { request.now.level ≡ 0 }
-    requires over { AreOver (AreBuffersOver canvas.old.sources (C.held chain.old)) (P.is_over canvas.old.cache (C.held chain.old))
-        (buffers_names canvas.old.sources) (P.names canvas.old.cache) (C.held chain.old) }
-    requires ready { AreReady int_meanings (facts_of canvas.old.sources.layout) canvas.old.graph.latest.nodes
-        (P.sizes canvas.old.cache (C.held chain.old)) }
-    ensures over { AreOver (AreBuffersOver canvas.new.sources (C.held chain.new)) (P.is_over canvas.new.cache (C.held chain.new))
-        (buffers_names canvas.new.sources) (P.names canvas.new.cache) (C.held chain.new) }
-    ensures ready { AreReady int_meanings (facts_of canvas.new.sources.layout) canvas.new.graph.latest.nodes
-        (P.sizes canvas.new.cache (C.held chain.new)) }
+    requires over { IsOver H.ChainMeaning S.SourceTiles P.PairStore canvas.old chain.old }
+    requires ready { IsReady H.ChainMeaning S.SourceTiles P.PairStore canvas.old chain.old }
+    ensures over { IsOver H.ChainMeaning S.SourceTiles P.PairStore canvas.new chain.new }
+    ensures ready { IsReady H.ChainMeaning S.SourceTiles P.PairStore canvas.new chain.new }
 {
-    let mut best = u128::MAX;
+    let mut times = Times::none();
     let mut reused = 0;
     for _round in 0..rounds {
         let start = Instant::now(rt)?;
         let (shown, _spent) = canvas.shown(chain, request, Workers::new(rt, 1))?;
-        best = least(rt, best, start)?;
+        times.add_since(rt, start)?;
         reused = shown.reused;
     }
-    Ok((best, reused))
+    Ok((times, reused))
 }

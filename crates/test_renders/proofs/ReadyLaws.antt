@@ -1,9 +1,10 @@
 -- What stays ready over calls.
-use Rattle.std.proofs.Common.{ℕ, List, [], ◌++◌, take, Some, inl, inr, arith}
+use Rattle.std.proofs.Common.{◌≡◌, ℕ, List, [], ◌++◌, take, Some, inl, inr, arith, sym, subst}
 use Rattle.chain_owners.specs.Held.{Held}
 use Rattle.chain_owners.specs.Owners.{Owns, Respects}
 use Rattle.chain_owners.proofs.Ownership.{others-own, owns-fewer, times-append}
 use Rattle.model_graphs.specs.declared.node.NodeFact.{NodeFact}
+use Rattle.model_buffers.specs.Layout.{TableLayout, facts_of}
 use Rattle.model_graphs.specs.Facts.{Facts}
 use Rattle.model_graphs.specs.Meanings.{Meanings}
 use Rattle.model_states.proofs.CacheLaws.{all-filter, all-within}
@@ -12,7 +13,7 @@ use Rattle.plane_rect.specs.Rectangle.{Rectangle}
 use Rattle.model_states.specs.Cache.{voided}
 use Rattle.strip_renders.proofs.Moments.{owns-turned}
 use Rattle.strip_renders.specs.Strips.{AreSizedPairs, IsSizedPair}
-use Rattle.test_renders.specs.Ready.{AreReady}
+use Rattle.test_renders.specs.Ready.{AreOver, AreReady}
 
 -- the chain owns what is held after a call, where it owned what was held before it
 pub owned-on : (old new : Held) (before after : List ℕ) → Respects old new before after → Owns old before → Owns new after
@@ -44,3 +45,28 @@ ready-taken meanings facts nodes sizes count ready = record {
   stated = ready.stated;
   sized = all-within by_sized (IsSizedPair nodes) (Some count) sizes ready.sized;
 }
+
+-- a source and a cache are over a chain after a call that kept their names
+pub over-on : {source cache : Type 0} (old new : Held) (before after cached-before cached : List ℕ) → source → cache
+    → Respects old new (before ++ cached-before) (after ++ cached) → Owns old (before ++ cached-before) → AreOver source cache after cached new
+over-on old new before after cached-before cached is-source is-cache others owned = record {
+  source = is-source;
+  cache = is-cache;
+  owned = owned-on old new (before ++ cached-before) (after ++ cached) others owned;
+}
+
+-- the same after one that changed the source alone
+pub over-beside : {source cache : Type 0} (old new : Held) (before after cached : List ℕ) → source → cache
+    → Respects old new before after → Owns old (before ++ cached) → AreOver source cache after cached new
+over-beside old new before after cached is-source is-cache others owned = record {
+  source = is-source;
+  cache = is-cache;
+  owned = others-own old new before after others cached owned;
+}
+
+-- nodes are ready where neither the buffers' shapes nor the sizes of cached tiles changed
+pub ready-beside : {Op : Type 0} (meanings : Meanings Op) (old new : TableLayout) (nodes : List (NodeFact Op)) (before after : List Sized)
+    → new ≡ old → after ≡ before → AreReady meanings (facts_of old) nodes before → AreReady meanings (facts_of new) nodes after
+ready-beside meanings old new nodes before after same-layout same-sizes ready =
+    subst (λ layout. AreReady meanings (facts_of layout) nodes after) (sym same-layout)
+    (subst (AreReady meanings (facts_of old) nodes) (sym same-sizes) ready)

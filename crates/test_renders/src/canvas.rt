@@ -10,7 +10,7 @@ ghost use Rattle.node_cache.specs.NodeNames.{IsNodeCache, sizes_in};
 ghost use Rattle.buffer_view.specs.BufferTables.{AreBuffersOver, buffers_names};
 ghost use Rattle.frozen_images.specs.Scenes.{facts_in};
 ghost use Rattle.strip_patches.specs.Shown.{is_patch};
-ghost use Rattle.test_renders.specs.Ready.{AreOver, AreReady};
+ghost use Rattle.test_renders.specs.Ready.{AreBuffersAndCacheOver, AreOver, AreReady, IsOver, IsReady, IsReadyOverBuffers};
 
 use crate::changes::{commit, fill};
 use crate::renders::{Request, show};
@@ -117,15 +117,11 @@ impl<S, P> Canvas<S, P> {
         S: SourceTiles<H>,
         P: PairStore<H>,
         requires level { request.now.level ≤ 8 }
-        requires over { AreOver (S.is_over self.old.sources (H.held chain.old)) (P.is_over self.old.cache (H.held chain.old))
-            (S.names self.old.sources) (P.names self.old.cache) (H.held chain.old) }
-        requires ready { AreReady int_meanings (S.facts self.old.sources) self.old.graph.latest.nodes
-            (P.sizes self.old.cache (H.held chain.old)) }
+        requires over { IsOver H.ChainMeaning S.SourceTiles P.PairStore self.old chain.old }
+        requires ready { IsReady H.ChainMeaning S.SourceTiles P.PairStore self.old chain.old }
         ensures patch { IfOk result (λ done. is_patch done.0.picture ≡ true) }
-        ensures over { AreOver (S.is_over self.new.sources (H.held chain.new)) (P.is_over self.new.cache (H.held chain.new))
-            (S.names self.new.sources) (P.names self.new.cache) (H.held chain.new) }
-        ensures ready { AreReady int_meanings (S.facts self.new.sources) self.new.graph.latest.nodes
-            (P.sizes self.new.cache (H.held chain.new)) }
+        ensures over { IsOver H.ChainMeaning S.SourceTiles P.PairStore self.new chain.new }
+        ensures ready { IsReady H.ChainMeaning S.SourceTiles P.PairStore self.new chain.new }
     {
         let mut purse = IntPurse::new(PERMITS);
         let shown = show(
@@ -158,14 +154,10 @@ impl<P> Canvas<Buffers, P> {
     ) -> Result<(), BufferRefused>
     where
         P: PairStore<C>,
-        requires over { AreOver (AreBuffersOver self.old.sources (C.held chain.old)) (P.is_over self.old.cache (C.held chain.old))
-            (buffers_names self.old.sources) (P.names self.old.cache) (C.held chain.old) }
-        requires ready { AreReady int_meanings (facts_of self.old.sources.layout) self.old.graph.latest.nodes
-            (P.sizes self.old.cache (C.held chain.old)) }
-        ensures over { AreOver (AreBuffersOver self.new.sources (C.held chain.new)) (P.is_over self.new.cache (C.held chain.new))
-            (buffers_names self.new.sources) (P.names self.new.cache) (C.held chain.new) }
-        ensures ready { AreReady int_meanings (facts_of self.new.sources.layout) self.new.graph.latest.nodes
-            (P.sizes self.new.cache (C.held chain.new)) }
+        requires over { AreBuffersAndCacheOver C.ChainMeaning P.PairStore self.old chain.old }
+        requires ready { IsReadyOverBuffers C.ChainMeaning P.PairStore self.old chain.old }
+        ensures over { AreBuffersAndCacheOver C.ChainMeaning P.PairStore self.new chain.new }
+        ensures ready { IsReadyOverBuffers C.ChainMeaning P.PairStore self.new chain.new }
     {
         fill(
             &self.graph,
@@ -191,14 +183,10 @@ impl<P> Canvas<Buffers, P> {
     ) -> Result<(), GraphRefused>
     where
         P: PairStore<C>,
-        requires over { AreOver (AreBuffersOver self.old.sources (C.held chain.old)) (P.is_over self.old.cache (C.held chain.old))
-            (buffers_names self.old.sources) (P.names self.old.cache) (C.held chain.old) }
-        requires ready { AreReady int_meanings (facts_of self.old.sources.layout) self.old.graph.latest.nodes
-            (P.sizes self.old.cache (C.held chain.old)) }
-        ensures over { AreOver (AreBuffersOver self.new.sources (C.held chain.new)) (P.is_over self.new.cache (C.held chain.new))
-            (buffers_names self.new.sources) (P.names self.new.cache) (C.held chain.new) }
-        ensures ready { IfOk result (λ _. AreReady int_meanings (facts_of self.new.sources.layout) self.new.graph.latest.nodes
-            (P.sizes self.new.cache (C.held chain.new))) }
+        requires over { AreBuffersAndCacheOver C.ChainMeaning P.PairStore self.old chain.old }
+        requires ready { IsReadyOverBuffers C.ChainMeaning P.PairStore self.old chain.old }
+        ensures over { AreBuffersAndCacheOver C.ChainMeaning P.PairStore self.new chain.new }
+        ensures ready { IfOk result (λ _. IsReadyOverBuffers C.ChainMeaning P.PairStore self.new chain.new) }
     {
         commit(
             &IntKit,

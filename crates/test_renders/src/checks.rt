@@ -6,7 +6,7 @@ ghost use Rattle.model_buffers.specs.Layout.{facts_of};
 ghost use Rattle.model_operations.specs.Meanings.{int_meanings};
 ghost use Rattle.node_cache.specs.NodeNames.{IsNodeCache, sizes_in};
 ghost use Rattle.buffer_view.specs.BufferTables.{AreBuffersOver, buffers_names};
-ghost use Rattle.test_renders.specs.Ready.{AreOver, AreReady};
+ghost use Rattle.test_renders.specs.Ready.{AreOver, AreReady, IsOver, IsReady};
 
 use crate::canvas::{Canvas, over_buffers};
 use crate::changes::commit;
@@ -27,86 +27,62 @@ use std::process::Abort;
 use std::thread::Threads;
 use worker_pieces::Workers;
 
+/// What a render answered: the patch, with how many tiles were evaluated and how many the cache had, or why it was
+/// refused.
+#[derive(Drop)]
+pub struct Answer {
+    shown: Result<(Patch, (u64, u64)), RenderRefused>,
+}
+
+impl Answer {
+    /// Checks that the request was rendered with these counts, and returns the patch.
+    pub fn patch(self, rt: &impl Abort, counts: (u64, u64)) -> Patch {
+        let (patch, found) = self.shown.expect(rt, "a render");
+        assert_eq!(rt; found, counts);
+        patch
+    }
+
+    /// Checks that the request was rendered with these bytes and counts.
+    pub fn check(self, rt: &impl Abort, bytes: &[u8], counts: (u64, u64)) {
+        assert_eq!(rt; self.patch(rt, counts).raw_bytes(), bytes);
+    }
+
+    /// Checks why the request was refused.
+    pub fn check_refused(self, rt: &impl Abort, wanted: RenderRefused) {
+        assert!(rt; self.shown.err() == Some(wanted));
+    }
+}
+
 impl<S, P> Canvas<S, P> {
-    /// Renders a request, and checks how many tiles were evaluated, each for a permit, and how many the cache had.
-    pub fn seen<H: ChainMeaning>(
+    /// Renders a request. Checks that the patch is the request's, and that as many permits were spent as tiles evaluated.
+    pub fn answer<H: ChainMeaning>(
         &mut self,
         rt: &(impl Abort + Threads + Sync),
         chain: &mut H,
         request: &Request,
-        counts: (u64, u64),
-    ) -> Patch
+    ) -> Answer
     where
         S: SourceTiles<H>,
         P: PairStore<H>,
         requires level { request.now.level ≤ 8 }
-        requires over { AreOver (S.is_over self.old.sources (H.held chain.old)) (P.is_over self.old.cache (H.held chain.old))
-            (S.names self.old.sources) (P.names self.old.cache) (H.held chain.old) }
-        requires ready { AreReady int_meanings (S.facts self.old.sources) self.old.graph.latest.nodes
-            (P.sizes self.old.cache (H.held chain.old)) }
-        ensures over { AreOver (S.is_over self.new.sources (H.held chain.new)) (P.is_over self.new.cache (H.held chain.new))
-            (S.names self.new.sources) (P.names self.new.cache) (H.held chain.new) }
-        ensures ready { AreReady int_meanings (S.facts self.new.sources) self.new.graph.latest.nodes
-            (P.sizes self.new.cache (H.held chain.new)) }
+        requires over { IsOver H.ChainMeaning S.SourceTiles P.PairStore self.old chain.old }
+        requires ready { IsReady H.ChainMeaning S.SourceTiles P.PairStore self.old chain.old }
+        ensures over { IsOver H.ChainMeaning S.SourceTiles P.PairStore self.new chain.new }
+        ensures ready { IsReady H.ChainMeaning S.SourceTiles P.PairStore self.new chain.new }
     {
-        let (shown, spent) = self
-            .shown(chain, request, Workers::new(rt, 3))
-            .expect(rt, "a render");
-        assert!(rt; shown.picture.rect() == request.rect);
-        assert_eq!(rt; (shown.applied, shown.reused), counts);
-        assert_eq!(rt; spent, shown.applied);
-        shown.picture.into_patch()
-    }
-
-    /// Renders a request, and checks its bytes and these counts.
-    pub fn check<H: ChainMeaning>(
-        &mut self,
-        rt: &(impl Abort + Threads + Sync),
-        chain: &mut H,
-        request: &Request,
-        bytes: &[u8],
-        counts: (u64, u64),
-    )
-    where
-        S: SourceTiles<H>,
-        P: PairStore<H>,
-        requires level { request.now.level ≤ 8 }
-        requires over { AreOver (S.is_over self.old.sources (H.held chain.old)) (P.is_over self.old.cache (H.held chain.old))
-            (S.names self.old.sources) (P.names self.old.cache) (H.held chain.old) }
-        requires ready { AreReady int_meanings (S.facts self.old.sources) self.old.graph.latest.nodes
-            (P.sizes self.old.cache (H.held chain.old)) }
-        ensures over { AreOver (S.is_over self.new.sources (H.held chain.new)) (P.is_over self.new.cache (H.held chain.new))
-            (S.names self.new.sources) (P.names self.new.cache) (H.held chain.new) }
-        ensures ready { AreReady int_meanings (S.facts self.new.sources) self.new.graph.latest.nodes
-            (P.sizes self.new.cache (H.held chain.new)) }
-    {
-        let patch = self.seen(rt, chain, request, counts);
-        assert_eq!(rt; patch.raw_bytes(), bytes);
-    }
-
-    /// Checks why a request is refused.
-    pub fn check_refused<H: ChainMeaning>(
-        &mut self,
-        rt: &(impl Abort + Threads + Sync),
-        chain: &mut H,
-        request: &Request,
-        wanted: RenderRefused,
-    )
-    where
-        S: SourceTiles<H>,
-        P: PairStore<H>,
-        requires level { request.now.level ≤ 8 }
-        requires over { AreOver (S.is_over self.old.sources (H.held chain.old)) (P.is_over self.old.cache (H.held chain.old))
-            (S.names self.old.sources) (P.names self.old.cache) (H.held chain.old) }
-        requires ready { AreReady int_meanings (S.facts self.old.sources) self.old.graph.latest.nodes
-            (P.sizes self.old.cache (H.held chain.old)) }
-        ensures over { AreOver (S.is_over self.new.sources (H.held chain.new)) (P.is_over self.new.cache (H.held chain.new))
-            (S.names self.new.sources) (P.names self.new.cache) (H.held chain.new) }
-        ensures ready { AreReady int_meanings (S.facts self.new.sources) self.new.graph.latest.nodes
-            (P.sizes self.new.cache (H.held chain.new)) }
-    {
-        let refused = self.shown(chain, request, Workers::new(rt, 3)).err();
-        assert!(rt; refused == Some(wanted));
+        match self.shown(chain, request, Workers::new(rt, 3)) {
+            Ok((shown, spent)) => {
+                assert!(rt; shown.picture.rect() == request.rect);
+                assert_eq!(rt; spent, shown.applied);
+                let counts = (shown.applied, shown.reused);
+                Answer {
+                    shown: Ok((shown.picture.into_patch(), counts)),
+                }
+            }
+            Err(refused) => Answer {
+                shown: Err(refused),
+            },
+        }
     }
 }
 

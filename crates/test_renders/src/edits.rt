@@ -30,10 +30,10 @@ pub fn average_after_an_edit<C: TileChain>(
     let edits = [source(rt, "s", "a"), node(rt, alloc, "b", mean, &["s"])];
     let mut canvas = over(rt, alloc, chain, buffers, &edits, 100);
     let all = request(rt, "b", 0, [0, 0, 128, 128]);
-    let first = canvas.seen(rt, chain, &all, (4, 0));
+    let first = canvas.answer(rt, chain, &all).patch(rt, (4, 0));
     check_bytes(rt, &first, 0, &[44, 67]);
     check_bytes(rt, &first, 129, &[100]);
-    let second = canvas.seen(rt, chain, &all, (0, 4));
+    let second = canvas.answer(rt, chain, &all).patch(rt, (0, 4));
     assert!(rt; first.raw_bytes() == second.raw_bytes());
     let written = [pixel.0, pixel.1, 1, 1];
     let filled = canvas.fill(chain, name(rt, "a"), rect(written), &[200]);
@@ -44,7 +44,7 @@ pub fn average_after_an_edit<C: TileChain>(
     };
     let committed = canvas.commit_written(chain, &[edited]);
     committed.expect(rt, "a commit");
-    let third = canvas.seen(rt, chain, &all, last_counts);
+    let third = canvas.answer(rt, chain, &all).patch(rt, last_counts);
     third
 }
 
@@ -69,10 +69,10 @@ pub fn crop_a_row<C: TileChain>(rt: &(impl Abort + Threads + Sync), chain: &mut 
     ];
     let mut canvas = over(rt, alloc, chain, buffers, &edits, 100);
     let row = request(rt, "b", 0, [0, 0, 200, 1]);
-    canvas.check(rt, chain, &row, &[50; 200], (8, 0));
+    canvas.answer(rt, chain, &row).check(rt, &[50; 200], (8, 0));
     let edits = [node(rt, alloc, "c", half, &["s"])];
     let mut canvas = recommitted(rt, canvas, chain, &edits);
     let mut wanted = [0; 200];
     wanted[..100].fill(50);
-    canvas.check(rt, chain, &row, &wanted, (4, 0));
+    canvas.answer(rt, chain, &row).check(rt, &wanted, (4, 0));
 }

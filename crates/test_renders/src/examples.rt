@@ -23,13 +23,19 @@ pub fn invert_four<C: TileChain>(rt: &(impl Abort + Threads + Sync), chain: &mut
     ];
     let mut canvas = over(rt, alloc, chain, buffers, &edits, 16);
     let all = request(rt, "i", 0, [0, 0, 2, 2]);
-    canvas.check(rt, chain, &all, &[0xff, 0xbf, 0x7f, 0x00], (1, 0));
+    canvas
+        .answer(rt, chain, &all)
+        .check(rt, &[0xff, 0xbf, 0x7f, 0x00], (1, 0));
     let none = request(rt, "i", 0, [0, 0, 0, 0]);
-    canvas.check(rt, chain, &none, &[], (0, 0));
+    canvas.answer(rt, chain, &none).check(rt, &[], (0, 0));
     let wide = request(rt, "i", 0, [-1, 0, 4, 1]);
-    canvas.check(rt, chain, &wide, &[0x00, 0xff, 0xbf, 0x00], (0, 1));
+    canvas
+        .answer(rt, chain, &wide)
+        .check(rt, &[0x00, 0xff, 0xbf, 0x00], (0, 1));
     let read = request(rt, "s", 0, [-1, 0, 4, 1]);
-    canvas.check(rt, chain, &read, &[0x00, 0x00, 0x40, 0x00], (0, 0));
+    canvas
+        .answer(rt, chain, &read)
+        .check(rt, &[0x00, 0x00, 0x40, 0x00], (0, 0));
 }
 
 /// Takes the mean around one pixel, whose box grows into four tiles where it is black around, and doesn't where
@@ -53,9 +59,11 @@ pub fn grow_one_pixel<C: TileChain>(
     ];
     let mut canvas = over(rt, alloc, chain, buffers, &edits, 16);
     let grown = request(rt, "b", 0, [-1, -1, 3, 3]);
-    canvas.check(rt, chain, &grown, &[1, 1, 1, 1, 1, 1, 1, 1, 1], (4, 0));
+    canvas
+        .answer(rt, chain, &grown)
+        .check(rt, &[1, 1, 1, 1, 1, 1, 1, 1, 1], (4, 0));
     let repeated = request(rt, "c", 0, [0, 0, 1, 1]);
-    canvas.check(rt, chain, &repeated, &[9], (1, 0));
+    canvas.answer(rt, chain, &repeated).check(rt, &[9], (1, 0));
 }
 
 /// Composites a color over an opaque one, over no buffer.
@@ -73,7 +81,9 @@ pub fn composite_colors<C: TileChain>(
     ];
     let mut canvas = over(rt, alloc, chain, buffers, &edits, 16);
     let pixel = request(rt, "o", 0, [0, 0, 1, 1]);
-    canvas.check(rt, chain, &pixel, &[0x64, 0x64, 0x00, 0xff], (3, 0));
+    canvas
+        .answer(rt, chain, &pixel)
+        .check(rt, &[0x64, 0x64, 0x00, 0xff], (3, 0));
 }
 
 /// Returns one pixel of a color.

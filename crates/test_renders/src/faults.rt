@@ -1,10 +1,8 @@
 //! Renders over disks of which one call fails.
 
 ghost use Rattle.std.specs.Prelude.{◌≤◌};
-ghost use Rattle.model_buffers.specs.Layout.{facts_of};
-ghost use Rattle.model_operations.specs.Meanings.{int_meanings};
-ghost use Rattle.buffer_view.specs.BufferTables.{AreBuffersOver, buffers_names};
-ghost use Rattle.test_renders.specs.Ready.{AreOver, AreReady};
+ghost use Rattle.buffer_view.specs.BufferTables.{AreBuffersOver};
+ghost use Rattle.test_renders.specs.Ready.{IsOver, IsReady};
 
 use crate::canvas::Canvas;
 use crate::checks::over;
@@ -13,8 +11,10 @@ use crate::renders::Request;
 use crate::small_graphs::{Fields, name, node, one_buffer, put, request, source};
 use buffer_view::Buffers;
 use chain_contracts::TileChain;
+use chain_owners::ChainMeaning;
 use int_ops::IntOp;
 use node_cache::PairStore;
+use op_contracts::SourceTiles;
 use patch_abyss::Patch;
 use pixel_formats::Format;
 use render_workers::RenderRefused;
@@ -47,21 +47,17 @@ fn put_again<C: TileChain>(
 }
 
 /// Renders a request, and again where the disk refuses it. Returns the patch, and whether it did.
-fn show_again<C: TileChain, P: PairStore<C>>(
+fn show_again<H: ChainMeaning, S: SourceTiles<H>, P: PairStore<H>>(
     rt: &(impl Abort + Threads + Sync),
-    canvas: &mut Canvas<Buffers, P>,
-    chain: &mut C,
+    canvas: &mut Canvas<S, P>,
+    chain: &mut H,
     request: &Request,
 ) -> (Patch, bool)
     requires level { request.now.level ≤ 8 }
-    requires over { AreOver (AreBuffersOver canvas.old.sources (C.held chain.old)) (P.is_over canvas.old.cache (C.held chain.old))
-        (buffers_names canvas.old.sources) (P.names canvas.old.cache) (C.held chain.old) }
-    requires ready { AreReady int_meanings (facts_of canvas.old.sources.layout) canvas.old.graph.latest.nodes
-        (P.sizes canvas.old.cache (C.held chain.old)) }
-    ensures over { AreOver (AreBuffersOver canvas.new.sources (C.held chain.new)) (P.is_over canvas.new.cache (C.held chain.new))
-        (buffers_names canvas.new.sources) (P.names canvas.new.cache) (C.held chain.new) }
-    ensures ready { AreReady int_meanings (facts_of canvas.new.sources.layout) canvas.new.graph.latest.nodes
-        (P.sizes canvas.new.cache (C.held chain.new)) }
+    requires over { IsOver H.ChainMeaning S.SourceTiles P.PairStore canvas.old chain.old }
+    requires ready { IsReady H.ChainMeaning S.SourceTiles P.PairStore canvas.old chain.old }
+    ensures over { IsOver H.ChainMeaning S.SourceTiles P.PairStore canvas.new chain.new }
+    ensures ready { IsReady H.ChainMeaning S.SourceTiles P.PairStore canvas.new chain.new }
 {
     let first = canvas.shown(chain, request, Workers::new(rt, 3));
     if let Ok(shown) = first {

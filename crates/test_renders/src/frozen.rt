@@ -47,13 +47,13 @@ pub fn invert_frozen(rt: &(impl Abort + Threads + Sync), alloc: Global, buffer: 
     let canvas = over_frozen(alloc, &buffers, &facts, &edits, 2);
     let mut canvas = canvas.expect(rt, "nodes over the buffer");
     let all = request(rt, "i", 0, BOX);
-    let first = canvas.seen(rt, &mut (), &all, (6, 0));
+    let first = canvas.answer(rt, &mut (), &all).patch(rt, (6, 0));
     let raw = bytes(rt, alloc, 3, 130 * 70 * 3);
     let inverted = raw.iter().map(|byte| 255 - *byte);
     assert!(rt; first.raw_bytes().iter().copied().eq(inverted));
     assert_eq!(rt; order_of(rt, &canvas.cache, &()).len(), 6);
     canvas.cache.trim();
     assert_eq!(rt; order_of(rt, &canvas.cache, &()).len(), 2);
-    let second = canvas.seen(rt, &mut (), &all, (4, 2));
+    let second = canvas.answer(rt, &mut (), &all).patch(rt, (4, 2));
     assert!(rt; first.raw_bytes() == second.raw_bytes());
 }

@@ -66,8 +66,12 @@ pub fn compare_level<C: TileChain>(
     );
     let wanted = level_bytes(rt, alloc, read, z, around(z));
     let of_buffer = request(rt, "s", z, around(z));
-    canvas.check(rt, chain, &of_buffer, &wanted, (0, 0));
+    canvas
+        .answer(rt, chain, &of_buffer)
+        .check(rt, &wanted, (0, 0));
     let wanted = level_bytes(rt, alloc, made, z, around(z));
     let of_node = request(rt, "d", z, around(z));
-    canvas.check(rt, chain, &of_node, &wanted, (12, 0));
+    canvas
+        .answer(rt, chain, &of_node)
+        .check(rt, &wanted, (12, 0));
 }

@@ -1,20 +1,18 @@
 //! Cached pairs and counts beside those of the plain program.
 
 ghost use Rattle.std.specs.Prelude.{◌≤◌};
-ghost use Rattle.model_buffers.specs.Layout.{facts_of};
-ghost use Rattle.model_operations.specs.Meanings.{int_meanings};
-ghost use Rattle.buffer_view.specs.BufferTables.{AreBuffersOver, buffers_names};
-ghost use Rattle.test_renders.specs.Ready.{AreOver, AreReady};
+ghost use Rattle.test_renders.specs.Ready.{IsOver, IsReady};
 
 use crate::canvas::Canvas;
 use crate::checks::{order_of, over};
 use crate::renders::Request;
 use crate::small_graphs::{Fields, name, node, one_buffer, source};
-use buffer_view::Buffers;
 use chain_contracts::TileChain;
+use chain_owners::ChainMeaning;
 use int_ops::IntOp;
 use model_graphs::NodeFact;
 use node_cache::PairStore;
+use op_contracts::SourceTiles;
 use pixel_formats::{Abyss, Format};
 use plain_graphs::{Lookups, Pair, need, needed_pairs};
 use plane_rect::{Name, TileAt};
@@ -59,22 +57,18 @@ fn same_pairs(order: &[(Name, TileAt)], pairs: &[Pair]) -> bool {
 }
 
 /// Renders a request, and compares the counts and the cached pairs with those of the plain list.
-fn compare<C: TileChain, P: PairStore<C>>(
+fn compare<H: ChainMeaning, S: SourceTiles<H>, P: PairStore<H>>(
     rt: &(impl Abort + Threads + Sync),
-    canvas: &mut Canvas<Buffers, P>,
-    chain: &mut C,
+    canvas: &mut Canvas<S, P>,
+    chain: &mut H,
     lookups: &mut Lookups,
     word: &str,
     fields: Fields,
 )
-    requires over { AreOver (AreBuffersOver canvas.old.sources (C.held chain.old)) (P.is_over canvas.old.cache (C.held chain.old))
-        (buffers_names canvas.old.sources) (P.names canvas.old.cache) (C.held chain.old) }
-    requires ready { AreReady int_meanings (facts_of canvas.old.sources.layout) canvas.old.graph.latest.nodes
-        (P.sizes canvas.old.cache (C.held chain.old)) }
-    ensures over { AreOver (AreBuffersOver canvas.new.sources (C.held chain.new)) (P.is_over canvas.new.cache (C.held chain.new))
-        (buffers_names canvas.new.sources) (P.names canvas.new.cache) (C.held chain.new) }
-    ensures ready { AreReady int_meanings (facts_of canvas.new.sources.layout) canvas.new.graph.latest.nodes
-        (P.sizes canvas.new.cache (C.held chain.new)) }
+    requires over { IsOver H.ChainMeaning S.SourceTiles P.PairStore canvas.old chain.old }
+    requires ready { IsReady H.ChainMeaning S.SourceTiles P.PairStore canvas.old chain.old }
+    ensures over { IsOver H.ChainMeaning S.SourceTiles P.PairStore canvas.new chain.new }
+    ensures ready { IsReady H.ChainMeaning S.SourceTiles P.PairStore canvas.new chain.new }
 {
     let alloc = canvas.alloc;
     let counts = look_up(rt, alloc, canvas.graph.nodes(), lookups, word, fields);
@@ -84,7 +78,7 @@ fn compare<C: TileChain, P: PairStore<C>>(
         rect: rect(fields),
         capacity: CAPACITY,
     };
-    let _patch = canvas.seen(rt, chain, &asked, counts);
+    let _patch = canvas.answer(rt, chain, &asked).patch(rt, counts);
     let order = order_of(rt, &canvas.cache, chain);
     assert!(rt; same_pairs(&order, &lookups.pairs));
 }

@@ -147,11 +147,13 @@ pub fn compare_a_photograph<C: TileChain>(
     let mut canvas = canvas_of(rt, chain, alloc, SMALL, &photo, &caption);
     let wanted = level_bytes(rt, alloc, picture, 0, SMALL.shown);
     let whole = request(rt, "o", 0, SMALL.shown);
-    canvas.check(rt, chain, &whole, &wanted, (21, 8));
+    canvas.answer(rt, chain, &whole).check(rt, &wanted, (21, 8));
     let quarter = [1, 1, 30, 22];
     let wanted = level_bytes(rt, alloc, picture, 2, quarter);
     let quarter = request(rt, "o", 2, quarter);
-    canvas.check(rt, chain, &quarter, &wanted, (0, 29));
+    canvas
+        .answer(rt, chain, &quarter)
+        .check(rt, &wanted, (0, 29));
 }
 
 /// Renders a captioned photograph of usual size, the second time at level 2, and checks how many tiles are
@@ -165,9 +167,9 @@ pub fn caption_a_photograph<C: TileChain>(
     let caption = bytes(rt, alloc, 2, 400 * 60 * 2);
     let mut canvas = canvas_of(rt, chain, alloc, USUAL, &photo, &caption);
     let whole = request(rt, "o", 0, USUAL.shown);
-    let patch = canvas.seen(rt, chain, &whole, (974, 704));
+    let patch = canvas.answer(rt, chain, &whole).patch(rt, (974, 704));
     assert_eq!(rt; patch.raw_bytes().len(), 2_920_448);
     let quarter = request(rt, "o", 2, [4, 4, 248, 184]);
-    let patch = canvas.seen(rt, chain, &quarter, (0, 1_678));
+    let patch = canvas.answer(rt, chain, &quarter).patch(rt, (0, 1_678));
     assert_eq!(rt; patch.raw_bytes().len(), 182_528);
 }

@@ -27,19 +27,29 @@ pub fn refuse_requests<C: TileChain>(
     ];
     let mut canvas = over(rt, alloc, chain, buffers, &edits, 16);
     let unknown = request(rt, "k", 8, [0, 0, 129, 1]);
-    canvas.check_refused(rt, chain, &unknown, RenderRefused::UnknownNode);
+    canvas
+        .answer(rt, chain, &unknown)
+        .check_refused(rt, RenderRefused::UnknownNode);
     let buffer = request(rt, "a", 0, [0, 0, 1, 1]);
-    canvas.check_refused(rt, chain, &buffer, RenderRefused::UnknownNode);
+    canvas
+        .answer(rt, chain, &buffer)
+        .check_refused(rt, RenderRefused::UnknownNode);
     let wide = request(rt, "i", 8, [0, 0, 129, 1]);
-    canvas.check_refused(rt, chain, &wide, RenderRefused::Rect);
+    canvas
+        .answer(rt, chain, &wide)
+        .check_refused(rt, RenderRefused::Rect);
     let wide = request(rt, "s", 8, [0, 0, 129, 1]);
-    canvas.check_refused(rt, chain, &wide, RenderRefused::Rect);
+    canvas
+        .answer(rt, chain, &wide)
+        .check_refused(rt, RenderRefused::Rect);
     let far = request(rt, "i", 8, [65_537, 0, 1, 1]);
-    canvas.check_refused(rt, chain, &far, RenderRefused::Rect);
+    canvas
+        .answer(rt, chain, &far)
+        .check_refused(rt, RenderRefused::Rect);
     let last = request(rt, "i", 8, [65_535, 0, 1, 1]);
-    canvas.check(rt, chain, &last, &[0], (0, 0));
+    canvas.answer(rt, chain, &last).check(rt, &[0], (0, 0));
     let none = request(rt, "i", 8, [0, 0, 0, 0]);
-    canvas.check(rt, chain, &none, &[], (0, 0));
+    canvas.answer(rt, chain, &none).check(rt, &[], (0, 0));
 }
 
 /// Returns a request for a row of 65 tiles, where so many may be needed.
@@ -75,9 +85,9 @@ pub fn refuse_wide_strips<C: TileChain>(
         needed: 65,
         capacity: 64,
     };
-    canvas.check_refused(rt, chain, &wide, wanted);
+    canvas.answer(rt, chain, &wide).check_refused(rt, wanted);
     let fitting = row_of_tiles(rt, 65);
-    let patch = canvas.seen(rt, chain, &fitting, (65, 0));
+    let patch = canvas.answer(rt, chain, &fitting).patch(rt, (65, 0));
     let bytes = patch.raw_bytes();
     assert_eq!(rt; bytes.len(), 266_240);
     check_bytes(rt, &patch, 4_150, &[0, 0, 255, 255]);

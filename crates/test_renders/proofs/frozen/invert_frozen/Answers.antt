@@ -7,10 +7,10 @@ use Rattle.test_renders.specs.Ready.{AreReady}
 use Rattle.test_renders.proofs.ReadyLaws.{ready-taken}
 use Rattle.test_renders.proofs.frozen.invert_frozen.Goals as goal
 
-pub seen-second-requires-clause-ready : goal.seen-second-requires-clause-ready
-seen-second-requires-clause-ready g c κs within =
-    let canvas = c.seen-first.new.self in
+pub answer-requires-2-clause-ready : goal.answer-requires-2-clause-ready
+answer-requires-2-clause-ready g c κs within =
+    let canvas = c.answer.new.self in
     let facts = facts_in canvas.sources.buffers.now in
     let nodes = canvas.graph.latest.nodes in
     subst (λ (sizes : List Sized). AreReady int_meanings facts nodes sizes) (sym c.trim.ensures.sizes)
-    (ready-taken int_meanings facts nodes (map hand_size canvas.cache.tiles.entries) canvas.cache.capacity c.seen-first.ensures.ready)
+    (ready-taken int_meanings facts nodes (map hand_size canvas.cache.tiles.entries) canvas.cache.capacity c.answer.ensures.ready)
