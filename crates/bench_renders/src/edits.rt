@@ -53,6 +53,13 @@ fn nodes(alloc: Global) -> Result<Vec<NodeEdit<IntOp>>> {
     Ok(edits)
 }
 
+/// Returns the rectangle that is asked for, near the middle of the image, and the one in it that is written.
+fn rectangles(job: Job) -> ([i64; 4], [i64; 4]) {
+    let x = i64::from(job.columns) / 128 * 64 - 64;
+    let y = i64::from(job.rows) / 128 * 64 - 64;
+    ([x, y, 512, 512], [x + 100, y + 100, 32, 32])
+}
+
 /// Times the request over a chain.
 fn time_job<R: Clock + Print + Eprint + Threads + Sync + Alloc<A = Global>, C: TileChain>(
     rt: &R,
@@ -65,15 +72,14 @@ fn time_job<R: Clock + Print + Eprint + Threads + Sync + Alloc<A = Global>, C: T
     let buffers = ready(chain, alloc, rect([0, 0, columns, rows]))?;
     let edits = nodes(alloc)?;
     let mut canvas = over_buffers(alloc, chain, buffers, &edits, MANY)?;
-    let (x, y) = (columns / 128 * 64 - 64, rows / 128 * 64 - 64);
-    let part = request(name("c")?, [x, y, 512, 512]);
+    let (asked, written) = rectangles(job);
+    let part = request(name("c")?, asked);
     let start = Instant::now(rt)?;
     let (shown, _spent) = canvas.shown(chain, &part, Workers::new(rt, 1))?;
     let times = Times::since(rt, start)?.of_parts(shown.applied);
     report.print(rt, "request evaluated", times, shown.applied)?;
     let (times, reused) = show_again(rt, &mut canvas, chain, &part, job.rounds)?;
     report.print(rt, "request cached", times.of_parts(reused), reused)?;
-    let written = [x + 100, y + 100, 32, 32];
     let (times, applied) = edit_again(rt, &mut canvas, chain, &part, written, job.rounds)?;
     report.print(rt, "request after an edit", times, applied)?;
     Ok(())
