@@ -41,3 +41,24 @@ fn memory_that_runs_out_in_one_piece_refuses_all(rt: HostRuntime) -> Result<(), 
     }
     Ok(())
 }
+
+#[test]
+fn two_jobs_are_done_once_each(rt: HostRuntime) {
+    for count in [0, 1, 2, 3] {
+        let workers = Workers::new(&rt, count);
+        let mut first = 0u32;
+        let mut second = 0u32;
+        let given = workers.both(
+            &mut || {
+                first = first.wrapping_add(1);
+                "first"
+            },
+            &mut || {
+                second = second.wrapping_add(10);
+                "second"
+            },
+        );
+        assert_eq!(rt; given, ("first", "second"));
+        assert_eq!(rt; (first, second), (1, 10));
+    }
+}

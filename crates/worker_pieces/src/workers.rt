@@ -5,7 +5,7 @@ ghost use Rattle.std.specs.List.{AllZip};
 
 use no_memory::NoMemory;
 use std::alloc::{AllocError, Global};
-use std::thread::{Threads, join};
+use std::thread::{Threads, join, join_mut};
 
 /// How much work a piece is worth at least, in nanoseconds: some times what it takes to start its thread.
 const LEAST_PIECE: u64 = 150_000;
@@ -31,6 +31,13 @@ impl<'r, R: Threads + Sync> Workers<'r, R> {
     /// Makes the leave to split work into at most so many pieces; none and one both leave it whole.
     pub fn new(threads: &'r R, count: u32) -> Workers<'r, R> {
         Workers { threads, count }
+    }
+
+    /// Returns how many there are; none and one both leave work whole.
+    pub fn count(self) -> u32
+        ensures { result ≡ self.entry.count }
+    {
+        self.count
     }
 
     /// Returns whether there is more than one.
@@ -68,6 +75,23 @@ impl<'r, R: Threads + Sync> Workers<'r, R> {
             return in_turn(alloc, jobs, job);
         }
         in_pieces(self.threads, alloc, jobs, self.count as usize, job)
+    }
+
+    /// Does two jobs and returns what they gave: at the same time where there are several workers, the first one on a
+    /// thread of its own, and else one after the other.
+    pub fn both<A: Send, B, F: FnMut() -> A + Send, G: FnMut() -> B>(
+        self,
+        first: &mut F,
+        second: &mut G,
+    ) -> (A, B)
+        requires { F.pre first.old × G.pre second.old }
+        ensures { F.step first.old result.0 first.new × G.step second.old result.1 second.new }
+    {
+        if self.are_several() {
+            return join_mut(self.threads, first, second);
+        }
+        let given = first();
+        (given, second())
     }
 }
 
