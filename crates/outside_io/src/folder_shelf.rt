@@ -1,21 +1,22 @@
 //! The files of the current folder as a shelf.
 
 ghost use Rattle.std.specs.Prelude.{◌≡◌, ◌<◌, ◌≤◌, ◌⊎◌, None, Err, IfErr, IfOk, IsTrue, Ok, length, vec_len};
+ghost use Rattle.std.specs.Thread.{IsSync};
 ghost use Rattle.outside_io.specs.Faults.{faults_after};
 ghost use Rattle.outside_io.specs.FileName.{is_file_name};
 ghost use Rattle.outside_io.specs.Shelf.{AppendLeaves, TakesAtMost, WriteLeaves, has_failed};
 ghost use Rattle.outside_io.specs.FolderShelf.{ShelfFaults};
 
+use crate::file_parts::read_at;
+use crate::open_files::{MAX_INTERRUPTIONS, open_file, refusal};
 use crate::shelf::{Shelf, ShelfAnswer};
 use std::alloc::Global;
-use std::fs::{Files, OpenFile, OpenOptions};
+use std::fs::{File, Files, OpenFile, OpenOptions};
 use std::io::{ErrorKind, Read, Write};
 use std::marker::Model;
-use std::os::unix::fs::FileExt;
+use std::thread::Threads;
 use std::{fs, io};
-
-/// How often a read is made again that a signal interrupted.
-const MAX_INTERRUPTIONS: u32 = 1000;
+use worker_pieces::Workers;
 
 /// How many bytes a turn reads of a file of the length that the system says. So many stay in the processor's nearer
 /// caches from when new memory is made zero until they are read into it.
@@ -74,10 +75,7 @@ impl<R: Files + AllocGlobal + Drop> FolderShelf<R> {
     }
 }
 
-impl<R: Files + AllocGlobal + Drop> Shelf for FolderShelf<R>
-where
-    R::File: FileExt,
-{
+impl<R: Files<File = File> + AllocGlobal + Drop> Shelf for FolderShelf<R> {
     ghost files = { λ _. None };
 
     ghost read_faults = { λ faults. faults.reads };
@@ -97,8 +95,15 @@ where
         answer
     }
 
-    fn read_part(&mut self, name: &str, start: u64, into: &mut [u8]) -> Result<usize, ShelfAnswer>
-        requires { IsTrue (is_file_name name.now) }
+    fn read_part<T: Threads + Sync>(
+        &mut self,
+        name: &str,
+        start: u64,
+        into: &mut [u8],
+        workers: Workers<'_, T>,
+    ) -> Result<usize, ShelfAnswer>
+        requires name { IsTrue (is_file_name name.now) }
+        requires threads { IsSync T.row }
         ensures within { IfOk result (λ count. count ≤ length into.new) }
         ensures length { length into.new ≡ length into.old }
         ensures later { self.old.reads ≤ self.new.reads }
@@ -106,7 +111,7 @@ where
         // A read that failed is counted, and no other.
         ensures counted { self.new ≡ record self.old { reads = faults_after (has_failed result) self.old.reads } }
     {
-        let answer = read_file_part(&self.rt, name, start, into);
+        let answer = read_file_part(&self.rt, name, start, into, workers);
         self.note_read(&answer);
         answer
     }
@@ -143,62 +148,18 @@ fn append_to_file<R: Files>(rt: &R, name: &str, bytes: &[u8]) -> io::Result<()> 
 }
 
 /// Reads the bytes of a file of the current folder from a position on, as many as the slice has room for.
-fn read_file_part<R: Files>(
+fn read_file_part<R: Files<File = File>, T: Threads + Sync>(
     rt: &R,
     name: &str,
     start: u64,
     into: &mut [u8],
+    workers: Workers<'_, T>,
 ) -> Result<usize, ShelfAnswer>
-where
-    R::File: FileExt,
     ensures within { IfOk result (λ count. count ≤ length into.new) }
     ensures length { length into.new ≡ length into.old }
 {
     let file = open_file(rt, name)?;
-    fill_at(&file, start, into).map_err(refusal)
-}
-
-/// Reads a file from a position on into the slice, to the file's end or the slice's, and returns how many bytes.
-/// Each turn but the last takes at least one byte.
-fn fill_at<F: FileExt>(file: &F, start: u64, into: &mut [u8]) -> io::Result<usize>
-    ensures within { IfOk result (λ filled. filled ≤ length into.new) }
-    ensures length { length into.new ≡ length into.old }
-{
-    let mut filled = 0;
-    while filled < into.len() {
-        let position = start.saturating_add(filled as u64);
-        let count = read_some_at(file, position, &mut into[filled..])?;
-        if count == 0 {
-            return Ok(filled);
-        }
-        filled += count;
-    }
-    Ok(filled)
-}
-
-/// Reads once at a position, and again where a signal interrupted it, at most `MAX_INTERRUPTIONS` times.
-fn read_some_at<F: FileExt>(file: &F, position: u64, into: &mut [u8]) -> io::Result<usize>
-    ensures read { IfOk result (λ count. count ≤ length into.old) }
-    ensures length { length into.new ≡ length into.old }
-{
-    for _ in 0..MAX_INTERRUPTIONS {
-        match file.read_at(into, position) {
-            Err(error) if error.kind() == ErrorKind::Interrupted => {}
-            answer => return answer,
-        }
-    }
-    Err(io::Error::from(ErrorKind::Interrupted))
-}
-
-/// Opens a file of the current folder.
-fn open_file<R: Files>(rt: &R, name: &str) -> Result<R::File, ShelfAnswer>
-    ensures { IfErr result (λ answer. (answer ≡ ShelfAnswer.Absent) ⊎ ((answer ≡ ShelfAnswer.Failed) ⊎ (answer ≡ ShelfAnswer.NoMemory))) }
-{
-    match fs::open(rt, name) {
-        Ok(file) => Ok(file),
-        Err(error) if error.kind() == ErrorKind::NotFound => Err(ShelfAnswer::Absent),
-        Err(error) => Err(refusal(error)),
-    }
+    read_at(&file, start, into, workers)
 }
 
 /// Reads a file of the current folder.
@@ -213,16 +174,6 @@ fn read_file<R: Files + AllocGlobal>(rt: &R, name: &str, limit: u64) -> Result<V
         Err(ShelfAnswer::TooLong { taken })
     } else {
         Ok(bytes)
-    }
-}
-
-/// Returns what a shelf answers where an open file gave this error.
-fn refusal(error: io::Error) -> ShelfAnswer
-    ensures { (result ≡ ShelfAnswer.Failed) ⊎ (result ≡ ShelfAnswer.NoMemory) }
-{
-    match error.kind() {
-        ErrorKind::OutOfMemory => ShelfAnswer::NoMemory,
-        _ => ShelfAnswer::Failed,
     }
 }
 

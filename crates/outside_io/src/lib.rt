@@ -3,6 +3,7 @@
 
 mod failing_calls;
 mod file_name;
+mod file_parts;
 mod file_swap;
 mod folder_shelf;
 mod gate;
@@ -11,6 +12,7 @@ mod meet_gate;
 mod mem_shelf;
 mod mem_sink;
 mod mem_swap;
+mod open_files;
 mod shelf;
 mod sink;
 mod std_sink;

@@ -2,6 +2,7 @@
 
 ghost use Rattle.std.specs.Prelude.{◌≡◌, ◌≤◌, ◌↔◌, false, Some, IfOk, IsTrue, IsErrOf, OnOk, length, reverse};
 ghost use Rattle.std.specs.Option.{option_copied};
+ghost use Rattle.std.specs.Thread.{IsSync};
 ghost use Rattle.outside_io.specs.Calls.{no_calls, next_fails, after_call};
 ghost use Rattle.outside_io.specs.FileName.{is_file_name};
 ghost use Rattle.outside_io.specs.Files.{appended, file, filed};
@@ -14,6 +15,8 @@ use crate::shelf::{Shelf, ShelfAnswer};
 use crate::stored_files::StoredFiles;
 use std::alloc::Global;
 use std::marker::Model;
+use std::thread::Threads;
+use worker_pieces::Workers;
 
 /// Keeps files in memory. Fails at chosen calls; a write that fails keeps the first half of the
 /// bytes, rounded down.
@@ -85,8 +88,15 @@ impl Shelf for MemShelf {
         self.files.read(name, limit)
     }
 
-    fn read_part(&mut self, name: &str, start: u64, into: &mut [u8]) -> Result<usize, ShelfAnswer>
-        requires { IsTrue (is_file_name name.now) }
+    fn read_part<R: Threads + Sync>(
+        &mut self,
+        name: &str,
+        start: u64,
+        into: &mut [u8],
+        _workers: Workers<'_, R>,
+    ) -> Result<usize, ShelfAnswer>
+        requires name { IsTrue (is_file_name name.now) }
+        requires threads { IsSync R.row }
         ensures gives { GivesPart (file self.old.files name.now) start (length into.old) into.new result }
         ensures within { IfOk result (λ count. count ≤ length into.new) }
         ensures length { length into.new ≡ length into.old }

@@ -1,6 +1,7 @@
 //! Shelves: files by their names.
 
 ghost use Rattle.std.specs.Prelude.{◌≡◌, ℕ, ◌≤◌, Option, IfOk, IfSome, IsTrue, IsErrOf, length};
+ghost use Rattle.std.specs.Thread.{IsSync};
 ghost use Rattle.outside_io.specs.FileName.{is_file_name};
 ghost use Rattle.outside_io.specs.Faults.{Rose};
 ghost use Rattle.outside_io.specs.Files.{Files, file};
@@ -8,7 +9,9 @@ ghost use Rattle.outside_io.specs.Shelf.{Answers, AppendLeaves, GivesPart, Takes
 ghost use Rattle.outside_io.specs.declared.shelf.ShelfAnswer.TheVariants.{NoMemory};
 
 use no_memory::OutOfMemory;
+use std::thread::Threads;
 use thiserror::Error;
+use worker_pieces::Workers;
 
 /// Why a shelf did not do what it was asked to.
 #[derive(Clone, Copy, Debug, PartialEq, Eq, Error)]
@@ -58,9 +61,16 @@ pub trait Shelf {
         ensures write_faults { write_faults self.new ≡ write_faults self.old };
 
     /// Reads the bytes of a file from the position `start` on, as many as the slice has room for, and fewer only
-    /// where the file ends; returns how many.
-    fn read_part(&mut self, name: &str, start: u64, into: &mut [u8]) -> Result<usize, ShelfAnswer>
-        requires { IsTrue (is_file_name name.now) }
+    /// where the file ends; returns how many. The workers may read a piece of them each.
+    fn read_part<R: Threads + Sync>(
+        &mut self,
+        name: &str,
+        start: u64,
+        into: &mut [u8],
+        workers: Workers<'_, R>,
+    ) -> Result<usize, ShelfAnswer>
+        requires name { IsTrue (is_file_name name.now) }
+        requires threads { IsSync R.row }
         ensures gives { IfSome (files self.old) (λ all. GivesPart (file all name.now) start (length into.old) into.new result) }
         ensures within { IfOk result (λ count. count ≤ length into.new) }
         ensures length { length into.new ≡ length into.old }

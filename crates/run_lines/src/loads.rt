@@ -106,7 +106,7 @@ fn load_bands<C: TileChain, F: Shelf, R: Threads + Sync>(
     let mut end = target.rect.end_row();
     loop {
         let row = band_row(&target.rect, end, tile_rows);
-        read_band(target, row, end, file, &mut bytes, shelf)?;
+        read_band(target, row, end, file, &mut bytes, shelf, workers)?;
         let band = rows_between(&target.rect, row, end);
         bytes = put_band(target.name, band, bytes, session, chain, workers)?;
         if row <= target.rect.first_row() {
@@ -147,13 +147,14 @@ fn rows_between(rect: &Rect, first: u32, end: u32) -> Rect
 }
 
 /// Reads the bytes of a band's rows. Those of the last band are to be the last of the file.
-fn read_band<F: Shelf>(
+fn read_band<F: Shelf, R: Threads + Sync>(
     target: &Target,
     row: u32,
     end: u32,
     file: &FileName,
     bytes: &mut Vec<u8>,
     shelf: &mut F,
+    workers: Workers<'_, R>,
 ) -> Result<(), Stop>
     requires limits { IsTrue (in_limits target.now.rect) }
     requires reached { IsReached target.now.rect end }
@@ -178,6 +179,7 @@ fn read_band<F: Shelf>(
         end == rect.end_row(),
         bytes,
         shelf,
+        workers,
     )
 }
 
@@ -193,13 +195,14 @@ fn byte_len(target: &Target, rows: u32) -> u64
 
 /// Reads so many bytes of a file from a position on, into a vector that was used before. They are to be the last of the
 /// file where they are the last that is wanted: then there is room for one byte more, which a file that is too long fills.
-fn read_part<F: Shelf>(
+fn read_part<F: Shelf, R: Threads + Sync>(
     file: &FileName,
     start: u64,
     count: usize,
     is_last: bool,
     bytes: &mut Vec<u8>,
     shelf: &mut F,
+    workers: Workers<'_, R>,
 ) -> Result<(), Stop>
     requires { count < 2 ^ 40 }
     ensures read { IfSome (F.files shelf.old) (λ files. (wanted : ℕ) → IsPart start count is_last wanted →
@@ -211,7 +214,7 @@ fn read_part<F: Shelf>(
         (record { files = F.files shelf.new; text = text; reads = F.read_faults shelf.new; writes = F.write_faults shelf.new; puts = puts; chain = chain }) }
 {
     make_room(bytes, count + usize::from(is_last))?;
-    match shelf.read_part(file.as_str(), start, &mut bytes[..]) {
+    match shelf.read_part(file.as_str(), start, &mut bytes[..], workers) {
         Ok(found) if found == count => {
             bytes.truncate(count);
             Ok(())

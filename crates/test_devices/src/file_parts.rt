@@ -4,8 +4,11 @@ ghost use Rattle.std.specs.Prelude.{IsTrue};
 ghost use Rattle.outside_io.specs.FileName.{is_file_name};
 
 use outside_io::{FolderShelf, MemShelf, Shelf, ShelfAnswer, SureShelf};
+use std::alloc::{AllocError, Global};
 use std::fs;
 use std::process::Abort;
+use std::thread::Threads;
+use worker_pieces::Workers;
 
 /// The parts of a file in the order in which they are written.
 const PARTS: [&[u8]; 4] = [b"abc", b"", b"de", b"fgh"];
@@ -32,13 +35,18 @@ fn write_parts<S: Shelf>(rt: &impl Abort, shelf: &mut S, name: &str)
 }
 
 /// Reads parts of the file that `write_parts` leaves.
-fn check_parts<S: Shelf>(rt: &impl Abort, shelf: &mut S, name: &str)
+fn check_parts<S: Shelf, R: Threads + Sync>(
+    rt: &impl Abort,
+    shelf: &mut S,
+    name: &str,
+    workers: Workers<'_, R>,
+)
     requires { IsTrue (is_file_name name.now) }
 {
     for (start, room, wanted) in READS {
         let mut into = [0; 8];
         let part = into.get_mut(..room).expect(rt, "at most eight bytes");
-        let read = shelf.read_part(name, start, part);
+        let read = shelf.read_part(name, start, part, workers);
         assert_eq!(rt; read, Ok(wanted.len()), "{room} bytes from {start} on");
         assert!(rt; into.starts_with(wanted), "{room} bytes from {start} on");
     }
@@ -48,11 +56,12 @@ fn check_parts<S: Shelf>(rt: &impl Abort, shelf: &mut S, name: &str)
 fn parts_of_files(rt: HostRuntime) {
     let name = "file_parts.eight";
     assert!(rt; outside_io::is_file_name(name.as_bytes()));
+    let workers = Workers::new(&rt, 4);
     let mut folder = FolderShelf::new(&rt);
-    let absent = folder.read_part(name, 0, &mut [0; 2]);
+    let absent = folder.read_part(name, 0, &mut [0; 2], workers);
     assert_eq!(rt; absent, Err(ShelfAnswer::Absent));
     write_parts(&rt, &mut folder, name);
-    check_parts(&rt, &mut folder, name);
+    check_parts(&rt, &mut folder, name, workers);
     fs::remove_file(&rt, name).expect(&rt, "the file");
     assert_eq!(rt; folder.append(name, b"i"), Err(ShelfAnswer::Failed));
 }
@@ -61,14 +70,15 @@ fn parts_of_files(rt: HostRuntime) {
 fn parts_of_files_in_memory(rt: HostRuntime) {
     let alloc = rt.alloc();
     let mut sure = SureShelf::new(alloc, Vec::new(alloc));
-    let absent = sure.read_part("eight", 0, &mut [0; 2]);
+    let workers = Workers::new(&rt, 4);
+    let absent = sure.read_part("eight", 0, &mut [0; 2], workers);
     assert_eq!(rt; absent, Err(ShelfAnswer::Absent));
     write_parts(&rt, &mut sure, "eight");
-    check_parts(&rt, &mut sure, "eight");
+    check_parts(&rt, &mut sure, "eight", workers);
     let mut shelf = MemShelf::new(alloc, Vec::new(alloc), Vec::new(alloc), Vec::new(alloc));
     assert_eq!(rt; shelf.append("eight", b"a"), Ok(()));
     write_parts(&rt, &mut shelf, "eight");
-    check_parts(&rt, &mut shelf, "eight");
+    check_parts(&rt, &mut shelf, "eight", workers);
 }
 
 #[test]
@@ -81,10 +91,90 @@ fn calls_on_parts_fail_where_they_are_chosen(rt: HostRuntime) {
     assert_eq!(rt; shelf.append("new", b"de"), Ok(()));
     assert_eq!(rt; shelf.append("new", b"fghij"), Err(ShelfAnswer::Failed));
     assert_eq!(rt; shelf.append("new", b"k"), Ok(()));
+    let workers = Workers::new(&rt, 1);
     let mut into = [0; 16];
-    assert_eq!(rt; shelf.read_part("new", 1, &mut into), Ok(7));
+    assert_eq!(rt; shelf.read_part("new", 1, &mut into, workers), Ok(7));
     assert!(rt; into.starts_with(b"bcdefgk"));
-    let failed = shelf.read_part("new", 1, &mut into);
+    let failed = shelf.read_part("new", 1, &mut into, workers);
     assert_eq!(rt; failed, Err(ShelfAnswer::Failed));
-    assert_eq!(rt; shelf.read_part("new", 7, &mut into), Ok(1));
+    assert_eq!(rt; shelf.read_part("new", 7, &mut into, workers), Ok(1));
+}
+
+/// How many bytes the long file has: as many as several threads read.
+const LONG: usize = 3_000_001;
+
+/// Where a part of it begins.
+const BEGUN: usize = 1_000_003;
+
+/// Returns the bytes of the long file, of which those of equal rest by 251 are equal.
+fn long_bytes(alloc: Global) -> Result<Vec<u8>, AllocError> {
+    let mut bytes = Vec::with_capacity(alloc, LONG)?;
+    for index in 0..LONG {
+        bytes.push((index % 251) as u8)?;
+    }
+    Ok(bytes)
+}
+
+/// Reads a file of these bytes whole and from its middle, each time past its end.
+fn check_long<S: Shelf, R: Threads + Sync>(
+    rt: &impl Abort,
+    shelf: &mut S,
+    name: &str,
+    bytes: &[u8],
+    into: &mut [u8],
+    workers: Workers<'_, R>,
+)
+    requires { IsTrue (is_file_name name.now) }
+{
+    let whole = shelf.read_part(name, 0, into, workers);
+    assert_eq!(rt; whole, Ok(LONG));
+    assert!(rt; into.starts_with(bytes));
+    let rest = shelf.read_part(name, BEGUN as u64, into, workers);
+    assert_eq!(rt; rest, Ok(LONG - BEGUN));
+    let left = bytes.get(BEGUN..).expect(rt, "a long file");
+    assert!(rt; into.starts_with(left));
+}
+
+#[test]
+fn pieces_of_a_part_are_read_by_several_threads(rt: HostRuntime) {
+    let alloc = rt.alloc();
+    let name = "file_parts.long";
+    assert!(rt; outside_io::is_file_name(name.as_bytes()));
+    let bytes = long_bytes(alloc).expect(&rt, "memory");
+    let mut into = vec![in alloc; 0; LONG + 7].expect(&rt, "memory");
+    let mut folder = FolderShelf::new(&rt);
+    assert_eq!(rt; folder.write(name, &bytes), Ok(()));
+    check_long(
+        &rt,
+        &mut folder,
+        name,
+        &bytes,
+        &mut into,
+        Workers::new(&rt, 1),
+    );
+    check_long(
+        &rt,
+        &mut folder,
+        name,
+        &bytes,
+        &mut into,
+        Workers::new(&rt, 2),
+    );
+    check_long(
+        &rt,
+        &mut folder,
+        name,
+        &bytes,
+        &mut into,
+        Workers::new(&rt, 3),
+    );
+    check_long(
+        &rt,
+        &mut folder,
+        name,
+        &bytes,
+        &mut into,
+        Workers::new(&rt, 16),
+    );
+    fs::remove_file(&rt, name).expect(&rt, "the file");
 }

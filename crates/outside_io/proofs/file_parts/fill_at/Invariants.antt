@@ -1,5 +1,5 @@
 use Rattle.std.proofs.Common.{◌≡◌, ◌-◌, ◌≤◌, length}
-use Rattle.outside_io.proofs.folder_shelf.fill_at.Given as goal
+use Rattle.outside_io.proofs.file_parts.fill_at.Given as goal
 
 abbrev pub invariant-loop-filled : goal.invariant-loop-filled
 invariant-loop-filled g l = record { filled : l.filled ≤ length l.into; length : length l.into ≡ length l.initial.into }
