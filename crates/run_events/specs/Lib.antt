@@ -1,3 +1,4 @@
 pub mod Causes
+pub mod Leaving
 pub mod Moments
 pub mod Carried

@@ -6,6 +6,7 @@ ghost use Rattle.outside_io.specs.Files.{Files, filed};
 ghost use Rattle.model_runs.specs.Ending.{Leaves, MayTear};
 ghost use Rattle.run_texts.specs.Events.{Puts, Writes, events_alone, refusal};
 ghost use Rattle.run_events.specs.Causes.{HasShelfCause, HasSinkCause};
+ghost use Rattle.run_events.specs.Leaving.{SinkLeaves};
 
 use model_runs::End;
 use outside_io::{Shelf, ShelfAnswer, Sink, SinkAnswer};
@@ -48,8 +49,7 @@ pub fn append_file<F: Shelf>(bytes: &[u8], file: &FileName, shelf: &mut F) -> Re
 
 /// Ends a run at a line that is refused, and puts its text.
 pub fn refuse<O: Sink>(alloc: Global, line: u32, cause: Cause, out: &mut O) -> Result<(), End>
-    ensures leaves { (files : Option Files) → Leaves (refusal line cause) result
-        (record { files = files; text = O.written out.old }) (record { files = files; text = O.written out.new }) }
+    ensures leaves { SinkLeaves O.written (refusal line cause) result out.old out.new }
     ensures cause { HasSinkCause O.faults result out.old out.new }
 {
     let text = refusal_text(alloc, line, cause)?;
@@ -59,8 +59,7 @@ pub fn refuse<O: Sink>(alloc: Global, line: u32, cause: Cause, out: &mut O) -> R
 
 /// Puts a text.
 pub fn put_text<O: Sink>(text: &str, out: &mut O) -> Result<(), End>
-    ensures leaves { (files : Option Files) → Leaves (events_alone (Puts text.now ∷ [])) result
-        (record { files = files; text = O.written out.old }) (record { files = files; text = O.written out.new }) }
+    ensures leaves { SinkLeaves O.written (events_alone (Puts text.now ∷ [])) result out.old out.new }
     ensures cause { HasSinkCause O.faults result out.old out.new }
 {
     match out.put(text.as_bytes()) {

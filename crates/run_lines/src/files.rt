@@ -1,12 +1,12 @@
 //! Lines that write a file of a buffer.
 
-ghost use Rattle.std.specs.Prelude.{[], ◌∷◌, ℕ, IsTrue, Option, length};
+ghost use Rattle.std.specs.Prelude.{[], ◌∷◌, IsTrue, length};
 ghost use Rattle.commit_session.specs.Seen.{IsOver};
 ghost use Rattle.model_operations.specs.Meanings.{int_meanings, same_operation};
 ghost use Rattle.model_runs.specs.Effects.{writes};
 ghost use Rattle.model_runs.specs.Ending.{Leaves};
-ghost use Rattle.outside_io.specs.Files.{Files};
-ghost use Rattle.run_events.specs.Causes.{HasCause};
+ghost use Rattle.run_events.specs.Causes.{HasCause, HasSinkCause};
+ghost use Rattle.run_events.specs.Leaving.{SinkLeaves};
 ghost use Rattle.run_lines.specs.Commands.{is_grab};
 ghost use Rattle.run_lines.specs.Stops.{CarriesOutCommand};
 ghost use Rattle.run_texts.specs.Events.{Puts, events_alone};
@@ -78,10 +78,8 @@ fn write_grab<F: Shelf, O: Sink>(
 
 /// Puts the text of a grab line whose file of so many bytes is written.
 fn report_grab<O: Sink>(alloc: Global, line: u32, bytes: usize, out: &mut O) -> Result<(), End>
-    ensures leaves { (files : Option Files) → Leaves (events_alone (Puts (text_of_grab line bytes) ∷ [])) result
-        (record { files = files; text = O.written out.old }) (record { files = files; text = O.written out.new }) }
-    ensures cause { (reads writes : ℕ) → HasCause result
-        (record { reads = reads; writes = writes; puts = O.faults out.old }) (record { reads = reads; writes = writes; puts = O.faults out.new }) }
+    ensures leaves { SinkLeaves O.written (events_alone (Puts (text_of_grab line bytes) ∷ [])) result out.old out.new }
+    ensures cause { HasSinkCause O.faults result out.old out.new }
 {
     let text = grab_text(alloc, line, bytes)?;
     put_text(&text, out)

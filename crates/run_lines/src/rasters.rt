@@ -8,7 +8,7 @@ ghost use Rattle.model_runs.specs.Ending.{Leaves, MayTear, ended};
 ghost use Rattle.model_states.specs.Need.{strip_rectangles};
 ghost use Rattle.outside_io.specs.Files.{Files, filed};
 ghost use Rattle.plane_rect.specs.Rectangle.{Rectangle};
-ghost use Rattle.run_events.specs.Causes.{HasCause};
+ghost use Rattle.run_events.specs.Causes.{HasShelfCause};
 ghost use Rattle.run_lines.specs.PictureBytes.{AreBandsOf, LeavesBands, LeavesBytes};
 ghost use Rattle.run_texts.specs.Events.{Writes, events_alone};
 ghost use Rattle.strip_patches.specs.Pictures.{HasRows};
@@ -39,9 +39,7 @@ pub(crate) fn write_picture<F: Shelf>(
         IfSome known (λ image. Shows image (picture_box picture) picture) →
         LeavesBytes known (picture_box picture) (picture_format picture) (λ bytes. events_alone (Writes file.now bytes ∷ [])) result
         (record { files = F.files shelf.old; text = text }) (record { files = F.files shelf.new; text = text }) }
-    ensures cause { (puts : ℕ) → HasCause result
-        (record { reads = F.read_faults shelf.old; writes = F.write_faults shelf.old; puts = puts })
-        (record { reads = F.read_faults shelf.new; writes = F.write_faults shelf.new; puts = puts }) }
+    ensures cause { HasShelfCause F.read_faults F.write_faults result shelf.old shelf.new }
 {
     match picture {
         Picture::Patch(patch) => write_file(patch.raw_bytes(), file, shelf),
@@ -60,9 +58,7 @@ fn write_bands<F: Shelf>(
         IfSome known (λ image. HasRows image (length (strip_rectangles tiled.now.rect)) tiled.now) →
         LeavesBands known (strip_rectangles tiled.now.rect) tiled.now.format (λ bytes. events_alone (Writes file.now bytes ∷ [])) result
         (record { files = F.files shelf.old; text = text }) (record { files = F.files shelf.new; text = text }) }
-    ensures cause { (puts : ℕ) → HasCause result
-        (record { reads = F.read_faults shelf.old; writes = F.write_faults shelf.old; puts = puts })
-        (record { reads = F.read_faults shelf.new; writes = F.write_faults shelf.new; puts = puts }) }
+    ensures cause { HasShelfCause F.read_faults F.write_faults result shelf.old shelf.new }
 {
     if tiled.bands() == 0 {
         return write_file(&[], file, shelf);
@@ -87,9 +83,7 @@ fn append_bands<F: Shelf>(
         LeavesBands known (strip_rectangles tiled.now.rect) tiled.now.format (λ bytes. events_alone (Writes file.now bytes ∷ [])) result
         (record { files = begun; text = text }) (record { files = F.files shelf.new; text = text }) }
     ensures torn { IfErr result (λ end. MayTear (Err end)) }
-    ensures cause { (puts : ℕ) → HasCause result
-        (record { reads = F.read_faults shelf.old; writes = F.write_faults shelf.old; puts = puts })
-        (record { reads = F.read_faults shelf.new; writes = F.write_faults shelf.new; puts = puts }) }
+    ensures cause { HasShelfCause F.read_faults F.write_faults result shelf.old shelf.new }
 {
     let mut memory = memory;
     for index in 1..tiled.bands() {
@@ -115,9 +109,7 @@ fn append_band<F: Shelf>(
         LeavesBytes known band tiled.now.format (λ bytes. events_alone (Writes file.now (before ++ bytes) ∷ [])) (ended result)
         (record { files = begun; text = text }) (record { files = F.files shelf.new; text = text }) }
     ensures torn { IfErr result (λ end. MayTear (Err end)) }
-    ensures cause { (puts : ℕ) → HasCause (ended result)
-        (record { reads = F.read_faults shelf.old; writes = F.write_faults shelf.old; puts = puts })
-        (record { reads = F.read_faults shelf.new; writes = F.write_faults shelf.new; puts = puts }) }
+    ensures cause { HasShelfCause F.read_faults F.write_faults (ended result) shelf.old shelf.new }
 {
     let band = tiled.band(alloc, memory, index)?;
     append_file(band.raw_bytes(), file, shelf)?;

@@ -1,10 +1,10 @@
 //! What is put where a script ends.
 
-ghost use Rattle.std.specs.Prelude.{◌≡◌, [], ◌∷◌, ℕ, IfOk, Option};
-ghost use Rattle.outside_io.specs.Files.{Files};
-ghost use Rattle.model_runs.specs.Ending.{Leaves, ended};
+ghost use Rattle.std.specs.Prelude.{[], ◌∷◌, IfOk};
+ghost use Rattle.model_runs.specs.Ending.{ended};
 ghost use Rattle.model_runs.specs.MadeJob.{render_sum};
-ghost use Rattle.run_events.specs.Causes.{HasCause};
+ghost use Rattle.run_events.specs.Causes.{HasSinkCause};
+ghost use Rattle.run_events.specs.Leaving.{SinkLeaves};
 ghost use Rattle.run_texts.specs.Events.{Puts, events_alone, refusal};
 ghost use Rattle.run_texts.specs.Texts.{report_text as text_of_report, sum_text as text_of_sum};
 
@@ -23,10 +23,8 @@ pub(crate) fn refuse_script<O: Sink>(
     cause: Cause,
     out: &mut O,
 ) -> Result<Counts, End>
-    ensures leaves { (files : Option Files) → Leaves (refusal line cause) (ended result)
-        (record { files = files; text = O.written out.old }) (record { files = files; text = O.written out.new }) }
-    ensures cause { (reads writes : ℕ) → HasCause (ended result)
-        (record { reads = reads; writes = writes; puts = O.faults out.old }) (record { reads = reads; writes = writes; puts = O.faults out.new }) }
+    ensures leaves { SinkLeaves O.written (refusal line cause) (ended result) out.old out.new }
+    ensures cause { HasSinkCause O.faults (ended result) out.old out.new }
     ensures none { IfOk result (λ _. ⊥) }
 {
     match refuse(alloc, line, cause, out) {
@@ -37,11 +35,8 @@ pub(crate) fn refuse_script<O: Sink>(
 
 /// Puts the report of how many tiles of nodes were evaluated, and how many were found in the cache.
 pub(crate) fn put_report<O: Sink>(alloc: Global, counts: Counts, out: &mut O) -> Result<(), End>
-    ensures leaves { (files : Option Files) →
-        Leaves (events_alone (Puts (text_of_report counts.applied counts.reused) ∷ [])) result
-        (record { files = files; text = O.written out.old }) (record { files = files; text = O.written out.new }) }
-    ensures cause { (reads writes : ℕ) → HasCause result
-        (record { reads = reads; writes = writes; puts = O.faults out.old }) (record { reads = reads; writes = writes; puts = O.faults out.new }) }
+    ensures leaves { SinkLeaves O.written (events_alone (Puts (text_of_report counts.applied counts.reused) ∷ [])) result out.old out.new }
+    ensures cause { HasSinkCause O.faults result out.old out.new }
 {
     let text = report_text(alloc, counts.applied, counts.reused)?;
     put_text(&text, out)
@@ -54,11 +49,8 @@ pub(crate) fn put_job_end<O: Sink>(
     counts: Counts,
     out: &mut O,
 ) -> Result<(), End>
-    ensures leaves { (files : Option Files) →
-        Leaves (events_alone (Puts (text_of_sum (render_sum shelf.now)) ∷ Puts (text_of_report counts.applied counts.reused) ∷ [])) result
-        (record { files = files; text = O.written out.old }) (record { files = files; text = O.written out.new }) }
-    ensures cause { (reads writes : ℕ) → HasCause result
-        (record { reads = reads; writes = writes; puts = O.faults out.old }) (record { reads = reads; writes = writes; puts = O.faults out.new }) }
+    ensures leaves { SinkLeaves O.written (events_alone (Puts (text_of_sum (render_sum shelf.now)) ∷ Puts (text_of_report counts.applied counts.reused) ∷ [])) result out.old out.new }
+    ensures cause { HasSinkCause O.faults result out.old out.new }
 {
     put_sum(alloc, shelf, out)?;
     put_report(alloc, counts, out)
@@ -66,11 +58,8 @@ pub(crate) fn put_job_end<O: Sink>(
 
 /// Puts the sum of all bytes of the files that a job's renders wrote.
 fn put_sum<O: Sink>(alloc: Global, shelf: &SureShelf, out: &mut O) -> Result<(), End>
-    ensures leaves { (files : Option Files) →
-        Leaves (events_alone (Puts (text_of_sum (render_sum shelf.now)) ∷ [])) result
-        (record { files = files; text = O.written out.old }) (record { files = files; text = O.written out.new }) }
-    ensures cause { (reads writes : ℕ) → HasCause result
-        (record { reads = reads; writes = writes; puts = O.faults out.old }) (record { reads = reads; writes = writes; puts = O.faults out.new }) }
+    ensures leaves { SinkLeaves O.written (events_alone (Puts (text_of_sum (render_sum shelf.now)) ∷ [])) result out.old out.new }
+    ensures cause { HasSinkCause O.faults result out.old out.new }
 {
     let sum = sum_of_renders(alloc, shelf)?;
     let text = sum_text(alloc, sum)?;
