@@ -14,3 +14,4 @@ pub mod Copies
 pub mod Reading
 pub mod RootReads
 pub mod FrozenParts
+pub mod RecentTiles

@@ -5,3 +5,4 @@ pub mod Edits
 pub mod Shares
 pub mod Reads
 pub mod Freezing
+pub mod RecentTiles

@@ -9,6 +9,7 @@ mod edits;
 mod freezing;
 mod laws;
 mod level_reads;
+mod recent_tiles;
 mod refused;
 mod shares;
 mod sources;

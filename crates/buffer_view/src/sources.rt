@@ -1,6 +1,7 @@
 //! Buffers as a source of tiles.
 
 ghost use Rattle.std.specs.Prelude.{◌≡◌, IfErr, IfOk, IsSome};
+ghost use Rattle.chain_owners.specs.Held.{Held};
 ghost use Rattle.model_buffers.specs.Layout.{facts_of};
 ghost use Rattle.model_graphs.specs.Facts.{fact_of};
 ghost use Rattle.op_contracts.specs.Sources.{HasBufferLength, IsTileOf};
@@ -8,8 +9,10 @@ ghost use Rattle.root_tiles.specs.Chains.{IsRead};
 ghost use Rattle.swap_store.specs.Cause.{HasSwapCause};
 ghost use Rattle.buffer_view.specs.BufferLaws.{buffers_exposed, buffers_framed, buffers_framed_condition};
 ghost use Rattle.buffer_view.specs.BufferTables.{AreBuffersOver, buffer_images, buffers_names};
+ghost use Rattle.buffer_view.specs.RecentTiles.{AreRecentOver, recent_framed_condition};
 
 use crate::buffers::Buffers;
+use crate::recent_tiles::{GivenTile, RecentTiles};
 use chain_contracts::TileChain;
 use op_contracts::SourceTiles;
 use plane_rect::{Name, TileAt};
@@ -63,18 +66,24 @@ impl<C: TileChain> SourceTiles<C> for Buffers {
     ghost exposed = { λ buffers held. buffers_exposed buffers held };
 }
 
-/// Gives the tiles of buffers that are borrowed, so that who reads them leaves them as they are.
-#[derive(Clone, Copy)]
+/// Gives the tiles of buffers that are borrowed, so that who reads them leaves them as they are. It keeps shares of the
+/// tiles that it gave last, since the windows of tiles side by side meet the same ones.
+#[derive(Drop)]
 pub struct BufferTiles<'a> {
     buffers: &'a Buffers,
+    recent: RecentTiles,
 }
 
 impl<'a> BufferTiles<'a> {
-    /// Returns the source of these buffers.
+    /// Returns the source of these buffers, which has given no tile. Takes no memory.
     pub fn new(buffers: &'a Buffers) -> BufferTiles<'a>
-        ensures { result.buffers.now ≡ buffers.now }
+        ensures buffers { result.buffers.now ≡ buffers.now }
+        ensures over { (held : Held) → AreBuffersOver result.buffers.now held → AreRecentOver result.buffers.now result.recent held }
     {
-        BufferTiles { buffers }
+        BufferTiles {
+            buffers,
+            recent: RecentTiles::new(buffers.alloc),
+        }
     }
 }
 
@@ -85,17 +94,28 @@ impl<C: TileChain> SourceTiles<C> for BufferTiles<'_> {
 
     ghost names = { λ source. buffers_names source.buffers.now };
 
-    ghost is_over = { λ source held. AreBuffersOver source.buffers.now held };
+    ghost is_over = { λ source held. AreRecentOver source.buffers.now source.recent held };
 
     fn tile(&mut self, chain: &mut C, buffer: Name, at: TileAt) -> Result<Tile, SwapRefused> {
-        self.buffers.buffer_tile(chain, buffer, at)
+        let buffers = self.buffers;
+        if let Some(tile) = self.recent.find(buffer, at) {
+            return Ok(tile.share(buffers.alloc)?);
+        }
+        let tile = buffers.buffer_tile(chain, buffer, at)?;
+        let share = tile.share(buffers.alloc)?;
+        self.recent.keep(GivenTile {
+            buffer,
+            at,
+            tile: share,
+        })?;
+        Ok(tile)
     }
 
     ghost framed = { λ source. buffers_framed source.buffers.now };
 
-    ghost framed_condition = { λ source. buffers_framed_condition source.buffers.now };
+    ghost framed_condition = { λ source. recent_framed_condition source.buffers.now source.recent };
 
-    ghost owned = { λ source held over. over.owned };
+    ghost owned = { λ source held over. over.buffers_over.owned };
 
-    ghost exposed = { λ source held. buffers_exposed source.buffers.now held };
+    ghost exposed = { λ source held over. buffers_exposed source.buffers.now held over.buffers_over };
 }

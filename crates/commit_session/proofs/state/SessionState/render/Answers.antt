@@ -18,7 +18,7 @@ use Rattle.commit_session.proofs.Handed.{IsAsked, IsLeft, IsShownBy, by-session,
 use Rattle.commit_session.proofs.Requested.{entries-same}
 use Rattle.commit_session.proofs.Same.{this}
 use Rattle.commit_session.proofs.state.SessionState.render.Given
-use Rattle.commit_session.proofs.state.SessionState.render.Goals.{After-render, After-render-arg-4-1}
+use Rattle.commit_session.proofs.state.SessionState.render.Goals.{After-render, After-render-arg-4-1, After-saturating_add-self-inside-2}
 use Rattle.commit_session.proofs.state.SessionState.render.Goals as goal
 
 module _ (g : Given.Over) where
@@ -33,7 +33,7 @@ module _ (g : Given.Over) where
       is = c.self.view_is;
       over = c.requires.over;
       stated = c.nodes.ensures.graph.latest.stated;
-      buffers_are = c.new-sources.ensures ∙ c.latest.ensures;
+      buffers_are = c.new-sources.ensures.buffers ∙ c.latest.ensures;
       nodes_are = c.nodes.ensures.nodes;
       limit_is = same_Some c.unwrap-capacity.result _ (sym c.unwrap-capacity.ensures ∙ c.bound.ensures);
     }
@@ -62,7 +62,7 @@ module _ (g : Given.Over) where
       valid = c.render.ensures.valid;
     }
 
-  module _ (c : goal.After-self-2-1 g) where
+  module _ (c : goal.After-saturating_add-self-inside-2 g) where
     done : IsShownBy g.Op.OpMeaning.meanings (this c.self.view_is) (state c.args.chain.now) (state c.render.new.chain) c.new-sources.result.buffers.now c.nodes.result.now
         (request c.args.node c.args.level c.args.rect) c.render.new.cache.names.entries c.in_ok-done.done.picture c.unwrap-capacity.result c.in_ok-done.done.applied c.in_ok-done.done.reused
         c.saturating_add-self-inside.result c.saturating_add-self-inside-2.result
@@ -86,7 +86,7 @@ pub render-requires-clause-stated : goal.render-requires-clause-stated
 render-requires-clause-stated g c κs within = handed-stated (asked g c)
 
 pub render-requires-clause-sources_over : goal.render-requires-clause-sources_over
-render-requires-clause-sources_over g c κs within = handed-buffers (asked g c)
+render-requires-clause-sources_over g c κs within = c.new-sources.ensures.over _ (handed-buffers (asked g c))
 
 pub render-requires-clause-cache_over : goal.render-requires-clause-cache_over
 render-requires-clause-cache_over g c κs within = handed-cache (asked g c)
@@ -160,17 +160,17 @@ returns-in_err-done-clause-permits g c =
 pub returns-clause-over : goal.returns-clause-over
 returns-clause-over g c =
     let at = goal.at.returns-clause-over g c in
-    done-over (asked g at.After-render-arg-4-1) (left g at.After-render) _ _ (done g c)
+    done-over (asked g at.After-render-arg-4-1) (left g at.After-render) _ _ (done g at.After-saturating_add-self-inside-2)
 
 pub returns-clause-session : goal.returns-clause-session
 returns-clause-session g c =
     let at = goal.at.returns-clause-session g c in
-    done-session (asked g at.After-render-arg-4-1) (left g at.After-render) _ _ (done g c)
+    done-session (asked g at.After-render-arg-4-1) (left g at.After-render) _ _ (done g at.After-saturating_add-self-inside-2)
 
 pub returns-clause-image : goal.returns-clause-image
 returns-clause-image g c =
     let at = goal.at.returns-clause-image g c in
-    done-image (asked g at.After-render-arg-4-1) (left g at.After-render) _ _ (done g c)
+    done-image (asked g at.After-render-arg-4-1) (left g at.After-render) _ _ (done g at.After-saturating_add-self-inside-2)
 
 pub returns-clause-states : goal.returns-clause-states
 returns-clause-states g c =
@@ -190,12 +190,12 @@ returns-clause-other_names g c =
 pub returns-clause-rendered : goal.returns-clause-rendered
 returns-clause-rendered g c =
     let at = goal.at.returns-clause-rendered g c in
-    done-rendered (asked g at.After-render-arg-4-1) (left g at.After-render) _ _ (done g c)
+    done-rendered (asked g at.After-render-arg-4-1) (left g at.After-render) _ _ (done g at.After-saturating_add-self-inside-2)
 
 pub returns-clause-can : goal.returns-clause-can
 returns-clause-can g c =
     let at = goal.at.returns-clause-can g c in
-    by-session (asked g at.After-render-arg-4-1) (λ (xs : List (NodeFact g.row.Op.Denot)) (n : ℕ). CanBeRendered g.Op.OpMeaning.meanings xs (asked_for g at.After-render) n) (done g c).can
+    by-session (asked g at.After-render-arg-4-1) (λ (xs : List (NodeFact g.row.Op.Denot)) (n : ℕ). CanBeRendered g.Op.OpMeaning.meanings xs (asked_for g at.After-render) n) (done g at.After-saturating_add-self-inside-2).can
 
 pub returns-clause-unknown : goal.returns-clause-unknown
 returns-clause-unknown g c =
