@@ -106,7 +106,7 @@ const LONG: usize = 3_000_001;
 /// Where a part of it begins.
 const BEGUN: usize = 1_000_003;
 
-/// Returns the bytes of the long file, of which those of equal rest by 251 are equal.
+/// Returns the bytes of the long file: the numbers from 0 to 250 again and again.
 fn long_bytes(alloc: Global) -> Result<Vec<u8>, AllocError> {
     let mut bytes = Vec::with_capacity(alloc, LONG)?;
     for index in 0..LONG {
@@ -115,17 +115,18 @@ fn long_bytes(alloc: Global) -> Result<Vec<u8>, AllocError> {
     Ok(bytes)
 }
 
-/// Reads a file of these bytes whole and from its middle, each time past its end.
-fn check_long<S: Shelf, R: Threads + Sync>(
-    rt: &impl Abort,
+/// Reads a file of these bytes whole and from its middle, each time past its end, by so many workers.
+fn check_long<S: Shelf>(
+    rt: &(impl Abort + Threads + Sync),
     shelf: &mut S,
     name: &str,
     bytes: &[u8],
     into: &mut [u8],
-    workers: Workers<'_, R>,
+    count: u32,
 )
     requires { IsTrue (is_file_name name.now) }
 {
+    let workers = Workers::new(rt, count);
     let whole = shelf.read_part(name, 0, into, workers);
     assert_eq!(rt; whole, Ok(LONG));
     assert!(rt; into.starts_with(bytes));
@@ -144,37 +145,9 @@ fn pieces_of_a_part_are_read_by_several_threads(rt: HostRuntime) {
     let mut into = vec![in alloc; 0; LONG + 7].expect(&rt, "memory");
     let mut folder = FolderShelf::new(&rt);
     assert_eq!(rt; folder.write(name, &bytes), Ok(()));
-    check_long(
-        &rt,
-        &mut folder,
-        name,
-        &bytes,
-        &mut into,
-        Workers::new(&rt, 1),
-    );
-    check_long(
-        &rt,
-        &mut folder,
-        name,
-        &bytes,
-        &mut into,
-        Workers::new(&rt, 2),
-    );
-    check_long(
-        &rt,
-        &mut folder,
-        name,
-        &bytes,
-        &mut into,
-        Workers::new(&rt, 3),
-    );
-    check_long(
-        &rt,
-        &mut folder,
-        name,
-        &bytes,
-        &mut into,
-        Workers::new(&rt, 16),
-    );
+    check_long(&rt, &mut folder, name, &bytes, &mut into, 1);
+    check_long(&rt, &mut folder, name, &bytes, &mut into, 2);
+    check_long(&rt, &mut folder, name, &bytes, &mut into, 3);
+    check_long(&rt, &mut folder, name, &bytes, &mut into, 16);
     fs::remove_file(&rt, name).expect(&rt, "the file");
 }

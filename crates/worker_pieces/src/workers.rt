@@ -11,8 +11,8 @@ use std::thread::{Threads, join, join_mut};
 const LEAST_PIECE: u64 = 150_000;
 
 /// How many threads work may be split among, with the leave to start them. There is no pool of threads: each piece
-/// of a call's work but one starts a thread of its own, which takes 13 to 50 us. So work is split only where it is
-/// worth more than that.
+/// of a call's work starts a thread of its own, which takes 13 to 50 us. So work is split only where it is worth more
+/// than that.
 pub struct Workers<'r, R: Threads + Sync> {
     threads: &'r R,
     count: u32,
