@@ -1,5 +1,5 @@
 -- Refusals of a request that are handed on.
-use Rattle.std.proofs.Common.{ℕ, List, Result, Ok, Err, refl}
+use Rattle.std.proofs.Common.{ℕ, List, Result, Ok, Err}
 use Rattle.std.specs.Prelude.{IfErr}
 use Rattle.model_graphs.specs.declared.node.NodeFact.{NodeFact}
 use Rattle.model_graphs.specs.Meanings.{Meanings}
@@ -15,15 +15,6 @@ use Rattle.render_workers.specs.Requests.{Request}
 pub any-error : {T E : Type 0} (r : Result T E) (P : E → Type 0) → ((e : E) → P e) → IfErr r P
 any-error (Ok t) P each = tt
 any-error (Err e) P each = each e
-
--- where nothing was done, nothing changed
-pub unchanged-all : (now : Moment) (permits : ℕ) (refused : RenderRefused) → ChangesNothing now now permits permits refused
-unchanged-all now permits UnknownNode = (refl, refl)
-unchanged-all now permits Rect = (refl, refl)
-unchanged-all now permits (Strip needed capacity) = (refl, refl)
-unchanged-all now permits SwapFault = tt
-unchanged-all now permits (SwapFull needed longest) = tt
-unchanged-all now permits NoMemory = tt
 
 -- of a swap's refusal nothing is said there
 pub unchanged-swap : (old new : Moment) (before after : ℕ) (refused : SwapRefused) → ChangesNothing old new before after (by_swap refused)

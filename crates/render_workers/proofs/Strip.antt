@@ -1,5 +1,5 @@
 -- What a strip of a render does, in the words of a part of a request.
-use Rattle.std.proofs.Common.{◌≡◌, ℕ, ◌+◌, ◌≤◌, List, [], length, Some, sym, ap, ◌∙◌, subst, arith}
+use Rattle.std.proofs.Common.{◌≡◌, ℕ, ◌+◌, ◌≤◌, List, length, Some, sym, ap, ◌∙◌, subst, arith}
 use Rattle.std.proofs.lemmas.List.{length-map}
 use Rattle.model_graphs.specs.declared.node.NodeFact.{NodeFact}
 use Rattle.model_graphs.specs.Evaluation.{Buffers}
@@ -14,24 +14,22 @@ use Rattle.swap_store.specs.declared.refusal.SwapRefused.{SwapRefused}
 use Rattle.node_cache.specs.Stores.{HaveOneOwner}
 use Rattle.node_tiles.specs.Held.{HeldTiles}
 use Rattle.node_tiles.specs.Stated.{scene_of}
+use Rattle.strip_renders.specs.Ahead.{AreMadeOf, MadeTiles}
 use Rattle.strip_renders.specs.Moments.{Keeps, Moment}
 use Rattle.strip_renders.specs.Strips.{AreKnownRight, AreSizedPairs, IsRendered, counted, most_names, pairs_needed}
 use Rattle.strip_renders.proofs.Moments.{keeps-most}
 use Rattle.render_workers.specs.Parts.{IsExcused, Leaves, LooksUp}
-use Rattle.render_workers.proofs.Joined.{leaves-more, leaves-none}
 
 module _ {Op : Type 0} (meanings : Meanings Op) (nodes : List (NodeFact Op)) where
-  -- nothing was done
-  pub leaves-nothing : (pairs : List Pair) (now : Moment) (permits : ℕ) → Leaves meanings nodes pairs now now permits permits
-  leaves-nothing pairs now permits = leaves-more meanings nodes [] pairs now now permits permits (leaves-none meanings nodes now permits)
-
-  module _ (need : List Needed) (a b : Moment) (x y : ℕ) where
+  module _ (need : List Needed) (a b : Moment) (made made' : MadeTiles) (x y : ℕ) where
     count : length (pairs_needed nodes need) ≡ length need
     count = length-map need (pair_of (specs_of nodes))
 
     pub strip-leaves : Keeps (length need) a b
-        → ((images : Buffers) → a.images ≡ Some images → AreKnownRight meanings nodes images a.cached → AreKnownRight meanings nodes images b.cached)
-        → AreSizedPairs nodes b.sizes → y ≤ x → x ≤ y + length need → Leaves meanings nodes (pairs_needed nodes need) a b x y
+        → ((images : Buffers) → a.images ≡ Some images → AreKnownRight meanings nodes images a.cached → AreMadeOf meanings nodes images made
+        → AreKnownRight meanings nodes images b.cached × AreMadeOf meanings nodes images made')
+        → AreSizedPairs nodes b.sizes → y + length made' ≤ x + length made → x + length made ≤ y + length made' + length need
+        → Leaves meanings nodes (pairs_needed nodes need) a b made made' x y
     strip-leaves keeps right sized spent few = record {
       keeps = keeps-most (length need) (length (pairs_needed nodes need)) a b (omega (arith, count)) keeps;
       right = right;
@@ -40,9 +38,10 @@ module _ {Op : Type 0} (meanings : Meanings Op) (nodes : List (NodeFact Op)) whe
       few = omega (arith, few, count);
     }
 
-    module _ (applied reused : ℕ) (pairs : counted b.pairs applied reused ≡ all_looked_up itself itself a.capacity (uncounted a.pairs) (pairs_needed nodes need)) (spent : Spent x y applied) where
+    module _ (applied reused : ℕ) (pairs : counted b.pairs applied reused ≡ all_looked_up itself itself a.capacity (uncounted a.pairs) (pairs_needed nodes need))
+        (spent : Spent (x + length made) (y + length made') applied) where
       -- no more permits than pairs
-      pub done-few : (y ≤ x) × (x ≤ y + length need)
+      pub done-few : (y + length made' ≤ x + length made) × (x + length made ≤ y + length made' + length need)
       done-few =
           let sum : applied + reused ≡ 0 + length (pairs_needed nodes need) =
           ap (λ (c : Counted Pair). c.applied + c.reused) pairs ∙ counts_add_up itself itself a.capacity (uncounted a.pairs) (pairs_needed nodes need) in
@@ -50,12 +49,12 @@ module _ {Op : Type 0} (meanings : Meanings Op) (nodes : List (NodeFact Op)) whe
 
       pub strip-looks : (held : HeldTiles)
           → ((images : Buffers) (list : List Cached) → a.images ≡ Some images → a.cached ≡ Some list → AreRight meanings (scene_of nodes images) list
-          → IsRendered meanings nodes images a b list (pairs_needed nodes need) held)
-          → LooksUp meanings nodes (pairs_needed nodes need) applied reused a b x y
+          → AreMadeOf meanings nodes images made → IsRendered meanings nodes images a b list (pairs_needed nodes need) held)
+          → LooksUp meanings nodes (pairs_needed nodes need) applied reused a b made made' x y
       strip-looks held bytes = record {
         pairs = pairs;
         permits = spent;
-        cached = λ images list known is right. (bytes images list known is right).cached;
+        cached = λ images list known is right are. (bytes images list known is right are).cached;
       }
 
     pub strip-excused : (refused : SwapRefused) → HasSwapCause a.counts b.counts (a.counts.names + length need) refused

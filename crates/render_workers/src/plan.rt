@@ -1,4 +1,4 @@
-//! Whether a request can be rendered.
+//! Plans of requests that can be rendered.
 
 ghost use Rattle.std.specs.Prelude.{◌≡◌, ◌<◌, ◌≤◌, Bool, false, true, IfErr, IfOk, IfSome, IsErrOf, IsSome, None, OnOk, is_some, length};
 ghost use Rattle.pixel_formats.specs.Limits.{max_nodes};
@@ -15,7 +15,7 @@ use crate::refused::RenderRefused;
 use model_graphs::NodeFact;
 use op_contracts::OpKit;
 use plane_rect::{Name, Rect};
-use roi_planner::check_widths;
+use roi_planner::{StripList, plan};
 use std::alloc::Global;
 
 /// Returns the position of the first node of a name, and None where there is none. Takes time in
@@ -29,14 +29,21 @@ fn position_of<Op>(nodes: &[NodeFact<Op>], name: Name) -> Option<u32>
     Some(position as u32)
 }
 
-/// Returns the position of the node of a request, if the request can be rendered.
+/// The position of the node of a request, and the strips that the request needs, from the top.
+#[derive(Drop)]
+pub(crate) struct RequestPlan {
+    pub(crate) node: u32,
+    pub(crate) strips: StripList,
+}
+
+/// Returns the plan of a request, if it can be rendered. Takes time and memory in proportion to the needed tiles.
 ///
 /// # Errors
 ///
 /// `UnknownNode` exactly where no node has the name; `Rect` exactly where one has, and the rectangle at
 /// level 0 is not in limits; `Strip` exactly where, past these, a strip needs more tiles than the
 /// capacity; and `NoMemory` if memory runs out.
-pub(crate) fn planned_position<K: OpKit>(
+pub(crate) fn plan_of<K: OpKit>(
     kit: &K,
     alloc: Global,
     nodes: &[NodeFact<K::Op>],
@@ -44,10 +51,11 @@ pub(crate) fn planned_position<K: OpKit>(
     level: u32,
     rect: Rect,
     capacity: u32,
-) -> Result<u32, RenderRefused>
+) -> Result<RequestPlan, RenderRefused>
     requires level { level ≤ 8 }
     requires stated { AreStatedOverSome K.Op.meanings nodes.now }
-    ensures position { IfOk result (λ position. position ≡ index_of (specs_of nodes.now) node) }
+    ensures position { IfOk result (λ plan. plan.node ≡ index_of (specs_of nodes.now) node) }
+    ensures strips { IfOk result (λ plan. plan.strips ≡ strips_needed K.Op.meanings nodes.now (request node level rect)) }
     ensures there { OnOk result (has_node (specs_of nodes.now) node ≡ true) }
     ensures source { OnOk result (IsSome (scaled level rect)) }
     ensures narrow { OnOk result (wide capacity (strips_needed K.Op.meanings nodes.now (request node level rect)) ≡ None) }
@@ -62,6 +70,9 @@ pub(crate) fn planned_position<K: OpKit>(
     let Some(source) = rect.scaled(level) else {
         return Err(RenderRefused::Rect);
     };
-    check_widths(kit, alloc, nodes, position, source, capacity)?;
-    Ok(position)
+    let strips = plan(kit, alloc, nodes, position, source, capacity)?;
+    Ok(RequestPlan {
+        node: position,
+        strips,
+    })
 }

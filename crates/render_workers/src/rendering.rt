@@ -1,6 +1,6 @@
 //! Renders of requests.
 
-ghost use Rattle.std.specs.Prelude.{◌≡◌, ℕ, ◌<◌, ◌+◌, ◌≤◌, ◌^◌, ◌++◌, Bool, false, true, IfErr, IfOk, IsErrOf, IsSome, List, MatchResult, None, OnOk, Some, length};
+ghost use Rattle.std.specs.Prelude.{◌≡◌, [], ℕ, ◌<◌, ◌+◌, ◌≤◌, ◌^◌, ◌++◌, Bool, false, true, IfErr, IfOk, IsErrOf, IsSome, List, MatchResult, None, OnOk, Some, length};
 ghost use Rattle.plane_rect.specs.Rectangle.{scaled};
 ghost use Rattle.chain_owners.specs.Owners.{Owns};
 ghost use Rattle.model_images.specs.Image.{Image};
@@ -26,7 +26,7 @@ ghost use Rattle.render_workers.specs.Parts.{IsExcused, Leaves, LooksUp};
 ghost use Rattle.render_workers.specs.Refusals.{ChangesNothing, IsRefusedBy};
 ghost use Rattle.render_workers.specs.Requests.{IsShown, pairs_requested, request, strips_needed};
 
-use crate::plan::planned_position;
+use crate::plan::{RequestPlan, plan_of};
 use crate::refused::RenderRefused;
 use crate::strips::render_strips;
 use chain_owners::ChainMeaning;
@@ -89,7 +89,7 @@ fn render_planned<H: ChainMeaning, S: SourceTiles<H>, C: PairStore<H>, K: OpKit 
     kit: &K,
     alloc: Global,
     nodes: &[NodeFact<K::Op>],
-    node: u32,
+    plan: &RequestPlan,
     level: u32,
     rect: Rect,
     form: PictureForm,
@@ -106,32 +106,32 @@ where
     requires level { level ≤ 8 }
     requires source { IsSome (scaled level rect) }
     requires stated { AreStated K.Op.meanings (shapes_of_facts (S.facts sources.old)) nodes.now }
-    requires node { node < length nodes.now }
+    requires node { plan.now.node < length nodes.now }
+    requires plan { plan.now.strips ≡ need K.Op.meanings nodes.now plan.now.node (at_level_zero level rect) }
     requires over { AreOver H.ChainMeaning S.SourceTiles C.PairStore sources.old cache.old chain.old }
     requires sized { AreSizedPairs nodes.now (C.sizes cache.old (H.held chain.old)) }
     requires permits { 2 ^ 32 ≤ K.permits purse.old }
-    ensures looks { IfOk result (λ done. LooksUp K.Op.meanings nodes.now (needed_pairs (specs_of nodes.now) (need K.Op.meanings nodes.now node (at_level_zero level rect))) done.applied done.reused
+    ensures looks { IfOk result (λ done. LooksUp K.Op.meanings nodes.now (needed_pairs (specs_of nodes.now) plan.now.strips) done.applied done.reused
         (moment H.ChainMeaning S.SourceTiles C.PairStore sources.old cache.old chain.old)
         (moment H.ChainMeaning S.SourceTiles C.PairStore sources.new cache.new chain.new)
-        (K.permits purse.old) (K.permits purse.new)) }
+        [] [] (K.permits purse.old) (K.permits purse.new)) }
     ensures rect { IfOk result (λ done. picture_box done.picture ≡ rect) }
-    ensures format { IfOk result (λ done. picture_format done.picture ≡ (shape_at nodes.now node).format) }
+    ensures format { IfOk result (λ done. picture_format done.picture ≡ (shape_at nodes.now plan.now.node).format) }
     ensures image { (images : Buffers) → S.images sources.old (H.held chain.old) ≡ Some images →
         AreKnownRight K.Op.meanings nodes.now images (C.cached cache.old (H.held chain.old)) →
-        IfOk result (λ done. Shows (level_of (image_at K.Op.meanings nodes.now images node) level) rect done.picture) }
+        IfOk result (λ done. Shows (level_of (image_at K.Op.meanings nodes.now images plan.now.node) level) rect done.picture) }
     ensures patch { form ≡ PictureForm.Patch → IfOk result (λ done. is_patch done.picture ≡ true) }
-    ensures leaves { Leaves K.Op.meanings nodes.now (needed_pairs (specs_of nodes.now) (need K.Op.meanings nodes.now node (at_level_zero level rect)))
+    ensures leaves { Leaves K.Op.meanings nodes.now (needed_pairs (specs_of nodes.now) plan.now.strips)
         (moment H.ChainMeaning S.SourceTiles C.PairStore sources.old cache.old chain.old)
         (moment H.ChainMeaning S.SourceTiles C.PairStore sources.new cache.new chain.new)
-        (K.permits purse.old) (K.permits purse.new) }
+        [] [] (K.permits purse.old) (K.permits purse.new) }
     ensures over { AreOver H.ChainMeaning S.SourceTiles C.PairStore sources.new cache.new chain.new }
     ensures valid { H.is_valid chain.old → H.is_valid chain.new }
-    ensures excused { IfErr result (IsExcused (needed_pairs (specs_of nodes.now) (need K.Op.meanings nodes.now node (at_level_zero level rect)))
+    ensures excused { IfErr result (IsExcused (needed_pairs (specs_of nodes.now) plan.now.strips)
         (moment H.ChainMeaning S.SourceTiles C.PairStore sources.old cache.old chain.old)
         (moment H.ChainMeaning S.SourceTiles C.PairStore sources.new cache.new chain.new)) }
 {
-    let source = rect.scaled(level).unwrap();
-    let mut strips = no_strips(alloc, nodes, node, level, rect, form)?;
+    let mut strips = no_strips(alloc, nodes, plan.node, level, rect, form)?;
     let counts = render_strips(
         kit,
         alloc,
@@ -141,8 +141,8 @@ where
         chain,
         purse,
         &mut strips,
-        node,
-        source,
+        plan.node,
+        plan.strips.as_slice(),
         workers,
     )?;
     let picture = strips.finish(alloc)?;
@@ -239,9 +239,9 @@ where
         (moment H.ChainMeaning S.SourceTiles C.PairStore sources.old cache.old chain.old)
         (pairs_requested K.Op.meanings nodes.now (request node level rect))))) }
 {
-    let position = planned_position(kit, alloc, nodes, node, level, rect, capacity)?;
+    let plan = plan_of(kit, alloc, nodes, node, level, rect, capacity)?;
     let done = render_planned(
-        kit, alloc, nodes, position, level, rect, form, sources, cache, chain, purse, workers,
+        kit, alloc, nodes, &plan, level, rect, form, sources, cache, chain, purse, workers,
     )?;
     Ok(done)
 }

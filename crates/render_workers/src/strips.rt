@@ -1,6 +1,6 @@
 //! The strips of a request, one after another.
 
-ghost use Rattle.std.specs.Prelude.{◌≡◌, ℕ, ◌<◌, ◌≤◌, ◌^◌, IfErr, IfOk, OnOk, Some, length};
+ghost use Rattle.std.specs.Prelude.{◌≡◌, [], ℕ, ◌<◌, ◌≤◌, ◌^◌, IfErr, IfOk, OnOk, Some, length};
 ghost use Rattle.plane_rect.specs.Rectangle.{InLimits};
 ghost use Rattle.model_graphs.specs.Evaluation.{Buffers};
 ghost use Rattle.model_graphs.specs.Facts.{shapes_of_facts, specs_of};
@@ -19,16 +19,15 @@ use chain_owners::ChainMeaning;
 use model_graphs::NodeFact;
 use node_cache::PairStore;
 use op_contracts::{OpKit, SourceTiles};
-use plane_rect::Rect;
-use roi_planner::{all_inputs, strip_rects};
+use roi_planner::{Strip, all_inputs};
 use std::alloc::Global;
 use std::thread::Threads;
 use strip_patches::PictureStrips;
-use strip_renders::Evaluator;
+use strip_renders::{AheadTiles, Evaluator};
 use swap_store::SwapRefused;
 use worker_pieces::Workers;
 
-/// Renders the strips of a request for the node at a position, from the top, and adds each to the
+/// Renders the strips of a request for the node at a position, which are its plan, from the top, and adds each to the
 /// picture of the request. Returns how many of the needed tiles were evaluated and how many the cache had.
 ///
 /// # Errors
@@ -50,7 +49,7 @@ pub(crate) fn render_strips<
     purse: &mut K::Purse,
     strips: &mut PictureStrips,
     node: u32,
-    request: Rect,
+    plan: &[Strip],
     workers: Workers<'_, R>,
 ) -> Result<LookCounts, SwapRefused>
 where
@@ -59,45 +58,46 @@ where
     R: Threads + Sync,
     requires stated { AreStated K.Op.meanings (shapes_of_facts (S.facts sources.old)) nodes.now }
     requires node { node < length nodes.now }
-    requires limits { InLimits request }
-    requires source { request ≡ source_in strips.old }
+    requires plan { plan.now ≡ need K.Op.meanings nodes.now node (source_in strips.old) }
+    requires limits { InLimits (source_in strips.old) }
     requires format { format_in strips.old ≡ (shape_at nodes.now node).format }
     requires over { AreOver H.ChainMeaning S.SourceTiles C.PairStore sources.old cache.old chain.old }
     requires sized { AreSizedPairs nodes.now (C.sizes cache.old (H.held chain.old)) }
-    requires few { length (needed_pairs (specs_of nodes.now) (need K.Op.meanings nodes.now node request)) < 2 ^ 32 }
+    requires few { length (needed_pairs (specs_of nodes.now) plan.now) < 2 ^ 32 }
     requires permits { 2 ^ 32 ≤ K.permits purse.old }
-    ensures looks { IfOk result (λ counts. LooksUp K.Op.meanings nodes.now (needed_pairs (specs_of nodes.now) (need K.Op.meanings nodes.now node request)) counts.applied counts.reused
+    ensures looks { IfOk result (λ counts. LooksUp K.Op.meanings nodes.now (needed_pairs (specs_of nodes.now) plan.now) counts.applied counts.reused
         (moment H.ChainMeaning S.SourceTiles C.PairStore sources.old cache.old chain.old)
         (moment H.ChainMeaning S.SourceTiles C.PairStore sources.new cache.new chain.new)
-        (K.permits purse.old) (K.permits purse.new)) }
+        [] [] (K.permits purse.old) (K.permits purse.new)) }
     ensures request { AreOfOneRequest strips.old strips.new }
     ensures image { (images : Buffers) → S.images sources.old (H.held chain.old) ≡ Some images →
         AreKnownRight K.Op.meanings nodes.now images (C.cached cache.old (H.held chain.old)) →
         HasStripsOf (image_at K.Op.meanings nodes.now images node) 0 strips.old →
-        OnOk result (HasStripsOf (image_at K.Op.meanings nodes.now images node) (length (strip_rectangles request)) strips.new) }
-    ensures leaves { Leaves K.Op.meanings nodes.now (needed_pairs (specs_of nodes.now) (need K.Op.meanings nodes.now node request))
+        OnOk result (HasStripsOf (image_at K.Op.meanings nodes.now images node) (length (strip_rectangles (source_in strips.old))) strips.new) }
+    ensures leaves { Leaves K.Op.meanings nodes.now (needed_pairs (specs_of nodes.now) plan.now)
         (moment H.ChainMeaning S.SourceTiles C.PairStore sources.old cache.old chain.old)
         (moment H.ChainMeaning S.SourceTiles C.PairStore sources.new cache.new chain.new)
-        (K.permits purse.old) (K.permits purse.new) }
+        [] [] (K.permits purse.old) (K.permits purse.new) }
     ensures over { AreOver H.ChainMeaning S.SourceTiles C.PairStore sources.new cache.new chain.new }
     ensures valid { H.is_valid chain.old → H.is_valid chain.new }
-    ensures excused { IfErr result (IsExcused (needed_pairs (specs_of nodes.now) (need K.Op.meanings nodes.now node request))
+    ensures excused { IfErr result (IsExcused (needed_pairs (specs_of nodes.now) plan.now)
         (moment H.ChainMeaning S.SourceTiles C.PairStore sources.old cache.old chain.old)
         (moment H.ChainMeaning S.SourceTiles C.PairStore sources.new cache.new chain.new)) }
 {
     let inputs = all_inputs(alloc, nodes)?;
-    let rects = strip_rects(alloc, &request)?;
     let by = Evaluator {
         kit,
         alloc,
         nodes,
         inputs: inputs.as_slice(),
     };
+    let mut ahead = AheadTiles::new(alloc);
     let mut applied = 0;
     let mut reused = 0;
-    for rect in &rects {
+    for (index, strip) in plan.iter().enumerate() {
+        let later = &plan[index + 1..];
         let counts = add_part(
-            &by, node, *rect, sources, cache, chain, purse, strips, workers,
+            &by, node, strip, later, sources, cache, chain, purse, strips, workers, &mut ahead,
         )?;
         applied += counts.applied;
         reused += counts.reused;

@@ -11,8 +11,8 @@ mod strips;
 
 pub use inputs::{NodeInputs, all_inputs};
 pub use model_states::{NeedList, Strip};
-pub use need::{strip_need, strip_of};
-pub use planning::{check_widths, plan, strip_rects};
+pub use need::strip_need;
+pub use planning::{plan, strip_rects};
 pub use refused::PlanRefused;
 pub use region::tile_part;
 pub use strips::StripList;

@@ -48,7 +48,7 @@ pub fn strip_need<K: OpKit>(
 /// # Errors
 ///
 /// `NoMemory` if memory runs out.
-pub fn strip_of<K: OpKit>(
+pub(crate) fn strip_of<K: OpKit>(
     kit: &K,
     alloc: Global,
     nodes: &[NodeFact<K::Op>],

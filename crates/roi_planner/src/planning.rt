@@ -50,33 +50,6 @@ pub fn plan<K: OpKit>(
     Ok(StripList::new(strips))
 }
 
-/// Tests whether each strip of a request needs at most as many tiles as the capacity. It keeps one
-/// strip at a time, and takes the time of [`plan`].
-///
-/// # Errors
-///
-/// As [`plan`].
-pub fn check_widths<K: OpKit>(
-    kit: &K,
-    alloc: Global,
-    nodes: &[NodeFact<K::Op>],
-    node: u32,
-    rect: Rect,
-    capacity: u32,
-) -> Result<(), PlanRefused>
-    requires known { node < length nodes.now }
-    requires stated { AreStatedOverSome K.Op.meanings nodes.now }
-    ensures narrow { OnOk result (wide capacity (need K.Op.meanings nodes.now node rect) ≡ None) }
-    ensures refused { IfErr result (AreRefused capacity (need K.Op.meanings nodes.now node rect)) }
-{
-    let inputs = all_inputs(alloc, nodes)?;
-    for rect in &strip_rects(alloc, &rect)? {
-        let strip = strip_of(kit, alloc, nodes, &inputs, node, *rect)?;
-        check_strip(&strip, capacity)?;
-    }
-    Ok(())
-}
-
 /// Tests whether a strip needs at most as many tiles as the capacity.
 fn check_strip(strip: &Strip, capacity: u32) -> Result<(), PlanRefused>
     requires { length strip.now.need < 2 ^ 32 }

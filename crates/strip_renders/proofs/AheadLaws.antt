@@ -36,6 +36,11 @@ found-none nodes pairs needed (Some bytes) is there =
     let wrong : false ≡ true = sym (ap is_some is.absent) ∙ there in
     absurd (cc wrong)
 
+-- no look-up gives a permit back
+pub permitted-few : (old new : ℕ) (made : Option (List ℕ)) (found : Bool) → IsPermitted old new made found → new ≤ old
+permitted-few old new made true same = omega (arith, same.0)
+permitted-few old new made false spent = omega (arith, spent, permits-few made)
+
 pub permitted-refused : (old new : ℕ) (made : Option (List ℕ)) (found : Bool) → IsPermitted old new made found → IsRefusedAt old new made
 permitted-refused old new made true same = (omega (arith, same.0), omega (arith, same.0, same.1))
 permitted-refused old new made false spent = refused-after old new made spent
@@ -108,14 +113,23 @@ pub all-under : {X Y : Type 0} (P : Y → Type 0) (f : X → Y) (xs : List X) �
 all-under P f [] all = tt
 all-under P f (x ∷ xs) all = (all.0, all-under P f xs all.1)
 
--- no key is equal to one after it
-pub apart-after : {X K : Type 0} (e : K → K → Bool) (f : X → K) (xs : List X) (i : ℕ) (x : X) → IsDistinct e (map f xs) → slice_get xs i ≡ Some x
-    → AllByRecursion (λ (y : X). e (f x) (f y) ≡ false) (drop (suc i) xs)
-unfolding IsDistinct
-apart-after e f [] i x apart found = absurd (cc found)
-apart-after {X = X} e f (z ∷ xs) zero x apart found =
-    subst (λ (w : X). AllByRecursion (λ (y : X). e (f w) (f y) ≡ false) xs) (same_Some z x found) (all-mapped (λ k. e (f z) k ≡ false) f xs apart.0)
-apart-after e f (z ∷ xs) (suc i) x apart found = apart-after e f xs i x apart.1 found
+-- keys of which none is equal to one after it: none, one more, and so the first and the others
+module _ {X K : Type 0} (e : K → K → Bool) (f : X → K) where
+  pub distinct-none : IsDistinct e (map f [])
+  unfolding IsDistinct
+  distinct-none = tt
+
+  pub distinct-more : (x : X) (xs : List X) → AllByRecursion (λ (y : X). e (f x) (f y) ≡ false) xs → IsDistinct e (map f xs) → IsDistinct e (map f (x ∷ xs))
+  unfolding IsDistinct
+  distinct-more x xs apart others = (all-under (λ k. e (f x) k ≡ false) f xs apart, others)
+
+  pub distinct-apart : (x : X) (xs : List X) → IsDistinct e (map f (x ∷ xs)) → AllByRecursion (λ (y : X). e (f x) (f y) ≡ false) xs
+  unfolding IsDistinct
+  distinct-apart x xs apart = all-mapped (λ k. e (f x) k ≡ false) f xs apart.0
+
+  pub distinct-others : (x : X) (xs : List X) → IsDistinct e (map f (x ∷ xs)) → IsDistinct e (map f xs)
+  unfolding IsDistinct
+  distinct-others x xs apart = apart.1
 
 -- ---- pairs that are not cached
 
@@ -201,8 +215,8 @@ module _ (needed : Needed) (rest : List Needed) (old new : MadeTiles) where
   taken-count None taken = let count = ap length taken.0 in omega (arith, count)
 
 module _ {Op : Type 0} (nodes : List (NodeFact Op)) (needed : Needed) (rest : List Needed) (old new : MadeTiles) (made : Option (List ℕ)) (taken : IsTaken old new needed made) where
-  pub taken-made : (pairs : List Pair) → AreAhead nodes pairs (needed ∷ rest) old → IsMade nodes pairs needed made
-  taken-made pairs are = record {
+  pub taken-made : (pairs : List Pair) (first : List Needed) → AreAhead nodes pairs first old → IsMade nodes pairs needed made
+  taken-made pairs first are = record {
     absent = taken-own needed rest old new (λ (m : Needed × List ℕ). IsAbsent nodes pairs m.0) made taken are.absent;
     length = taken-own needed rest old new (λ (m : Needed × List ℕ). length m.1 ≡ length_at nodes m.0.0) made taken are.lengths;
   }

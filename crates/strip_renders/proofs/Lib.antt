@@ -8,5 +8,7 @@ pub mod Turning
 pub mod Names
 pub mod AheadLaws
 pub mod JobLists
+pub mod Nexts
+pub mod Rows
 pub mod Batches
 pub mod TurnLaws

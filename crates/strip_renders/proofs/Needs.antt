@@ -26,7 +26,8 @@ use Rattle.model_states.proofs.NeedLaws.{need_distinct}
 use Rattle.model_states.proofs.Serves.{need_serves}
 use Rattle.node_tiles.specs.Held.{HeldTiles}
 use Rattle.node_tiles.specs.Stated.{IsReady}
-use Rattle.strip_renders.specs.Ahead.{AreOfOneNode, AreReady}
+use Rattle.strip_renders.specs.Ahead.{AreReady}
+use Rattle.strip_renders.specs.Batches.{AreOfOneNode}
 use Rattle.strip_renders.specs.Strips.{HoldsNeed, IsStripOf}
 
 -- ---- lists
@@ -42,7 +43,7 @@ get-before [] (suc n) k x less found = absurd (cc found)
 get-before (first ∷ xs) (suc n) zero x less found = found
 get-before (first ∷ xs) (suc n) (suc k) x less found = get-before xs n k x (omega (arith, less)) found
 
-all-both : {X : Type 0} (P : X → Type 0) (xs ys : List X) → AllByRecursion P xs → AllByRecursion P ys → AllByRecursion P (xs ++ ys)
+pub all-both : {X : Type 0} (P : X → Type 0) (xs ys : List X) → AllByRecursion P xs → AllByRecursion P ys → AllByRecursion P (xs ++ ys)
 all-both P [] ys p q = q
 all-both P (x ∷ xs) ys p q = (p.0, all-both P xs ys p.1 q)
 

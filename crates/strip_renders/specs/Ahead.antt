@@ -1,15 +1,16 @@
 -- Tiles that were made ahead of their turn.
-use Rattle.std.specs.Prelude.{◌≡◌, ℕ, ◌+◌, ◌<◌, ◌≤◌, ⊤, ◌⊎◌, Bool, true, false, IfSome, List, [], ◌∷◌, length, map, None, Option, Some, slice_get}
-use Rattle.std.specs.List.{AllByRecursion}
+use Rattle.std.specs.Prelude.{◌≡◌, ℕ, ◌+◌, ◌++◌, ◌≤◌, ⊤, ◌⊎◌, Bool, true, false, IfSome, List, [], ◌∷◌, length, map, None, Option, Some}
+use Rattle.std.specs.List.{AllByRecursion, IsDistinct}
 use Rattle.model_graphs.specs.declared.node.NodeFact.{NodeFact}
 use Rattle.model_graphs.specs.Evaluation.{Buffers}
 use Rattle.model_graphs.specs.Facts.{specs_of}
 use Rattle.model_graphs.specs.Meanings.{Meanings}
-use Rattle.model_states.specs.Cache.{Pair, find_pair, itself, pair_of}
+use Rattle.model_states.specs.Cache.{Pair, find_pair, itself, pair_of, same_pair}
 use Rattle.model_states.specs.Need.{Needed}
 use Rattle.node_tiles.specs.Held.{HeldTiles}
 use Rattle.node_tiles.specs.Jobs.{IsTileJob, Job, job_bytes}
 use Rattle.node_tiles.specs.Stated.{IsReady, bytes_at, length_at}
+use Rattle.strip_renders.specs.Strips.{pairs_needed}
 
 -- the elements of one list are in another, in their order
 abbrev pub IsSublist : {X : Type 0} → List X → List X → Type 0
@@ -24,11 +25,6 @@ IsAbsent nodes pairs needed = find_pair itself pairs (pair_of (specs_of nodes) n
 -- each of these tiles may be evaluated
 abbrev pub AreReady : {Op : Type 0} → Meanings Op → List (NodeFact Op) → HeldTiles → List Needed → Type 0
 AreReady meanings nodes held list = AllByRecursion (λ (needed : Needed). IsReady meanings nodes held needed.0 needed.1) list
-
--- Those from an index to another are tiles of one node.
-pub record AreOfOneNode (list : List Needed) (index end : ℕ) : Type 0 where
-  pub node : ℕ
-  pub each : (k : ℕ) (needed : Needed) → index ≤ k → k < end → slice_get list k ≡ Some needed → needed.0 ≡ node
 
 -- ---- jobs
 
@@ -65,6 +61,14 @@ pub record AreAhead {Op : Type 0} (nodes : List (NodeFact Op)) (pairs : List Pai
   pub among : IsSublist (needed_in made) needed
   pub absent : AllByRecursion (λ (m : Needed × List ℕ). IsAbsent nodes pairs m.0) made
   pub lengths : AllByRecursion (λ (m : Needed × List ℕ). length m.1 ≡ length_at nodes m.0.0) made
+
+-- They are of the first of the tiles that are needed from now on, of which none is needed twice.
+pub record AreNext {Op : Type 0} (nodes : List (NodeFact Op)) (pairs : List Pair) (needed : List Needed) (made : MadeTiles) : Type 0 where
+  pub first : List Needed
+  pub others : List Needed
+  pub parts : needed ≡ first ++ others
+  pub once : IsDistinct same_pair (pairs_needed nodes first)
+  pub ahead : AreAhead nodes pairs first made
 
 -- Over these images each is the tile of its node's image.
 abbrev pub AreMadeOf : {Op : Type 0} → Meanings Op → List (NodeFact Op) → Buffers → MadeTiles → Type 0

@@ -2,3 +2,4 @@ pub mod Moments
 pub mod Strips
 pub mod Looks
 pub mod Ahead
+pub mod Batches

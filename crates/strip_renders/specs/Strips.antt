@@ -1,5 +1,5 @@
 -- What a strip of a render does to a list of cached pairs, and what it holds.
-use Rattle.std.specs.Prelude.{◌≡◌, ℕ, ◌+◌, ◌-◌, min, IsSome, List, length, map, None, Option, Some, slice_get}
+use Rattle.std.specs.Prelude.{◌≡◌, ℕ, ◌+◌, ◌-◌, ◌++◌, min, IsSome, List, drop, flat_map, length, map, None, Option, Some, slice_get}
 use Rattle.std.specs.List.{AllByRecursion, Contains}
 use Rattle.indexmap.specs.IndexMap.{insert_entry}
 use Rattle.plane_rect.specs.Rectangle.{Rectangle}
@@ -26,6 +26,14 @@ pub record AreStatedWith {Op : Type 0} (meanings : Meanings Op) (buffers : Facts
 -- the strip is one of those of a request for some node
 abbrev pub IsStripOf : {Op : Type 0} → Meanings Op → List (NodeFact Op) → Strip → Type 0
 IsStripOf meanings facts strip = (node : ℕ) × (request : Rectangle) × Contains (need meanings facts node request) strip
+
+-- what strips need, one after another
+abbrev pub needs_of : List Strip → List Needed
+needs_of strips = flat_map (λ (strip : Strip). strip.need) strips
+
+-- what is needed from an index of a strip on, and of the strips after it
+abbrev pub needed_from : Strip → List Strip → ℕ → List Needed
+needed_from strip later index = drop index strip.need ++ needs_of later
 
 -- the pairs of needed tiles, in their order
 abbrev pub pairs_needed : {Op : Type 0} → List (NodeFact Op) → List Needed → List Pair

@@ -1,13 +1,15 @@
-//! Tiles of a node that are made ahead of their turn, by several workers.
+//! Tiles of nodes that are made ahead of their turn, by several workers.
 
-ghost use Rattle.std.specs.Prelude.{◌≡◌, ℕ, ◌+◌, ◌<◌, ◌≤◌, [], IfErr, IfOk, IsTrue, MatchResult, Some, drop, length, take};
+ghost use Rattle.std.specs.Prelude.{◌≡◌, ℕ, ◌+◌, ◌<◌, ◌≤◌, [], IfErr, IfOk, IsTrue, MatchResult, Some, length, take};
+ghost use Rattle.std.specs.List.{AllByRecursion};
 ghost use Rattle.model_graphs.specs.Evaluation.{Buffers};
 ghost use Rattle.swap_store.specs.Cause.{HasSwapCause};
 ghost use Rattle.node_tiles.specs.Reads.{Reads, seen};
 ghost use Rattle.node_tiles.specs.Stated.{AreTilesOf};
-ghost use Rattle.strip_renders.specs.Ahead.{AreAhead, AreMadeOf, AreOfOneNode, IsTaken};
-ghost use Rattle.strip_renders.specs.Strips.{AreStatedWith, HoldsNeed, IsStripOf};
+ghost use Rattle.strip_renders.specs.Ahead.{AreMadeOf, AreNext, IsTaken};
+ghost use Rattle.strip_renders.specs.Strips.{AreStatedWith, HoldsNeed, IsStripOf, needed_from};
 
+use crate::batch::batch_of;
 use crate::evaluator::Evaluator;
 use crate::jobs::{apply_jobs, tile_jobs};
 use chain_owners::ChainMeaning;
@@ -24,16 +26,13 @@ use swap_store::SwapRefused;
 use tile_cow::Tile;
 use worker_pieces::Workers;
 
-/// How many needed tiles a batch has at most. The windows of all its jobs are held at once, so it bounds the memory of
-/// source tiles that are read from the swap; and it is more than several workers need to be worth their threads.
-const MOST_TILES: usize = 256;
-
-/// Tiles that were made ahead of their turn, in the order of the strip's need. A clause sees them as the list of the
-/// needed tiles and their bytes.
+/// Tiles that were made ahead of their turn, in the order in which strips need them. A clause sees them as the list of
+/// the needed tiles and their bytes.
 #[derive(Drop)]
-pub(crate) struct AheadTiles {
+pub struct AheadTiles {
     tiles: VecDeque<((u32, TileAt), Tile)>,
-    end: usize,
+    /// How many needed tiles of the last batch have not had their turn.
+    waiting: usize,
 }
 
 impl Model for AheadTiles {
@@ -46,19 +45,20 @@ impl Model for AheadTiles {
 
 impl AheadTiles {
     /// Returns the list of no tile, from the first needed one on. Takes no memory.
-    pub(crate) fn new(alloc: Global) -> AheadTiles
+    pub fn new(alloc: Global) -> AheadTiles
         ensures { result ≡ [] }
     {
         AheadTiles {
             tiles: VecDeque::new(alloc),
-            end: 0,
+            waiting: 0,
         }
     }
 
-    /// Takes the tile of a needed one, if it is the first of the list.
+    /// Takes the tile of a needed one at its turn, if it is the first of the list.
     pub(crate) fn take(&mut self, node: u32, at: TileAt) -> Option<Tile>
         ensures { IsTaken self.old self.new (node, at) result }
     {
+        self.waiting = self.waiting.saturating_sub(1);
         let first = self.tiles.front()?;
         if first.0 != (node, at) {
             return None;
@@ -67,36 +67,18 @@ impl AheadTiles {
         Some(tile)
     }
 
-    /// Returns whether a new batch begins at an index: none of the tiles is left, and those of the last batch are all
-    /// before it.
-    fn is_past(&self, index: usize) -> bool
+    /// Returns whether a new batch begins: none of the tiles is left, and all needed ones of the last batch had their
+    /// turn.
+    fn is_past(&self) -> bool
         ensures { IsTrue result → self.now ≡ [] }
     {
-        self.end <= index && self.tiles.is_empty()
+        self.waiting == 0 && self.tiles.is_empty()
     }
-}
-
-/// Returns the end of the batch of needed tiles that begins at an index: of those of one node, and of no more than
-/// `MOST_TILES`.
-fn batch_end(need: &[(u32, TileAt)], index: usize) -> usize
-    requires { index < length need.now }
-    ensures after { index ≤ result }
-    ensures within { result ≤ length need.now }
-    ensures one { AreOfOneNode need.now index result }
-{
-    let node = need[index].0;
-    let most = need.len().min(index.saturating_add(MOST_TILES));
-    for end in index..most {
-        if need[end].0 != node {
-            return end;
-        }
-    }
-    most
 }
 
 /// Makes the tiles of a batch of needed ones ahead of their turn, where one begins at an index of the strip's need and
-/// there are several workers: evaluates those that the cache hasn't. The others, and all where there is one worker, are
-/// left to their turn. Spends a permit for each that it makes.
+/// there are several workers: those that the cache hasn't, of strips after this one too. The others, and all where there
+/// is one worker, are left to their turn. Spends a permit for each that it makes.
 ///
 /// # Errors
 ///
@@ -110,6 +92,7 @@ pub(crate) fn look_ahead<H: ChainMeaning, S: SourceTiles<H>, C: PairStore<H>, K:
     chain: &mut H,
     purse: &mut K::Purse,
     strip: &Strip,
+    later: &[Strip],
     index: usize,
     workers: Workers<'_, R>,
     ahead: &mut AheadTiles,
@@ -120,12 +103,13 @@ where
     R: Threads + Sync,
     requires stated { AreStatedWith K.Op.meanings (S.facts sources.old) by.now.nodes.now by.now.inputs.now }
     requires strip { IsStripOf K.Op.meanings by.now.nodes.now strip.now }
+    requires later { AllByRecursion (IsStripOf K.Op.meanings by.now.nodes.now) later.now }
     requires index { index < length strip.now.need }
     requires held { HoldsNeed by.now.nodes.now (take index strip.now.need) held.now }
     requires over { S.is_over sources.old (H.held chain.old) }
-    requires ahead { AreAhead by.now.nodes.now (C.pairs cache.now) (drop index strip.now.need) ahead.old }
-    requires permits { length strip.now.need ≤ K.permits purse.old + length ahead.old + index }
-    ensures ahead { IfOk result (λ _. AreAhead by.now.nodes.now (C.pairs cache.now) (drop index strip.now.need) ahead.new) }
+    requires ahead { AreNext by.now.nodes.now (C.pairs cache.now) (needed_from strip.now later.now index) ahead.old }
+    requires permits { length (needed_from strip.now later.now index) ≤ K.permits purse.old + length ahead.old }
+    ensures ahead { IfOk result (λ _. AreNext by.now.nodes.now (C.pairs cache.now) (needed_from strip.now later.now index) ahead.new) }
     ensures bytes { (images : Buffers) → S.images sources.old (H.held chain.old) ≡ Some images →
         AreTilesOf K.Op.meanings by.now.nodes.now images held.now → AreMadeOf K.Op.meanings by.now.nodes.now images ahead.old →
         IfOk result (λ _. AreMadeOf K.Op.meanings by.now.nodes.now images ahead.new) }
@@ -133,7 +117,7 @@ where
         (λ _. (K.permits purse.new ≤ K.permits purse.old)
         × (K.permits purse.new + length ahead.new ≡ K.permits purse.old + length ahead.old))
         (λ _. (K.permits purse.new ≤ K.permits purse.old)
-        × (K.permits purse.old + length ahead.old + index ≤ K.permits purse.new + length strip.now.need)) }
+        × (K.permits purse.old + length ahead.old ≤ K.permits purse.new + length (needed_from strip.now later.now index))) }
     ensures over { S.is_over sources.new (H.held chain.new) }
     ensures reads { Reads
         (seen (S.facts sources.old) (S.images sources.old (H.held chain.old)) (S.names sources.old) (H.held chain.old) (H.counts chain.old) (H.loans chain.old))
@@ -141,17 +125,15 @@ where
     ensures cause { IfErr result (HasSwapCause (H.counts chain.old) (H.counts chain.new) (H.counts chain.old).names) }
     ensures valid { H.is_valid chain.old → H.is_valid chain.new }
 {
-    if !workers.are_several() || !ahead.is_past(index) {
+    if !workers.are_several() || !ahead.is_past() {
         return Ok(());
     }
-    let need = strip.need.as_slice();
-    let end = batch_end(need, index);
-    let batch = &need[index..end];
-    let jobs = tile_jobs(by, held, sources, cache, chain, purse, batch)?;
+    let batch = batch_of(by, strip, later, index)?;
+    let jobs = tile_jobs(by, held, sources, cache, chain, purse, &batch)?;
     let made = apply_jobs(by.kit, by.alloc, by.nodes, by.inputs, jobs, workers)?;
     *ahead = AheadTiles {
         tiles: VecDeque::from_vec(made),
-        end,
+        waiting: batch.len(),
     };
     Ok(())
 }

@@ -3,6 +3,7 @@
 #![tactic(auto)]
 
 mod ahead;
+mod batch;
 mod evaluator;
 mod fresh;
 mod holding;
@@ -11,5 +12,6 @@ mod needed;
 mod strip;
 mod turns;
 
+pub use ahead::AheadTiles;
 pub use evaluator::Evaluator;
 pub use strip::{StripDone, render_strip};

@@ -1,14 +1,16 @@
 //! One strip of a render.
 
 ghost use Rattle.std.specs.Prelude.{◌≡◌, ℕ, ◌+◌, ◌≤◌, IfErr, IfOk, List, MatchResult, Some, length};
+ghost use Rattle.std.specs.List.{AllByRecursion};
 ghost use Rattle.model_graphs.specs.Evaluation.{Buffers};
 ghost use Rattle.model_graphs.specs.Permits.{Spent};
 ghost use Rattle.model_states.specs.Cache.{AreRight, Cached, all_looked_up, itself, uncounted};
 ghost use Rattle.swap_store.specs.Cause.{HasSwapCause};
 ghost use Rattle.node_cache.specs.Stores.{HaveOneOwner};
 ghost use Rattle.node_tiles.specs.Stated.{scene_of};
+ghost use Rattle.strip_renders.specs.Ahead.{AreMadeOf, AreNext};
 ghost use Rattle.strip_renders.specs.Moments.{AreOver, Keeps, moment};
-ghost use Rattle.strip_renders.specs.Strips.{AreKnownRight, AreSizedPairs, AreStatedWith, HoldsNeed, IsRendered, IsStripOf, counted, most_names, pairs_needed};
+ghost use Rattle.strip_renders.specs.Strips.{AreKnownRight, AreSizedPairs, AreStatedWith, HoldsNeed, IsRendered, IsStripOf, counted, most_names, needed_from, needs_of, pairs_needed};
 
 use crate::ahead::AheadTiles;
 use crate::evaluator::Evaluator;
@@ -37,14 +39,17 @@ pub struct StripDone {
 /// counts are those of the list after these pairs are looked up, also where no bytes are known.
 ///
 /// Where there are several workers, the tiles of a node that the cache hasn't are evaluated by as many of
-/// them as these tiles are worth, before the first is looked up. The result is that of one worker.
+/// them as these tiles are worth, before the first is looked up, and where only this node's are needed also those
+/// of strips after this one: these are kept ahead, with their permits, for the next call. The result is that of one
+/// worker.
 ///
 /// # Errors
 ///
 /// `SwapFault` only where the swap's count of I/O errors rose in this call, `SwapFull` only where the
 /// chain's names and one more for each needed tile can fill the swap, and, where each cached name has one
 /// owner, the names of a full cache and one more can too; and `NoMemory` if memory runs out.
-/// The cached pairs are then those of a part of the strip, and right where they were.
+/// The cached pairs are then those of a part of the strip, and right where they were, and a permit may be spent for
+/// each tile that is needed, by the strips after this one too.
 pub fn render_strip<H: ChainMeaning, S: SourceTiles<H>, C: PairStore<H>, K: OpKit + Sync, R>(
     by: &Evaluator<'_, K>,
     sources: &mut S,
@@ -52,7 +57,9 @@ pub fn render_strip<H: ChainMeaning, S: SourceTiles<H>, C: PairStore<H>, K: OpKi
     chain: &mut H,
     purse: &mut K::Purse,
     strip: &Strip,
+    later: &[Strip],
     workers: Workers<'_, R>,
+    ahead: &mut AheadTiles,
 ) -> Result<StripDone, SwapRefused>
 where
     K::Op: Sync,
@@ -62,22 +69,33 @@ where
     requires sized { AreSizedPairs by.now.nodes.now (C.sizes cache.old (H.held chain.old)) }
     requires stated { AreStatedWith K.Op.meanings (S.facts sources.old) by.now.nodes.now by.now.inputs.now }
     requires strip { IsStripOf K.Op.meanings by.now.nodes.now strip.now }
-    requires permits { length strip.now.need ≤ K.permits purse.old }
+    requires later { AllByRecursion (IsStripOf K.Op.meanings by.now.nodes.now) later.now }
+    requires ahead { AreNext by.now.nodes.now (C.pairs cache.old) (needed_from strip.now later.now 0) ahead.old }
+    requires permits { length (needed_from strip.now later.now 0) ≤ K.permits purse.old + length ahead.old }
     ensures pairs { IfOk result (λ done. counted (C.pairs cache.new) done.applied done.reused
         ≡ all_looked_up itself itself (C.capacity cache.old) (uncounted (C.pairs cache.old)) (pairs_needed by.now.nodes.now strip.now.need)) }
     ensures held { IfOk result (λ done. HoldsNeed by.now.nodes.now strip.now.need done.tiles) }
     ensures bytes { (images : Buffers) (list : List Cached) → S.images sources.old (H.held chain.old) ≡ Some images →
         C.cached cache.old (H.held chain.old) ≡ Some list → AreRight K.Op.meanings (scene_of by.now.nodes.now images) list →
+        AreMadeOf K.Op.meanings by.now.nodes.now images ahead.old →
         IfOk result (λ done. IsRendered K.Op.meanings by.now.nodes.now images
         (moment H.ChainMeaning S.SourceTiles C.PairStore sources.old cache.old chain.old)
         (moment H.ChainMeaning S.SourceTiles C.PairStore sources.new cache.new chain.new)
         list (pairs_needed by.now.nodes.now strip.now.need) done.tiles) }
     ensures right { (images : Buffers) → S.images sources.old (H.held chain.old) ≡ Some images →
         AreKnownRight K.Op.meanings by.now.nodes.now images (C.cached cache.old (H.held chain.old)) →
+        AreMadeOf K.Op.meanings by.now.nodes.now images ahead.old →
         AreKnownRight K.Op.meanings by.now.nodes.now images (C.cached cache.new (H.held chain.new)) }
     ensures sized { AreSizedPairs by.now.nodes.now (C.sizes cache.new (H.held chain.new)) }
-    ensures permits { MatchResult result (λ done. Spent (K.permits purse.old) (K.permits purse.new) done.applied)
-        (λ _. (K.permits purse.new ≤ K.permits purse.old) × (K.permits purse.old ≤ K.permits purse.new + length strip.now.need)) }
+    ensures ahead { IfOk result (λ _. AreNext by.now.nodes.now (C.pairs cache.new) (needs_of later.now) ahead.new) }
+    ensures made { (images : Buffers) → S.images sources.old (H.held chain.old) ≡ Some images →
+        AreKnownRight K.Op.meanings by.now.nodes.now images (C.cached cache.old (H.held chain.old)) →
+        AreMadeOf K.Op.meanings by.now.nodes.now images ahead.old →
+        IfOk result (λ _. AreMadeOf K.Op.meanings by.now.nodes.now images ahead.new) }
+    ensures permits { MatchResult result
+        (λ done. Spent (K.permits purse.old + length ahead.old) (K.permits purse.new + length ahead.new) done.applied)
+        (λ _. (K.permits purse.new ≤ K.permits purse.old)
+        × (K.permits purse.old + length ahead.old ≤ K.permits purse.new + length (needed_from strip.now later.now 0))) }
     ensures keeps { Keeps (length strip.now.need)
         (moment H.ChainMeaning S.SourceTiles C.PairStore sources.old cache.old chain.old)
         (moment H.ChainMeaning S.SourceTiles C.PairStore sources.new cache.new chain.new) }
@@ -92,13 +110,12 @@ where
 {
     let mut tiles = StripTiles::new(by.alloc);
     tiles.reserve(strip.need.as_slice().len())?;
-    let mut ahead = AheadTiles::new(by.alloc);
     let mut applied = 0;
     let mut reused = 0;
     for (index, entry) in strip.need.as_slice().iter().enumerate() {
         let found = hold_next(
-            by, &mut tiles, sources, cache, chain, purse, strip, index, entry.0, entry.1, workers,
-            &mut ahead,
+            by, &mut tiles, sources, cache, chain, purse, strip, later, index, entry.0, entry.1,
+            workers, ahead,
         )?;
         if found {
             reused += 1;

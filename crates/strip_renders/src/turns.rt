@@ -1,15 +1,16 @@
 //! The next needed tile of a strip, held.
 
-ghost use Rattle.std.specs.Prelude.{◌≡◌, [], ℕ, ◌∷◌, ◌+◌, ◌≤◌, IfErr, IfOk, List, MatchResult, Some, drop, length, slice_get, take};
+ghost use Rattle.std.specs.Prelude.{◌≡◌, [], ℕ, ◌∷◌, ◌+◌, ◌≤◌, IfErr, IfOk, List, MatchResult, Some, length, slice_get, take};
+ghost use Rattle.std.specs.List.{AllByRecursion};
 ghost use Rattle.model_graphs.specs.Evaluation.{Buffers};
 ghost use Rattle.model_graphs.specs.Facts.{specs_of};
 ghost use Rattle.model_states.specs.Cache.{AreRight, Cached, pair_of};
 ghost use Rattle.swap_store.specs.Cause.{HasSwapCause};
 ghost use Rattle.node_tiles.specs.Stated.{AreTilesOf, scene_of};
-ghost use Rattle.strip_renders.specs.Ahead.{AreAhead, AreMadeOf, IsSpentFor};
+ghost use Rattle.strip_renders.specs.Ahead.{AreMadeOf, AreNext, IsSpentFor};
 ghost use Rattle.strip_renders.specs.Looks.{IsRecent};
 ghost use Rattle.strip_renders.specs.Moments.{AreOver, Keeps, moment};
-ghost use Rattle.strip_renders.specs.Strips.{AreKnownRight, AreSizedPairs, AreStatedWith, HoldsNeed, IsRendered, IsStripOf};
+ghost use Rattle.strip_renders.specs.Strips.{AreKnownRight, AreSizedPairs, AreStatedWith, HoldsNeed, IsRendered, IsStripOf, needed_from};
 
 use crate::ahead::{AheadTiles, look_ahead};
 use crate::evaluator::Evaluator;
@@ -32,7 +33,8 @@ use worker_pieces::Workers;
 ///
 /// `SwapFault` only where the swap's count of I/O errors rose in this call, `SwapFull` only where the
 /// chain's names and one more can fill the swap, and `NoMemory` if memory runs out. The cached pairs are
-/// then right where they were, and a permit may be spent for each tile that is needed from the index on.
+/// then right where they were, and a permit may be spent for each tile that is needed from the index on, by the strips
+/// after this one too.
 pub(crate) fn hold_next<H: ChainMeaning, S: SourceTiles<H>, C: PairStore<H>, K: OpKit + Sync, R>(
     by: &Evaluator<'_, K>,
     tiles: &mut StripTiles,
@@ -41,6 +43,7 @@ pub(crate) fn hold_next<H: ChainMeaning, S: SourceTiles<H>, C: PairStore<H>, K: 
     chain: &mut H,
     purse: &mut K::Purse,
     strip: &Strip,
+    later: &[Strip],
     index: usize,
     node: u32,
     at: TileAt,
@@ -53,12 +56,13 @@ where
     R: Threads + Sync,
     requires stated { AreStatedWith K.Op.meanings (S.facts sources.old) by.now.nodes.now by.now.inputs.now }
     requires strip { IsStripOf K.Op.meanings by.now.nodes.now strip.now }
+    requires later { AllByRecursion (IsStripOf K.Op.meanings by.now.nodes.now) later.now }
     requires entry { slice_get strip.now.need index ≡ Some (node, at) }
     requires held { HoldsNeed by.now.nodes.now (take index strip.now.need) tiles.old }
     requires over { AreOver H.ChainMeaning S.SourceTiles C.PairStore sources.old cache.old chain.old }
     requires sized { AreSizedPairs by.now.nodes.now (C.sizes cache.old (H.held chain.old)) }
-    requires ahead { AreAhead by.now.nodes.now (C.pairs cache.old) (drop index strip.now.need) ahead.old }
-    requires permits { length strip.now.need ≤ K.permits purse.old + length ahead.old + index }
+    requires ahead { AreNext by.now.nodes.now (C.pairs cache.old) (needed_from strip.now later.now index) ahead.old }
+    requires permits { length (needed_from strip.now later.now index) ≤ K.permits purse.old + length ahead.old }
     ensures held { IfOk result (λ _. HoldsNeed by.now.nodes.now (take (index + 1) strip.now.need) tiles.new) }
     ensures recent { IfOk result (λ found. IsRecent
         (moment H.ChainMeaning S.SourceTiles C.PairStore sources.old cache.old chain.old)
@@ -76,14 +80,15 @@ where
         AreKnownRight K.Op.meanings by.now.nodes.now images (C.cached cache.old (H.held chain.old)) →
         AreKnownRight K.Op.meanings by.now.nodes.now images (C.cached cache.new (H.held chain.new)) }
     ensures sized { AreSizedPairs by.now.nodes.now (C.sizes cache.new (H.held chain.new)) }
-    ensures ahead { IfOk result (λ _. AreAhead by.now.nodes.now (C.pairs cache.new) (drop (index + 1) strip.now.need) ahead.new) }
+    ensures ahead { IfOk result (λ _. AreNext by.now.nodes.now (C.pairs cache.new) (needed_from strip.now later.now (index + 1)) ahead.new) }
     ensures made { (images : Buffers) → S.images sources.old (H.held chain.old) ≡ Some images →
         AreTilesOf K.Op.meanings by.now.nodes.now images tiles.old → AreMadeOf K.Op.meanings by.now.nodes.now images ahead.old →
         IfOk result (λ _. AreMadeOf K.Op.meanings by.now.nodes.now images ahead.new) }
     ensures permits { MatchResult result
-        (IsSpentFor (K.permits purse.old + length ahead.old) (K.permits purse.new + length ahead.new))
+        (λ found. (K.permits purse.new ≤ K.permits purse.old)
+        × IsSpentFor (K.permits purse.old + length ahead.old) (K.permits purse.new + length ahead.new) found)
         (λ _. (K.permits purse.new ≤ K.permits purse.old)
-        × (K.permits purse.old + length ahead.old + index ≤ K.permits purse.new + length strip.now.need)) }
+        × (K.permits purse.old + length ahead.old ≤ K.permits purse.new + length (needed_from strip.now later.now index))) }
     ensures keeps { Keeps 1
         (moment H.ChainMeaning S.SourceTiles C.PairStore sources.old cache.old chain.old)
         (moment H.ChainMeaning S.SourceTiles C.PairStore sources.new cache.new chain.new) }
@@ -92,7 +97,7 @@ where
     ensures cause { IfErr result (HasSwapCause (H.counts chain.old) (H.counts chain.new) ((H.counts chain.old).names + 1)) }
 {
     look_ahead(
-        by, tiles, sources, cache, chain, purse, strip, index, workers, ahead,
+        by, tiles, sources, cache, chain, purse, strip, later, index, workers, ahead,
     )?;
     let made = ahead.take(node, at);
     hold_needed(by, tiles, sources, cache, chain, purse, node, at, made)

@@ -4,7 +4,7 @@ use graph_commits::Graph;
 use model_states::Strip;
 use op_contracts::OpKit;
 use plane_rect::Rect;
-use roi_planner::{PlanRefused, StripList, check_widths, plan, strip_need};
+use roi_planner::{PlanRefused, StripList, plan, strip_need};
 use std::alloc::Global;
 use std::process::Abort;
 
@@ -23,7 +23,6 @@ pub(crate) fn planned<K: OpKit>(
 ) -> Result<StripList, PlanRefused> {
     let nodes = graph.nodes();
     assert!(rt; (node as usize) < nodes.len());
-    check_widths(kit, alloc, nodes, node, rect, capacity)?;
     plan(kit, alloc, nodes, node, rect, capacity)
 }
 

@@ -1,31 +1,38 @@
-use Rattle.std.proofs.Common.{◌≡◌, ℕ, suc, ◌+◌, ◌^◌, ◌<◌, ◌++◌, List, take, drop, length, refl, sym, ap, ◌∙◌, subst, arith}
+use Rattle.std.proofs.Common.{◌≡◌, [], ℕ, ◌+◌, ◌-◌, ◌^◌, ◌<◌, ◌≤◌, ◌++◌, List, take, drop, length, refl, sym, ap, ◌∙◌, subst, arith}
 use Rattle.std.specs.Prelude.{slice_get, Some}
+use Rattle.std.proofs.lemmas.List.{drop_all, length-map, take_all}
 use Rattle.model_graphs.specs.declared.node.NodeFact.{NodeFact}
-use Rattle.model_graphs.specs.Facts.{specs_of}
 use Rattle.model_graphs.specs.Meanings.{Meanings}
-use Rattle.model_states.specs.Cache.{Pair, needed_pairs}
-use Rattle.model_states.specs.Need.{need, strip_of, strip_rectangles}
+use Rattle.model_states.specs.declared.strip.Strip.{Strip}
+use Rattle.model_states.specs.Cache.{Pair}
+use Rattle.model_states.specs.Need.{strip_of, strip_rectangles}
 use Rattle.plane_rect.specs.Rectangle.{Rectangle}
 use Rattle.roi_planner.proofs.Widths.{handed-on}
+use Rattle.strip_renders.specs.Ahead.{AreNext, MadeTiles}
 use Rattle.strip_renders.specs.Moments.{Moment, moment}
-use Rattle.strip_renders.specs.Strips.{pairs_needed}
+use Rattle.strip_renders.specs.Strips.{needs_of, pairs_needed}
 use Rattle.strip_patches.specs.Nodes.{image_at}
 use Rattle.strip_patches.specs.Shown.{HasStripsOf, source_in}
 use Rattle.render_workers.specs.Parts.{IsExcused, Leaves, LooksUp}
-use Rattle.render_workers.proofs.Joined.{excused-later, leaves-both, leaves-more, leaves-none, looks-both, looks-none}
-use Rattle.render_workers.proofs.Needs.{pairs-more, pairs_of}
-use Rattle.render_workers.proofs.Turns.{item-found, item-limits, item-parts, item-permits, item-strip, of-one, sums-small}
+use Rattle.strip_renders.proofs.Nexts.{next-none}
+use Rattle.render_workers.proofs.Joined.{excused-later, leaves-both, leaves-none, looks-both, looks-none}
+use Rattle.render_workers.proofs.Needs.{later-is, needs-from, pairs-from, pairs-more, pairs-parted, pairs_of}
+use Rattle.render_workers.proofs.Turns.{item-found, item-limits, item-permits, item-rect, item-strip, next-past, of-one, strips-later, sums-small}
 use Rattle.render_workers.proofs.strips.render_strips.Given
-use Rattle.render_workers.proofs.strips.render_strips.Goals.{After-add_part, After-rect-item}
+use Rattle.render_workers.proofs.strips.render_strips.Goals.{After-add_part, After-index-plan-index, After-loop-index}
 use Rattle.render_workers.proofs.strips.render_strips.Goals as goal
 
-pub loop-rect-init : goal.loop-rect-init
-loop-rect-init g c =
+pub loop-index-init : goal.loop-index-init
+loop-index-init g c =
+    let meanings = g.K.Op.OpMeaning.meanings in
+    let nodes = c.args.nodes.now in
     let first = moment g.H.ChainMeaning g.S.SourceTiles g.C.PairStore c.args.sources.now c.args.cache.now c.args.chain.now in
     let permits = g.K.OpKit.permits c.args.purse.now in
+    let none = sym c.new-ahead.ensures in
     record {
-      looks = looks-none g.K.Op.OpMeaning.meanings c.args.nodes.now first permits;
-      leaves = leaves-none g.K.Op.OpMeaning.meanings c.args.nodes.now first permits;
+      looks = subst (λ (made : MadeTiles). LooksUp meanings nodes [] 0 0 first first [] made permits permits) none (looks-none meanings nodes first [] permits);
+      leaves = subst (λ (made : MadeTiles). Leaves meanings nodes [] first first [] made permits permits) none (leaves-none meanings nodes first [] permits);
+      ahead = next-none nodes first.pairs (needs_of c.args.plan.now) c.new-ahead.result c.new-ahead.ensures;
       over = c.requires.over;
       valid = λ valid. valid;
       request = record { rect = refl; at_level = refl; source = refl; format = refl; patch = refl };
@@ -34,154 +41,212 @@ loop-rect-init g c =
 
 -- ---- a strip's turn
 
-module _ (g : Given.Over) (c : After-rect-item g) where
-  abbrev items : List Rectangle
-  items = c.deref-rect-items.result.now
-
-  same : items ≡ strip_rectangles c.args.request
-  same = c.deref-rect-items.ensures.value ∙ c.in_ok-rects.ensures
-
-pub add_part-requires-clause-strip : goal.add_part-requires-clause-strip
-add_part-requires-clause-strip g c κs within =
-    let at = (goal.at.add_part-requires-clause-strip g c).After-rect-item in
-    item-strip (items g at) c.args.request c.rect-item.result c.loop-rect.rect-index (same g at) c.loop-rect-test.true c.rect-item.is g.K.Op.OpMeaning.meanings c.args.nodes.now c.args.node
-
-pub add_part-requires-clause-limits : goal.add_part-requires-clause-limits
-add_part-requires-clause-limits g c κs within =
-    let at = (goal.at.add_part-requires-clause-limits g c).After-rect-item in
-    item-limits (items g at) c.args.request c.rect-item.result c.loop-rect.rect-index (same g at) c.loop-rect-test.true c.rect-item.is c.requires.limits
-
-pub add_part-requires-clause-sized : goal.add_part-requires-clause-sized
-add_part-requires-clause-sized g c κs within = c.loop-rect.invariant.leaves.sized c.requires.sized
-
-pub add_part-requires-clause-permits : goal.add_part-requires-clause-permits
-add_part-requires-clause-permits g c κs within =
-    let at = (goal.at.add_part-requires-clause-permits g c).After-rect-item in
-    let first = moment g.H.ChainMeaning g.S.SourceTiles g.C.PairStore c.args.sources.now c.args.cache.now c.args.chain.now in
-    let now = moment g.H.ChainMeaning g.S.SourceTiles g.C.PairStore c.loop-rect.sources c.loop-rect.cache c.loop-rect.chain in
-    item-permits (items g at) c.args.request c.rect-item.result c.loop-rect.rect-index (same g at) c.loop-rect-test.true c.rect-item.is g.K.Op.OpMeaning.meanings c.args.nodes.now c.args.node first now
-    (g.K.OpKit.permits c.args.purse.now) (g.K.OpKit.permits c.loop-rect.purse) c.loop-rect.applied c.loop-rect.reused c.loop-rect.invariant.looks c.requires.few c.requires.permits
-
--- ---- after it
-
-module _ (g : Given.Over) (c : After-add_part g) where
-  abbrev strips : List Rectangle
-  strips = c.deref-rect-items.result.now
-
-  abbrev i : ℕ
-  i = c.loop-rect.rect-index
-
-  abbrev r : Rectangle
-  r = c.rect-item.result
-
+module _ (g : Given.Over) (c : After-index-plan-index g) where
   abbrev meanings : Meanings g.row.K-Op.Denot
   meanings = g.K.Op.OpMeaning.meanings
 
   abbrev nodes : List (NodeFact g.row.K-Op.Denot)
   nodes = c.args.nodes.now
 
+  abbrev plan : List Strip
+  plan = c.args.plan.now
+
+  abbrev i : ℕ
+  i = c.loop-index.index
+
+  abbrev strip : Strip
+  strip = c.index-plan-index.result
+
+  abbrev later : List Strip
+  later = take (length plan - (i + 1)) (drop (i + 1) plan)
+
+  abbrev request : Rectangle
+  request = source_in c.args.strips.now
+
   -- the pairs of the strips before it, its own, and those of the others
   abbrev done : List Pair
-  done = pairs_of meanings nodes c.args.node (take i strips)
+  done = pairs_of nodes (take i plan)
 
   abbrev mine : List Pair
-  mine = pairs_needed nodes (strip_of meanings nodes c.args.node r).need
+  mine = pairs_needed nodes strip.need
 
   abbrev rest : List Pair
-  rest = pairs_of meanings nodes c.args.node (drop (suc i) strips)
+  rest = pairs_of nodes later
 
   abbrev first : Moment
   first = moment g.H.ChainMeaning g.S.SourceTiles g.C.PairStore c.args.sources.now c.args.cache.now c.args.chain.now
 
   abbrev now : Moment
-  now = moment g.H.ChainMeaning g.S.SourceTiles g.C.PairStore c.loop-rect.sources c.loop-rect.cache c.loop-rect.chain
-
-  abbrev next : Moment
-  next = moment g.H.ChainMeaning g.S.SourceTiles g.C.PairStore c.add_part.new.sources c.add_part.new.cache c.add_part.new.chain
+  now = moment g.H.ChainMeaning g.S.SourceTiles g.C.PairStore c.loop-index.sources c.loop-index.cache c.loop-index.chain
 
   abbrev before : ℕ
   before = g.K.OpKit.permits c.args.purse.now
 
   abbrev mid : ℕ
-  mid = g.K.OpKit.permits c.loop-rect.purse
+  mid = g.K.OpKit.permits c.loop-index.purse
+
+  abbrev made : MadeTiles
+  made = c.loop-index.ahead
+
+  parts : pairs_of nodes plan ≡ done ++ (mine ++ rest)
+  parts = pairs-parted nodes plan i strip later c.loop-index-test.true c.index-plan-index.is (later-is plan i)
+
+  more : pairs_of nodes (take (i + 1) plan) ≡ done ++ mine
+  more = pairs-more nodes plan i strip later c.loop-index-test.true c.index-plan-index.is (later-is plan i)
+
+  -- the counts stay small
+  small : (next : Moment) (made' : MadeTiles) (after applied reused : ℕ) → LooksUp meanings nodes mine applied reused now next made made' mid after
+      → c.loop-index.applied + c.loop-index.reused + (applied + reused) < 2 ^ 32
+  small next made' after applied reused looks =
+      sums-small meanings nodes plan i strip later c.loop-index-test.true c.index-plan-index.is (later-is plan i) first now made before mid
+      c.loop-index.applied c.loop-index.reused c.loop-index.invariant.looks next made' after applied reused looks c.requires.few
+
+pub add_part-requires-clause-rect : goal.add_part-requires-clause-rect
+add_part-requires-clause-rect g c κs within =
+    let at = (goal.at.add_part-requires-clause-rect g c).After-index-plan-index in
+    item-rect (meanings g at) (nodes g at) c.args.node (request g at) (plan g at) c.requires.plan (strip g at) (i g at) c.loop-index-test.true c.index-plan-index.is
+
+pub add_part-requires-clause-limits : goal.add_part-requires-clause-limits
+add_part-requires-clause-limits g c κs within =
+    let at = (goal.at.add_part-requires-clause-limits g c).After-index-plan-index in
+    item-limits (meanings g at) (nodes g at) c.args.node (request g at) (plan g at) c.requires.plan (strip g at) (i g at) c.loop-index-test.true c.index-plan-index.is c.requires.limits
+
+pub add_part-requires-clause-strip : goal.add_part-requires-clause-strip
+add_part-requires-clause-strip g c κs within =
+    let at = (goal.at.add_part-requires-clause-strip g c).After-index-plan-index in
+    item-strip (meanings g at) (nodes g at) c.args.node (request g at) (plan g at) c.requires.plan (strip g at) (i g at) c.loop-index-test.true c.index-plan-index.is
+
+pub add_part-requires-clause-later : goal.add_part-requires-clause-later
+add_part-requires-clause-later g c κs within =
+    let at = (goal.at.add_part-requires-clause-later g c).After-index-plan-index in
+    strips-later (meanings g at) (nodes g at) c.args.node (request g at) (plan g at) c.requires.plan (i g at + 1) (later g at) (later-is (plan g at) (i g at))
+
+pub add_part-requires-clause-ahead : goal.add_part-requires-clause-ahead
+add_part-requires-clause-ahead g c κs within =
+    let at = (goal.at.add_part-requires-clause-ahead g c).After-index-plan-index in
+    rw (sym (needs-from (nodes g at) (plan g at) (i g at) (strip g at) (later g at) c.loop-index-test.true c.index-plan-index.is (later-is (plan g at) (i g at)))) c.loop-index.invariant.ahead
+
+pub add_part-requires-clause-sized : goal.add_part-requires-clause-sized
+add_part-requires-clause-sized g c κs within = c.loop-index.invariant.leaves.sized c.requires.sized
+
+pub add_part-requires-clause-permits : goal.add_part-requires-clause-permits
+add_part-requires-clause-permits g c κs within =
+    let at = (goal.at.add_part-requires-clause-permits g c).After-index-plan-index in
+    item-permits (meanings g at) (nodes g at) (plan g at) (i g at) (strip g at) (later g at) c.loop-index-test.true c.index-plan-index.is (later-is (plan g at) (i g at)) (first g at) (now g at)
+    (made g at) (before g at) (mid g at) c.loop-index.applied c.loop-index.reused c.loop-index.invariant.looks c.requires.few c.requires.permits
+
+-- ---- after it
+
+module _ (g : Given.Over) (c : After-add_part g) where
+  abbrev next : Moment
+  next = moment g.H.ChainMeaning g.S.SourceTiles g.C.PairStore c.add_part.new.sources c.add_part.new.cache c.add_part.new.chain
 
   abbrev after : ℕ
   after = g.K.OpKit.permits c.add_part.new.purse
 
-  all : strips ≡ strip_rectangles c.args.request
-  all = c.deref-rect-items.ensures.value ∙ c.in_ok-rects.ensures
-
-  parts : done ++ (mine ++ rest) ≡ needed_pairs (specs_of nodes) (need meanings nodes c.args.node c.args.request)
-  parts = item-parts strips c.args.request r i all c.loop-rect-test.true c.rect-item.is meanings nodes c.args.node
-
-  more : pairs_of meanings nodes c.args.node (take (i + 1) strips) ≡ done ++ mine
-  more = pairs-more meanings nodes c.args.node strips i r c.loop-rect-test.true c.rect-item.is
-
-  -- the counts stay small
-  small : (applied reused : ℕ) → LooksUp meanings nodes mine applied reused now next mid after → c.loop-rect.applied + c.loop-rect.reused + (applied + reused) < 2 ^ 32
-  small applied reused looks =
-      sums-small strips c.args.request r i all c.loop-rect-test.true c.rect-item.is meanings nodes c.args.node first now before mid c.loop-rect.applied c.loop-rect.reused c.loop-rect.invariant.looks
-      next mid after applied reused looks c.requires.few
+  abbrev made' : MadeTiles
+  made' = c.add_part.new.ahead
 
 pub returns-in_err-counts-clause-leaves : goal.returns-in_err-counts-clause-leaves
 returns-in_err-counts-clause-leaves g c =
-    let at = (goal.at.returns-in_err-counts-clause-leaves g c).After-add_part in
-    subst (λ (pairs : List Pair). Leaves (meanings g at) (nodes g at) pairs (first g at) (next g at) (before g at) (after g at)) (parts g at)
-    (leaves-both (meanings g at) (nodes g at) (done g at) (mine g at ++ rest g at) (first g at) (now g at) (next g at) (before g at) (mid g at) (after g at) c.loop-rect.invariant.leaves
-    (leaves-more (meanings g at) (nodes g at) (mine g at) (rest g at) (now g at) (next g at) (mid g at) (after g at) c.in_err-counts.ensures.leaves))
+    let at = (goal.at.returns-in_err-counts-clause-leaves g c).After-index-plan-index in
+    let then = (goal.at.returns-in_err-counts-clause-leaves g c).After-add_part in
+    let left = subst (λ (pairs : List Pair). Leaves (meanings g at) (nodes g at) pairs (now g at) (next g then) (made g at) [] (mid g at) (after g then))
+    (pairs-from (nodes g at) (strip g at) (later g at)) c.in_err-counts.ensures.left in
+    subst (λ (pairs : List Pair). Leaves (meanings g at) (nodes g at) pairs (first g at) (next g then) [] [] (before g at) (after g then)) (sym (parts g at))
+    (leaves-both (meanings g at) (nodes g at) (done g at) (mine g at ++ rest g at) (first g at) (now g at) (next g then) [] (made g at) [] (before g at) (mid g at) (after g then)
+    c.loop-index.invariant.leaves left)
 
 pub returns-in_err-counts-clause-valid : goal.returns-in_err-counts-clause-valid
-returns-in_err-counts-clause-valid g c = λ valid. c.in_err-counts.ensures.valid (c.loop-rect.invariant.valid valid)
+returns-in_err-counts-clause-valid g c = λ valid. c.in_err-counts.ensures.valid (c.loop-index.invariant.valid valid)
 
 pub returns-in_err-counts-clause-excused : goal.returns-in_err-counts-clause-excused
 returns-in_err-counts-clause-excused g c =
-    let at = (goal.at.returns-in_err-counts-clause-excused g c).After-add_part in
-    let invariant = c.loop-rect.invariant in
+    let at = (goal.at.returns-in_err-counts-clause-excused g c).After-index-plan-index in
+    let then = (goal.at.returns-in_err-counts-clause-excused g c).After-add_part in
+    let invariant = c.loop-index.invariant in
     let refused = c.in_err-counts.field-0.0 in
-    let excused = excused-later (meanings g at) (nodes g at) (done g at) (mine g at) (rest g at) c.loop-rect.applied c.loop-rect.reused (first g at) (now g at) (next g at) (before g at) (mid g at)
-    refused invariant.leaves invariant.looks (g.met.C.PairStore.within c.loop-rect.cache (g.H.ChainMeaning.held c.loop-rect.chain) invariant.over.cache_over) c.in_err-counts.ensures.excused in
+    let excused = excused-later (meanings g at) (nodes g at) (done g at) (mine g at) (rest g at) c.loop-index.applied c.loop-index.reused (first g at) (now g at) (next g then) [] (made g at)
+    (before g at) (mid g at) refused invariant.leaves invariant.looks (g.met.C.PairStore.within c.loop-index.cache (g.H.ChainMeaning.held c.loop-index.chain) invariant.over.cache_over)
+    c.in_err-counts.ensures.excused in
     handed-on c.from_residual-in_err-counts.result refused _ c.from_residual-in_err-counts.ensures.1
-    (subst (λ (pairs : List Pair). IsExcused pairs (first g at) (next g at) refused) (parts g at) excused)
+    (subst (λ (pairs : List Pair). IsExcused pairs (first g at) (next g then) refused) (sym (parts g at)) excused)
 
 pub overflow_add-applied : goal.overflow_add-applied
 overflow_add-applied g c =
-    let at = (goal.at.overflow_add-applied g c).After-add_part in
-    omega (arith, small g at c.in_ok-counts.counts.applied c.in_ok-counts.counts.reused c.in_ok-counts.ensures.looks)
+    let at = (goal.at.overflow_add-applied g c).After-index-plan-index in
+    let then = (goal.at.overflow_add-applied g c).After-add_part in
+    omega (arith, small g at (next g then) (made' g then) (after g then) c.in_ok-counts.counts.applied c.in_ok-counts.counts.reused c.in_ok-counts.ensures.looks)
 
 pub overflow_add-reused : goal.overflow_add-reused
 overflow_add-reused g c =
-    let at = (goal.at.overflow_add-reused g c).After-add_part in
-    omega (arith, small g at c.in_ok-counts.counts.applied c.in_ok-counts.counts.reused c.in_ok-counts.ensures.looks)
+    let at = (goal.at.overflow_add-reused g c).After-index-plan-index in
+    let then = (goal.at.overflow_add-reused g c).After-add_part in
+    omega (arith, small g at (next g then) (made' g then) (after g then) c.in_ok-counts.counts.applied c.in_ok-counts.counts.reused c.in_ok-counts.ensures.looks)
 
-pub loop-rect-preserved : goal.loop-rect-preserved
-loop-rect-preserved g c =
-    let at = (goal.at.loop-rect-preserved g c).After-add_part in
-    let invariant = c.loop-rect.invariant in
+pub loop-index-preserved : goal.loop-index-preserved
+loop-index-preserved g c =
+    let at = (goal.at.loop-index-preserved g c).After-index-plan-index in
+    let then = (goal.at.loop-index-preserved g c).After-add_part in
+    let invariant = c.loop-index.invariant in
     let counts = c.in_ok-counts.counts in
     let does = c.in_ok-counts.ensures in
-    let source : source_in c.loop-rect.strips ≡ c.args.request = invariant.request.source ∙ sym c.requires.source in
     record {
       looks =
-          subst (λ (pairs : List Pair). LooksUp (meanings g at) (nodes g at) pairs (c.loop-rect.applied + counts.applied) (c.loop-rect.reused + counts.reused) (first g at) (next g at) (before g at) (after g at))
-          (sym (more g at))
-          (looks-both (meanings g at) (nodes g at) (done g at) (mine g at) c.loop-rect.applied c.loop-rect.reused counts.applied counts.reused (first g at) (now g at) (next g at)
-          (before g at) (mid g at) (after g at) invariant.leaves invariant.looks does.looks);
+          subst (λ (pairs : List Pair). LooksUp (meanings g at) (nodes g at) pairs (c.loop-index.applied + counts.applied) (c.loop-index.reused + counts.reused) (first g at) (next g then)
+          [] (made' g then) (before g at) (after g then)) (sym (more g at))
+          (looks-both (meanings g at) (nodes g at) (done g at) (mine g at) c.loop-index.applied c.loop-index.reused counts.applied counts.reused (first g at) (now g at) (next g then)
+          [] (made g at) (made' g then) (before g at) (mid g at) (after g then) invariant.leaves invariant.looks does.looks);
       leaves =
-          subst (λ (pairs : List Pair). Leaves (meanings g at) (nodes g at) pairs (first g at) (next g at) (before g at) (after g at)) (sym (more g at))
-          (leaves-both (meanings g at) (nodes g at) (done g at) (mine g at) (first g at) (now g at) (next g at) (before g at) (mid g at) (after g at) invariant.leaves does.leaves);
+          subst (λ (pairs : List Pair). Leaves (meanings g at) (nodes g at) pairs (first g at) (next g then) [] (made' g then) (before g at) (after g then)) (sym (more g at))
+          (leaves-both (meanings g at) (nodes g at) (done g at) (mine g at) (first g at) (now g at) (next g then) [] (made g at) (made' g then) (before g at) (mid g at) (after g then)
+          invariant.leaves does.leaves);
+      ahead = subst (λ (list : List Strip). AreNext (nodes g at) (g.C.PairStore.pairs c.add_part.new.cache) (needs_of list) (made' g then)) (later-is (plan g at) (i g at)) does.ahead;
       over = does.over;
       valid = λ valid. does.valid (invariant.valid valid);
-      request = of-one c.args.strips.now c.loop-rect.strips c.add_part.new.strips invariant.request does.request;
+      request = of-one c.args.strips.now c.loop-index.strips c.add_part.new.strips invariant.request does.request;
       image = λ images known right has.
-          does.image images (invariant.leaves.keeps.images ∙ known) (invariant.leaves.right images known right) (i g at) (invariant.image images known right has)
-          (subst (λ (s : Rectangle). slice_get (strip_rectangles s) (i g at) ≡ Some (r g at)) (sym source)
-          (item-found (strips g at) c.args.request (r g at) (i g at) (all g at) c.loop-rect-test.true c.rect-item.is));
+          let kept = invariant.leaves.right images known right tt in
+          does.image images (invariant.leaves.keeps.images ∙ known) kept.0 kept.1 (i g at) (invariant.image images known right has)
+          (subst (λ (r : Rectangle). slice_get (strip_rectangles r) (i g at) ≡ Some (strip g at).rect) (sym invariant.request.source)
+          (item-found (meanings g at) (nodes g at) c.args.node (request g at) (plan g at) c.requires.plan (strip g at) (i g at) c.loop-index-test.true c.index-plan-index.is));
     }
+
+-- ---- at the end no strip is left, and no tile is ahead
+
+module _ (g : Given.Over) (c : After-loop-index g) (past : length c.args.plan.now ≤ c.loop-index.index) where
+  none : c.loop-index.ahead ≡ []
+  none =
+      next-past c.args.nodes.now (g.C.PairStore.pairs c.loop-index.cache) c.loop-index.ahead
+      (subst (λ (list : List Strip). AreNext c.args.nodes.now (g.C.PairStore.pairs c.loop-index.cache) (needs_of list) c.loop-index.ahead) (drop_all c.loop-index.index c.args.plan.now past)
+      c.loop-index.invariant.ahead)
+
+  ended : (P : List Pair → MadeTiles → Type 0) → P (pairs_of c.args.nodes.now (take c.loop-index.index c.args.plan.now)) c.loop-index.ahead → P (pairs_of c.args.nodes.now c.args.plan.now) []
+  ended P is =
+      subst (λ (list : List Strip). P (pairs_of c.args.nodes.now list) []) (take_all c.loop-index.index c.args.plan.now past)
+      (subst (P (pairs_of c.args.nodes.now (take c.loop-index.index c.args.plan.now))) none is)
+
+pub returns-clause-looks : goal.returns-clause-looks
+returns-clause-looks g c =
+    let past : length c.args.plan.now ≤ c.loop-index.index = omega (arith, c.loop-index-test.false) in
+    let first = moment g.H.ChainMeaning g.S.SourceTiles g.C.PairStore c.args.sources.now c.args.cache.now c.args.chain.now in
+    let last = moment g.H.ChainMeaning g.S.SourceTiles g.C.PairStore c.loop-index.sources c.loop-index.cache c.loop-index.chain in
+    ended g (goal.at.returns-clause-looks g c).After-loop-index past (λ pairs made. LooksUp g.K.Op.OpMeaning.meanings c.args.nodes.now pairs c.loop-index.applied c.loop-index.reused first last [] made
+    (g.K.OpKit.permits c.args.purse.now) (g.K.OpKit.permits c.loop-index.purse)) c.loop-index.invariant.looks
 
 pub returns-clause-image : goal.returns-clause-image
 returns-clause-image g c = λ images known right has.
-    let items = c.deref-rect-items.result.now in
-    let same : items ≡ strip_rectangles c.args.request = c.deref-rect-items.ensures.value ∙ c.in_ok-rects.ensures in
-    let all : c.loop-rect.rect-index ≡ length (strip_rectangles c.args.request) = omega (arith, c.loop-rect-test.false, c.loop-rect.auto.rect-index-end, ap length same) in
-    subst (λ (k : ℕ). HasStripsOf (image_at g.K.Op.OpMeaning.meanings c.args.nodes.now images c.args.node) k c.loop-rect.strips) all
-    (c.loop-rect.invariant.image images known right has)
+    let rectangles = strip_rectangles (source_in c.args.strips.now) in
+    let count : length c.args.plan.now ≡ length rectangles =
+    ap length c.requires.plan ∙ length-map rectangles (strip_of g.K.Op.OpMeaning.meanings c.args.nodes.now c.args.node) in
+    let all : c.loop-index.index ≡ length rectangles = omega (arith, c.loop-index-test.false, c.loop-index.auto.index-end, count) in
+    subst (λ (k : ℕ). HasStripsOf (image_at g.K.Op.OpMeaning.meanings c.args.nodes.now images c.args.node) k c.loop-index.strips) all
+    (c.loop-index.invariant.image images known right has)
+
+pub returns-clause-leaves : goal.returns-clause-leaves
+returns-clause-leaves g c =
+    let past : length c.args.plan.now ≤ c.loop-index.index = omega (arith, c.loop-index-test.false) in
+    let first = moment g.H.ChainMeaning g.S.SourceTiles g.C.PairStore c.args.sources.now c.args.cache.now c.args.chain.now in
+    let last = moment g.H.ChainMeaning g.S.SourceTiles g.C.PairStore c.loop-index.sources c.loop-index.cache c.loop-index.chain in
+    ended g (goal.at.returns-clause-leaves g c).After-loop-index past (λ pairs made. Leaves g.K.Op.OpMeaning.meanings c.args.nodes.now pairs first last [] made
+    (g.K.OpKit.permits c.args.purse.now) (g.K.OpKit.permits c.loop-index.purse)) c.loop-index.invariant.leaves

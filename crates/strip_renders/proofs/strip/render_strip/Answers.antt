@@ -9,9 +9,10 @@ use Rattle.model_states.specs.Need.{Needed}
 use Rattle.swap_store.specs.Cause.{HasSwapCause}
 use Rattle.roi_planner.proofs.Widths.{handed-on}
 use Rattle.strip_renders.specs.Moments.{Keeps, moment}
-use Rattle.strip_renders.specs.Strips.{HoldsNeed, IsRendered, list_after, most_names, pairs_needed}
-use Rattle.strip_renders.proofs.Moments.{cause-kept, keeps-both, keeps-most}
-use Rattle.strip_renders.proofs.TurnLaws.{ahead-none, ahead-past, made-none}
+use Rattle.strip_renders.specs.Strips.{HoldsNeed, IsRendered, list_after, most_names, needed_from, pairs_needed}
+use Rattle.strip_renders.specs.Ahead.{AreNext}
+use Rattle.strip_renders.proofs.Moments.{cause-kept, keeps-both, keeps-most, matched-err}
+use Rattle.strip_renders.proofs.Nexts.{left-few, needed-past, next-few}
 use Rattle.strip_renders.proofs.Turning.{IsCountedMore, index-more, keeps-none, need-none, needed-at, no-tiles, pairs-more, pairs-take, permits-more, rendered-more, right-list}
 use Rattle.strip_renders.proofs.strip.render_strip.Goals.{else-found, then-found}
 use Rattle.strip_renders.proofs.strip.render_strip.Goals as goal
@@ -28,22 +29,28 @@ loop-index-init g c =
       sized = c.requires.sized;
       pairs = refl;
       held = need-none c.args.by.now.nodes.now c.reserve.new.self none;
-      ahead = ahead-none c.args.by.now.nodes.now (g.C.PairStore.pairs c.args.cache.now) c.args.strip.now.need c.new-ahead.result c.new-ahead.ensures;
-      made = λ images known right. made-none g.K.Op.OpMeaning.meanings c.args.by.now.nodes.now images c.new-ahead.result c.new-ahead.ensures;
-      permits = omega (arith, ap length c.new-ahead.ensures);
-      right = λ images known right. right;
-      bytes = λ images list known cached right. record { cached = cached; tiles = no-tiles g.K.Op.OpMeaning.meanings c.args.by.now.nodes.now images c.reserve.new.self none };
+      ahead = c.requires.ahead;
+      made = λ images known right made. made;
+      permits = omega arith;
+      spent = omega arith;
+      right = λ images known right made. right;
+      bytes = λ images list known cached right made. record { cached = cached; tiles = no-tiles g.K.Op.OpMeaning.meanings c.args.by.now.nodes.now images c.reserve.new.self none };
     }
+
+pub hold_next-requires-clause-permits : goal.hold_next-requires-clause-permits
+hold_next-requires-clause-permits g c κs within =
+    let inside : c.loop-index.index ≤ length c.args.strip.now.need = omega (arith, c.loop-index-test.true, ap length c.as_slice-entry-items.ensures) in
+    omega (arith, left-few c.args.strip.now c.args.later.now c.loop-index.index inside, c.requires.permits, c.loop-index.invariant.permits, c.loop-index.invariant.index)
 
 pub hold_next-requires-clause-entry : goal.hold_next-requires-clause-entry
 hold_next-requires-clause-entry g c κs within =
     needed-at c.as_slice-entry-items.result.now c.args.strip.now.need c.loop-index.index c.entry-item.result c.as_slice-entry-items.ensures c.loop-index-test.true c.entry-item.is
 
 pub returns-in_err-found-clause-right : goal.returns-in_err-found-clause-right
-returns-in_err-found-clause-right g c = λ images known right.
-    let now = c.loop-index.invariant.right images known right in
+returns-in_err-found-clause-right g c = λ images known right made.
+    let now = c.loop-index.invariant.right images known right made in
     c.in_err-found.ensures.right images (c.loop-index.invariant.keeps.images ∙ known)
-    (c.loop-index.invariant.bytes images right.list known right.known right.right).tiles (c.loop-index.invariant.made images known right) now
+    (c.loop-index.invariant.bytes images right.list known right.known right.right made).tiles (c.loop-index.invariant.made images known right made) now
 
 pub returns-in_err-found-clause-keeps : goal.returns-in_err-found-clause-keeps
 returns-in_err-found-clause-keeps g c =
@@ -125,20 +132,22 @@ loop-index-preserved g c =
           ∙ ap (all_looked_up itself itself first.capacity (uncounted first.pairs)) (sym (pairs-take nodes need i n found));
       held = does.held;
       ahead = does.ahead;
-      made = λ images known right.
-          does.made images (invariant.keeps.images ∙ known) (invariant.bytes images right.list known right.known right.right).tiles (invariant.made images known right);
+      made = λ images known right made.
+          does.made images (invariant.keeps.images ∙ known) (invariant.bytes images right.list known right.known right.right made).tiles (invariant.made images known right made);
       permits = permits-more c.in_ok-found.found c.loop-index.applied c.loop-index.reused c.if-found.applied c.if-found.reused
-          (g.K.OpKit.permits c.args.purse.now) (g.K.OpKit.permits c.loop-index.purse) (g.K.OpKit.permits c.hold_next.new.purse) (length c.loop-index.ahead) (length c.hold_next.new.ahead)
-          more invariant.permits does.permits;
-      right = λ images known right.
-          does.right images (invariant.keeps.images ∙ known) (invariant.bytes images right.list known right.known right.right).tiles (invariant.made images known right) (invariant.right images known right);
-      bytes = λ images list known cached right.
-          let before = invariant.bytes images list known cached right in
+          (g.K.OpKit.permits c.args.purse.now + length c.args.ahead.now) (g.K.OpKit.permits c.loop-index.purse) (g.K.OpKit.permits c.hold_next.new.purse) (length c.loop-index.ahead) (length c.hold_next.new.ahead)
+          more invariant.permits does.permits.1;
+      spent = omega (arith, invariant.spent, does.permits.0);
+      right = λ images known right made.
+          does.right images (invariant.keeps.images ∙ known) (invariant.bytes images right.list known right.known right.right made).tiles (invariant.made images known right made)
+          (invariant.right images known right made);
+      bytes = λ images list known cached right made.
+          let before = invariant.bytes images list known cached right made in
           let now = list_after meanings nodes images first.capacity list (pairs_needed nodes (take i need)) in
-          let is_right = right-list meanings nodes images mid.cached now (invariant.right images known (record { list = list; known = cached; right = right })) before.cached in
+          let is_right = right-list meanings nodes images mid.cached now (invariant.right images known (record { list = list; known = cached; right = right }) made) before.cached in
           subst (λ (pairs : List Pair). IsRendered meanings nodes images first last list pairs c.hold_next.new.tiles) (sym (pairs-take nodes need i n found))
           (rendered-more meanings nodes images first mid last list (pairs_needed nodes (take i need)) pair c.hold_next.new.tiles capacity
-          (does.bytes images now (invariant.keeps.images ∙ known) before.tiles (invariant.made images known (record { list = list; known = cached; right = right })) before.cached is_right));
+          (does.bytes images now (invariant.keeps.images ∙ known) before.tiles (invariant.made images known (record { list = list; known = cached; right = right }) made) before.cached is_right));
     }
 
 pub returns-clause-pairs : goal.returns-clause-pairs
@@ -157,14 +166,14 @@ returns-clause-held g c =
     subst (λ (list : List Needed). HoldsNeed c.args.by.now.nodes.now list c.loop-index.tiles) all c.loop-index.invariant.held
 
 pub returns-clause-bytes : goal.returns-clause-bytes
-returns-clause-bytes g c = λ images list known cached right.
+returns-clause-bytes g c = λ images list known cached right made.
     let first = moment g.H.ChainMeaning g.S.SourceTiles g.C.PairStore c.args.sources.now c.args.cache.now c.args.chain.now in
     let mid = moment g.H.ChainMeaning g.S.SourceTiles g.C.PairStore c.loop-index.sources c.loop-index.cache c.loop-index.chain in
     let need = c.args.strip.now.need in
     let i = c.loop-index.index in
     let all : take i need ≡ need = take_all i need (omega (arith, c.loop-index-test.false, ap length c.as_slice-entry-items.ensures)) in
     subst (λ (list' : List Needed). IsRendered g.K.Op.OpMeaning.meanings c.args.by.now.nodes.now images first mid list (pairs_needed c.args.by.now.nodes.now list') c.loop-index.tiles) all
-    (c.loop-index.invariant.bytes images list known cached right)
+    (c.loop-index.invariant.bytes images list known cached right made)
 
 pub returns-clause-keeps : goal.returns-clause-keeps
 returns-clause-keeps g c =
@@ -172,9 +181,23 @@ returns-clause-keeps g c =
     let mid = moment g.H.ChainMeaning g.S.SourceTiles g.C.PairStore c.loop-index.sources c.loop-index.cache c.loop-index.chain in
     keeps-most c.loop-index.index (length c.args.strip.now.need) first mid (omega (arith, c.loop-index.auto.index-end, ap length c.as_slice-entry-items.ensures)) c.loop-index.invariant.keeps
 
-pub returns-clause-permits : goal.returns-clause-permits
-returns-clause-permits g c =
-    let none : length c.loop-index.ahead ≡ 0 =
-    ahead-past c.args.by.now.nodes.now (g.C.PairStore.pairs c.loop-index.cache) c.args.strip.now.need c.loop-index.index c.loop-index.ahead
-    (omega (arith, c.loop-index-test.false, ap length c.as_slice-entry-items.ensures)) c.loop-index.invariant.ahead in
-    omega (arith, none, c.loop-index.invariant.permits)
+pub returns-clause-ahead : goal.returns-clause-ahead
+returns-clause-ahead g c =
+    let past : length c.args.strip.now.need ≤ c.loop-index.index = omega (arith, c.loop-index-test.false, ap length c.as_slice-entry-items.ensures) in
+    subst (λ (list : List Needed). AreNext c.args.by.now.nodes.now (g.C.PairStore.pairs c.loop-index.cache) list c.loop-index.ahead)
+    (needed-past c.args.strip.now c.args.later.now c.loop-index.index past) c.loop-index.invariant.ahead
+
+pub returns-in_err-found-clause-permits : goal.returns-in_err-found-clause-permits
+returns-in_err-found-clause-permits g c =
+    let inside : c.loop-index.index ≤ length c.args.strip.now.need = omega (arith, c.loop-index-test.true, ap length c.as_slice-entry-items.ensures) in
+    let does = c.in_err-found.ensures.permits in
+    let invariant = c.loop-index.invariant in
+    matched-err c.from_residual-in_err-found.result _ _ _ c.from_residual-in_err-found.ensures.1 (
+      omega (arith, does.0, invariant.spent),
+      omega (arith, does.1, invariant.permits, invariant.index, left-few c.args.strip.now c.args.later.now c.loop-index.index inside),
+    )
+
+pub returns-in_err-reserve-clause-permits : goal.returns-in_err-reserve-clause-permits
+returns-in_err-reserve-clause-permits g c =
+    let few = next-few c.args.by.now.nodes.now (g.C.PairStore.pairs c.args.cache.now) (needed_from c.args.strip.now c.args.later.now 0) c.args.ahead.now c.requires.ahead in
+    matched-err c.from_residual.result _ _ _ c.from_residual.ensures.1 (omega arith, omega (arith, few))

@@ -1,24 +1,25 @@
-use Rattle.std.proofs.Common.{◌≡◌, ℕ, suc, ◌+◌, ◌<◌, ◌≤◌, Bool, List, [], ◌∷◌, Some, length, take, drop, refl, sym, ◌∙◌, subst, arith}
+use Rattle.std.proofs.Common.{◌≡◌, ℕ, ◌+◌, ◌<◌, ◌≤◌, Bool, List, [], ◌∷◌, Some, length, take, refl, sym, ap, ◌∙◌, subst, arith}
 use Rattle.chain_owners.specs.Owners.{Respects}
 use Rattle.chain_owners.proofs.Ownership.{seen-unchanged}
 use Rattle.model_graphs.specs.Evaluation.{Buffers}
 use Rattle.model_graphs.specs.Facts.{shapes_of_facts, specs_of}
-use Rattle.model_states.specs.Cache.{Pair, pair_of, same_pair}
+use Rattle.model_states.specs.Cache.{Pair, pair_of}
 use Rattle.model_states.specs.Need.{Needed}
 use Rattle.swap_store.specs.Cause.{HasSwapCause}
 use Rattle.node_cache.specs.Stores.{Sized}
 use Rattle.node_tiles.specs.Stated.{AreTilesOf, bytes_at}
 use Rattle.node_tiles.proofs.Reading.{reads-others}
-use Rattle.strip_renders.specs.Ahead.{AreAhead, AreMadeOf, IsMade, IsMadeOf, IsPermitted, IsRefusedAt, IsSpentFor, permits_of}
+use Rattle.strip_renders.specs.Ahead.{AreMadeOf, AreNext, IsMade, IsMadeOf, IsPermitted, IsRefusedAt, IsSpentFor, permits_of}
 use Rattle.strip_renders.specs.Looks.{IsRecent}
 use Rattle.strip_renders.specs.Moments.{AreOver, Keeps, Moment, moment}
-use Rattle.strip_renders.specs.Strips.{AreKnownRight, AreSizedPairs, HoldsMore, HoldsNeed, IsRendered}
-use Rattle.strip_renders.proofs.AheadLaws.{ahead-more, apart-after, taken-all, taken-made, taken-made_of}
+use Rattle.strip_renders.specs.Strips.{AreKnownRight, AreSizedPairs, HoldsMore, HoldsNeed, IsRendered, needed_from}
+use Rattle.strip_renders.proofs.AheadLaws.{permitted-few, taken-all, taken-made, taken-made_of}
 use Rattle.strip_renders.proofs.HeldTiles.{need-more}
 use Rattle.strip_renders.proofs.Moments.{cause-kept, keeps-both, keeps-most, keeps-reads, over-reads, source_of}
-use Rattle.strip_renders.proofs.Needs.{strip-distinct, strip-pair, strip-ready}
+use Rattle.strip_renders.proofs.Needs.{strip-pair, strip-ready}
+use Rattle.strip_renders.proofs.Nexts.{needed-next, next-more}
 use Rattle.strip_renders.proofs.Turning.{take-more}
-use Rattle.strip_renders.proofs.TurnLaws.{ahead-from, err-then, left-for, match-then, ok-any, ok-then, refused-for, spent-for}
+use Rattle.strip_renders.proofs.TurnLaws.{err-then, left-for, match-then, ok-any, ok-then, refused-for, spent-for}
 use Rattle.strip_renders.proofs.turns.hold_next.Given
 use Rattle.strip_renders.proofs.turns.hold_next.Goals.{After-look_ahead, After-take-made}
 use Rattle.strip_renders.proofs.turns.hold_next.Goals as goal
@@ -90,17 +91,20 @@ module _ (g : Given.Over) (c : After-take-made g) where
   needed = (c.args.node, c.args.at)
 
   abbrev rest : List Needed
-  rest = drop (suc c.args.index) c.args.strip.now.need
+  rest = needed_from c.args.strip.now c.args.later.now (c.args.index + 1)
 
   abbrev pairs : List Pair
   pairs = g.C.PairStore.pairs c.args.cache.now
 
+  parts : needed_from c.args.strip.now c.args.later.now c.args.index ≡ needed ∷ rest
+  parts = needed-next c.args.strip.now c.args.later.now c.args.index needed c.requires.entry
+
   -- what waits from this one on
-  waits : AreAhead c.args.by.now.nodes.now pairs (needed ∷ rest) c.look_ahead.new.ahead
-  waits = ahead-from c.args.by.now.nodes.now c.args.strip.now.need c.args.index needed c.requires.entry pairs c.look_ahead.new.ahead c.in_ok-look_ahead.ensures.ahead
+  waits : AreNext c.args.by.now.nodes.now pairs (needed ∷ rest) c.look_ahead.new.ahead
+  waits = subst (λ (list : List Needed). AreNext c.args.by.now.nodes.now pairs list c.look_ahead.new.ahead) parts c.in_ok-look_ahead.ensures.ahead
 
   made : IsMade c.args.by.now.nodes.now pairs needed c.take-made.result
-  made = taken-made c.args.by.now.nodes.now needed rest c.look_ahead.new.ahead c.take-made.new.self c.take-made.result c.take-made.ensures pairs waits
+  made = taken-made c.args.by.now.nodes.now needed rest c.look_ahead.new.ahead c.take-made.new.self c.take-made.result c.take-made.ensures pairs waits.first waits.ahead
 
   module _ (images : Buffers) (known : g.S.SourceTiles.images c.args.sources.now (g.H.ChainMeaning.held c.args.chain.now) ≡ Some images)
       (tiles : AreTilesOf g.K.Op.OpMeaning.meanings c.args.by.now.nodes.now images c.args.tiles.now) (before : AreMadeOf g.K.Op.OpMeaning.meanings c.args.by.now.nodes.now images c.args.ahead.now) where
@@ -118,21 +122,31 @@ module _ (g : Given.Over) (c : After-take-made g) where
     abbrev left : ℕ
     left = g.K.OpKit.permits c.look_ahead.new.purse
 
+    many : length rest + 1 ≤ first
+    many = omega (arith, c.requires.permits, ap length parts)
+
     enough : 0 < left + permits_of c.take-made.result
     enough =
-        left-for c.args.by.now.nodes.now c.args.strip.now.need c.args.index needed c.requires.entry pairs c.look_ahead.new.ahead c.take-made.new.self c.take-made.result c.take-made.ensures
-        c.in_ok-look_ahead.ensures.ahead first left last c.requires.permits c.in_ok-look_ahead.ensures.permits.1
+        left-for c.args.by.now.nodes.now needed rest pairs c.look_ahead.new.ahead c.take-made.new.self c.take-made.result c.take-made.ensures waits
+        first left last many c.in_ok-look_ahead.ensures.permits.1
 
-    spent : (found : Bool) → IsPermitted left last c.take-made.result found → IsSpentFor first (last + length c.take-made.new.self) found
-    spent =
-        spent-for c.args.by.now.nodes.now c.args.strip.now.need c.args.index needed c.requires.entry pairs c.look_ahead.new.ahead c.take-made.new.self c.take-made.result c.take-made.ensures
-        c.in_ok-look_ahead.ensures.ahead first left last c.requires.permits c.in_ok-look_ahead.ensures.permits.1
+    spent : (found : Bool) → IsPermitted left last c.take-made.result found → (last ≤ g.K.OpKit.permits c.args.purse.now) × IsSpentFor first (last + length c.take-made.new.self) found
+    spent found permitted = (
+      omega (arith, permitted-few left last c.take-made.result found permitted, c.in_ok-look_ahead.ensures.permits.0),
+      spent-for c.args.by.now.nodes.now needed rest pairs c.look_ahead.new.ahead c.take-made.new.self c.take-made.result c.take-made.ensures waits
+          first left last many c.in_ok-look_ahead.ensures.permits.1 found permitted,
+    )
 
-    refused : IsRefusedAt left last c.take-made.result → (last ≤ g.K.OpKit.permits c.args.purse.now) × (first + c.args.index ≤ last + length c.args.strip.now.need)
+    refused : IsRefusedAt left last c.take-made.result
+        → (last ≤ g.K.OpKit.permits c.args.purse.now) × (first ≤ last + length (needed_from c.args.strip.now c.args.later.now c.args.index))
     refused at = (
       omega (arith, at.0, c.in_ok-look_ahead.ensures.permits.0),
-      refused-for c.args.by.now.nodes.now c.args.strip.now.need c.args.index needed c.requires.entry pairs c.look_ahead.new.ahead c.take-made.new.self c.take-made.result c.take-made.ensures
-          c.in_ok-look_ahead.ensures.ahead first left last c.requires.permits c.in_ok-look_ahead.ensures.permits.1 at,
+      omega (
+        arith,
+        refused-for c.args.by.now.nodes.now needed rest pairs c.look_ahead.new.ahead c.take-made.new.self c.take-made.result c.take-made.ensures waits
+            first left last many c.in_ok-look_ahead.ensures.permits.1 at,
+        ap length parts,
+      ),
     )
 
 pub hold_needed-requires-clause-made : goal.hold_needed-requires-clause-made
@@ -184,22 +198,16 @@ returns-clause-ahead g c =
     let taken = (goal.at.returns-clause-ahead g c).After-take-made in
     let new = moment g.H.ChainMeaning g.S.SourceTiles g.C.PairStore c.hold_needed.new.sources c.hold_needed.new.cache c.hold_needed.new.chain in
     let nodes = c.args.by.now.nodes.now in
-    let need = c.args.strip.now.need in
     let n : Needed = (c.args.node, c.args.at) in
-    let pair = pair_of (specs_of nodes) n in
-    let next : suc c.args.index ≡ c.args.index + 1 = omega arith in
-    let apart = apart-after same_pair (pair_of (specs_of nodes)) need c.args.index n
-    (strip-distinct g.K.Op.OpMeaning.meanings nodes c.args.strip.now c.requires.stated.nodes.valid.distinct c.requires.strip) c.requires.entry in
-    ok-then (λ found. IsRecent (mid g at) new pair found) _ c.hold_needed.result c.hold_needed.ensures.recent
-    (λ found is. subst (λ (k : ℕ). AreAhead nodes new.pairs (drop k need) c.take-made.new.self) next
-    (ahead-more nodes n (drop (suc c.args.index) need) c.look_ahead.new.ahead c.take-made.new.self c.take-made.result c.take-made.ensures
-    (g.C.PairStore.capacity c.args.cache.now) (g.C.PairStore.pairs c.args.cache.now) new.pairs apart is.pairs (waits g taken)))
+    ok-then (λ found. IsRecent (mid g at) new (pair_of (specs_of nodes) n) found) _ c.hold_needed.result c.hold_needed.ensures.recent
+    (λ found is. next-more nodes n (rest g taken) (pairs g taken) c.look_ahead.new.ahead c.take-made.new.self c.take-made.result c.take-made.ensures
+    (g.C.PairStore.capacity c.args.cache.now) new.pairs is.pairs (waits g taken))
 
 pub returns-clause-made : goal.returns-clause-made
 returns-clause-made g c = λ images known tiles before.
     let taken = (goal.at.returns-clause-made g c).After-take-made in
     ok-any _ c.hold_needed.result
-    (taken-all (c.args.node, c.args.at) (drop (suc c.args.index) c.args.strip.now.need) c.look_ahead.new.ahead c.take-made.new.self
+    (taken-all (c.args.node, c.args.at) (rest g taken) c.look_ahead.new.ahead c.take-made.new.self
     (λ (m : Needed × List ℕ). m.1 ≡ bytes_at g.K.Op.OpMeaning.meanings c.args.by.now.nodes.now images m.0.0 m.0.1) c.take-made.result c.take-made.ensures
     (waits_of g taken images known tiles before))
 

@@ -1,7 +1,7 @@
 use Rattle.std.proofs.Common.{◌≡◌, ℕ, ◌<◌, ◌≤◌, Some}
 use Rattle.std.specs.Prelude.{slice_get}
 use Rattle.model_states.specs.Need.{Needed}
-use Rattle.strip_renders.proofs.ahead.batch_end.Given as goal
+use Rattle.strip_renders.proofs.batch.batch_end.Given as goal
 
 abbrev pub invariant-loop-end : goal.invariant-loop-end
 invariant-loop-end l = record {

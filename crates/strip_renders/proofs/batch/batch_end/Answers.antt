@@ -2,7 +2,7 @@ use Rattle.std.proofs.Common.{refl, ap, get_or, ◌∙◌, arith}
 use Rattle.model_states.specs.Need.{Needed}
 use Rattle.strip_renders.proofs.Batches.{node-more}
 use Rattle.strip_renders.proofs.Turning.{needed-at}
-use Rattle.strip_renders.proofs.ahead.batch_end.Goals as goal
+use Rattle.strip_renders.proofs.batch.batch_end.Goals as goal
 
 pub returns-then-need-end-clause-one : goal.returns-then-need-end-clause-one
 returns-then-need-end-clause-one c = record { node = (get_or c.args.need.now c.args.index c.index-need-index.result).0; each = c.loop-end.invariant.each }
