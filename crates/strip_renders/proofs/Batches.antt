@@ -2,7 +2,7 @@
 use Rattle.std.proofs.Common.{◌≡◌, ℕ, ◌+◌, ◌-◌, ◌<◌, ◌≤◌, List, ◌++◌, append_assoc, map, take, drop, length, Some, inl, inr, sym, ap, ◌∙◌, subst, arith}
 use Rattle.std.specs.Prelude.{slice_get}
 use Rattle.std.specs.List.{AllByRecursion, IsDistinct}
-use Rattle.std.proofs.lemmas.List.{length-append, length-drop, length-map, take-append-drop}
+use Rattle.std.proofs.lemmas.List.{length-append, length-drop, length-map, take-append-drop, take_all}
 use Rattle.std.proofs.lemmas.Option.{same_Some}
 use Rattle.model_graphs.specs.declared.node.NodeFact.{NodeFact}
 use Rattle.model_graphs.specs.Evaluation.{Buffers}
@@ -19,7 +19,7 @@ use Rattle.strip_renders.specs.Batches.{AddsRows, AreOfOneNode, IsBatch, IsUpTo}
 use Rattle.strip_renders.specs.Strips.{IsStripOf, needed_from, needs_of, pairs_needed}
 use Rattle.strip_renders.proofs.JobLists.{made-ahead, made-of}
 use Rattle.strip_renders.proofs.Needs.{all-both, batch-ready, below-or-at, strip-distinct}
-use Rattle.strip_renders.proofs.Rows.{all-take, distinct-first, distinct-last, needs-parts, rows-once, rows-ready, take-whole}
+use Rattle.strip_renders.proofs.Rows.{all-take, distinct-first, distinct-last, needs-parts, rows-once, rows-ready}
 
 -- one more is of that node
 pub node-more : (list : List Needed) (index end node : ℕ) (next : Needed) → slice_get list end ≡ Some next → next.0 ≡ node
@@ -64,7 +64,7 @@ module _ {Op : Type 0} (meanings : Meanings Op) (nodes : List (NodeFact Op)) whe
     batch-rows node row batch whole are all adds =
         let rows = take adds.count later in
         let whole : own ≡ drop index strip.need =
-        take-whole (end - index) (drop index strip.need) (omega (arith, whole, length-drop index strip.need)) in
+        take_all (end - index) (drop index strip.need) (omega (arith, whole, length-drop index strip.need)) in
         let own_are = all-take (IsStripOf meanings nodes) adds.count later are in
         subst (IsBatch meanings nodes strip later index) (sym adds.added)
         (record {

@@ -2,7 +2,7 @@
 use Rattle.std.proofs.Common.{◌≡◌, ℕ, suc, ◌+◌, ◌≤◌, List, [], ◌∷◌, ◌++◌, drop, length, Option, Some, None, refl, sym, ap, ◌∙◌, subst, arith}
 use Rattle.std.specs.Prelude.{slice_get}
 use Rattle.std.specs.List.{IsDistinct}
-use Rattle.std.proofs.lemmas.List.{length-append, length-drop, length-map}
+use Rattle.std.proofs.lemmas.List.{drop_all, length-append, length-drop, length-map}
 use Rattle.std.proofs.lemmas.Option.{same_Some}
 use Rattle.model_graphs.specs.declared.node.NodeFact.{NodeFact}
 use Rattle.model_graphs.specs.Facts.{specs_of}
@@ -26,11 +26,7 @@ left-few strip later i within =
 
 -- past the strip those of the strips after it
 pub needed-past : (strip : Strip) (later : List Strip) (i : ℕ) → length strip.need ≤ i → needed_from strip later i ≡ needs_of later
-needed-past strip later i past = ap (λ (list : List Needed). list ++ needs_of later) (empty (drop i strip.need) (omega (arith, past, length-drop i strip.need)))
-  where
-    empty : (list : List Needed) → length list ≡ 0 → list ≡ []
-    empty [] none = refl
-    empty (n ∷ list) none = absurd (omega (arith, none))
+needed-past strip later i past = ap (λ (list : List Needed). list ++ needs_of later) (drop_all i strip.need past)
 
 module _ {Op : Type 0} (nodes : List (NodeFact Op)) where
   -- where nothing is ahead

@@ -2,6 +2,8 @@
 use Rattle.std.proofs.Common.{◌≡◌, ℕ, zero, suc, ◌-◌, ◌<◌, ◌≤◌, Bool, true, false, List, [], ◌∷◌, ◌++◌, append-nil, append_assoc, map, take, drop, length, refl, sym, ap, ◌∙◌, subst, arith}
 use Rattle.std.specs.List.{AllByRecursion, IsDistinct}
 use Rattle.std.specs.Str.{bytes_eq}
+use Rattle.std.proofs.lemmas.Grind.{flat_map-append}
+use Rattle.std.proofs.lemmas.List.{take-append-drop, take_all}
 use Rattle.model_graphs.specs.declared.node.NodeFact.{NodeFact}
 use Rattle.model_graphs.specs.Facts.{specs_of}
 use Rattle.model_graphs.specs.Meanings.{Meanings}
@@ -21,18 +23,9 @@ use Rattle.strip_renders.proofs.Needs.{all-both, batch-ready, get-here, strip-di
 
 -- one after another they are what all of them need
 pub needs-parts : (count : ℕ) (strips : List Strip) → needs_of strips ≡ needs_of (take count strips) ++ needs_of (drop count strips)
-needs-parts zero strips = refl
-needs-parts (suc count) [] = refl
-needs-parts (suc count) (strip ∷ strips) =
-    ap (λ (list : List Needed). strip.need ++ list) (needs-parts count strips)
-    ∙ sym (append_assoc strip.need (needs_of (take count strips)) (needs_of (drop count strips)))
-
--- so many are all
-pub take-whole : {X : Type 0} (count : ℕ) (xs : List X) → length xs ≤ count → take count xs ≡ xs
-take-whole zero [] few = refl
-take-whole (suc count) [] few = refl
-take-whole zero (x ∷ xs) few = absurd (omega (arith, few))
-take-whole {X = X} (suc count) (x ∷ xs) few = ap (λ (list : List X). x ∷ list) (take-whole count xs (omega (arith, few)))
+needs-parts count strips =
+    let of_strip : Strip → List Needed = λ strip. strip.need in
+    ap needs_of (sym (take-append-drop count strips)) ∙ flat_map-append of_strip (take count strips) (drop count strips)
 
 pub all-take : {X : Type 0} (P : X → Type 0) (count : ℕ) (xs : List X) → AllByRecursion P xs → AllByRecursion P (take count xs)
 all-take P zero xs all = tt
@@ -105,7 +98,7 @@ module _ {Op : Type 0} (meanings : Meanings Op) (nodes : List (NodeFact Op)) whe
       → AllByRecursion (IsStripOf meanings nodes) strips → AreRowsBelow node row strips → AreReady meanings nodes held (needs_of strips)
   rows-ready buffers node row [] held stated lengths are rows = tt
   rows-ready buffers node row (strip ∷ strips) held stated lengths are rows =
-      let own : take (length strip.need - 0) strip.need ≡ strip.need = take-whole (length strip.need - 0) strip.need (omega arith) in
+      let own : take (length strip.need - 0) strip.need ≡ strip.need = take_all (length strip.need - 0) strip.need (omega arith) in
       all-both _ strip.need (needs_of strips)
       (subst (AreReady meanings nodes held) own
       (batch-ready meanings nodes buffers strip stated are.0 0 (length strip.need) held
@@ -114,10 +107,6 @@ module _ {Op : Type 0} (meanings : Meanings Op) (nodes : List (NodeFact Op)) whe
       (rows-ready buffers node rows.0 strips held stated lengths are.1 rows.3)
 
 -- ---- a strip more
-
--- none of the strips was added
-pub added-none : (node row : ℕ) (later : List Strip) (batch : List Needed) → AddsRows node row later batch batch
-added-none node row later batch = record { count = 0; rows = tt; added = sym (append-nil batch) }
 
 pub added-more : (node row below : ℕ) (next : Strip) (others later : List Strip) (old new : List Needed) → row < below → AllByRecursion (IsInRow node below) next.need → later ≡ next ∷ others
     → AddsRows node below others (old ++ next.need) new → AddsRows node row later old new
