@@ -91,30 +91,6 @@ module _ (layout : TableLayout) where
         by (Some view) e = let same : on_root layout view ≡ seen = cc in ap (λ (seen : RootView). next (seen_shape seen)) same
         by None e = absurd (cc)
 
-    -- what is answered where the edit asks of the buffer's shape alone
-    module _ (edit : BufferEdit) (next : Shape → Refusal)
-        (asks : edit_refused layout edit ≡ if_known (find layout.buffers name) (λ view. next (view_shape layout view))) where
-      pub target-unknown : root_view layout name ≡ None → IsTarget layout name edit (Err UnknownBuffer)
-      target-unknown none = record {
-        carried_out = tt;
-        target = tt;
-        refused = asks ∙ refused_unknown (λ view. next (view_shape layout view)) none;
-      }
-
-      pub target-known : (seen : RootView) (refusal : Refusal) (result : Result RootView EditRefused) → root_view layout name ≡ Some seen
-          → refusal ≡ next (seen_shape seen) → IfOk result (λ shown. (shown ≡ seen) × (refusal ≡ None)) → IfErr result (λ cause. refusal ≡ Some cause)
-          → IsTarget layout name edit result
-      target-known seen refusal (Ok shown) there is view refused = record {
-        carried_out = asks ∙ refused_by_view next seen there ∙ sym is ∙ view.1;
-        target = there ∙ ap (λ (view : RootView). Some view) (sym view.0);
-        refused = tt;
-      }
-      target-known seen refusal (Err cause) there is view refused = record {
-        carried_out = tt;
-        target = tt;
-        refused = asks ∙ refused_by_view next seen there ∙ sym is ∙ refused;
-      }
-
     -- whether a buffer has the name, by the facts
     abbrev has_fact : Bool
     has_fact = is_some (fact_of (facts_of layout) name)
@@ -129,6 +105,30 @@ module _ (layout : TableLayout) where
     pub addable : has_fact ≡ false → length (facts_of layout) < max_buffers → None ≡ add_refused layout name
     addable unknown few =
         let test : nat_le max_buffers (length layout.buffers) ≡ false = grind (arith, nat_tests, fact_count, few) in rw (sym known_by_fact ∙ unknown, test) refl
+
+-- what is answered where an edit asks of the shape of a buffer alone
+module _ {layout : TableLayout} {name : List ℕ} {edit : BufferEdit} (next : Shape → Refusal)
+    (asks : edit_refused layout edit ≡ if_known (find layout.buffers name) (λ view. next (view_shape layout view))) where
+  pub target-unknown : root_view layout name ≡ None → IsTarget layout name edit (Err UnknownBuffer)
+  target-unknown none = record {
+    carried_out = tt;
+    target = tt;
+    refused = asks ∙ refused_unknown layout name (λ view. next (view_shape layout view)) none;
+  }
+
+  pub target-known : {seen : RootView} {refusal : Refusal} {result : Result RootView EditRefused} → root_view layout name ≡ Some seen
+      → refusal ≡ next (seen_shape seen) → IfOk result (λ shown. (shown ≡ seen) × (refusal ≡ None)) → IfErr result (λ cause. refusal ≡ Some cause)
+      → IsTarget layout name edit result
+  target-known {seen = seen} {result = Ok shown} there is view refused = record {
+    carried_out = asks ∙ refused_by_view layout name next seen there ∙ sym is ∙ view.1;
+    target = there ∙ ap (λ (view : RootView). Some view) (sym view.0);
+    refused = tt;
+  }
+  target-known {seen = seen} {result = Err cause} there is view refused = record {
+    carried_out = tt;
+    target = tt;
+    refused = asks ∙ refused_by_view layout name next seen there ∙ sym is ∙ refused;
+  }
 
 -- ---- copies
 

@@ -5,8 +5,8 @@ ghost use Rattle.std.specs.List.{position};
 ghost use Rattle.std.specs.Str.{bytes_eq};
 ghost use Rattle.model_graphs.specs.Facts.{fact_of};
 ghost use Rattle.model_buffers.specs.Layout.{IsLayout, facts_of, root_shape};
-ghost use Rattle.buffer_layouts.specs.Layouts.{root_entry};
 ghost use Rattle.buffer_layouts.specs.Views.{root_number, root_view, shape_at};
+ghost use Rattle.buffer_layouts.specs.Layouts.{root_entry};
 
 use crate::views::{RootShape, RootView};
 use model_graphs::BufferFact;

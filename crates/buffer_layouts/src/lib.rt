@@ -7,8 +7,6 @@ mod edits;
 pub mod laws;
 mod layout;
 mod refusals;
-#[cfg(test)]
-mod tests;
 mod views;
 
 pub use layout::BufferLayout;

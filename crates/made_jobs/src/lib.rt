@@ -4,7 +4,5 @@
 mod generator;
 mod job;
 mod script;
-#[cfg(test)]
-mod tests;
 
 pub use job::{Job, make_script};

@@ -1,8 +1,7 @@
 //! The text of a job's script.
 
 ghost use Rattle.std.specs.Prelude.{◌≡◌, ◌+◌, ◌*◌, ◌/◌, ◌%◌, ◌^◌, ◌++◌, ◌∷◌, [], IfOk, OnOk, decimal};
-ghost use Rattle.script_words.specs.Lines.{text_of};
-ghost use Rattle.script_words.specs.Words.{joined};
+ghost use Rattle.script_words.specs.{Lines.text_of, Words.joined};
 ghost use Rattle.model_runs.specs.MadeJob.{draws, edit_lines, fill_by, fills, first_lines, last_lines, next_state, render_line, state_after_draws};
 
 use crate::generator::Generator;

@@ -244,9 +244,6 @@ module _ (old : Parsed) (none : old.pending ≡ None) (word : List ℕ) (rest : 
         ∙ ap (λ (test : Bool). cond test (then_settings (Some (Script halves.0)) (settings_of (halves.1 ∷ rest))) (then_settings (option_setting halves.0 halves.1) (settings_of rest)) >>= asked_with old)
         (no-file halves.0 (halves-option word halves is).1)
 
-    pub take-unnamed : option_named halves.0 ≡ None → next (split_word word ++ rest) ≡ None
-    take-unnamed unnamed = both ∙ ap (λ (o : Option OptionName). then_settings (o >>= (λ option. option_map (Value option) (value_of option halves.1))) (settings_of rest) >>= asked_with old) unnamed
-
     pub take-halves : (found : Option (Unit {0})) (new : Parsed) (option : OptionName) → option_named halves.0 ≡ Some option → Sets found old new option halves.1 → Continues found old new word rest
     take-halves found new option named sets =
         let here : next (split_word word ++ rest) ≡ (then_settings (option_map (Value option) (value_of option halves.1)) (settings_of rest) >>= asked_with old) =
@@ -314,9 +311,6 @@ module _ (old : Parsed) (none : old.pending ≡ None) (word : List ℕ) (rest : 
     name-here : is_file_name word ≡ false → next (split_word word ++ rest) ≡ ((option_named word >>= (λ option. settings_after (Some option) rest)) >>= asked_with old)
     name-here file = ap next whole ∙ next-is (word ∷ rest) ∙ ap (λ (s : Option (List Setting)). s >>= asked_with old) (named-first file rest)
 
-    pub take-nothing : is_file_name word ≡ false → option_named word ≡ None → next (split_word word ++ rest) ≡ None
-    take-nothing file unnamed = name-here file ∙ ap (λ (o : Option OptionName). (o >>= (λ option. settings_after (Some option) rest)) >>= asked_with old) unnamed
-
     pub take-name : (option : OptionName) → is_file_name word ≡ false → option_named word ≡ Some option →
         next (split_word word ++ rest) ≡ continued (record old { pending = Some option }) rest
     take-name option file named = name-here file ∙ ap (λ (o : Option OptionName). (o >>= (λ option. settings_after (Some option) rest)) >>= asked_with old) named
@@ -326,10 +320,6 @@ module _ (old : Parsed) (none : old.pending ≡ None) (word : List ℕ) (rest : 
 abbrev value_or : Option ℕ → ℕ → ℕ
 value_or None default = default
 value_or (Some value) default = value
-
-pub once-listed : (default : ℕ) (value : Option ℕ) → once_or default (list_of value ++ []) ≡ Some (value_or value default)
-once-listed default None = refl
-once-listed default (Some value) = refl
 
 -- a run's request as that of words none of which is taken yet
 pub run-is : (words : List (List ℕ)) → run_request words ≡ continued nothing_parsed (split_words words)

@@ -4,8 +4,6 @@
 mod options;
 mod parsing;
 mod request;
-#[cfg(test)]
-mod tests;
 
 pub use options::Options;
 pub use request::{Request, request_of};

@@ -27,8 +27,7 @@ impl<'a> Model for Parsing<'a> {
     ghost use Rattle.std.specs.Prelude.{IfSome, IsTrue};
     ghost use Rattle.std.specs.Option.{option_copied, option_map};
     ghost use Rattle.outside_io.specs.FileName.{is_file_name};
-    ghost use Rattle.run_words.specs.Meant.{name_meant};
-    ghost use Rattle.run_words.specs.Parsing.{Parsed};
+    ghost use Rattle.run_words.specs.{Meant.name_meant, Parsing.Parsed};
 
     ghost Value = { Parsed };
 

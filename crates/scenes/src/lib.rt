@@ -2,7 +2,5 @@
 #![tactic(auto)]
 
 mod scene;
-#[cfg(test)]
-mod tests;
 
 pub use scene::Scene;

@@ -31,6 +31,24 @@ fn shelf(rt: &impl Abort, alloc: Global, fail_read: u64, fail_write: u64) -> Mem
     MemShelf::new(alloc, files, reads, writes)
 }
 
+/// Returns what a call that returns nothing answers, where it is the one that fails or isn't.
+fn answer_of<E: Copy>(fails: bool, failed: E) -> Result<(), E> {
+    if fails { Err(failed) } else { Ok(()) }
+}
+
+/// Checks that a call answered what it should, by its number from 0 on, where the one of another number fails.
+fn check_call(rt: &impl Abort, is_right: bool, call: u64, failing: u64) {
+    assert!(rt; is_right, "call {call} where {failing} fails");
+}
+
+/// Checks the bytes of a file of a shelf, of which a call fails.
+fn check_file(rt: &impl Abort, shelf: &MemShelf, name: &str, wanted: &[u8], failing: u64) {
+    assert!(rt;
+        shelf.get(name) == Some(wanted),
+        "{name} where {failing} fails"
+    );
+}
+
 /// Four reads, and what each returns where it doesn't fail.
 const READS: [(&str, u64, Result<&[u8], ShelfAnswer>); 4] = [
     ("one", 1, Ok(ONE)),
@@ -63,13 +81,10 @@ fn each_read_of_a_shelf_fails_in_turn(rt: HostRuntime) {
             } else {
                 *wanted
             };
-            assert!(rt;
-                is_answer(&answer, &wanted),
-                "read {index} where {failing} fails"
-            );
+            check_call(&rt, is_answer(&answer, &wanted), index as u64, failing);
         }
-        assert_eq!(rt; shelf.get("one"), Some(ONE));
-        assert_eq!(rt; shelf.get("two"), Some(TWO));
+        check_file(&rt, &shelf, "one", ONE, failing);
+        check_file(&rt, &shelf, "two", TWO, failing);
     }
 }
 
@@ -98,17 +113,13 @@ fn each_write_of_a_shelf_fails_in_turn(rt: HostRuntime) {
         for (index, (name, bytes)) in WRITES.iter().enumerate() {
             assert!(rt; is_file_name(name.as_bytes()));
             let answer = shelf.write(name, bytes);
-            let wanted = if index as u64 + 1 == *failing {
-                Err(ShelfAnswer::Failed)
-            } else {
-                Ok(())
-            };
-            assert_eq!(rt; answer, wanted, "write {index} where {failing} fails");
+            let wanted = answer_of(index as u64 + 1 == *failing, ShelfAnswer::Failed);
+            check_call(&rt, answer == wanted, index as u64, *failing);
         }
-        assert_eq!(rt; shelf.get("one"), Some(ONE));
-        assert_eq!(rt; shelf.get("new"), Some(*new), "where {failing} fails");
-        assert_eq!(rt; shelf.get("two"), Some(*two), "where {failing} fails");
-        assert_eq!(rt; shelf.get("last"), Some(*last), "where {failing} fails");
+        check_file(&rt, &shelf, "one", ONE, *failing);
+        check_file(&rt, &shelf, "new", new, *failing);
+        check_file(&rt, &shelf, "two", two, *failing);
+        check_file(&rt, &shelf, "last", last, *failing);
     }
 }
 
@@ -132,14 +143,10 @@ fn each_put_of_a_sink_fails_in_turn(rt: HostRuntime) {
         let mut sink = MemSink::new(rt.alloc(), chosen);
         for (index, piece) in PIECES.iter().enumerate() {
             let answer = sink.put(piece);
-            let wanted = if index as u64 + 1 == *failing {
-                Err(SinkAnswer::Failed)
-            } else {
-                Ok(())
-            };
-            assert_eq!(rt; answer, wanted, "put {index} where {failing} fails");
+            let wanted = answer_of(index as u64 + 1 == *failing, SinkAnswer::Failed);
+            check_call(&rt, answer == wanted, index as u64, *failing);
         }
-        assert_eq!(rt; sink.bytes(), *written, "where {failing} fails");
+        assert!(rt; sink.bytes() == *written, "where {failing} fails");
     }
 }
 
@@ -157,15 +164,6 @@ fn disk(rt: &impl Abort, alloc: Global, blocks: u32, fail_read: u64, fail_write:
     MemSwap::new(alloc, blocks.min(1 << 20), reads, writes).expect(rt, "memory")
 }
 
-/// Returns what a call of a disk answers, where it is the one that fails or isn't.
-fn answer_of(fails: bool) -> Result<(), SwapAnswer> {
-    if fails {
-        Err(SwapAnswer::Failed)
-    } else {
-        Ok(())
-    }
-}
-
 #[test]
 fn each_write_of_a_swap_disk_fails_in_turn(rt: HostRuntime) {
     for (failing, first, second) in &BLOCKS {
@@ -173,10 +171,10 @@ fn each_write_of_a_swap_disk_fails_in_turn(rt: HostRuntime) {
         for (index, (number, fill)) in BLOCK_WRITES.iter().enumerate() {
             assert!(rt; *number < disk.size());
             let answer = disk.write_block(*number, &[*fill; 4096]);
-            let wanted = answer_of(index as u64 + 1 == *failing);
-            assert_eq!(rt; answer, wanted, "write {index} where {failing} fails");
+            let wanted = answer_of(index as u64 + 1 == *failing, SwapAnswer::Failed);
+            check_call(&rt, answer == wanted, index as u64, *failing);
         }
-        assert_eq!(rt; disk.size(), 2);
+        assert!(rt; disk.size() == 2);
         check_block(&rt, &mut disk, 0, *first);
         check_block(&rt, &mut disk, 1, *second);
     }
@@ -188,13 +186,13 @@ fn each_read_of_a_swap_disk_fails_in_turn(rt: HostRuntime) {
     for failing in 0..=4u64 {
         let mut disk = disk(&rt, rt.alloc(), 1, failing, 0);
         assert!(rt; disk.size() == 1);
-        assert_eq!(rt; disk.write_block(0, &[7; 4096]), Ok(()));
+        assert!(rt; disk.write_block(0, &[7; 4096]).is_ok());
         for number in 1..=3u64 {
             assert!(rt; disk.size() == 1);
             let answer = disk.read_block(0, &mut block);
-            let wanted = answer_of(number == failing);
-            assert_eq!(rt; answer, wanted, "read {number} where {failing} fails");
-            assert!(rt; answer.is_err() || block == [7; 4096]);
+            let wanted = answer_of(number == failing, SwapAnswer::Failed);
+            let is_right = answer == wanted && (answer.is_err() || block == [7; 4096]);
+            check_call(&rt, is_right, number, failing);
         }
     }
 }

@@ -2,8 +2,10 @@
 
 ghost use Rattle.std.specs.Prelude.{◌≤◌};
 
-use crate::faults::invert_and_paint;
-use crate::jobs::{average_and_undo, cache_one_pair, load_and_gain, render_across_the_border};
+use crate::jobs::{
+    ACROSS_THE_BORDER, EDITED_AND_UNDONE, LOADED, MEAN, ONE_PAIR, inverted_and_painted,
+};
+use crate::steps::{Step, make};
 use commit_session::Session;
 use int_ops::IntKit;
 use outside_io::{MemSwap, SwapDisk};
@@ -11,57 +13,51 @@ use std::alloc::Global;
 use std::process::Abort;
 use std::thread::Threads;
 
-/// A job of edits, commits and renders.
-#[derive(Clone, Copy)]
-enum Job {
-    /// A commit voids what an edit damages.
-    AverageAndUndo,
-    /// Edits of nodes are pending until a commit.
-    LoadAndGain,
-    /// A cache of one pair is enough.
-    CacheOnePair,
-    /// A patch is zero outside the box of its node.
-    RenderAcrossTheBorder,
-}
-
-/// Runs a job over a session of one tile in memory and so many cached ones.
-fn run_over<D: SwapDisk>(
+/// Makes first steps and then others on a session of one tile in memory and so many cached ones. Returns whether the disk
+/// refused a call.
+fn make_over<D: SwapDisk>(
     rt: &(impl Abort + Threads + Sync),
     alloc: Global,
     disk: &mut D,
     cached: u32,
-    job: Job,
-) {
-    assert!(rt; cached >= 1);
+    first: &[Step<'_>],
+    then: &[Step<'_>],
+) -> bool
+    requires { 1 ≤ cached }
+{
     let session = Session::new(alloc, IntKit, disk, 64, 1, cached, 3);
     let mut session = session.expect(rt, "memory");
-    match job {
-        Job::AverageAndUndo => average_and_undo(rt, &mut session, alloc),
-        Job::LoadAndGain => load_and_gain(rt, &mut session, alloc),
-        Job::CacheOnePair => cache_one_pair(rt, &mut session, alloc),
-        Job::RenderAcrossTheBorder => render_across_the_border(rt, &mut session, alloc),
-    }
+    let is_refused = make(rt, &mut session, alloc, first);
+    make(rt, &mut session, alloc, then) || is_refused
 }
 
-/// Returns a disk of which these reads and writes fail, by their numbers.
-fn disk_of(rt: &impl Abort, alloc: Global, reads: &[u64], writes: &[u64]) -> MemSwap {
-    let reads = reads.to_vec(alloc).expect(rt, "memory");
-    let writes = writes.to_vec(alloc).expect(rt, "memory");
+/// Returns a disk of which the read and the write of these numbers fail, counted from 1; at 0 none fails.
+fn disk_of(rt: &impl Abort, alloc: Global, read: u64, write: u64) -> MemSwap {
+    let reads = vec![in alloc; read].expect(rt, "memory");
+    let writes = vec![in alloc; write].expect(rt, "memory");
     MemSwap::new(alloc, 64, reads, writes).expect(rt, "memory")
+}
+
+/// Makes first steps and then others over a sound disk.
+fn make_sound(
+    rt: &(impl Abort + Threads + Sync),
+    alloc: Global,
+    cached: u32,
+    first: &[Step<'_>],
+    then: &[Step<'_>],
+)
+    requires { 1 ≤ cached }
+{
+    let mut disk = disk_of(rt, alloc, 0, 0);
+    assert!(rt; !make_over(rt, alloc, &mut disk, cached, first, then));
 }
 
 #[test]
 fn sessions_show_what_is_committed(rt: HostRuntime) {
-    let jobs = [
-        (100, Job::AverageAndUndo),
-        (100, Job::LoadAndGain),
-        (1, Job::CacheOnePair),
-        (100, Job::RenderAcrossTheBorder),
-    ];
-    for (cached, job) in jobs {
-        let mut disk = disk_of(&rt, rt.alloc(), &[], &[]);
-        run_over(&rt, rt.alloc(), &mut disk, cached, job);
-    }
+    make_sound(&rt, rt.alloc(), 100, &MEAN, &EDITED_AND_UNDONE);
+    make_sound(&rt, rt.alloc(), 100, &LOADED, &[]);
+    make_sound(&rt, rt.alloc(), 1, &MEAN, &ONE_PAIR);
+    make_sound(&rt, rt.alloc(), 100, &MEAN, &ACROSS_THE_BORDER);
 }
 
 /// Returns the bytes of two tiles of gray, and the same with a part painted.
@@ -75,36 +71,27 @@ fn grays(rt: &impl Abort, alloc: Global) -> (Vec<u8>, Vec<u8>) {
     (raw, painted)
 }
 
-/// Runs a job over a session of one tile in memory and four cached ones. Returns whether the disk refused a call.
-fn fault_over<D: SwapDisk>(
-    rt: &(impl Abort + Threads + Sync),
-    alloc: Global,
-    disk: &mut D,
-) -> bool {
-    let (raw, painted) = grays(rt, alloc);
-    let session = Session::new(alloc, IntKit, disk, 64, 1, 4, 3);
-    let mut session = session.expect(rt, "memory");
-    invert_and_paint(rt, &mut session, alloc, &raw, &painted)
-}
-
-/// Runs the job over a disk of which these reads and writes fail. Returns whether one refused a call.
+/// Makes steps over a disk of which this read and this write fail. Returns whether it refused a call.
 fn is_refused(
     rt: &(impl Abort + Threads + Sync),
     alloc: Global,
-    reads: &[u64],
-    writes: &[u64],
+    read: u64,
+    write: u64,
+    steps: &[Step<'_>],
 ) -> bool {
-    let mut disk = disk_of(rt, alloc, reads, writes);
-    fault_over(rt, alloc, &mut disk)
+    let mut disk = disk_of(rt, alloc, read, write);
+    make_over(rt, alloc, &mut disk, 4, steps, &[])
 }
 
 #[test]
 fn a_call_that_the_disk_refuses_is_made_again(rt: HostRuntime) {
     let alloc = rt.alloc();
+    let (raw, painted) = grays(&rt, alloc);
+    let steps = inverted_and_painted(&raw, &painted);
     let (mut by_a_read, mut by_a_write) = (false, false);
     for call in 1..=40 {
-        by_a_read = is_refused(&rt, alloc, &[call], &[]) || by_a_read;
-        by_a_write = is_refused(&rt, alloc, &[], &[call]) || by_a_write;
+        by_a_read = is_refused(&rt, alloc, call, 0, &steps) || by_a_read;
+        by_a_write = is_refused(&rt, alloc, 0, call, &steps) || by_a_write;
     }
     assert!(rt; by_a_read && by_a_write);
 }

@@ -4,8 +4,6 @@
 mod block;
 mod owner;
 mod room;
-#[cfg(test)]
-mod tests;
 mod tile;
 
 pub use tile::{Tile, Wrote};

@@ -1,8 +1,7 @@
 //! One of the owners of a block, and the four kinds of step on its count.
 ghost use Rattle.std.specs.Prelude.{◌≡◌, ◌<◌, ◌^◌, ℕ, List, length, IfSome, MatchResult};
-ghost use Rattle.tile_cow.specs.Tile.{IsTileLength};
-ghost use Rattle.tile_cow.specs.Block.{IsWritten};
 ghost use Rattle.tile_cow.specs.Owner.{owner_has, owner_lends};
+ghost use Rattle.tile_cow.specs.{Tile.IsTileLength, Block.IsWritten};
 
 use crate::block::Block;
 use atomic_table::exchange;

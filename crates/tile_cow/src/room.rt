@@ -1,7 +1,6 @@
 //! Room for the block of a tile, from an allocator.
 ghost use Rattle.std.specs.Prelude.{◌≡◌, ℕ, IfOk};
-ghost use Rattle.tile_cow.specs.Tile.{IsTileLength};
-ghost use Rattle.tile_cow.specs.Block.{room_owns};
+ghost use Rattle.tile_cow.specs.{Tile.IsTileLength, Block.room_owns};
 
 use std::alloc::{AllocError, Allocator};
 use std::marker::{Model, PhantomData};

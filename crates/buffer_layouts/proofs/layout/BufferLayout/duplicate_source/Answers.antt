@@ -2,19 +2,13 @@ use Rattle.std.proofs.Common.{refl, sym, ◌∙◌}
 use Rattle.plane_rect.specs.Rectangle.{empty}
 use Rattle.pixel_formats.specs.declared.format.Format.TheVariants.{Y8}
 use Rattle.model_buffers.specs.BufferEdit.{add_refused}
-use Rattle.model_buffers.specs.declared.edit.BufferEdit.TheVariants.{Duplicate}
 use Rattle.buffer_layouts.proofs.Answering.{target-known, target-unknown}
 use Rattle.buffer_layouts.proofs.layout.BufferLayout.duplicate_source.Goals as goal
 
 pub returns-in-Some : goal.returns-in-Some
 returns-in-Some c =
-    let layout = c.args.self.now.layout in
-    target-known layout c.args.from (Duplicate c.args.name c.args.from) (λ shape. add_refused layout c.args.name) refl
-    c.in-Some.view c.create_refused.result c.unless_refused.result (sym c.view.ensures.value ∙ c.in-Some.is) (c.create_refused.ensures Y8 empty)
-    c.unless_refused.ensures.view c.unless_refused.ensures.refused
+    target-known (λ shape. add_refused c.args.self.now.layout c.args.name) refl (sym c.view.ensures.value ∙ c.in-Some.is)
+    (c.create_refused.ensures Y8 empty) c.unless_refused.ensures.view c.unless_refused.ensures.refused
 
 pub returns-in-None : goal.returns-in-None
-returns-in-None c =
-    let layout = c.args.self.now.layout in
-    target-unknown layout c.args.from (Duplicate c.args.name c.args.from) (λ shape. add_refused layout c.args.name) refl
-    (sym c.view.ensures.value ∙ c.in-None.is)
+returns-in-None c = target-unknown (λ shape. add_refused c.args.self.now.layout c.args.name) refl (sym c.view.ensures.value ∙ c.in-None.is)

@@ -1,6 +1,6 @@
 //! Answers that were worked out by hand, and those of GEGL's rectangles.
 
-use crate::{Name, PLANE_ORIGIN, PLANE_SIDE, Rect, RectRefused, TileAt, plane_index};
+use plane_rect::{Name, PLANE_ORIGIN, PLANE_SIDE, Rect, RectRefused, TileAt, plane_index};
 use std::test::Fail;
 
 fn rect(fields: [i64; 4]) -> Result<Rect, RectRefused> {

@@ -1,10 +1,10 @@
 //! Lines, words, numbers and names that were worked out by hand.
 
-use crate::{
+use no_memory::NoMemory;
+use script_words::{
     FileName, integer_in, is_text, natural_in, next_line, push_integer, push_natural, push_word,
     split_words,
 };
-use no_memory::NoMemory;
 
 /// A line, and the text after it.
 type Step<'t> = Option<(&'t [u8], &'t [u8])>;

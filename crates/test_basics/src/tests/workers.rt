@@ -1,10 +1,10 @@
 //! Expected values are worked out by hand.
 
-use crate::workers::Workers;
 use no_memory::NoMemory;
 use std::alloc::Global;
 use std::test::Fail;
 use std::thread::Threads;
+use worker_pieces::Workers;
 
 /// Returns the squares of the numbers below 6, made by these workers. Memory runs out at the job of one number, if
 /// that is below 6.

@@ -1,6 +1,6 @@
 //! Words of the command line, with what the definitions say of them.
 
-use crate::{Options, Request, request_of};
+use run_words::{Options, Request, request_of};
 use std::alloc::AllocError;
 use std::process::Abort;
 use std::test::Fail;

@@ -1,6 +1,6 @@
 use Rattle.std.proofs.Common.{refl, arith}
 use Rattle.std.specs.List.{IsDistinct}
-use Rattle.scenes.proofs.tests.a_scene_shows_what_it_was_made_of.Goals as goal
+use Rattle.test_basics.proofs.tests.lone_scene.a_scene_shows_what_it_was_made_of.Goals as goal
 
 pub new-scene-requires-clause-distinct : goal.new-scene-requires-clause-distinct
 unfolding IsDistinct

@@ -1,20 +1,8 @@
 //! The job of 0, beside what was worked out by hand.
 
-use crate::generator::Generator;
-use crate::make_script;
+use made_jobs::make_script;
 use std::process::Abort;
 use std::test::Fail;
-
-#[test]
-fn the_first_draws(rt: HostRuntime) -> Result<(), Fail> {
-    let mut generator = Generator::new(0);
-    let bytes = generator.draw_bytes(rt.alloc(), 11)?;
-    assert_eq!(rt;
-        bytes.as_slice(),
-        [60, 71, 209, 170, 98, 159, 87, 163, 129, 148, 203].as_slice()
-    );
-    Ok(())
-}
 
 #[test]
 fn the_script_and_the_raster(rt: HostRuntime) -> Result<(), Fail> {

@@ -3,11 +3,11 @@
 ghost use Rattle.std.specs.Prelude.{◌≡◌, ◌+◌, ◌≤◌, IfOk, OnOk, length};
 ghost use Rattle.tile_cow.specs.Tile.{IsTileLength, overwritten};
 
-use super::*;
 use no_memory::NoMemory;
 use std::alloc::Global;
 use std::test::Fail;
 use std::thread;
+use tile_cow::{Tile, Wrote};
 
 #[test]
 fn a_write_is_seen_by_its_owner_alone(rt: HostRuntime) -> Result<(), Fail> {

@@ -1,7 +1,7 @@
 //! A scene of one buffer and no node.
 
-use crate::scene::Scene;
 use model_operations::IntOp;
+use scenes::Scene;
 
 #[test]
 fn a_scene_shows_what_it_was_made_of(rt: HostRuntime) {

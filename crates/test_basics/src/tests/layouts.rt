@@ -3,7 +3,7 @@
 
 ghost use Rattle.plane_rect.specs.Rectangle.{InLimits};
 
-use crate::{BufferLayout, EditRefused};
+use buffer_layouts::{BufferLayout, EditRefused};
 use no_memory::NoMemory;
 use pixel_formats::Format;
 use plane_rect::{Name, Rect};
