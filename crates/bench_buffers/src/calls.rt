@@ -5,6 +5,7 @@ ghost use Rattle.chain_owners.specs.Held.{Held};
 ghost use Rattle.plane_rect.specs.Rectangle.{InLimits};
 ghost use Rattle.buffer_view.specs.BufferTables.{AreBuffersOver};
 
+use crate::parts::{Part, rect};
 use anyhow::{Context, Result};
 use bench_kit::{Report, Times, sum};
 use buffer_view::{BufferRefused, Buffers, no_buffers_ask_nothing};
@@ -17,43 +18,9 @@ use std::thread::Threads;
 use std::time::Instant;
 use worker_pieces::Workers;
 
-/// A rectangle of a level of a buffer, in pixels, how often it is read, and whether a square of 32 by 32 pixels is written
-/// before each read, in another tile each.
-#[derive(Clone, Copy)]
-pub struct Part {
-    pub level: u8,
-    pub first: u8,
-    pub width: u16,
-    pub height: u16,
-    pub rounds: u8,
-    pub is_written: bool,
-}
-
-impl Part {
-    /// Returns the rectangle.
-    fn rect(self) -> Rect
-        ensures { InLimits result }
-    {
-        rect(
-            u16::from(self.first),
-            u16::from(self.first),
-            self.width,
-            self.height,
-        )
-    }
-}
-
 /// Returns the name that a word is.
 pub fn name(word: &str) -> Result<Name> {
     Ok(Name::parse(word.as_bytes()).context("not a name")?)
-}
-
-/// Returns the rectangle of so many pixels from a position on, or the one without a position where that is none
-/// in limits.
-pub fn rect(x: u16, y: u16, width: u16, height: u16) -> Rect
-    ensures { InLimits result }
-{
-    test_rects::rect([x, y, width, height].map(i64::from))
 }
 
 /// Adds a buffer of zeros.

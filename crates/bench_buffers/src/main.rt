@@ -7,6 +7,7 @@
 #![tactic(auto)]
 
 mod calls;
+mod parts;
 mod picture;
 mod plain_bench;
 mod resident_bench;

@@ -1,6 +1,6 @@
 //! Times of plain copies and of plain averages.
 
-use crate::resident_bench::part_side;
+use crate::parts::part_side;
 use anyhow::Result;
 use bench_kit::{Report, Times, level_three, sum};
 use pixel_formats::Format;

@@ -3,7 +3,8 @@
 
 ghost use Rattle.std.specs.Prelude.{◌≤◌, ◌^◌};
 
-use crate::calls::{create, name, one_buffer, rect};
+use crate::calls::{create, name, one_buffer};
+use crate::parts::rect;
 use crate::picture::noise;
 use crate::swap_loops::{get_bands, put_bands, read_blocks, write_blocks};
 use anyhow::Result;

@@ -4,7 +4,8 @@ ghost use Rattle.std.specs.Prelude.{◌≡◌, length};
 ghost use Rattle.plane_rect.specs.Rectangle.{InLimits};
 ghost use Rattle.buffer_view.specs.BufferTables.{AreBuffersOver};
 
-use crate::calls::{name, rect};
+use crate::calls::name;
+use crate::parts::rect;
 use anyhow::Result;
 use buffer_view::Buffers;
 use chain_handlers::TileChain;

@@ -1,8 +1,7 @@
 //! The loops over names that are timed. Each gives a number that depends on all of its rounds.
 
 ghost use Rattle.std.specs.Prelude.{◌≡◌, IfOk, length};
-ghost use Rattle.level_tables.specs.NewTiles.{AreNewTiles};
-ghost use Rattle.level_tables.specs.Over.{tile_length};
+ghost use Rattle.level_tables.specs.{NewTiles.AreNewTiles, Over.tile_length};
 ghost use Rattle.bench_chains.specs.OneName.{IsOneName};
 
 use chain_handlers::TileChain;

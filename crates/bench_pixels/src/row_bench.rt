@@ -1,7 +1,6 @@
 //! The loops over rows of one length.
 
-ghost use Rattle.std.specs.Prelude.{◌≡◌, ◌≤◌, IsTrue};
-ghost use Rattle.pixel_formats.specs.Format.{has_alpha};
+ghost use Rattle.std.specs.Prelude.{◌≤◌};
 
 use crate::row_label::Label;
 use crate::row_loops::{self, Kernel};
@@ -84,7 +83,7 @@ impl RowBench {
             self.time_kernel(rt, Kernel::Threshold, f)?;
             self.time_kernel(rt, Kernel::Gain, f)?;
             if f.has_alpha() {
-                self.time_over(rt, f)?;
+                self.time_kernel(rt, Kernel::Over, f)?;
             }
         }
         for f in DEPTHS {
@@ -113,22 +112,6 @@ impl RowBench {
         let start = Instant::now(rt)?;
         let found = row_loops::run(kernel, f, &mut first, &second, &mut dst, self.rounds);
         self.report(rt, Label::new(kernel.name(), f), start, &dst, found)
-    }
-
-    fn time_over<R: Clock + Print + Eprint + Alloc<A = Global>>(
-        self,
-        rt: &R,
-        f: Format,
-    ) -> Result<()>
-        requires { IsTrue (has_alpha f) }
-    {
-        let count = self.length / f.pixel_bytes();
-        let mut top = rows::pixels(rt.alloc(), count, f, 7)?;
-        let bottom = rows::pixels(rt.alloc(), count, f, 11)?;
-        let mut dst = rows::pixels(rt.alloc(), count, f, 0)?;
-        let start = Instant::now(rt)?;
-        let found = row_loops::over(f, &mut top, &bottom, &mut dst, self.rounds);
-        self.report(rt, Label::new("over", f), start, &dst, found)
     }
 
     fn time_mask<R: Clock + Print + Eprint + Alloc<A = Global>>(

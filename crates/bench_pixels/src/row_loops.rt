@@ -1,7 +1,7 @@
 //! The loops that are timed. Each gives a number that depends on all of its rounds.
 
-ghost use Rattle.std.specs.Prelude.{◌≡◌, ◌*◌, ◌/◌, ◌%◌, IsTrue, length};
-ghost use Rattle.pixel_formats.specs.Format.{depth, has_alpha, pixel_bytes};
+ghost use Rattle.std.specs.Prelude.{◌≡◌, ◌*◌, ◌/◌, ◌%◌, length};
+ghost use Rattle.pixel_formats.specs.Format.{depth, pixel_bytes};
 ghost use Rattle.pixel_formats.specs.Row.{pixel_count};
 
 use crate::byte_loops::{last, mark};
@@ -20,6 +20,8 @@ pub enum Kernel {
     Add,
     Min,
     Max,
+    /// In formats with alpha alone; in others it writes nothing.
+    Over,
 }
 
 impl Kernel {
@@ -32,6 +34,7 @@ impl Kernel {
             Kernel::Add => "add",
             Kernel::Min => "min",
             Kernel::Max => "max",
+            Kernel::Over => "over",
         }
     }
 
@@ -47,6 +50,11 @@ impl Kernel {
             Kernel::Add => row_add(f, first, second, dst),
             Kernel::Min => row_min(f, first, second, dst),
             Kernel::Max => row_max(f, first, second, dst),
+            Kernel::Over => {
+                if f.has_alpha() {
+                    row_over(f, first, second, dst);
+                }
+            }
         }
     }
 }
@@ -68,22 +76,6 @@ pub fn run(
     for round in 0..rounds {
         mark(first, round);
         kernel.run(f, first, second, dst);
-        found = found.wrapping_add(last(dst));
-    }
-    found
-}
-
-/// Lays a row over another.
-pub fn over(f: Format, top: &mut [u8], bottom: &[u8], dst: &mut [u8], rounds: u32) -> u64
-    requires alpha { IsTrue (has_alpha f) }
-    requires whole { length top.old % pixel_bytes f ≡ 0 }
-    requires same_length { length bottom.now ≡ length top.old }
-    requires written_length { length dst.old ≡ length top.old }
-{
-    let mut found = 0u64;
-    for round in 0..rounds {
-        mark(top, round);
-        row_over(f, top, bottom, dst);
         found = found.wrapping_add(last(dst));
     }
     found

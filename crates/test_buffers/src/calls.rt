@@ -86,18 +86,18 @@ pub fn fill_refused<C: TileChain>(
     assert_eq!(rt; answer, Err(wanted));
 }
 
-/// Checks a byte of the tile at the plane's origin of a buffer.
+/// Checks a byte of the tile at the plane's origin of a buffer, by the buffer's name and the byte's index.
 pub fn check<C: TileChain>(
     rt: &impl Abort,
     buffers: &mut Buffers,
     chain: &mut C,
-    word: &str,
-    index: usize,
+    byte: (&str, usize),
     wanted: u8,
 )
     requires { AreBuffersOver buffers.old (C.held chain.old) }
     ensures { AreBuffersOver buffers.new (C.held chain.new) }
 {
+    let (word, index) = byte;
     let name = name(rt, word);
     assert!(rt; buffers.fact(name).is_some());
     let tile = buffers.tile(chain, name, TileAt::of(0, 0));

@@ -19,11 +19,11 @@ pub fn write_to_duplicates<C: TileChain>(rt: &impl Abort, chain: &mut C, alloc: 
     let duplicate = buffers.dup(chain, name(rt, "b"), name(rt, "a"));
     duplicate.expect(rt, "a duplicate");
     fill(rt, &mut buffers, chain, "b", [0, 0, 1, 1], 8);
-    check(rt, &mut buffers, chain, "a", 0, 7);
-    check(rt, &mut buffers, chain, "b", 0, 8);
+    check(rt, &mut buffers, chain, ("a", 0), 7);
+    check(rt, &mut buffers, chain, ("b", 0), 8);
     fill(rt, &mut buffers, chain, "a", [1, 0, 1, 1], 9);
-    check(rt, &mut buffers, chain, "a", 1, 9);
-    check(rt, &mut buffers, chain, "b", 1, 7);
+    check(rt, &mut buffers, chain, ("a", 1), 9);
+    check(rt, &mut buffers, chain, ("b", 1), 7);
     buffers.release(chain);
 }
 
@@ -37,17 +37,17 @@ pub fn write_to_parts<C: TileChain>(
     let mut buffers = one_buffer(rt, chain, alloc, "a", [0, 0, 8, 1]);
     fill(rt, &mut buffers, chain, "a", [0, 0, 8, 1], 5);
     part(rt, &mut buffers, "p", "a", [2, 0, 20, 1]);
-    check(rt, &mut buffers, chain, "p", 1, 0);
-    check(rt, &mut buffers, chain, "p", 7, 5);
-    check(rt, &mut buffers, chain, "p", 8, 0);
+    check(rt, &mut buffers, chain, ("p", 1), 0);
+    check(rt, &mut buffers, chain, ("p", 7), 5);
+    check(rt, &mut buffers, chain, ("p", 8), 0);
     let (extent, workers) = (rect([2, 0, 3, 1]), Workers::new(rt, 2));
     let put = buffers.put_raw(chain, name(rt, "p"), extent, &[1, 2, 3], workers);
     put.expect(rt, "bytes of a rectangle");
-    check(rt, &mut buffers, chain, "a", 3, 2);
+    check(rt, &mut buffers, chain, ("a", 3), 2);
     let copied = buffers.copy(chain, name(rt, "p"), name(rt, "a"), extent, 1, 0);
     copied.expect(rt, "a rectangle of both");
-    check(rt, &mut buffers, chain, "p", 3, 1);
-    check(rt, &mut buffers, chain, "p", 5, 3);
+    check(rt, &mut buffers, chain, ("p", 3), 1);
+    check(rt, &mut buffers, chain, ("p", 5), 3);
     buffers.release(chain);
 }
 
@@ -57,10 +57,10 @@ pub fn fill_again<C: TileChain>(rt: &impl Abort, chain: &mut C, alloc: Global) {
     let mut buffers = one_buffer(rt, chain, alloc, "a", [0, 0, 130, 1]);
     fill(rt, &mut buffers, chain, "a", [0, 0, 1, 1], 5);
     fill_refused(rt, &mut buffers, chain, "a", [0, 0, 130, 1], &[9], failed);
-    check(rt, &mut buffers, chain, "a", 0, 5);
-    check(rt, &mut buffers, chain, "a", 1, 0);
+    check(rt, &mut buffers, chain, ("a", 0), 5);
+    check(rt, &mut buffers, chain, ("a", 1), 0);
     fill(rt, &mut buffers, chain, "a", [0, 0, 130, 1], 9);
-    check(rt, &mut buffers, chain, "a", 1, 9);
+    check(rt, &mut buffers, chain, ("a", 1), 9);
     buffers.release(chain);
 }
 
@@ -94,7 +94,7 @@ pub fn freeze_parts<C: TileChain>(
     let frozen = buffers.freeze(chain, name(rt, "p"));
     let frozen = frozen.expect(rt, "a frozen part");
     let mut snapshot = buffers.snapshot(chain)?;
-    check(rt, &mut snapshot, chain, "a", 3, 5);
+    check(rt, &mut snapshot, chain, ("a", 3), 5);
     snapshot.release(chain);
     let tile = frozen.tile(TileAt::of(0, 0)).expect(rt, "a tile");
     assert_eq!(rt; tile.bytes().get(..4), Some(&[0, 5, 5, 0][..]));

@@ -1,10 +1,10 @@
 //! Calls on a cache whose tiles all have four bytes, four times the same.
 
 ghost use Rattle.std.specs.Prelude.{◌≡◌, ◌≤◌, IfOk, length};
+ghost use Rattle.std.specs.Prelude.{map};
 ghost use Rattle.node_cache.specs.HandTiles.{IsHandCache, hand_size};
 ghost use Rattle.node_cache.specs.NodeNames.{IsNodeCache, sizes_in};
 ghost use Rattle.test_caches.specs.Lengths.{HaveLength};
-ghost use Rattle.std.specs.Prelude.{map};
 
 use chain_handlers::{SwapRefused, TileChain};
 use chain_owners::ChainMeaning;

@@ -3,8 +3,8 @@
 ghost use Rattle.std.specs.Prelude.{IsTrue};
 ghost use Rattle.outside_io.specs.FileName.{is_file_name};
 
+use crate::system_devices::long_bytes;
 use outside_io::{FolderShelf, MemShelf, Shelf, ShelfAnswer, SureShelf};
-use std::alloc::{AllocError, Global};
 use std::fs;
 use std::process::Abort;
 use std::thread::Threads;
@@ -28,9 +28,9 @@ const READS: [(u64, usize, &[u8]); 7] = [
 fn write_parts<S: Shelf>(rt: &impl Abort, shelf: &mut S, name: &str)
     requires { IsTrue (is_file_name name.now) }
 {
-    assert_eq!(rt; shelf.write(name, PARTS[0]), Ok(()));
+    assert!(rt; shelf.write(name, PARTS[0]).is_ok());
     for part in &PARTS[1..] {
-        assert_eq!(rt; shelf.append(name, part), Ok(()));
+        assert!(rt; shelf.append(name, part).is_ok());
     }
 }
 
@@ -47,8 +47,8 @@ fn check_parts<S: Shelf, R: Threads + Sync>(
         let mut into = [0; 8];
         let part = into.get_mut(..room).expect(rt, "at most eight bytes");
         let read = shelf.read_part(name, start, part, workers);
-        assert_eq!(rt; read, Ok(wanted.len()), "{room} bytes from {start} on");
-        assert!(rt; into.starts_with(wanted), "{room} bytes from {start} on");
+        let is_read = read == Ok(wanted.len()) && into.starts_with(wanted);
+        assert!(rt; is_read, "{room} bytes from {start} on");
     }
 }
 
@@ -59,11 +59,11 @@ fn parts_of_files(rt: HostRuntime) {
     let workers = Workers::new(&rt, 4);
     let mut folder = FolderShelf::new(&rt);
     let absent = folder.read_part(name, 0, &mut [0; 2], workers);
-    assert_eq!(rt; absent, Err(ShelfAnswer::Absent));
+    assert!(rt; absent == Err(ShelfAnswer::Absent));
     write_parts(&rt, &mut folder, name);
     check_parts(&rt, &mut folder, name, workers);
     fs::remove_file(&rt, name).expect(&rt, "the file");
-    assert_eq!(rt; folder.append(name, b"i"), Err(ShelfAnswer::Failed));
+    assert!(rt; folder.append(name, b"i") == Err(ShelfAnswer::Failed));
 }
 
 #[test]
@@ -72,11 +72,11 @@ fn parts_of_files_in_memory(rt: HostRuntime) {
     let mut sure = SureShelf::new(alloc, Vec::new(alloc));
     let workers = Workers::new(&rt, 4);
     let absent = sure.read_part("eight", 0, &mut [0; 2], workers);
-    assert_eq!(rt; absent, Err(ShelfAnswer::Absent));
+    assert!(rt; absent == Err(ShelfAnswer::Absent));
     write_parts(&rt, &mut sure, "eight");
     check_parts(&rt, &mut sure, "eight", workers);
     let mut shelf = MemShelf::new(alloc, Vec::new(alloc), Vec::new(alloc), Vec::new(alloc));
-    assert_eq!(rt; shelf.append("eight", b"a"), Ok(()));
+    assert!(rt; shelf.append("eight", b"a").is_ok());
     write_parts(&rt, &mut shelf, "eight");
     check_parts(&rt, &mut shelf, "eight", workers);
 }
@@ -87,17 +87,17 @@ fn calls_on_parts_fail_where_they_are_chosen(rt: HostRuntime) {
     let reads = vec![in alloc; 2].expect(&rt, "memory");
     let writes = vec![in alloc; 3].expect(&rt, "memory");
     let mut shelf = MemShelf::new(alloc, Vec::new(alloc), reads, writes);
-    assert_eq!(rt; shelf.write("new", b"abc"), Ok(()));
-    assert_eq!(rt; shelf.append("new", b"de"), Ok(()));
-    assert_eq!(rt; shelf.append("new", b"fghij"), Err(ShelfAnswer::Failed));
-    assert_eq!(rt; shelf.append("new", b"k"), Ok(()));
+    assert!(rt; shelf.write("new", b"abc").is_ok());
+    assert!(rt; shelf.append("new", b"de").is_ok());
+    assert!(rt; shelf.append("new", b"fghij") == Err(ShelfAnswer::Failed));
+    assert!(rt; shelf.append("new", b"k").is_ok());
     let workers = Workers::new(&rt, 1);
     let mut into = [0; 16];
-    assert_eq!(rt; shelf.read_part("new", 1, &mut into, workers), Ok(7));
+    assert!(rt; shelf.read_part("new", 1, &mut into, workers) == Ok(7));
     assert!(rt; into.starts_with(b"bcdefgk"));
     let failed = shelf.read_part("new", 1, &mut into, workers);
-    assert_eq!(rt; failed, Err(ShelfAnswer::Failed));
-    assert_eq!(rt; shelf.read_part("new", 7, &mut into, workers), Ok(1));
+    assert!(rt; failed == Err(ShelfAnswer::Failed));
+    assert!(rt; shelf.read_part("new", 7, &mut into, workers) == Ok(1));
 }
 
 /// How many bytes the long file has: as many as several threads read.
@@ -105,15 +105,6 @@ const LONG: usize = 3_000_001;
 
 /// Where a part of it begins.
 const BEGUN: usize = 1_000_003;
-
-/// Returns the bytes of the long file: the numbers from 0 to 250 again and again.
-fn long_bytes(alloc: Global) -> Result<Vec<u8>, AllocError> {
-    let mut bytes = Vec::with_capacity(alloc, LONG)?;
-    for index in 0..LONG {
-        bytes.push((index % 251) as u8)?;
-    }
-    Ok(bytes)
-}
 
 /// Reads a file of these bytes whole and from its middle, each time past its end, by so many workers.
 fn check_long<S: Shelf>(
@@ -128,10 +119,10 @@ fn check_long<S: Shelf>(
 {
     let workers = Workers::new(rt, count);
     let whole = shelf.read_part(name, 0, into, workers);
-    assert_eq!(rt; whole, Ok(LONG));
+    assert!(rt; whole == Ok(LONG));
     assert!(rt; into.starts_with(bytes));
     let rest = shelf.read_part(name, BEGUN as u64, into, workers);
-    assert_eq!(rt; rest, Ok(LONG - BEGUN));
+    assert!(rt; rest == Ok(LONG - BEGUN));
     let left = bytes.get(BEGUN..).expect(rt, "a long file");
     assert!(rt; into.starts_with(left));
 }
@@ -141,10 +132,10 @@ fn pieces_of_a_part_are_read_by_several_threads(rt: HostRuntime) {
     let alloc = rt.alloc();
     let name = "file_parts.long";
     assert!(rt; outside_io::is_file_name(name.as_bytes()));
-    let bytes = long_bytes(alloc).expect(&rt, "memory");
+    let bytes = long_bytes(&rt, alloc, LONG as u64);
     let mut into = vec![in alloc; 0; LONG + 7].expect(&rt, "memory");
     let mut folder = FolderShelf::new(&rt);
-    assert_eq!(rt; folder.write(name, &bytes), Ok(()));
+    assert!(rt; folder.write(name, &bytes).is_ok());
     check_long(&rt, &mut folder, name, &bytes, &mut into, 1);
     check_long(&rt, &mut folder, name, &bytes, &mut into, 2);
     check_long(&rt, &mut folder, name, &bytes, &mut into, 3);

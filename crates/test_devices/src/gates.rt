@@ -27,8 +27,8 @@ fn viewers_and_an_editor_meet(rt: HostRuntime) {
         },
         || publish(&gate, 3),
     );
-    assert_eq!(rt; gate.ran_out(), 0);
-    assert_eq!(rt; gate.calls(), 7);
+    assert!(rt; gate.ran_out() == 0);
+    assert!(rt; gate.calls() == 7);
 }
 
 #[test]
@@ -36,41 +36,44 @@ fn a_single_viewer_waits_for_nobody(rt: HostRuntime) {
     let gate = MeetGate::new(rt.alloc(), 1, 1, 10).expect(&rt, "memory");
     gate.looked(0, 0);
     gate.published(2);
-    assert_eq!(rt; gate.ran_out(), 0);
-    assert_eq!(rt; gate.calls(), 2);
+    assert!(rt; gate.ran_out() == 0);
+    assert!(rt; gate.calls() == 2);
 }
+
+/// A call on a gate, as a viewer's frame or a commit, each by its number.
+#[derive(Clone, Copy)]
+enum Call {
+    Looked(u32, u32),
+    Published(u64),
+}
+
+/// Calls on a gate of two viewers, two frames each and three turns, and how many waits ran out by then.
+const WAITS: [(Call, u64); 10] = [
+    // These wait for nothing: there is no third viewer, and no third frame.
+    (Call::Looked(2, 0), 0),
+    (Call::Looked(0, 2), 0),
+    // The other viewer reported nothing, and the same report again is none of it.
+    (Call::Looked(0, 0), 1),
+    (Call::Looked(0, 0), 2),
+    // Nothing was published, and then frame 0 of viewer 1 is missing.
+    (Call::Looked(1, 1), 3),
+    (Call::Published(1), 4),
+    // Now all of frame 0 are there, then all of frame 1, and there is no frame 2.
+    (Call::Looked(1, 0), 4),
+    (Call::Looked(0, 1), 4),
+    (Call::Published(2), 4),
+    (Call::Published(3), 4),
+];
 
 #[test]
 fn waits_end_after_their_turns(rt: HostRuntime) {
     let gate = MeetGate::new(rt.alloc(), 2, 2, 3).expect(&rt, "memory");
-    gate.looked(2, 0);
-    gate.looked(0, 2);
-    assert_eq!(rt;
-        gate.ran_out(),
-        0,
-        "of another viewer, and of another frame"
-    );
-    gate.looked(0, 0);
-    assert_eq!(rt; gate.ran_out(), 1, "the other viewer reported nothing");
-    gate.looked(0, 0);
-    assert_eq!(rt;
-        gate.ran_out(),
-        2,
-        "the same report again is none of the other viewer"
-    );
-    gate.looked(1, 1);
-    assert_eq!(rt; gate.ran_out(), 3, "nothing was published");
-    gate.published(1);
-    assert_eq!(rt; gate.ran_out(), 4, "frame 0 of viewer 1 is missing");
-    gate.looked(1, 0);
-    assert_eq!(rt; gate.ran_out(), 4, "now all of frame 0 are there");
-    gate.looked(0, 1);
-    gate.published(2);
-    gate.published(3);
-    assert_eq!(rt;
-        gate.ran_out(),
-        4,
-        "all of frame 1 are there, and there is no frame 2"
-    );
-    assert_eq!(rt; gate.calls(), 10);
+    for (index, (call, ran_out)) in WAITS.iter().enumerate() {
+        match *call {
+            Call::Looked(viewer, frame) => gate.looked(viewer, frame),
+            Call::Published(number) => gate.published(number),
+        }
+        assert!(rt; gate.ran_out() == *ran_out, "call {index}");
+    }
+    assert!(rt; gate.calls() == 10);
 }

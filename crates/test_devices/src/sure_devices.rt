@@ -2,10 +2,9 @@
 //! values are worked out by hand from the doc comments.
 
 ghost use Rattle.std.specs.Prelude.{◌≡◌, ◌<◌, length, IsErrOf};
-ghost use Rattle.outside_io.specs.Faults.{Rose};
-ghost use Rattle.outside_io.specs.Swap.{WritesBlock};
+ghost use Rattle.outside_io.specs.{Faults.Rose, Swap.WritesBlock};
 
-use crate::tests::is_answer;
+use crate::system_devices::check_read;
 use outside_io::{
     Lent, MemSwap, NoMemory, Shelf, ShelfAnswer, Sink, SinkAnswer, SureShelf, SureSink, SureSwap,
     SwapAnswer, SwapDisk, is_file_name,
@@ -32,7 +31,7 @@ fn names_of_files(rt: HostRuntime) {
         (&too_long, false),
     ];
     for (name, wanted) in &names {
-        assert_eq!(rt; is_file_name(name), *wanted, "{name:?}");
+        assert!(rt; is_file_name(name) == *wanted, "{name:?}");
     }
 }
 
@@ -40,37 +39,35 @@ fn names_of_files(rt: HostRuntime) {
 fn a_sure_shelf(rt: HostRuntime) {
     let alloc = rt.alloc();
     let mut shelf = SureShelf::new(alloc, Vec::new(alloc));
-    assert_eq!(rt; shelf.write("five", &[1, 2, 3, 4, 5]), Ok(()));
+    assert!(rt; shelf.write("five", &[1, 2, 3, 4, 5]).is_ok());
     let too_long = ShelfAnswer::TooLong { taken: 5 };
-    for (limit, wanted) in [(4, Err(too_long)), (5, Ok([1, 2, 3, 4, 5].as_slice()))] {
-        let answer = shelf.read("five", limit);
-        assert!(rt; is_answer(&answer, &wanted), "up to {limit}");
-    }
-    assert_eq!(rt; shelf.read("none", 4), Err(ShelfAnswer::Absent));
+    check_read(&rt, &mut shelf, "five", 4, Err(too_long));
+    check_read(&rt, &mut shelf, "five", 5, Ok(&[1, 2, 3, 4, 5]));
+    check_read(&rt, &mut shelf, "none", 4, Err(ShelfAnswer::Absent));
 }
 
 #[test]
 fn a_sure_sink(rt: HostRuntime) {
     let mut sink = SureSink::new(rt.alloc());
-    assert_eq!(rt; sink.put(b"one"), Ok(()));
-    assert_eq!(rt; sink.put(b"two"), Ok(()));
-    assert_eq!(rt; sink.bytes(), b"onetwo".as_slice());
+    assert!(rt; sink.put(b"one").is_ok());
+    assert!(rt; sink.put(b"two").is_ok());
+    assert!(rt; sink.bytes() == b"onetwo".as_slice());
 }
 
 /// Checks that all bytes of a block are the same.
 pub fn check_block<D: SwapDisk>(rt: &impl Abort, disk: &mut D, number: u32, byte: u8) {
     let mut block = [1u8; 4096];
     assert!(rt; number < disk.size());
-    assert_eq!(rt; disk.read_block(number, &mut block), Ok(()));
-    assert_eq!(rt; block, [byte; 4096], "block {number}");
+    assert!(rt; disk.read_block(number, &mut block).is_ok());
+    assert!(rt; block == [byte; 4096], "block {number}");
 }
 
 #[test]
 fn a_sure_swap_disk(rt: HostRuntime) {
     let mut disk = SureSwap::new(rt.alloc(), 2).expect(&rt, "memory");
     check_block(&rt, &mut disk, 0, 0);
-    assert_eq!(rt; disk.size(), 2);
-    assert_eq!(rt; disk.write_block(1, &[7; 4096]), Ok(()));
+    assert!(rt; disk.size() == 2);
+    assert!(rt; disk.write_block(1, &[7; 4096]).is_ok());
     check_block(&rt, &mut disk, 1, 7);
 }
 
@@ -81,11 +78,11 @@ fn several_blocks_in_one_call(rt: HostRuntime) {
     let mut two = [1u8; 8192];
     let writes = vec![in alloc; 4].expect(&rt, "memory");
     let mut disk = MemSwap::new(alloc, 4, Vec::new(alloc), writes).expect(&rt, "memory");
-    assert_eq!(rt; disk.size(), 4);
-    assert_eq!(rt; disk.write_blocks(1, &[7; 8192]), Ok(()));
-    assert_eq!(rt; disk.read_blocks(1, &mut two), Ok(()));
-    assert_eq!(rt; two, [7; 8192]);
-    assert_eq!(rt; disk.write_blocks(2, &[8; 8192]), Err(SwapAnswer::Failed));
+    assert!(rt; disk.size() == 4);
+    assert!(rt; disk.write_blocks(1, &[7; 8192]).is_ok());
+    assert!(rt; disk.read_blocks(1, &mut two).is_ok());
+    assert!(rt; two == [7; 8192]);
+    assert!(rt; disk.write_blocks(2, &[8; 8192]) == Err(SwapAnswer::Failed));
     check_block(&rt, &mut disk, 2, 8);
     check_block(&rt, &mut disk, 3, 0xEE);
 }
@@ -134,15 +131,15 @@ fn write_lent<D: SwapDisk>(disk: &mut D, bytes: &[u8]) -> Result<(), SwapAnswer>
 fn a_lent_swap_disk(rt: HostRuntime) {
     let mut block = [1u8; 4096];
     let mut disk = SureSwap::new(rt.alloc(), 2).expect(&rt, "memory");
-    assert_eq!(rt; disk.size(), 2);
-    assert_eq!(rt; write_lent(&mut disk, &[7; 4096]), Ok(()));
+    assert!(rt; disk.size() == 2);
+    assert!(rt; write_lent(&mut disk, &[7; 4096]).is_ok());
     check_block(&rt, &mut Lent { disk: &mut disk }, 0, 7);
-    assert_eq!(rt; Lent { disk: &mut disk }.size(), 2);
-    let answer = Lent { disk: &mut disk }.write_blocks(1, &[8; 4096]);
-    assert_eq!(rt; answer, Ok(()));
-    let answer = Lent { disk: &mut disk }.read_blocks(1, &mut block);
-    assert_eq!(rt; answer, Ok(()));
-    assert_eq!(rt; block, [8; 4096]);
+    assert!(rt; Lent { disk: &mut disk }.size() == 2);
+    let written = Lent { disk: &mut disk }.write_blocks(1, &[8; 4096]);
+    assert!(rt; written.is_ok());
+    let read = Lent { disk: &mut disk }.read_blocks(1, &mut block);
+    assert!(rt; read.is_ok());
+    assert!(rt; block == [8; 4096]);
 }
 
 /// Checks the text of an answer.

@@ -1,8 +1,7 @@
 //! A source of tiles.
 
 ghost use Rattle.std.specs.Prelude.{◌≡◌, ◌∷◌, [], ⊤, IfErr, IfOk, IsSome, Some, refl};
-ghost use Rattle.chain_owners.specs.Counts.{Grows};
-ghost use Rattle.chain_owners.specs.Owners.{Respects};
+ghost use Rattle.chain_owners.specs.{Counts.Grows, Owners.Respects};
 ghost use Rattle.model_graphs.specs.Facts.{fact_of};
 ghost use Rattle.swap_store.specs.Cause.{HasSwapCause};
 ghost use Rattle.op_contracts.specs.Sources.{HasBufferLength, IsTileOf};

@@ -4,8 +4,7 @@ ghost use Rattle.std.specs.Prelude.{◌≡◌, All, IfOk, IfSome, IsSome, IsTrue
 ghost use Rattle.std.specs.Bool.{OnTrue};
 ghost use Rattle.plane_rect.specs.Rectangle.{Includes};
 ghost use Rattle.model_images.specs.Paint.{cut};
-ghost use Rattle.model_graphs.specs.Meanings.{result_box};
-ghost use Rattle.model_graphs.specs.Windows.{IsWholeWindow};
+ghost use Rattle.model_graphs.specs.{Meanings.result_box, Windows.IsWholeWindow};
 ghost use Rattle.op_contracts.specs.Applying.{HaveRequired, bounds_of, result_of_windows, window_bounds, window_formats};
 ghost use Rattle.test_kit.specs.Applicable.{IsApplicable};
 

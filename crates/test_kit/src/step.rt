@@ -1,8 +1,7 @@
 //! What a render does for one tile, in small, for whatever kit.
 
 ghost use Rattle.std.specs.Prelude.{◌≡◌, IfOk, IfSome};
-ghost use Rattle.plane_rect.specs.Rectangle.{meet};
-ghost use Rattle.plane_rect.specs.Tile.{tile_rectangle};
+ghost use Rattle.plane_rect.specs.{Rectangle.meet, Tile.tile_rectangle};
 ghost use Rattle.model_images.specs.Paint.{cut};
 ghost use Rattle.model_graphs.specs.Meanings.{result_box};
 ghost use Rattle.op_contracts.specs.Applying.{result_of_windows, window_bounds};

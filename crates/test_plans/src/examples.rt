@@ -7,10 +7,11 @@ use int_ops::{IntKit, IntOp};
 use model_states::Strip;
 use pixel_formats::Abyss;
 use plane_rect::TileAt;
-use roi_planner::{PlanRefused, strip_rects};
+use roi_planner::PlanRefused;
 use std::alloc::Global;
 use std::process::Abort;
 use test_rects::rect;
+use tile_parts::strip_rects;
 
 /// A needed tile: the position of its node, and the x and y of one of its pixels.
 type Needed = (u32, i64, i64);

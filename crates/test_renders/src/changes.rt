@@ -2,8 +2,7 @@
 
 ghost use Rattle.std.specs.Prelude.{◌≡◌, [], List, OnOk};
 ghost use Rattle.model_buffers.specs.Layout.{facts_of};
-ghost use Rattle.model_graphs.specs.declared.node.NodeFact.{NodeFact as Fact};
-ghost use Rattle.model_graphs.specs.Facts.{shapes_of_facts};
+ghost use Rattle.model_graphs.specs.{declared.node.NodeFact.NodeFact as Fact, Facts.shapes_of_facts};
 ghost use Rattle.model_states.specs.Valid.{AreStated};
 ghost use Rattle.strip_renders.specs.Strips.{AreSizedPairs};
 ghost use Rattle.buffer_view.specs.BufferTables.{AreBuffersOver, buffers_names};

@@ -15,6 +15,8 @@ pub enum Content {
     Bytes(&'static [u8]),
     /// These rows of bytes, from the top.
     Bands(&'static [Band]),
+    /// So many first bytes of each of these rows, from the top.
+    FirstOf(usize, &'static [Band]),
     /// As many bytes, of this hash.
     Hashed(usize, u64),
 }
@@ -69,7 +71,8 @@ impl Content {
     fn begins(&self, rt: &impl Abort, alloc: Global, found: &[u8]) -> Option<usize> {
         match self {
             Content::Bytes(wanted) => begun(wanted, found),
-            Content::Bands(bands) => begun(&bytes_of(rt, alloc, bands), found),
+            Content::Bands(bands) => begun(&bytes_of(rt, alloc, bands, usize::MAX), found),
+            Content::FirstOf(count, bands) => begun(&bytes_of(rt, alloc, bands, *count), found),
             _ => None,
         }
     }
@@ -93,24 +96,26 @@ fn hash_of(bytes: &[u8]) -> u64 {
     hash
 }
 
-/// Returns the bytes of rows.
-fn bytes_of(rt: &impl Abort, alloc: Global, bands: &[Band]) -> Vec<u8> {
+/// Returns at most so many first bytes of each of some rows.
+fn bytes_of(rt: &impl Abort, alloc: Global, bands: &[Band], most: usize) -> Vec<u8> {
     let mut bytes = Vec::new(alloc);
     for band in bands {
-        push_band(rt, &mut bytes, band);
+        push_band(rt, &mut bytes, band, most);
     }
     bytes
 }
 
-fn push_band(rt: &impl Abort, bytes: &mut Vec<u8>, band: &Band) {
+fn push_band(rt: &impl Abort, bytes: &mut Vec<u8>, band: &Band, most: usize) {
     for _row in 0..band.0 {
-        push_row(rt, bytes, band.1);
+        push_row(rt, bytes, band.1, most);
     }
 }
 
-fn push_row(rt: &impl Abort, bytes: &mut Vec<u8>, runs: &[(usize, u8)]) {
+fn push_row(rt: &impl Abort, bytes: &mut Vec<u8>, runs: &[(usize, u8)], most: usize) {
+    let mut left = most;
     for (count, byte) in runs {
-        push_run(rt, bytes, *count, *byte);
+        push_run(rt, bytes, left.min(*count), *byte);
+        left = left.saturating_sub(*count);
     }
 }
 

@@ -1,11 +1,11 @@
 //! Calls on sessions of gray pixels, by words and rectangles of four numbers.
 
-ghost use Rattle.std.specs.Prelude.{◌≡◌, ◌≤◌};
+ghost use Rattle.std.specs.Prelude.{◌≡◌};
 ghost use Rattle.model_operations.specs.Meanings.{int_meanings, same_operation};
 ghost use Rattle.model_sessions.specs.Steps.{IsProper};
-ghost use Rattle.commit_session.specs.Edits.{step_of};
-ghost use Rattle.commit_session.specs.Seen.{IsOver};
+ghost use Rattle.commit_session.specs.{Edits.step_of, Seen.IsOver};
 
+use buffer_view::BufferRefused;
 use chain_contracts::TileChain;
 use commit_session::{Edit, OwnedSession, SessionRefused};
 use int_ops::{IntKit, IntOp, IntPurse};
@@ -14,13 +14,18 @@ use model_graphs::NodeEdit;
 use patch_abyss::{Abyss, Patch};
 use pixel_formats::{Format, PixelSamples};
 use plane_rect::Name;
+use render_workers::RenderRefused;
 use std::alloc::Global;
 use std::process::Abort;
 use std::thread::Threads;
+use swap_store::SwapRefused;
 use test_rects::rect;
 
 /// A rectangle by x, y, width and height.
 pub type Fields = [i64; 4];
+
+/// A node, a level of it, and a rectangle of the level, which are rendered.
+pub type Asked = (&'static str, u32, Fields);
 
 /// How many permits there are for each render.
 const PERMITS: u64 = 1 << 32;
@@ -30,70 +35,100 @@ pub fn name(rt: &impl Abort, word: &str) -> Name {
     test_nodes::name(word).expect(rt, "a name")
 }
 
-/// Returns the edit that adds a buffer of zeros.
-pub fn create(rt: &impl Abort, word: &str, fields: Fields) -> Edit<IntOp>
-    ensures { IsProper (step_of result) }
-{
-    Edit::Create {
-        name: name(rt, word),
-        format: Format::Y8,
-        extent: rect(fields),
+/// An operation on one input.
+#[derive(Clone, Copy)]
+pub enum Work {
+    /// The mean of nine pixels.
+    Mean,
+
+    /// So many times the input.
+    Gain(u32),
+
+    /// The input subtracted from the largest gray.
+    Invert,
+}
+
+impl Work {
+    /// Returns the operation.
+    fn op(self) -> IntOp {
+        match self {
+            Work::Mean => IntOp::BoxMean {
+                radius: 1,
+                abyss: Abyss::None,
+            },
+            Work::Gain(num) => IntOp::Gain { num, den: 1 },
+            Work::Invert => IntOp::Invert,
+        }
     }
 }
 
-/// Returns the edit that writes one gray everywhere in a rectangle of a buffer.
-pub fn paint(rt: &impl Abort, alloc: Global, word: &str, fields: Fields, gray: u32) -> Edit<IntOp>
+/// An edit of buffers of gray pixels or of nodes.
+#[derive(Clone, Copy)]
+pub enum Made<'a> {
+    /// A new buffer of zeros.
+    Buffer(&'static str, Fields),
+
+    /// One gray everywhere in a rectangle of a buffer.
+    Paint(&'static str, Fields, u32),
+
+    /// Raw bytes over a rectangle of a buffer.
+    Load(&'static str, Fields, &'a [u8]),
+
+    /// A node of the image of a buffer.
+    Source(&'static str, &'static str),
+
+    /// A node of an operation on one input.
+    Node(&'static str, Work, &'static str),
+}
+
+/// Returns the edit.
+fn edit_of(rt: &impl Abort, alloc: Global, made: Made<'_>) -> Edit<IntOp>
     ensures { IsProper (step_of result) }
 {
-    let samples = vec![in alloc; gray].expect(rt, "memory");
-    Edit::Fill {
-        name: name(rt, word),
-        rect: rect(fields),
-        samples: PixelSamples::new(samples),
+    match made {
+        Made::Buffer(word, fields) => Edit::Create {
+            name: name(rt, word),
+            format: Format::Y8,
+            extent: rect(fields),
+        },
+        Made::Paint(word, fields, gray) => Edit::Fill {
+            name: name(rt, word),
+            rect: rect(fields),
+            samples: PixelSamples::new(vec![in alloc; gray].expect(rt, "memory")),
+        },
+        Made::Load(word, fields, bytes) => Edit::Load {
+            name: name(rt, word),
+            rect: rect(fields),
+            bytes: RawBytes::new(bytes.to_vec(alloc).expect(rt, "memory")),
+        },
+        Made::Source(word, buffer) => {
+            let source = test_nodes::source(word, buffer).expect(rt, "a node");
+            Edit::Node(NodeEdit::Set(source))
+        }
+        Made::Node(word, work, input) => {
+            let node = test_nodes::node(alloc, word, work.op(), &[input]).expect(rt, "a node");
+            Edit::Node(NodeEdit::Set(node))
+        }
     }
 }
 
-/// Returns the edit that writes raw bytes over a rectangle of a buffer.
-pub fn load(rt: &impl Abort, alloc: Global, word: &str, fields: Fields, bytes: &[u8]) -> Edit<IntOp>
-    ensures { IsProper (step_of result) }
-{
-    let bytes = bytes.to_vec(alloc).expect(rt, "memory");
-    Edit::Load {
-        name: name(rt, word),
-        rect: rect(fields),
-        bytes: RawBytes::new(bytes),
-    }
-}
-
-/// Returns the edit that sets a node of the image of a buffer.
-pub fn source(rt: &impl Abort, word: &str, buffer: &str) -> Edit<IntOp>
-    ensures { IsProper (step_of result) }
-{
-    let source = test_nodes::source(word, buffer).expect(rt, "a node");
-    Edit::Node(NodeEdit::Set(source))
-}
-
-/// Returns the edit that sets a node of an operation on one input.
-pub fn node(rt: &impl Abort, alloc: Global, word: &str, op: IntOp, input: &str) -> Edit<IntOp>
-    ensures { IsProper (step_of result) }
-{
-    let node = test_nodes::node(alloc, word, op, &[input]).expect(rt, "a node");
-    Edit::Node(NodeEdit::Set(node))
-}
-
-/// Makes an edit, which is not refused.
-pub fn make<C: TileChain>(
+/// Makes an edit, and again where the disk refuses it. Returns whether it did.
+pub fn edit<C: TileChain>(
     rt: &(impl Abort + Threads + Sync),
     session: &mut OwnedSession<IntKit, C>,
-    edit: Edit<IntOp>,
-)
-    requires over { IsOver same_operation int_meanings session.old.state (C.held session.old.chain) }
-    requires proper { IsProper (step_of edit) }
+    alloc: Global,
+    made: Made<'_>,
+) -> bool
+    requires { IsOver same_operation int_meanings session.old.state (C.held session.old.chain) }
     ensures { IsOver same_operation int_meanings session.new.state (C.held session.new.chain) }
 {
-    session
-        .edit(rt, edit)
-        .expect(rt, "an edit that is not refused");
+    let Err(refused) = session.edit(rt, edit_of(rt, alloc, made)) else {
+        return false;
+    };
+    assert!(rt; refused == SessionRefused::Buffer(BufferRefused::Swap(SwapRefused::SwapFault)));
+    let again = session.edit(rt, edit_of(rt, alloc, made));
+    again.expect(rt, "one call that fails");
+    true
 }
 
 /// Commits, and checks the number of the new state.
@@ -132,34 +167,34 @@ pub fn redo<C: TileChain>(rt: &impl Abort, session: &mut OwnedSession<IntKit, C>
 pub fn render<C: TileChain>(
     rt: &(impl Abort + Threads + Sync),
     session: &mut OwnedSession<IntKit, C>,
-    word: &str,
-    level: u32,
-    fields: Fields,
+    asked: Asked,
 ) -> Result<Patch, SessionRefused>
-    requires over { IsOver same_operation int_meanings session.old.state (C.held session.old.chain) }
-    requires level { level ≤ 8 }
+    requires { IsOver same_operation int_meanings session.old.state (C.held session.old.chain) }
     ensures { IsOver same_operation int_meanings session.new.state (C.held session.new.chain) }
 {
+    let (word, level, fields) = asked;
+    assert!(rt; level <= 8);
     let mut purse = IntPurse::new(PERMITS);
     session.render(rt, &mut purse, name(rt, word), level, rect(fields))
 }
 
-/// Renders a rectangle of a node, and checks the counts after it.
+/// Renders a rectangle of a level of a node, and again where the disk refuses it. Returns the patch, and whether it did.
 pub fn shown<C: TileChain>(
     rt: &(impl Abort + Threads + Sync),
     session: &mut OwnedSession<IntKit, C>,
-    word: &str,
-    fields: Fields,
-    counts: (u64, u64),
-) -> Patch
+    asked: Asked,
+) -> (Patch, bool)
     requires { IsOver same_operation int_meanings session.old.state (C.held session.old.chain) }
     ensures { IsOver same_operation int_meanings session.new.state (C.held session.new.chain) }
 {
-    let patch = render(rt, session, word, 0, fields);
-    let patch = patch.expect(rt, "a request that is not refused");
-    let found = session.counts();
-    assert_eq!(rt; (found.applied, found.reused), counts);
-    patch
+    match render(rt, session, asked) {
+        Ok(patch) => (patch, false),
+        Err(refused) => {
+            assert!(rt; refused == SessionRefused::Render(RenderRefused::SwapFault));
+            let patch = render(rt, session, asked);
+            (patch.expect(rt, "one call that fails"), true)
+        }
+    }
 }
 
 /// Returns a rectangle of a buffer that is edited.

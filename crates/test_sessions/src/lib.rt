@@ -4,8 +4,8 @@
 #[cfg(test)]
 mod calls;
 #[cfg(test)]
-mod faults;
-#[cfg(test)]
 mod jobs;
+#[cfg(test)]
+mod steps;
 #[cfg(test)]
 mod tests;

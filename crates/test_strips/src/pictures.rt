@@ -1,8 +1,7 @@
 //! Pictures that keep tiles, and which ones do.
 
 ghost use Rattle.std.specs.Prelude.{◌≡◌, ◌*◌, ◌<◌, ◌≤◌, All, IfOk};
-ghost use Rattle.pixel_formats.specs.Format.{pixel_bytes};
-ghost use Rattle.pixel_formats.specs.declared.format.Format.TheVariants.{Y8};
+ghost use Rattle.pixel_formats.specs.{Format.pixel_bytes, declared.format.Format.TheVariants.Y8};
 ghost use Rattle.plane_rect.specs.Tile.{IsWhole};
 ghost use Rattle.op_contracts.specs.TileList.{HasLength};
 
