@@ -19,7 +19,7 @@ use Rattle.model_states.specs.declared.refused.StateRefused.{StateRefused}
 use Rattle.model_states.specs.Damage.{IsStated}
 use Rattle.model_states.specs.Edits.{edited}
 use Rattle.model_states.specs.History.{Committed, History, appended, committed, committed_states, latest_of, new_history, number_of, redone, undone, with_step}
-use Rattle.model_states.specs.Rectangles.{Rectangles}
+use Rattle.model_states.specs.Rectangles.{Rectangles, with_written}
 use Rattle.model_states.specs.Retained.{AreFew, Retained, Stepped, left_state, redo_to, undo_to, with_commit}
 use Rattle.model_states.specs.State.{IsValidScene, State}
 use Rattle.model_states.specs.Valid.{AreValid}
@@ -163,53 +163,56 @@ module _ {Op : Type 0} where
             few = commit_few history.workspace.retained next written;
           })
 
+  -- A step along a trail, beside which are others: it is refused, or the first state of the trail becomes the last one. What
+  -- is given of that state makes it the next one.
+  next_along : (meanings : Meanings Op) (history : History Table Op) (step : List (Committed Table Op) → Result (Stepped (States Op) Rectangles) StateRefused) (trail others : List (Committed Table Op)) →
+      IsHistory meanings history → IsTrail meanings (last_state history) trail → IsTrail meanings (last_state history) others → length trail + length others ≤ max_undoable →
+      IfOk (step []) (IsNext meanings history) →
+      ((next : Committed Table Op) (rest : List (Committed Table Op)) → IsValidState meanings next.state → AreTablesSeparated (last_state history).table next.state.table next.delta →
+      IsTrail meanings next.state rest → IsTrail meanings next.state (left_state history.workspace.retained next.delta ∷ others) →
+      length rest + length (left_state history.workspace.retained next.delta ∷ others) ≤ max_undoable → IfOk (step (next ∷ rest)) (IsNext meanings history)) →
+      IfOk (step trail) (IsNext meanings history)
+  next_along meanings history step [] others is along beside few none some = none
+  next_along meanings history step (next ∷ rest) others is along beside few none some =
+      some next rest along.0 along.1 along.2 (left_trail meanings history next.state next.delta others is along.1 beside) (omega (arith, few))
+
   undo_keeps : (meanings : Meanings Op) (history : History Table Op) → IsHistory meanings history → IfOk (undone history) (IsHistory meanings)
   undo_keeps meanings history is =
+      let retained : States Op = history.workspace.retained in
       keeps_settled meanings history _ is
-      (at_last (IsNext meanings history) (number_of history) (undo_to retained retained.undoable) (of retained.undoable is.undoable is.few))
-    where
-      retained : States Op
-      retained = history.workspace.retained
-
-      of : (trail : List (Committed Table Op)) → IsTrail meanings (last_state history) trail →
-          length trail + length retained.redoable ≤ max_undoable → IfOk (undo_to retained trail) (IsNext meanings history)
-      of [] back few = tt
-      of (next ∷ rest) back few =
-          record {
-            valid = back.0;
-            separated = back.1;
-            number = refl;
-            undoable = back.2;
-            redoable = left_trail meanings history next.state next.delta retained.redoable is back.1 is.redoable;
-            few = omega (arith, few);
-          }
+      (at_last (IsNext meanings history) (number_of history) (undo_to retained retained.undoable)
+      (next_along meanings history (undo_to retained) retained.undoable retained.redoable is is.undoable is.redoable is.few tt
+      (λ next rest valid separated along beside few. record { valid = valid; separated = separated; number = refl; undoable = along; redoable = beside; few = few })))
 
   redo_keeps : (meanings : Meanings Op) (history : History Table Op) → IsHistory meanings history → IfOk (redone history) (IsHistory meanings)
   redo_keeps meanings history is =
+      let retained : States Op = history.workspace.retained in
       keeps_settled meanings history _ is
-      (at_last (IsNext meanings history) (number_of history) (redo_to retained retained.redoable) (of retained.redoable is.redoable is.few))
-    where
-      retained : States Op
-      retained = history.workspace.retained
-
-      of : (trail : List (Committed Table Op)) → IsTrail meanings (last_state history) trail →
-          length retained.undoable + length trail ≤ max_undoable → IfOk (redo_to retained trail) (IsNext meanings history)
-      of [] on few = tt
-      of (next ∷ rest) on few =
-          record {
-            valid = on.0;
-            separated = on.1;
-            number = refl;
-            undoable = left_trail meanings history next.state next.delta retained.undoable is on.1 is.undoable;
-            redoable = on.2;
-            few = omega (arith, few);
-          }
+      (at_last (IsNext meanings history) (number_of history) (redo_to retained retained.redoable)
+      (next_along meanings history (redo_to retained) retained.redoable retained.undoable is is.redoable is.undoable (omega (arith, is.few)) tt
+      (λ next rest valid separated along beside few. record { valid = valid; separated = separated; number = refl; undoable = beside; redoable = along; few = omega (arith, few) })))
 
   or_before : (P : History Table Op → Type 0) (history : History Table Op) (r : Result (History Table Op) StateRefused) → P history → IfOk r P → P (result_unwrap_or r history)
   or_before P history (Ok next) was is = is
   or_before P history (Err refused) was is = was
 
   -- ---- edits
+
+  -- a history of the same states, whose workspace goes on from the last of them to a table
+  workspace_keeps : (meanings : Meanings Op) (history : History Table Op) (table : Table) (written : Rectangles) (pending : List (NodeEdit Op)) → IsHistory meanings history → IsTable table →
+      Continues (last_state history).table written table →
+      IsHistory meanings (with_workspace history (record history.workspace { working = table; pending = pending; written = written }))
+  workspace_keeps meanings history table written pending is whole continued =
+      record {
+        states = is.states;
+        in_turn = is.in_turn;
+        number = is.number;
+        working = whole;
+        continued = continued;
+        undoable = is.undoable;
+        redoable = is.redoable;
+        few = is.few;
+      }
 
   edit_keeps : (meanings : Meanings Op) (history : History Table Op) (edit : BufferEdit) → IsHistory meanings history → IsProperEdit edit →
       IsHistory meanings (with_workspace history (with_edit history.workspace edit (edited_table history.workspace.working edit)))
@@ -220,28 +223,12 @@ module _ {Op : Type 0} where
       now = history.workspace.working
 
       with_table : (table : Table) (o : Option (List ℕ × Rectangle)) → IsTable table → Continues now (only o) table → IsHistory meanings (with_workspace history (with_working history.workspace table o))
-      with_table table None whole continued =
-          record {
-            states = is.states;
-            in_turn = is.in_turn;
-            number = is.number;
-            working = whole;
-            continued = continues-then (last_state history).table now table history.workspace.written None is.continued continued;
-            undoable = is.undoable;
-            redoable = is.redoable;
-            few = is.few;
-          }
-      with_table table (Some entry) whole continued =
-          record {
-            states = is.states;
-            in_turn = is.in_turn;
-            number = is.number;
-            working = whole;
-            continued = continues-then (last_state history).table now table history.workspace.written (Some entry) is.continued continued;
-            undoable = is.undoable;
-            redoable = is.redoable;
-            few = is.few;
-          }
+      with_table table None whole more =
+          workspace_keeps meanings history table history.workspace.written history.workspace.pending is whole
+          (continues-then (last_state history).table now table history.workspace.written None is.continued more)
+      with_table table (Some entry) whole more =
+          workspace_keeps meanings history table (with_written history.workspace.written entry.0 entry.1) history.workspace.pending is whole
+          (continues-then (last_state history).table now table history.workspace.written (Some entry) is.continued more)
 
       of : (r : Edited) → IfOk r IsTable → IfOk r (Continues now (only (written_by (layout_of now) edit))) → IsHistory meanings (with_workspace history (with_edit history.workspace edit r))
       of (Ok table) whole continued = with_table table (written_by (layout_of now) edit) whole continued
@@ -249,16 +236,7 @@ module _ {Op : Type 0} where
 
   pending_keeps : (meanings : Meanings Op) (history : History Table Op) (edit : NodeEdit Op) → IsHistory meanings history → IsHistory meanings (with_workspace history (with_pending history.workspace edit))
   pending_keeps meanings history edit is =
-      record {
-        states = is.states;
-        in_turn = is.in_turn;
-        number = is.number;
-        working = is.working;
-        continued = is.continued;
-        undoable = is.undoable;
-        redoable = is.redoable;
-        few = is.few;
-      }
+      workspace_keeps meanings history history.workspace.working history.workspace.written (history.workspace.pending ++ edit ∷ []) is is.working is.continued
 
   -- ---- all steps
 

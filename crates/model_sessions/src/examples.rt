@@ -4,15 +4,13 @@ ghost use Rattle.std.specs.Prelude.{◌≡◌, [], ◌∷◌, ◌++◌, codes, p
 ghost use Rattle.plane_rect.specs.Rectangle.{placed};
 ghost use Rattle.model_operations.specs.declared.operation.IntOp.TheVariants.{BoxMean, Invert, Over};
 ghost use Rattle.pixel_formats.specs.declared.abyss.Abyss.TheVariants as policies;
-ghost use Rattle.model_graphs.specs.declared.node.Body.TheVariants.{Compute};
-ghost use Rattle.model_graphs.specs.declared.node.NodeEdit.TheVariants.{Remove};
+ghost use Rattle.model_graphs.specs.{declared.node.Body.TheVariants.Compute, declared.node.NodeEdit.TheVariants.Remove};
 ghost use Rattle.model_states.specs.declared.refused.StateRefused.TheVariants.{Bounds, Formats, InUse, NothingToRedo, NothingToUndo, UnknownInput};
 ghost use Rattle.model_states.specs.Examples.{counts, square};
 ghost use Rattle.model_states.specs.History.{redone, undone};
+ghost use Rattle.model_states.specs.{Need.wide, Cache.uncounted};
 ghost use Rattle.model_sessions.specs.Examples.{carried, color, commit_after, crop_rendered, crop_twice, history, node_counts, of_buffer, of_color, rendered, row, set, two_commits, voided_by, wide_need, with_edit};
-ghost use Rattle.model_states.specs.Need.{wide};
 ghost use Rattle.model_sessions.specs.Steps.{Commit, EditNode, Redo, Undo};
-ghost use Rattle.model_states.specs.Cache.{uncounted};
 
 /// Two commits, of a whole buffer and of one place of it. An undo and a redo carry the rectangle of the second; two
 /// undos lead back to the state without nodes, and then nothing is left to undo.

@@ -4,17 +4,14 @@ ghost use Rattle.std.specs.Prelude.{◌≡◌, ℕ, List, IfOk};
 ghost use Rattle.std.specs.List.{IsDistinct};
 ghost use Rattle.std.specs.Option.{option_map};
 ghost use Rattle.std.specs.Str.{bytes_eq};
-ghost use Rattle.model_buffers.specs.declared.edit.BufferEdit.{BufferEdit};
-ghost use Rattle.model_buffers.specs.BufferEdit.{IsProperEdit};
-ghost use Rattle.model_buffers.specs.Edits.{edited_table};
 ghost use Rattle.model_buffers.specs.Layout.{fact_in, find};
 ghost use Rattle.model_buffers.specs.Table.{IsTable, Table, image_of, layout_of};
-ghost use Rattle.model_graphs.specs.Evaluation.{buffer_image};
+ghost use Rattle.model_buffers.specs.{declared.edit.BufferEdit.BufferEdit, BufferEdit.IsProperEdit, Edits.edited_table};
 ghost use Rattle.model_graphs.specs.Facts.{AreImagesOf, fact_names, fact_of};
+ghost use Rattle.model_graphs.specs.Evaluation.{buffer_image};
 ghost use Rattle.model_states.specs.Rectangles.{Rectangles};
-ghost use Rattle.model_sessions.specs.Histories.{AreTablesSeparated};
 ghost use Rattle.model_sessions.specs.Tables.{Continues, table_facts, table_images};
-ghost use Rattle.model_sessions.specs.Steps.{rectangles_by};
+ghost use Rattle.model_sessions.specs.{Histories.AreTablesSeparated, Steps.rectangles_by};
 
 /// A table's buffers have distinct names, and a graph knows and reads them as they are.
 pub fn tables_are_sources()

@@ -31,9 +31,6 @@ use Rattle.model_states.proofs.Unrolled.{indices_of}
 
 -- ---- hulls
 
-hull_empty : (r : Rectangle) → hull empty r ≡ r
-hull_empty r = refl
-
 pub hull_symmetric : (a b : Rectangle) → IsRectangle a → IsRectangle b → hull a b ≡ hull b a
 hull_symmetric a b is also = by (is_empty a) refl (is_empty b) refl
   where

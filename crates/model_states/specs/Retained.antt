@@ -51,19 +51,19 @@ with_commit retained state delta =
       redoable = [];
     }
 
+-- a step to a state of one of the lists, which leaves these lists
+abbrev pub moved_to : {State Delta : Type 0} → Retained State Delta → Separated State Delta → List (Separated State Delta) → List (Separated State Delta) →
+    Stepped (Retained State Delta) Delta
+moved_to retained to undoable redoable =
+    record {
+      next = record { number = retained.number + 1; latest = to.state; undoable = undoable; redoable = redoable };
+      delta = to.delta;
+    }
+
 -- back to the first state that can be undone to
 abbrev pub undo_to : {State Delta : Type 0} → Retained State Delta → List (Separated State Delta) → Result (Stepped (Retained State Delta) Delta) StateRefused
 undo_to retained [] = Err NothingToUndo
-undo_to retained (back ∷ rest) =
-    Ok (record {
-      next = record {
-        number = retained.number + 1;
-        latest = back.state;
-        undoable = rest;
-        redoable = left_state retained back.delta ∷ retained.redoable;
-      };
-      delta = back.delta;
-    })
+undo_to retained (back ∷ rest) = Ok (moved_to retained back rest (left_state retained back.delta ∷ retained.redoable))
 
 -- An undo: the last commit that is not yet undone is.
 abbrev pub undone : {State Delta : Type 0} → Retained State Delta → Result (Stepped (Retained State Delta) Delta) StateRefused
@@ -72,16 +72,7 @@ undone retained = unless_last retained.number (undo_to retained retained.undoabl
 -- on to the first state that can be redone to
 abbrev pub redo_to : {State Delta : Type 0} → Retained State Delta → List (Separated State Delta) → Result (Stepped (Retained State Delta) Delta) StateRefused
 redo_to retained [] = Err NothingToRedo
-redo_to retained (next ∷ rest) =
-    Ok (record {
-      next = record {
-        number = retained.number + 1;
-        latest = next.state;
-        undoable = left_state retained next.delta ∷ retained.undoable;
-        redoable = rest;
-      };
-      delta = next.delta;
-    })
+redo_to retained (next ∷ rest) = Ok (moved_to retained next (left_state retained next.delta ∷ retained.undoable) rest)
 
 -- A redo: the last undo that is not yet repeated is.
 abbrev pub redone : {State Delta : Type 0} → Retained State Delta → Result (Stepped (Retained State Delta) Delta) StateRefused

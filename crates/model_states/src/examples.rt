@@ -2,9 +2,8 @@
 
 ghost use Rattle.std.specs.Prelude.{◌≡◌, [], codes, negsuc, pos, length};
 ghost use Rattle.plane_rect.specs.Rectangle.{placed};
-ghost use Rattle.model_states.specs.Cache.{needed_pairs};
 ghost use Rattle.model_states.specs.Examples.{counts, damage_by, neighbourhoods, rendered, rendered_after_edit, square, two_node_facts, two_nodes};
-ghost use Rattle.model_states.specs.Need.{need};
+ghost use Rattle.model_states.specs.{Cache.needed_pairs, Need.need};
 
 /// A position at the origin and its neighbours stand in four tiles, in two strips.
 pub fn tiles_around_the_origin()

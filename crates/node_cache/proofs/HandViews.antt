@@ -1,6 +1,6 @@
 -- What callers see of a cache that keeps its tiles itself, after each of its calls.
 use Rattle.std.proofs.Common.{◌≡◌, ℕ, zero, suc, ◌-◌, ◌^◌, ◌<◌, ◌≤◌, false, List, [], ◌∷◌, map, take, length, Option, Some, None, is_some, option_map, refl, sym, ap, subst, ◌∙◌, arith}
-use Rattle.std.specs.Prelude.{Result, Ok, Err, IfErr, IfSome}
+use Rattle.std.specs.Prelude.{IfSome}
 use Rattle.std.specs.Option.{option_map_or}
 use Rattle.std.specs.List.{AllByRecursion, IsDistinct}
 use Rattle.std.specs.Map.{keys_of, lookup, lookup_entry, remove_entry}
@@ -13,10 +13,6 @@ use Rattle.node_cache.specs.Keys.{pair_of, same_key}
 use Rattle.node_cache.specs.NodeNames.{entry_pair, pairs_in}
 use Rattle.node_cache.specs.Stores.{Finds, Sized, by_sized}
 use Rattle.node_cache.proofs.Lists.{entry-lookup, find-made, no-entry}
-
-pub if-err : {T E : Type 0} (P Q : E → Type 0) (r : Result T E) → IfErr r P → ((e : E) → P e → Q e) → IfErr r Q
-if-err P Q (Ok x) is to = tt
-if-err P Q (Err e) is to = to e is
 
 module _ (k : PairKey) (es : HandEntries) where
   there : (o : Option HandEntry) → is_some (option_map (λ (e : HandEntry). e.1) o) ≡ is_some (option_map (entry_pair {V = List ℕ}) o)

@@ -5,9 +5,8 @@ ghost use Rattle.std.specs.Map.{lookup, remove_entry};
 ghost use Rattle.lru.specs.LruCache.{promoted, put_entries};
 ghost use Rattle.swap_store.specs.declared.refusal.SwapRefused.TheVariants as refusals;
 ghost use Rattle.node_cache.specs.Keys.{entries_left, same_key};
-ghost use Rattle.node_cache.specs.NodeNames.{pairs_in};
-ghost use Rattle.node_cache.specs.NodeLaws.{pairs_distinct};
 ghost use Rattle.node_cache.specs.HandTiles.{HandEntries, HandEntry, IsHandCache, hand_bytes, hand_exposed, hand_few_names, hand_framed, hand_framed_condition, hand_owned, hand_size, hand_within};
+ghost use Rattle.node_cache.specs.{NodeNames.pairs_in, NodeLaws.pairs_distinct};
 
 use crate::pair_key::{PairKey, order_of};
 use crate::pair_store::PairStore;

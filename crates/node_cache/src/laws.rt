@@ -1,8 +1,8 @@
 //! Laws by which callers speak of stores of cached tiles.
 
 ghost use Rattle.std.specs.Prelude.{◌≡◌, ℕ, ◌++◌, List};
-ghost use Rattle.chain_owners.specs.Held.{Held};
 ghost use Rattle.chain_owners.specs.Owners.{Owns, Respects};
+ghost use Rattle.chain_owners.specs.Held.{Held};
 
 use crate::pair_store::PairStore;
 use chain_owners::ChainMeaning;

@@ -3,9 +3,8 @@
 ghost use Rattle.std.specs.Prelude.{◌≡◌, ℕ, ◌≤◌, [], ◌∷◌, ◌++◌, IfErr, IfOk, IfSome, MatchResult, OnErr, OnOk, None, Some};
 ghost use Rattle.std.specs.Map.{lookup, remove_entry, values_of};
 ghost use Rattle.tile_cow.specs.Tile.{IsTileLength};
-ghost use Rattle.chain_owners.specs.Counts.{Grows};
 ghost use Rattle.chain_owners.specs.Held.{Held, length_of};
-ghost use Rattle.chain_owners.specs.Owners.{Owns};
+ghost use Rattle.chain_owners.specs.{Counts.Grows, Owners.Owns};
 ghost use Rattle.swap_store.specs.Cause.{HasSwapCause};
 ghost use Rattle.swap_store.specs.declared.refusal.SwapRefused.TheVariants as refusals;
 ghost use Rattle.chain_contracts.specs.Tiles.{Reads};

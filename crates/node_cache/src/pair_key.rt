@@ -1,15 +1,13 @@
 //! Keys of cached tiles.
 
 ghost use Rattle.std.specs.Prelude.{◌≡◌, IfOk};
-ghost use Rattle.node_cache.specs.Keys.{is_voided};
-ghost use Rattle.node_cache.specs.NodeNames.{pairs_in};
-ghost use Rattle.node_cache.specs.Stores.{pairs_at};
+ghost use Rattle.node_cache.specs.{Keys.is_voided, NodeNames.pairs_in, Stores.pairs_at};
 
-use crate::rectangles::meets;
 use lru::LruCache;
 use no_memory::NoMemory;
 use plane_rect::{Name, Rect, TileAt};
 use std::alloc::Global;
+use tile_parts::meets;
 
 /// A tile of the node of a name.
 #[derive(Clone, Copy, Debug, PartialEq, Eq, Hash)]

@@ -2,9 +2,8 @@
 
 ghost use Rattle.std.specs.Prelude.{◌≡◌, ◌+◌, ◌≤◌, ℕ, List, Option, None, MatchResult, IfErr, IfOk, IfSome, is_some, length};
 ghost use Rattle.std.specs.Option.{option_map};
-ghost use Rattle.chain_owners.specs.Counts.{Grows};
-ghost use Rattle.chain_owners.specs.Held.{Held};
 ghost use Rattle.chain_owners.specs.Owners.{IsFramed, Owns, Respects};
+ghost use Rattle.chain_owners.specs.{Counts.Grows, Held.Held};
 ghost use Rattle.model_states.specs.Cache.{Cached, HasDistinctPairs, Pair, after_keep, after_look, by_pair, find_pair, itself, voided};
 ghost use Rattle.swap_store.specs.Cause.{HasSwapCause};
 ghost use Rattle.node_cache.specs.Stores.{AddsOnlyOwn, AreExposed, AreWithin, Finds, IsFramedCondition, KeepsOneOwner, Sized, by_sized, cached_at, pair_at, pairs_at, sized_at};

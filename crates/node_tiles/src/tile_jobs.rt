@@ -2,11 +2,8 @@
 
 ghost use Rattle.std.specs.Prelude.{◌≡◌, ℕ, ◌+◌, ◌<◌, IfErr, IfOk, IfSome, MatchResult, Some};
 ghost use Rattle.chain_owners.specs.Counts.{Grows};
-ghost use Rattle.model_images.specs.Paint.{cut};
-ghost use Rattle.model_images.specs.Raw.{tile_bytes};
-ghost use Rattle.model_graphs.specs.Evaluation.{Buffers};
-ghost use Rattle.model_graphs.specs.Facts.{shapes_of_facts};
-ghost use Rattle.model_graphs.specs.Permits.{Spent};
+ghost use Rattle.model_images.specs.{Paint.cut, Raw.tile_bytes};
+ghost use Rattle.model_graphs.specs.{Evaluation.Buffers, Facts.shapes_of_facts, Permits.Spent};
 ghost use Rattle.model_states.specs.Valid.{AreStated};
 ghost use Rattle.swap_store.specs.Cause.{HasSwapCause};
 ghost use Rattle.op_contracts.specs.Applying.{result_of_windows};
@@ -22,11 +19,12 @@ use model_graphs::{Body, NodeFact};
 use no_memory::NoMemory;
 use op_contracts::{OpKit, SourceTiles, Window};
 use plane_rect::{Rect, TileAt};
-use roi_planner::{NodeInputs, tile_part};
+use roi_planner::NodeInputs;
 use std::alloc::Global;
 use std::marker::Model;
 use swap_store::SwapRefused;
 use tile_cow::Tile;
+use tile_parts::tile_part;
 
 /// How many pixels a tile has.
 const TILE_PIXELS: u64 = 64 * 64;

@@ -4,8 +4,7 @@ ghost use Rattle.std.specs.Prelude.{◌≡◌, [], IfOk, Ok, OnOk, nat_lt};
 ghost use Rattle.std.specs.List.{list_all, list_any};
 ghost use Rattle.std.specs.Str.{bytes_eq};
 ghost use Rattle.model_graphs.specs.declared.node.NodeEdit.TheVariants.{Remove, Set};
-ghost use Rattle.model_graphs.specs.Facts.{shapes_of_facts};
-ghost use Rattle.model_graphs.specs.Node.{index_of};
+ghost use Rattle.model_graphs.specs.{Facts.shapes_of_facts, Node.index_of};
 ghost use Rattle.model_states.specs.Edits.{edit_refused, reads_earlier, reads_node, with_edit, with_edits};
 ghost use Rattle.plain_graphs.specs.Edits.{answer_of};
 

@@ -3,8 +3,7 @@
 ghost use Rattle.std.specs.Prelude.{◌≡◌, IfOk};
 ghost use Rattle.model_graphs.specs.Facts.{shapes_of_facts};
 ghost use Rattle.model_operations.specs.Meanings.{int_meanings};
-ghost use Rattle.model_states.specs.Commits.{side_of};
-ghost use Rattle.model_states.specs.Valid.{stated};
+ghost use Rattle.model_states.specs.{Commits.side_of, Valid.stated};
 
 use crate::shapes::node_shapes;
 use model_graphs::{BufferFact, NodeFact, NodeSpec};

@@ -56,22 +56,6 @@ pub(crate) fn fact_index(facts: &[NodeFact<IntOp>], name: Name) -> usize
         .unwrap_or(facts.len())
 }
 
-/// Returns the positions of the stated nodes of these names.
-pub(crate) fn fact_indices(
-    alloc: Global,
-    facts: &[NodeFact<IntOp>],
-    names: &[Name],
-) -> Result<Vec<usize>, NoMemory>
-    ensures { IfOk result (λ indices. indices.items ≡ map (index_of (specs_of facts.now)) names.now) }
-{
-    Ok(
-        names
-            .iter()
-            .map(|name| fact_index(facts, *name))
-            .collect(alloc)?,
-    )
-}
-
 /// Returns the buffer of a name, where there is one.
 pub(crate) fn buffer_of(buffers: &[BufferFact], name: Name) -> Option<&BufferFact>
     ensures { option_map (λ buffer. buffer.now) result ≡ fact_of buffers.now name }

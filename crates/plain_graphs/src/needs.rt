@@ -1,27 +1,26 @@
 //! The tiles that are needed for a rectangle of a node, strip by strip.
 
-ghost use Rattle.std.specs.Prelude.{◌≡◌, ◌++◌, ◌+◌, ◌^◌, ◌<◌, ◌≤◌, IfOk, List, OnOk, length, reverse, slice_index_or, take};
-ghost use Rattle.plane_rect.specs.Tile.{last_tile};
+ghost use Rattle.std.specs.Prelude.{◌≡◌, ◌++◌, ◌+◌, ◌^◌, ◌<◌, ◌≤◌, IfOk, List, OnOk, length, map, reverse, slice_index_or, take};
 ghost use Rattle.model_graphs.specs.Facts.{specs_of, stated_shapes};
-ghost use Rattle.model_graphs.specs.Node.{Node, step_of};
+ghost use Rattle.model_graphs.specs.Node.{Node, index_of, step_of};
 ghost use Rattle.model_graphs.specs.Shapes.{no_shape};
-ghost use Rattle.model_operations.specs.declared.operation.IntOp.{IntOp};
-ghost use Rattle.model_operations.specs.Meanings.{int_meanings};
-ghost use Rattle.model_states.specs.Need.{asked_by, asked_of, need, needed, needed_of, strip_of, strip_rectangles, tile_line};
+ghost use Rattle.model_operations.specs.{declared.operation.IntOp.IntOp, Meanings.int_meanings};
+ghost use Rattle.model_states.specs.Need.{asked_by, asked_of, need, needed, needed_of, strip_of};
+ghost use Rattle.model_states.specs.Valid.{input_boxes, steps_of};
 ghost use Rattle.model_states.specs.Regions.{tiles_of_any};
-ghost use Rattle.model_states.specs.Valid.{steps_of};
 ghost use Rattle.plain_graphs.specs.Needs.{AreBelow, AreStripsBelow, asked_of_tiles, asked_within, step_at};
 
-use crate::names::fact_indices;
-use crate::shapes::{stated_at, stated_boxes};
-use crate::tiles::{tile_part, tiles_of_any};
+use crate::names::fact_index;
+use crate::shapes::stated_at;
+use crate::tiles::tiles_of_any;
 use model_graphs::{Body, NodeFact};
 use model_operations::IntOp;
 use model_states::{NeedList, Strip};
 use no_memory::NoMemory;
 use operation_regions::required;
-use plane_rect::{PLANE_SIDE, Rect, TILE_SIDE, TileAt};
+use plane_rect::{Name, Rect, TileAt};
 use std::alloc::Global;
+use tile_parts::{strip_rects, tile_part};
 
 /// Returns what is needed for a rectangle of the node at a position: a strip for each row of tiles
 /// that it meets, from the top.
@@ -41,34 +40,10 @@ pub fn need(
     ensures indices { IfOk result (λ strips. AreStripsBelow (length facts.now) strips.items) }
 {
     let mut strips = Vec::new(alloc);
-    for rectangle in &strip_rectangles(alloc, &request)? {
+    for rectangle in &strip_rects(alloc, &request)? {
         strips.push(strip_of(alloc, facts, node, *rectangle)?)?;
     }
     Ok(strips)
-}
-
-/// Returns a request cut at the rows of tiles that it meets, from the top.
-fn strip_rectangles(alloc: Global, request: &Rect) -> Result<Vec<Rect>, NoMemory>
-    ensures { IfOk result (λ rectangles. rectangles.items ≡ strip_rectangles request.now) }
-{
-    let (first, end) = (
-        request.first_row() / TILE_SIDE,
-        request.end_row().div_ceil(TILE_SIDE),
-    );
-    let mut rectangles = Vec::new(alloc);
-    for row in first..end {
-        rectangles.push(request.meet(&tile_line(row)))?;
-    }
-    Ok(rectangles)
-}
-
-/// Returns all positions of a row of tiles.
-fn tile_line(row: u32) -> Rect
-    requires { row < last_tile }
-    ensures { result ≡ tile_line row }
-{
-    let first_row = row * TILE_SIDE;
-    Rect::spanning(0, first_row, PLANE_SIDE, first_row + TILE_SIDE)
 }
 
 /// Returns what is needed for a rectangle of the node at a position.
@@ -151,6 +126,26 @@ fn asked_of(alloc: Global, asked: &[(usize, Rect)], node: usize) -> Result<Vec<R
     )
 }
 
+/// Returns the positions of the stated nodes of these names, and their stated boxes.
+fn inputs_of(
+    alloc: Global,
+    facts: &[NodeFact<IntOp>],
+    names: &[Name],
+) -> Result<(Vec<usize>, Vec<Rect>), NoMemory>
+    ensures indices { IfOk result (λ found. found.0.items ≡ map (index_of (specs_of facts.now)) names.now) }
+    ensures boxes { IfOk result (λ found. found.1.items ≡ input_boxes (stated_shapes facts.now) found.0.items) }
+{
+    let indices: Vec<usize> = names
+        .iter()
+        .map(|name| fact_index(facts, *name))
+        .collect(alloc)?;
+    let boxes: Vec<Rect> = indices
+        .iter()
+        .map(|index| stated_at(facts, *index).bounds)
+        .collect(alloc)?;
+    Ok((indices, boxes))
+}
+
 /// Adds what tiles of a node of this body and this box ask, each for its part of the box.
 fn ask(
     alloc: Global,
@@ -166,8 +161,7 @@ fn ask(
     let Body::Compute { op, inputs } = body else {
         return Ok(());
     };
-    let indices = fact_indices(alloc, facts, inputs.as_slice())?;
-    let boxes = stated_boxes(alloc, facts, &indices)?;
+    let (indices, boxes) = inputs_of(alloc, facts, inputs.as_slice())?;
     ask_tiles(asked, op, &boxes, &indices, bounds, tiles)
 }
 

@@ -2,8 +2,8 @@
 
 ghost use Rattle.std.specs.Prelude.{◌≡◌, [], IfOk, slice_index_or, unwrap_or};
 ghost use Rattle.model_graphs.specs.Facts.{shapes_of_facts, stated_shapes};
-ghost use Rattle.model_graphs.specs.Node.{step_of};
 ghost use Rattle.model_graphs.specs.Shapes.{no_shape, shape_in};
+ghost use Rattle.model_graphs.specs.Node.{step_of};
 ghost use Rattle.model_operations.specs.Meanings.{int_meanings};
 ghost use Rattle.model_states.specs.Valid.{input_boxes, input_formats, operation_shape, shapes_of, step_shape};
 
@@ -87,12 +87,32 @@ fn shape_of_result(
 ) -> Result<Shape, NoMemory>
     ensures { IfOk result (λ shape. shape ≡ operation_shape int_meanings known.now op.now indices.now) }
 {
-    let boxes = input_boxes(alloc, known, indices)?;
-    let formats = input_formats(alloc, known, indices)?;
+    let (bounds, format) = box_and_format(alloc, op, known, indices)?;
     Ok(Shape {
-        bounds: box_of(op, &boxes).unwrap_or(Rect::EMPTY),
-        format: format_of(op, &formats).unwrap_or(Format::Y8),
+        bounds: bounds.unwrap_or(Rect::EMPTY),
+        format: format.unwrap_or(Format::Y8),
     })
+}
+
+/// Returns the box and the format that an operation gives of the inputs at these positions, each where it has one.
+pub(crate) fn box_and_format(
+    alloc: Global,
+    op: &IntOp,
+    known: &[Shape],
+    indices: &[usize],
+) -> Result<(Option<Rect>, Option<Format>), NoMemory>
+    ensures bounds { IfOk result (λ gives. gives.0 ≡ int_meanings.box op.now (input_boxes known.now indices.now)) }
+    ensures format { IfOk result (λ gives. gives.1 ≡ int_meanings.format op.now (input_formats known.now indices.now)) }
+{
+    let boxes: Vec<Rect> = indices
+        .iter()
+        .map(|index| shape_at(known, *index).bounds)
+        .collect(alloc)?;
+    let formats: Vec<Format> = indices
+        .iter()
+        .map(|index| shape_at(known, *index).format)
+        .collect(alloc)?;
+    Ok((box_of(op, &boxes), format_of(op, &formats)))
 }
 
 /// Returns the shape at a position, and that of the image without a pixel past the last.
@@ -113,52 +133,4 @@ pub(crate) fn stated_at(facts: &[NodeFact<IntOp>], index: usize) -> Shape
         },
         None => NO_SHAPE,
     }
-}
-
-/// Returns the boxes at these positions.
-pub(crate) fn input_boxes(
-    alloc: Global,
-    known: &[Shape],
-    indices: &[usize],
-) -> Result<Vec<Rect>, NoMemory>
-    ensures { IfOk result (λ boxes. boxes.items ≡ input_boxes known.now indices.now) }
-{
-    Ok(
-        indices
-            .iter()
-            .map(|index| shape_at(known, *index).bounds)
-            .collect(alloc)?,
-    )
-}
-
-/// Returns the formats at these positions.
-pub(crate) fn input_formats(
-    alloc: Global,
-    known: &[Shape],
-    indices: &[usize],
-) -> Result<Vec<Format>, NoMemory>
-    ensures { IfOk result (λ formats. formats.items ≡ input_formats known.now indices.now) }
-{
-    Ok(
-        indices
-            .iter()
-            .map(|index| shape_at(known, *index).format)
-            .collect(alloc)?,
-    )
-}
-
-/// Returns the stated boxes at these positions.
-pub(crate) fn stated_boxes(
-    alloc: Global,
-    facts: &[NodeFact<IntOp>],
-    indices: &[usize],
-) -> Result<Vec<Rect>, NoMemory>
-    ensures { IfOk result (λ boxes. boxes.items ≡ input_boxes (stated_shapes facts.now) indices.now) }
-{
-    Ok(
-        indices
-            .iter()
-            .map(|index| stated_at(facts, *index).bounds)
-            .collect(alloc)?,
-    )
 }

@@ -2,20 +2,20 @@
 
 ghost use Rattle.std.specs.Prelude.{◌≡◌, [], IfOk, nat_lt};
 ghost use Rattle.std.specs.List.{list_all};
-ghost use Rattle.model_graphs.specs.Facts.{shapes_of_facts};
 ghost use Rattle.model_graphs.specs.Node.{Apply, step_of};
+ghost use Rattle.model_graphs.specs.Facts.{shapes_of_facts};
 ghost use Rattle.model_operations.specs.Meanings.{int_meanings};
 ghost use Rattle.model_states.specs.Edits.{is_box_in_limits, step_refused, steps_refused};
 ghost use Rattle.model_states.specs.Valid.{steps_of};
 
 use crate::graph::Shape;
 use crate::names::{buffer_of, indices_of};
-use crate::shapes::{input_boxes, input_formats, shape_of_body};
+use crate::shapes::{box_and_format, shape_of_body};
 use model_graphs::{Body, BufferFact, NodeSpec};
 use model_operations::IntOp;
 use model_states::StateRefused;
 use no_memory::NoMemory;
-use operation_regions::{box_of, format_of, input_count};
+use operation_regions::input_count;
 use plane_rect::Rect;
 use std::alloc::Global;
 
@@ -86,10 +86,11 @@ fn operation_refused(
     if indices.len() != input_count(op) {
         return Ok(Some(StateRefused::Arity));
     }
-    if format_of(op, &input_formats(alloc, known, indices)?).is_none() {
+    let (bounds, format) = box_and_format(alloc, op, known, indices)?;
+    if format.is_none() {
         return Ok(Some(StateRefused::Formats));
     }
-    if !is_in_limits(box_of(op, &input_boxes(alloc, known, indices)?)) {
+    if !is_in_limits(bounds) {
         return Ok(Some(StateRefused::Bounds));
     }
     Ok(None)

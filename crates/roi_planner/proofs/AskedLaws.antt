@@ -60,9 +60,6 @@ asked-one regions region asked node rect are inside added = record {
       ];
 }
 
-pub asked-none : (regions : List (List Rectangle)) → ((n : ℕ) → get_or regions n [] ≡ []) → AreAsked regions []
-asked-none regions none = record { each = λ n less. subst (λ (a : List Rectangle). MeetSameTiles a []) (sym (none n)) (same-itself []) }
-
 -- ---- what a part asks, and what tiles ask
 
 module _ {Op : Type 0} (meanings : Meanings Op) (operation : Op) (inputs : Inputs) where

@@ -8,12 +8,13 @@ ghost use Rattle.roi_planner.specs.Asked.{AreAsked, MeetSameTiles, asked_of_body
 ghost use Rattle.roi_planner.specs.Inputs.{AreStatedOverSome, SuitsBody, SuitsInputs, all_inputs, box_at, step_at};
 
 use crate::inputs::NodeInputs;
-use crate::region::{Region, tile_part};
+use crate::region::Region;
 use model_graphs::{Body, NodeFact};
 use no_memory::NoMemory;
 use op_contracts::OpKit;
 use plane_rect::{Rect, TileAt};
 use std::alloc::Global;
+use tile_parts::tile_part;
 
 /// Returns so many regions, of which nothing is asked.
 pub(crate) fn no_regions(alloc: Global, count: usize) -> Result<Vec<Region>, NoMemory>

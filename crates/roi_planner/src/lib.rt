@@ -12,7 +12,6 @@ mod strips;
 pub use inputs::{NodeInputs, all_inputs};
 pub use model_states::{NeedList, Strip};
 pub use need::strip_need;
-pub use planning::{plan, strip_rects};
+pub use planning::plan;
 pub use refused::PlanRefused;
-pub use region::tile_part;
 pub use strips::StripList;

@@ -2,12 +2,11 @@
 
 ghost use Rattle.std.specs.Prelude.{◌≡◌, ℕ, ◌++◌, ◌^◌, ◌<◌, ◌≤◌, List, IfOk, OnOk, length, reverse, take};
 ghost use Rattle.model_graphs.specs.Facts.{specs_of, stated_shapes};
-ghost use Rattle.model_graphs.specs.Node.{step_of};
-ghost use Rattle.model_graphs.specs.declared.node.NodeFact.{NodeFact as Fact};
+ghost use Rattle.model_graphs.specs.{Node.step_of, declared.node.NodeFact.NodeFact as Fact};
 ghost use Rattle.model_states.specs.Need.{Asked, needed, needed_of, strip_of};
 ghost use Rattle.model_states.specs.Valid.{steps_of};
-ghost use Rattle.roi_planner.specs.Asked.{AreAsked};
 ghost use Rattle.roi_planner.specs.Inputs.{AreStatedOverSome, all_inputs};
+ghost use Rattle.roi_planner.specs.Asked.{AreAsked};
 
 use crate::asks::{ask_node, ask_one, no_regions};
 use crate::inputs::{NodeInputs, all_inputs};

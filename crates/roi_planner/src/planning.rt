@@ -1,10 +1,8 @@
 //! Plans of requests, strip by strip.
 
 ghost use Rattle.std.specs.Prelude.{◌≡◌, ℕ, ◌<◌, ◌≤◌, ◌^◌, IfErr, IfOk, None, OnOk, length};
-ghost use Rattle.plane_rect.specs.Tile.{last_tile};
-ghost use Rattle.model_states.specs.Need.{need, strip_rectangles, tile_line, wide};
-ghost use Rattle.roi_planner.specs.Inputs.{AreStatedOverSome};
-ghost use Rattle.roi_planner.specs.Refusals.{AreRefused};
+ghost use Rattle.model_states.specs.Need.{need, wide};
+ghost use Rattle.roi_planner.specs.{Inputs.AreStatedOverSome, Refusals.AreRefused};
 
 use crate::inputs::all_inputs;
 use crate::need::strip_of;
@@ -14,8 +12,9 @@ use model_graphs::NodeFact;
 use model_states::Strip;
 use no_memory::NoMemory;
 use op_contracts::OpKit;
-use plane_rect::{PLANE_SIDE, Rect, TILE_SIDE};
+use plane_rect::Rect;
 use std::alloc::Global;
+use tile_parts::strip_rects;
 
 /// Returns what is needed for a request of the node at a position: a strip for each row of tiles that
 /// it meets, from the top. Takes time in proportion to the needed tiles, and to the inputs times the
@@ -62,33 +61,4 @@ fn check_strip(strip: &Strip, capacity: u32) -> Result<(), PlanRefused>
         return Err(PlanRefused::Strip { needed, capacity });
     }
     Ok(())
-}
-
-/// Returns the rectangles of a request's strips: the request cut at the rows of tiles that it meets,
-/// from the top.
-///
-/// # Errors
-///
-/// `NoMemory` if memory runs out.
-pub fn strip_rects(alloc: Global, request: &Rect) -> Result<Vec<Rect>, NoMemory>
-    ensures { IfOk result (λ rects. rects.items ≡ strip_rectangles request.now) }
-{
-    let (first, end) = (
-        request.first_row() / TILE_SIDE,
-        request.end_row().div_ceil(TILE_SIDE),
-    );
-    let mut rects = Vec::new(alloc);
-    for row in first..end {
-        rects.push(request.meet(&tile_line(row)))?;
-    }
-    Ok(rects)
-}
-
-/// Returns all positions of a row of tiles.
-fn tile_line(row: u32) -> Rect
-    requires { row < last_tile }
-    ensures { result ≡ tile_line row }
-{
-    let first_row = row * TILE_SIDE;
-    Rect::spanning(0, first_row, PLANE_SIDE, first_row + TILE_SIDE)
 }

@@ -3,15 +3,15 @@
 ghost use Rattle.std.specs.Prelude.{◌≡◌, [], ◌∷◌, ◌++◌, IfNone, IfOk, IfSome, OnOk, Contains};
 ghost use Rattle.std.specs.Bool.{OnTrue};
 ghost use Rattle.std.specs.List.{list_any};
-ghost use Rattle.plane_rect.specs.Rectangle.{meet};
-ghost use Rattle.plane_rect.specs.Tile.{Meets, Tile, tile_square, tiles};
+ghost use Rattle.plane_rect.specs.Tile.{Meets, Tile, tiles};
 ghost use Rattle.model_states.specs.Regions.{hull_of, meets, tiles_of_any};
 ghost use Rattle.roi_planner.specs.Asked.{HullIsUnion, MeetSameTiles};
 
 use no_memory::NoMemory;
-use plane_rect::{Rect, TILE_SIDE, TileAt};
+use plane_rect::{Rect, TileAt};
 use std::alloc::Global;
 use std::marker::Model;
+use tile_parts::meets;
 
 /// Rectangles of a node's image, of which only the tiles that they meet matter: those that are beside
 /// one another are joined. A clause sees them as a list.
@@ -143,22 +143,9 @@ fn hull_of(rects: &[Rect]) -> Rect
         .fold(Rect::EMPTY, |hull, rect| rect.hull(&hull))
 }
 
-/// Returns what a tile has of a rectangle.
-pub fn tile_part(tile: &TileAt, rect: &Rect) -> Rect
-    ensures { result ≡ meet (tile_square tile.now) rect.now }
-{
-    let (first_column, first_row) = (tile.column() * TILE_SIDE, tile.row() * TILE_SIDE);
-    Rect::spanning(
-        first_column.max(rect.first_column()),
-        first_row.max(rect.first_row()),
-        rect.end_column().min(first_column + TILE_SIDE),
-        rect.end_row().min(first_row + TILE_SIDE),
-    )
-}
-
 /// Returns whether a tile meets one of these rectangles.
 fn meets_any(tile: &TileAt, rects: &[Rect]) -> bool
     ensures { result ≡ list_any (meets tile.now) rects.now }
 {
-    rects.iter().any(|rect| !tile_part(tile, rect).is_empty())
+    rects.iter().any(|rect| meets(tile, rect))
 }

@@ -86,16 +86,7 @@ module _ (g : Given.Over) (c : After-deref g) where
 pub apply-requires : goal.apply-requires
 apply-requires g c =
     let of = are g (goal.at.apply-requires g c).After-deref in
-    record {
-      inputs = of.inputs;
-      boxes = of.boxes_are;
-      format = of.format;
-      bounds = of.bounds;
-      part = of.inside;
-      tile = of.tile;
-      whole = of.whole;
-      required = of.required;
-    }
+    assumption of
 
 pub returns : goal.returns
 returns g c =

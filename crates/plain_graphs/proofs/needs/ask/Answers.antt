@@ -1,4 +1,4 @@
-use Rattle.std.proofs.Common.{◌≡◌, ◌++◌, List, map, sym, ◌∙◌, ap, subst, OnOk}
+use Rattle.std.proofs.Common.{◌≡◌, ◌++◌, List, map, subst, OnOk, rules}
 use Rattle.model_graphs.specs.Facts.{specs_of, stated_shapes}
 use Rattle.model_graphs.specs.Node.{index_of, step_of}
 use Rattle.model_operations.specs.Meanings.{int_meanings}
@@ -13,12 +13,10 @@ returns c =
     let nodes = specs_of c.args.facts.now in
     let shapes = stated_shapes c.args.facts.now in
     let inputs = c.in-Compute.inputs in
-    let indices = c.deref-3.result.now in
-    let boxes = c.deref-2.result.now in
-    let at : indices ≡ map (index_of nodes) inputs =
-    c.deref-3.ensures.value ∙ (rw c.as_slice.ensures at c.in_ok-indices.ensures) in
-    let over : boxes ≡ input_boxes shapes indices =
-    c.deref-2.ensures.value ∙ c.in_ok-boxes.ensures ∙ ap (input_boxes shapes) (c.deref.ensures.value ∙ sym c.deref-3.ensures.value) in
+    let indices = c.deref-2.result.now in
+    let boxes = c.deref.result.now in
+    let at : indices ≡ map (index_of nodes) inputs = search rules in
+    let over : boxes ≡ input_boxes shapes indices = search rules in
     let is = asked_by-indices shapes nodes c.in-Compute.op inputs indices boxes c.args.bounds.now c.args.tiles.now at over in
     let asked : asked_of_tiles c.in-Compute.op boxes indices c.args.bounds.now c.args.tiles.now
     ≡ asked_by int_meanings shapes (step_of nodes c.args.body.now) c.args.bounds.now c.args.tiles.now = rw c.in-Compute.is is in

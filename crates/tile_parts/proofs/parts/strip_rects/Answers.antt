@@ -2,7 +2,7 @@ use Rattle.std.proofs.Common.{ℕ}
 use Rattle.plane_rect.specs.Rectangle.{meet}
 use Rattle.model_states.specs.Need.{tile_line}
 use Rattle.model_states.proofs.Rows.{rows_more}
-use Rattle.roi_planner.proofs.planning.strip_rects.Goals as goal
+use Rattle.tile_parts.proofs.parts.strip_rects.Goals as goal
 
 pub loop-row-preserved : goal.loop-row-preserved
 loop-row-preserved c =
