@@ -1,5 +1,5 @@
 -- The formats of pixels. A pixel is its channels in order: Y, or R, G and B, and then alpha where the format has it.
-use Rattle.std.specs.Prelude.{ℕ, ◌*◌, ◌==◌, ◌&&◌, Bool, true, false, List, codes}
+use Rattle.std.specs.Prelude.{ℕ, ◌*◌, ◌==◌, ◌&&◌, Bool, true, false, cond, nat_le, List, [], ◌++◌, codes}
 use Rattle.pixel_formats.specs.declared.format.Format.{Format}
 use Rattle.pixel_formats.specs.declared.format.Format.TheVariants.{Y8, YA8, RGB8, RGBA8, Y16, YA16, RGB16, RGBA16}
 pub use Rattle.pixel_formats.specs.Sample.{max_sample_of}
@@ -37,16 +37,12 @@ has_alpha YA16 = true
 has_alpha RGB16 = false
 has_alpha RGBA16 = true
 
--- the name in a script
+-- the name in a script: its colors, A where there is alpha, and the bits of a sample
 abbrev pub word : Format → List ℕ
-word Y8 = codes "Y8"
-word YA8 = codes "YA8"
-word RGB8 = codes "RGB8"
-word RGBA8 = codes "RGBA8"
-word Y16 = codes "Y16"
-word YA16 = codes "YA16"
-word RGB16 = codes "RGB16"
-word RGBA16 = codes "RGBA16"
+word format =
+    cond (nat_le (channels format) 2) (codes "Y") (codes "RGB")
+    ++ cond (has_alpha format) (codes "A") []
+    ++ cond (depth format == 1) (codes "8") (codes "16")
 
 -- the largest sample
 abbrev pub max_sample : Format → ℕ

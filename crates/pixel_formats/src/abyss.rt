@@ -30,18 +30,15 @@ const POLICIES: [Abyss; 5] = [
     Abyss::White,
 ];
 
+/// The word of each policy in a script, in the order of the variants.
+const WORDS: [&str; 5] = ["NONE", "CLAMP", "LOOP", "BLACK", "WHITE"];
+
 impl Abyss {
     /// Returns the word of the policy in a script.
     pub fn word(self) -> &'static str
         ensures { result.now ≡ policy_word self }
     {
-        match self {
-            Abyss::None => "NONE",
-            Abyss::Clamp => "CLAMP",
-            Abyss::Loop => "LOOP",
-            Abyss::Black => "BLACK",
-            Abyss::White => "WHITE",
-        }
+        WORDS[self as usize]
     }
 
     /// Returns the policy of a word, and None exactly where it names none.

@@ -17,6 +17,11 @@ pub enum Format {
     RGBA16,
 }
 
+/// The name of each format in a script, in the order of the variants.
+const WORDS: [&str; 8] = [
+    "Y8", "YA8", "RGB8", "RGBA8", "Y16", "YA16", "RGB16", "RGBA16",
+];
+
 impl Format {
     /// Returns how many channels a pixel has, alpha among them: 1 to 4.
     pub fn channels(self) -> u32
@@ -71,16 +76,7 @@ impl Format {
     pub fn word(self) -> &'static str
         ensures { result.now ≡ word_of self }
     {
-        match self {
-            Format::Y8 => "Y8",
-            Format::YA8 => "YA8",
-            Format::RGB8 => "RGB8",
-            Format::RGBA8 => "RGBA8",
-            Format::Y16 => "Y16",
-            Format::YA16 => "YA16",
-            Format::RGB16 => "RGB16",
-            Format::RGBA16 => "RGBA16",
-        }
+        WORDS[self as usize]
     }
 
     /// Returns the format of a name, and None exactly where it names none.

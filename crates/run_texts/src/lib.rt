@@ -5,4 +5,4 @@ mod cause;
 mod texts;
 
 pub use cause::Cause;
-pub use texts::{frame_text, grab_text, refusal_text, render_text, report_text, sum_text};
+pub use texts::{grab_text, refusal_text, render_text, report_text, sum_text};

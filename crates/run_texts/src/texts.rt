@@ -1,7 +1,7 @@
 //! The texts of a run, each a line with its line feed.
 
 ghost use Rattle.std.specs.Prelude.{◌≡◌, string_bytes, IfOk};
-ghost use Rattle.run_texts.specs.Texts.{frame_text, grab_text, refusal_text, render_text, report_text, sum_text};
+ghost use Rattle.run_texts.specs.Texts.{grab_text, refusal_text, render_text, report_text, sum_text};
 
 use crate::cause::Cause;
 use std::alloc::{AllocError, Global};
@@ -31,21 +31,6 @@ pub fn grab_text(alloc: Global, line: u32, bytes: usize) -> Result<String, Alloc
     ensures { IfOk result (λ text. string_bytes text ≡ grab_text line bytes) }
 {
     format!(in alloc; "grab {line} bytes {bytes}\n")
-}
-
-/// The text of a viewer's frame whose file of so many bytes is written: the line of its watch, and
-/// the commit that it shows.
-pub fn frame_text(
-    alloc: Global,
-    line: u32,
-    viewer: u32,
-    frame: u32,
-    commit: u32,
-    bytes: usize,
-) -> Result<String, AllocError>
-    ensures { IfOk result (λ text. string_bytes text ≡ frame_text line viewer frame commit bytes) }
-{
-    format!(in alloc; "frame {line} {viewer} {frame} commit {commit} bytes {bytes}\n")
 }
 
 /// The text of the sum of all bytes that a made job's files have.

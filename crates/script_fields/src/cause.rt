@@ -31,6 +31,19 @@ pub enum ScriptCause {
     Order,
 }
 
+/// The name of each cause, in the order of the variants.
+const WORDS: [&str; 9] = [
+    "NotAscii",
+    "LineTooLong",
+    "TooManyLines",
+    "UnknownCommand",
+    "Words",
+    "Number",
+    "Name",
+    "Rect",
+    "Order",
+];
+
 impl ScriptCause {
     ghost use Rattle.std.specs.Prelude.{◌≡◌};
     ghost use Rattle.script_fields.specs.Causes.{cause_word};
@@ -39,17 +52,7 @@ impl ScriptCause {
     pub fn word(self) -> &'static str
         ensures { result.now ≡ cause_word self }
     {
-        match self {
-            ScriptCause::NotAscii => "NotAscii",
-            ScriptCause::LineTooLong => "LineTooLong",
-            ScriptCause::TooManyLines => "TooManyLines",
-            ScriptCause::UnknownCommand => "UnknownCommand",
-            ScriptCause::Words => "Words",
-            ScriptCause::Number => "Number",
-            ScriptCause::Name => "Name",
-            ScriptCause::Rect => "Rect",
-            ScriptCause::Order => "Order",
-        }
+        WORDS[self as usize]
     }
 }
 

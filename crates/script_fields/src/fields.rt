@@ -5,8 +5,7 @@
 
 ghost use Rattle.std.specs.Prelude.{◌≡◌, ◌<◌, ◌≤◌, ◌≤ℤ◌, ◌+◌, ◌-◌, ◌^◌, length, pos, neg_ℤ, IfOk, OnOk, IsTrue};
 ghost use Rattle.outside_io.specs.FileName.{is_file_name};
-ghost use Rattle.plane_rect.specs.Name.{is_name};
-ghost use Rattle.plane_rect.specs.Rectangle.{in_limits};
+ghost use Rattle.plane_rect.specs.{Name.is_name, Rectangle.in_limits};
 ghost use Rattle.script_fields.specs.Fields.{coordinate_at, count, count_in, file_at, format_at, format_named, rect_numbers_at, integer_at, rect_in_limits, move_at, name_at, name_of, natural_at, near_policy_at, policy_at, prefix_at, sample_at, sample_of, sideways_at, texts, word_at};
 ghost use Rattle.pixel_formats.specs.Limits.{max_move, max_sample, suits_areas, max_prefix_bytes};
 

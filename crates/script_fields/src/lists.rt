@@ -2,8 +2,8 @@
 
 ghost use Rattle.std.specs.Prelude.{◌≡◌, ◌+◌, ◌≤◌, IfOk, length, All, IsTrue};
 ghost use Rattle.plane_rect.specs.Name.{is_name};
-ghost use Rattle.script_fields.specs.Answers.{Answers};
 ghost use Rattle.script_fields.specs.Fields.{names_from, names_of, samples_from, samples_of, texts};
+ghost use Rattle.script_fields.specs.Answers.{Answers};
 ghost use Rattle.pixel_formats.specs.Limits.{max_sample};
 
 use crate::cause::LineAnswer;

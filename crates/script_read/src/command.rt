@@ -2,6 +2,7 @@
 
 use crate::keyword::Keyword;
 use crate::operation_word::OperationWord;
+use crate::variants::same_variant;
 use model_operations::IntOp;
 use pixel_formats::{Abyss, Format, PixelSamples};
 use plane_rect::{Name, NameList, Rect};
@@ -108,23 +109,9 @@ impl Command {
     pub(crate) fn keyword(&self) -> Keyword
         ensures { result ≡ keyword self.now }
     {
-        match self {
-            Command::Buffer { .. } => Keyword::Buffer,
-            Command::Sub { .. } => Keyword::Sub,
-            Command::Dup { .. } => Keyword::Dup,
-            Command::Load { .. } => Keyword::Load,
-            Command::Fill { .. } => Keyword::Fill,
-            Command::Copy { .. } => Keyword::Copy,
-            Command::Node { .. } => Keyword::Node,
-            Command::Drop { .. } => Keyword::Drop,
-            Command::Commit => Keyword::Commit,
-            Command::Undo => Keyword::Undo,
-            Command::Redo => Keyword::Redo,
-            Command::Render { .. } => Keyword::Render,
-            Command::Grab { .. } => Keyword::Grab,
-            Command::Watch { .. } => Keyword::Watch,
-            Command::EndWatch => Keyword::EndWatch,
-        }
+        same_variant!(self, Command => Keyword:
+            Buffer, Sub, Dup, Load, Fill, Copy, Node, Drop, Commit, Undo, Redo, Render, Grab, Watch,
+            EndWatch)
     }
 }
 

@@ -5,10 +5,9 @@
 
 ghost use Rattle.std.specs.Prelude.{◌≡◌};
 ghost use Rattle.pixel_formats.specs.Limits.{max_level};
-ghost use Rattle.script_read.specs.Answers.{ReadsCommand};
 ghost use Rattle.script_read.specs.Commands.{alone, buffer, copy, drop_node, dup, fill, grab, load, render, sub, watch};
+ghost use Rattle.script_read.specs.{Answers.ReadsCommand, Limits.IsInLimits};
 ghost use Rattle.script_fields.specs.Fields.{texts};
-ghost use Rattle.script_read.specs.Limits.{IsInLimits};
 
 use crate::command::Command;
 use pixel_formats::limits::{MAX_FRAMES, MAX_LEVEL, MAX_VIEWERS};
@@ -18,15 +17,23 @@ use script_fields::{
 };
 use std::alloc::Global;
 
+/// Reads a command of 7 words: its name, another field, and its rectangle, whose numbers begin at an
+/// index.
+macro_rules! with_field {
+    ($words:ident, $index:literal, $field:expr) => {{
+        count(7, $words)?;
+        let numbers = rect_numbers_at($words, $index)?;
+        let name = name_at($words, 1)?;
+        let field = $field?;
+        (name, field, numbers.rect()?)
+    }};
+}
+
 /// Reads `buffer B FORMAT X Y W H`.
 pub(crate) fn buffer(words: &[&[u8]]) -> Result<Command, LineAnswer>
     ensures { ReadsCommand result (buffer (texts words.now)) }
 {
-    count(7, words)?;
-    let numbers = rect_numbers_at(words, 3)?;
-    let name = name_at(words, 1)?;
-    let format = format_at(words, 2)?;
-    let rect = numbers.rect()?;
+    let (name, format, rect) = with_field!(words, 3, format_at(words, 2));
     Ok(Command::Buffer { name, format, rect })
 }
 
@@ -34,11 +41,7 @@ pub(crate) fn buffer(words: &[&[u8]]) -> Result<Command, LineAnswer>
 pub(crate) fn sub(words: &[&[u8]]) -> Result<Command, LineAnswer>
     ensures { ReadsCommand result (sub (texts words.now)) }
 {
-    count(7, words)?;
-    let numbers = rect_numbers_at(words, 3)?;
-    let name = name_at(words, 1)?;
-    let parent = name_at(words, 2)?;
-    let rect = numbers.rect()?;
+    let (name, parent, rect) = with_field!(words, 3, name_at(words, 2));
     Ok(Command::Sub { name, parent, rect })
 }
 
@@ -56,11 +59,7 @@ pub(crate) fn dup(words: &[&[u8]]) -> Result<Command, LineAnswer>
 pub(crate) fn load(words: &[&[u8]]) -> Result<Command, LineAnswer>
     ensures { ReadsCommand result (load (texts words.now)) }
 {
-    count(7, words)?;
-    let numbers = rect_numbers_at(words, 2)?;
-    let name = name_at(words, 1)?;
-    let file = file_at(words, 6)?;
-    let rect = numbers.rect()?;
+    let (name, file, rect) = with_field!(words, 2, file_at(words, 6));
     Ok(Command::Load { name, rect, file })
 }
 

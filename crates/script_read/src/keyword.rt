@@ -3,6 +3,8 @@
 ghost use Rattle.std.specs.Prelude.{◌≡◌};
 ghost use Rattle.script_read.specs.Keywords.{keyword_of, keyword_word};
 
+use crate::variants::{all_variants, find_by_word};
+
 /// The first word of a command.
 #[derive(Clone, Copy, Debug, PartialEq, Eq)]
 pub(crate) enum Keyword {
@@ -24,22 +26,14 @@ pub(crate) enum Keyword {
 }
 
 /// All first words of commands.
-const KEYWORDS: [Keyword; 15] = [
-    Keyword::Buffer,
-    Keyword::Sub,
-    Keyword::Dup,
-    Keyword::Load,
-    Keyword::Fill,
-    Keyword::Copy,
-    Keyword::Node,
-    Keyword::Drop,
-    Keyword::Commit,
-    Keyword::Undo,
-    Keyword::Redo,
-    Keyword::Render,
-    Keyword::Grab,
-    Keyword::Watch,
-    Keyword::EndWatch,
+const KEYWORDS: [Keyword; 15] = all_variants!(Keyword:
+    Buffer, Sub, Dup, Load, Fill, Copy, Node, Drop, Commit, Undo, Redo, Render, Grab, Watch,
+    EndWatch);
+
+/// The word of each command, in the order of the variants.
+const WORDS: [&str; 15] = [
+    "buffer", "sub", "dup", "load", "fill", "copy", "node", "drop", "commit", "undo", "redo",
+    "render", "grab", "watch", "endwatch",
 ];
 
 impl Keyword {
@@ -48,32 +42,13 @@ impl Keyword {
     pub fn parse(word: &[u8]) -> Option<Keyword>
         ensures { result ≡ keyword_of word.now }
     {
-        KEYWORDS
-            .iter()
-            .copied()
-            .find(|keyword| keyword.word().as_bytes() == word)
+        find_by_word!(KEYWORDS, word)
     }
 
     /// Returns the word.
     pub fn word(self) -> &'static str
         ensures { result.now ≡ keyword_word self }
     {
-        match self {
-            Keyword::Buffer => "buffer",
-            Keyword::Sub => "sub",
-            Keyword::Dup => "dup",
-            Keyword::Load => "load",
-            Keyword::Fill => "fill",
-            Keyword::Copy => "copy",
-            Keyword::Node => "node",
-            Keyword::Drop => "drop",
-            Keyword::Commit => "commit",
-            Keyword::Undo => "undo",
-            Keyword::Redo => "redo",
-            Keyword::Render => "render",
-            Keyword::Grab => "grab",
-            Keyword::Watch => "watch",
-            Keyword::EndWatch => "endwatch",
-        }
+        WORDS[self as usize]
     }
 }

@@ -3,9 +3,8 @@
 ghost use Rattle.std.specs.Prelude.{◌≡◌, ◌⊎◌, ℕ, List, None, Ok, Err};
 ghost use Rattle.script_words.specs.Lines.{lines_of};
 ghost use Rattle.script_fields.specs.declared.cause.ScriptCause.{ScriptCause};
-ghost use Rattle.script_read.specs.Script.{script_of};
 ghost use Rattle.script_read.specs.TextCauses.{IsAccepted, IsFirst, IsLeftOpen};
-ghost use Rattle.script_read.specs.declared.command.Line.{Line};
+ghost use Rattle.script_read.specs.{Script.script_of, declared.command.Line.Line};
 
 /// States what a text is refused for, each cause by itself: its first line that has a cause is reported, with
 /// the lowest of its causes; where no line has one, a watch that is open at the end is, of its own line. Of a

@@ -10,6 +10,7 @@ mod nodes;
 mod operation_word;
 mod printer;
 mod reader;
+mod variants;
 
 pub use command::{Command, Line, OpWords};
 pub use limits::is_script;

@@ -1,10 +1,10 @@
 //! Which lines are a script's.
 
 ghost use Rattle.std.specs.Prelude.{◌≡◌, ◌↔◌, ◌≤◌, IsTrue};
+ghost use Rattle.script_read.specs.Limits.{AreInRange, InRange, IsInLimits, input_count};
 ghost use Rattle.script_read.specs.IsScript.{IsScript};
 ghost use Rattle.script_fields.specs.Limits.{IsLevelRect};
 ghost use Rattle.pixel_formats.specs.Limits.{ArePixel, IsIn, IsMove, IsSample, IsArea};
-ghost use Rattle.script_read.specs.Limits.{AreInRange, InRange, IsInLimits, input_count};
 
 use crate::command::{Command, Line, OpWords};
 use crate::reader::open_after;

@@ -6,9 +6,9 @@
 ghost use Rattle.std.specs.Prelude.{◌≡◌, ◌+◌, ◌≤◌, ◌<◌, length};
 ghost use Rattle.script_fields.specs.Fields.{texts};
 ghost use Rattle.model_operations.specs.Inputs.{input_count as inputs_of};
-ghost use Rattle.script_read.specs.Answers.{ReadsCommand};
 ghost use Rattle.script_read.specs.Limits.{AreInRange, IsInLimits};
 ghost use Rattle.script_read.specs.Nodes.{area_node, area_operation, bare, checker, color, convert, crop, flip, gain, node, node_by, source, threshold, translate};
+ghost use Rattle.script_read.specs.Answers.{ReadsCommand};
 
 use crate::command::{Command, OpWords};
 use crate::operation_word::OperationWord;
@@ -31,8 +31,7 @@ pub(crate) struct Ends {
 
 impl Ends {
     ghost use Rattle.std.specs.Prelude.{◌≡◌, ◌+◌, ◌≤◌, ◌<◌, ◌∷◌, IfOk, length};
-    ghost use Rattle.script_fields.specs.Answers.{Answers};
-    ghost use Rattle.script_fields.specs.Fields.{texts};
+    ghost use Rattle.script_fields.specs.{Answers.Answers, Fields.texts};
     ghost use Rattle.model_operations.specs.Inputs.{input_count as inputs_of};
     ghost use Rattle.script_read.specs.Limits.{AreInRange, InRange, IsInLimits, input_count};
     ghost use Rattle.script_read.specs.Nodes.{computed, ends_from, node_of};
@@ -86,8 +85,7 @@ pub(crate) struct Area {
 impl Area {
     ghost use Rattle.std.specs.Prelude.{◌≡◌, IfOk, length};
     ghost use Rattle.pixel_formats.specs.Limits.{IsArea};
-    ghost use Rattle.script_fields.specs.Answers.{Answers};
-    ghost use Rattle.script_fields.specs.Fields.{texts};
+    ghost use Rattle.script_fields.specs.{Answers.Answers, Fields.texts};
     ghost use Rattle.script_read.specs.Nodes.{area_of};
 
     /// Reads `node N OP R ABYSS IN`.
@@ -106,6 +104,16 @@ impl Area {
             abyss,
         })
     }
+}
+
+/// Reads the ends of a node of so many words, whose inputs begin at index 4, and the field at index
+/// 3, a name or a choice.
+macro_rules! with_choice {
+    ($alloc:ident, $number:literal, $words:ident, $choice_at:ident) => {{
+        count($number, $words)?;
+        let ends = Ends::parse($alloc, 4, $words)?;
+        (ends, $choice_at($words, 3)?)
+    }};
 }
 
 /// Reads `node N OP ARGUMENTS INPUTS`.
@@ -161,9 +169,7 @@ fn bare(alloc: Global, op: IntOp, number: usize, words: &[&[u8]]) -> Result<Comm
 fn source(alloc: Global, words: &[&[u8]]) -> Result<Command, LineAnswer>
     ensures { ReadsCommand result (source (texts words.now)) }
 {
-    count(4, words)?;
-    let ends = Ends::parse(alloc, 4, words)?;
-    let buffer = name_at(words, 3)?;
+    let (ends, buffer) = with_choice!(alloc, 4, words, name_at);
     Ok(ends.node(OpWords::Source { buffer }))
 }
 
@@ -209,9 +215,7 @@ fn checker(alloc: Global, words: &[&[u8]]) -> Result<Command, LineAnswer>
 fn convert(alloc: Global, words: &[&[u8]]) -> Result<Command, LineAnswer>
     ensures { ReadsCommand result (convert (texts words.now)) }
 {
-    count(5, words)?;
-    let ends = Ends::parse(alloc, 4, words)?;
-    let format = format_at(words, 3)?;
+    let (ends, format) = with_choice!(alloc, 5, words, format_at);
     Ok(ends.compute(IntOp::Convert { format }))
 }
 
@@ -262,9 +266,7 @@ fn crop(alloc: Global, words: &[&[u8]]) -> Result<Command, LineAnswer>
 fn flip(alloc: Global, words: &[&[u8]]) -> Result<Command, LineAnswer>
     ensures { ReadsCommand result (flip (texts words.now)) }
 {
-    count(5, words)?;
-    let ends = Ends::parse(alloc, 4, words)?;
-    let sideways = sideways_at(words, 3)?;
+    let (ends, sideways) = with_choice!(alloc, 5, words, sideways_at);
     Ok(ends.compute(IntOp::Flip { sideways }))
 }
 

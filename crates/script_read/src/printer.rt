@@ -3,9 +3,8 @@
 ghost use Rattle.std.specs.Prelude.{◌≡◌, ◌++◌, IfOk, OnOk, Ok, map, decimal, replicate};
 ghost use Rattle.script_words.specs.Words.{joined, spaced};
 ghost use Rattle.script_fields.specs.Spelling.{AreValid, PutsFields};
-ghost use Rattle.script_read.specs.IsScript.{IsScript};
-ghost use Rattle.script_read.specs.Script.{script_of};
 ghost use Rattle.script_read.specs.Spelling.{HasValidFields, arguments, fields_of, list_words, operation_arguments, operation_words, output_fields, printed, samples_in, command_words};
+ghost use Rattle.script_read.specs.{IsScript.IsScript, Script.script_of};
 
 use crate::command::{Command, Line, OpWords};
 use model_operations::IntOp;
@@ -14,6 +13,34 @@ use script_fields::Field::{File, Format, Integer, Name, Natural, Policy, Rect, S
 use script_fields::{put_fields, put_names, put_samples};
 use script_words::push_word;
 use std::alloc::Global;
+
+/// Appends one group of fields to a text, or two, each word after a space.
+macro_rules! put_groups {
+    ($text:ident, [$($kind:ident $field:ident),+]) => {
+        put_fields($text, &[$($kind(*$field)),+])
+    };
+    ($text:ident, [$($kind:ident $field:ident),+] [$($more:ident $other:ident),+]) => {{
+        put_fields($text, &[$($kind(*$field)),+])?;
+        put_fields($text, &[$($more(*$other)),+])
+    }};
+}
+
+/// Appends the fields of a value to a text by its variant: for each variant the kinds and names of
+/// its fields are listed, in one group or two, and last what is done for the other variants.
+macro_rules! put_by_variant {
+    (
+        $text:ident, $value:ident;
+        $($type:ident::$variant:ident: $([$($kind:ident $field:ident),+])+,)+
+        _: $others:expr
+    ) => {
+        match $value {
+            $($type::$variant { $($($field,)+)+ .. } => {
+                put_groups!($text, $([$($kind $field),+])+)
+            })+
+            _ => $others,
+        }
+    };
+}
 
 /// Returns the text of a script: each command on the line of its number, with empty lines between.
 /// Takes time in proportion to the text, which has a byte at least for each number up to that of
@@ -63,31 +90,16 @@ fn put_command(text: &mut Vec<u8>, command: &Command) -> Result<(), NoMemory>
 fn put_fields_of(text: &mut Vec<u8>, command: &Command) -> Result<(), NoMemory>
     ensures { PutsFields (fields_of command.now) result text.old.items text.new.items }
 {
-    match command {
-        Command::Buffer { name, format, rect } => {
-            put_fields(text, &[Name(*name), Format(*format), Rect(*rect)])
-        }
-        Command::Sub { name, parent, rect } => {
-            put_fields(text, &[Name(*name), Name(*parent), Rect(*rect)])
-        }
-        Command::Dup { name, from } => put_fields(text, &[Name(*name), Name(*from)]),
-        Command::Load { name, rect, file } => {
-            put_fields(text, &[Name(*name), Rect(*rect), File(*file)])
-        }
-        Command::Fill { name, rect, .. } => put_fields(text, &[Name(*name), Rect(*rect)]),
-        Command::Copy {
-            from,
-            to,
-            rect,
-            dx,
-            dy,
-        } => {
-            put_fields(text, &[Name(*from), Name(*to)])?;
-            put_fields(text, &[Rect(*rect), Integer(*dx), Integer(*dy)])
-        }
-        Command::Node { name, .. } | Command::Drop { name } => put_fields(text, &[Name(*name)]),
-        _ => put_output_fields(text, command),
-    }
+    put_by_variant!(text, command;
+        Command::Buffer: [Name name, Format format, Rect rect],
+        Command::Sub: [Name name, Name parent, Rect rect],
+        Command::Dup: [Name name, Name from],
+        Command::Load: [Name name, Rect rect, File file],
+        Command::Fill: [Name name, Rect rect],
+        Command::Copy: [Name from, Name to] [Rect rect, Integer dx, Integer dy],
+        Command::Node: [Name name],
+        Command::Drop: [Name name],
+        _: put_output_fields(text, command))
 }
 
 /// Appends the fields of a command that writes files to a text, each word after a space. Others
@@ -95,38 +107,11 @@ fn put_fields_of(text: &mut Vec<u8>, command: &Command) -> Result<(), NoMemory>
 fn put_output_fields(text: &mut Vec<u8>, command: &Command) -> Result<(), NoMemory>
     ensures { PutsFields (output_fields command.now) result text.old.items text.new.items }
 {
-    match command {
-        Command::Render {
-            name,
-            level,
-            rect,
-            file,
-        } => {
-            put_fields(text, &[Name(*name), Natural(*level)])?;
-            put_fields(text, &[Rect(*rect), File(*file)])
-        }
-        Command::Grab {
-            name,
-            level,
-            abyss,
-            rect,
-            file,
-        } => {
-            put_fields(text, &[Name(*name), Natural(*level), Policy(*abyss)])?;
-            put_fields(text, &[Rect(*rect), File(*file)])
-        }
-        Command::Watch {
-            name,
-            rect,
-            viewers,
-            frames,
-            prefix,
-        } => {
-            put_fields(text, &[Name(*name), Rect(*rect)])?;
-            put_fields(text, &[Natural(*viewers), Natural(*frames), File(*prefix)])
-        }
-        _ => Ok(()),
-    }
+    put_by_variant!(text, command;
+        Command::Render: [Name name, Natural level] [Rect rect, File file],
+        Command::Grab: [Name name, Natural level, Policy abyss] [Rect rect, File file],
+        Command::Watch: [Name name, Rect rect] [Natural viewers, Natural frames, File prefix],
+        _: Ok(()))
 }
 
 /// Appends the words after the fields of a command to a text, each after a space: samples, or an
@@ -170,31 +155,19 @@ fn put_arguments(text: &mut Vec<u8>, op: &OpWords) -> Result<(), NoMemory>
 fn put_operation_arguments(text: &mut Vec<u8>, op: &IntOp) -> Result<(), NoMemory>
     ensures { PutsFields (operation_arguments op.now) result text.old.items text.new.items }
 {
-    match op {
-        IntOp::Color { format, rect, .. } => put_fields(text, &[Format(*format), Rect(*rect)]),
-        IntOp::Checker {
-            format,
-            rect,
-            size,
-            v1,
-            v2,
-        } => {
-            put_fields(text, &[Format(*format), Rect(*rect)])?;
-            put_fields(text, &[Natural(*size), Natural(*v1), Natural(*v2)])
-        }
-        IntOp::Convert { format } => put_fields(text, &[Format(*format)]),
-        IntOp::Threshold { at } => put_fields(text, &[Natural(*at)]),
-        IntOp::Gain { num, den } => put_fields(text, &[Natural(*num), Natural(*den)]),
-        IntOp::Translate { dx, dy } => put_fields(text, &[Integer(*dx), Integer(*dy)]),
-        IntOp::Crop { rect } => put_fields(text, &[Rect(*rect)]),
-        IntOp::Flip { sideways } => put_fields(text, &[Sideways(*sideways)]),
-        IntOp::BoxMean { radius, abyss }
-        | IntOp::Dilate { radius, abyss }
-        | IntOp::Erode { radius, abyss } => {
-            put_fields(text, &[Natural(*radius), Policy(*abyss)])
-        }
-        IntOp::Invert | IntOp::Add | IntOp::Over | IntOp::Mask => Ok(()),
-    }
+    put_by_variant!(text, op;
+        IntOp::Color: [Format format, Rect rect],
+        IntOp::Checker: [Format format, Rect rect] [Natural size, Natural v1, Natural v2],
+        IntOp::Convert: [Format format],
+        IntOp::Threshold: [Natural at],
+        IntOp::Gain: [Natural num, Natural den],
+        IntOp::Translate: [Integer dx, Integer dy],
+        IntOp::Crop: [Rect rect],
+        IntOp::Flip: [Sideways sideways],
+        IntOp::BoxMean: [Natural radius, Policy abyss],
+        IntOp::Dilate: [Natural radius, Policy abyss],
+        IntOp::Erode: [Natural radius, Policy abyss],
+        _: Ok(()))
 }
 
 /// Appends the samples of an operation to a text, each after a space.

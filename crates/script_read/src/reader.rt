@@ -2,12 +2,10 @@
 
 ghost use Rattle.std.specs.Prelude.{◌≡◌, ◌+◌, ◌≤◌, ◌<◌, IfOk, IfSome, IsTrue, length};
 ghost use Rattle.script_words.specs.Lines.{is_text};
-ghost use Rattle.script_fields.specs.Answers.{Answers};
+ghost use Rattle.script_fields.specs.{Answers.Answers, Fields.texts};
 ghost use Rattle.script_read.specs.Answers.{Reads, ReadsCommand};
-ghost use Rattle.script_fields.specs.Fields.{texts};
-ghost use Rattle.script_read.specs.IsScript.{IsScript};
-ghost use Rattle.script_read.specs.Limits.{IsInLimits};
 ghost use Rattle.script_read.specs.Script.{begins_comment, command_by, command_in, command_of, is_silent, open_after, open_past, script_of, spoken, step_of};
+ghost use Rattle.script_read.specs.{IsScript.IsScript, Limits.IsInLimits};
 ghost use Rattle.pixel_formats.specs.Limits.{max_lines};
 
 use crate::command::{Command, Line};

@@ -6,7 +6,7 @@ use Rattle.outside_io.specs.Faults.{Rose}
 use Rattle.outside_io.specs.Files.{Files, file}
 use Rattle.model_runs.specs.Built.{built_lines, built_plan, needs_no_swap, plan_of_read}
 use Rattle.model_runs.specs.Ending.{IsRefusal, IsWhole, MayTear, SaysRefused, end_status, status_of}
-use Rattle.model_runs.specs.Ran.{Faults, NoneFalls, Ran, SufficesFor, bytes_put, tiles_of_run}
+use Rattle.model_runs.specs.Ran.{Faults, Ran, SufficesFor, bytes_put, tiles_of_run}
 use Rattle.model_runs.specs.Run.{Ending, Plan, lines_of_file, plan_of_lines, report, watched_in}
 use Rattle.model_runs.specs.State.{Numbers, Watched}
 use Rattle.model_runs.specs.Swap.{Suffices}
@@ -23,7 +23,7 @@ use Rattle.script_read.specs.declared.command.Line.{Line}
 use Rattle.std.specs.Prelude.{option_and_then}
 use Rattle.script_run.proofs.Statuses.{may_tear_at}
 use Rattle.script_run.proofs.Unwatched.{plan_unwatched}
-use Rattle.script_run.specs.Carried.{CarriesOutRead, EndsWithoutSwap}
+use Rattle.script_run.specs.Carried.{CarriesOutRead}
 
 -- ---- statuses
 
@@ -147,28 +147,6 @@ ran_named found run swapped (Some given) ended status size faults old new named 
       ran_by (swapped || needs_no_swap read) (plan_of_read report [] given run.options read) run.options ended size faults old new
           (plan_unwatched report given run.options read) (options_of report [] given run.options (built_lines read)) chain carried has,
     )
-
--- a run that needs no swap comes to its end whatever the swap is
-pub complete_named : (found : Option ScriptRun) (run : ScriptRun) (swapped : Bool) (exposed : Option Files) (ended : Result (Unit {0}) End) (status : ℕ) (Same : Type 0) (old new : Moment) →
-    found ≡ Some run → status ≡ status_of ended →
-    IfSome exposed (λ files. CarriesOutRead report swapped files run.options (lines_of_file (file files run.script)) ended old new) → HasFaults ended old new →
-    IfSome exposed (λ files. IsTrue (needs_no_swap (lines_of_file (file files run.script))) → Same × EndsWithoutSwap ended) →
-    ¬ Rose old.reads new.reads → ¬ Rose old.writes new.writes → ¬ Rose old.puts new.puts →
-    IfSome found (λ run. IfSome exposed (λ files. IsTrue (needs_no_swap (lines_of_file (file files run.script))) → (status ≡ 7) ⊎ (status ≡ end_status (built_plan [] files run).outcome.refused)))
-complete_named found run swapped None ended status Same old new named is carried has unswapped reads writes puts = rw named tt
-complete_named found run swapped (Some files) ended status Same old new named is carried has unswapped reads writes puts =
-    rw (named, is)
-    (λ none. complete_by (built_plan [] files run).outcome.refused ended old new carried.refused has (unswapped none).1.fault (unswapped none).1.room reads writes puts)
-
-pub unswapped_named : (found : Option ScriptRun) (run : ScriptRun) (exposed : Option Files) (ended : Result (Unit {0}) End) (Same : Type 0) → found ≡ Some run →
-    IfSome exposed (λ files. IsTrue (needs_no_swap (lines_of_file (file files run.script))) → Same × EndsWithoutSwap ended) →
-    IfSome found (λ run. IfSome exposed (λ files. IsTrue (needs_no_swap (lines_of_file (file files run.script))) → Same))
-unswapped_named found run None ended Same named unswapped = rw named tt
-unswapped_named found run (Some files) ended Same named unswapped = rw named (λ none. (unswapped none).0)
-
--- no count of a run falls
-pub none_falls_by : (ended : Result (Unit {0}) End) (old new : Moment) → HasFaults ended old new → NoneFalls (faults_at old) (faults_at new)
-none_falls_by ended old new has = record { reads = has.reads; writes = has.writes; swaps = has.chain.later; puts = has.puts }
 
 -- ---- what is asked for
 

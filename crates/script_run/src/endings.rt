@@ -1,10 +1,8 @@
 //! What is put where a script ends.
 
 ghost use Rattle.std.specs.Prelude.{[], ◌∷◌, IfOk};
-ghost use Rattle.model_runs.specs.Ending.{ended};
-ghost use Rattle.model_runs.specs.MadeJob.{render_sum};
-ghost use Rattle.run_events.specs.Causes.{HasSinkCause};
-ghost use Rattle.run_events.specs.Leaving.{SinkLeaves};
+ghost use Rattle.model_runs.specs.{Ending.ended, MadeJob.render_sum};
+ghost use Rattle.run_events.specs.{Causes.HasSinkCause, Leaving.SinkLeaves};
 ghost use Rattle.run_texts.specs.Events.{Puts, events_alone, refusal};
 ghost use Rattle.run_texts.specs.Texts.{report_text as text_of_report, sum_text as text_of_sum};
 

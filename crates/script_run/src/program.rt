@@ -4,12 +4,9 @@ ghost use Rattle.std.specs.Prelude.{◌≡◌, ◌≢◌, ◌↔◌, ◌≤◌, 
 ghost use Rattle.outside_io.specs.Files.{Files, file};
 ghost use Rattle.outside_io.specs.Faults.{Rose};
 ghost use Rattle.model_runs.specs.Built.{built_job, built_plan, needs_no_swap};
-ghost use Rattle.model_runs.specs.Ending.{end_status};
-ghost use Rattle.model_runs.specs.MadeJob.{made_files};
 ghost use Rattle.model_runs.specs.Ran.{NoneFalls, Ran};
-ghost use Rattle.model_runs.specs.Run.{lines_of_file};
-ghost use Rattle.model_runs.specs.State.{Numbers};
 ghost use Rattle.model_runs.specs.Words.{asked_job, asked_script, request_of as asked_by};
+ghost use Rattle.model_runs.specs.{Ending.end_status, MadeJob.made_files, Run.lines_of_file, State.Numbers};
 ghost use Rattle.script_run.specs.Carried.{job_blocks};
 
 use crate::job::run_job;

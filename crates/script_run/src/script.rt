@@ -2,16 +2,11 @@
 
 ghost use Rattle.std.specs.Prelude.{◌≡◌, is_some, min, Ok, IfOk, IfSome, IsTrue};
 ghost use Rattle.chain_handlers.specs.OwnedTiles.{counts_over};
-ghost use Rattle.outside_io.specs.FileName.{is_file_name};
-ghost use Rattle.outside_io.specs.Files.{file};
-ghost use Rattle.script_read.specs.IsScript.{IsScript};
-ghost use Rattle.script_read.specs.Script.{script_of};
-ghost use Rattle.model_runs.specs.Built.{needs_no_swap};
-ghost use Rattle.model_runs.specs.Ending.{ended};
-ghost use Rattle.model_runs.specs.Laws.{AreInRange};
+ghost use Rattle.outside_io.specs.{FileName.is_file_name, Files.file};
+ghost use Rattle.script_read.specs.{IsScript.IsScript, Script.script_of};
 ghost use Rattle.model_runs.specs.Run.{by_grammar, lines_of_file, no_ending, report};
-ghost use Rattle.run_events.specs.Carried.{IsCounted};
-ghost use Rattle.run_events.specs.Moments.{HasFaults};
+ghost use Rattle.model_runs.specs.{Built.needs_no_swap, Ending.ended, Laws.AreInRange};
+ghost use Rattle.run_events.specs.{Carried.IsCounted, Moments.HasFaults};
 ghost use Rattle.run_words.specs.Meant.{options_meant};
 ghost use Rattle.script_run.specs.Carried.{CarriesOutRead, EndsWithoutSwap, last_state};
 

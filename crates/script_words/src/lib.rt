@@ -6,8 +6,6 @@ mod laws;
 mod lines;
 mod numbers;
 mod spelling;
-#[cfg(test)]
-mod tests;
 mod words;
 
 pub use file_name::FileName;
