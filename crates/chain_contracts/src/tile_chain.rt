@@ -2,8 +2,8 @@
 
 ghost use Rattle.std.specs.Prelude.{◌≡◌, ◌≢◌, ◌+◌, ℕ, Some, None, IfErr, IfOk, IfSome, IsSome, OnErr, OnOk, length, replicate};
 ghost use Rattle.tile_cow.specs.Tile.{IsTileLength};
-ghost use Rattle.chain_owners.specs.Counts.{Grows};
 ghost use Rattle.chain_owners.specs.Held.{Held, disowned, length_of, owned, owners_of, with_name, with_tile};
+ghost use Rattle.chain_owners.specs.Counts.{Grows};
 ghost use Rattle.swap_store.specs.Cause.{HasSwapCause};
 ghost use Rattle.chain_contracts.specs.Tiles.{OnFull, Reads, ReportsPut, ReportsRoom, emptied};
 

@@ -3,8 +3,8 @@
 ghost use Rattle.std.specs.Prelude.{◌≡◌, ℕ, Some, IfErr, IfOk, OnErr, OnOk, IsSome, is_some};
 ghost use Rattle.std.specs.FinMap as map;
 ghost use Rattle.tile_cow.specs.Tile.{IsTileLength};
-ghost use Rattle.chain_owners.specs.Counts.{Continues};
 ghost use Rattle.chain_owners.specs.Held.{Held, length_of, with_tile, without_tile};
+ghost use Rattle.chain_owners.specs.Counts.{Continues};
 ghost use Rattle.swap_store.specs.Cause.{HasSwapCause};
 ghost use Rattle.chain_contracts.specs.Tiles.{OnFull, Reads, ReportsPut, ReportsRoom, emptied};
 

@@ -25,11 +25,6 @@ pub overlay-last : (es : Entries) (e : ℕ × List ℕ) (below : Held) → overl
 overlay-last [] e below = refl
 overlay-last (f ∷ es) e below = ap (λ held. with_tile held f.0 f.1) (overlay-last es e below)
 
-pub overlay-moved : (es : Entries) (e : ℕ × List ℕ) (below : Held)
-    → overlay (es ++ e ∷ []) (with_tile below e.0 e.1) ≡ overlay (es ++ e ∷ []) below
-overlay-moved es e below =
-    overlay-last es e (with_tile below e.0 e.1) ∙ ap (overlay es) (put-twice below e.0 e.1 e.1) ∙ sym (overlay-last es e below)
-
 -- a list with a last element is what is before it, and that
 split_at : (es : Entries) (i : ℕ) (e : ℕ × List ℕ) → slice_get es i ≡ Some e → i + 1 ≡ length es → es ≡ take i es ++ e ∷ []
 split_at [] i e is len = absurd (omega (arith, len))

@@ -22,14 +22,9 @@ use Rattle.chain_handlers.specs.declared.disk_handler.DiskHandler.{DiskHandler}
 use Rattle.chain_handlers.specs.declared.empty_handler.EmptyHandler.{EmptyHandler}
 use Rattle.chain_handlers.specs.DiskTiles.{disk_held}
 use Rattle.chain_handlers.specs.Overlay.{IsCrowded, overlay}
-use Rattle.chain_handlers.proofs.Moves.{is-none}
 use Rattle.chain_handlers.proofs.Tiles.{map-absent, map-out}
 
 module _ (held : Held) (owners : Named ℕ) (name : ℕ) (counted : HaveOwners held owners) where
-  -- a name that has no owners isn't there
-  pub absent-tile : map.get owners name ≡ None → length_of held name ≡ None
-  absent-tile none = is-none (length_of held name) (sym (counted name) ∙ ap is_some none)
-
   -- another number of owners is a number of owners
   pub counted-set : (new : Named ℕ) (count : ℕ) → IsSome (length_of held name) → new ≡ map.insert owners name count → HaveOwners held new
   counted-set new count there is = λ q. ap (λ m. is_some (map.get m q)) is ∙ elim (cases_eq q name) [

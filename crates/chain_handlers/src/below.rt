@@ -2,8 +2,8 @@
 
 ghost use Rattle.std.specs.Prelude.{◌≡◌, IfErr, OnErr, OnOk, is_some, true};
 ghost use Rattle.std.specs.FinMap as map;
-ghost use Rattle.chain_owners.specs.Counts.{Continues};
 ghost use Rattle.chain_owners.specs.Held.{length_of, with_tile, without_tile};
+ghost use Rattle.chain_owners.specs.Counts.{Continues};
 ghost use Rattle.swap_store.specs.Cause.{HasSwapCause};
 ghost use Rattle.chain_contracts.specs.Tiles.{ReportsPut, emptied};
 ghost use Rattle.chain_handlers.specs.Overlay.{IsCache, overlay};

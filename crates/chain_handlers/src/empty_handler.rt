@@ -2,8 +2,7 @@
 
 ghost use Rattle.std.specs.Prelude.{◌≡◌, IfErr, IfOk, IfSome, replicate};
 ghost use Rattle.tile_cow.specs.Tile.{IsTileLength};
-ghost use Rattle.chain_owners.specs.Counts.{Continues};
-ghost use Rattle.chain_owners.specs.Held.{length_of};
+ghost use Rattle.chain_owners.specs.{Counts.Continues, Held.length_of};
 ghost use Rattle.swap_store.specs.Cause.{HasSwapCause};
 ghost use Rattle.chain_contracts.specs.Tiles.{OnFull, Reads, ReportsRoom, emptied};
 

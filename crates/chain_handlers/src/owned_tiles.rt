@@ -2,9 +2,8 @@
 
 ghost use Rattle.std.specs.Prelude.{◌≡◌, ◌-◌, ◌^◌, ◌<◌, ◌≤◌, ◌∷◌, None, IfOk, IfSome, min};
 ghost use Rattle.std.specs.FinMap as map;
-ghost use Rattle.chain_handlers.specs.DiskTiles.{disk_held};
-ghost use Rattle.chain_handlers.specs.Overlay.{overlay};
 ghost use Rattle.chain_handlers.specs.OwnedTiles.{HaveOwners, counts_over, nothing_over, owned_has_counts, owned_is_chain, with_counts};
+ghost use Rattle.chain_handlers.specs.{DiskTiles.disk_held, Overlay.overlay};
 
 use crate::cache_handler::CacheHandler;
 use crate::chain_memory::ChainMemory;

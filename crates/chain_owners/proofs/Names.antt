@@ -5,7 +5,7 @@ use Rattle.std.specs.Ordering.{nat_cmp, eq_by_cmp, is_eq}
 use Rattle.std.specs.Cmp.{nat_cmp_is}
 use Rattle.std.specs.Map.{lookup}
 use Rattle.std.specs.FinMap as map
-use Rattle.std.specs.FinMap.{find, from_entries, get-insert, get-remove, get-from_entries, same_map, nat_cmp-IsAntisymmetric}
+use Rattle.std.specs.FinMap.{find, get-insert, get-remove, same_map, nat_cmp-IsAntisymmetric}
 use Rattle.std.proofs.lemmas.Cmp.{nat_cmp_total}
 use Rattle.std.proofs.lemmas.Bool.{cases_eq, cases_order, eq-eqb, ne_eqb}
 use Rattle.chain_owners.specs.Values.{Named}
@@ -43,10 +43,6 @@ module _ {X : Type 0} where
   find-lookup (e ∷ es) q =
       ap (λ b. cond b (Some e.1) (find nat_cmp q es)) (ties q e.0) ∙ ap (cond (eqb q e.0) (Some e.1)) (find-lookup es q)
 
-  -- the map of some entries answers what a look-up in them does
-  pub get-lookup : (es : List (ℕ × X)) (q : ℕ) → map.get (from_entries {R = nat_cmp} es) q ≡ lookup (eqb q) es
-  get-lookup es q = get-from_entries nat_cmp_total es q ∙ find-lookup es q
-
   pub same_names : (m n : Named X) → ((q : ℕ) → map.get m q ≡ map.get n q) → m ≡ n
   same_names m n is = same_map nat_cmp_total nat_cmp-IsAntisymmetric m n is
 
@@ -55,15 +51,3 @@ module _ {X : Type 0} where
     | inl e ↦ ap (λ b. cond b x y) (eq-eqb k q e ∙ sym (eq-eqb q k (sym e)))
     | inr ne ↦ ap (λ b. cond b x y) (ne_eqb k q ne ∙ sym (ne_eqb q k (λ e. ne (sym e))))
   ]
-
-  pub entries-inserted : (es fs : List (ℕ × X)) (k : ℕ) (v : X) → ((q : ℕ) → lookup (eqb q) fs ≡ cond (eqb k q) (Some v) (lookup (eqb q) es))
-      → from_entries {R = nat_cmp} fs ≡ map.insert (from_entries es) k v
-  entries-inserted es fs k v is = same_names _ _ (λ q.
-      get-lookup fs q ∙ is q ∙ turned k q (Some v) (lookup (eqb q) es)
-      ∙ sym (get-inserted (from_entries es) k v q ∙ ap (cond (eqb q k) (Some v)) (get-lookup es q)))
-
-  pub entries-removed : (es fs : List (ℕ × X)) (k : ℕ) → ((q : ℕ) → lookup (eqb q) fs ≡ cond (eqb k q) None (lookup (eqb q) es))
-      → from_entries {R = nat_cmp} fs ≡ map.remove (from_entries es) k
-  entries-removed es fs k is = same_names _ _ (λ q.
-      get-lookup fs q ∙ is q ∙ turned k q None (lookup (eqb q) es)
-      ∙ sym (get-removed (from_entries es) k q ∙ ap (cond (eqb q k) None) (get-lookup es q)))

@@ -223,19 +223,24 @@ respects-owners held name count before after ne here elsewhere there = record {
   exposed = refl;
 }
 
+-- a name whose count stopped is held as before, whoever claims or leaves it
+respects-stopped : (held : Held) (name : ℕ) (before after : List ℕ) → owners_of held name ≡ max_owners
+    → ((q : ℕ) → q ≢ name → times before q ≡ times after q) → Respects held held before after
+respects-stopped held name before after is elsewhere = record {
+  stopped = λ q is. is;
+  others = λ q. elim (cases_eq q name) [
+    | inl e ↦ inl (ap (owners_of held) e ∙ is)
+    | inr other ↦ inr (omega (arith, elsewhere q other))
+  ];
+  unshared = λ q none some. refl;
+  unchanged = λ q other. unchanged-same held q;
+  exposed = refl;
+}
+
 pub owned-respects : (held : Held) (names : List ℕ) (name : ℕ) → (owners_of held name ≡ 0) ⊎ (0 < times names name)
     → Respects held (owned held name) names (name ∷ names)
 owned-respects held names name there = elim (cases_eq (owners_of held name) max_owners) [
-  | inl is ↦ rw (owned-stopped held name is) (record {
-    stopped = λ q is. is;
-    others = λ q. elim (cases_eq q name) [
-      | inl e ↦ inl (ap (owners_of held) e ∙ is)
-      | inr other ↦ inr (omega (arith, times-elsewhere names name q other))
-    ];
-    unshared = λ q none some. refl;
-    unchanged = λ q other. unchanged-same held q;
-    exposed = refl;
-  })
+  | inl is ↦ rw (owned-stopped held name is) (respects-stopped held name names (name ∷ names) is (λ q other. sym (times-elsewhere names name q other)))
   | inr ne ↦ rw (owned-more held name ne)
       (respects-owners held name (owners_of held name + 1) names (name ∷ names) ne
       (omega (arith, times-here names name))
@@ -247,16 +252,7 @@ owned-respects held names name there = elim (cases_eq (owners_of held name) max_
 
 pub disowned-respects : (held : Held) (names : List ℕ) (name : ℕ) → Owns held (name ∷ names) → Respects held (disowned held name) (name ∷ names) names
 disowned-respects held names name owns = elim (cases_eq (owners_of held name) max_owners) [
-  | inl is ↦ rw (disowned-stopped held name is) (record {
-    stopped = λ q is. is;
-    others = λ q. elim (cases_eq q name) [
-      | inl e ↦ inl (ap (owners_of held) e ∙ is)
-      | inr other ↦ inr (omega (arith, times-elsewhere names name q other))
-    ];
-    unshared = λ q none some. refl;
-    unchanged = λ q other. unchanged-same held q;
-    exposed = refl;
-  })
+  | inl is ↦ rw (disowned-stopped held name is) (respects-stopped held name (name ∷ names) names is (times-elsewhere names name))
   | inr ne ↦ elim (owns.counted name) [
     | inl is ↦ absurd (ne is)
     | inr enough ↦ elim (cases_lt 1 (owners_of held name)) [

@@ -5,8 +5,8 @@ ghost use Rattle.std.specs.Borrow.{GName};
 ghost use Rattle.chain_owners.specs.Chain.{HasSameNames, IsChain};
 ghost use Rattle.chain_owners.specs.Counts.{AreCounts, Counts};
 ghost use Rattle.chain_owners.specs.Held.{Held, nothing_held};
-ghost use Rattle.chain_owners.specs.Room.{Room};
 ghost use Rattle.chain_owners.specs.UnitChain.{unit_counts, unit_has_same_names, unit_is_chain};
+ghost use Rattle.chain_owners.specs.Room.{Room};
 
 /// A map from names to tiles that may stand on a store. It has no calls: what is handed a chain
 /// speaks by these meanings of it.

@@ -24,9 +24,9 @@ use Rattle.model_images.proofs.PutTiles.{hull-is, put-read}
 use Rattle.model_images.proofs.RawLaws.{pixels-zero, raw-samples}
 use Rattle.level_tables.specs.LevelTiles.{LevelTiles, bytes_in, hull_of, image_of, positions, same_level_tile}
 use Rattle.level_tables.specs.Over.{AreLevelTiles, IsOver, IsTileOfLevel, tile_length}
-use Rattle.level_tables.specs.Found.{AreFound, HasNoneBelow, HasTileLength, HaveTileLength, IsFound, IsFoundTile, IsInHalf, half_origin, image_of_four, name_in, square_below, tile_below, with_found}
+use Rattle.level_tables.specs.Found.{AreFound, HasNoneBelow, HasTileLength, IsFound, IsFoundTile, IsInHalf, half_origin, image_of_four, name_in, square_below, tile_below, with_found}
 use Rattle.level_tables.specs.declared.four_tiles.FourTiles.{FourTiles}
-use Rattle.level_tables.proofs.Averaging.{AreRight, IsRight, format-of, four-halved, one-below}
+use Rattle.level_tables.proofs.Averaging.{AreRight, IsRight, format-of, four-halved}
 use Rattle.level_tables.proofs.Empty.{none_in}
 use Rattle.level_tables.proofs.Entries.{Contains-key, Contains-lookup, same_level_tile-true}
 use Rattle.level_tables.proofs.Frames.{level-named, put-named}
@@ -84,30 +84,9 @@ module _ (image : Option Image) (put : List Tile) (format : Format) (z : ℕ) (a
   length-found at None is = tt
   length-found at (Some bytes) is = is.length
 
-  pub lengths-found : HaveTileLength format four
-  lengths-found = record {
-    upper_left = length-found (tile_below above 0 0) four.upper_left found.upper_left;
-    upper_right = length-found (tile_below above 1 0) four.upper_right found.upper_right;
-    lower_left = length-found (tile_below above 0 1) four.lower_left found.lower_left;
-    lower_right = length-found (tile_below above 1 1) four.lower_right found.lower_right;
-  }
-
   none-of : (at : Tile) (o : Option (List ℕ)) → IsFound image put format z at o → o ≡ None → (tile : Tile) → Contains put tile → tile_at_level tile z ≢ at
   none-of at None is none = is
   none-of at (Some bytes) is none = absurd (true≢false (ap is_some none))
-
-  pub none-above : four.upper_left ≡ None → four.upper_right ≡ None → four.lower_left ≡ None → four.lower_right ≡ None
-      → (tile : Tile) → Contains put tile → tile_at_level tile (suc z) ≢ above
-  none-above a b c d tile there is = elim (one-below (tile_at_level tile z) above is) [
-    | inl upper ↦ elim upper [
-      | inl left ↦ none-of (tile_below above 0 0) four.upper_left found.upper_left a tile there left
-      | inr right ↦ none-of (tile_below above 1 0) four.upper_right found.upper_right b tile there right
-    ]
-    | inr lower ↦ elim lower [
-      | inl left ↦ none-of (tile_below above 0 1) four.lower_left found.lower_left c tile there left
-      | inr right ↦ none-of (tile_below above 1 1) four.lower_right found.lower_right d tile there right
-    ]
-  ]
 
   some-of : (a b : ℕ) (o : Option (List ℕ)) → a ≤ 1 → b ≤ 1 → IsInHalf above → IsFound image put format z (tile_below above a b) o
       → (o ≡ None) ⊎ ((tile : Tile) × Contains put tile × (tile_at_level tile (suc z) ≡ above))

@@ -269,9 +269,6 @@ module _ (format : Format) (above : Tile) (four : FourTiles) (half : IsInHalf ab
 
 -- ---- a row more
 
-pub HasMeans-none : (format : Format) (four : FourTiles) (bytes : List ℕ) → HasMeans format four 0 bytes
-HasMeans-none format four bytes = record { each = λ row k c below few known. absurd (omega arith) }
-
 pub HasMeans-next : (format : Format) (four : FourTiles) (row : ℕ) (bytes piece : List ℕ) (start len : ℕ) → HasMeans format four row bytes
     → start ≡ row * (64 * pixel_bytes format) → len ≡ 64 * pixel_bytes format → start + len ≤ length bytes → length piece ≡ 64 * pixel_bytes format
     → HasPixels format piece (mean_in_row format four row) → HasMeans format four (row + 1) (put_mid start len bytes piece)

@@ -1,15 +1,13 @@
 -- Calls that hold more tiles of levels, one after another.
-use Rattle.std.proofs.Common.{◌≡◌, ℕ, ◌+◌, ◌<◌, ◌≤◌, List, [], ◌∷◌, ◌++◌, length, Option, Some, None, inl, inr, refl, sym, ap, subst, ◌∙◌, arith}
+use Rattle.std.proofs.Common.{◌≡◌, ℕ, ◌+◌, ◌<◌, ◌≤◌, List, [], ◌∷◌, ◌++◌, length, Option, Some, None, inl, inr, refl, sym, ap, subst, arith}
 use Rattle.std.specs.List.{IsDistinct}
-use Rattle.std.specs.FinMap as map
 use Rattle.std.specs.Map.{keys_of, lookup}
 use Rattle.std.proofs.lemmas.Bool.{le-leb}
 use Rattle.std.proofs.lemmas.List.Elements.{Contains-append_cases}
 use Rattle.plane_rect.specs.Tile.{Tile}
 use Rattle.pixel_formats.specs.declared.format.Format.{Format}
-use Rattle.chain_owners.specs.Counts.{AreCounts, Continues, Counts, Grows}
+use Rattle.chain_owners.specs.Counts.{Continues, Counts, Grows}
 use Rattle.chain_owners.specs.Held.{Held, owners_of, with_name}
-use Rattle.chain_owners.specs.Room.{Room}
 use Rattle.chain_owners.proofs.Growing.{continues-same}
 use Rattle.chain_owners.proofs.Ownership.{respects-beside, times-append}
 use Rattle.swap_store.specs.Cause.{HasSwapCause}
@@ -91,13 +89,6 @@ pub found-still : (start a b : State) (z : ℕ) (at other : Tile) (found : Optio
 found-still start a b z at other found same first second is =
     found-after start b z other found second
     (found-before start a z other found first (subst (λ (tile : Tile). IsFound (image_of a.tiles a.held) (positions a.tiles) a.tiles.format z tile found) same is))
-
--- a chain that holds the same has as many names
-pub same-names : (held held' : Held) (counts counts' : Counts) (store store' : Option Room) → AreCounts counts held store → AreCounts counts' held' store' → held' ≡ held
-    → counts'.names ≤ counts.names
-same-names held held' counts counts' store store' first second same =
-    let equal : counts'.names ≡ counts.names = second.names ∙ ap (λ (h : Held). map.len h.lengths) same ∙ sym first.names in
-    omega (arith, equal)
 
 -- ---- one tile of a level more
 

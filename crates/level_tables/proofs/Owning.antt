@@ -1,5 +1,5 @@
 -- Names of which one becomes an owner, and names that one gives up, one after another.
-use Rattle.std.proofs.Common.{◌≡◌, ℕ, ◌+◌, ◌<◌, List, [], ◌∷◌, ◌++◌, Option, inl, inr, refl, ap, subst, ◌∙◌, arith}
+use Rattle.std.proofs.Common.{◌≡◌, ℕ, ◌+◌, ◌<◌, List, [], ◌∷◌, ◌++◌, Option, inl, inr, ap, subst, ◌∙◌, arith}
 use Rattle.std.specs.Prelude.{IsSome}
 use Rattle.std.specs.FinMap as map
 use Rattle.std.specs.Option.{is_some, option_and_then}
@@ -34,11 +34,8 @@ pub record Owning (all left : List ℕ) (old now : Held) : Type 0 where
   pub content : now.content ≡ old.content
   pub others : Respects old now all (done ++ all)
 
-pub owning-first : (all : List ℕ) (held : Held) → Owning all all held held
-owning-first all held = record { done = []; count = λ q. omega arith; lengths = refl; content = refl; others = respects-same held all }
-
-pub owning-next : (all left rest : List ℕ) (name : ℕ) (old now new : Held) → left ≡ name ∷ rest → new ≡ owned now name → Owning all left old now → Owning all rest old new
-owning-next all left rest name old now new is is_new before =
+pub owning-next : {all left rest : List ℕ} {name : ℕ} {old now new : Held} → left ≡ name ∷ rest → new ≡ owned now name → Owning all left old now → Owning all rest old new
+owning-next {all} {left} {rest} {name} {old} {now} {new} is is_new before =
     let some : 0 < times (before.done ++ all) name =
     omega (arith, times-append before.done all name, before.count name, ap (λ (l : List ℕ). times l name) is, times-here rest name) in
     let more : Respects now new (before.done ++ all) (name ∷ before.done ++ all) = rw is_new (owned-respects now (before.done ++ all) name (inr some)) in
@@ -49,12 +46,6 @@ owning-next all left rest name old now new is is_new before =
       content = ap (λ (h : Held). h.content) is_new ∙ owned-content now name ∙ before.content;
       others = respects-both old now all (before.done ++ all) before.others new (name ∷ before.done ++ all) more;
     }
-
-pub owning-there : (all left rest : List ℕ) (name : ℕ) (old now : Held) → left ≡ name ∷ rest → Owning all left old now
-    → ((q : ℕ) → 0 < times all q → IsSome (length_of old q)) → IsSome (length_of now name)
-owning-there all left rest name old now is before there =
-    let some : 0 < times all name = omega (arith, before.count name, ap (λ (l : List ℕ). times l name) is, times-here rest name) in
-    rw before.lengths (there name some)
 
 pub owning-end : (all left : List ℕ) (old now : Held) → left ≡ [] → Owning all left old now → Respects old now all (all ++ all)
 owning-end all left old now is before =
@@ -75,8 +66,8 @@ pub disowning-there : (all left rest : List ℕ) (name : ℕ) (old now : Held) �
 disowning-there all left rest name old now is before =
     before.there name (omega (arith, ap (λ (l : List ℕ). times l name) is, times-here rest name))
 
-pub disowning-next : (all left rest : List ℕ) (name : ℕ) (old now new : Held) → left ≡ name ∷ rest → new ≡ disowned now name → Disowning all left old now → Disowning all rest old new
-disowning-next all left rest name old now new is is_new before =
+pub disowning-next : {all left rest : List ℕ} {name : ℕ} {old now new : Held} → left ≡ name ∷ rest → new ≡ disowned now name → Disowning all left old now → Disowning all rest old new
+disowning-next {all} {left} {rest} {name} {old} {now} {new} is is_new before =
     let owns : Owns now (name ∷ rest) = (let P : List ℕ → Type 0 = Owns now in subst P is before.owned) in
     let alone : Owns now (name ∷ []) = owns-fewer now (name ∷ rest) (name ∷ []) (λ q. omega (arith, times-append (name ∷ []) rest q)) owns in
     let one : Respects now new (name ∷ []) [] = rw is_new (disowned-respects now [] name alone) in

@@ -1,8 +1,7 @@
 //! The four tiles that are averaged for one of the next level.
 
 ghost use Rattle.std.specs.Prelude.{◌≡◌, ◌+◌, ◌<◌, ◌≤◌, ◌*◌, ◌↔◌, IfOk, IsTrue, None, length};
-ghost use Rattle.pixel_formats.specs.Format.{pixel_bytes};
-ghost use Rattle.pixel_formats.specs.Row.{HasPixels};
+ghost use Rattle.pixel_formats.specs.{Format.pixel_bytes, Row.HasPixels};
 ghost use Rattle.model_images.specs.Level.{halved_image, tile_above as above_of, tile_at_level};
 ghost use Rattle.model_images.specs.Raw.{tile_bytes};
 ghost use Rattle.level_tables.specs.Found.{HasTileLength, HaveTileLength, IsInHalf, image_of_four, tile_below};

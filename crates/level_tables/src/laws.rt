@@ -4,12 +4,12 @@ ghost use Rattle.std.specs.Prelude.{◌≡◌, ℕ, ◌+◌, ◌<◌, ◌≤◌,
 ghost use Rattle.std.specs.Map.{values_of};
 ghost use Rattle.plane_rect.specs.Tile.{Tile};
 ghost use Rattle.pixel_formats.specs.declared.format.Format.{Format};
-ghost use Rattle.chain_owners.specs.Held.{Held};
 ghost use Rattle.chain_owners.specs.Owners.{IsFramed, Owns, Respects, Unchanged, times};
+ghost use Rattle.chain_owners.specs.Held.{Held};
 ghost use Rattle.level_tables.specs.LevelTiles.{LevelTiles, hull_of, image_of, image_with, names};
 ghost use Rattle.level_tables.specs.NewTiles.{AreNewTiles, tiles_in};
-ghost use Rattle.level_tables.specs.Over.{IsOver};
 ghost use Rattle.level_tables.specs.Steps.{HoldsMore, State, level_count, names_with_levels};
+ghost use Rattle.level_tables.specs.Over.{IsOver};
 ghost use Rattle.model_images.specs.TileCounts.{level_tiles};
 
 /// States that a table of no tile asks nothing of a chain.

@@ -2,8 +2,7 @@
 
 ghost use Rattle.std.specs.Prelude.{◌≡◌, ℕ, ◌+◌, ◌≤◌, ◌++◌, ◌∷◌, [], IfErr, IsSome, OnErr, OnOk, Some, length};
 ghost use Rattle.std.specs.Map.{values_of};
-ghost use Rattle.chain_owners.specs.Counts.{Grows};
-ghost use Rattle.chain_owners.specs.Owners.{Respects};
+ghost use Rattle.chain_owners.specs.{Counts.Grows, Owners.Respects};
 ghost use Rattle.plane_rect.specs.Tile.{IsWhole};
 ghost use Rattle.swap_store.specs.Cause.{HasSwapCause};
 ghost use Rattle.level_tables.specs.NewTiles.{Adds, AreNewTiles, tiles_in};

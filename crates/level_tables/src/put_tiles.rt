@@ -3,8 +3,7 @@
 ghost use Rattle.std.specs.Prelude.{◌≡◌, IfErr, IfOk};
 ghost use Rattle.chain_owners.specs.Counts.{Grows};
 ghost use Rattle.swap_store.specs.Cause.{HasSwapCause};
-ghost use Rattle.level_tables.specs.Found.{IsPutTile};
-ghost use Rattle.level_tables.specs.Over.{IsOver};
+ghost use Rattle.level_tables.specs.{Found.IsPutTile, Over.IsOver};
 
 use crate::table::LevelTable;
 use chain_contracts::TileChain;

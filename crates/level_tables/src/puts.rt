@@ -2,8 +2,8 @@
 
 ghost use Rattle.std.specs.Prelude.{◌≡◌, ℕ, ◌+◌, ◌≤◌, ◌∷◌, ◌++◌, [], IfErr, OnErr, OnOk, Some, length};
 ghost use Rattle.std.specs.Map.{keys_of, values_of};
-ghost use Rattle.chain_owners.specs.Counts.{Grows};
 ghost use Rattle.chain_owners.specs.Owners.{Owns, Respects};
+ghost use Rattle.chain_owners.specs.Counts.{Grows};
 ghost use Rattle.plane_rect.specs.Tile.{IsWhole, Tile as Position};
 ghost use Rattle.swap_store.specs.Cause.{HasSwapCause};
 ghost use Rattle.level_tables.specs.LevelTiles.{bytes_in, image_of, image_with, names, position_with, positions, positions_with, tiles_with};

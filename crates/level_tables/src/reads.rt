@@ -2,8 +2,7 @@
 
 ghost use Rattle.std.specs.Prelude.{◌≡◌, ℕ, ◌+◌, ◌-◌, ◌≤◌, ◌↔◌, ◌⊎◌, IfErr, IfOk, IsTrue, None, OnOk, length};
 ghost use Rattle.std.specs.Map.{lookup};
-ghost use Rattle.chain_owners.specs.Counts.{Grows};
-ghost use Rattle.chain_owners.specs.Owners.{Respects};
+ghost use Rattle.chain_owners.specs.{Counts.Grows, Owners.Respects};
 ghost use Rattle.tile_cow.specs.Tile.{IsTileLength};
 ghost use Rattle.model_images.specs.TileCounts.{level_tiles};
 ghost use Rattle.swap_store.specs.Cause.{HasSwapCause};

@@ -2,9 +2,8 @@
 
 ghost use Rattle.std.specs.Prelude.{◌≡◌, ℕ, ◌<◌, ◌++◌, [], IfOk, IsSome, OnErr, OnOk};
 ghost use Rattle.std.specs.Map.{values_of};
-ghost use Rattle.chain_owners.specs.Counts.{Grows};
-ghost use Rattle.chain_owners.specs.Held.{length_of};
 ghost use Rattle.chain_owners.specs.Owners.{Owns, Respects, times};
+ghost use Rattle.chain_owners.specs.{Counts.Grows, Held.length_of};
 ghost use Rattle.level_tables.specs.LevelTiles.{image_of, names};
 ghost use Rattle.level_tables.specs.Over.{IsOver};
 

@@ -1,5 +1,5 @@
 -- What a map of pages answers, and how it changes with a page.
-use Rattle.std.proofs.Common.{◌≡◌, ◌≢◌, ℕ, zero, suc, ◌+◌, ◌*◌, ◌/◌, ◌%◌, ◌<◌, ◌≤◌, cond, eqb, Bool, true, false, List, [], ◌∷◌, Option, Some, None, ◌⊎◌, inl, inr, refl, sym, ap, ◌∙◌, arith, get_or}
+use Rattle.std.proofs.Common.{◌≡◌, ◌≢◌, ℕ, zero, suc, ◌+◌, ◌*◌, ◌/◌, ◌%◌, ◌<◌, ◌≤◌, cond, eqb, List, [], ◌∷◌, Option, Some, None, ◌⊎◌, inl, inr, refl, sym, ap, ◌∙◌, arith, get_or}
 use Rattle.std.specs.Global.{Vec}
 use Rattle.std.specs.Ordering.{nat_cmp}
 use Rattle.std.specs.FinMap as map
@@ -47,11 +47,6 @@ module _ {X : Type 0} where
 
   abbrev pub page_at : List (ℕ × Vec (Option X)) → ℕ → List (Option X)
   page_at es number = values_of (lookup (eqb number) es)
-
-  values_if : (b : Bool) (p : Vec (Option X)) (o : Option (Vec (Option X)))
-      → values_of (cond b (Some p) o) ≡ cond b p.items (values_of o)
-  values_if true p o = refl
-  values_if false p o = refl
 
   pub names_of-get : (es : List (ℕ × Vec (Option X))) (q : ℕ) → map.get (names_of es) q ≡ get_or (page_at es (q / 32)) (q % 32) None
   unfolding names_of

@@ -1,8 +1,9 @@
 -- What clauses see of a shelf in memory.
-use Rattle.std.specs.Prelude.{ℕ, ◌/◌, List, length, take, Result, Ok, Err, refl}
+use Rattle.std.specs.Prelude.{◌≡◌, ℕ, ◌/◌, ◌≤◌, false, IsErrOf, IsTrue, List, OnOk, length, take, Result, Some, Ok, Err, refl}
 use Rattle.std.specs.Coded.{Coded, code_by, coded×}
-use Rattle.outside_io.specs.Calls.{Calls, calls_code}
+use Rattle.outside_io.specs.Calls.{Calls, after_call, calls_code, next_fails}
 use Rattle.outside_io.specs.Files.{Files, Storing}
+use Rattle.outside_io.specs.Shelf.{StoreLeaves}
 use Rattle.outside_io.specs.StoredFiles.{files_code}
 use Rattle.outside_io.specs.declared.shelf.ShelfAnswer.{ShelfAnswer}
 use Rattle.outside_io.specs.declared.shelf.ShelfAnswer.TheVariants as answers
@@ -28,3 +29,13 @@ stored_by store (Err answers.Failed) files name bytes = store files name (take (
 stored_by store (Err answers.NoMemory) files name bytes = files
 stored_by store (Err answers.Absent) files name bytes = files
 stored_by store (Err (answers.TooLong taken)) files name bytes = files
+
+-- A call stores bytes so under a name. It fails at the chosen calls and at no others, and is counted.
+pub record StoresBy (store : Storing) (name bytes : List ℕ) (result : Result (Unit {0}) ShelfAnswer) (old new : ShelfState) : Type 0 where
+  pub leaves : StoreLeaves store (Some old.files) name bytes result (Some new.files)
+  pub later : old.writes.faults ≤ new.writes.faults
+  pub chosen : IsErrOf result answers.Failed → IsTrue (next_fails old.writes)
+  pub others : OnOk result (next_fails old.writes ≡ false)
+  pub written : new.files ≡ stored_by store result old.files name bytes
+  pub counted : new.writes ≡ after_call old.writes
+  pub reads : new.reads ≡ old.reads

@@ -1,8 +1,7 @@
 //! A swap disk in a file.
 
 ghost use Rattle.std.specs.Prelude.{◌≡◌, ◌+◌, ◌/◌, ◌%◌, ◌<◌, ◌≤◌, ◌^◌, [], None, length};
-ghost use Rattle.outside_io.specs.Faults.{faults_after};
-ghost use Rattle.outside_io.specs.Swap.{has_failed};
+ghost use Rattle.outside_io.specs.{Faults.faults_after, Swap.has_failed};
 
 use crate::stored_blocks::BLOCK_BYTES;
 use crate::swap::{SwapAnswer, SwapDisk};

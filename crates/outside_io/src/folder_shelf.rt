@@ -2,10 +2,8 @@
 
 ghost use Rattle.std.specs.Prelude.{◌≡◌, ◌<◌, ◌≤◌, ◌⊎◌, None, Err, IfErr, IfOk, IsTrue, Ok, length, vec_len};
 ghost use Rattle.std.specs.Thread.{IsSync};
-ghost use Rattle.outside_io.specs.Faults.{faults_after};
-ghost use Rattle.outside_io.specs.FileName.{is_file_name};
 ghost use Rattle.outside_io.specs.Shelf.{AppendLeaves, TakesAtMost, WriteLeaves, has_failed};
-ghost use Rattle.outside_io.specs.FolderShelf.{ShelfFaults};
+ghost use Rattle.outside_io.specs.{Faults.faults_after, FileName.is_file_name, FolderShelf.ShelfFaults};
 
 use crate::file_parts::read_at;
 use crate::open_files::{MAX_INTERRUPTIONS, open_file, refusal};
@@ -47,32 +45,6 @@ impl<R: Files + AllocGlobal + Drop> FolderShelf<R> {
             write_faults: 0,
         }
     }
-
-    /// Counts a read that failed.
-    fn note_read<T>(&mut self, answer: &Result<T, ShelfAnswer>)
-        ensures later { self.old.reads ≤ self.new.reads }
-        ensures counted { self.new ≡ record self.old { reads = faults_after (has_failed answer.now) self.old.reads } }
-    {
-        if let Err(ShelfAnswer::Failed) = answer {
-            self.read_faults = self.read_faults.saturating_add(1);
-        }
-    }
-
-    /// Counts a write that failed.
-    fn after_write(&mut self, done: io::Result<()>) -> Result<(), ShelfAnswer>
-        ensures answer { (result ≡ Ok tt) ⊎ ((result ≡ Err ShelfAnswer.NoMemory) ⊎ (result ≡ Err ShelfAnswer.Failed)) }
-        ensures later { self.old.writes ≤ self.new.writes }
-        ensures counted { self.new ≡ record self.old { writes = faults_after (has_failed result) self.old.writes } }
-    {
-        match done {
-            Ok(()) => Ok(()),
-            Err(error) if error.kind() == ErrorKind::OutOfMemory => Err(ShelfAnswer::NoMemory),
-            Err(_) => {
-                self.write_faults = self.write_faults.saturating_add(1);
-                Err(ShelfAnswer::Failed)
-            }
-        }
-    }
 }
 
 impl<R: Files<File = File> + AllocGlobal + Drop> Shelf for FolderShelf<R> {
@@ -91,7 +63,7 @@ impl<R: Files<File = File> + AllocGlobal + Drop> Shelf for FolderShelf<R> {
         ensures counted { self.new ≡ record self.old { reads = faults_after (has_failed result) self.old.reads } }
     {
         let answer = read_file(&self.rt, name, limit);
-        self.note_read(&answer);
+        count_failed(&mut self.read_faults, &answer);
         answer
     }
 
@@ -112,7 +84,7 @@ impl<R: Files<File = File> + AllocGlobal + Drop> Shelf for FolderShelf<R> {
         ensures counted { self.new ≡ record self.old { reads = faults_after (has_failed result) self.old.reads } }
     {
         let answer = read_file_part(&self.rt, name, start, into, workers);
-        self.note_read(&answer);
+        count_failed(&mut self.read_faults, &answer);
         answer
     }
 
@@ -124,8 +96,9 @@ impl<R: Files<File = File> + AllocGlobal + Drop> Shelf for FolderShelf<R> {
         // A write that failed is counted, and no other.
         ensures counted { self.new ≡ record self.old { writes = faults_after (has_failed result) self.old.writes } }
     {
-        let done = fs::write(&self.rt, name, bytes);
-        self.after_write(done)
+        let answer = write_answer(fs::write(&self.rt, name, bytes));
+        count_failed(&mut self.write_faults, &answer);
+        answer
     }
 
     fn append(&mut self, name: &str, bytes: &[u8]) -> Result<(), ShelfAnswer>
@@ -136,9 +109,27 @@ impl<R: Files<File = File> + AllocGlobal + Drop> Shelf for FolderShelf<R> {
         // A write that failed is counted, and no other.
         ensures counted { self.new ≡ record self.old { writes = faults_after (has_failed result) self.old.writes } }
     {
-        let done = append_to_file(&self.rt, name, bytes);
-        self.after_write(done)
+        let answer = write_answer(append_to_file(&self.rt, name, bytes));
+        count_failed(&mut self.write_faults, &answer);
+        answer
     }
+}
+
+/// Counts an answer that the device failed.
+fn count_failed<T>(faults: &mut u64, answer: &Result<T, ShelfAnswer>)
+    ensures later { faults.old ≤ faults.new }
+    ensures counted { faults.new ≡ faults_after (has_failed answer.now) faults.old }
+{
+    if let Err(ShelfAnswer::Failed) = answer {
+        *faults = faults.saturating_add(1);
+    }
+}
+
+/// Returns what a shelf answers to a write that ended so.
+fn write_answer(done: io::Result<()>) -> Result<(), ShelfAnswer>
+    ensures { (result ≡ Ok tt) ⊎ ((result ≡ Err ShelfAnswer.Failed) ⊎ (result ≡ Err ShelfAnswer.NoMemory)) }
+{
+    done.map_err(refusal)
 }
 
 /// Adds bytes at the end of a file of the current folder.

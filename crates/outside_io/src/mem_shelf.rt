@@ -1,14 +1,11 @@
 //! A shelf in memory.
 
-ghost use Rattle.std.specs.Prelude.{◌≡◌, ◌≤◌, ◌↔◌, false, Some, IfOk, IsTrue, IsErrOf, OnOk, length, reverse};
+ghost use Rattle.std.specs.Prelude.{◌≡◌, ◌≤◌, ◌↔◌, Some, Ok, Err, IfOk, IsTrue, IsErrOf, if◌then◌else◌, length, reverse};
 ghost use Rattle.std.specs.Option.{option_copied};
-ghost use Rattle.std.specs.Thread.{IsSync};
 ghost use Rattle.outside_io.specs.Calls.{no_calls, next_fails, after_call};
-ghost use Rattle.outside_io.specs.FileName.{is_file_name};
 ghost use Rattle.outside_io.specs.Files.{appended, file, filed};
-ghost use Rattle.outside_io.specs.MemShelf.{stored_by};
-ghost use Rattle.outside_io.specs.Shelf.{Answers, AppendLeaves, GivesPart, TakesAtMost, WriteLeaves};
-ghost use Rattle.outside_io.specs.StoredFiles.{files_of};
+ghost use Rattle.outside_io.specs.Shelf.{Answers, GivesPart, TakesAtMost};
+ghost use Rattle.outside_io.specs.{MemShelf.StoresBy, StoredFiles.files_of};
 
 use crate::failing_calls::{FailingCalls, kept};
 use crate::shelf::{Shelf, ShelfAnswer};
@@ -18,7 +15,7 @@ use std::marker::Model;
 use std::thread::Threads;
 use worker_pieces::Workers;
 
-/// Keeps files in memory. Fails at chosen calls; a write that fails keeps the first half of the
+/// Keeps files in memory, under whatever names. Fails at chosen calls; a write that fails keeps the first half of the
 /// bytes, rounded down.
 #[derive(Drop)]
 pub struct MemShelf {
@@ -73,7 +70,6 @@ impl Shelf for MemShelf {
     ghost write_faults = { λ shelf. shelf.writes.faults };
 
     fn read(&mut self, name: &str, limit: u64) -> Result<Vec<u8>, ShelfAnswer>
-        requires { IsTrue (is_file_name name.now) }
         ensures gives { Answers (file self.old.files name.now) limit result }
         ensures within { TakesAtMost limit result }
         ensures later { self.old.reads.faults ≤ self.new.reads.faults }
@@ -95,8 +91,6 @@ impl Shelf for MemShelf {
         into: &mut [u8],
         _workers: Workers<'_, R>,
     ) -> Result<usize, ShelfAnswer>
-        requires name { IsTrue (is_file_name name.now) }
-        requires threads { IsSync R.row }
         ensures gives { GivesPart (file self.old.files name.now) start (length into.old) into.new result }
         ensures within { IfOk result (λ count. count ≤ length into.new) }
         ensures length { length into.new ≡ length into.old }
@@ -113,44 +107,29 @@ impl Shelf for MemShelf {
     }
 
     fn write(&mut self, name: &str, bytes: &[u8]) -> Result<(), ShelfAnswer>
-        requires { IsTrue (is_file_name name.now) }
-        ensures leaves { WriteLeaves (Some self.old.files) name.now bytes.now result (Some self.new.files) }
-        ensures later { self.old.writes.faults ≤ self.new.writes.faults }
-
-        // It fails at the chosen calls and at no others.
-        ensures chosen { IsErrOf result ShelfAnswer.Failed → IsTrue (next_fails self.old.writes) }
-        ensures others { OnOk result (next_fails self.old.writes ≡ false) }
-        ensures written { self.new.files ≡ stored_by filed result self.old.files name.now bytes.now }
-        ensures counted { self.new.writes ≡ after_call self.old.writes }
-        ensures reads { self.new.reads ≡ self.old.reads }
+        ensures { StoresBy filed name.now bytes.now result self.old self.new }
     {
         let fails = self.writes.fails();
         self.files.put(name, kept(fails, bytes))?;
-        if fails {
-            Err(ShelfAnswer::Failed)
-        } else {
-            Ok(())
-        }
+        write_answer(fails)
     }
 
     fn append(&mut self, name: &str, bytes: &[u8]) -> Result<(), ShelfAnswer>
-        requires { IsTrue (is_file_name name.now) }
-        ensures leaves { AppendLeaves (Some self.old.files) name.now bytes.now result (Some self.new.files) }
-        ensures later { self.old.writes.faults ≤ self.new.writes.faults }
-
-        // It fails at the chosen calls and at no others.
-        ensures chosen { IsErrOf result ShelfAnswer.Failed → IsTrue (next_fails self.old.writes) }
-        ensures others { OnOk result (next_fails self.old.writes ≡ false) }
-        ensures written { self.new.files ≡ stored_by appended result self.old.files name.now bytes.now }
-        ensures counted { self.new.writes ≡ after_call self.old.writes }
-        ensures reads { self.new.reads ≡ self.old.reads }
+        ensures { StoresBy appended name.now bytes.now result self.old self.new }
     {
         let fails = self.writes.fails();
         self.files.append(name, kept(fails, bytes))?;
-        if fails {
-            Err(ShelfAnswer::Failed)
-        } else {
-            Ok(())
-        }
+        write_answer(fails)
+    }
+}
+
+/// Returns what a write answers that had its memory.
+fn write_answer(fails: bool) -> Result<(), ShelfAnswer>
+    ensures { result ≡ (if fails then Err ShelfAnswer.Failed else Ok tt) }
+{
+    if fails {
+        Err(ShelfAnswer::Failed)
+    } else {
+        Ok(())
     }
 }

@@ -2,11 +2,9 @@
 
 ghost use Rattle.std.specs.Prelude.{◌≡◌, ℕ, ◌≤◌, Option, IfOk, IfSome, IsTrue, IsErrOf, length};
 ghost use Rattle.std.specs.Thread.{IsSync};
-ghost use Rattle.outside_io.specs.FileName.{is_file_name};
-ghost use Rattle.outside_io.specs.Faults.{Rose};
 ghost use Rattle.outside_io.specs.Files.{Files, file};
 ghost use Rattle.outside_io.specs.Shelf.{Answers, AppendLeaves, GivesPart, TakesAtMost, WriteLeaves};
-ghost use Rattle.outside_io.specs.declared.shelf.ShelfAnswer.TheVariants.{NoMemory};
+ghost use Rattle.outside_io.specs.{FileName.is_file_name, Faults.Rose, declared.shelf.ShelfAnswer.TheVariants.NoMemory};
 
 use no_memory::OutOfMemory;
 use std::thread::Threads;

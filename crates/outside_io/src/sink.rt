@@ -1,9 +1,7 @@
 //! Sinks: where texts go.
 
 ghost use Rattle.std.specs.Prelude.{◌≡◌, ℕ, ◌≤◌, List, Option, IsErrOf};
-ghost use Rattle.outside_io.specs.Faults.{Rose};
-ghost use Rattle.outside_io.specs.Sink.{Puts};
-ghost use Rattle.outside_io.specs.declared.sink.SinkAnswer.TheVariants.{NoMemory};
+ghost use Rattle.outside_io.specs.{Faults.Rose, Sink.Puts, declared.sink.SinkAnswer.TheVariants.NoMemory};
 
 use no_memory::OutOfMemory;
 use thiserror::Error;

@@ -1,8 +1,7 @@
 //! Standard output as a sink.
 
 ghost use Rattle.std.specs.Prelude.{◌≡◌, ◌≤◌, None};
-ghost use Rattle.outside_io.specs.Faults.{faults_after};
-ghost use Rattle.outside_io.specs.Sink.{has_failed};
+ghost use Rattle.outside_io.specs.{Faults.faults_after, Sink.has_failed};
 
 use crate::sink::{Sink, SinkAnswer};
 use std::io;

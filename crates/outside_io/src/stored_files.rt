@@ -18,8 +18,8 @@ pub(crate) struct StoredFiles {
 }
 
 impl Model for StoredFiles {
-    ghost use Rattle.outside_io.specs.Files.{Files};
     ghost use Rattle.outside_io.specs.StoredFiles.{files_of, files_code};
+    ghost use Rattle.outside_io.specs.Files.{Files};
 
     ghost Value = { Files };
 

@@ -1,9 +1,7 @@
 //! A shelf in memory that never fails.
 
-ghost use Rattle.std.specs.Prelude.{◌≡◌, ◌≢◌, ◌≤◌, Some, Err, IfOk, IsTrue, IsOkUnless, is_ok, if◌then◌else◌, length, reverse};
+ghost use Rattle.std.specs.Prelude.{◌≡◌, ◌≢◌, ◌≤◌, Some, Err, IfOk, IsOkUnless, is_ok, if◌then◌else◌, length, reverse};
 ghost use Rattle.std.specs.Option.{option_copied};
-ghost use Rattle.std.specs.Thread.{IsSync};
-ghost use Rattle.outside_io.specs.FileName.{is_file_name};
 ghost use Rattle.outside_io.specs.Files.{appended, file, filed};
 ghost use Rattle.outside_io.specs.Shelf.{Answers, GivesPart, TakesAtMost};
 ghost use Rattle.outside_io.specs.StoredFiles.{files_of};
@@ -15,15 +13,14 @@ use std::marker::Model;
 use std::thread::Threads;
 use worker_pieces::Workers;
 
-/// Keeps files in memory, and never fails.
+/// Keeps files in memory, under whatever names, and never fails.
 #[derive(Drop)]
 pub struct SureShelf {
     files: StoredFiles,
 }
 
 impl Model for SureShelf {
-    ghost use Rattle.outside_io.specs.Files.{Files};
-    ghost use Rattle.outside_io.specs.StoredFiles.{files_code};
+    ghost use Rattle.outside_io.specs.{Files.Files, StoredFiles.files_code};
 
     ghost Value = { Files };
 
@@ -58,7 +55,6 @@ impl Shelf for SureShelf {
     ghost write_faults = { λ _. 0 };
 
     fn read(&mut self, name: &str, limit: u64) -> Result<Vec<u8>, ShelfAnswer>
-        requires { IsTrue (is_file_name name.now) }
         ensures gives { Answers (file self.old name.now) limit result }
         ensures within { TakesAtMost limit result }
         ensures sure { result ≢ Err ShelfAnswer.Failed }
@@ -74,8 +70,6 @@ impl Shelf for SureShelf {
         into: &mut [u8],
         _workers: Workers<'_, R>,
     ) -> Result<usize, ShelfAnswer>
-        requires name { IsTrue (is_file_name name.now) }
-        requires threads { IsSync R.row }
         ensures gives { GivesPart (file self.old name.now) start (length into.old) into.new result }
         ensures within { IfOk result (λ count. count ≤ length into.new) }
         ensures length { length into.new ≡ length into.old }
@@ -86,7 +80,6 @@ impl Shelf for SureShelf {
     }
 
     fn write(&mut self, name: &str, bytes: &[u8]) -> Result<(), ShelfAnswer>
-        requires { IsTrue (is_file_name name.now) }
         ensures sure { IsOkUnless result ShelfAnswer.NoMemory }
         ensures written { self.new ≡ (if is_ok result then filed self.old name.now bytes.now else self.old) }
     {
@@ -95,7 +88,6 @@ impl Shelf for SureShelf {
     }
 
     fn append(&mut self, name: &str, bytes: &[u8]) -> Result<(), ShelfAnswer>
-        requires { IsTrue (is_file_name name.now) }
         ensures sure { IsOkUnless result ShelfAnswer.NoMemory }
         ensures written { self.new ≡ (if is_ok result then appended self.old name.now bytes.now else self.old) }
     {

@@ -2,8 +2,8 @@
 
 ghost use Rattle.std.specs.Prelude.{◌≡◌, ℕ, ◌+◌, ◌/◌, ◌%◌, ◌<◌, ◌≤◌, ◌^◌, List, Option, IfSome, IsErrOf, OnOk, length};
 ghost use Rattle.std.specs.Borrow.{GName};
-ghost use Rattle.outside_io.specs.Faults.{Rose};
 ghost use Rattle.outside_io.specs.Swap.{Blocks, ReadsBlock, UnchangedOutside, WritesBlock, bytes_of_blocks};
+ghost use Rattle.outside_io.specs.Faults.{Rose};
 
 use crate::stored_blocks::BLOCK_BYTES;
 use thiserror::Error;

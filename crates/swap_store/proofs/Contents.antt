@@ -1,5 +1,5 @@
 -- The bytes of names, after a name came or went.
-use Rattle.std.proofs.Common.{◌≡◌, ℕ, ◌+◌, ◌≤◌, List, take, Option, Some, None, IfSome, IsSome, Result, Ok, Err, OnErr, ◌⊎◌, inl, inr, refl, sym, ap, ◌∙◌, arith}
+use Rattle.std.proofs.Common.{◌≡◌, ℕ, ◌+◌, ◌≤◌, List, take, Option, Some, None, IfSome, IsSome, ◌⊎◌, inl, inr, refl, sym, ap, ◌∙◌, arith}
 use Rattle.std.specs.Option.{option_map}
 use Rattle.std.specs.FinMap as map
 use Rattle.std.proofs.lemmas.Bool.{cases_lt}
@@ -81,7 +81,3 @@ pub content-get : (extents : Named Extent) (name : ℕ) (e : Extent) (tile : Lis
 content-get extents name e tile None known is = tt
 content-get extents name e tile (Some blocks) known is =
     get-map_values (bytes_in blocks) extents name ∙ ap (option_map (bytes_in blocks)) known ∙ ap (λ bytes. Some bytes) (sym is)
-
-pub OnErr-always : {X E : Type 0} (r : Result X E) (P : Type 0) → P → OnErr r P
-OnErr-always (Ok x) P p = tt
-OnErr-always (Err e) P p = p

@@ -1,10 +1,12 @@
 -- The bytes of extents on a disk, after some blocks were written or read.
-use Rattle.std.proofs.Common.{◌≡◌, ℕ, suc, zero, ◌+◌, ◌*◌, ◌<◌, ◌≤◌, List, [], ◌∷◌, ◌++◌, length, take, drop, Option, Some, None, Ok, Err, Result, IfSome, OnOk, ◌⊎◌, inl, inr, refl, sym, ap, subst, ◌∙◌, arith, take-append-drop}
+use Rattle.std.proofs.Common.{◌≡◌, ℕ, suc, zero, ◌+◌, ◌*◌, ◌<◌, ◌≤◌, List, [], ◌∷◌, ◌++◌, length, take, drop, Option, Some, None, Ok, Err, Result, IfSome, OnOk, is_ok, true≢false, ◌⊎◌, inl, inr, refl, sym, ap, subst, ◌∙◌, arith, take-append-drop}
 use Rattle.std.proofs.Math.ListN.{set}
 use Rattle.std.specs.Option.{option_map}
 use Rattle.std.specs.List.{concat, slice_get}
 use Rattle.std.proofs.lemmas.List.{drop-take, length-drop, length-take-le}
-use Rattle.outside_io.specs.Swap.{Blocks, UnchangedOutside, bytes_of_blocks}
+use Rattle.outside_io.specs.Swap.{Blocks, UnchangedOutside, WritesBlock, bytes_of_blocks}
+use Rattle.outside_io.specs.declared.swap.SwapAnswer.{SwapAnswer}
+use Rattle.swap_store.specs.declared.refusal.SwapRefused.{SwapRefused}
 use Rattle.outside_io.proofs.BlockRanges.{take_shorter, drop_further, bytes-more}
 use Rattle.swap_store.specs.Content.{BeginsAt}
 
@@ -28,6 +30,17 @@ begins-written (Some old) new n total bytes block is all lt begins =
     let P : Option Blocks → Type 0 = λ exposed. IfSome exposed (BeginsAt n bytes) in
     let there : slice_get (set old n block) n ≡ Some block = slice_get-set old n block (omega (arith, all)) in
     subst P (sym is) (record { block = block; there = there; begins = begins })
+
+-- the same of a write that was answered so, and whose answer was taken for a store's
+pub begins-answered : (old new : Option Blocks) (n total : ℕ) (bytes block : List ℕ)
+    (answer : Result (Unit {0}) SwapAnswer) (result : Result (Unit {0}) SwapRefused)
+    → is_ok result ≡ is_ok answer → WritesBlock old n block answer new
+    → IfSome old (λ blocks. length blocks ≡ total) → n < total → take (length bytes) block ≡ bytes
+    → OnOk result (IfSome new (BeginsAt n bytes))
+begins-answered old new n total bytes block answer (Err refused) same is all lt begins = tt
+begins-answered old new n total bytes block (Ok done) (Ok value) same is all lt begins =
+    begins-written old new n total bytes block is all lt begins
+begins-answered old new n total bytes block (Err _) (Ok value) same is all lt begins = absurd (true≢false same)
 
 -- ---- an extent that is written
 

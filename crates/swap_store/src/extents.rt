@@ -2,13 +2,12 @@
 
 ghost use Rattle.std.specs.Prelude.{◌≡◌, ◌+◌, ◌*◌, ◌/◌, ◌<◌, ◌≤◌, ◌^◌, IfErr, IfSome, OnOk, length, take};
 ghost use Rattle.tile_cow.specs.Tile.{IsTileLength};
-ghost use Rattle.swap_store.specs.Run.{blocks_for};
-ghost use Rattle.outside_io.specs.Swap.{UnchangedOutside, bytes_of_blocks};
 ghost use Rattle.swap_store.specs.Content.{BeginsAt, bytes_in};
-ghost use Rattle.swap_store.specs.Store.{HasDiskCause};
+ghost use Rattle.swap_store.specs.{Run.blocks_for, Store.HasDiskCause};
+ghost use Rattle.outside_io.specs.Swap.{UnchangedOutside, bytes_of_blocks};
 
 use crate::block_map::{BLOCK_BYTES, blocks_for};
-use crate::refusal::SwapRefused;
+use crate::refusal::{SwapRefused, refused_by_disk};
 use outside_io::SwapDisk;
 
 /// Writes the whole blocks of these bytes to the disk, from block `first` on.
@@ -29,8 +28,8 @@ fn write_whole_blocks<D: SwapDisk>(
     ensures loans { D.loans disk.new ≡ D.loans disk.old }
 {
     let end = BLOCK_BYTES * (bytes.len() / BLOCK_BYTES);
-    disk.write_blocks(first, &bytes[..end])?;
-    Ok(())
+    disk.write_blocks(first, &bytes[..end])
+        .map_err(refused_by_disk)
 }
 
 /// Makes a block begin with these bytes, and have zeros after them.
@@ -61,8 +60,7 @@ fn write_padded<D: SwapDisk>(
 {
     let block = &mut spare[..BLOCK_BYTES];
     pad(block, bytes);
-    disk.write_block(n, block)?;
-    Ok(())
+    disk.write_block(n, block).map_err(refused_by_disk)
 }
 
 /// Writes these bytes to the disk, from block `first` on. What the last block has after them is
@@ -115,6 +113,6 @@ pub(crate) fn read_extent<D: SwapDisk>(
     ensures loans { D.loans disk.new ≡ D.loans disk.old }
 {
     let end = BLOCK_BYTES * blocks_for(len) as usize;
-    disk.read_blocks(first, &mut into[..end])?;
-    Ok(())
+    disk.read_blocks(first, &mut into[..end])
+        .map_err(refused_by_disk)
 }

@@ -3,10 +3,9 @@
 ghost use Rattle.std.specs.Prelude.{ℕ, ◌+◌, ◌*◌, ◌≤◌};
 ghost use Rattle.std.specs.FinMap as map;
 ghost use Rattle.chain_owners.specs.Counts.{Counts, Grows};
-ghost use Rattle.swap_store.specs.Cause.{HasSwapCause};
 ghost use Rattle.swap_store.specs.Placement.{IsPlacement, Placement};
 ghost use Rattle.swap_store.specs.Run.{IsRunList, longest};
-ghost use Rattle.swap_store.specs.declared.refusal.SwapRefused.{SwapRefused};
+ghost use Rattle.swap_store.specs.{Cause.HasSwapCause, declared.refusal.SwapRefused.SwapRefused};
 
 /// Where there are k names and at least 32·(k + 1) blocks are used, 16 blocks beside one another are
 /// free, which is room for every tile.

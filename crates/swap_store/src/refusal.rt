@@ -4,9 +4,8 @@ ghost use Rattle.std.specs.Prelude.{◌≡◌};
 ghost use Rattle.swap_store.specs.declared.refusal.SwapRefused.TheVariants as refusals;
 ghost use Rattle.swap_store.specs.Refusal.{refusal_of};
 
-use no_memory::NoMemory;
+use no_memory::OutOfMemory;
 use outside_io::SwapAnswer;
-use std::alloc::{AllocError, AllocFailed};
 use thiserror::Error;
 
 /// Why a call on a store, or on what is built on one, did not do what it was asked to.
@@ -28,37 +27,20 @@ pub enum SwapRefused {
     NoMemory,
 }
 
-impl From<SwapAnswer> for SwapRefused {
-    ghost from_gives = { λ answer refused. refused ≡ refusal_of answer };
-
-    fn from(answer: SwapAnswer) -> SwapRefused {
-        match answer {
-            SwapAnswer::Failed => SwapRefused::SwapFault,
-            SwapAnswer::NoMemory => SwapRefused::NoMemory,
-        }
-    }
-}
-
-impl From<NoMemory> for SwapRefused {
+impl<E: OutOfMemory> From<E> for SwapRefused {
     ghost from_gives = { λ _ refused. refused ≡ refusals.NoMemory };
 
-    fn from(_error: NoMemory) -> SwapRefused {
+    fn from(_error: E) -> SwapRefused {
         SwapRefused::NoMemory
     }
 }
 
-impl From<AllocError> for SwapRefused {
-    ghost from_gives = { λ _ refused. refused ≡ refusals.NoMemory };
-
-    fn from(_error: AllocError) -> SwapRefused {
-        SwapRefused::NoMemory
-    }
-}
-
-impl<T: Drop> From<AllocFailed<T>> for SwapRefused {
-    ghost from_gives = { λ _ refused. refused ≡ refusals.NoMemory };
-
-    fn from(_error: AllocFailed<T>) -> SwapRefused {
-        SwapRefused::NoMemory
+/// Returns why a store refuses where its disk did.
+pub(crate) fn refused_by_disk(answer: SwapAnswer) -> SwapRefused
+    ensures { result ≡ refusal_of answer }
+{
+    match answer {
+        SwapAnswer::Failed => SwapRefused::SwapFault,
+        SwapAnswer::NoMemory => SwapRefused::NoMemory,
     }
 }

@@ -3,9 +3,9 @@
 ghost use Rattle.std.specs.Prelude.{◌≡◌, ◌≤◌, ◌^◌, IfErr, IfOk, IfSome, IsNone, IsSome, Some, length, min};
 ghost use Rattle.std.specs.Option.{option_map};
 ghost use Rattle.std.specs.FinMap as map;
-ghost use Rattle.swap_store.specs.Placement.{IsPlacement};
 ghost use Rattle.swap_store.specs.Content.{content_of, lengths_of};
 ghost use Rattle.swap_store.specs.Store.{HasDiskCause, Keeps, WritesBeside, on_disk};
+ghost use Rattle.swap_store.specs.Placement.{IsPlacement};
 
 use crate::block_map::BlockMap;
 use crate::extents;

@@ -1,5 +1,4 @@
 use Rattle.std.proofs.Common.{◌∙◌, arith}
-use Rattle.std.specs.Map.{values_of}
 use Rattle.chain_owners.proofs.Growing.{continues-both}
 use Rattle.level_tables.proofs.Owning.{disowning-next}
 use Rattle.level_tables.proofs.shares.disown_each.Goals as goal
@@ -10,9 +9,7 @@ loop-name-preserved g c =
       tt,
       tt,
       record {
-        disowning = disowning-next (values_of c.args.entries.now.entries) c.loop-name.name-iterator c.next.new.self c.in-Some.name.now
-            (g.C.ChainMeaning.held c.args.chain.now) (g.C.ChainMeaning.held c.loop-name.chain) (g.C.ChainMeaning.held c.disown.new.self)
-            c.in-Some.ensures.steps c.disown.ensures.held kept.disowning;
+        disowning = disowning-next c.in-Some.ensures.steps c.disown.ensures.held kept.disowning;
         counts = record {
           continues = continues-both (g.C.ChainMeaning.counts c.args.chain.now) (g.C.ChainMeaning.counts c.loop-name.chain) (g.C.ChainMeaning.counts c.disown.new.self)
               kept.counts.continues c.disown.ensures.counts.continues;

@@ -9,9 +9,7 @@ loop-name-preserved g c =
       tt,
       tt,
       record {
-        owning = owning-next (values_of c.args.entries.now.entries) c.loop-name.name-iterator c.next.new.self c.in-Some.name.now
-            (g.C.ChainMeaning.held c.args.chain.now) (g.C.ChainMeaning.held c.loop-name.chain) (g.C.ChainMeaning.held c.own.new.self)
-            c.in-Some.ensures.steps c.own.ensures.held kept.owning;
+        owning = owning-next c.in-Some.ensures.steps c.own.ensures.held kept.owning;
         counts = c.own.ensures.counts ∙ kept.counts;
         loans = c.own.ensures.loans ∙ kept.loans;
         valid = λ is. c.own.ensures.valid (kept.valid is);

@@ -1,19 +1,16 @@
-use Rattle.std.proofs.Common.{Ok, arith}
+use Rattle.std.proofs.Common.{arith}
 use Rattle.std.proofs.lemmas.List.{length-take-le}
-use Rattle.outside_io.proofs.BlockRanges.{unchanged-written, unchanged-refused}
-use Rattle.swap_store.proofs.Exposed.{begins-written}
+use Rattle.outside_io.proofs.BlockRanges.{unchanged-written}
+use Rattle.swap_store.proofs.Exposed.{begins-answered}
 use Rattle.swap_store.proofs.extents.write_padded.Goals as goal
 
-pub returns-in_err-write_block-clause-others : goal.returns-in_err-write_block-clause-others
-returns-in_err-write_block-clause-others g c = unchanged-refused _ _ c.args.n c.in_err-write_block.ensures.leaves
-
 pub returns-clause-others : goal.returns-clause-others
-returns-clause-others g c = unchanged-written _ _ c.args.n _ (Ok tt) c.in_ok-write_block.ensures.leaves
+returns-clause-others g c = unchanged-written _ _ c.args.n _ c.write_block.result c.write_block.ensures.leaves
 
 pub returns-clause-written : goal.returns-clause-written
 returns-clause-written g c =
-    begins-written _ _ c.args.n (g.D.SwapDisk.block_count c.args.disk.now) c.args.bytes.now _ c.in_ok-write_block.ensures.leaves
-    (g.met.D.SwapDisk.exposes_all c.args.disk.now) c.requires.known
+    begins-answered _ _ c.args.n (g.D.SwapDisk.block_count c.args.disk.now) c.args.bytes.now _ c.write_block.result c.map_err.result
+    c.map_err.ensures.variant c.write_block.ensures.leaves (g.met.D.SwapDisk.exposes_all c.args.disk.now) c.requires.known
     c.pad.ensures
 
 pub write_block-requires-clause-whole : goal.write_block-requires-clause-whole

@@ -31,9 +31,7 @@ loop-entry-preserved g c =
     let is = next-left all c.entries-entry-items.result.now c.entries-entry-items.ensures i c.entry-item.result c.loop-entry-test.true c.entry-item.is in
     let kept = c.loop-entry.invariant in
     record {
-      disowning = disowning-next (values_of all) (values_of (drop i all)) (values_of (drop (i + 1) all)) c.entry-item.result.1
-          (g.C.ChainMeaning.held c.args.chain.now) (g.C.ChainMeaning.held c.loop-entry.chain) (g.C.ChainMeaning.held c.disown.new.self)
-          (ap (λ (es : List (Tile × ℕ)). values_of es) is) c.disown.ensures.held kept.disowning;
+      disowning = disowning-next (ap (λ (es : List (Tile × ℕ)). values_of es) is) c.disown.ensures.held kept.disowning;
       counts = record {
         continues = continues-both (g.C.ChainMeaning.counts c.args.chain.now) (g.C.ChainMeaning.counts c.loop-entry.chain) (g.C.ChainMeaning.counts c.disown.new.self)
             kept.counts.continues c.disown.ensures.counts.continues;
