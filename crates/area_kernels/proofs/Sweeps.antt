@@ -1,5 +1,5 @@
 -- Passes over the samples of a row, by their numbers.
-use Rattle.std.proofs.Common.{◌≡◌, ℕ, ◌+◌, ◌-◌, ◌*◌, ◌<◌, ◌≤◌, refl, sym, ap, ◌∙◌, inl, inr, arith}
+use Rattle.std.proofs.Common.{◌≡◌, ℕ, ◌+◌, ◌-◌, ◌*◌, ◌<◌, ◌≤◌, sym, ap, ◌∙◌, inl, inr, arith}
 use Rattle.std.proofs.lemmas.Bool.{cases_lt}
 use Rattle.area_kernels.specs.Sequences.{Picks, best}
 use Rattle.area_kernels.proofs.Picking.{best-join, best-same}
@@ -12,9 +12,6 @@ pub record PickedBelow (pick : ℕ → ℕ → ℕ) (by n : ℕ) (old new : ℕ 
 -- one sample was picked of each n that are so far apart and among the first ones
 pub record PickedOf (pick : ℕ → ℕ → ℕ) (by valid n : ℕ) (old new : ℕ → ℕ) : Type 0 where
   pub windows : (i : ℕ) → i + n * by < valid + by → new i ≡ best pick n (λ k. old (i + k * by))
-
-pub PickedBelow-none : (pick : ℕ → ℕ → ℕ) (by : ℕ) (old : ℕ → ℕ) → PickedBelow pick by 0 old old
-PickedBelow-none pick by old = record { picked = λ i lt. absurd (omega arith); rest = λ i le. refl }
 
 -- sixteen more
 pub PickedBelow-more : (pick : ℕ → ℕ → ℕ) (by n : ℕ) (old new newer : ℕ → ℕ) → PickedBelow pick by n old new
@@ -32,13 +29,6 @@ PickedBelow-more pick by n old new newer h here before after = record {
         ∙ (λ t. pick ((ap new at ∙ h.rest i past) t) ((ap new next ∙ h.rest (i + by) (omega arith)) t))
   ];
   rest = λ i le. after i le ∙ h.rest i (omega arith);
-}
-
-pub PickedOf-one : (pick : ℕ → ℕ → ℕ) → Picks pick → (by valid : ℕ) (old : ℕ → ℕ) → PickedOf pick by valid 1 old old
-PickedOf-one pick P by valid old = record {
-  windows = λ i lt.
-      let here : i + 0 * by ≡ i = omega arith in
-      sym (P.idempotent (old (i + 0 * by)) ∙ ap old here);
 }
 
 -- one picked of windows and of the windows so many samples after them

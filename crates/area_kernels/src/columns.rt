@@ -1,8 +1,7 @@
 //! Sums of columns of samples, which slide from row to row.
 
 ghost use Rattle.std.specs.Prelude.{◌≡◌, ℕ, ◌+◌, ◌-◌, ◌*◌, ◌%◌, ◌<◌, ◌≤◌, length, slice_index};
-ghost use Rattle.area_kernels.specs.Columns.{HoldsColumns};
-ghost use Rattle.area_kernels.specs.Sequences.{sum_of};
+ghost use Rattle.area_kernels.specs.{Columns.HoldsColumns, Sequences.sum_of};
 ghost use Rattle.pixel_formats.specs.Sample.{max_sample_of, sample_at};
 
 use simd_samples::{FourLanes, Lanes, load_at};

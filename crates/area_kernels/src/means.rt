@@ -1,9 +1,9 @@
 //! The means of squares.
 
 ghost use Rattle.std.specs.Prelude.{◌≡◌, ℕ, ◌+◌, ◌*◌, ◌/◌, ◌<◌, ◌≤◌, length, slice_index};
-ghost use Rattle.area_kernels.specs.Columns.{HoldsColumns};
 ghost use Rattle.area_kernels.specs.Parts.{HoldSquares, grown, read_samples, written_samples};
 ghost use Rattle.area_kernels.specs.Sequences.{mean_sum, sum_of};
+ghost use Rattle.area_kernels.specs.Columns.{HoldsColumns};
 ghost use Rattle.model_operations.specs.Windows.{mean_of, window_side};
 ghost use Rattle.pixel_formats.specs.Format.{channels, depth};
 ghost use Rattle.pixel_formats.specs.Sample.{max_sample_of, sample_at};

@@ -5,21 +5,14 @@ ghost use Rattle.std.specs.Prelude.{ℕ, ◌<◌, ◌≤◌, ◌^◌, List, flat
 ghost use Rattle.std.specs.List.{AllByRecursion};
 ghost use Rattle.pixel_formats.specs.Limits.{max_lines};
 ghost use Rattle.plane_rect.specs.Rectangle.{InLimits, Rectangle};
-ghost use Rattle.model_graphs.specs.declared.node.NodeFact.{NodeFact};
-ghost use Rattle.model_graphs.specs.Laws.{IsBoxed};
-ghost use Rattle.model_graphs.specs.Meanings.{Meanings};
-ghost use Rattle.model_graphs.specs.Shapes.{Shapes};
-ghost use Rattle.model_states.specs.Need.{need};
-ghost use Rattle.model_states.specs.Valid.{AreStated};
-ghost use Rattle.model_states.specs.Cache.{needed_pairs};
+ghost use Rattle.model_graphs.specs.{declared.node.NodeFact.NodeFact, Laws.IsBoxed, Meanings.Meanings, Shapes.Shapes};
 ghost use Rattle.model_states.specs.State.{IsValidScene, Scene};
-ghost use Rattle.model_states.specs.declared.strip.Strip.{Strip};
+ghost use Rattle.model_states.specs.{Need.need, Valid.AreStated, Cache.needed_pairs, declared.strip.Strip.Strip};
 ghost use Rattle.model_sessions.specs.Sessions.{render_need};
 ghost use Rattle.model_runs.specs.Run.{effects_of, state_after};
 ghost use Rattle.model_runs.specs.State.{Effect as EffectData, Numbers, first_state};
 ghost use Rattle.outside_io.specs.Files.{Files};
-ghost use Rattle.script_read.specs.IsScript.{IsScript};
-ghost use Rattle.script_read.specs.declared.command.Line.{Line};
+ghost use Rattle.script_read.specs.{IsScript.IsScript, declared.command.Line.Line};
 ghost use Rattle.model_bounds.specs.Counts.{HasTrueCounts};
 
 /// States that what a request needs of valid nodes are fewer than 2^32 pairs: of each strip whatever

@@ -80,14 +80,6 @@ module _ {X : Type 0} where
       cases true t rest = ap (λ (k : List ℕ). Some (change k e.1)) (sym (name_from_test q e.0 t))
       cases false t rest = rest
 
-  pub AreDistinct-mapped : (change : List ℕ → X → X) (entries : List (List ℕ × X)) → AreDistinct entries → AreDistinct (map (λ (e : List ℕ × X). (e.0, change e.0 e.1)) entries)
-  AreDistinct-mapped change entries distinct i j d before inside =
-      let F : List ℕ × X → List ℕ × X = λ e. (e.0, change e.0 e.1) in
-      let below : j < length entries = omega (arith, length-map entries F) in
-      let first = get_or-map F entries i d d (omega arith) in
-      let second = get_or-map F entries j d d below in
-      λ same. distinct i j d before below (ap (λ (e : List ℕ × X). e.0) (sym first) ∙ same ∙ ap (λ (e : List ℕ × X). e.0) second)
-
   -- names are as distinct as where the values are changed
   pub AreDistinct-from_mapped : {Y : Type 0} (change : X → Y) (entries : List (List ℕ × X)) → AreDistinct (map (λ (e : List ℕ × X). (e.0, change e.1)) entries) → AreDistinct entries
   AreDistinct-from_mapped {Y = Y} change entries distinct i j d before inside =

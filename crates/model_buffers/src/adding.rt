@@ -5,9 +5,9 @@ ghost use Rattle.plane_rect.specs.Rectangle.{IsRectangle, Rectangle, meet};
 ghost use Rattle.pixel_formats.specs.declared.format.Format.{Format};
 ghost use Rattle.model_images.specs.Paint.{blank, cut};
 ghost use Rattle.model_buffers.specs.declared.edit.BufferEdit.TheVariants.{Create, Duplicate, Sub};
-ghost use Rattle.model_buffers.specs.Edits.{edited_table};
 ghost use Rattle.model_buffers.specs.Effects.{HasOwnRoot, IsAdded};
 ghost use Rattle.model_buffers.specs.Table.{IsTable, Table, image_of, root_of};
+ghost use Rattle.model_buffers.specs.Edits.{edited_table};
 
 /// States that a created buffer shows zeros, on a root of its own.
 pub fn created_buffer()

@@ -3,13 +3,11 @@
 ghost use Rattle.std.specs.Prelude.{◌≡◌, ◌↔◌, ℤ, List, ℕ, Err, IsOk, None, Ok, Some};
 ghost use Rattle.plane_rect.specs.Rectangle.{Rectangle};
 ghost use Rattle.pixel_formats.specs.declared.format.Format.{Format};
-ghost use Rattle.model_buffers.specs.declared.edit.BufferEdit.{BufferEdit};
 ghost use Rattle.model_buffers.specs.declared.edit.BufferEdit.TheVariants.{Copy, Create, Duplicate, Fill, Put, Sub};
-ghost use Rattle.model_buffers.specs.BufferEdit.{edit_refused};
 ghost use Rattle.model_buffers.specs.Causes.{AddFromRefused, AddRefused, CopyRefused, FillRefused, IsAddable, IsCarriedOut, IsCopyable, IsFillable, IsKnown, IsPuttable, IsRefused, PutRefused};
 ghost use Rattle.model_buffers.specs.Edits.{edited_table, table_with};
-ghost use Rattle.model_buffers.specs.Layout.{TableLayout};
 ghost use Rattle.model_buffers.specs.Table.{Table, layout_of};
+ghost use Rattle.model_buffers.specs.{declared.edit.BufferEdit.BufferEdit, BufferEdit.edit_refused, Layout.TableLayout};
 ghost use Rattle.model_buffers.specs.declared.refused.EditRefused.{EditRefused as Refused};
 
 /// States that an edit is carried out, or refused by one cause, by the layout alone.

@@ -4,9 +4,7 @@ ghost use Rattle.std.specs.Prelude.{◌≡◌, ◌+◌, ◌≤◌, ℕ, IfSome, 
 ghost use Rattle.plane_rect.specs.Rectangle.{Rectangle};
 ghost use Rattle.model_images.specs.TileCounts.{tile_count};
 ghost use Rattle.model_buffers.specs.Counts.{RoomFor, names_after_render, tiles_added};
-ghost use Rattle.model_buffers.specs.Layout.{TableLayout};
-ghost use Rattle.model_buffers.specs.BufferEdit.{written_by};
-ghost use Rattle.model_buffers.specs.declared.edit.BufferEdit.{BufferEdit};
+ghost use Rattle.model_buffers.specs.{Layout.TableLayout, BufferEdit.written_by, declared.edit.BufferEdit.BufferEdit};
 
 /// States that an edit adds the tiles that meet the rectangle that it writes.
 pub fn tiles_of_written_rectangles()

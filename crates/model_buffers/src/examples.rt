@@ -5,10 +5,8 @@ ghost use Rattle.std.specs.Prelude.{◌≡◌, [], ◌∷◌, negsuc, pos, Err, 
 ghost use Rattle.plane_rect.specs.Rectangle.{placed};
 ghost use Rattle.model_images.specs.Examples.{positions_from};
 ghost use Rattle.model_buffers.specs.declared.edit.BufferEdit.TheVariants.{Copy, Create, Duplicate, Fill, Put};
-ghost use Rattle.model_buffers.specs.Edits.{edited_table};
-ghost use Rattle.model_buffers.specs.Table.{no_buffers};
 ghost use Rattle.model_buffers.specs.Examples.{and_then, bytes_of, column_of_two_rows, duplicate_filled, duplicate_then_fill, first_name, full_table, image_after, nines_by_column, one_color, one_two_three, part_of_four, right_column, second_name, two_rows, zeros_over, fact_of_row, facts_after, refused_after, written_after};
-ghost use Rattle.model_buffers.specs.Counts.{tiles_added};
+ghost use Rattle.model_buffers.specs.{Edits.edited_table, Table.no_buffers, Counts.tiles_added};
 
 use crate::refused::EditRefused;
 use pixel_formats::Format;

@@ -1,15 +1,14 @@
 //! Tables whose roots are held by tiles: what the edits make of the tiles.
 
 ghost use Rattle.std.specs.Prelude.{◌≡◌, List, ℕ, None, Some};
-ghost use Rattle.plane_rect.specs.Rectangle.{Rectangle};
-ghost use Rattle.plane_rect.specs.Tile.{Tile};
+ghost use Rattle.plane_rect.specs.{Rectangle.Rectangle, Tile.Tile};
 ghost use Rattle.pixel_formats.specs.declared.format.Format.{Format};
-ghost use Rattle.model_buffers.specs.BufferEdit.{layout_with};
 ghost use Rattle.model_buffers.specs.Edits.{table_with, written};
 ghost use Rattle.model_buffers.specs.Held.{ArePainted, AreSameBut, HeldRoots, held_root, held_table};
 ghost use Rattle.model_buffers.specs.Layout.{IsLayout, TableLayout, View, find, root_shape, view_shape};
 ghost use Rattle.model_buffers.specs.Table.{IsTable, image_of, layout_of, root_image};
 ghost use Rattle.model_buffers.specs.declared.edit.BufferEdit.TheVariants.{Create, Duplicate, Sub};
+ghost use Rattle.model_buffers.specs.BufferEdit.{layout_with};
 
 /// States that a table that is held by tiles has the layout that it is held for, and is a table. Its buffers
 /// are held by the tiles of their roots.

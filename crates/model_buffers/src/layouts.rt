@@ -5,11 +5,11 @@ ghost use Rattle.std.specs.List.{IsDistinct};
 ghost use Rattle.std.specs.Str.{bytes_eq};
 ghost use Rattle.model_graphs.specs.Facts.{fact_names, fact_of, shapes_of_facts};
 ghost use Rattle.model_graphs.specs.Shapes.{shape_in, shape_of_image};
-ghost use Rattle.model_buffers.specs.declared.edit.BufferEdit.{BufferEdit};
 ghost use Rattle.model_buffers.specs.BufferEdit.{IsProperEdit, edit_refused, layout_with};
 ghost use Rattle.model_buffers.specs.Edits.{edited_table, table_with};
 ghost use Rattle.model_buffers.specs.Layout.{IsLayout, TableLayout, buffer_shape, fact_in, facts_of, find, root_shape, view_shape};
 ghost use Rattle.model_buffers.specs.Table.{Table, image_of, layout_of, root_image};
+ghost use Rattle.model_buffers.specs.declared.edit.BufferEdit.{BufferEdit};
 
 /// States that the shape of a buffer, or of a root, is that of its image.
 pub fn shapes_of_images()

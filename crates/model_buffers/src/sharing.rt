@@ -3,9 +3,9 @@
 ghost use Rattle.std.specs.Prelude.{◌≡◌, List, ℕ, IfOk};
 ghost use Rattle.plane_rect.specs.Rectangle.{IsRectangle, Rectangle};
 ghost use Rattle.model_buffers.specs.declared.edit.BufferEdit.TheVariants.{Duplicate, Sub};
-ghost use Rattle.model_buffers.specs.Edits.{edited_table};
 ghost use Rattle.model_buffers.specs.Effects.{IsWritten, ShowsOver};
 ghost use Rattle.model_buffers.specs.Table.{IsTable, Table, image_of};
+ghost use Rattle.model_buffers.specs.Edits.{edited_table};
 
 /// States that a sub-buffer shows what is written to its parent, and its parent what is written to it.
 pub fn sub_buffer_shares_samples()

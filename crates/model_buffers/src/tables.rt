@@ -3,11 +3,9 @@
 ghost use Rattle.std.specs.Prelude.{◌≡◌, ◌<◌, List, ℕ, IfOk, Some, length, slice_index_or};
 ghost use Rattle.model_images.specs.Image.{Image, IsImage};
 ghost use Rattle.model_graphs.specs.Shapes.{shape_of_image};
-ghost use Rattle.model_buffers.specs.declared.edit.BufferEdit.{BufferEdit};
-ghost use Rattle.model_buffers.specs.BufferEdit.{IsProperEdit};
-ghost use Rattle.model_buffers.specs.Edits.{edited_table};
 ghost use Rattle.model_buffers.specs.Layout.{IsValidShape, IsLayout, TableLayout, View, find};
 ghost use Rattle.model_buffers.specs.Table.{IsTable, Table, image_of, no_buffers};
+ghost use Rattle.model_buffers.specs.{declared.edit.BufferEdit.BufferEdit, BufferEdit.IsProperEdit, Edits.edited_table};
 
 /// States that each entry of a table's lists is found by its name.
 pub fn entries_are_found()

@@ -3,12 +3,11 @@
 ghost use Rattle.std.specs.Prelude.{◌≡◌, ℤ, ◌+ℤ◌, ◌<◌, List, ℕ, IfOk, Ok};
 ghost use Rattle.plane_rect.specs.Rectangle.{Inside, Rectangle, plane_coordinate, shifted};
 ghost use Rattle.pixel_formats.specs.Format.{channels};
-ghost use Rattle.model_images.specs.Image.{at};
-ghost use Rattle.model_images.specs.FromRaw.{pixels_from_raw};
+ghost use Rattle.model_images.specs.{Image.at, FromRaw.pixels_from_raw};
 ghost use Rattle.model_buffers.specs.declared.edit.BufferEdit.TheVariants.{Copy, Fill, Put};
 ghost use Rattle.model_buffers.specs.Edits.{edited_table, evenly, moved_samples};
-ghost use Rattle.model_buffers.specs.Effects.{IsWritten};
 ghost use Rattle.model_buffers.specs.Table.{IsTable, Table, image_of};
+ghost use Rattle.model_buffers.specs.Effects.{IsWritten};
 
 /// States that a filled rectangle has the pixel at each of its positions, and nothing else changes.
 pub fn filled_rectangle()

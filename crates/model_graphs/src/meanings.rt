@@ -2,11 +2,11 @@
 
 ghost use Rattle.std.specs.Prelude.{◌≡◌, ℕ, Bool, List, [], ◌∷◌};
 ghost use Rattle.plane_rect.specs.Rectangle.{Inside, Rectangle};
-ghost use Rattle.model_images.specs.Agreement.{AgreeOutside};
 ghost use Rattle.model_images.specs.Image.{at, Image};
-ghost use Rattle.model_graphs.specs.Changes.{ChangedWithin};
+ghost use Rattle.model_images.specs.Agreement.{AgreeOutside};
 ghost use Rattle.model_graphs.specs.Laws.{IsBoxed, IsDual, IsEquality, IsLocal, KeepsLaws};
 ghost use Rattle.model_graphs.specs.Meanings.{boxes_of, Meanings, result_box, result_of};
+ghost use Rattle.model_graphs.specs.Changes.{ChangedWithin};
 
 /// The meanings of a type of operations: what each takes and gives, and what of its inputs and of its result belongs
 /// together. They belong to the type, so that all that carry out its operations mean the same.

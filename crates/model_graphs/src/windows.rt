@@ -2,11 +2,10 @@
 
 ghost use Rattle.std.specs.Prelude.{◌≡◌, ℕ, ◌<◌, List, length, map, slice_index_or};
 ghost use Rattle.plane_rect.specs.Rectangle.{Includes, Rectangle};
-ghost use Rattle.model_images.specs.Image.{Image};
-ghost use Rattle.model_images.specs.Paint.{no_image};
-ghost use Rattle.model_graphs.specs.Laws.{AgreeInside};
+ghost use Rattle.model_images.specs.{Image.Image, Paint.no_image};
 ghost use Rattle.model_graphs.specs.Meanings.{boxes_of, result_box, result_of};
 ghost use Rattle.model_graphs.specs.Windows.{AreWindowsOf, IsWholeWindow, IsWindowOf, Window, window_image};
+ghost use Rattle.model_graphs.specs.Laws.{AgreeInside};
 
 use crate::meanings::OpMeaning;
 

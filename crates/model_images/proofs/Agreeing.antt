@@ -63,3 +63,5 @@ old_or_new-outside old new now r agreed between = record {
     | inr other ↦ agreed.samples u v c out ∙ sym (other c)
   ];
 }
+
+pub ruleset part_laws = (at-cut, cut-wider)

@@ -17,7 +17,7 @@ use Rattle.model_images.specs.Paint.{blank, cut}
 use Rattle.model_images.specs.Raw.{raw, tile_bytes}
 use Rattle.model_images.proofs.Agreeing.{at-cut}
 use Rattle.model_images.proofs.Laws.{at_no_channel, at_outside}
-use Rattle.model_images.proofs.LevelLaws.{IsRectangle-level, at-halved_image, half-of_four, level-format, level-most}
+use Rattle.model_images.proofs.LevelLaws.{InLimits-level, IsRectangle-level, at-halved_image, empty-level, half-of_four, level-format, level-most}
 use Rattle.model_images.proofs.Positions.{by_positions}
 use Rattle.model_images.proofs.RawLaws.{raw-over, raw-zeros}
 
@@ -218,3 +218,5 @@ Inside-source_of_tile u v tile z =
     let source = Inside-source z u v (tile_square tile) in
     let square = Inside-tile_square (halves u z) (halves v z) tile in
     (λ h. tile-halves u v z ∙ sym (square.0 (source.0 h)), λ e. source.1 (square.1 (sym e ∙ tile-halves u v z)))
+
+pub ruleset box_laws = (IsRectangle-level, InLimits-level, empty-level, level-box)

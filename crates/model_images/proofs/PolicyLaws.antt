@@ -9,6 +9,7 @@ use Rattle.model_images.proofs.Laws.{at_outside}
 use Rattle.pixel_formats.specs.declared.abyss.Abyss.{Abyss}
 use Rattle.pixel_formats.specs.declared.abyss.Abyss.TheVariants.{None, Clamp, Loop, Black, White}
 use Rattle.model_images.specs.Abyss.{abyss_at, outside_at, black_sample, nearest, wrapped}
+use Rattle.model_images.specs.Policies.{MovesInside, empty_sample}
 use Rattle.model_images.proofs.Positions.{by_positions, not_inside}
 use Rattle.model_images.proofs.Sides.{nearest-within, nearest-inside, wrapped-within, wrapped-inside, wrapped-periodic}
 
@@ -55,6 +56,12 @@ loop-everywhere = moved-everywhere Loop wrapped wrapped-inside (λ image u v c. 
 pub loop-position : (r : Rectangle) (u v : ℕ) → 0 < r.width → 0 < r.height → Inside (wrapped r.first_column r.width u) (wrapped r.first_row r.height v) r
 loop-position r u v wide high = record { column = wrapped-within r.first_column r.width u wide; row = wrapped-within r.first_row r.height v high }
 
+pub clamp-moves : MovesInside Clamp nearest
+clamp-moves = record { sample = clamp-everywhere; position = clamp-position }
+
+pub loop-moves : MovesInside Loop wrapped
+loop-moves = record { sample = loop-everywhere; position = loop-position }
+
 pub loop-columns : (image : Image) (u v c : ℕ) → 0 < image.box.width → abyss_at image Loop (u + image.box.width) v c ≡ abyss_at image Loop u v c
 loop-columns image u v c wide =
     loop-everywhere image (u + image.box.width) v c
@@ -92,6 +99,14 @@ module _ (image : Image) (empty : (u v : ℕ) → ¬ Inside u v image.box) (u v 
 
   pub white-empty : abyss_at image White u v c ≡ max_sample image.format
   white-empty = abyss_at-outside image White u v c (empty u v)
+
+pub abyss_at-empty : (image : Image) (policy : Abyss) → ((u v : ℕ) → ¬ Inside u v image.box) → (u v c : ℕ)
+    → abyss_at image policy u v c ≡ empty_sample image.format policy c
+abyss_at-empty image None empty = none-empty image empty
+abyss_at-empty image Clamp empty = clamp-empty image empty
+abyss_at-empty image Loop empty = loop-empty image empty
+abyss_at-empty image Black empty = black-empty image empty
+abyss_at-empty image White empty = white-empty image empty
 
 -- samples up to a number are read as such under each policy, where the number is the largest sample or above it
 pub abyss_at-most : (image : Image) (policy : Abyss) (c most : ℕ) → max_sample image.format ≤ most → ((u v : ℕ) → at image u v c ≤ most)

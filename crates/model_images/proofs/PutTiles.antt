@@ -72,3 +72,5 @@ around-hull format tiles held among tile = of (held tile) refl
         let put = among tile (rw e refl) in
         λ u v c inside out known. absurd (out (hull-square tiles tile put.0 put.1 u v inside))
     of None e = tt
+
+pub ruleset hull_laws = (hull-is, around-hull)

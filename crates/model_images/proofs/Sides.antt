@@ -61,3 +61,5 @@ wrapped-only start len n m inside same =
 
 pub wrapped-periodic : (start len n : ℕ) → 0 < len → wrapped start len (n + len) ≡ wrapped start len n
 wrapped-periodic start len n some = wrapped-equal start len (n + len) n some (add-mod_right n len)
+
+pub ruleset wrapped_laws = (wrapped-within, wrapped-inside, wrapped-remainder, wrapped-only, wrapped-periodic)

@@ -1,9 +1,11 @@
 -- Small images, on which the definitions are worked out by hand.
-use Rattle.std.specs.Prelude.{ℕ, ℤ, pos, negsuc, List, [], ◌∷◌}
+use Rattle.std.specs.Prelude.{◌≡◌, ℕ, ℤ, pos, negsuc, List, [], ◌∷◌}
 use Rattle.plane_rect.specs.Rectangle.{Rectangle, empty, placed}
 use Rattle.plane_rect.specs.Tile.{Tile, tile_by}
 use Rattle.pixel_formats.specs.declared.format.Format.{Format}
 use Rattle.pixel_formats.specs.declared.format.Format.TheVariants.{Y8, YA8, YA16}
+use Rattle.pixel_formats.specs.declared.abyss.Abyss.TheVariants.{None, Clamp, Loop, Black, White}
+use Rattle.model_images.specs.Abyss.{raw_with}
 use Rattle.model_images.specs.Image.{Image}
 
 -- so many positions from an x on, in the row of y = 0
@@ -63,3 +65,12 @@ no_position = record { box = empty; format = Y8; samples = [] }
 -- the tile left of the origin's, and the one right of and below it
 abbrev pub two_tiles : List Tile
 two_tiles = tile_by (negsuc 0) (pos 0) ∷ tile_by (pos 1) (pos 1) ∷ []
+
+-- What an image without alpha reads as over a rectangle, under each policy: filled with a sample where it has no
+-- position, which is 0 for None and Black and 255 for White, clamped, and looped.
+pub record ReadAs (image : Image) (rectangle : Rectangle) (filled : ℕ → List ℕ) (clamped looped : List ℕ) : Type 0 where
+  pub none : raw_with image None rectangle ≡ filled 0
+  pub clamp : raw_with image Clamp rectangle ≡ clamped
+  pub wrap : raw_with image Loop rectangle ≡ looped
+  pub black : raw_with image Black rectangle ≡ filled 0
+  pub white : raw_with image White rectangle ≡ filled 255

@@ -1,4 +1,5 @@
 pub mod Abyss
+pub mod Policies
 pub mod Examples
 pub mod Level
 pub mod TileCounts

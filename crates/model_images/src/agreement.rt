@@ -33,6 +33,7 @@ pub fn agreement_of_parts()
 
 /// States that a part of an image has the image's samples, and a part of a part is a part. The image over a
 /// box that contains its own agrees with it everywhere. Parts of images agree where the images do.
+#[tactic(auto, using(crate::proofs::Agreeing::part_laws))]
 pub fn parts_of_images()
     ensures samples { (image : Image) (box : Rectangle) (u v c : ℕ) → Inside u v box → at (cut image box) u v c ≡ at image u v c }
     ensures part { (image : Image) (box part : Rectangle) → Includes box part → cut (cut image box) part ≡ cut image part }

@@ -2,50 +2,31 @@
 #![tactic(auto, unfolding(crate::specs::Image::at, crate::specs::Raw::raw, crate::specs::Abyss::abyss_at, crate::specs::Abyss::raw_with, crate::specs::Level::level))]
 
 ghost use Rattle.std.specs.Prelude.{◌≡◌, [], ◌∷◌, negsuc, pos};
-ghost use Rattle.model_images.specs.Raw.{raw};
-ghost use Rattle.model_images.specs.Abyss.{raw_with};
-ghost use Rattle.model_images.specs.Examples.{faint_of_16_bits, faint_ten, four_positions, left_edge, no_position, one_to_four, positions_from, ten_twenty, three_from, two_positions, two_tiles, upper_left};
-ghost use Rattle.model_images.specs.Level.{level};
+ghost use Rattle.model_images.specs.Examples.{ReadAs, faint_of_16_bits, faint_ten, four_positions, left_edge, no_position, one_to_four, positions_from, ten_twenty, three_from, two_positions, two_tiles, upper_left};
 ghost use Rattle.model_images.specs.TileCounts.{level_tiles, tile_count};
-ghost use Rattle.model_images.specs.Tiles.{hull_of_tiles};
+ghost use Rattle.model_images.specs.{Raw.raw, Abyss.raw_with, Level.level, Tiles.hull_of_tiles};
 ghost use Rattle.plane_rect.specs.Rectangle.{placed};
 
 use pixel_formats::Abyss;
 
 /// Works out a row of 10 and 20 from x = 0 on, as it is read from x = -1 over four positions.
 pub fn around_a_row()
-    ensures none { raw_with ten_twenty Abyss.None four_positions ≡ 0 ∷ 10 ∷ 20 ∷ 0 ∷ [] }
-    ensures clamp { raw_with ten_twenty Abyss.Clamp four_positions ≡ 10 ∷ 10 ∷ 20 ∷ 20 ∷ [] }
-    ensures wrap { raw_with ten_twenty Abyss.Loop four_positions ≡ 20 ∷ 10 ∷ 20 ∷ 10 ∷ [] }
-    ensures black { raw_with ten_twenty Abyss.Black four_positions ≡ 0 ∷ 10 ∷ 20 ∷ 0 ∷ [] }
-    ensures white { raw_with ten_twenty Abyss.White four_positions ≡ 255 ∷ 10 ∷ 20 ∷ 255 ∷ [] }
+    ensures { ReadAs ten_twenty four_positions (λ n. n ∷ 10 ∷ 20 ∷ n ∷ []) (10 ∷ 10 ∷ 20 ∷ 20 ∷ []) (20 ∷ 10 ∷ 20 ∷ 10 ∷ []) }
 {}
 
 /// Works out the same row, read from the plane's left edge over two positions.
 pub fn far_from_a_row()
-    ensures none { raw_with ten_twenty Abyss.None left_edge ≡ 0 ∷ 0 ∷ [] }
-    ensures clamp { raw_with ten_twenty Abyss.Clamp left_edge ≡ 10 ∷ 10 ∷ [] }
-    ensures wrap { raw_with ten_twenty Abyss.Loop left_edge ≡ 10 ∷ 20 ∷ [] }
-    ensures black { raw_with ten_twenty Abyss.Black left_edge ≡ 0 ∷ 0 ∷ [] }
-    ensures white { raw_with ten_twenty Abyss.White left_edge ≡ 255 ∷ 255 ∷ [] }
+    ensures { ReadAs ten_twenty left_edge (λ n. n ∷ n ∷ []) (10 ∷ 10 ∷ []) (10 ∷ 20 ∷ []) }
 {}
 
 /// Works out two rows, 1 and 2 above 3 and 4, read around their upper left corner.
 pub fn around_a_corner()
-    ensures none { raw_with one_to_four Abyss.None upper_left ≡ 0 ∷ 0 ∷ 0 ∷ 1 ∷ [] }
-    ensures clamp { raw_with one_to_four Abyss.Clamp upper_left ≡ 1 ∷ 1 ∷ 1 ∷ 1 ∷ [] }
-    ensures wrap { raw_with one_to_four Abyss.Loop upper_left ≡ 4 ∷ 3 ∷ 2 ∷ 1 ∷ [] }
-    ensures black { raw_with one_to_four Abyss.Black upper_left ≡ 0 ∷ 0 ∷ 0 ∷ 1 ∷ [] }
-    ensures white { raw_with one_to_four Abyss.White upper_left ≡ 255 ∷ 255 ∷ 255 ∷ 1 ∷ [] }
+    ensures { ReadAs one_to_four upper_left (λ n. n ∷ n ∷ n ∷ 1 ∷ []) (1 ∷ 1 ∷ 1 ∷ 1 ∷ []) (4 ∷ 3 ∷ 2 ∷ 1 ∷ []) }
 {}
 
 /// Works out an image of no position, read over two.
 pub fn over_an_empty_image()
-    ensures none { raw_with no_position Abyss.None two_positions ≡ 0 ∷ 0 ∷ [] }
-    ensures clamp { raw_with no_position Abyss.Clamp two_positions ≡ 0 ∷ 0 ∷ [] }
-    ensures wrap { raw_with no_position Abyss.Loop two_positions ≡ 0 ∷ 0 ∷ [] }
-    ensures black { raw_with no_position Abyss.Black two_positions ≡ 0 ∷ 0 ∷ [] }
-    ensures white { raw_with no_position Abyss.White two_positions ≡ 255 ∷ 255 ∷ [] }
+    ensures { ReadAs no_position two_positions (λ n. n ∷ n ∷ []) (0 ∷ 0 ∷ []) (0 ∷ 0 ∷ []) }
 {}
 
 /// Works out one position with alpha, of 8 bits and of 16, read over itself and the next.

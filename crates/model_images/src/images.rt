@@ -2,12 +2,10 @@
 
 ghost use Rattle.std.specs.Prelude.{◌≡◌, ℕ, ◌<◌, List, length};
 ghost use Rattle.plane_rect.specs.Rectangle.{Inside, Rectangle, empty};
-ghost use Rattle.pixel_formats.specs.Format.{channels};
-ghost use Rattle.pixel_formats.specs.declared.format.Format.{Format};
-ghost use Rattle.model_images.specs.Agreement.{AgreeOutside};
+ghost use Rattle.pixel_formats.specs.{Format.channels, declared.format.Format.Format};
 ghost use Rattle.model_images.specs.Image.{Image, IsImage, at, image_from_fn};
-ghost use Rattle.model_images.specs.Raw.{raw};
 ghost use Rattle.model_images.specs.FromRaw.{AreBytes, byte_count, image_from_raw};
+ghost use Rattle.model_images.specs.{Agreement.AgreeOutside, Raw.raw};
 
 /// States that a generated image has the sample that was generated, at each position of its box and each of
 /// its channels.

@@ -2,15 +2,13 @@
 
 ghost use Rattle.std.specs.Prelude.{◌≡◌, ◌≢◌, ◌⊎◌, ◌↔◌, replicate, ℕ, ◌+◌, ◌/◌, ◌<◌, ◌≤◌};
 ghost use Rattle.plane_rect.specs.Rectangle.{InLimits, Includes, IsRectangle, Inside, InsideHalved, Rectangle, empty, half, halved, origin};
-ghost use Rattle.pixel_formats.specs.Average.{mean_of_four};
-ghost use Rattle.pixel_formats.specs.Format.{channels};
+ghost use Rattle.plane_rect.specs.Tile.{Tile, tile_at, tile_square};
+ghost use Rattle.pixel_formats.specs.{Average.mean_of_four, Format.channels};
 ghost use Rattle.model_images.specs.Agreement.{AgreeElsewhere, AgreeEverywhere, AgreeOutside, AgreeOver};
 ghost use Rattle.model_images.specs.Image.{Image, IsImage, at};
 ghost use Rattle.model_images.specs.Level.{below, doubled, halved_image, level, level_box, mean_at, source_of_level, tile_at_level};
-ghost use Rattle.model_images.specs.Paint.{cut};
 ghost use Rattle.model_images.specs.Raw.{raw, tile_bytes};
-ghost use Rattle.model_images.specs.FromRaw.{byte_count};
-ghost use Rattle.plane_rect.specs.Tile.{Tile, tile_at, tile_square};
+ghost use Rattle.model_images.specs.{Paint.cut, FromRaw.byte_count};
 
 /// States that level 0 is the image, and each next level halves the one before it.
 pub fn level_after_level()
@@ -27,6 +25,7 @@ pub fn level_is_an_image()
 
 /// States that the box of a level is a rectangle of the plane, in the limits of images, and has a position
 /// exactly where the image's has.
+#[tactic(auto, using(crate::proofs::AgreeingLevels::box_laws))]
 pub fn box_of_a_level()
     ensures rectangle { (image : Image) (z : ℕ) →
         IsRectangle image.box → IsRectangle (level image z).box }

@@ -2,11 +2,11 @@
 
 ghost use Rattle.std.specs.Prelude.{◌≡◌, ℕ, ◌+◌, ◌%◌, ◌<◌, ◌≤◌, false, true};
 ghost use Rattle.std.specs.Int.{abs_diff};
-ghost use Rattle.plane_rect.specs.Rectangle.{Inside, Rectangle, Within};
-ghost use Rattle.pixel_formats.specs.Format.{max_sample};
-ghost use Rattle.pixel_formats.specs.Recolor.{is_alpha};
+ghost use Rattle.plane_rect.specs.Rectangle.{Inside, Within};
+ghost use Rattle.pixel_formats.specs.{Format.max_sample, Recolor.is_alpha};
 ghost use Rattle.model_images.specs.Image.{Image, at};
-ghost use Rattle.model_images.specs.Abyss.{abyss_at, black_sample, nearest, wrapped};
+ghost use Rattle.model_images.specs.Abyss.{abyss_at, nearest, wrapped};
+ghost use Rattle.model_images.specs.Policies.{MovesInside, empty_sample};
 
 use pixel_formats::Abyss;
 
@@ -22,6 +22,7 @@ pub fn nearest_in_a_row()
 /// States that a wrapped number is the one of some numbers in a row that is away by a whole multiple of how
 /// many they are: it leaves the same remainder, and no other of them does. A number that is one of them
 /// stays.
+#[tactic(auto, using(crate::proofs::Sides::wrapped_laws))]
 pub fn wrapped_in_a_row()
     ensures within { (start len n : ℕ) → 0 < len → Within start len (wrapped start len n) }
     ensures stays { (start len n : ℕ) → Within start len n → wrapped start len n ≡ n }
@@ -44,27 +45,15 @@ pub fn none_is_the_image()
 {}
 
 /// States that a clamped image has everywhere the sample of the nearest position, which is in the box if any
-/// does.
+/// is.
 pub fn clamp_is_the_nearest_position()
-    ensures sample { (image : Image) (u v c : ℕ) →
-        abyss_at image Abyss.Clamp u v c
-        ≡ at image
-        (nearest image.box.first_column image.box.width u)
-        (nearest image.box.first_row image.box.height v) c }
-    ensures position { (box : Rectangle) (u v : ℕ) → 0 < box.width → 0 < box.height →
-        Inside (nearest box.first_column box.width u) (nearest box.first_row box.height v) box }
+    ensures { MovesInside Abyss.Clamp nearest }
 {}
 
 /// States that a looped image has everywhere the sample of the wrapped position, which is in the box if any
-/// does, and repeats itself after a width and after a height of the box.
+/// is, and repeats itself after a width and after a height of the box.
 pub fn loop_is_the_wrapped_position()
-    ensures sample { (image : Image) (u v c : ℕ) →
-        abyss_at image Abyss.Loop u v c
-        ≡ at image
-        (wrapped image.box.first_column image.box.width u)
-        (wrapped image.box.first_row image.box.height v) c }
-    ensures position { (box : Rectangle) (u v : ℕ) → 0 < box.width → 0 < box.height →
-        Inside (wrapped box.first_column box.width u) (wrapped box.first_row box.height v) box }
+    ensures moved { MovesInside Abyss.Loop wrapped }
     ensures columns { (image : Image) (u v c : ℕ) → 0 < image.box.width →
         abyss_at image Abyss.Loop (u + image.box.width) v c ≡ abyss_at image Abyss.Loop u v c }
     ensures rows { (image : Image) (u v c : ℕ) → 0 < image.box.height →
@@ -89,16 +78,8 @@ pub fn white_outside()
 /// States that over an image without a position there is no position to clamp to or to loop to, and so 0;
 /// black and white are as they are outside any image.
 pub fn over_no_position()
-    ensures none { (image : Image) → ((u v : ℕ) → ¬ Inside u v image.box) →
-        (u v c : ℕ) → abyss_at image Abyss.None u v c ≡ 0 }
-    ensures clamp { (image : Image) → ((u v : ℕ) → ¬ Inside u v image.box) →
-        (u v c : ℕ) → abyss_at image Abyss.Clamp u v c ≡ 0 }
-    ensures wrap { (image : Image) → ((u v : ℕ) → ¬ Inside u v image.box) →
-        (u v c : ℕ) → abyss_at image Abyss.Loop u v c ≡ 0 }
-    ensures black { (image : Image) → ((u v : ℕ) → ¬ Inside u v image.box) →
-        (u v c : ℕ) → abyss_at image Abyss.Black u v c ≡ black_sample image.format c }
-    ensures white { (image : Image) → ((u v : ℕ) → ¬ Inside u v image.box) →
-        (u v c : ℕ) → abyss_at image Abyss.White u v c ≡ max_sample image.format }
+    ensures { (image : Image) (policy : Abyss) → ((u v : ℕ) → ¬ Inside u v image.box) →
+        (u v c : ℕ) → abyss_at image policy u v c ≡ empty_sample image.format policy c }
 {}
 
 /// States that no policy gives a sample above the format's largest, where the image has none.

@@ -5,10 +5,10 @@ ghost use Rattle.plane_rect.specs.Rectangle.{Includes, Rectangle, area};
 ghost use Rattle.plane_rect.specs.Tile.{Tile};
 ghost use Rattle.pixel_formats.specs.Format.{pixel_bytes};
 ghost use Rattle.model_images.specs.Image.{Image, image_from_fn};
-ghost use Rattle.model_images.specs.FromRaw.{AreBytes};
 ghost use Rattle.model_images.specs.Raw.{raw, tile_bytes};
 ghost use Rattle.model_images.specs.Abyss.{abyss_at, raw_with};
 ghost use Rattle.model_images.specs.Rows.{first_rows, row_below};
+ghost use Rattle.model_images.specs.FromRaw.{AreBytes};
 
 use pixel_formats::Abyss;
 

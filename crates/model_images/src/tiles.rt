@@ -9,9 +9,9 @@ ghost use Rattle.model_images.specs.Agreement.{AgreeElsewhere, AgreeEverywhere};
 ghost use Rattle.model_images.specs.FromRaw.{byte_count, pixels_from_raw};
 ghost use Rattle.model_images.specs.Image.{Image, IsImage, at};
 ghost use Rattle.model_images.specs.Level.{level, tile_at_level};
-ghost use Rattle.model_images.specs.Paint.{cut};
 ghost use Rattle.model_images.specs.Raw.{raw, tile_bytes};
 ghost use Rattle.model_images.specs.Tiles.{AreTileBytes, AreZeroAround, AreZeroOutside, HeldTiles, held_image, hull_of_tiles, put_image, tile_or_zeros};
+ghost use Rattle.model_images.specs.Paint.{cut};
 
 /// States that the raw bytes of a rectangle encode the image's samples there, and so zeros outside its box.
 /// They are zeros where all of these are.
@@ -73,6 +73,7 @@ pub fn images_are_held()
 
 /// States that the hull of tiles is the smallest rectangle that contains them. So tiles that are held are
 /// zero outside the hull of those that were put, if they are among these.
+#[tactic(auto, using(crate::proofs::PutTiles::hull_laws))]
 pub fn hull_contains_tiles()
     ensures rectangle { (tiles : List Tile) → IsRectangle (hull_of_tiles tiles) }
     ensures contains { (tiles : List Tile) (tile : Tile) → Contains tiles tile → IsWhole tile →

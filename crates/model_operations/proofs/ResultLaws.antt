@@ -28,3 +28,5 @@ pub result-at : (op : IntOp) (images : List Image) (u v c : ℕ) → Inside u v 
     → at (result_of op images) u v c ≡ value_at op images u v c
 result-at op images u v c there known =
     at-image_from_fn (result_box op (boxes_of images)) (result_format op (formats_of images)) (value_at op images) u v c there known
+
+pub ruleset result_laws = (result-whole, result-box, result-format, result-at)

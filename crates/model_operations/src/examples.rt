@@ -3,11 +3,10 @@
 
 ghost use Rattle.std.specs.Prelude.{◌≡◌, [], ◌∷◌, negsuc, pos, Some, None, false, true};
 ghost use Rattle.model_images.specs.Examples.{positions_from, row_image};
-ghost use Rattle.model_operations.specs.Boxes.{box_of};
-ghost use Rattle.plane_rect.specs.Rectangle.{empty};
-ghost use Rattle.model_operations.specs.Formats.{format_of};
 ghost use Rattle.model_operations.specs.Regions.{invalidated, required};
 ghost use Rattle.model_operations.specs.Examples.{color, square_around, whole};
+ghost use Rattle.model_operations.specs.{Boxes.box_of, Formats.format_of};
+ghost use Rattle.plane_rect.specs.Rectangle.{empty};
 
 use crate::operation::IntOp;
 use pixel_formats::{Abyss, Format};

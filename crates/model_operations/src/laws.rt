@@ -6,17 +6,15 @@ ghost use Rattle.pixel_formats.specs.Format.{channels, max_sample};
 ghost use Rattle.pixel_formats.specs.declared.format.Format.{Format};
 ghost use Rattle.model_images.specs.Image.{Image, IsImage, at};
 ghost use Rattle.model_images.specs.Paint.{inverted_image};
-ghost use Rattle.model_operations.specs.declared.operation.IntOp.{IntOp};
 ghost use Rattle.model_operations.specs.Boxes.{box_of, result_box};
-ghost use Rattle.model_operations.specs.Formats.{format_of};
 ghost use Rattle.model_operations.specs.Inputs.{boxes_of, formats_of, input_image, input_count};
-ghost use Rattle.model_graphs.specs.Laws.{KeepsNothing};
-ghost use Rattle.model_operations.specs.Meanings.{int_meanings};
 ghost use Rattle.model_operations.specs.Results.{IsInRange, result_format, result_of};
-ghost use Rattle.model_operations.specs.Values.{value_at};
+ghost use Rattle.model_operations.specs.{declared.operation.IntOp.IntOp, Formats.format_of, Meanings.int_meanings, Values.value_at};
+ghost use Rattle.model_graphs.specs.Laws.{KeepsNothing};
 
 /// A result is an image of the box and the format that the operation gives for its inputs, with the
 /// operation's value at each position of the box.
+#[tactic(auto, using(crate::proofs::ResultLaws::result_laws))]
 pub fn result_is_generated()
     ensures whole { (op : IntOp) (images : List Image) → IsImage (result_of op images) }
     ensures bounds { (op : IntOp) (images : List Image) (box : Rectangle) →

@@ -2,11 +2,11 @@
 
 ghost use Rattle.std.specs.Prelude.{◌≡◌, ℕ, ℤ, ◌<◌, ◌↔◌, List, [], ◌∷◌, Some, false, true};
 ghost use Rattle.plane_rect.specs.Rectangle.{Includes, Inside, InsideGrown, Rectangle, is_empty};
-ghost use Rattle.model_operations.specs.declared.operation.IntOp.{IntOp};
 ghost use Rattle.model_operations.specs.Boxes.{box_of, result_box};
 ghost use Rattle.model_operations.specs.Inputs.{input_box, input_count};
 ghost use Rattle.model_operations.specs.Moves.{source_index, mirrored, mirrored_part, moved_into, position, surrounded};
 ghost use Rattle.model_operations.specs.Regions.{IsNearestTo, invalidated, is_pointwise, required};
+ghost use Rattle.model_operations.specs.declared.operation.IntOp.{IntOp};
 
 /// Where each pixel of the result is of the pixels at its own position, a region reads and reaches
 /// itself, as far as it is in the input's box and in the result's.

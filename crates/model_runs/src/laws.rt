@@ -2,12 +2,12 @@
 
 ghost use Rattle.std.specs.Prelude.{◌≡◌, ◌<◌, ◌≤◌, ℕ, List, Some, length, slice_index_or};
 ghost use Rattle.model_runs.specs.Words.{Options, RunScript, request_of};
-ghost use Rattle.outside_io.specs.Files.{Files};
-ghost use Rattle.script_read.specs.declared.command.Line.{Line};
 ghost use Rattle.model_runs.specs.Laws.{AllFit, AreInRange};
 ghost use Rattle.model_runs.specs.Run.{effects_of, events_in};
 ghost use Rattle.model_runs.specs.State.{Numbers, Watched};
 ghost use Rattle.model_runs.specs.Watching.{AreViewersNumbers};
+ghost use Rattle.outside_io.specs.Files.{Files};
+ghost use Rattle.script_read.specs.declared.command.Line.{Line};
 
 /// How many tiles the cache holds changes no file and no text but the report, unless it holds too few for a line.
 pub fn cache_sizes_change_no_raster()

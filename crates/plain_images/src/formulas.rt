@@ -1,13 +1,8 @@
 //! The formulas of samples.
 
 ghost use Rattle.std.specs.Prelude.{◌≡◌, ℕ, ◌<◌, ◌≤◌, ◌^◌};
-ghost use Rattle.pixel_formats.specs.Add.{added};
 ghost use Rattle.pixel_formats.specs.Average.{mean_of_four, mean_of_three};
-ghost use Rattle.pixel_formats.specs.Convert.{rescaled};
-ghost use Rattle.pixel_formats.specs.Gain.{gained};
-ghost use Rattle.pixel_formats.specs.Invert.{inverted};
-ghost use Rattle.pixel_formats.specs.Mask.{scaled_by};
-ghost use Rattle.pixel_formats.specs.Over.{composited};
+ghost use Rattle.pixel_formats.specs.{Add.added, Convert.rescaled, Gain.gained, Invert.inverted, Mask.scaled_by, Over.composited};
 ghost use Rattle.pixel_formats.specs.Threshold.{thresholded};
 
 /// A color subtracted from its cap.

@@ -3,8 +3,7 @@
 ghost use Rattle.std.specs.Prelude.{◌≡◌, ℕ, ◌+◌, ◌/◌, ◌%◌, ◌<◌, ◌≤◌, IfOk};
 ghost use Rattle.plane_rect.specs.Rectangle.{InLimits, IsRectangle, area};
 ghost use Rattle.pixel_formats.specs.Format.{channels, max_sample};
-ghost use Rattle.pixel_formats.specs.Row.{Pixel};
-ghost use Rattle.pixel_formats.specs.declared.format.Format.{Format};
+ghost use Rattle.pixel_formats.specs.{Row.Pixel, declared.format.Format.Format};
 ghost use Rattle.model_images.specs.Image.{at, image_from_fn, sampled};
 ghost use Rattle.model_images.specs.Paint.{no_image};
 ghost use Rattle.plain_images.specs.Picture.{AreSamples, IsPicture, IsPosition};

@@ -3,12 +3,9 @@
 ghost use Rattle.std.specs.Prelude.{◌≡◌, ◌-◌, ◌<◌, ◌≤◌, ◌^◌, IsTrue, if◌then◌else◌};
 ghost use Rattle.plane_rect.specs.Rectangle.{plane_side};
 ghost use Rattle.pixel_formats.specs.Convert.{color_of, converted_pixel, gray_of, is_gray, rechannelled};
-ghost use Rattle.pixel_formats.specs.Format.{max_sample};
-ghost use Rattle.pixel_formats.specs.Mask.{masked_pixel};
-ghost use Rattle.pixel_formats.specs.Over.{over_pixel};
 ghost use Rattle.pixel_formats.specs.Recolor.{cap, is_alpha};
+ghost use Rattle.pixel_formats.specs.{Format.max_sample, Mask.masked_pixel, Over.over_pixel, Limits.is_move};
 ghost use Rattle.model_images.specs.Image.{at};
-ghost use Rattle.pixel_formats.specs.Limits.{is_move};
 ghost use Rattle.model_operations.specs.Moves.{source_index, mirrored};
 ghost use Rattle.model_operations.specs.Values.{checker_pixel, flipped_pixel, square_number};
 

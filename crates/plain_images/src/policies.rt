@@ -2,8 +2,7 @@
 
 ghost use Rattle.std.specs.Prelude.{◌≡◌, ◌+◌, ◌-◌, ◌<◌, ◌≤◌};
 ghost use Rattle.plane_rect.specs.Rectangle.{plane_side};
-ghost use Rattle.pixel_formats.specs.Format.{max_sample};
-ghost use Rattle.pixel_formats.specs.Recolor.{is_alpha};
+ghost use Rattle.pixel_formats.specs.{Format.max_sample, Recolor.is_alpha};
 ghost use Rattle.model_images.specs.Abyss.{abyss_at, nearest, outside_at, wrapped};
 
 use crate::picture::{Picture, Samples};

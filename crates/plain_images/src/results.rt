@@ -1,11 +1,9 @@
 //! The images that operations give.
 
 ghost use Rattle.std.specs.Prelude.{◌≡◌, ◌↔◌, [], ◌∷◌, Some, IfOk, IfSome, IsSome, IsTrue};
-ghost use Rattle.model_operations.specs.Arguments.{in_range};
 ghost use Rattle.model_operations.specs.Formats.{format_of, format_with};
 ghost use Rattle.model_operations.specs.Inputs.{boxes_of, formats_of, input_count};
-ghost use Rattle.model_operations.specs.Results.{result_of};
-ghost use Rattle.model_operations.specs.Values.{value_at};
+ghost use Rattle.model_operations.specs.{Arguments.in_range, Results.result_of, Values.value_at};
 ghost use Rattle.plain_images.specs.Picture.{IsPicture, IsPosition};
 
 use crate::formulas::{added, gained, inverted, thresholded};

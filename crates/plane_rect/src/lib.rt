@@ -7,8 +7,6 @@ mod name_list;
 mod plane;
 mod rect;
 mod sets;
-#[cfg(test)]
-mod tests;
 mod tile;
 
 pub use name::Name;

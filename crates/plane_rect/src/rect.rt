@@ -6,8 +6,8 @@ ghost use Rattle.std.specs.Cmp.{partial_equiv_from_equiv};
 ghost use Rattle.std.specs.Cmp.Rules.{hashing};
 ghost use Rattle.std.specs.Hash as fed;
 ghost use Rattle.std.proofs.Common.{rules};
-ghost use Rattle.plane_rect.specs.SameRectangle.{same_rectangle-laws};
 ghost use Rattle.plane_rect.specs.Rectangle.{BeginsInside, BeginsOutside, EndsInside, EndsOutside, InLimits, IsCoordinate, IsExtent, IsRectangle, Includes, Inside, InsideSigned, Within, WithinSigned, area, begins_inside, end_row, empty, ends_inside, in_limits, is_coordinate, is_empty, is_extent, new_rectangle, offset, origin, plane_coordinate as coordinate_of, plane_index as index_of, plane_side, rectangle, end_column, same_rectangle, spanning};
+ghost use Rattle.plane_rect.specs.SameRectangle.{same_rectangle-laws};
 
 use crate::plane::{PLANE_ORIGIN, plane_coordinate, plane_index};
 use std::hash::{Hash, Hasher};

@@ -1,8 +1,8 @@
 //! Rectangles as sets of positions: inclusion, meet, hull and difference.
 
 ghost use Rattle.std.specs.Prelude.{◌≡◌, ◌≢◌, ℕ, ◌≤◌, ◌↔◌, IsTrue, All, AllPairs, Any, take, drop, filter};
-ghost use Rattle.plane_rect.specs.Parts.{parts_of};
 ghost use Rattle.plane_rect.specs.Rectangle.{AreDisjoint, Includes, Inside, Rectangle, empty, has_positions, hull, includes, meet, minus, surroundings};
+ghost use Rattle.plane_rect.specs.Parts.{parts_of};
 
 use crate::rect::Rect;
 

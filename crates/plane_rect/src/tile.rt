@@ -8,8 +8,8 @@ ghost use Rattle.std.specs.Iterator.{YieldsFirst, item_count};
 ghost use Rattle.std.specs.Ordering.{as_partial_cmp};
 ghost use Rattle.std.proofs.Common.{rules};
 ghost use Rattle.plane_rect.specs.Rectangle.{IsCoordinate, Inside, plane_index as index_of, plane_side};
-ghost use Rattle.plane_rect.specs.SameTile.{same_tile-laws};
 ghost use Rattle.plane_rect.specs.Tile.{IsBefore, IsTile, IsWhole, Meets, Tile, last_tile, plane, same_tile, tile_at, tile_cmp, tile_columns, tile_lines, tile_rectangle, tile_square, tiles};
+ghost use Rattle.plane_rect.specs.SameTile.{same_tile-laws};
 
 use crate::plane::{PLANE_SIDE, plane_index};
 use crate::rect::Rect;

@@ -2,8 +2,8 @@
 
 ghost use Rattle.std.specs.Prelude.{◌≡◌, ℕ, ◌%◌, length};
 ghost use Rattle.pixel_formats.specs.Add.{added, added_pixel};
-ghost use Rattle.pixel_formats.specs.Format.{pixel_bytes};
 ghost use Rattle.pixel_formats.specs.Row.{HasPixels, pixel_at};
+ghost use Rattle.pixel_formats.specs.Format.{pixel_bytes};
 
 use crate::combine::{Combine, combine_rows};
 use pixel_formats::Format;

@@ -3,12 +3,12 @@
 ghost use Rattle.std.specs.Prelude.{◌≡◌, ℕ, ◌+◌, ◌*◌, ◌/◌, ◌%◌, ◌<◌, ◌≤◌, length, refl};
 ghost use Rattle.std.proofs.Common.{rules};
 ghost use Rattle.pixel_formats.specs.Average.{mean_of_four, mean_pixel};
-ghost use Rattle.sample_rows.specs.Averages.{Averages};
+ghost use Rattle.pixel_formats.specs.Row.{HasPixels, pixel_at, sample_at};
 ghost use Rattle.pixel_formats.specs.Format.{pixel_bytes};
 ghost use Rattle.sample_rows.specs.Groups.{MapsPairs, SameGroups, groups};
-ghost use Rattle.simd_samples.specs.Lanes.{HoldTwo};
-ghost use Rattle.pixel_formats.specs.Row.{HasPixels, pixel_at, sample_at};
 ghost use Rattle.sample_rows.specs.SizeLaws.{pair_blocks, vector_blocks, vectors_blocks};
+ghost use Rattle.sample_rows.specs.Averages.{Averages};
+ghost use Rattle.simd_samples.specs.Lanes.{HoldTwo};
 
 use crate::blocks::{PairKernel, transform_rows};
 use pixel_formats::Format;

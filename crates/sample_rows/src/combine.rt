@@ -2,9 +2,9 @@
 
 ghost use Rattle.std.specs.Prelude.{◌≡◌, ℕ, ◌*◌, ◌/◌, ◌%◌, ◌<◌, ◌≤◌, length, refl};
 ghost use Rattle.pixel_formats.specs.Format.{depth, max_sample, max_sample_of, pixel_bytes};
+ghost use Rattle.pixel_formats.specs.Row.{HasPixels, pixel_at};
 ghost use Rattle.sample_rows.specs.Groups.{MapsPairs, SameGroups, groups};
 ghost use Rattle.simd_samples.specs.Lanes.{Hold};
-ghost use Rattle.pixel_formats.specs.Row.{HasPixels, pixel_at};
 
 use crate::vectors::{VectorKernel, transform_vectors};
 use pixel_formats::Format;

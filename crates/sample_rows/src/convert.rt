@@ -4,10 +4,10 @@ ghost use Rattle.std.specs.Prelude.{◌≡◌, ℕ, ◌+◌, ◌*◌, ◌/◌, �
 ghost use Rattle.std.proofs.Common.{rules};
 ghost use Rattle.pixel_formats.specs.Convert.{converted_pixel, rescaled};
 ghost use Rattle.pixel_formats.specs.Format.{channels, depth, max_sample_of, pixel_bytes};
-ghost use Rattle.sample_rows.specs.Groups.{Maps, SameGroups, groups};
-ghost use Rattle.simd_pixels.specs.Components.{component_for};
 ghost use Rattle.pixel_formats.specs.Row.{HasPixels, pixel_at, pixel_count};
+ghost use Rattle.sample_rows.specs.Groups.{Maps, SameGroups, groups};
 ghost use Rattle.sample_rows.specs.SizeLaws.{planes_blocks};
+ghost use Rattle.simd_pixels.specs.Components.{component_for};
 
 use crate::blocks::{RowKernel, transform_row};
 use pixel_formats::Format;

@@ -3,10 +3,10 @@
 ghost use Rattle.std.specs.Prelude.{◌≡◌, ℕ, ◌+◌, ◌-◌, ◌*◌, ◌/◌, ◌%◌, ◌^◌, ◌<◌, ◌≤◌, length, min, nat_le, if◌then◌else◌, ⊤};
 ghost use Rattle.pixel_formats.specs.Format.{max_sample_of, pixel_bytes};
 ghost use Rattle.pixel_formats.specs.Gain.{gained, gained_pixel};
+ghost use Rattle.pixel_formats.specs.Row.{HasPixels, pixel_at};
+ghost use Rattle.pixel_formats.specs.Sample.{unit_of};
 ghost use Rattle.sample_rows.specs.ScaledGain.{scaled};
 ghost use Rattle.simd_samples.specs.Lanes.{Hold};
-ghost use Rattle.pixel_formats.specs.Sample.{unit_of};
-ghost use Rattle.pixel_formats.specs.Row.{HasPixels, pixel_at};
 
 use crate::recolor::{Recolor, recolor_row};
 use pixel_formats::Format;

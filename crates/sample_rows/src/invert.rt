@@ -1,9 +1,9 @@
 //! Inverting colors.
 
 ghost use Rattle.std.specs.Prelude.{◌≡◌, ℕ, ◌%◌, length};
-ghost use Rattle.pixel_formats.specs.Format.{pixel_bytes};
 ghost use Rattle.pixel_formats.specs.Invert.{inverted, inverted_pixel};
 ghost use Rattle.pixel_formats.specs.Row.{HasPixels, pixel_at};
+ghost use Rattle.pixel_formats.specs.Format.{pixel_bytes};
 
 use crate::recolor::{Recolor, recolor_row};
 use pixel_formats::Format;

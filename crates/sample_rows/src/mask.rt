@@ -3,9 +3,9 @@
 ghost use Rattle.std.specs.Prelude.{◌≡◌, ℕ, ◌+◌, ◌*◌, ◌/◌, ◌%◌, ◌<◌, ◌≤◌, length, refl};
 ghost use Rattle.std.proofs.Common.{rules};
 ghost use Rattle.pixel_formats.specs.Format.{depth, max_sample_of, pixel_bytes};
-ghost use Rattle.sample_rows.specs.Groups.{MapsPairs, SameGroups, groups};
 ghost use Rattle.pixel_formats.specs.Mask.{masked_pixel, scaled_by};
 ghost use Rattle.pixel_formats.specs.Row.{HasPixels, pixel_at, pixel_count, sample_at};
+ghost use Rattle.sample_rows.specs.Groups.{MapsPairs, SameGroups, groups};
 ghost use Rattle.sample_rows.specs.SizeLaws.{planes_blocks, vector_blocks};
 
 use crate::blocks::{PairKernel, transform_rows};

@@ -2,9 +2,9 @@
 
 ghost use Rattle.std.specs.Prelude.{◌≡◌, ℕ, ◌+◌, ◌*◌, ◌/◌, ◌%◌, ◌<◌, ◌≤◌, IsTrue, length};
 ghost use Rattle.pixel_formats.specs.Format.{depth, max_sample_of, has_alpha, pixel_bytes};
-ghost use Rattle.sample_rows.specs.Groups.{MapsPairs, SameGroups, groups};
 ghost use Rattle.pixel_formats.specs.Over.{composited, over_pixel};
 ghost use Rattle.pixel_formats.specs.Row.{HasPixels, pixel_at};
+ghost use Rattle.sample_rows.specs.Groups.{MapsPairs, SameGroups, groups};
 
 use crate::vectors::{VectorKernel, transform_vectors};
 use pixel_formats::Format;

@@ -2,10 +2,10 @@
 
 ghost use Rattle.std.specs.Prelude.{◌≡◌, ℕ, ◌+◌, ◌*◌, ◌/◌, ◌%◌, ◌<◌, length, if◌then◌else◌};
 ghost use Rattle.sample_rows.specs.SizeLaws.{twice_some, two_vectors_blocks};
-ghost use Rattle.pixel_formats.specs.Format.{depth, max_sample_of, pixel_bytes};
 ghost use Rattle.sample_rows.specs.Groups.{Maps, SameGroups, groups};
-ghost use Rattle.pixel_formats.specs.Recolor.{recolored};
+ghost use Rattle.pixel_formats.specs.Format.{depth, max_sample_of, pixel_bytes};
 ghost use Rattle.pixel_formats.specs.Row.{HasPixels, pixel_at};
+ghost use Rattle.pixel_formats.specs.Recolor.{recolored};
 
 use crate::blocks::{RowKernel, transform_row};
 use pixel_formats::Format;

@@ -2,9 +2,9 @@
 
 ghost use Rattle.std.specs.Prelude.{◌≡◌, ℕ, ◌%◌, length, min};
 ghost use Rattle.pixel_formats.specs.Format.{max_sample_of, pixel_bytes};
-ghost use Rattle.pixel_formats.specs.Recolor.{recolored};
 ghost use Rattle.pixel_formats.specs.Row.{HasPixels, pixel_at};
 ghost use Rattle.pixel_formats.specs.Threshold.{thresholded, thresholded_pixel};
+ghost use Rattle.pixel_formats.specs.Recolor.{recolored};
 
 use crate::recolor::{Recolor, recolor_row};
 use pixel_formats::Format;

@@ -1,7 +1,7 @@
 -- Products, sums and quotients of vectors that are computed in wider lanes, of numbers below w, and cast back.
 use Rattle.std.proofs.Common.{◌≡◌, ℕ, ◌+◌, ◌*◌, ◌/◌, ◌%◌, ◌^◌, ◌<◌, ◌≤◌, List, length, get_or, map, replicate, refl, ap, ◌∙◌, arith, w8, w16, w32, Fits}
 use Rattle.std.proofs.Math.Nat.{mod-eq_of_lt, mul-le-mul}
-use Rattle.std.proofs.lemmas.Simd.{Each1-all, Each1-from_get_or, Each2-splat, get_or-replicate}
+use Rattle.std.proofs.lemmas.Simd.{Each1-all, Each1-from_get_or, Each1-get_or, Each2-splat, get_or-replicate}
 use lib.Lanes.{zip2, Each1, Each2}
 use Rattle.pixel_formats.specs.Sample.{mean_of_four, mean_of_three, scaled_by}
 use Rattle.simd_samples.specs.Lanes.{AreLanes}
@@ -39,6 +39,17 @@ fit_words v p = Each1-from_get_or (Fits w16) v 0 (λ i lt. record { fits = p.bel
 
 pub fit_longs : (v : List ℕ) → AreLanes 4294967296 v → Each1 (Fits w32) v
 fit_longs v p = Each1-from_get_or (Fits w32) v 0 (λ i lt. record { fits = p.below i })
+
+-- the lanes of a vector are below the bound of their type
+AreLanes-fitting : (bound : ℕ) (P : ℕ → Type 0) → 0 < bound → ((a : ℕ) → P a → a < bound) → (v : List ℕ) → length v ≡ 16 → Each1 P v → AreLanes bound v
+AreLanes-fitting bound P some small v long fits =
+    (Makes-from_lanes bound v (λ j. get_or v j 0) some long (λ j lt. refl) (λ j lt. small _ (Each1-get_or P v j 0 (omega (arith, long, lt)) fits))).0
+
+pub AreLanes-bytes : (v : List ℕ) → length v ≡ 16 → Each1 (Fits w8) v → AreLanes 256 v
+AreLanes-bytes = AreLanes-fitting 256 (Fits w8) (omega arith) (λ a h. h.fits)
+
+pub AreLanes-words : (v : List ℕ) → length v ≡ 16 → Each1 (Fits w16) v → AreLanes 65536 v
+AreLanes-words = AreLanes-fitting 65536 (Fits w16) (omega arith) (λ a h. h.fits)
 
 -- ---- scaled samples
 
@@ -121,7 +132,7 @@ Makes-cast bound v value some p =
     Makes-from_two (λ xs ys. map same xs) (λ a b. a) (λ a b xs ys. refl) refl bound value some v v p.0.long p.0.long
     (λ j lt. (p.1 j lt, omega (arith, p.1 j lt, p.0.below j)))
 
-pub AreLanes-cast : (bound : ℕ) (v : List ℕ) → 0 < bound → length v ≡ 16 → ((j : ℕ) → j < 16 → get_or v j 0 < bound) → AreLanes bound (map same v)
+AreLanes-cast : (bound : ℕ) (v : List ℕ) → 0 < bound → length v ≡ 16 → ((j : ℕ) → j < 16 → get_or v j 0 < bound) → AreLanes bound (map same v)
 AreLanes-cast bound v some long small =
     let value : ℕ → ℕ = λ j. get_or v j 0 in
     (Makes-cast bound v value some (Makes-from_lanes bound v value some long (λ j lt. refl) small)).0

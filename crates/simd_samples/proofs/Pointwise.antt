@@ -22,6 +22,10 @@ Makes-from_lanes bound v value some long holds small = (
   holds,
 )
 
+-- lanes that are others hold what those hold
+pub Hold-of : {v w : List ℕ} {value : ℕ → ℕ} → v ≡ w → Hold (λ j. get_or w j 0) value → Hold (λ j. get_or v j 0) value
+Hold-of same holds j lt = ap (λ l. get_or l j 0) same ∙ holds j lt
+
 module _ (F : List ℕ → List ℕ → List ℕ → List ℕ → List ℕ) (f : ℕ → ℕ → ℕ → ℕ → ℕ)
     (step : (x y z w : ℕ) (xs ys zs ws : List ℕ) → F (x ∷ xs) (y ∷ ys) (z ∷ zs) (w ∷ ws) ≡ f x y z w ∷ F xs ys zs ws) where
   lane_of_four : (n j : ℕ) (xs ys zs ws : List ℕ) → length xs ≡ n → length ys ≡ n → length zs ≡ n → length ws ≡ n → j < n → get_or (F xs ys zs ws) j 0 ≡ f (get_or xs j 0) (get_or ys j 0) (get_or zs j 0) (get_or ws j 0)

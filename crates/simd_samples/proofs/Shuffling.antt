@@ -1,6 +1,6 @@
 -- Vectors that are shuffled. The lanes of two vectors stand one after the other, and each lane of the result is picked
 -- by its position there.
-use Rattle.std.proofs.Common.{◌≡◌, ℕ, zero, suc, ◌+◌, ◌-◌, ◌<◌, ◌≤◌, Bool, true, false, ◌&&◌, cond, eqb, ltb, T, List, ◌++◌, length, get_or, refl, sym, ap, ◌∙◌, subst, inl, inr, arith, eqb→eq, ltb→lt, ltb-true, ltb-false}
+use Rattle.std.proofs.Common.{◌≡◌, ℕ, zero, suc, ◌+◌, ◌-◌, ◌<◌, ◌≤◌, Bool, true, false, ◌&&◌, cond, eqb, ltb, T, List, ◌++◌, length, get_or, refl, ap, ◌∙◌, subst, inl, inr, arith, eqb→eq, ltb→lt, ltb-true, ltb-false}
 use Rattle.std.proofs.lemmas.Bool.{cases_lt}
 use Rattle.std.proofs.lemmas.List.{get_or-map, get_or_append_left, get_or-append_right, length-map}
 use lib.Lanes.{pick_l}
@@ -89,9 +89,6 @@ module _ (bound : ℕ) (some : 0 < bound) (xs ys zs : List ℕ) (p : AreLanes bo
   middle_lanes : AreLanes bound middle
   middle_lanes = (Makes-picked bound some xs ys p q by_two long).0
 
-  pub AreLanes-shuffled_twice : AreLanes bound (pick_l 0 (middle ++ zs) by_last)
-  AreLanes-shuffled_twice = (Makes-picked bound some middle zs middle_lanes r by_last long_last).0
-
   module _ (s : ℕ → ℕ) (all : HoldThree (λ j. get_or xs j 0) (λ j. get_or ys j 0) (λ j. get_or zs j 0) s) where
     from_two : (k : ℕ) → k < 16 → T (ltb (get_or by_two k 0) 32) → get_or (middle ++ zs) k 0 ≡ s (get_or by_two k 0)
     from_two k lt near =
@@ -150,9 +147,6 @@ table_of_three-is JoinedThird = (refl, refl, tt)
 
 module _ (bound : ℕ) (some : 0 < bound) (xs ys v : List ℕ) (p : AreLanes bound xs) (q : AreLanes bound ys) (w : ShuffleOfTwo)
     (made : v ≡ shuffled_of_two xs ys w) where
-  pub AreLanes-of_two : AreLanes bound v
-  AreLanes-of_two = subst (AreLanes bound) (sym made) (Makes-picked bound some xs ys p q (table_of_two w) (table_of_two-is w).0).0
-
   pub Hold-of_two : (s : ℕ → ℕ) → HoldTwo (λ j. get_or xs j 0) (λ j. get_or ys j 0) s → Hold (λ j. get_or v j 0) (λ j. s (position_of_two w j))
   Hold-of_two s both j lt =
       let is = table_of_two-is w in
@@ -164,11 +158,6 @@ module _ (bound : ℕ) (some : 0 < bound) (xs ys zs two v : List ℕ) (p : AreLa
     (made_two : two ≡ picked (xs ++ ys) (table_of_three w)) (made_last : v ≡ picked (two ++ zs) (table_of_last w)) where
   made : v ≡ shuffled_of_three xs ys zs w
   made = made_last ∙ ap (λ l. picked (l ++ zs) (table_of_last w)) made_two
-
-  pub AreLanes-of_three : AreLanes bound v
-  AreLanes-of_three =
-      let is = table_of_three-is w in
-      subst (AreLanes bound) (sym made) (AreLanes-shuffled_twice bound some xs ys zs p q r (table_of_three w) (table_of_last w) is.0 is.1)
 
   pub Hold-of_three : (s : ℕ → ℕ) → HoldThree (λ j. get_or xs j 0) (λ j. get_or ys j 0) (λ j. get_or zs j 0) s → Hold (λ j. get_or v j 0) (λ j. s (position_of_three w j))
   Hold-of_three s all j lt =

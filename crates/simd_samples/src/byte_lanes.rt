@@ -2,8 +2,8 @@
 
 ghost use Rattle.std.specs.Prelude.{◌≡◌, ◌*◌, ◌++◌, slice_index, refl};
 ghost use Rattle.std.proofs.Common.{rules};
-ghost use Rattle.simd_samples.specs.Lanes.{AreLanes};
 ghost use Rattle.simd_samples.specs.Shuffle.{picked, shuffled_of_two, table_of_last, table_of_three};
+ghost use Rattle.simd_samples.specs.Lanes.{AreLanes};
 
 use crate::lanes::Lanes;
 use crate::quotients::limited_quotients;
@@ -18,6 +18,16 @@ use std::simd::prelude::*;
 pub struct ByteLanes {
     pub(crate) lanes: u8x16,
     ghost samples: { AreLanes 256 lanes },
+}
+
+impl ByteLanes {
+    /// Takes the lanes of a vector as samples.
+    #[inline(always)]
+    fn new(lanes: u8x16) -> Self
+        ensures { result.lanes ≡ lanes }
+    {
+        ByteLanes { lanes }
+    }
 }
 
 impl Lanes for ByteLanes {
@@ -35,9 +45,7 @@ impl Lanes for ByteLanes {
 
     #[inline(always)]
     fn load(src: &[u8]) -> Self {
-        ByteLanes {
-            lanes: u8x16::from_slice(src),
-        }
+        ByteLanes::new(u8x16::from_slice(src))
     }
 
     #[inline(always)]
@@ -54,102 +62,76 @@ impl Lanes for ByteLanes {
 
     #[inline(always)]
     fn narrow(wide: WideLanes) -> Self {
-        ByteLanes {
-            lanes: wide.lanes.cast::<u8>(),
-        }
+        ByteLanes::new(wide.lanes.cast::<u8>())
     }
 
     #[inline(always)]
     fn max_sample() -> Self {
-        ByteLanes {
-            lanes: u8x16::splat(u8::MAX),
-        }
+        ByteLanes::new(u8x16::splat(u8::MAX))
     }
 
     #[inline(always)]
     fn saturating_sub(self, other: Self) -> Self {
-        ByteLanes {
-            lanes: self.lanes.saturating_sub(other.lanes),
-        }
+        ByteLanes::new(self.lanes.saturating_sub(other.lanes))
     }
 
     #[inline(always)]
     fn saturating_add(self, other: Self) -> Self {
-        ByteLanes {
-            lanes: self.lanes.saturating_add(other.lanes),
-        }
+        ByteLanes::new(self.lanes.saturating_add(other.lanes))
     }
 
     #[inline(always)]
     fn min(self, other: Self) -> Self {
-        ByteLanes {
-            lanes: self.lanes.simd_min(other.lanes),
-        }
+        ByteLanes::new(self.lanes.simd_min(other.lanes))
     }
 
     #[inline(always)]
     fn max(self, other: Self) -> Self {
-        ByteLanes {
-            lanes: self.lanes.simd_max(other.lanes),
-        }
+        ByteLanes::new(self.lanes.simd_max(other.lanes))
     }
 
     #[inline(always)]
     fn splat(sample: u32) -> Self {
-        ByteLanes {
-            lanes: u8x16::splat(sample.min(u32::from(u8::MAX)) as u8),
-        }
+        ByteLanes::new(u8x16::splat(sample.min(u32::from(u8::MAX)) as u8))
     }
 
     #[inline(always)]
     fn threshold(self, colors: Self, thresholds: Self) -> Self {
         let reached = thresholds.lanes.simd_le(colors.lanes);
-        ByteLanes {
-            lanes: reached.select(self.lanes, u8x16::splat(0)),
-        }
+        ByteLanes::new(reached.select(self.lanes, u8x16::splat(0)))
     }
 
     #[inline(always)]
     fn scale_by(self, weights: Self) -> Self {
         let sum = self.lanes.cast::<u16>() * weights.lanes.cast::<u16>() + u16x16::splat(127);
-        ByteLanes {
-            lanes: (sum / u16x16::splat(255)).cast::<u8>(),
-        }
+        ByteLanes::new((sum / u16x16::splat(255)).cast::<u8>())
     }
 
     #[inline(always)]
     fn scale(self, factor: u64, offset: u64) -> Self {
         let products = self.lanes.cast::<u32>() * u32x16::splat(factor as u32);
         let scaled = (products + u32x16::splat(offset as u32)) >> u32x16::splat(24);
-        ByteLanes {
-            lanes: scaled.cast::<u8>(),
-        }
+        ByteLanes::new(scaled.cast::<u8>())
     }
 
     #[inline(always)]
     fn divide(self, number: u64, offset: u64, divisor: u64) -> Self {
         let samples = self.lanes.cast::<u64>();
         let quotients = limited_quotients(samples, number, offset, divisor, 255);
-        ByteLanes {
-            lanes: quotients.cast::<u8>(),
-        }
+        ByteLanes::new(quotients.cast::<u8>())
     }
 
     #[inline(always)]
     fn max_above(self, colors: Self, limits: Self) -> Self {
         let within = colors.lanes.simd_le(limits.lanes);
-        ByteLanes {
-            lanes: within.select(self.lanes, u8x16::splat(u8::MAX)),
-        }
+        ByteLanes::new(within.select(self.lanes, u8x16::splat(u8::MAX)))
     }
 
     #[inline(always)]
     fn mean_of_three(self, second: Self, third: Self) -> Self {
         let pair = self.lanes.cast::<u16>() + second.lanes.cast::<u16>();
         let sum = pair + (third.lanes.cast::<u16>() + u16x16::splat(1));
-        ByteLanes {
-            lanes: (sum / u16x16::splat(3)).cast::<u8>(),
-        }
+        ByteLanes::new((sum / u16x16::splat(3)).cast::<u8>())
     }
 
     #[inline(always)]
@@ -157,24 +139,18 @@ impl Lanes for ByteLanes {
         let pair = self.lanes.cast::<u16>() + second.lanes.cast::<u16>();
         let other = third.lanes.cast::<u16>() + fourth.lanes.cast::<u16>();
         let sum = pair + other + u16x16::splat(2);
-        ByteLanes {
-            lanes: (sum >> u16x16::splat(2)).cast::<u8>(),
-        }
+        ByteLanes::new((sum >> u16x16::splat(2)).cast::<u8>())
     }
 
     #[inline(always)]
     fn shuffle_two(self, second: Self, shuffle: ShuffleOfTwo) -> Self {
-        ByteLanes {
-            lanes: bytes_of_two(self.lanes, second.lanes, shuffle),
-        }
+        ByteLanes::new(bytes_of_two(self.lanes, second.lanes, shuffle))
     }
 
     #[inline(always)]
     fn shuffle_three(self, second: Self, third: Self, shuffle: ShuffleOfThree) -> Self {
         let two = bytes_of_first_two(self.lanes, second.lanes, shuffle);
-        ByteLanes {
-            lanes: bytes_with_third(two, third.lanes, shuffle),
-        }
+        ByteLanes::new(bytes_with_third(two, third.lanes, shuffle))
     }
 
     ghost sixteen = { refl };

@@ -2,8 +2,8 @@
 
 ghost use Rattle.std.specs.Prelude.{◌≡◌, ◌*◌, ◌++◌, slice_index, refl};
 ghost use Rattle.std.proofs.Common.{rules};
-ghost use Rattle.simd_samples.specs.Lanes.{AreLanes};
 ghost use Rattle.simd_samples.specs.Shuffle.{picked, shuffled_of_two, table_of_last, table_of_three};
+ghost use Rattle.simd_samples.specs.Lanes.{AreLanes};
 
 use crate::lanes::Lanes;
 use crate::quotients::limited_quotients;
@@ -18,6 +18,16 @@ use std::simd::prelude::*;
 pub struct WordLanes {
     pub(crate) lanes: u16x16,
     ghost samples: { AreLanes 65536 lanes },
+}
+
+impl WordLanes {
+    /// Takes the lanes of a vector as samples.
+    #[inline(always)]
+    fn new(lanes: u16x16) -> Self
+        ensures { result.lanes ≡ lanes }
+    {
+        WordLanes { lanes }
+    }
 }
 
 impl Lanes for WordLanes {
@@ -35,9 +45,7 @@ impl Lanes for WordLanes {
 
     #[inline(always)]
     fn load(src: &[u8]) -> Self {
-        WordLanes {
-            lanes: u16x16::from_le_bytes(u8x32::from_slice(src)),
-        }
+        WordLanes::new(u16x16::from_le_bytes(u8x32::from_slice(src)))
     }
 
     #[inline(always)]
@@ -54,59 +62,43 @@ impl Lanes for WordLanes {
 
     #[inline(always)]
     fn narrow(wide: WideLanes) -> Self {
-        WordLanes {
-            lanes: wide.lanes.cast::<u16>(),
-        }
+        WordLanes::new(wide.lanes.cast::<u16>())
     }
 
     #[inline(always)]
     fn max_sample() -> Self {
-        WordLanes {
-            lanes: u16x16::splat(u16::MAX),
-        }
+        WordLanes::new(u16x16::splat(u16::MAX))
     }
 
     #[inline(always)]
     fn saturating_sub(self, other: Self) -> Self {
-        WordLanes {
-            lanes: self.lanes.saturating_sub(other.lanes),
-        }
+        WordLanes::new(self.lanes.saturating_sub(other.lanes))
     }
 
     #[inline(always)]
     fn saturating_add(self, other: Self) -> Self {
-        WordLanes {
-            lanes: self.lanes.saturating_add(other.lanes),
-        }
+        WordLanes::new(self.lanes.saturating_add(other.lanes))
     }
 
     #[inline(always)]
     fn min(self, other: Self) -> Self {
-        WordLanes {
-            lanes: self.lanes.simd_min(other.lanes),
-        }
+        WordLanes::new(self.lanes.simd_min(other.lanes))
     }
 
     #[inline(always)]
     fn max(self, other: Self) -> Self {
-        WordLanes {
-            lanes: self.lanes.simd_max(other.lanes),
-        }
+        WordLanes::new(self.lanes.simd_max(other.lanes))
     }
 
     #[inline(always)]
     fn splat(sample: u32) -> Self {
-        WordLanes {
-            lanes: u16x16::splat(sample.min(u32::from(u16::MAX)) as u16),
-        }
+        WordLanes::new(u16x16::splat(sample.min(u32::from(u16::MAX)) as u16))
     }
 
     #[inline(always)]
     fn threshold(self, colors: Self, thresholds: Self) -> Self {
         let reached = thresholds.lanes.simd_le(colors.lanes);
-        WordLanes {
-            lanes: reached.select(self.lanes, u16x16::splat(0)),
-        }
+        WordLanes::new(reached.select(self.lanes, u16x16::splat(0)))
     }
 
     #[inline(always)]
@@ -114,44 +106,34 @@ impl Lanes for WordLanes {
         let sum = self.lanes.cast::<u32>() * weights.lanes.cast::<u32>() + u32x16::splat(32_767);
         // Dividing by 65,535 with shifts, which is exact for what two samples give.
         let quotient = (sum + u32x16::splat(1) + (sum >> u32x16::splat(16))) >> u32x16::splat(16);
-        WordLanes {
-            lanes: quotient.cast::<u16>(),
-        }
+        WordLanes::new(quotient.cast::<u16>())
     }
 
     #[inline(always)]
     fn scale(self, factor: u64, offset: u64) -> Self {
         let products = self.lanes.cast::<u64>() * u64x16::splat(factor);
         let scaled = (products + u64x16::splat(offset)) >> u64x16::splat(32);
-        WordLanes {
-            lanes: scaled.cast::<u16>(),
-        }
+        WordLanes::new(scaled.cast::<u16>())
     }
 
     #[inline(always)]
     fn divide(self, number: u64, offset: u64, divisor: u64) -> Self {
         let samples = self.lanes.cast::<u64>();
         let quotients = limited_quotients(samples, number, offset, divisor, 65_535);
-        WordLanes {
-            lanes: quotients.cast::<u16>(),
-        }
+        WordLanes::new(quotients.cast::<u16>())
     }
 
     #[inline(always)]
     fn max_above(self, colors: Self, limits: Self) -> Self {
         let within = colors.lanes.simd_le(limits.lanes);
-        WordLanes {
-            lanes: within.select(self.lanes, u16x16::splat(u16::MAX)),
-        }
+        WordLanes::new(within.select(self.lanes, u16x16::splat(u16::MAX)))
     }
 
     #[inline(always)]
     fn mean_of_three(self, second: Self, third: Self) -> Self {
         let pair = self.lanes.cast::<u32>() + second.lanes.cast::<u32>();
         let sum = pair + (third.lanes.cast::<u32>() + u32x16::splat(1));
-        WordLanes {
-            lanes: (sum / u32x16::splat(3)).cast::<u16>(),
-        }
+        WordLanes::new((sum / u32x16::splat(3)).cast::<u16>())
     }
 
     #[inline(always)]
@@ -159,24 +141,18 @@ impl Lanes for WordLanes {
         let pair = self.lanes.cast::<u32>() + second.lanes.cast::<u32>();
         let other = third.lanes.cast::<u32>() + fourth.lanes.cast::<u32>();
         let sum = pair + other + u32x16::splat(2);
-        WordLanes {
-            lanes: (sum >> u32x16::splat(2)).cast::<u16>(),
-        }
+        WordLanes::new((sum >> u32x16::splat(2)).cast::<u16>())
     }
 
     #[inline(always)]
     fn shuffle_two(self, second: Self, shuffle: ShuffleOfTwo) -> Self {
-        WordLanes {
-            lanes: words_of_two(self.lanes, second.lanes, shuffle),
-        }
+        WordLanes::new(words_of_two(self.lanes, second.lanes, shuffle))
     }
 
     #[inline(always)]
     fn shuffle_three(self, second: Self, third: Self, shuffle: ShuffleOfThree) -> Self {
         let two = words_of_first_two(self.lanes, second.lanes, shuffle);
-        WordLanes {
-            lanes: words_with_third(two, third.lanes, shuffle),
-        }
+        WordLanes::new(words_with_third(two, third.lanes, shuffle))
     }
 
     ghost sixteen = { refl };

@@ -1,11 +1,8 @@
 use Rattle.model_images.proofs.PolicyLaws as laws
 use Rattle.model_images.proofs.policies.loop_is_the_wrapped_position.Goals as goal
 
-pub returns-clause-sample : goal.returns-clause-sample
-returns-clause-sample c = laws.loop-everywhere
-
-pub returns-clause-position : goal.returns-clause-position
-returns-clause-position c = laws.loop-position
+pub returns-clause-moved : goal.returns-clause-moved
+returns-clause-moved c = laws.loop-moves
 
 pub returns-clause-columns : goal.returns-clause-columns
 returns-clause-columns c = laws.loop-columns

@@ -1,14 +1,8 @@
 use Rattle.model_images.proofs.PutTiles as laws
 use Rattle.model_images.proofs.tiles.hull_contains_tiles.Goals as goal
 
-pub returns-clause-rectangle : goal.returns-clause-rectangle
-returns-clause-rectangle c = laws.hull-is
-
 pub returns-clause-contains : goal.returns-clause-contains
 returns-clause-contains c = laws.hull-square
-
-pub returns-clause-around : goal.returns-clause-around
-returns-clause-around c = laws.around-hull
 
 pub returns-clause-smallest : goal.returns-clause-smallest
 returns-clause-smallest c = laws.hull-smallest

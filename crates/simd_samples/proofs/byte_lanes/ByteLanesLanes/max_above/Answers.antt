@@ -1,11 +1,7 @@
 use Rattle.std.proofs.Common.{arith}
 use Rattle.simd_samples.proofs.Reached.{Makes-reached, reached_bytes}
+use Rattle.simd_samples.proofs.Pointwise.{Hold-of}
 use Rattle.simd_samples.proofs.byte_lanes.ByteLanesLanes.max_above.Goals as goal
 
-pub invariant_of-result : goal.invariant_of-result
-invariant_of-result c =
-    record { samples = (Makes-reached 7 256 255 (omega arith) (omega arith) reached_bytes c.args.colors.lanes c.args.limits.lanes c.args.self.lanes c.args.colors.samples c.args.limits.samples c.args.self.samples).0 }
-
 pub returns : goal.returns
-returns c =
-    (Makes-reached 7 256 255 (omega arith) (omega arith) reached_bytes c.args.colors.lanes c.args.limits.lanes c.args.self.lanes c.args.colors.samples c.args.limits.samples c.args.self.samples).1
+returns c = Hold-of c.new.ensures (Makes-reached 7 256 255 (omega arith) (omega arith) reached_bytes c.args.colors.lanes c.args.limits.lanes c.args.self.lanes c.args.colors.samples c.args.limits.samples c.args.self.samples).1

@@ -1,15 +1,13 @@
 use Rattle.std.proofs.Common.{arith}
 use Rattle.simd_samples.proofs.Arithmetic.{Makes-cast, Makes-means_of_three, divides, fit_bytes}
+use Rattle.simd_samples.proofs.Pointwise.{Hold-of}
 use Rattle.simd_samples.proofs.byte_lanes.ByteLanesLanes.mean_of_three.Goals as goal
 
-pub nonzero_div-result : goal.nonzero_div-result
-nonzero_div-result c = divides _ 3 (omega arith)
+pub nonzero_div-sum : goal.nonzero_div-sum
+nonzero_div-sum c = divides _ 3 (omega arith)
 
-pub overflow_cast-result : goal.overflow_cast-result
-overflow_cast-result c = fit_bytes _ (Makes-means_of_three 65536 256 (omega arith) (omega arith) _ _ _ c.args.self.lanes c.args.self.samples c.args.second.samples c.args.third.samples).0
-
-pub invariant_of-result : goal.invariant_of-result
-invariant_of-result c = record { samples = (Makes-cast 256 _ _ (omega arith) (Makes-means_of_three 65536 256 (omega arith) (omega arith) _ _ _ c.args.self.lanes c.args.self.samples c.args.second.samples c.args.third.samples)).0 }
+pub overflow_cast-sum-2 : goal.overflow_cast-sum-2
+overflow_cast-sum-2 c = fit_bytes _ (Makes-means_of_three 65536 256 (omega arith) (omega arith) _ _ _ c.args.self.lanes c.args.self.samples c.args.second.samples c.args.third.samples).0
 
 pub returns : goal.returns
-returns c = (Makes-cast 256 _ _ (omega arith) (Makes-means_of_three 65536 256 (omega arith) (omega arith) _ _ _ c.args.self.lanes c.args.self.samples c.args.second.samples c.args.third.samples)).1
+returns c = Hold-of c.new.ensures (Makes-cast 256 _ _ (omega arith) (Makes-means_of_three 65536 256 (omega arith) (omega arith) _ _ _ c.args.self.lanes c.args.self.samples c.args.second.samples c.args.third.samples)).1

@@ -1,9 +1,6 @@
 use Rattle.simd_samples.proofs.Saturation.{Makes-minimum, highest_of_words}
+use Rattle.simd_samples.proofs.Pointwise.{Hold-of}
 use Rattle.simd_samples.proofs.word_lanes.WordLanesLanes.min.Goals as goal
 
-pub invariant_of-result : goal.invariant_of-result
-invariant_of-result c =
-    record { samples = (Makes-minimum 15 65536 highest_of_words c.args.self.lanes c.args.other.lanes c.args.self.samples c.args.other.samples).0 }
-
 pub returns : goal.returns
-returns c = (Makes-minimum 15 65536 highest_of_words c.args.self.lanes c.args.other.lanes c.args.self.samples c.args.other.samples).1
+returns c = Hold-of c.new.ensures (Makes-minimum 15 65536 highest_of_words c.args.self.lanes c.args.other.lanes c.args.self.samples c.args.other.samples).1
