@@ -1,7 +1,6 @@
 -- A part that is grown by a radius, and what of a box is in it.
 use Rattle.std.proofs.Common.{◌≡◌, ℕ, ◌+◌, ◌-◌, ◌*◌, ◌<◌, ◌≤◌, min, max, sym, subst, arith}
-use Rattle.std.proofs.lemmas.Nat.{mul-le}
-use Rattle.plane_rect.specs.Rectangle.{InLimits, Inside, Rectangle, Within, end_column, end_row, spanning}
+use Rattle.plane_rect.specs.Rectangle.{Inside, Rectangle, Within, end_column, end_row, spanning}
 use Rattle.plane_rect.proofs.Rectangles.{rectangle-some}
 use Rattle.model_images.specs.Abyss.{nearest}
 use Rattle.area_ops.specs.Grown.{IsNear, IsPartNear, counted_part, near_part}
@@ -69,15 +68,6 @@ module _ (radius : ℕ) (box part : Rectangle) (near : IsNear radius box part) w
 
   pub IsPartNear-near : IsPartNear radius part (near_part radius box part)
   IsPartNear-near = subst (IsPartNear radius part) (sym near-is) near-within
-
-  near-few : (part.width ≤ 64) → (part.height ≤ 64) → radius ≤ 64 → InLimits spanned
-  near-few wide high few =
-      let columns : c - a ≤ 192 = omega arith in
-      let rows : d - b ≤ 192 = omega arith in
-      (omega (arith, columns), omega (arith, rows), omega (arith, mul-le (c - a) (d - b) 192 192 columns rows))
-
-  pub InLimits-near : (part.width ≤ 64) → (part.height ≤ 64) → radius ≤ 64 → InLimits (near_part radius box part)
-  InLimits-near wide high few = subst InLimits (sym near-is) (near-few wide high few)
 
   spanned-sides : AreNearSides radius part box spanned (counted_part radius part spanned)
   spanned-sides =

@@ -193,13 +193,6 @@ module _ (kind : AreaKind) (radius : ℕ) (policy : Abyss) (image : Image) (out 
       made ∙ ap (blank out) its_format ∙ no-squares kind radius policy image out is inside none
   nothing-made format (Err refused) its_format none made = tt
 
--- there is room for what a kernel reads
-pub room-made : (image : Image) (radius : ℕ) (policy : Abyss) (out : Rectangle) (format : Format) (r w h : ℕ) (old read : List ℕ)
-    → format ≡ image.format → r ≡ radius → w ≡ out.width → h ≡ out.height → old ≡ read → HoldsGrown image radius policy out read
-    → depth format * ((h + 2 * r) * ((w + 2 * r) * channels format) + 16) ≤ length old
-room-made image radius policy out format r w h old read its_format its_radius its_width its_height is_read held =
-    rw (its_format, its_radius, its_width, its_height, is_read) held.room
-
 pub count-made : (out : Rectangle) (format : Format) (w h n : ℕ) → w ≡ out.width → h ≡ out.height → n ≡ depth format * (h * (w * channels format)) → n ≡ byte_count out format
 count-made out format w h n its_width its_height is =
     is ∙ ap (λ (x : ℕ). depth format * (h * (x * channels format))) its_width ∙ ap (λ (x : ℕ). depth format * (x * (out.width * channels format))) its_height ∙ omega arith

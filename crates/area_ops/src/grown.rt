@@ -4,8 +4,7 @@ ghost use Rattle.std.specs.Prelude.{◌≡◌, ◌≢◌, ℕ, ◌+◌, ◌*◌,
 ghost use Rattle.plane_rect.specs.Rectangle.{InLimits, Rectangle};
 ghost use Rattle.pixel_formats.specs.Format.{channels, depth};
 ghost use Rattle.pixel_formats.specs.Limits.{suits_areas};
-ghost use Rattle.model_images.specs.FromRaw.{image_from_raw};
-ghost use Rattle.model_images.specs.Raw.{raw};
+ghost use Rattle.model_images.specs.{FromRaw.image_from_raw, Raw.raw};
 ghost use Rattle.model_graphs.specs.Windows.{IsWholeWindow, window_image};
 ghost use Rattle.area_ops.specs.Grown.{HoldsGrown, IsNear, IsPartNear, counted_part, near_part};
 

@@ -1,8 +1,7 @@
 //! A law by which callers show what an area operation asks of its arguments.
 
 ghost use Rattle.std.specs.Prelude.{ℕ, IsSome, List};
-ghost use Rattle.pixel_formats.specs.Limits.{IsArea};
-ghost use Rattle.pixel_formats.specs.declared.format.Format.{Format};
+ghost use Rattle.pixel_formats.specs.{Limits.IsArea, declared.format.Format.Format};
 ghost use Rattle.model_operations.specs.Meanings.{int_meanings};
 ghost use Rattle.area_ops.specs.Kinds.{operation_of};
 

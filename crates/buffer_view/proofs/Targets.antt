@@ -41,10 +41,6 @@ module _ (inside now : BufferTable) (same : inside ≡ now) where
   pub carried-here : (edit : BufferEdit) → edit_refused inside.layout edit ≡ None → edit_refused now.layout edit ≡ None
   carried-here edit none = ap (λ (b : BufferTable). edit_refused b.layout edit) (sym same) ∙ none
 
-  pub put-carried : (name : List ℕ) (r : Rectangle) (lent bytes : List ℕ) → lent ≡ bytes → edit_refused inside.layout (Put name r lent) ≡ None
-      → edit_refused now.layout (Put name r bytes) ≡ None
-  put-carried name r lent bytes is none = ap (λ (b : List ℕ). edit_refused now.layout (Put name r b)) (sym is) ∙ carried-here (Put name r lent) none
-
   pub root-here : (number : ℕ) (root : RootTiles) → root ≡ get_or inside.roots number root → get_or now.roots number root ≡ root
   root-here number root is = sym (is ∙ ap (λ (b : BufferTable). get_or b.roots number root) same)
 

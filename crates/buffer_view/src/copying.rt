@@ -1,12 +1,9 @@
 //! Rectangles of buffers that are copied.
 
 ghost use Rattle.std.specs.Prelude.{◌≡◌, ℕ, List, IfErr, IfOk, IfSome, IsSomeAnd, Some, length, slice_get};
-ghost use Rattle.model_buffers.specs.Table.{root_image};
-ghost use Rattle.model_buffers.specs.declared.edit.BufferEdit.TheVariants.{Copy};
+ghost use Rattle.model_buffers.specs.{Table.root_image, declared.edit.BufferEdit.TheVariants.Copy};
 ghost use Rattle.model_graphs.specs.Shapes.{Shape};
-ghost use Rattle.model_images.specs.FromRaw.{byte_count};
-ghost use Rattle.model_images.specs.Paint.{cut};
-ghost use Rattle.model_images.specs.Raw.{raw};
+ghost use Rattle.model_images.specs.{FromRaw.byte_count, Paint.cut, Raw.raw};
 ghost use Rattle.plane_rect.specs.Rectangle.{Includes};
 ghost use Rattle.root_tiles.specs.Chains.{IsRead};
 ghost use Rattle.swap_store.specs.Cause.{HasSwapCause};

@@ -4,12 +4,10 @@ ghost use Rattle.std.specs.Prelude.{◌≡◌, IfErr, IfOk, MatchResult, Err, No
 ghost use Rattle.std.specs.Option.{option_map};
 ghost use Rattle.chain_owners.specs.Owners.{Respects};
 ghost use Rattle.model_buffers.specs.BufferEdit.{edit_refused, layout_with};
-ghost use Rattle.model_buffers.specs.Edits.{table_with};
-ghost use Rattle.model_buffers.specs.declared.edit.BufferEdit.TheVariants.{Duplicate};
+ghost use Rattle.model_buffers.specs.{Edits.table_with, declared.edit.BufferEdit.TheVariants.Duplicate};
 ghost use Rattle.model_buffers.specs.declared.refused.EditRefused.{EditRefused as Cause};
 ghost use Rattle.buffer_view.specs.BufferTables.{AreBuffersOver, buffers_names, table_of};
-ghost use Rattle.buffer_view.specs.Causes.{HasAddCause};
-ghost use Rattle.buffer_view.specs.declared.refused.BufferRefused.TheVariants.{Edit};
+ghost use Rattle.buffer_view.specs.{Causes.HasAddCause, declared.refused.BufferRefused.TheVariants.Edit};
 
 use crate::buffers::Buffers;
 use crate::refused::BufferRefused;

@@ -1,8 +1,7 @@
 //! Edits of buffers that write samples.
 
 ghost use Rattle.model_buffers.specs.declared.edit.BufferEdit.TheVariants.{Fill, Put};
-ghost use Rattle.buffer_view.specs.BufferTables.{AreBuffersOver};
-ghost use Rattle.buffer_view.specs.Edits.{WritesBuffers};
+ghost use Rattle.buffer_view.specs.{BufferTables.AreBuffersOver, Edits.WritesBuffers};
 
 use crate::buffers::Buffers;
 use crate::refused::BufferRefused;

@@ -3,16 +3,14 @@
 ghost use Rattle.std.specs.Prelude.{◌≡◌, IfErr, IfOk, IfSome, Err, None};
 ghost use Rattle.model_buffers.specs.Layout.{buffer_shape, find};
 ghost use Rattle.model_buffers.specs.declared.refused.EditRefused.TheVariants.{UnknownBuffer};
-ghost use Rattle.model_images.specs.Raw.{tile_bytes};
-ghost use Rattle.model_images.specs.Tiles.{AreZeroOutside};
+ghost use Rattle.model_images.specs.{Raw.tile_bytes, Tiles.AreZeroOutside};
 ghost use Rattle.plane_rect.specs.Tile.{IsWhole};
 ghost use Rattle.root_tiles.specs.Chains.{IsRead};
 ghost use Rattle.swap_store.specs.Cause.{HasSwapCause};
 ghost use Rattle.view_reads.specs.Views.{IsViewOver, ReadsViewTile, view_image};
 ghost use Rattle.buffer_view.specs.BufferTables.{AreBuffersOver, table_of};
 ghost use Rattle.buffer_view.specs.Freezing.{IsFrozenBuffer, IsFrozenImage, IsFrozenOver, with_held};
-ghost use Rattle.buffer_view.specs.Reads.{HasReadCause};
-ghost use Rattle.buffer_view.specs.declared.refused.BufferRefused.TheVariants.{Edit};
+ghost use Rattle.buffer_view.specs.{Reads.HasReadCause, declared.refused.BufferRefused.TheVariants.Edit};
 
 use crate::buffers::Buffers;
 use crate::refused::BufferRefused;

@@ -1,12 +1,10 @@
 //! Laws by which callers speak of tables of buffers.
 
 ghost use Rattle.std.specs.Prelude.{◌≡◌, ℕ, ◌++◌, IfSome, IsSome, List};
-ghost use Rattle.chain_owners.specs.Counts.{Counts};
-ghost use Rattle.chain_owners.specs.Held.{Held};
 ghost use Rattle.chain_owners.specs.Owners.{Owns, Respects};
-ghost use Rattle.model_buffers.specs.Layout.{TableLayout};
-ghost use Rattle.model_buffers.specs.declared.edit.BufferEdit.{BufferEdit};
+ghost use Rattle.chain_owners.specs.{Counts.Counts, Held.Held};
 ghost use Rattle.model_buffers.specs.Table.{IsTable, layout_of};
+ghost use Rattle.model_buffers.specs.{Layout.TableLayout, declared.edit.BufferEdit.BufferEdit};
 ghost use Rattle.buffer_view.specs.BufferTables.{AreBuffersOver, BufferTable, IsBufferTable, buffers_names, empty_table, table_of};
 ghost use Rattle.buffer_view.specs.Causes.{HasAddCause, HasEditCause};
 ghost use Rattle.buffer_view.specs.declared.refused.BufferRefused.{BufferRefused as Refused};

@@ -1,8 +1,8 @@
 //! Buffers shared and released.
 
 ghost use Rattle.std.specs.Prelude.{◌≡◌, ℕ, ◌+◌, ◌≤◌, ◌++◌, [], All, IfOk, MatchResult, OnErr, OnOk, length, vec_capacity, vec_len};
-ghost use Rattle.chain_owners.specs.Counts.{Grows};
 ghost use Rattle.chain_owners.specs.Owners.{Owns, Respects};
+ghost use Rattle.chain_owners.specs.Counts.{Grows};
 ghost use Rattle.root_tiles.specs.Roots.{IsRootOver};
 ghost use Rattle.buffer_view.specs.BufferTables.{AreBuffersOver, buffers_names, names_of_roots, table_of};
 ghost use Rattle.buffer_view.specs.Shares.{Shares};

@@ -3,8 +3,7 @@
 ghost use Rattle.std.specs.Prelude.{ℕ, List, IsSomeAnd, slice_get};
 ghost use Rattle.model_graphs.specs.Shapes.{Shape};
 ghost use Rattle.plane_rect.specs.Rectangle.{Includes};
-ghost use Rattle.buffer_view.specs.BufferTables.{AreBuffersOver};
-ghost use Rattle.buffer_view.specs.Edits.{WritesRoot};
+ghost use Rattle.buffer_view.specs.{BufferTables.AreBuffersOver, Edits.WritesRoot};
 
 use crate::buffers::Buffers;
 use crate::written::Written;

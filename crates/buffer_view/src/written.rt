@@ -2,14 +2,11 @@
 
 ghost use Rattle.std.specs.Prelude.{◌≡◌, ℕ, length};
 ghost use denote.Param.Send.{IsSync};
-ghost use Rattle.model_buffers.specs.BufferEdit.{IsPixel};
-ghost use Rattle.model_buffers.specs.Edits.{evenly};
+ghost use Rattle.model_buffers.specs.{BufferEdit.IsPixel, Edits.evenly};
 ghost use Rattle.model_images.specs.FromRaw.{byte_count, pixels_from_raw};
-ghost use Rattle.pixel_formats.specs.Row.{Pixel};
-ghost use Rattle.pixel_formats.specs.declared.format.Format.{Format};
+ghost use Rattle.pixel_formats.specs.{Row.Pixel, declared.format.Format.Format};
 ghost use Rattle.plane_rect.specs.Rectangle.{Includes, Rectangle};
-ghost use Rattle.root_tiles.specs.Roots.{IsRootOver};
-ghost use Rattle.root_tiles.specs.Writes.{IsWritten};
+ghost use Rattle.root_tiles.specs.{Roots.IsRootOver, Writes.IsWritten};
 
 use chain_contracts::TileChain;
 use plane_rect::Rect;

@@ -38,7 +38,7 @@ use Rattle.commit_session.proofs.Led.{IsAfter, history_after, leads-to, or-befor
 use Rattle.commit_session.proofs.Kept.{over-here}
 use Rattle.commit_session.proofs.Moved.{retained-moved, working-moved}
 use Rattle.commit_session.proofs.Stepped.{DamagesOf, GraphStep, IsStep, Leads, StatesStep, change_from, parts_with, step-leads}
-use Rattle.commit_session.proofs.Through.{alone-ready, cache-ready, cached-ready, left-through, others-through, over-through, owned-through, sizes-ready, tables-through}
+use Rattle.commit_session.proofs.Through.{alone-ready, cache-ready, cached-ready, left-through, over-through, owned-through, sizes-ready, tables-through}
 use Rattle.commit_session.proofs.Voided.{voids-leave}
 
 -- ---- a step of a history
@@ -78,9 +78,6 @@ module _ {Op : Type 0} (same : Op → Op → Bool) (meanings : Meanings Op) wher
     between = more ++ versions_names now.versions
 
     -- ---- over the chain
-
-    pub done-others : AddsNoOther s0.counts s3.counts (values_of now.entries) (values_of new.entries)
-    done-others = others-through now.versions versions now.entries new.entries between s0 s1 s2 over.owned through.shared.left through.put.left s3 through.left through.put.over through.others
 
     done-left : Leaves 0 (session_names now) (session_names new) s0 s3
     done-left =

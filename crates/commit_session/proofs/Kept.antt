@@ -47,10 +47,7 @@ module _ {Op : Type 0} (same : Op → Op → Bool) (meanings : Meanings Op) wher
     pub over-here : (held : Held) → IsOver same meanings now held → IsOver same meanings v held
     over-here held requires = subst (λ (p : Parts Op). IsOver same meanings p held) (sym is) requires
 
-    -- what is kept with another graph, or with other versions, is kept in a session that is this one
-    pub regraphed : (added : ℕ) (graph : Graph Op) (s0 s1 : ChainState) → IsKept added now (record now { graph = graph }) s0 s1 → IsKept added now (record v { graph = graph }) s0 s1
-    regraphed added graph s0 s1 kept = subst (λ (p : Parts Op). IsKept added now (record p { graph = graph }) s0 s1) (sym is) kept
-
+    -- what is kept with other versions is kept in a session that is this one
     pub reversioned : (added : ℕ) (versions : Versions BufferTable) (s0 s1 : ChainState) → IsKept added now (record now { versions = versions }) s0 s1
         → IsKept added now (record v { versions = versions }) s0 s1
     reversioned added versions s0 s1 kept = subst (λ (p : Parts Op). IsKept added now (record p { versions = versions }) s0 s1) (sym is) kept
@@ -84,13 +81,12 @@ module _ {Op : Type 0} (same : Op → Op → Bool) (meanings : Meanings Op) wher
 
       -- they were shared and released again, and the graph is unchanged
       pub unshared : (shared : BufferTable) (s : ChainState) → IsShared v.versions (buffers_names shared) s0 s → Leaves 0 (buffers_names shared) [] s s1
-          → (graph : Graph Op) → graph ≡ v.graph → IsKept 0 now (record now { graph = graph }) s0 s1
+          → (graph : Graph Op) → graph ≡ v.graph → IsKept 0 now (record v { graph = graph }) s0 s1
       unshared shared s share release graph unchanged =
           let again = unshared-all v.versions shared s0 s s1 share release in
           let leaves = unshared-left v.versions shared s0 s s1 share release in
           let all : IsKept 0 now v s0 s1 = read-parts 0 v.versions refl leaves refl (again.tables ∙ share.tables) again.over in
-          subst (λ (p : Parts Op). IsKept 0 now (record p { graph = graph }) s0 s1) is
-          (subst (λ (g : Graph Op). IsKept 0 now (record v { graph = g }) s0 s1) (sym unchanged) all)
+          subst (λ (g : Graph Op). IsKept 0 now (record v { graph = g }) s0 s1) (sym unchanged) all
 
 -- ---- why a step is refused
 

@@ -19,5 +19,5 @@ pub mod Through
 pub mod Kept
 pub mod Edited
 pub mod Done
-pub mod VoidTurns
 pub mod Nothing
+pub mod Chain

@@ -5,7 +5,7 @@ use Rattle.chain_owners.specs.Owners.{Owns}
 use Rattle.chain_owners.proofs.Ownership.{others-own, owns-fewer, times-append}
 use Rattle.root_tiles.specs.Chains.{ChainState}
 use Rattle.node_cache.specs.NodeNames.{Entries, IsNodeCache, cached_in, sizes_in}
-use Rattle.node_cache.specs.Stores.{AddsNoOther, HaveOneOwner}
+use Rattle.node_cache.specs.Stores.{HaveOneOwner}
 use Rattle.buffer_view.specs.BufferTables.{BufferTable}
 use Rattle.session_states.specs.OverChains.{AreAllOver, AreVersionsOver, Leaves, tables_of, versions_names}
 use Rattle.session_states.specs.Versions.{Versions, all_versions}
@@ -62,6 +62,3 @@ module _ (old versions : Versions BufferTable) (es es' : Entries) (between : Lis
         leaves-both (versions_names old ++ values_of es) (versions_names versions ++ values_of es) (versions_names versions ++ values_of es') s0 s2 s3 left-ready
         (leaves-beside 0 (values_of es) (values_of es') (versions_names versions ++ values_of es) (versions_names versions ++ values_of es') (versions_names versions) s2 s3 third
         (λ q. omega (arith, times-append (versions_names versions) (values_of es) q)) (λ q. omega (arith, times-append (versions_names versions) (values_of es') q)))
-
-    pub others-through : AddsNoOther s2.counts s3.counts (values_of es) (values_of es') → AddsNoOther s0.counts s3.counts (values_of es) (values_of es')
-    others-through adds = record { names = omega (arith, adds.names, buffers-left.counts.names) }

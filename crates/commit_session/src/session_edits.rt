@@ -2,25 +2,21 @@
 
 ghost use Rattle.std.specs.Prelude.{◌≡◌, ◌≢◌, ◌≤◌, Err, IfErr, IfOk, List, None, OnErr, OnOk, Some};
 ghost use Rattle.level_tables.specs.Over.{max_level};
-ghost use Rattle.model_buffers.specs.Layout.{find};
-ghost use Rattle.model_buffers.specs.Table.{Table};
-ghost use Rattle.model_buffers.specs.declared.refused.EditRefused.{EditRefused as Cause};
+ghost use Rattle.model_buffers.specs.{Layout.find, Table.Table, declared.refused.EditRefused.EditRefused as Cause};
 ghost use Rattle.model_buffers.specs.declared.refused.EditRefused.TheVariants.{UnknownBuffer};
 ghost use Rattle.model_images.specs.TileCounts.{level_tiles};
 ghost use Rattle.model_sessions.specs.Sessions.{Make, Session as SessionOf, after_action};
 ghost use Rattle.model_sessions.specs.Steps.{IsProper};
 ghost use Rattle.plane_rect.specs.Rectangle.{InLimits};
 ghost use Rattle.root_tiles.specs.Roots.{HasShape};
-ghost use Rattle.buffer_view.specs.BufferTables.{table_of};
 ghost use Rattle.buffer_view.specs.Reads.{HasReadCause, IsReadOfBuffer, box_of_root, part_of_buffer};
-ghost use Rattle.buffer_view.specs.declared.refused.BufferRefused.TheVariants.{Edit as OfEdit};
+ghost use Rattle.buffer_view.specs.{BufferTables.table_of, declared.refused.BufferRefused.TheVariants.Edit as OfEdit};
 ghost use Rattle.session_states.specs.OverChains.{Leaves};
 ghost use Rattle.commit_session.specs.Edits.{HasStepCause, step_of, step_refused, tiles_by};
-ghost use Rattle.commit_session.specs.Parts.{session_names};
 ghost use Rattle.commit_session.specs.Refusals.{IsRefusedAs, by_buffers};
 ghost use Rattle.commit_session.specs.Seen.{IsOver, IsSessionOf};
-ghost use Rattle.commit_session.specs.Steps.{HasSameStates};
 ghost use Rattle.commit_session.specs.declared.refused.SessionRefused.TheVariants.{Buffer, NoMemory};
+ghost use Rattle.commit_session.specs.{Parts.session_names, Steps.HasSameStates};
 
 use crate::edit::{Edit, EditPart};
 use crate::refused::SessionRefused;

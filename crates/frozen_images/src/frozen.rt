@@ -4,8 +4,7 @@ ghost use Rattle.std.specs.Prelude.{◌≡◌, ◌*◌, IfOk, OnErr, OnOk, lengt
 ghost use Rattle.indexmap.specs.IndexMap.{insert_entry};
 ghost use Rattle.plane_rect.specs.Tile.{same_tile};
 ghost use Rattle.pixel_formats.specs.Format.{pixel_bytes};
-ghost use Rattle.model_images.specs.Raw.{tile_bytes};
-ghost use Rattle.model_images.specs.Tiles.{AreZeroOutside};
+ghost use Rattle.model_images.specs.{Raw.tile_bytes, Tiles.AreZeroOutside};
 ghost use Rattle.frozen_images.specs.Frozen.{frozen_image, no_tiles, zero_bytes};
 
 use indexmap::IndexMap;

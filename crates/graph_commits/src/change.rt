@@ -6,13 +6,9 @@ ghost use Rattle.plane_rect.specs.Rectangle.{empty};
 ghost use Rattle.model_graphs.specs.Facts.{rectangles_of, root_of, specs_of};
 ghost use Rattle.model_graphs.specs.Node.{index_of};
 ghost use Rattle.model_states.specs.Damage.{damage, damage_list, damage_of_node, damage_passed_on, damages, gone_names, have_same_shapes, inputs_of, is_unedited, new_boxes, same_shape, side_shape};
-ghost use Rattle.model_states.specs.Rectangles.{rectangle_of};
-ghost use Rattle.model_states.specs.Regions.{hull_of};
-ghost use Rattle.model_states.specs.State.{node_of};
-ghost use Rattle.model_states.specs.Valid.{node_names};
+ghost use Rattle.model_states.specs.{Rectangles.rectangle_of, Regions.hull_of, State.node_of, Valid.node_names};
 ghost use Rattle.op_contracts.specs.Applying.{bounds_of};
-ghost use Rattle.graph_commits.specs.Damages.{damages_of};
-ghost use Rattle.graph_commits.specs.States.{IsGraphState};
+ghost use Rattle.graph_commits.specs.{Damages.damages_of, States.IsGraphState};
 
 use crate::bodies::{inputs_of, same_body};
 use crate::damage_list::DamageList;

@@ -7,8 +7,8 @@ ghost use Rattle.model_graphs.specs.Facts.{rectangles_of};
 ghost use Rattle.model_states.specs.Commits.{change_to, committed, new_graph};
 ghost use Rattle.model_states.specs.Retained.{redone, undone};
 ghost use Rattle.graph_commits.specs.declared.direction.Direction.TheVariants.{Redo, Undo};
-ghost use Rattle.graph_commits.specs.Directions.{stepped};
 ghost use Rattle.graph_commits.specs.Graphs.{AreDamagesOf, AreStillThere, IsAnswered, IsGraph, is_still_there};
+ghost use Rattle.graph_commits.specs.Directions.{stepped};
 ghost use Rattle.graph_edits.specs.Refusals.{IsRefusalOf};
 
 use crate::buffers::are_still_there;

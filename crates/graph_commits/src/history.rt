@@ -2,8 +2,8 @@
 
 ghost use Rattle.std.specs.Prelude.{◌≡◌, ◌+◌, ◌<◌, ◌∷◌, [], IfErr, IfOk, IsOkAnd, OnErr, OnOk, length, option_map};
 ghost use Rattle.std.specs.VecDeque.{deque_capacity, deque_len};
-ghost use Rattle.model_states.specs.declared.refused.StateRefused.TheVariants.{TooManyCommits};
 ghost use Rattle.model_states.specs.Retained.{last_number, retained_from, with_commit};
+ghost use Rattle.model_states.specs.declared.refused.StateRefused.TheVariants.{TooManyCommits};
 ghost use Rattle.graph_edits.specs.declared.refused.GraphRefused.TheVariants as refusals;
 ghost use Rattle.graph_commits.specs.Directions.{ahead, step_to};
 ghost use Rattle.graph_commits.specs.Histories.{IsMoved, first_delta};

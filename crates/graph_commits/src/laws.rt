@@ -1,15 +1,13 @@
 //! What those who keep cached pairs may conclude of the damages that a graph answers.
 
 ghost use Rattle.std.specs.Prelude.{◌≡◌, List};
-ghost use Rattle.model_graphs.specs.Evaluation.{Buffers};
-ghost use Rattle.model_graphs.specs.Laws.{IsEquality};
-ghost use Rattle.model_graphs.specs.Meanings.{Meanings};
+ghost use Rattle.std.specs.Prelude.{Bool};
+ghost use Rattle.model_graphs.specs.{Evaluation.Buffers, Laws.IsEquality, Meanings.Meanings};
 ghost use Rattle.model_states.specs.Cache.{all_voided, AreRight, by_pair, Cached, Pair, without_damaged};
 ghost use Rattle.model_states.specs.Commits.{change_to, Graph};
 ghost use Rattle.model_states.specs.Damage.{Change, damage, damage_list, HaveRectangles, IsStatedChange, reversed, Side};
 ghost use Rattle.model_states.specs.Neighbors.{IsChange, scene_of_side};
 ghost use Rattle.model_states.specs.Rectangles.{Rectangles};
-ghost use Rattle.std.specs.Prelude.{Bool};
 
 use model_graphs::OpMeaning;
 

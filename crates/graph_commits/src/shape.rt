@@ -2,8 +2,7 @@
 
 ghost use Rattle.std.specs.Prelude.{◌≡◌, slice_index_or};
 ghost use Rattle.plane_rect.specs.Rectangle.{IsRectangle};
-ghost use Rattle.model_graphs.specs.Facts.{stated_shapes};
-ghost use Rattle.model_graphs.specs.Shapes.{no_shape};
+ghost use Rattle.model_graphs.specs.{Facts.stated_shapes, Shapes.no_shape};
 
 use model_graphs::NodeFact;
 use pixel_formats::Format;

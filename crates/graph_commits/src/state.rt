@@ -2,11 +2,9 @@
 
 ghost use Rattle.std.specs.Prelude.{◌≡◌, ◌≤◌, [], IfErr, IfOk, filter, length, map, not};
 ghost use Rattle.std.specs.List.{zip};
-ghost use Rattle.model_graphs.specs.Facts.{specs_of};
-ghost use Rattle.model_graphs.specs.Node.{index_of};
-ghost use Rattle.model_states.specs.Damage.{side_shape};
-ghost use Rattle.model_states.specs.Edits.{has_node};
+ghost use Rattle.model_graphs.specs.{Facts.specs_of, Node.index_of};
 ghost use Rattle.model_states.specs.Valid.{node_names, with_shape};
+ghost use Rattle.model_states.specs.{Damage.side_shape, Edits.has_node};
 ghost use Rattle.graph_edits.specs.Refusals.{IsRefusalOf};
 ghost use Rattle.graph_commits.specs.States.{IsGraphState, edited_side};
 
@@ -34,8 +32,7 @@ pub struct GraphState<Op: OpMeaning> {
 impl<Op: OpMeaning> Model for GraphState<Op> {
     ghost use Rattle.std.specs.Prelude.{◌≡◌};
     ghost use Rattle.model_graphs.specs.Facts.{specs_of};
-    ghost use Rattle.model_states.specs.Damage.{Side};
-    ghost use Rattle.model_states.specs.Valid.{node_names};
+    ghost use Rattle.model_states.specs.{Damage.Side, Valid.node_names};
     ghost use Rattle.graph_commits.specs.States.{IsGraphState};
 
     ghost Value = { Side Op };

@@ -3,10 +3,9 @@
 ghost use Rattle.std.specs.Prelude.{◌≡◌, [], IfErr, IfOk, None, Ok, OnErr, Some, map, nat_lt};
 ghost use Rattle.std.specs.List.{list_all};
 ghost use Rattle.plane_rect.specs.Rectangle.{IsRectangle};
-ghost use Rattle.model_graphs.specs.Facts.{shapes_of_facts};
 ghost use Rattle.model_graphs.specs.Node.{Apply, index_of, step_of};
+ghost use Rattle.model_graphs.specs.{Facts.shapes_of_facts, Shapes.shape_in};
 ghost use Rattle.model_states.specs.Valid.{input_boxes, input_formats, steps_of};
-ghost use Rattle.model_graphs.specs.Shapes.{shape_in};
 ghost use Rattle.model_states.specs.declared.refused.StateRefused.TheVariants.{UnknownInput};
 ghost use Rattle.graph_edits.specs.declared.refused.GraphRefused.TheVariants as refusals;
 ghost use Rattle.graph_edits.specs.Refusals.{IsRefusalOf};

@@ -3,9 +3,7 @@
 ghost use Rattle.std.specs.Prelude.{◌≡◌, ◌<◌, All, IfOk, IfSome, IsSome, length};
 ghost use Rattle.plane_rect.specs.Rectangle.{Includes};
 ghost use Rattle.model_images.specs.Paint.{cut};
-ghost use Rattle.model_graphs.specs.Meanings.{result_box};
-ghost use Rattle.model_graphs.specs.Permits.{Takes};
-ghost use Rattle.model_graphs.specs.Windows.{IsWholeWindow};
+ghost use Rattle.model_graphs.specs.{Meanings.result_box, Permits.Takes, Windows.IsWholeWindow};
 ghost use Rattle.model_operations.specs.Meanings.{int_meanings, same_operation};
 ghost use Rattle.op_contracts.specs.Applying.{CopiesInput, HaveRequired, IsInOneTile, bounds_of, result_of_windows, window_bounds, window_formats};
 ghost use Rattle.int_ops.specs.Lone.{IsLone};

@@ -3,9 +3,7 @@
 ghost use Rattle.std.specs.Prelude.{◌≡◌, ℕ, ◌<◌, ◌^◌, All, IfOk, IfSome, IsSome, length};
 ghost use Rattle.plane_rect.specs.Rectangle.{Includes};
 ghost use Rattle.model_images.specs.Paint.{cut};
-ghost use Rattle.model_graphs.specs.Meanings.{result_box};
-ghost use Rattle.model_graphs.specs.Permits.{Takes};
-ghost use Rattle.model_graphs.specs.Windows.{IsWholeWindow};
+ghost use Rattle.model_graphs.specs.{Meanings.result_box, Permits.Takes, Windows.IsWholeWindow};
 ghost use Rattle.op_contracts.specs.Applying.{CopiesInput, HaveRequired, IsInOneTile, bounds_of, result_of_windows, window_bounds, window_formats};
 
 use crate::window::Window;

@@ -1,16 +1,13 @@
 //! Laws by which callers speak of windows, of kits and of sources of tiles.
 
 ghost use Rattle.std.specs.Prelude.{◌≡◌, ℕ, ◌++◌, All, IsSomeAnd, List, Option};
-ghost use Rattle.chain_owners.specs.Counts.{Counts};
-ghost use Rattle.chain_owners.specs.Held.{Held};
 ghost use Rattle.chain_owners.specs.Owners.{Owns, Respects};
+ghost use Rattle.chain_owners.specs.{Counts.Counts, Held.Held};
 ghost use Rattle.plane_rect.specs.Rectangle.{InLimits, Includes, IsRectangle, Rectangle};
-ghost use Rattle.model_images.specs.Image.{Image};
-ghost use Rattle.model_images.specs.Paint.{cut};
+ghost use Rattle.model_images.specs.{Image.Image, Paint.cut};
 ghost use Rattle.model_graphs.specs.Meanings.{boxes_of, formats_of, result_box, result_of};
 ghost use Rattle.model_graphs.specs.Windows.{AreWindowsOf, IsWholeWindow, IsWindowOf, Window, window_image};
-ghost use Rattle.swap_store.specs.Cause.{HasSwapCause};
-ghost use Rattle.swap_store.specs.declared.refusal.SwapRefused.{SwapRefused as Refusal};
+ghost use Rattle.swap_store.specs.{Cause.HasSwapCause, declared.refusal.SwapRefused.SwapRefused as Refusal};
 ghost use Rattle.swap_store.specs.declared.refusal.SwapRefused.TheVariants.{NoMemory};
 ghost use Rattle.op_contracts.specs.Applying.{HaveRequired, IsInOneTile, bounds_of, result_of_windows, window_bounds, window_formats};
 

@@ -1,11 +1,10 @@
 //! Where the tiles of buffers come from.
 
 ghost use Rattle.std.specs.Prelude.{◌≡◌, ℕ, [], List, Option, IfErr, IfOk, IsSome};
-ghost use Rattle.chain_owners.specs.Counts.{Grows};
-ghost use Rattle.chain_owners.specs.Held.{Held};
 ghost use Rattle.chain_owners.specs.Owners.{IsFramed, Owns, Respects};
-ghost use Rattle.model_graphs.specs.Evaluation.{Buffers};
+ghost use Rattle.chain_owners.specs.{Counts.Grows, Held.Held};
 ghost use Rattle.model_graphs.specs.Facts.{Facts, fact_of};
+ghost use Rattle.model_graphs.specs.Evaluation.{Buffers};
 ghost use Rattle.swap_store.specs.Cause.{HasSwapCause};
 ghost use Rattle.op_contracts.specs.Sources.{AreExposed, HasBufferLength, IsFramedCondition, IsTileOf};
 

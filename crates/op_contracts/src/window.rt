@@ -5,9 +5,7 @@ ghost use Rattle.std.specs.Option.{option_copied};
 ghost use Rattle.plane_rect.specs.Rectangle.{InLimits, Includes, InsideSigned, plane_index as index_of};
 ghost use Rattle.plane_rect.specs.Tile.{Meets, Tile as TilePosition};
 ghost use Rattle.pixel_formats.specs.Format.{channels};
-ghost use Rattle.model_images.specs.Image.{at};
-ghost use Rattle.model_images.specs.Paint.{cut};
-ghost use Rattle.model_images.specs.Tiles.{AreTileBytes};
+ghost use Rattle.model_images.specs.{Image.at, Paint.cut, Tiles.AreTileBytes};
 ghost use Rattle.model_graphs.specs.Windows.{IsWholeWindow, tiles_of, window_image};
 
 use crate::held_bytes::held_bytes;

@@ -2,10 +2,10 @@
 
 ghost use Rattle.std.specs.Prelude.{◌≡◌};
 ghost use Rattle.std.specs.List.{list_all};
-ghost use Rattle.model_operations.specs.Arguments.{in_range};
-ghost use Rattle.pixel_formats.specs.Limits.{is_area, is_in, is_move};
 ghost use Rattle.model_operations.specs.Formats.{are_samples, format_if, format_of, format_with, is_mask_of, is_sample};
 ghost use Rattle.model_operations.specs.Inputs.{input_count, input_format};
+ghost use Rattle.model_operations.specs.Arguments.{in_range};
+ghost use Rattle.pixel_formats.specs.Limits.{is_area, is_in, is_move};
 
 use model_operations::IntOp;
 use pixel_formats::limits::{MAX_CHECKER_SIZE, MAX_SAMPLE, is_area, is_in, is_move};

@@ -2,13 +2,10 @@
 
 ghost use Rattle.std.specs.Prelude.{◌≡◌, ◌+◌, ◌*◌, ◌%◌, ◌<◌, IfOk, length};
 ghost use Rattle.plane_rect.specs.Rectangle.{halved, plane_side};
-ghost use Rattle.pixel_formats.specs.Average.{mean_pixel};
-ghost use Rattle.pixel_formats.specs.Format.{pixel_bytes};
-ghost use Rattle.pixel_formats.specs.Row.{HasPixels};
-ghost use Rattle.model_images.specs.Image.{at};
+ghost use Rattle.pixel_formats.specs.{Average.mean_pixel, Format.pixel_bytes, Row.HasPixels};
 ghost use Rattle.model_images.specs.Level.{doubled, halved_image, mean_at};
+ghost use Rattle.model_images.specs.{Image.at, FromRaw.byte_count};
 ghost use Rattle.patch_abyss.specs.Fetched.{RowsFilled};
-ghost use Rattle.model_images.specs.FromRaw.{byte_count};
 
 use crate::patch::{Patch, byte_count, has_rows};
 use crate::reading::read_row;

@@ -3,11 +3,10 @@
 ghost use Rattle.std.specs.Prelude.{◌≡◌, ◌≢◌, ℕ, ◌+◌, ◌-◌, ◌<◌, ◌≤◌, IfSome, MatchOption, length};
 ghost use Rattle.plane_rect.specs.Rectangle.{Within, end_row, plane_side};
 ghost use Rattle.pixel_formats.specs.Format.{channels, pixel_bytes};
-ghost use Rattle.pixel_formats.specs.Row.{pixel_at};
+ghost use Rattle.pixel_formats.specs.{Row.pixel_at, declared.abyss.Abyss.TheVariants.Loop};
 ghost use Rattle.model_images.specs.Abyss.{black_sample, wrapped};
-ghost use Rattle.pixel_formats.specs.declared.abyss.Abyss.TheVariants.{Loop};
-ghost use Rattle.patch_abyss.specs.Fetched.{outside_sample};
 ghost use Rattle.patch_abyss.specs.Rows.{AreRepeated, OnOneSide, ReadsInOrder, ReadsNothing};
+ghost use Rattle.patch_abyss.specs.Fetched.{outside_sample};
 
 use pixel_formats::{Abyss, Format};
 use plane_rect::Rect;

@@ -9,8 +9,8 @@ ghost use Rattle.model_images.specs.Image.{IsImage, at};
 ghost use Rattle.model_images.specs.Paint.{blank, cut, painted, put_raw};
 ghost use Rattle.model_images.specs.Raw.{raw, tile_bytes};
 ghost use Rattle.model_images.specs.FromRaw.{byte_count, image_from_raw};
-ghost use Rattle.patch_abyss.specs.Rows.{HasWholeRows};
 ghost use Rattle.patch_abyss.specs.declared.patch.PatchRefused.TheVariants.{NoMemory, WrongSize};
+ghost use Rattle.patch_abyss.specs.Rows.{HasWholeRows};
 
 use crate::rows::{LONG_ROW, Rows, copy_meet, cut_rows};
 use no_memory::NoMemory;
@@ -38,8 +38,8 @@ pub struct Patch {
 }
 
 impl Model for Patch {
-    ghost use Rattle.model_images.specs.Image.{Image};
     ghost use Rattle.model_images.specs.FromRaw.{IsRaw, image_from_raw};
+    ghost use Rattle.model_images.specs.Image.{Image};
 
     ghost Value = { Image };
 

@@ -2,14 +2,11 @@
 
 ghost use Rattle.std.specs.Prelude.{◌≡◌, ◌≢◌, ◌+◌, ◌-◌, ◌*◌, ◌<◌, ◌≤◌, IfOk, length, max, min};
 ghost use Rattle.plane_rect.specs.Rectangle.{InLimits, Within, end_row, end_column};
-ghost use Rattle.pixel_formats.specs.Format.{pixel_bytes};
-ghost use Rattle.pixel_formats.specs.Row.{HasPixels};
-ghost use Rattle.model_images.specs.Image.{image_from_fn};
+ghost use Rattle.pixel_formats.specs.{Format.pixel_bytes, Row.HasPixels, declared.abyss.Abyss.TheVariants.Loop};
 ghost use Rattle.model_images.specs.Abyss.{abyss_at, wrapped};
-ghost use Rattle.pixel_formats.specs.declared.abyss.Abyss.TheVariants.{Loop};
+ghost use Rattle.model_images.specs.{Image.image_from_fn, FromRaw.byte_count};
 ghost use Rattle.patch_abyss.specs.Fetched.{RowsFilled, outside_sample};
 ghost use Rattle.patch_abyss.specs.Rows.{AreRepeated, moved_to};
-ghost use Rattle.model_images.specs.FromRaw.{byte_count};
 
 use crate::fill::{RowParts, cycle, fill_sides, repeat, wrap_rows};
 use crate::outside::{Repetition, outside_pixel, repeated_rows, source_rows, wrapped};

@@ -30,15 +30,6 @@ only-pixel f bytes pixels is zero c below known = is.samples c known
 only-pixel f bytes pixels is (suc k) c below known =
     absurd (omega (arith, below, pixel_count_of f bytes 1 (is.count ∙ omega arith)))
 
--- a pixel after others
-pub pixel-after : (f : Format) (old bytes : List ℕ) (n : ℕ) (pixels : ℕ → Pixel) → length old ≡ n * pixel_bytes f → HasPixels f old pixels
-    → IsPixel f (pixels n) bytes → (length (old ++ bytes) ≡ (n + 1) * pixel_bytes f) × HasPixels f (old ++ bytes) pixels
-pixel-after f old bytes n pixels long has is =
-    let own : IsPixel f (pixels (n + 0)) bytes = subst (λ (i : ℕ). IsPixel f (pixels i) bytes) (omega arith) is in (
-      length-append old bytes ∙ omega (arith, long, is.count),
-      HasPixels-append f old bytes n long pixels has (only-pixel f bytes (λ k. pixels (n + k)) own),
-    )
-
 -- ---- the bytes of numbers in a row, one after the other
 
 range-more : (a n : ℕ) → range_with_len a (n + 1) ≡ range_with_len a n ++ (a + n) ∷ []

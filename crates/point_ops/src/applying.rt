@@ -3,8 +3,7 @@
 ghost use Rattle.std.specs.Prelude.{◌≡◌, ◌↔◌, All, IfOk, IsSome, IsTrue, length};
 ghost use Rattle.plane_rect.specs.Rectangle.{Includes};
 ghost use Rattle.model_images.specs.Paint.{cut};
-ghost use Rattle.model_graphs.specs.Meanings.{result_box};
-ghost use Rattle.model_graphs.specs.Windows.{IsWholeWindow};
+ghost use Rattle.model_graphs.specs.{Meanings.result_box, Windows.IsWholeWindow};
 ghost use Rattle.model_operations.specs.Meanings.{int_meanings};
 ghost use Rattle.op_contracts.specs.Applying.{IsInOneTile, bounds_of, result_of_windows, window_bounds, window_formats};
 ghost use Rattle.point_ops.specs.PointOps.{IsPointOp};

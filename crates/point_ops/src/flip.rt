@@ -3,10 +3,9 @@
 ghost use Rattle.std.specs.Prelude.{◌≡◌, ◌+◌, ◌-◌, ◌*◌, ◌^◌, ◌≤◌, IfOk, if◌then◌else◌, length, min};
 ghost use Rattle.std.specs.List.{flat_map, range_with_len};
 ghost use Rattle.plane_rect.specs.Rectangle.{InLimits, Includes, IsRectangle, plane_side};
-ghost use Rattle.pixel_formats.specs.Format.{pixel_bytes};
 ghost use Rattle.pixel_formats.specs.Row.{HasPixels, pixel_at};
-ghost use Rattle.model_images.specs.FromRaw.{byte_count};
-ghost use Rattle.model_images.specs.Image.{image_from_fn};
+ghost use Rattle.pixel_formats.specs.Format.{pixel_bytes};
+ghost use Rattle.model_images.specs.{FromRaw.byte_count, Image.image_from_fn};
 ghost use Rattle.model_graphs.specs.Windows.{IsWholeWindow, window_image};
 ghost use Rattle.model_operations.specs.Values.{flipped_pixel};
 ghost use Rattle.point_ops.specs.Flipped.{chunk_from_end, flipped_index, mirrored_source};

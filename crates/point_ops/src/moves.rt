@@ -4,9 +4,7 @@ ghost use Rattle.std.specs.Prelude.{◌≡◌, ◌∷◌, [], IfOk, min, ◌+◌
 ghost use Rattle.plane_rect.specs.Rectangle.{InLimits, Includes, IsRectangle};
 ghost use Rattle.model_images.specs.Image.{at, image_from_fn};
 ghost use Rattle.model_graphs.specs.Windows.{IsWholeWindow, window_image};
-ghost use Rattle.model_operations.specs.Boxes.{result_box};
-ghost use Rattle.model_operations.specs.Moves.{source_index};
-ghost use Rattle.model_operations.specs.declared.operation.IntOp.{IntOp};
+ghost use Rattle.model_operations.specs.{Boxes.result_box, Moves.source_index, declared.operation.IntOp.IntOp};
 ghost use Rattle.point_ops.specs.Moved.{moved_source};
 
 use crate::part_bytes::part_bytes;

@@ -1,8 +1,7 @@
 //! The raw bytes of parts of what windows show.
 
 ghost use Rattle.std.specs.Prelude.{◌≡◌, IfOk, IfSome};
-ghost use Rattle.plane_rect.specs.Rectangle.{InLimits};
-ghost use Rattle.plane_rect.specs.Tile.{tile_square};
+ghost use Rattle.plane_rect.specs.{Rectangle.InLimits, Tile.tile_square};
 ghost use Rattle.model_graphs.specs.Windows.{IsWholeWindow, window_image};
 ghost use Rattle.point_ops.specs.PartBytes.{AreRawBytesOf, bytes_of};
 

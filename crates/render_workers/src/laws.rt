@@ -2,16 +2,13 @@
 
 ghost use Rattle.std.specs.Prelude.{◌≡◌, ℕ, ◌-◌, List, Some, length};
 ghost use Rattle.model_buffers.specs.Counts.{names_after_render};
-ghost use Rattle.model_graphs.specs.declared.node.NodeFact.{NodeFact};
-ghost use Rattle.model_graphs.specs.Evaluation.{Buffers};
 ghost use Rattle.model_graphs.specs.Facts.{AreImagesOf, Facts, shapes_of_facts};
-ghost use Rattle.model_graphs.specs.Meanings.{Meanings};
+ghost use Rattle.model_graphs.specs.{declared.node.NodeFact.NodeFact, Evaluation.Buffers, Meanings.Meanings};
 ghost use Rattle.model_states.specs.Cache.{Pair, all_looked_up, itself, uncounted};
 ghost use Rattle.model_states.specs.Valid.{AreStated};
 ghost use Rattle.model_sessions.specs.Sessions.{render_need};
 ghost use Rattle.node_tiles.specs.Stated.{scene_of};
-ghost use Rattle.strip_renders.specs.Moments.{Moment};
-ghost use Rattle.strip_renders.specs.Strips.{most_names};
+ghost use Rattle.strip_renders.specs.{Moments.Moment, Strips.most_names};
 ghost use Rattle.render_workers.specs.Requests.{Request, strips_needed};
 
 /// States that a request for nodes as stated needs what a render of the state needs that has these nodes,

@@ -9,8 +9,8 @@ ghost use Rattle.node_tiles.specs.Stated.{AreTilesOf, shape_at};
 ghost use Rattle.strip_renders.specs.Ahead.{AreMadeOf, AreNext};
 ghost use Rattle.strip_renders.specs.Moments.{AreOver, moment};
 ghost use Rattle.strip_renders.specs.Strips.{AreKnownRight, AreSizedPairs, AreStatedWith, HoldsNeed, IsStripOf, needed_from, needs_of, pairs_needed};
-ghost use Rattle.strip_patches.specs.Nodes.{image_at};
 ghost use Rattle.strip_patches.specs.Shown.{AreOfOneRequest, HasStripsOf, format_in, source_in};
+ghost use Rattle.strip_patches.specs.Nodes.{image_at};
 ghost use Rattle.render_workers.specs.Parts.{IsExcused, Leaves, LooksUp};
 
 use chain_owners::ChainMeaning;

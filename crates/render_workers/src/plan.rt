@@ -3,13 +3,11 @@
 ghost use Rattle.std.specs.Prelude.{◌≡◌, ◌<◌, ◌≤◌, Bool, false, true, IfErr, IfOk, IfSome, IsErrOf, IsSome, None, OnOk, is_some, length};
 ghost use Rattle.pixel_formats.specs.Limits.{max_nodes};
 ghost use Rattle.plane_rect.specs.Rectangle.{scaled};
-ghost use Rattle.model_graphs.specs.Facts.{specs_of};
-ghost use Rattle.model_graphs.specs.Node.{index_of};
-ghost use Rattle.model_states.specs.Edits.{has_node};
-ghost use Rattle.model_states.specs.Need.{wide};
+ghost use Rattle.model_graphs.specs.{Facts.specs_of, Node.index_of};
+ghost use Rattle.model_states.specs.{Edits.has_node, Need.wide};
 ghost use Rattle.roi_planner.specs.Inputs.{AreStatedOverSome};
-ghost use Rattle.render_workers.specs.Refusals.{IsRefusedBy};
 ghost use Rattle.render_workers.specs.Requests.{request, strips_needed};
+ghost use Rattle.render_workers.specs.Refusals.{IsRefusedBy};
 
 use crate::refused::RenderRefused;
 use model_graphs::NodeFact;

@@ -2,16 +2,15 @@
 
 ghost use Rattle.std.specs.Prelude.{◌≡◌, [], ℕ, ◌<◌, ◌≤◌, ◌^◌, IfErr, IfOk, OnOk, Some, length};
 ghost use Rattle.plane_rect.specs.Rectangle.{InLimits};
-ghost use Rattle.model_graphs.specs.Evaluation.{Buffers};
 ghost use Rattle.model_graphs.specs.Facts.{shapes_of_facts, specs_of};
-ghost use Rattle.model_states.specs.Cache.{needed_pairs};
+ghost use Rattle.model_graphs.specs.Evaluation.{Buffers};
 ghost use Rattle.model_states.specs.Need.{need, strip_rectangles};
-ghost use Rattle.model_states.specs.Valid.{AreStated};
+ghost use Rattle.model_states.specs.{Cache.needed_pairs, Valid.AreStated};
 ghost use Rattle.node_tiles.specs.Stated.{shape_at};
 ghost use Rattle.strip_renders.specs.Moments.{AreOver, moment};
 ghost use Rattle.strip_renders.specs.Strips.{AreKnownRight, AreSizedPairs};
-ghost use Rattle.strip_patches.specs.Nodes.{image_at};
 ghost use Rattle.strip_patches.specs.Shown.{AreOfOneRequest, HasStripsOf, format_in, source_in};
+ghost use Rattle.strip_patches.specs.Nodes.{image_at};
 ghost use Rattle.render_workers.specs.Parts.{IsExcused, Leaves, LooksUp};
 
 use crate::part::{LookCounts, add_part};

@@ -254,20 +254,3 @@ makes-all root r f added old new before after none over next =
     let sum : 0 + added ≡ added = omega arith in
     subst (λ n. Makes root r f n old new after) sum
     (makes-then root r r r f f 0 added old old new before after (makes-none root r f old before none over) next (λ u v there. there) (λ tile bytes meets is. is))
-
-pub makes-raise : (root : RootTiles) (r : Rectangle) (f : ℕ → ℕ → ℕ → ℕ) (added most : ℕ) (old now : ChainState) (entries : List (Tile × ℕ))
-    → added ≤ most → Makes root r f added old now entries → Makes root r f most old now entries
-makes-raise root r f added most old now entries less makes =
-    let sum : added + (most - added) ≡ most = omega (arith, less) in
-    subst (λ n. Makes root r f n old now entries) sum
-    (makes-then root r r r f f added (most - added) old now now entries entries makes
-    (more-raise root r r f 0 (most - added) now now entries entries (omega arith) (more-none root r r f now entries makes.made makes.owned makes.over))
-    (λ u v there. there) (λ tile bytes meets is. is))
-
--- what a list of no tile asks of a chain
-pub none-made : (root : RootTiles) (held : Held) (entries : List (Tile × ℕ)) → entries ≡ [] → IsRootOver root held
-    → AreNewTiles root.tiles.format entries held × Owns held (root_names root ++ values_of entries)
-none-made root held entries none over =
-    let P : List (Tile × ℕ) → Type 0 = λ es. AreNewTiles root.tiles.format es held × Owns held (root_names root ++ values_of es) in
-    subst P (sym none)
-    (made-none root.tiles.format held, owns-fewer held (root_names root) (root_names root ++ []) (λ q. omega (arith, times-append (root_names root) [] q)) over.table.owned)

@@ -1,20 +1,28 @@
 -- Prefixes of tiles of one pixel.
-use Rattle.std.proofs.Common.{◌≡◌, ℕ, zero, suc, ◌+◌, ◌*◌, ◌/◌, ◌%◌, ◌<◌, ◌≤◌, List, [], ◌∷◌, cond, length, take, get_or, Option, Some, None, refl, sym, ap, ap₂, ◌∙◌, arith}
+use Rattle.std.proofs.Common.{◌≡◌, ℕ, zero, suc, ◌+◌, ◌*◌, ◌/◌, ◌%◌, ◌<◌, ◌≤◌, List, [], ◌∷◌, cond, length, take, get_or, Option, Some, None, Result, refl, sym, ap, ap₂, ◌∙◌, arith}
 use Rattle.std.specs.Option.{option_map}
+use Rattle.std.specs.Result.{OnOk}
+use Rattle.std.proofs.lemmas.Result.{on_ok_weaker}
+use Rattle.level_tables.specs.LevelTiles.{bytes_in}
 use Rattle.plane_rect.specs.Rectangle.{Includes, Inside, Rectangle, area, offset, spanning}
 use Rattle.plane_rect.proofs.RectangleLaws.{offset-below, offset-index}
 use Rattle.pixel_formats.specs.Format.{channels, depth, pixel_bytes}
-use Rattle.pixel_formats.specs.Row.{sample_at}
+use Rattle.pixel_formats.specs.Row.{Pixel, sample_at}
 use Rattle.pixel_formats.specs.declared.format.Format.{Format}
 use Rattle.pixel_formats.specs.declared.format.Format.TheVariants.{Y8, YA8, RGB8, RGBA8, Y16, YA16, RGB16, RGBA16}
 use Rattle.model_images.specs.FromRaw.{byte_count, pixels_from_raw}
 use Rattle.model_images.specs.Image.{Image, at, image_from_fn, is_inside}
 use Rattle.model_images.specs.Paint.{painted}
 use Rattle.model_images.specs.Raw.{raw}
+use Rattle.model_images.specs.Tiles.{held_image}
 use Rattle.model_images.proofs.FromRawLaws.{by_depth}
 use Rattle.model_images.proofs.Laws.{at-image_from_fn, generated_equal}
 use Rattle.model_images.proofs.RawLaws.{raw-samples}
+use Rattle.swap_store.specs.declared.refusal.SwapRefused.{SwapRefused}
+use Rattle.root_tiles.specs.Chains.{ChainState}
 use Rattle.root_tiles.specs.Paints.{IsSolid, Paints}
+use Rattle.root_tiles.specs.Roots.{RootTiles, root_image}
+use Rattle.root_tiles.specs.Writes.{IsWritten}
 
 get-taken : (xs : List ℕ) (n i : ℕ) → i < n → get_or (take n xs) i 0 ≡ get_or xs i 0
 get-taken xs zero i less = absurd (omega (arith, less))
@@ -113,8 +121,16 @@ painted-same image r f g same =
     (λ u v c there known. ap (λ (n : ℕ). cond (is_inside u v r) n (at image u v c)) (same u v c known))
 
 -- the same of an image that may not be known
-pub filled-same : {X : Type 0} (content : Option X) (image : Image) (r : Rectangle) (f g : ℕ → ℕ → ℕ → ℕ)
+filled-same : {X : Type 0} (content : Option X) (image : Image) (r : Rectangle) (f g : ℕ → ℕ → ℕ → ℕ)
     → ((u v c : ℕ) → c < channels image.format → f u v c ≡ g u v c)
     → option_map (λ (i : Image). painted i r f) (option_map (λ (x : X). image) content) ≡ option_map (λ (i : Image). painted i r g) (option_map (λ (x : X). image) content)
 filled-same None image r f g same = refl
 filled-same (Some x) image r f g same = ap Some (painted-same image r f g same)
+
+-- what is written over a root depends on the samples of its format's channels alone
+pub written-same : {X : Type 0} (result : Result X SwapRefused) (r : Rectangle) (f g : ℕ → ℕ → Pixel) (old new : RootTiles) (before after : ChainState)
+    → ((u v c : ℕ) → c < channels old.tiles.format → f u v c ≡ g u v c) → IsWritten r f result old new before after → IsWritten r g result old new before after
+written-same result r f g old new before after same is =
+    let shown : OnOk result (root_image new after.held ≡ option_map (λ (image : Image). painted image r g) (root_image old before.held)) =
+    on_ok_weaker result (λ image. image ∙ filled-same before.held.content (held_image old.box old.tiles.format (bytes_in before.held old.tiles.put)) r f g same) is.image in
+    assumption (shown, is)

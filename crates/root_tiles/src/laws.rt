@@ -3,16 +3,14 @@
 ghost use Rattle.std.specs.Prelude.{◌≡◌, ℕ, ◌+◌, ◌≤◌, ◌++◌, List, []};
 ghost use Rattle.std.specs.Option.{option_map};
 ghost use Rattle.chain_owners.specs.Counts.{Counts, Grows};
-ghost use Rattle.chain_owners.specs.Held.{Held};
 ghost use Rattle.chain_owners.specs.Owners.{Owns, Respects};
-ghost use Rattle.model_images.specs.Paint.{blank};
-ghost use Rattle.model_images.specs.TileCounts.{level_tiles};
+ghost use Rattle.chain_owners.specs.Held.{Held};
+ghost use Rattle.model_images.specs.{Paint.blank, TileCounts.level_tiles};
 ghost use Rattle.pixel_formats.specs.declared.format.Format.{Format};
 ghost use Rattle.plane_rect.specs.Rectangle.{InLimits, IsRectangle, Rectangle};
 ghost use Rattle.root_tiles.specs.Growth.{HoldsMoreTiles, RootState, names_with_root_levels, root_state};
-ghost use Rattle.swap_store.specs.Cause.{HasSwapCause};
-ghost use Rattle.swap_store.specs.declared.refusal.SwapRefused.{SwapRefused};
 ghost use Rattle.root_tiles.specs.Roots.{IsRootOver, RootTiles, empty_root, root_image, root_names};
+ghost use Rattle.swap_store.specs.{Cause.HasSwapCause, declared.refusal.SwapRefused.SwapRefused};
 
 use level_tables::new_tables_ask_nothing;
 

@@ -7,14 +7,13 @@ ghost use Rattle.chain_owners.specs.Owners.{Owns};
 ghost use Rattle.level_tables.specs.NewTiles.{AreNewTiles};
 ghost use Rattle.model_images.specs.FromRaw.{byte_count, pixels_from_raw};
 ghost use Rattle.model_images.specs.TileCounts.{tile_count};
-ghost use Rattle.pixel_formats.specs.Row.{Pixel};
-ghost use Rattle.pixel_formats.specs.declared.format.Format.{Format};
+ghost use Rattle.pixel_formats.specs.{Row.Pixel, declared.format.Format.Format};
 ghost use Rattle.plane_rect.specs.Rectangle.{Includes, Rectangle};
 ghost use Rattle.swap_store.specs.Cause.{HasSwapCause};
-ghost use Rattle.root_tiles.specs.Cutting.{cutting_of};
 ghost use Rattle.root_tiles.specs.Made.{HasAll, Makes, MakesMore};
 ghost use Rattle.root_tiles.specs.Paints.{IsPaint, paint_pixels};
 ghost use Rattle.root_tiles.specs.Roots.{IsRootOver, RootTiles, root_names};
+ghost use Rattle.root_tiles.specs.Cutting.{cutting_of};
 
 use crate::cut_tiles::CutTiles;
 use crate::cutting::Raster;

@@ -1,19 +1,14 @@
 //! The tiles of a root once something is written over a rectangle.
 
 ghost use Rattle.std.specs.Prelude.{◌≡◌, IfErr, IfOk, IsSome, IsTrue, OnOk, length, replicate, true, false};
-ghost use Rattle.level_tables.specs.LevelTiles.{bytes_in};
-ghost use Rattle.level_tables.specs.Over.{tile_length};
+ghost use Rattle.level_tables.specs.{LevelTiles.bytes_in, Over.tile_length};
 ghost use Rattle.model_images.specs.FromRaw.{byte_count, image_from_raw};
-ghost use Rattle.model_images.specs.Paint.{put_raw};
-ghost use Rattle.model_images.specs.Tiles.{tile_or_zeros};
-ghost use Rattle.plane_rect.specs.Rectangle.{Includes};
+ghost use Rattle.model_images.specs.{Paint.put_raw, Tiles.tile_or_zeros};
 ghost use Rattle.plane_rect.specs.Tile.{IsWhole, tile_square};
+ghost use Rattle.plane_rect.specs.Rectangle.{Includes};
 ghost use Rattle.swap_store.specs.Cause.{HasSwapCause};
-ghost use Rattle.root_tiles.specs.Chains.{IsRead};
 ghost use Rattle.root_tiles.specs.Cutting.{Covers, cutting_of};
-ghost use Rattle.root_tiles.specs.Paints.{IsPaint};
-ghost use Rattle.root_tiles.specs.Reads.{MakesTile};
-ghost use Rattle.root_tiles.specs.Roots.{IsRootOver};
+ghost use Rattle.root_tiles.specs.{Chains.IsRead, Paints.IsPaint, Reads.MakesTile, Roots.IsRootOver};
 
 use crate::paint::Paint;
 use crate::ready::ReadyTiles;

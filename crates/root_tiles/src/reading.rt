@@ -8,9 +8,8 @@ ghost use Rattle.plane_rect.specs.Tile.{last_tile, tile_end, tile_of};
 ghost use Rattle.pixel_formats.specs.Format.{pixel_bytes};
 ghost use Rattle.tile_lines.specs.Lines.{AreLineTiles, HasFirstPixels, HasLine};
 ghost use Rattle.swap_store.specs.Cause.{HasSwapCause};
-ghost use Rattle.root_tiles.specs.Chains.{IsRead};
-ghost use Rattle.root_tiles.specs.Reads.{ReadsPart};
 ghost use Rattle.root_tiles.specs.Roots.{HasShape, IsRootOver, root_image, with_tile};
+ghost use Rattle.root_tiles.specs.{Chains.IsRead, Reads.ReadsPart};
 
 use crate::root::Root;
 use chain_contracts::TileChain;

@@ -1,8 +1,8 @@
 //! Roots shared and released.
 
 ghost use Rattle.std.specs.Prelude.{◌≡◌, ◌++◌, [], IfOk, OnErr, OnOk};
-ghost use Rattle.chain_owners.specs.Counts.{Grows};
 ghost use Rattle.chain_owners.specs.Owners.{Owns, Respects};
+ghost use Rattle.chain_owners.specs.Counts.{Grows};
 ghost use Rattle.root_tiles.specs.Roots.{IsRootOver, root_image, root_names};
 
 use crate::root::Root;

@@ -4,9 +4,9 @@ ghost use Rattle.std.specs.Prelude.{◌≡◌, ℕ, ◌+◌, ◌≤◌, IfErr, I
 ghost use Rattle.level_tables.specs.Over.{IsTileOfLevel, max_level, tile_length};
 ghost use Rattle.model_images.specs.TileCounts.{level_tiles};
 ghost use Rattle.swap_store.specs.Cause.{HasSwapCause};
-ghost use Rattle.root_tiles.specs.Chains.{IsRead};
 ghost use Rattle.root_tiles.specs.Growth.{HoldsMoreTiles, names_with_root_levels, root_state};
 ghost use Rattle.root_tiles.specs.Roots.{IsRootOver, root_image};
+ghost use Rattle.root_tiles.specs.Chains.{IsRead};
 
 use crate::root::Root;
 use chain_contracts::TileChain;

@@ -6,9 +6,7 @@ ghost use Rattle.pixel_formats.specs.Format.{channels, depth};
 ghost use Rattle.pixel_formats.specs.Row.{sample_at};
 ghost use Rattle.plane_rect.specs.Rectangle.{Includes};
 ghost use Rattle.solid_patches.specs.Samples.{IsSampleOf};
-ghost use Rattle.root_tiles.specs.Paints.{IsSolid};
-ghost use Rattle.root_tiles.specs.Roots.{IsRootOver};
-ghost use Rattle.root_tiles.specs.Writes.{IsWritten};
+ghost use Rattle.root_tiles.specs.{Paints.IsSolid, Roots.IsRootOver, Writes.IsWritten};
 
 use crate::makers::{SplitRaw, TileMaker};
 use crate::paint::Paint;

@@ -68,9 +68,5 @@ faults_of_swap result old new only swap reads writes puts chain =
 pub chain_faults : (old new : Moment) → new.reads ≡ old.reads → new.writes ≡ old.writes → new.puts ≡ old.puts → Continues old.chain new.chain → HasFaults (Ok tt) old new
 chain_faults old new reads writes puts = faults_of_swap (Ok tt) old new refl (λ e. absurd (cc)) (omega (arith, reads)) (omega (arith, writes)) (omega (arith, puts))
 
--- no count fell, however the part ended
-pub faults_so_far : (result : Result (Unit {0}) End) (old new : Moment) → HasFaults result old new → HasFaults (Ok tt) old new
-faults_so_far result old new faults = faults_of_swap (Ok tt) old new refl (λ e. absurd (cc)) faults.reads faults.writes faults.puts faults.chain
-
 pub no_faults : (now : Moment) → HasFaults (Ok tt) now now
 no_faults now = chain_faults now now refl refl refl (continues_same now.chain now.chain refl)

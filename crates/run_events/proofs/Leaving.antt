@@ -4,7 +4,7 @@ use Rattle.std.specs.Result.{IsErrAnd}
 use Rattle.outside_io.specs.Files.{Files}
 use Rattle.model_runs.specs.declared.ending.End.{End}
 use Rattle.model_runs.specs.declared.ending.End.TheVariants as ends
-use Rattle.run_texts.specs.Events.{Event, Writes, Puts, Outcome, Refusal, events_alone, then_do}
+use Rattle.run_texts.specs.Events.{Event, Puts, Outcome, Refusal, events_alone, then_do}
 use Rattle.run_texts.specs.World.{World, after_all, LeavesSome}
 use Rattle.run_texts.proofs.Leaving.{none_yet, all_came, after_all-append, some_after, some_of_first}
 use Rattle.model_runs.specs.Ending.{IsWhole, Leaves, MayTear}
@@ -24,10 +24,6 @@ Leaves-then events rest result old mid new came leaves =
 -- nothing is done for running out of memory
 pub nothing_done : (outcome : Outcome) (world : World) → Leaves outcome (Err ends.NoMemory) world world
 nothing_done outcome world = record { refused = tt; whole = λ whole. absurd whole; some = none_yet _ outcome.events world }
-
-pub nothing_done-end : (outcome : Outcome) (end : End) (world : World) → end ≡ ends.NoMemory → Leaves outcome (Err end) world world
-nothing_done-end outcome end world none =
-    subst (λ (e : End). Leaves outcome (Err e) world world) (sym none) (nothing_done outcome world)
 
 -- nothing is done after an I/O error of a read
 pub nothing_read : (outcome : Outcome) (world : World) → Leaves outcome (Err ends.ReadFault) world world
@@ -119,11 +115,6 @@ pub HasCause-same_end : (end : End) (result : Result (Unit {0}) End) (old new : 
 HasCause-same_end end (Ok done) old new same cause = absurd same
 HasCause-same_end end (Err other) old new same cause = subst (λ (e : End). HasCause (Err e) old new) (sym same) cause
 
--- the same bytes in a file
-pub Leaves-same_bytes : (name a b : List ℕ) (result : Result (Unit {0}) End) (old new : World) → a ≡ b →
-    Leaves (events_alone (Writes name a ∷ [])) result old new → Leaves (events_alone (Writes name b ∷ [])) result old new
-Leaves-same_bytes name a b result old new same leaves = subst (λ (bytes : List ℕ). Leaves (events_alone (Writes name bytes ∷ [])) result old new) same leaves
-
 pub falls_then : (old mid new : Counts) → NoneFell old mid → NoneFell mid new → NoneFell old new
 falls_then old mid new first then = record { reads = omega arith; writes = omega arith; puts = omega arith }
 
@@ -141,12 +132,6 @@ pub exposed_outcome : (exposed : Option Files) (known : Files → Type 0) (outco
     ((files : Files) → known files → outcome files ≡ other) → IfSome exposed known → Leaves other result old new → IfSome exposed (λ files. Leaves (outcome files) result old new)
 exposed_outcome exposed known outcome other result old new same holds leaves =
     in_some exposed known _ (λ files k. subst (λ (o : Outcome). Leaves o result old new) (sym (same files k)) leaves) holds
-
--- where the files are reported, one outcome for another
-pub exposed_same : (exposed : Option Files) (outcome other : Files → Outcome) (result : Result (Unit {0}) End) (old new : World) →
-    ((files : Files) → outcome files ≡ other files) → IfSome exposed (λ files. Leaves (other files) result old new) → IfSome exposed (λ files. Leaves (outcome files) result old new)
-exposed_same exposed outcome other result old new same leaves =
-    in_some exposed _ _ (λ files l. subst (λ (o : Outcome). Leaves o result old new) (sym (same files)) l) leaves
 
 pub exposed_any : (exposed : Option Files) (outcome : Files → Outcome) (result : Result (Unit {0}) End) (old new : World) →
     ((files : Files) → Leaves (outcome files) result old new) → IfSome exposed (λ files. Leaves (outcome files) result old new)

@@ -33,7 +33,7 @@ use Rattle.model_states.specs.History.{number_of}
 use Rattle.outside_io.specs.Faults.{Rose}
 use Rattle.outside_io.specs.Files.{Files}
 use Rattle.run_events.proofs.Carrying.{Exceeds-more, nothing_carried}
-use Rattle.run_events.proofs.Faults.{chain_faults, continues_same, faults_of_swap, only_swap}
+use Rattle.run_events.proofs.Faults.{continues_same, faults_of_swap, only_swap}
 use Rattle.run_events.proofs.Texts.{put_none}
 use Rattle.run_events.specs.Carried.{Exceeds, most_of_line, outcome_of_line}
 use Rattle.run_events.specs.Moments.{HasFaults, Moment}
@@ -202,9 +202,6 @@ module _ (edit : BufferEdit) (old new : SessionOver) (shelf : Option Files) (tex
 
   ends_by : (end : End) → only_swap (Err end) ≡ true → (end ≡ ends.SwapFault → Rose old.counts.faults new.counts.faults) → Grows (tiles_added edit) old.counts new.counts → HasFaults (Err end) first last
   ends_by end only swap grows = faults_of_swap (Err end) first last only (λ e. swap (cc)) (omega arith) (omega arith) (omega arith) grows.continues
-
-  pub done_faults : IsEdited edit (Ok tt) old new → HasFaults (Ok tt) first last
-  done_faults is = chain_faults first last refl refl refl is.counts.continues
 
   lower_faults : (lower : BufferRefused) → HasEditCause (layout_in old) edit old.counts new.counts lower → Grows (tiles_added edit) old.counts new.counts →
       HasFaults (end_of {A = Unit {0}} (Err (stop_of (by_buffers lower)))) first last

@@ -24,3 +24,4 @@ mod RawBands
 mod BandBytes
 mod BandWrites
 mod PictureWrites
+mod Seen

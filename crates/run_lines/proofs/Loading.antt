@@ -1,8 +1,6 @@
 -- Lines that load a file into a buffer.
-use Rattle.std.proofs.Common.{◌≡◌, ◌≢◌, ℕ, ◌*◌, ◌^◌, ◌<◌, ◌≤◌, ◌==◌, Bool, true, false, IsTrue, cond, List, length, Option, Some, None, Result, Ok, Err, IsSomeAnd, IfSome, ◌⊎◌, inl, inr, refl, sym, ap, ◌∙◌, subst, arith}
+use Rattle.std.proofs.Common.{◌≡◌, ◌≢◌, ℕ, ◌==◌, Bool, true, false, IsTrue, cond, List, length, Option, Some, None, Result, Ok, Err, IsSomeAnd, IfSome, ◌⊎◌, inl, inr, refl, sym, ap, ◌∙◌, subst, arith}
 use Rattle.std.specs.Option.{option_map}
-use Rattle.std.specs.Prelude.{◌&&◌, nat_le}
-use Rattle.std.proofs.Math.Nat.{mul-le-mul}
 use Rattle.std.proofs.lemmas.Bool.Decides.{nat_tests}
 use Rattle.chain_owners.specs.Held.{Held}
 use Rattle.commit_session.specs.Parts.{Parts, working_facts}
@@ -25,7 +23,7 @@ use Rattle.model_runs.specs.declared.ending.End.{End}
 use Rattle.model_runs.specs.declared.ending.End.TheVariants as ends
 use Rattle.outside_io.specs.Files.{Files, file}
 use Rattle.pixel_formats.specs.declared.format.Format.{Format}
-use Rattle.plane_rect.specs.Rectangle.{Rectangle, area, in_limits, includes}
+use Rattle.plane_rect.specs.Rectangle.{Rectangle, includes}
 use Rattle.run_events.proofs.Carrying.{nothing_carried}
 use Rattle.run_events.specs.Moments.{Moment}
 use Rattle.run_lines.proofs.EditLines.{at_chain, edit_done, edit_stopped}
@@ -41,21 +39,6 @@ use Rattle.run_texts.specs.declared.cause.Cause.{Cause}
 use Rattle.run_texts.specs.declared.cause.Cause.TheVariants as causes
 
 -- ---- how many bytes a raster has
-
-both_pass : (a b : Bool) → (a && b) ≡ true → b ≡ true
-both_pass true b passed = passed
-both_pass false b passed = absurd (cc)
-
-small_area : (r : Rectangle) → in_limits r ≡ true → area r ≤ 2 ^ 25
-small_area r limits =
-    let small : nat_le (area r) (2 ^ 25) ≡ true = both_pass (nat_le r.width (2 ^ 15) && nat_le r.height (2 ^ 15)) (nat_le (area r) (2 ^ 25)) limits in
-    grind (arith, nat_tests, small)
-
-pub raster_fits : (r : Rectangle) (bytes : ℕ) → IsTrue (in_limits r) → bytes < 2 ^ 32 → area r * bytes < 2 ^ 64
-raster_fits r bytes limits few =
-    let under : bytes ≤ 2 ^ 32 = omega (arith, few) in
-    let product : area r * bytes ≤ 2 ^ 25 * 2 ^ 32 = mul-le-mul (small_area r limits) under in
-    omega (arith, product)
 
 unequal : (a b : ℕ) → a ≢ b → (a == b) ≡ false
 unequal a b apart =

@@ -3,6 +3,7 @@ use Rattle.std.proofs.Common.{◌≡◌, ◌≢◌, ℕ, Bool, true, false, IsTr
 use Rattle.std.specs.FinMap.{get-insert}
 use Rattle.std.specs.Option.{option_map}
 use Rattle.std.proofs.lemmas.Cmp.{nat_list_cmp_total}
+use Rattle.chain_owners.specs.Counts.{Continues}
 use Rattle.model_runs.specs.Effects.{writes}
 use Rattle.model_runs.specs.Ending.{Leaves, SaysRefused}
 use Rattle.model_runs.specs.Run.{files_after_all}
@@ -11,8 +12,10 @@ use Rattle.model_runs.specs.declared.ending.End.{End}
 use Rattle.model_runs.specs.declared.ending.End.TheVariants as ends
 use Rattle.outside_io.specs.Files.{Files, file, filed}
 use Rattle.run_events.proofs.Carrying.{carried_alike, carried_by_leaves}
+use Rattle.run_events.proofs.Faults.{chain_faults, faults_by_cause, faults_then}
 use Rattle.run_events.specs.Carried.{CarriesOut, most_of_line, outcome_of_line}
-use Rattle.run_events.specs.Moments.{Moment, world_at}
+use Rattle.run_events.specs.Causes.{HasCause}
+use Rattle.run_events.specs.Moments.{HasFaults, Moment, world_at}
 use Rattle.run_lines.specs.States.{AreAlike}
 use Rattle.run_lines.specs.Stops.{IsEnded}
 use Rattle.run_texts.specs.Events.{Event, Outcome, events_alone}
@@ -91,3 +94,10 @@ module _ (exposed : Bool) (done : Effect) (target wanted bytes text : List ℕ) 
         alike = subst (λ (f : Files). IsSomeAnd after.files (AreAlike f)) (sym then) (alike-after files before.files after.files target wanted bytes alike wants.as_long now);
         same = λ e. now ∙ ap (option_map (λ f. filed f target bytes)) (same e) ∙ ap (λ (b : List ℕ). Some (filed files target b)) (wants.as_wanted e) ∙ ap Some (sym then);
       }
+
+-- the chain was read, and then a file was written and a text put
+pub file-faults : (result : Result (Unit {0}) End) (before after : Moment) → Continues before.chain after.chain →
+    HasCause result (record { reads = before.reads; writes = before.writes; puts = before.puts }) (record { reads = after.reads; writes = after.writes; puts = after.puts }) → HasFaults result before after
+file-faults result before after continues cause =
+    let mid : Moment = record before { chain = after.chain } in
+    faults_then (Ok tt) result before mid after (chain_faults before mid refl refl refl continues) (faults_by_cause result mid after refl cause)

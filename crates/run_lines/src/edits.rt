@@ -6,8 +6,7 @@ ghost use Rattle.model_buffers.specs.BufferEdit.{IsProperEdit};
 ghost use Rattle.model_operations.specs.Meanings.{int_meanings, same_operation};
 ghost use Rattle.outside_io.specs.Files.{Files};
 ghost use Rattle.plane_rect.specs.Rectangle.{in_limits};
-ghost use Rattle.run_lines.specs.Commands.{edit_of};
-ghost use Rattle.run_lines.specs.Stops.{CarriesOutCommand};
+ghost use Rattle.run_lines.specs.{Commands.edit_of, Stops.CarriesOutCommand};
 ghost use Rattle.script_read.specs.Limits.{IsInLimits};
 
 use crate::stop::Stop;

@@ -3,12 +3,10 @@
 ghost use Rattle.std.specs.Prelude.{[], ◌∷◌, IsTrue, length};
 ghost use Rattle.commit_session.specs.Seen.{IsOver};
 ghost use Rattle.model_operations.specs.Meanings.{int_meanings, same_operation};
-ghost use Rattle.model_runs.specs.Effects.{writes};
-ghost use Rattle.model_runs.specs.Ending.{Leaves};
+ghost use Rattle.model_runs.specs.{Effects.writes, Ending.Leaves};
 ghost use Rattle.run_events.specs.Causes.{HasCause, HasSinkCause};
 ghost use Rattle.run_events.specs.Leaving.{SinkLeaves};
-ghost use Rattle.run_lines.specs.Commands.{is_grab};
-ghost use Rattle.run_lines.specs.Stops.{CarriesOutCommand};
+ghost use Rattle.run_lines.specs.{Commands.is_grab, Stops.CarriesOutCommand};
 ghost use Rattle.run_texts.specs.Events.{Puts, events_alone};
 ghost use Rattle.run_texts.specs.Texts.{grab_text as text_of_grab};
 ghost use Rattle.script_read.specs.Limits.{IsInLimits};

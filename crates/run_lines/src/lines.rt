@@ -4,15 +4,13 @@ ghost use Rattle.std.specs.Prelude.{◌≡◌, ℕ, All, Bool, IfOk};
 ghost use Rattle.commit_session.specs.Seen.{IsOver};
 ghost use Rattle.model_bounds.specs.Counts.{HasTrueCounts};
 ghost use Rattle.model_operations.specs.Meanings.{int_meanings, same_operation};
-ghost use Rattle.model_runs.specs.Built.{is_of_watch as of_watch};
 ghost use Rattle.model_runs.specs.Run.{effects, state_after};
-ghost use Rattle.model_runs.specs.State.{RunState};
+ghost use Rattle.model_runs.specs.{Built.is_of_watch as of_watch, State.RunState};
 ghost use Rattle.outside_io.specs.Files.{Files};
 ghost use Rattle.run_events.specs.Carried.{CarriesOutLines, IsCounted};
 ghost use Rattle.run_events.specs.Moments.{HasFaults};
-ghost use Rattle.run_lines.specs.Commands.{IsBuiltLine};
-ghost use Rattle.run_lines.specs.States.{Holds};
 ghost use Rattle.run_lines.specs.Stops.{CarriesOutCommand, CarriesOutLine};
+ghost use Rattle.run_lines.specs.{Commands.IsBuiltLine, States.Holds};
 
 use crate::edits::edit;
 use crate::files::grab;

@@ -6,8 +6,7 @@
 ghost use Rattle.std.specs.Prelude.{◌≡◌, ℕ, ◌+◌, ◌-◌, ◌*◌, ◌==◌, ◌<◌, ◌≤◌, ◌^◌, IfOk, IfSome, IsSomeAnd, IsTrue, List, Option, length};
 ghost use Rattle.std.specs.Result.{OnOk};
 ghost use Rattle.chain_owners.specs.Counts.{Counts};
-ghost use Rattle.commit_session.specs.Parts.{working_facts};
-ghost use Rattle.commit_session.specs.Seen.{IsOver};
+ghost use Rattle.commit_session.specs.{Parts.working_facts, Seen.IsOver};
 ghost use Rattle.model_buffers.specs.declared.edit.BufferEdit.TheVariants.{Put};
 ghost use Rattle.model_graphs.specs.Facts.{fact_of};
 ghost use Rattle.model_images.specs.FromRaw.{byte_count};
@@ -17,10 +16,10 @@ ghost use Rattle.outside_io.specs.Files.{file as bytes_of};
 ghost use Rattle.plane_rect.specs.Rectangle.{end_row as row_after, in_limits, plane_side};
 ghost use Rattle.run_events.specs.Moments.{HasFaults};
 ghost use Rattle.run_lines.specs.Bands.{BeginsBand, IsReached, bytes_of_rows, rows_between as rows_of};
-ghost use Rattle.run_lines.specs.Commands.{is_load};
 ghost use Rattle.run_lines.specs.Edited.{IsEdited, IsPut, done};
 ghost use Rattle.run_lines.specs.Rasters.{IsPart, IsTarget, Reads};
 ghost use Rattle.run_lines.specs.Stops.{CarriesCommand, CarriesOutCommand, end_of};
+ghost use Rattle.run_lines.specs.Commands.{is_load};
 ghost use Rattle.script_read.specs.Limits.{IsInLimits};
 
 use crate::stop::Stop;

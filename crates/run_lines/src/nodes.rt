@@ -4,14 +4,11 @@ ghost use Rattle.std.specs.Prelude.{◌≡◌, Bool, IfOk, IsSome, Some, ℕ};
 ghost use Rattle.chain_owners.specs.Held.{Held};
 ghost use Rattle.commit_session.specs.Seen.{IsOver};
 ghost use Rattle.model_operations.specs.Meanings.{int_meanings, same_operation};
-ghost use Rattle.model_runs.specs.Commands.{body_of};
-ghost use Rattle.model_runs.specs.Effects.{effect};
-ghost use Rattle.model_runs.specs.State.{RunState};
+ghost use Rattle.model_runs.specs.{Commands.body_of, Effects.effect, State.RunState};
 ghost use Rattle.outside_io.specs.Files.{Files};
 ghost use Rattle.run_events.specs.Moments.{HasFaults, Moment};
-ghost use Rattle.run_lines.specs.Commands.{node_edit_of};
-ghost use Rattle.run_lines.specs.States.{Holds};
 ghost use Rattle.run_lines.specs.Stops.{Did, end_of};
+ghost use Rattle.run_lines.specs.{Commands.node_edit_of, States.Holds};
 
 use crate::stop::Stop;
 use commit_session::SessionState;

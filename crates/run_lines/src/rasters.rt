@@ -2,8 +2,7 @@
 
 ghost use Rattle.std.specs.Prelude.{◌≡◌, [], ◌∷◌, ◌++◌, ℕ, ◌<◌, IfErr, IfSome, List, Option, Some, length, slice_get, take};
 ghost use Rattle.std.specs.Option.{option_map};
-ghost use Rattle.model_images.specs.FromRaw.{byte_count};
-ghost use Rattle.model_images.specs.Image.{Image};
+ghost use Rattle.model_images.specs.{FromRaw.byte_count, Image.Image};
 ghost use Rattle.model_runs.specs.Ending.{Leaves, MayTear, ended};
 ghost use Rattle.model_states.specs.Need.{strip_rectangles};
 ghost use Rattle.outside_io.specs.Files.{Files, filed};
@@ -11,8 +10,8 @@ ghost use Rattle.plane_rect.specs.Rectangle.{Rectangle};
 ghost use Rattle.run_events.specs.Causes.{HasShelfCause};
 ghost use Rattle.run_lines.specs.PictureBytes.{AreBandsOf, LeavesBands, LeavesBytes};
 ghost use Rattle.run_texts.specs.Events.{Writes, events_alone};
-ghost use Rattle.strip_patches.specs.Pictures.{HasRows};
 ghost use Rattle.strip_patches.specs.Shown.{Shows, picture_box, picture_format};
+ghost use Rattle.strip_patches.specs.Pictures.{HasRows};
 
 use model_runs::End;
 use outside_io::Shelf;

@@ -6,11 +6,8 @@ ghost use Rattle.model_images.specs.Image.{Image};
 ghost use Rattle.model_operations.specs.Meanings.{int_meanings, same_operation};
 ghost use Rattle.model_runs.specs.Effects.{writes};
 ghost use Rattle.run_events.specs.Causes.{HasCause};
-ghost use Rattle.run_lines.specs.Commands.{is_render};
-ghost use Rattle.run_lines.specs.PictureBytes.{LeavesBytes};
-ghost use Rattle.run_lines.specs.Stops.{CarriesOutCommand};
-ghost use Rattle.run_texts.specs.Events.{events_alone};
-ghost use Rattle.run_texts.specs.Texts.{render_text as text_of_render};
+ghost use Rattle.run_lines.specs.{Commands.is_render, PictureBytes.LeavesBytes, Stops.CarriesOutCommand};
+ghost use Rattle.run_texts.specs.{Events.events_alone, Texts.render_text as text_of_render};
 ghost use Rattle.script_read.specs.Limits.{IsInLimits};
 ghost use Rattle.strip_patches.specs.Shown.{Shows, picture_box, picture_format};
 

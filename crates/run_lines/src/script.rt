@@ -2,9 +2,8 @@
 
 ghost use Rattle.std.specs.Prelude.{◌≤◌, ◌^◌, All, IfOk, IfSome, is_some, length, min, []};
 ghost use Rattle.chain_handlers.specs.OwnedTiles.{counts_over};
-ghost use Rattle.model_runs.specs.Ending.{ended};
 ghost use Rattle.model_runs.specs.Run.{effects, state_after};
-ghost use Rattle.model_runs.specs.State.{first_state};
+ghost use Rattle.model_runs.specs.{Ending.ended, State.first_state};
 ghost use Rattle.pixel_formats.specs.Limits.{max_lines};
 ghost use Rattle.run_events.specs.Carried.{CarriesOutLines, IsCounted};
 ghost use Rattle.run_events.specs.Moments.{HasFaults};

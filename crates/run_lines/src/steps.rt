@@ -4,8 +4,7 @@ ghost use Rattle.std.specs.Prelude.{ℕ, IsTrue, List, Option};
 ghost use Rattle.commit_session.specs.Seen.{IsOver};
 ghost use Rattle.model_operations.specs.Meanings.{int_meanings, same_operation};
 ghost use Rattle.outside_io.specs.Files.{Files};
-ghost use Rattle.run_lines.specs.Commands.{is_step};
-ghost use Rattle.run_lines.specs.Stops.{CarriesOutCommand};
+ghost use Rattle.run_lines.specs.{Commands.is_step, Stops.CarriesOutCommand};
 
 use crate::stop::Stop;
 use chain_contracts::TileChain;

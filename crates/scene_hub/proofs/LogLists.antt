@@ -1,9 +1,8 @@
 -- The list that a log gives, as the log grows.
 use Rattle.std.proofs.Common.{◌≡◌, ◌≢◌, ℕ, suc, ◌<◌, ◌≤◌, ◌==◌, ◌⊎◌, inl, inr, ⊎_elim, Bool, true, false, List, [], ◌∷◌, ◌++◌, length, drop, fold, refl, ap, sym, ◌∙◌, subst, arith}
 use Rattle.std.specs.Prelude.{All, if◌then◌else◌}
-use Rattle.std.proofs.lemmas.List.{append-nil, drop-append-le}
+use Rattle.std.proofs.lemmas.List.{drop-append-le}
 use Rattle.std.proofs.lemmas.List.Sums.{fold-append}
-use Rattle.std.proofs.Math.Seq.{drop-append_seam}
 use Rattle.std.proofs.lemmas.Bool.{cases_lt}
 use Rattle.std.proofs.lemmas.Bool.Decides.{nat_tests}
 use Rattle.scene_hub.specs.declared.entry.Entry.{Entry}
@@ -70,13 +69,6 @@ module _ {S : Type 0} where
 
   pub appended_since : (older old new : List (Entry S)) (e : Entry S) → Begins older old → IsAppended old new e → IsAppended older new e
   appended_since older old new e b a = (a.0, a.1, begins_trans older old a.0 b a.2, a.3)
-
-  -- a list that begins at the end of its log has one scene
-  pub list_begun : (before : List (Entry S)) (e : Entry S) → list_of (before ++ e ∷ []) (before ++ e ∷ []) ≡ (e.next, e.scene ∷ [])
-  list_begun before e =
-      let log = before ++ e ∷ [] in
-      let none : drop (length log) log ≡ [] = ap (drop (length log)) (sym (append-nil log)) ∙ drop-append_seam log [] in
-      ap (fold with_entry (begun log)) none ∙ fold-append (λ _ x. (x.next, x.scene ∷ [])) (0, []) before (e ∷ [])
 
   -- of the lists of two logs that begin one log one begins the other
   pub lists_meet : (origin one other all : List (Entry S)) → Begins origin one → Begins origin other → Begins one all → Begins other all

@@ -1,8 +1,8 @@
 //! What an editor does.
 
 ghost use Rattle.std.specs.Prelude.{◌≡◌, [], ◌∷◌, ◌++◌, Some, IfOk, OnErr, option_map};
-ghost use Rattle.scene_hub.specs.SceneLog.{last_of};
 ghost use Rattle.scene_hub.specs.Hub.{published, receipted, IsOfEditor, IsSameEditorHub, IsNewer};
+ghost use Rattle.scene_hub.specs.SceneLog.{last_of};
 
 use crate::editor::Editor;
 use crate::numbered::Numbered;

@@ -2,9 +2,8 @@
 
 ghost use Rattle.std.specs.Prelude.{◌≡◌, ◌≤◌, [], ◌∷◌, ◌++◌, Some, All, IfOk, OnErr, MatchBool, drop, vec_len};
 ghost use Rattle.left_right.specs.Sides.{view};
-ghost use Rattle.scene_hub.specs.HubRule.{IsShown};
-ghost use Rattle.scene_hub.specs.HubList.{scenes};
 ghost use Rattle.scene_hub.specs.Hub.{published, seen, told, IsViewerOf, IsSameEditorHub};
+ghost use Rattle.scene_hub.specs.{HubRule.IsShown, HubList.scenes};
 
 use crate::editor::Editor;
 use crate::numbered::Numbered;

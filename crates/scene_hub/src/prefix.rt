@@ -1,8 +1,8 @@
 //! A prefix of the list of a hub's scenes.
 
 ghost use Rattle.std.specs.Prelude.{◌≡◌, ◌⊎◌};
-ghost use Rattle.scene_hub.specs.SceneLog.{Begins};
 ghost use Rattle.scene_hub.specs.HubList.{IsReached, IsSameHub, scenes};
+ghost use Rattle.scene_hub.specs.SceneLog.{Begins};
 
 use crate::book::HubBook;
 use crate::entry::Entry;

@@ -1,8 +1,8 @@
 //! What a viewer is told by.
 
 ghost use Rattle.std.specs.Prelude.{◌≡◌, Some, option_map};
-ghost use Rattle.scene_hub.specs.SceneLog.{last_of};
 ghost use Rattle.scene_hub.specs.HubList.{scenes, IsReached, RisesTo};
+ghost use Rattle.scene_hub.specs.SceneLog.{last_of};
 
 use crate::numbered::Numbered;
 use crate::prefix::ListPrefix;

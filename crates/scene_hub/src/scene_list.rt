@@ -3,8 +3,8 @@
 ghost use Rattle.std.specs.Prelude.{◌≡◌, [], ◌∷◌, ◌++◌};
 ghost use Rattle.logbook.specs.Pages.{may_write};
 ghost use Rattle.scene_hub.specs.HubBook.{IsAppended, base_of};
-ghost use Rattle.scene_hub.specs.SceneLog.{Begins};
 ghost use Rattle.scene_hub.specs.HubList.{scenes, next_key, IsReached, IsSameHub, ComesBefore};
+ghost use Rattle.scene_hub.specs.SceneLog.{Begins};
 
 use crate::book::{AppendEntry, BeginList, HubBook, Nothing, TakePen};
 use crate::entry::{Entry, NewEntry};

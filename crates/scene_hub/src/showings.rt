@@ -2,8 +2,8 @@
 
 ghost use Rattle.std.specs.Prelude.{◌≡◌, [], ◌∷◌, Some, drop, OnErr, MatchBool};
 ghost use Rattle.left_right.specs.Sides.{view};
-ghost use Rattle.scene_hub.specs.HubList.{ComesBefore};
 ghost use Rattle.scene_hub.specs.HubRule.{IsSeen, IsShown};
+ghost use Rattle.scene_hub.specs.HubList.{ComesBefore};
 
 use crate::numbered::Numbered;
 use crate::publisher::Publisher;

@@ -1,8 +1,8 @@
 //! The end of a hub that shows scenes.
 
 ghost use Rattle.left_right.specs.Sides.{view};
-ghost use Rattle.scene_hub.specs.HubList.{IsSameHub};
 ghost use Rattle.scene_hub.specs.HubRule.{HasSeen, IsShown};
+ghost use Rattle.scene_hub.specs.HubList.{IsSameHub};
 
 use crate::numbered::Numbered;
 use crate::receipt::Receipt;

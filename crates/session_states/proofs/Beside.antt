@@ -1,5 +1,5 @@
 -- Tables of buffers that a call on the chain wasn't handed.
-use Rattle.std.proofs.Common.{◌≡◌, ℕ, ◌+◌, ◌≤◌, List, [], ◌∷◌, ◌++◌, refl, arith}
+use Rattle.std.proofs.Common.{ℕ, ◌+◌, ◌≤◌, List, [], ◌∷◌, ◌++◌, refl, arith}
 use Rattle.std.specs.List.{AllByRecursion}
 use Rattle.chain_owners.specs.Held.{Held}
 use Rattle.chain_owners.specs.Owners.{Owns, Respects, times}
@@ -59,9 +59,6 @@ module _ (old new : Held) (before after : List ℕ) (respects : Respects old new
   owned-again buffers owns = others-own old new before after respects (names_of_all buffers) owns
 
 -- ---- names in another order
-
-pub owns-counted : (held : Held) (names other : List ℕ) → ((q : ℕ) → times other q ≡ times names q) → Owns held names → Owns held other
-owns-counted held names other is owns = owns-fewer held names other (λ q. omega (arith, is q)) owns
 
 pub same-itself : (held : Held) (buffers : List BufferTable) → AreAllSame held held buffers
 same-itself held [] = tt

@@ -4,17 +4,14 @@ ghost use Rattle.std.specs.Prelude.{◌≡◌, ◌≤◌, IfErr, IfOk, OnErr, Er
 ghost use Rattle.chain_owners.specs.Counts.{Grows};
 ghost use Rattle.level_tables.specs.Over.{max_level};
 ghost use Rattle.model_buffers.specs.BufferEdit.{IsProperEdit, edit_refused};
-ghost use Rattle.model_buffers.specs.Counts.{tiles_added};
-ghost use Rattle.model_buffers.specs.Layout.{find};
-ghost use Rattle.model_buffers.specs.declared.refused.EditRefused.{EditRefused as Cause};
+ghost use Rattle.model_buffers.specs.{Counts.tiles_added, Layout.find, declared.refused.EditRefused.EditRefused as Cause};
 ghost use Rattle.model_buffers.specs.declared.refused.EditRefused.TheVariants.{UnknownBuffer};
 ghost use Rattle.model_images.specs.TileCounts.{level_tiles};
 ghost use Rattle.plane_rect.specs.Rectangle.{InLimits};
 ghost use Rattle.root_tiles.specs.Roots.{HasShape};
 ghost use Rattle.buffer_view.specs.BufferTables.{AreBuffersOver, buffers_names, table_of};
-ghost use Rattle.buffer_view.specs.Causes.{HasEditCause};
 ghost use Rattle.buffer_view.specs.Reads.{HasReadCause, IsReadOfBuffer, box_of_root, part_of_buffer};
-ghost use Rattle.buffer_view.specs.declared.refused.BufferRefused.TheVariants.{Edit};
+ghost use Rattle.buffer_view.specs.{Causes.HasEditCause, declared.refused.BufferRefused.TheVariants.Edit};
 ghost use Rattle.session_states.specs.OverChains.{AreShownAgain, AreVersionsOver, IsEdited, Leaves, tables_of, versions_names};
 
 use crate::versions::BufferVersions;

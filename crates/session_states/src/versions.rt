@@ -3,8 +3,8 @@
 ghost use Rattle.std.specs.Prelude.{◌≡◌, IfOk, length};
 ghost use Rattle.chain_owners.specs.Held.{Held};
 ghost use Rattle.buffer_view.specs.BufferTables.{empty_table};
-ghost use Rattle.session_states.specs.OverChains.{AreVersionsOver};
 ghost use Rattle.session_states.specs.Versions.{new_versions, versions_ahead};
+ghost use Rattle.session_states.specs.OverChains.{AreVersionsOver};
 
 use buffer_view::{Buffers, no_buffers_ask_nothing};
 use graph_commits::Direction;

@@ -3,9 +3,8 @@
 ghost use Rattle.std.specs.Prelude.{◌≡◌, ◌+◌, ◌*◌, ◌<◌, All, length};
 ghost use Rattle.pixel_formats.specs.Format.{pixel_bytes};
 ghost use Rattle.plane_rect.specs.Tile.{IsWhole, tile_square};
-ghost use Rattle.model_images.specs.FromRaw.{pixels_from_raw};
 ghost use Rattle.model_images.specs.Image.{Image, IsImage};
-ghost use Rattle.model_images.specs.Paint.{painted};
+ghost use Rattle.model_images.specs.{FromRaw.pixels_from_raw, Paint.painted};
 ghost use Rattle.op_contracts.specs.TileList.{HasLength};
 ghost use Rattle.strip_patches.specs.Bands.{AreOfImage, HasBands, band_of};
 

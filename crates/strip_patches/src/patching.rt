@@ -2,10 +2,8 @@
 
 ghost use Rattle.std.specs.Prelude.{◌≡◌, ℕ, ◌*◌, ◌<◌, All, IfErr, IfOk, Some, length};
 ghost use Rattle.chain_owners.specs.Counts.{Grows};
-ghost use Rattle.model_graphs.specs.Evaluation.{Buffers};
-ghost use Rattle.model_graphs.specs.Facts.{shapes_of_facts};
-ghost use Rattle.model_images.specs.Image.{Image};
-ghost use Rattle.model_images.specs.Paint.{cut};
+ghost use Rattle.model_graphs.specs.{Evaluation.Buffers, Facts.shapes_of_facts};
+ghost use Rattle.model_images.specs.{Image.Image, Paint.cut};
 ghost use Rattle.model_states.specs.Valid.{AreStated};
 ghost use Rattle.plane_rect.specs.Rectangle.{InLimits, meet};
 ghost use Rattle.plane_rect.specs.Tile.{IsWhole};

@@ -1,8 +1,7 @@
 //! What a render gives: a patch, or tiles.
 
 ghost use Rattle.std.specs.Prelude.{◌≡◌, true};
-ghost use Rattle.model_images.specs.Image.{Image};
-ghost use Rattle.model_images.specs.Paint.{cut};
+ghost use Rattle.model_images.specs.{Image.Image, Paint.cut};
 ghost use Rattle.plane_rect.specs.Rectangle.{Rectangle};
 ghost use Rattle.strip_patches.specs.Shown.{Shows, is_patch, picture_box, picture_format};
 

@@ -2,12 +2,9 @@
 
 ghost use Rattle.std.specs.Prelude.{◌≡◌, ℕ, ◌+◌, ◌<◌, ◌≤◌, IfErr, IfOk, IsSome, OnErr, OnOk, Some, length, slice_get, true};
 ghost use Rattle.plane_rect.specs.Rectangle.{InLimits, IsRectangle, scaled};
-ghost use Rattle.model_graphs.specs.Evaluation.{Buffers};
-ghost use Rattle.model_graphs.specs.Facts.{shapes_of_facts};
-ghost use Rattle.model_images.specs.Image.{Image};
-ghost use Rattle.model_images.specs.Level.{level as image_level};
-ghost use Rattle.model_states.specs.Need.{strip_rectangles};
-ghost use Rattle.model_states.specs.Valid.{AreStated};
+ghost use Rattle.model_graphs.specs.{Evaluation.Buffers, Facts.shapes_of_facts};
+ghost use Rattle.model_images.specs.{Image.Image, Level.level as image_level};
+ghost use Rattle.model_states.specs.{Need.strip_rectangles, Valid.AreStated};
 ghost use Rattle.swap_store.specs.Cause.{HasSwapCause};
 ghost use Rattle.node_tiles.specs.Reads.{Reads, seen};
 ghost use Rattle.node_tiles.specs.Stated.{AreTilesOf, HaveLengths, shape_at};

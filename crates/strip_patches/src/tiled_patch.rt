@@ -1,8 +1,7 @@
 //! A rectangle of an image as the tiles that it meets, from which patches of its rows are made.
 
 ghost use Rattle.std.specs.Prelude.{◌≡◌, [], ◌∷◌, ◌++◌, ℕ, ◌+◌, ◌*◌, ◌<◌, All, IfOk, OnErr, OnOk, Some, length, slice_get};
-ghost use Rattle.model_images.specs.Image.{Image};
-ghost use Rattle.model_images.specs.Paint.{cut};
+ghost use Rattle.model_images.specs.{Image.Image, Paint.cut};
 ghost use Rattle.model_states.specs.Need.{strip_rectangles};
 ghost use Rattle.plane_rect.specs.Rectangle.{InLimits, IsRectangle};
 ghost use Rattle.plane_rect.specs.Tile.{IsWhole};

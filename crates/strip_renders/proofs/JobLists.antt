@@ -23,9 +23,6 @@ not-there pairs pair other has is absent same = ap (find_pair itself pairs) same
     none (Some p) e = absurd (cc e)
 
 module _ {Op : Type 0} (meanings : Meanings Op) (nodes : List (NodeFact Op)) where
-  pub jobs-none : (pairs : List Pair) (jobs : List Job) → jobs ≡ [] → AreJobs meanings nodes pairs [] jobs
-  jobs-none pairs jobs none = subst (AreJobs meanings nodes pairs []) (sym none) (record { among = tt; absent = tt; each = tt })
-
   -- one more is needed, and there is no job of it
   pub jobs-past : (pairs : List Pair) (needed : List Needed) (n : Needed) (jobs : List Job) → AreJobs meanings nodes pairs needed jobs → AreJobs meanings nodes pairs (needed ++ n ∷ []) jobs
   jobs-past pairs needed n jobs are = record { among = sub-before (map job_needed jobs) needed (n ∷ []) are.among; absent = are.absent; each = are.each }

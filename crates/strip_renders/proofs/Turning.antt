@@ -5,8 +5,6 @@ use Rattle.std.proofs.Math.Seq.{take-suc}
 use Rattle.std.proofs.lemmas.List.{map-append}
 use Rattle.std.proofs.lemmas.List.Sums.{fold-append}
 use Rattle.std.proofs.lemmas.Option.{get_or_from_slice_get, same_Some, slice_get-get_or, slice_get_within}
-use Rattle.chain_owners.specs.Owners.{Owns}
-use Rattle.chain_owners.proofs.Ownership.{others-own, owns-fewer, times-append}
 use Rattle.model_graphs.specs.declared.node.NodeFact.{NodeFact}
 use Rattle.model_graphs.specs.Evaluation.{Buffers}
 use Rattle.model_graphs.specs.Facts.{specs_of}
@@ -17,9 +15,9 @@ use Rattle.node_tiles.specs.Held.{HeldTiles}
 use Rattle.node_tiles.specs.Stated.{AreTilesOf, HaveLengths, scene_of}
 use Rattle.node_tiles.proofs.Reading.{reads-none}
 use Rattle.strip_renders.specs.Ahead.{IsSpentFor}
-use Rattle.strip_renders.specs.Moments.{Keeps, Moment, names_of}
+use Rattle.strip_renders.specs.Moments.{Keeps, Moment}
 use Rattle.strip_renders.specs.Strips.{AreKnownRight, HoldsNeed, IsRendered, counted, list_after, pairs_needed}
-use Rattle.strip_renders.proofs.Moments.{keeps-others, keeps-reads, source_of}
+use Rattle.strip_renders.proofs.Moments.{keeps-reads, source_of}
 
 -- ---- needed tiles by their index
 
@@ -106,13 +104,6 @@ module _ {Op : Type 0} (meanings : Meanings Op) (nodes : List (NodeFact Op)) (im
 
 pub keeps-none : (now : Moment) → Keeps 0 now now
 keeps-none now = keeps-reads now now (reads-none (source_of now)) refl refl
-
--- whoever owned what both hold still does
-pub owned-kept : (added : ℕ) (old new : Moment) → Keeps added old new → Owns old.held (names_of old) → Owns new.held (names_of new)
-owned-kept added old new keeps owns =
-    owns-fewer new.held (names_of new ++ []) (names_of new) (λ q. omega (arith, times-append (names_of new) [] q))
-    (others-own old.held new.held (names_of old) (names_of new) (keeps-others added old new keeps) []
-    (owns-fewer old.held (names_of old) (names_of old ++ []) (λ q. omega (arith, times-append (names_of old) [] q)) owns))
 
 -- no tile is needed yet
 pub need-none : {Op : Type 0} (nodes : List (NodeFact Op)) (held : HeldTiles) → held ≡ [] → HoldsNeed nodes [] held

@@ -1,9 +1,7 @@
 //! A needed tile that the cache hasn't.
 
 ghost use Rattle.std.specs.Prelude.{◌≡◌, ℕ, ◌+◌, ◌<◌, ◌≤◌, IfErr, IfOk, IfSome, MatchResult, None, Some, length};
-ghost use Rattle.model_graphs.specs.Evaluation.{Buffers};
-ghost use Rattle.model_graphs.specs.Facts.{specs_of};
-ghost use Rattle.model_graphs.specs.Permits.{Spent};
+ghost use Rattle.model_graphs.specs.{Evaluation.Buffers, Facts.specs_of, Permits.Spent};
 ghost use Rattle.model_states.specs.Cache.{find_pair, itself, pair_of};
 ghost use Rattle.swap_store.specs.Cause.{HasSwapCause};
 ghost use Rattle.node_tiles.specs.Reads.{Reads, seen};

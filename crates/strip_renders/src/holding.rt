@@ -1,15 +1,15 @@
 //! One needed tile of a strip, held.
 
 ghost use Rattle.std.specs.Prelude.{◌≡◌, [], ℕ, ◌∷◌, ◌+◌, ◌<◌, ◌≤◌, IfErr, IfOk, List, MatchResult, Some};
-ghost use Rattle.model_graphs.specs.Evaluation.{Buffers};
 ghost use Rattle.model_graphs.specs.Facts.{specs_of, stated_shapes};
+ghost use Rattle.model_graphs.specs.Evaluation.{Buffers};
 ghost use Rattle.model_states.specs.Cache.{AreRight, Cached, IsPairOf, pair_of};
 ghost use Rattle.swap_store.specs.Cause.{HasSwapCause};
 ghost use Rattle.node_tiles.specs.Stated.{AreTilesOf, HaveLengths, IsReady, scene_of};
 ghost use Rattle.strip_renders.specs.Ahead.{IsMade, IsMadeOf, IsPermitted, IsRefusedAt, permits_of};
-ghost use Rattle.strip_renders.specs.Looks.{IsRecent};
 ghost use Rattle.strip_renders.specs.Moments.{AreOver, Keeps, moment};
 ghost use Rattle.strip_renders.specs.Strips.{AreKnownRight, AreSizedPairs, AreStatedWith, HoldsMore, IsRendered};
+ghost use Rattle.strip_renders.specs.Looks.{IsRecent};
 
 use crate::evaluator::Evaluator;
 use crate::needed::needed_tile;

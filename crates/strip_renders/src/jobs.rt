@@ -2,14 +2,13 @@
 
 ghost use Rattle.std.specs.Prelude.{◌≡◌, ℕ, ◌+◌, ◌<◌, ◌≤◌, ◌++◌, [], ◌∷◌, IfErr, IfOk, List, MatchResult, Some, length, map};
 ghost use Rattle.std.specs.List.{AllByRecursion};
-ghost use Rattle.model_graphs.specs.Evaluation.{Buffers};
-ghost use Rattle.model_graphs.specs.Permits.{Spent};
+ghost use Rattle.model_graphs.specs.{Evaluation.Buffers, Permits.Spent};
 ghost use Rattle.model_states.specs.Need.{Needed};
 ghost use Rattle.swap_store.specs.Cause.{HasSwapCause};
 ghost use Rattle.roi_planner.specs.Inputs.{all_inputs};
-ghost use Rattle.node_tiles.specs.Jobs.{IsTileJob};
 ghost use Rattle.node_tiles.specs.Reads.{Reads, seen};
 ghost use Rattle.node_tiles.specs.Stated.{AreTilesOf, HaveLengths, IsReady};
+ghost use Rattle.node_tiles.specs.Jobs.{IsTileJob};
 ghost use Rattle.strip_renders.specs.Ahead.{AreJobs, AreJobsOf, AreReady, made_of};
 ghost use Rattle.strip_renders.specs.Strips.{AreStatedWith};
 

@@ -1,8 +1,8 @@
 //! One needed tile of a strip.
 
 ghost use Rattle.std.specs.Prelude.{◌≡◌, ℕ, ◌+◌, ◌<◌, ◌≤◌, IfErr, IfOk, MatchResult, Some, length};
-ghost use Rattle.model_graphs.specs.Evaluation.{Buffers};
 ghost use Rattle.model_graphs.specs.Facts.{specs_of, stated_shapes};
+ghost use Rattle.model_graphs.specs.Evaluation.{Buffers};
 ghost use Rattle.model_states.specs.Cache.{IsPairOf, pair_of};
 ghost use Rattle.swap_store.specs.Cause.{HasSwapCause};
 ghost use Rattle.node_tiles.specs.Stated.{AreTilesOf, HaveLengths, IsReady, bytes_at, length_at};

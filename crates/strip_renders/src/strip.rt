@@ -2,8 +2,7 @@
 
 ghost use Rattle.std.specs.Prelude.{◌≡◌, ℕ, ◌+◌, ◌≤◌, IfErr, IfOk, List, MatchResult, Some, length};
 ghost use Rattle.std.specs.List.{AllByRecursion};
-ghost use Rattle.model_graphs.specs.Evaluation.{Buffers};
-ghost use Rattle.model_graphs.specs.Permits.{Spent};
+ghost use Rattle.model_graphs.specs.{Evaluation.Buffers, Permits.Spent};
 ghost use Rattle.model_states.specs.Cache.{AreRight, Cached, all_looked_up, itself, uncounted};
 ghost use Rattle.swap_store.specs.Cause.{HasSwapCause};
 ghost use Rattle.node_cache.specs.Stores.{HaveOneOwner};

@@ -2,15 +2,14 @@
 
 ghost use Rattle.std.specs.Prelude.{◌≡◌, [], ℕ, ◌∷◌, ◌+◌, ◌≤◌, IfErr, IfOk, List, MatchResult, Some, length, slice_get, take};
 ghost use Rattle.std.specs.List.{AllByRecursion};
-ghost use Rattle.model_graphs.specs.Evaluation.{Buffers};
-ghost use Rattle.model_graphs.specs.Facts.{specs_of};
+ghost use Rattle.model_graphs.specs.{Evaluation.Buffers, Facts.specs_of};
 ghost use Rattle.model_states.specs.Cache.{AreRight, Cached, pair_of};
 ghost use Rattle.swap_store.specs.Cause.{HasSwapCause};
 ghost use Rattle.node_tiles.specs.Stated.{AreTilesOf, scene_of};
 ghost use Rattle.strip_renders.specs.Ahead.{AreMadeOf, AreNext, IsSpentFor};
-ghost use Rattle.strip_renders.specs.Looks.{IsRecent};
 ghost use Rattle.strip_renders.specs.Moments.{AreOver, Keeps, moment};
 ghost use Rattle.strip_renders.specs.Strips.{AreKnownRight, AreSizedPairs, AreStatedWith, HoldsNeed, IsRendered, IsStripOf, needed_from};
+ghost use Rattle.strip_renders.specs.Looks.{IsRecent};
 
 use crate::ahead::{AheadTiles, look_ahead};
 use crate::evaluator::Evaluator;

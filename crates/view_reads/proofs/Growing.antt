@@ -40,9 +40,6 @@ module _ (z : ℕ) (a b : RootState) (more : HoldsMoreTiles z a b) where
   pub box-after : b.root.box ≡ a.root.box
   box-after = ap (λ (r : RootTiles). r.box) more.root
 
-  pub format-after : b.root.tiles.format ≡ a.root.tiles.format
-  format-after = ap (λ (r : RootTiles). r.tiles.format) more.root
-
   pub inside-after : (extent : Rectangle) → Includes a.root.box extent → Includes b.root.box extent
   inside-after extent inside = subst (λ (r : Rectangle). Includes r extent) (sym box-after) inside
 

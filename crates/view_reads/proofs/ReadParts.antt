@@ -101,9 +101,6 @@ module _ (start end first last u : ℕ) (some : start < end) (low : first ≤ u)
   pub side-some : side_start start end first < side_end start end last
   side-some = omega (arith, some, low, high)
 
-  pub side-within : (start ≤ side_start start end first) × (side_end start end last ≤ end)
-  side-within = (omega (arith, some), omega (arith, some))
-
   pub side-nearest : nearest (side_start start end first) (side_end start end last - side_start start end first) u ≡ nearest start (end - start) u
   side-nearest = omega (arith, some, low, high)
 

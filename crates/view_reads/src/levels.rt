@@ -2,12 +2,11 @@
 
 ghost use Rattle.std.specs.Prelude.{◌≡◌, ◌≤◌, IfErr, IfOk, length, replicate};
 ghost use Rattle.level_tables.specs.Over.{IsTileOfLevel, max_level, tile_length};
-ghost use Rattle.model_images.specs.Level.{halved_image};
-ghost use Rattle.model_images.specs.Raw.{tile_bytes};
+ghost use Rattle.model_images.specs.{Level.halved_image, Raw.tile_bytes};
 ghost use Rattle.plane_rect.specs.Rectangle.{InLimits};
 ghost use Rattle.swap_store.specs.Cause.{HasSwapCause};
-ghost use Rattle.root_tiles.specs.Chains.{IsRead};
 ghost use Rattle.root_tiles.specs.Roots.{HasShape, IsPartOf, IsRootOver, part_shape};
+ghost use Rattle.root_tiles.specs.Chains.{IsRead};
 ghost use Rattle.view_reads.specs.Views.{IsPartOfLevel, IsViewOver, ReadsLevels, view_image};
 ghost use Rattle.view_reads.specs.Reaches.{IsReach};
 

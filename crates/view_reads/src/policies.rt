@@ -3,8 +3,7 @@
 ghost use Rattle.std.specs.Prelude.{◌≡◌, ◌+◌, ◌-◌, ◌<◌, ◌≤◌, ◌⊎◌, IfErr, IfOk, IsTrue, false, max, min};
 ghost use Rattle.level_tables.specs.Over.{max_level};
 ghost use Rattle.model_images.specs.Abyss.{abyss_at, wrapped};
-ghost use Rattle.model_images.specs.Image.{image_from_fn};
-ghost use Rattle.model_images.specs.TileCounts.{level_tiles};
+ghost use Rattle.model_images.specs.{Image.image_from_fn, TileCounts.level_tiles};
 ghost use Rattle.plane_rect.specs.Rectangle.{InLimits, Within, empty, is_empty, plane_side};
 ghost use Rattle.swap_store.specs.Cause.{HasSwapCause};
 ghost use Rattle.root_tiles.specs.Growth.{HoldsMoreTiles, root_state};

@@ -1,9 +1,9 @@
-use Rattle.std.proofs.Common.{◌≢◌, None, Result, Ok, Err, refl}
-use Rattle.model_buffers.specs.Layout.{find}
-use Rattle.run_events.proofs.Faults.{chain_faults, faults_by_cause, faults_then}
+use Rattle.std.proofs.Common.{Result, Ok, Err, refl}
 use Rattle.run_events.specs.Moments.{Moment}
 use Rattle.run_lines.proofs.Grabbing.{grab-faults, grab_done, grab_ended, grab_stopped}
+use Rattle.run_lines.proofs.Seen.{moment}
 use Rattle.run_lines.proofs.Stopping.{same_stop, same_stop_faults}
+use Rattle.run_lines.proofs.Writing.{file-faults}
 use Rattle.run_lines.specs.Stops.{stop_of}
 use Rattle.run_lines.specs.declared.stop.Stop.{Stop}
 use Rattle.run_lines.specs.declared.stop.Stop.TheVariants as stops
@@ -16,14 +16,14 @@ returns-in_err-patch g c = record {
       let parts = c.args.session.now in
       let held = g.C.ChainMeaning.held c.args.chain.now in
       let later = g.C.ChainMeaning.held c.grab.new.chain in
-      let before : Moment = record { files = g.F.Shelf.files c.args.shelf.now; text = g.O.Sink.written c.args.out.now; reads = g.F.Shelf.read_faults c.args.shelf.now; writes = g.F.Shelf.write_faults c.args.shelf.now; puts = g.O.Sink.faults c.args.out.now; chain = g.C.ChainMeaning.counts c.args.chain.now } in
+      let before : Moment = moment g.F.Shelf g.O.Sink g.C.ChainMeaning c.args.shelf.now c.args.out.now c.args.chain.now in
       let after : Moment = record before { chain = g.C.ChainMeaning.counts c.grab.new.chain } in
       rw c.in-Grab.is
       (same_stop exposed capacity line state files _ _ _ _ _ c.grab.new.self later c.from_residual.ensures.1
       (grab_stopped exposed capacity line state files parts c.grab.new.self held later c.in-Grab.name c.in-Grab.level c.in-Grab.abyss c.in-Grab.rect c.in-Grab.file before after holds refl refl
       c.in_err-patch.field-0.0 c.in_err-patch.ensures.cause (λ none. (let other = c.in_err-patch.ensures.unknown none in cc))));
   faults =
-      let before : Moment = record { files = g.F.Shelf.files c.args.shelf.now; text = g.O.Sink.written c.args.out.now; reads = g.F.Shelf.read_faults c.args.shelf.now; writes = g.F.Shelf.write_faults c.args.shelf.now; puts = g.O.Sink.faults c.args.out.now; chain = g.C.ChainMeaning.counts c.args.chain.now } in
+      let before : Moment = moment g.F.Shelf g.O.Sink g.C.ChainMeaning c.args.shelf.now c.args.out.now c.args.chain.now in
       let after : Moment = record before { chain = g.C.ChainMeaning.counts c.grab.new.chain } in
       let refused = c.in_err-patch.field-0.0 in
       let stopped : Result (Unit {0}) Stop = Err (stop_of refused) in
@@ -35,51 +35,40 @@ returns-in_err-patch g c = record {
 }
 
 pub returns-in_err-write_grab : goal.returns-in_err-write_grab
-returns-in_err-write_grab g c = record {
-  did = λ exposed capacity state files holds.
-      let line = c.args.line.now.number in
-      let parts = c.args.session.now in
-      let held = g.C.ChainMeaning.held c.args.chain.now in
-      let later = g.C.ChainMeaning.held c.grab.new.chain in
-      let before : Moment = record { files = g.F.Shelf.files c.args.shelf.now; text = g.O.Sink.written c.args.out.now; reads = g.F.Shelf.read_faults c.args.shelf.now; writes = g.F.Shelf.write_faults c.args.shelf.now; puts = g.O.Sink.faults c.args.out.now; chain = g.C.ChainMeaning.counts c.args.chain.now } in
-      let after : Moment = record { files = g.F.Shelf.files c.write_grab.new.shelf; text = g.O.Sink.written c.write_grab.new.out; reads = g.F.Shelf.read_faults c.write_grab.new.shelf; writes = g.F.Shelf.write_faults c.write_grab.new.shelf; puts = g.O.Sink.faults c.write_grab.new.out; chain = g.C.ChainMeaning.counts c.grab.new.chain } in
-      let there : find parts.versions.working.layout.buffers c.in-Grab.name ≢ None = λ none. (let other = c.in_ok-patch.ensures.unknown none in cc) in
-      rw c.in-Grab.is
-      (same_stop exposed capacity line state files _ _ _ _ _ c.grab.new.self later c.from_residual-in_err-write_grab.ensures.1
-      (grab_ended exposed capacity line state files parts c.grab.new.self held later c.in-Grab.name c.in-Grab.level c.in-Grab.abyss c.in-Grab.rect c.in-Grab.file before after holds
-      there _ _ c.in_ok-patch.ensures.shape c.in_ok-patch.ensures.image c.raw_bytes.ensures.value c.raw_bytes.ensures.count _ c.in_err-write_grab.ensures.cause.room c.in_err-write_grab.ensures.leaves
-      c.in_err-write_grab.field-0.0 refl));
-  faults =
-      let before : Moment = record { files = g.F.Shelf.files c.args.shelf.now; text = g.O.Sink.written c.args.out.now; reads = g.F.Shelf.read_faults c.args.shelf.now; writes = g.F.Shelf.write_faults c.args.shelf.now; puts = g.O.Sink.faults c.args.out.now; chain = g.C.ChainMeaning.counts c.args.chain.now } in
-      let mid : Moment = record before { chain = g.C.ChainMeaning.counts c.grab.new.chain } in
-      let end = c.in_err-write_grab.field-0.0 in
-      let stopped : Result (Unit {0}) Stop = Err (stops.Ended end) in
-      same_stop_faults stopped (stops.Ended end) _ _ _ refl c.from_residual-in_err-write_grab.ensures.1
-      (faults_then (Ok tt) (Err end) before mid _ (chain_faults before mid refl refl refl c.in_ok-patch.ensures.left.counts.continues) (faults_by_cause (Err end) mid _ refl c.in_err-write_grab.ensures.cause));
-  over = c.in_ok-patch.ensures.over;
-  loans = c.in_ok-patch.ensures.left.loans;
-  valid = c.in_ok-patch.ensures.left.valid;
-}
+returns-in_err-write_grab g c =
+    let before : Moment = moment g.F.Shelf g.O.Sink g.C.ChainMeaning c.args.shelf.now c.args.out.now c.args.chain.now in
+    let after : Moment = moment g.F.Shelf g.O.Sink g.C.ChainMeaning c.write_grab.new.shelf c.write_grab.new.out c.grab.new.chain in
+    let end = c.in_err-write_grab.field-0.0 in
+    record {
+      did = λ exposed capacity state files holds.
+          rw c.in-Grab.is
+          (same_stop exposed capacity c.args.line.now.number state files _ _ _ _ _ c.grab.new.self (g.C.ChainMeaning.held c.grab.new.chain) c.from_residual-in_err-write_grab.ensures.1
+          (grab_ended exposed capacity c.args.line.now.number state files c.args.session.now c.grab.new.self (g.C.ChainMeaning.held c.args.chain.now) (g.C.ChainMeaning.held c.grab.new.chain)
+          c.in-Grab.name c.in-Grab.level c.in-Grab.abyss c.in-Grab.rect c.in-Grab.file before after holds (λ none. (let other = c.in_ok-patch.ensures.unknown none in cc))
+          _ _ c.in_ok-patch.ensures.shape c.in_ok-patch.ensures.image c.raw_bytes.ensures.value c.raw_bytes.ensures.count _ c.in_err-write_grab.ensures.cause.room c.in_err-write_grab.ensures.leaves
+          end refl));
+      faults =
+          let stopped : Result (Unit {0}) Stop = Err (stops.Ended end) in
+          same_stop_faults stopped (stops.Ended end) _ before after refl c.from_residual-in_err-write_grab.ensures.1
+          (file-faults (Err end) before after c.in_ok-patch.ensures.left.counts.continues c.in_err-write_grab.ensures.cause);
+      over = c.in_ok-patch.ensures.over;
+      loans = c.in_ok-patch.ensures.left.loans;
+      valid = c.in_ok-patch.ensures.left.valid;
+    }
 
 pub returns : goal.returns
-returns g c = record {
-  did = λ exposed capacity state files holds.
-      let line = c.args.line.now.number in
-      let parts = c.args.session.now in
-      let held = g.C.ChainMeaning.held c.args.chain.now in
-      let later = g.C.ChainMeaning.held c.grab.new.chain in
-      let before : Moment = record { files = g.F.Shelf.files c.args.shelf.now; text = g.O.Sink.written c.args.out.now; reads = g.F.Shelf.read_faults c.args.shelf.now; writes = g.F.Shelf.write_faults c.args.shelf.now; puts = g.O.Sink.faults c.args.out.now; chain = g.C.ChainMeaning.counts c.args.chain.now } in
-      let after : Moment = record { files = g.F.Shelf.files c.write_grab.new.shelf; text = g.O.Sink.written c.write_grab.new.out; reads = g.F.Shelf.read_faults c.write_grab.new.shelf; writes = g.F.Shelf.write_faults c.write_grab.new.shelf; puts = g.O.Sink.faults c.write_grab.new.out; chain = g.C.ChainMeaning.counts c.grab.new.chain } in
-      let there : find parts.versions.working.layout.buffers c.in-Grab.name ≢ None = λ none. (let other = c.in_ok-patch.ensures.unknown none in cc) in
-      rw c.in-Grab.is
-      (grab_done exposed capacity line state files parts c.grab.new.self held later c.in-Grab.name c.in-Grab.level c.in-Grab.abyss c.in-Grab.rect c.in-Grab.file before after holds
-      there _ _ c.in_ok-patch.ensures.shape c.in_ok-patch.ensures.image c.raw_bytes.ensures.value c.raw_bytes.ensures.count _ c.in_ok-write_grab.ensures.cause.room c.in_ok-write_grab.ensures.leaves
-      refl c.in_ok-patch.ensures.states.capacity c.in_ok-patch.ensures.left.others.exposed (c.in_ok-patch.ensures.same state.session holds.session) c.in_ok-patch.ensures.left.counts);
-  faults =
-      let before : Moment = record { files = g.F.Shelf.files c.args.shelf.now; text = g.O.Sink.written c.args.out.now; reads = g.F.Shelf.read_faults c.args.shelf.now; writes = g.F.Shelf.write_faults c.args.shelf.now; puts = g.O.Sink.faults c.args.out.now; chain = g.C.ChainMeaning.counts c.args.chain.now } in
-      let mid : Moment = record before { chain = g.C.ChainMeaning.counts c.grab.new.chain } in
-      faults_then (Ok tt) (Ok tt) before mid _ (chain_faults before mid refl refl refl c.in_ok-patch.ensures.left.counts.continues) (faults_by_cause (Ok tt) mid _ refl c.in_ok-write_grab.ensures.cause);
-  over = c.in_ok-patch.ensures.over;
-  loans = c.in_ok-patch.ensures.left.loans;
-  valid = c.in_ok-patch.ensures.left.valid;
-}
+returns g c =
+    let before : Moment = moment g.F.Shelf g.O.Sink g.C.ChainMeaning c.args.shelf.now c.args.out.now c.args.chain.now in
+    let after : Moment = moment g.F.Shelf g.O.Sink g.C.ChainMeaning c.write_grab.new.shelf c.write_grab.new.out c.grab.new.chain in
+    record {
+      did = λ exposed capacity state files holds.
+          rw c.in-Grab.is
+          (grab_done exposed capacity c.args.line.now.number state files c.args.session.now c.grab.new.self (g.C.ChainMeaning.held c.args.chain.now) (g.C.ChainMeaning.held c.grab.new.chain)
+          c.in-Grab.name c.in-Grab.level c.in-Grab.abyss c.in-Grab.rect c.in-Grab.file before after holds (λ none. (let other = c.in_ok-patch.ensures.unknown none in cc))
+          _ _ c.in_ok-patch.ensures.shape c.in_ok-patch.ensures.image c.raw_bytes.ensures.value c.raw_bytes.ensures.count _ c.in_ok-write_grab.ensures.cause.room c.in_ok-write_grab.ensures.leaves
+          refl c.in_ok-patch.ensures.states.capacity c.in_ok-patch.ensures.left.others.exposed (c.in_ok-patch.ensures.same state.session holds.session) c.in_ok-patch.ensures.left.counts);
+      faults = file-faults (Ok tt) before after c.in_ok-patch.ensures.left.counts.continues c.in_ok-write_grab.ensures.cause;
+      over = c.in_ok-patch.ensures.over;
+      loans = c.in_ok-patch.ensures.left.loans;
+      valid = c.in_ok-patch.ensures.left.valid;
+    }

@@ -1,10 +1,10 @@
-use Rattle.std.proofs.Common.{◌≡◌, length, Result, Ok, Err, refl, sym, ap, ◌∙◌}
+use Rattle.std.proofs.Common.{length, Result, Ok, Err, refl, sym, ap, ◌∙◌}
 use Rattle.model_runs.specs.Effects.{writes}
-use Rattle.model_runs.specs.State.{number_in}
-use Rattle.run_events.proofs.Faults.{chain_faults, faults_by_cause, faults_then}
 use Rattle.run_events.specs.Moments.{Moment}
 use Rattle.run_lines.proofs.Rendered.{IsLeft, render-done, render-ended, render-faults, render-stopped, shown-by}
+use Rattle.run_lines.proofs.Seen.{moment}
 use Rattle.run_lines.proofs.Stopping.{same_stop, same_stop_faults}
+use Rattle.run_lines.proofs.Writing.{file-faults}
 use Rattle.run_lines.specs.Stops.{stop_of}
 use Rattle.run_lines.specs.declared.stop.Stop.{Stop}
 use Rattle.run_lines.specs.declared.stop.Stop.TheVariants as stops
@@ -18,7 +18,7 @@ returns-in_err-picture g c = record {
   did = λ exposed capacity state files holds.
       let line = c.args.line.now.number in
       let ensures = c.in_err-picture.ensures in
-      let before : Moment = record { files = g.F.Shelf.files c.args.shelf.now; text = g.O.Sink.written c.args.out.now; reads = g.F.Shelf.read_faults c.args.shelf.now; writes = g.F.Shelf.write_faults c.args.shelf.now; puts = g.O.Sink.faults c.args.out.now; chain = g.C.ChainMeaning.counts c.args.chain.now } in
+      let before : Moment = moment g.F.Shelf g.O.Sink g.C.ChainMeaning c.args.shelf.now c.args.out.now c.args.chain.now in
       let after : Moment = record before { chain = g.C.ChainMeaning.counts c.render.new.chain } in
       let limits : IsLevelRect c.in-Render.level c.in-Render.rect = rw c.in-Render.is at c.requires.limits in
       rw c.in-Render.is
@@ -27,7 +27,7 @@ returns-in_err-picture g c = record {
       c.in-Render.name c.in-Render.level c.in-Render.rect c.in-Render.file before after holds ensures.stated refl refl c.in_err-picture.field-0.0 limits.scaled ensures.cause));
   faults =
       let ensures = c.in_err-picture.ensures in
-      let before : Moment = record { files = g.F.Shelf.files c.args.shelf.now; text = g.O.Sink.written c.args.out.now; reads = g.F.Shelf.read_faults c.args.shelf.now; writes = g.F.Shelf.write_faults c.args.shelf.now; puts = g.O.Sink.faults c.args.out.now; chain = g.C.ChainMeaning.counts c.args.chain.now } in
+      let before : Moment = moment g.F.Shelf g.O.Sink g.C.ChainMeaning c.args.shelf.now c.args.out.now c.args.chain.now in
       let after : Moment = record before { chain = g.C.ChainMeaning.counts c.render.new.chain } in
       let refused = c.in_err-picture.field-0.0 in
       let stopped : Result (Unit {0}) Stop = Err (stop_of refused) in
@@ -39,64 +39,53 @@ returns-in_err-picture g c = record {
 }
 
 pub returns-in_err-write_render : goal.returns-in_err-write_render
-returns-in_err-write_render g c = record {
-  did = λ exposed capacity state files holds.
-      let line = c.args.line.now.number in
-      let ensures = c.in_ok-picture.ensures in
-      let parts = c.args.session.now in
-      let before : Moment = record { files = g.F.Shelf.files c.args.shelf.now; text = g.O.Sink.written c.args.out.now; reads = g.F.Shelf.read_faults c.args.shelf.now; writes = g.F.Shelf.write_faults c.args.shelf.now; puts = g.O.Sink.faults c.args.out.now; chain = g.C.ChainMeaning.counts c.args.chain.now } in
-      let after : Moment = record { files = g.F.Shelf.files c.write_render.new.shelf; text = g.O.Sink.written c.write_render.new.out; reads = g.F.Shelf.read_faults c.write_render.new.shelf; writes = g.F.Shelf.write_faults c.write_render.new.shelf; puts = g.O.Sink.faults c.write_render.new.out; chain = g.C.ChainMeaning.counts c.render.new.chain } in
-      let written = shown-by exposed state parts c.in-Render.name c.in-Render.level c.in-Render.rect c.in_ok-picture.picture ensures.rect ensures.format (λ e. ensures.image state.session holds.session (holds.content ∙ e))
-      (λ bytes. events_alone (writes c.in-Render.file bytes (render_text line c.number.result (length bytes)))) _ _ _ c.in_err-write_render.ensures.leaves in
-      let number : c.number.result ≡ number_in state = c.number.ensures ∙ ap (λ graph. graph.number) ensures.states.graph ∙ sym holds.session.retained.number in
-      rw c.in-Render.is
-      (same_stop exposed capacity line state files _ _ _ _ _ _ _ c.from_residual-in_err-write_render.ensures.1
-      (render-ended exposed capacity line state files parts c.render.new.self (g.C.ChainMeaning.held c.args.chain.now) (g.C.ChainMeaning.held c.render.new.chain)
-      c.in-Render.name c.in-Render.level c.in-Render.rect c.in-Render.file before after holds ensures.stated ensures.can written.0 written.1 c.number.result number
-      _ c.in_err-write_render.ensures.cause.room written.2 c.in_err-write_render.field-0.0 refl));
-  faults =
-      let before : Moment = record { files = g.F.Shelf.files c.args.shelf.now; text = g.O.Sink.written c.args.out.now; reads = g.F.Shelf.read_faults c.args.shelf.now; writes = g.F.Shelf.write_faults c.args.shelf.now; puts = g.O.Sink.faults c.args.out.now; chain = g.C.ChainMeaning.counts c.args.chain.now } in
-      let mid : Moment = record before { chain = g.C.ChainMeaning.counts c.render.new.chain } in
-      let after : Moment = record { files = g.F.Shelf.files c.write_render.new.shelf; text = g.O.Sink.written c.write_render.new.out; reads = g.F.Shelf.read_faults c.write_render.new.shelf; writes = g.F.Shelf.write_faults c.write_render.new.shelf; puts = g.O.Sink.faults c.write_render.new.out; chain = g.C.ChainMeaning.counts c.render.new.chain } in
-      let end = c.in_err-write_render.field-0.0 in
-      let stopped : Result (Unit {0}) Stop = Err (stops.Ended end) in
-      same_stop_faults stopped (stops.Ended end) _ before after refl c.from_residual-in_err-write_render.ensures.1
-      (faults_then (Ok tt) (Err end) before mid after (chain_faults before mid refl refl refl c.in_ok-picture.ensures.left.counts.continues) (faults_by_cause (Err end) mid after refl c.in_err-write_render.ensures.cause));
-  over = c.in_ok-picture.ensures.over;
-  loans = c.in_ok-picture.ensures.left.loans;
-  valid = c.in_ok-picture.ensures.left.valid;
-}
+returns-in_err-write_render g c =
+    let before : Moment = moment g.F.Shelf g.O.Sink g.C.ChainMeaning c.args.shelf.now c.args.out.now c.args.chain.now in
+    let after : Moment = moment g.F.Shelf g.O.Sink g.C.ChainMeaning c.write_render.new.shelf c.write_render.new.out c.render.new.chain in
+    let ensures = c.in_ok-picture.ensures in
+    let end = c.in_err-write_render.field-0.0 in
+    record {
+      did = λ exposed capacity state files holds.
+          let written = shown-by exposed state c.args.session.now c.in-Render.name c.in-Render.level c.in-Render.rect c.in_ok-picture.picture ensures.rect ensures.format
+          (λ e. ensures.image state.session holds.session (holds.content ∙ e))
+          (λ bytes. events_alone (writes c.in-Render.file bytes (render_text c.args.line.now.number c.number.result (length bytes)))) _ _ _ c.in_err-write_render.ensures.leaves in
+          rw c.in-Render.is
+          (same_stop exposed capacity c.args.line.now.number state files _ _ _ _ _ _ _ c.from_residual-in_err-write_render.ensures.1
+          (render-ended exposed capacity c.args.line.now.number state files c.args.session.now c.render.new.self (g.C.ChainMeaning.held c.args.chain.now) (g.C.ChainMeaning.held c.render.new.chain)
+          c.in-Render.name c.in-Render.level c.in-Render.rect c.in-Render.file before after holds ensures.stated ensures.can written.0 written.1 c.number.result
+          (c.number.ensures ∙ ap (λ graph. graph.number) ensures.states.graph ∙ sym holds.session.retained.number) _ c.in_err-write_render.ensures.cause.room written.2 end refl));
+      faults =
+          let stopped : Result (Unit {0}) Stop = Err (stops.Ended end) in
+          same_stop_faults stopped (stops.Ended end) _ before after refl c.from_residual-in_err-write_render.ensures.1
+          (file-faults (Err end) before after ensures.left.counts.continues c.in_err-write_render.ensures.cause);
+      over = ensures.over;
+      loans = ensures.left.loans;
+      valid = ensures.left.valid;
+    }
 
 pub returns : goal.returns
-returns g c = record {
-  did = λ exposed capacity state files holds.
-      let line = c.args.line.now.number in
-      let ensures = c.in_ok-picture.ensures in
-      let parts = c.args.session.now in
-      let held = g.C.ChainMeaning.held c.args.chain.now in
-      let later = g.C.ChainMeaning.held c.render.new.chain in
-      let before : Moment = record { files = g.F.Shelf.files c.args.shelf.now; text = g.O.Sink.written c.args.out.now; reads = g.F.Shelf.read_faults c.args.shelf.now; writes = g.F.Shelf.write_faults c.args.shelf.now; puts = g.O.Sink.faults c.args.out.now; chain = g.C.ChainMeaning.counts c.args.chain.now } in
-      let after : Moment = record { files = g.F.Shelf.files c.write_render.new.shelf; text = g.O.Sink.written c.write_render.new.out; reads = g.F.Shelf.read_faults c.write_render.new.shelf; writes = g.F.Shelf.write_faults c.write_render.new.shelf; puts = g.O.Sink.faults c.write_render.new.out; chain = g.C.ChainMeaning.counts c.render.new.chain } in
-      let written = shown-by exposed state parts c.in-Render.name c.in-Render.level c.in-Render.rect c.in_ok-picture.picture ensures.rect ensures.format (λ e. ensures.image state.session holds.session (holds.content ∙ e))
-      (λ bytes. events_alone (writes c.in-Render.file bytes (render_text line c.number.result (length bytes)))) _ _ _ c.in_ok-write_render.ensures.leaves in
-      let number : c.number.result ≡ number_in state = c.number.ensures ∙ ap (λ graph. graph.number) ensures.states.graph ∙ sym holds.session.retained.number in
-      let left : IsLeft state parts c.render.new.self held later c.in-Render.name c.in-Render.level c.in-Render.rect before.chain after.chain = record {
-        session = ensures.session state.session holds.session;
-        states = ensures.states;
-        content = ensures.left.others.exposed;
-        continues = ensures.left.counts.continues;
-        others = ensures.other_names;
-      } in
-      rw c.in-Render.is
-      (render-done exposed capacity line state files parts c.render.new.self held later
-      c.in-Render.name c.in-Render.level c.in-Render.rect c.in-Render.file before after holds ensures.stated ensures.can written.0 written.1 c.number.result number
-      _ c.in_ok-write_render.ensures.cause.room written.2 refl left);
-  faults =
-      let before : Moment = record { files = g.F.Shelf.files c.args.shelf.now; text = g.O.Sink.written c.args.out.now; reads = g.F.Shelf.read_faults c.args.shelf.now; writes = g.F.Shelf.write_faults c.args.shelf.now; puts = g.O.Sink.faults c.args.out.now; chain = g.C.ChainMeaning.counts c.args.chain.now } in
-      let mid : Moment = record before { chain = g.C.ChainMeaning.counts c.render.new.chain } in
-      let after : Moment = record { files = g.F.Shelf.files c.write_render.new.shelf; text = g.O.Sink.written c.write_render.new.out; reads = g.F.Shelf.read_faults c.write_render.new.shelf; writes = g.F.Shelf.write_faults c.write_render.new.shelf; puts = g.O.Sink.faults c.write_render.new.out; chain = g.C.ChainMeaning.counts c.render.new.chain } in
-      faults_then (Ok tt) (Ok tt) before mid after (chain_faults before mid refl refl refl c.in_ok-picture.ensures.left.counts.continues) (faults_by_cause (Ok tt) mid after refl c.in_ok-write_render.ensures.cause);
-  over = c.in_ok-picture.ensures.over;
-  loans = c.in_ok-picture.ensures.left.loans;
-  valid = c.in_ok-picture.ensures.left.valid;
-}
+returns g c =
+    let before : Moment = moment g.F.Shelf g.O.Sink g.C.ChainMeaning c.args.shelf.now c.args.out.now c.args.chain.now in
+    let after : Moment = moment g.F.Shelf g.O.Sink g.C.ChainMeaning c.write_render.new.shelf c.write_render.new.out c.render.new.chain in
+    let ensures = c.in_ok-picture.ensures in
+    record {
+      did = λ exposed capacity state files holds.
+          let written = shown-by exposed state c.args.session.now c.in-Render.name c.in-Render.level c.in-Render.rect c.in_ok-picture.picture ensures.rect ensures.format
+          (λ e. ensures.image state.session holds.session (holds.content ∙ e))
+          (λ bytes. events_alone (writes c.in-Render.file bytes (render_text c.args.line.now.number c.number.result (length bytes)))) _ _ _ c.in_ok-write_render.ensures.leaves in
+          let left : IsLeft state c.args.session.now c.render.new.self (g.C.ChainMeaning.held c.args.chain.now) (g.C.ChainMeaning.held c.render.new.chain) c.in-Render.name c.in-Render.level c.in-Render.rect before.chain after.chain = record {
+            session = ensures.session state.session holds.session;
+            states = ensures.states;
+            content = ensures.left.others.exposed;
+            continues = ensures.left.counts.continues;
+            others = ensures.other_names;
+          } in
+          rw c.in-Render.is
+          (render-done exposed capacity c.args.line.now.number state files c.args.session.now c.render.new.self (g.C.ChainMeaning.held c.args.chain.now) (g.C.ChainMeaning.held c.render.new.chain)
+          c.in-Render.name c.in-Render.level c.in-Render.rect c.in-Render.file before after holds ensures.stated ensures.can written.0 written.1 c.number.result
+          (c.number.ensures ∙ ap (λ graph. graph.number) ensures.states.graph ∙ sym holds.session.retained.number) _ c.in_ok-write_render.ensures.cause.room written.2 refl left);
+      faults = file-faults (Ok tt) before after ensures.left.counts.continues c.in_ok-write_render.ensures.cause;
+      over = ensures.over;
+      loans = ensures.left.loans;
+      valid = ensures.left.valid;
+    }

@@ -1,7 +1,5 @@
 use Rattle.std.proofs.Common.{◌≡◌, sym, ap, subst, ◌∙◌}
-use Rattle.root_tiles.specs.Chains.{ChainState}
 use Rattle.model_graphs.specs.Facts.{rectangles_of}
-use Rattle.model_graphs.specs.Laws.{KeepsLaws}
 use Rattle.model_states.specs.Commits.{committed}
 use Rattle.model_states.specs.History as history
 use Rattle.model_sessions.specs.Tables.{table_shapes}
@@ -12,32 +10,28 @@ use Rattle.commit_session.specs.Refusals.{IsRefusedAs, by_graph}
 use Rattle.commit_session.specs.Steps.{IsCommitted}
 use Rattle.commit_session.proofs.CommitStep.{commit-refused-too}
 use Rattle.commit_session.proofs.Still.{commit-here, working-still}
+use Rattle.commit_session.proofs.Chain.{chain_state}
 use Rattle.commit_session.proofs.Changed.{on-err, versions-over}
 use Rattle.commit_session.proofs.Done.{IsMade, commit-both-made, ready}
-use Rattle.commit_session.proofs.Kept.{IsKept, kept, over-here, refused-too, regraphed, unshared}
+use Rattle.commit_session.proofs.Kept.{IsKept, kept, over-here, refused-too, unshared}
+use Rattle.commit_session.proofs.Same.{this}
 use Rattle.commit_session.proofs.state.SessionState.commit.Given
 use Rattle.commit_session.proofs.state.SessionState.commit.Goals.{After-deref-2}
 use Rattle.commit_session.proofs.state.SessionState.commit.Goals as goal
 
 module _ (g : Given.Over) where
-  abbrev state : g.row.C.Denot → ChainState
-  state chain = record { held = g.C.ChainMeaning.held chain; counts = g.C.ChainMeaning.counts chain; loans = g.C.ChainMeaning.loans chain; valid = g.C.ChainMeaning.is_valid chain }
-
-  laws : KeepsLaws g.Op.OpMeaning.meanings
-  laws = record { local = g.Op.OpMeaning.local; dual = g.Op.OpMeaning.dual }
-
   -- ---- the buffers couldn't be shared
 
-  unshared_still : (c : goal.After-from_residual g) → IsKept g.Op.OpMeaning.same g.Op.OpMeaning.meanings 0 c.args.self.now c.args.self.now (state c.args.chain.now) (state c.share_working.new.chain)
+  unshared_still : (c : goal.After-from_residual g) → IsKept g.Op.OpMeaning.same g.Op.OpMeaning.meanings 0 c.args.self.now c.args.self.now (chain_state g.C.ChainMeaning c.args.chain.now) (chain_state g.C.ChainMeaning c.share_working.new.chain)
   unshared_still c =
-      kept g.Op.OpMeaning.same g.Op.OpMeaning.meanings _ c.args.self.now c.self.view_is (state c.args.chain.now) (state c.share_working.new.chain) c.requires
+      kept g.Op.OpMeaning.same g.Op.OpMeaning.meanings _ c.args.self.now c.self.view_is (chain_state g.C.ChainMeaning c.args.chain.now) (chain_state g.C.ChainMeaning c.share_working.new.chain) c.requires
       c.in_err-shared.ensures.kept
 
   -- ---- the graph refused
 
-  refused_still : (c : goal.After-from g) → IsKept g.Op.OpMeaning.same g.Op.OpMeaning.meanings 0 c.args.self.now (record c.args.self.now { graph = c.commit.new.self }) (state c.args.chain.now) (state c.release.new.chain)
+  refused_still : (c : goal.After-from g) → IsKept g.Op.OpMeaning.same g.Op.OpMeaning.meanings 0 c.args.self.now (record (this c.self.view_is) { graph = c.commit.new.self }) (chain_state g.C.ChainMeaning c.args.chain.now) (chain_state g.C.ChainMeaning c.release.new.chain)
   refused_still c =
-      unshared g.Op.OpMeaning.same g.Op.OpMeaning.meanings _ c.args.self.now c.self.view_is (state c.args.chain.now) (state c.release.new.chain) c.requires c.in_ok-shared.shared (state c.share_working.new.chain)
+      unshared g.Op.OpMeaning.same g.Op.OpMeaning.meanings _ c.args.self.now c.self.view_is (chain_state g.C.ChainMeaning c.args.chain.now) (chain_state g.C.ChainMeaning c.release.new.chain) c.requires c.in_ok-shared.shared (chain_state g.C.ChainMeaning c.share_working.new.chain)
       c.in_ok-shared.ensures.kept
       (record { others = c.release.ensures.others; counts = c.release.ensures.counts; loans = c.release.ensures.loans; valid = c.release.ensures.valid })
       c.commit.new.self c.in-Err.ensures.unchanged
@@ -61,11 +55,11 @@ module _ (g : Given.Over) where
   module _ (c : goal.After-drop-damage g)
       (is : committed g.Op.OpMeaning.same g.Op.OpMeaning.meanings c.self.inside.graph c.deref.result.now c.facts-facts.result.now (rectangles_of c.deref-2.result.now)
       ≡ committed g.Op.OpMeaning.same g.Op.OpMeaning.meanings c.args.self.now.graph c.args.self.now.pending (working_facts c.args.self.now) c.args.self.now.written) where
-    step : IsMade g.Op.OpMeaning.same g.Op.OpMeaning.meanings c.args.self.now c.settle.new.self (history.committed g.Op.OpMeaning.meanings table_shapes) (state c.args.chain.now) (state c.settle.new.chain)
+    step : IsMade g.Op.OpMeaning.same g.Op.OpMeaning.meanings c.args.self.now c.settle.new.self (history.committed g.Op.OpMeaning.meanings table_shapes) (chain_state g.C.ChainMeaning c.args.chain.now) (chain_state g.C.ChainMeaning c.settle.new.chain)
         × IsCommitted g.Op.OpMeaning.same g.Op.OpMeaning.meanings c.args.self.now c.settle.new.self
     step =
-        commit-both-made g.Op.OpMeaning.same g.Op.OpMeaning.meanings _ c.args.self.now c.self.view_is (state c.args.chain.now) (state c.share_working.new.chain) (state c.commit-in-Ok.new.chain) c.requires
-        c.commit-in-Ok.new.self _ (state c.settle.new.chain) c.settle.new.self c.commit.new.self c.in-Ok.damage.rects
+        commit-both-made g.Op.OpMeaning.same g.Op.OpMeaning.meanings _ c.args.self.now c.self.view_is (chain_state g.C.ChainMeaning c.args.chain.now) (chain_state g.C.ChainMeaning c.share_working.new.chain) (chain_state g.C.ChainMeaning c.commit-in-Ok.new.chain) c.requires
+        c.commit-in-Ok.new.self _ (chain_state g.C.ChainMeaning c.settle.new.chain) c.settle.new.self c.commit.new.self c.in-Ok.damage.rects
         (record {
           shared = c.in_ok-shared.ensures.kept;
           put = c.commit-in-Ok.ensures.released;
@@ -79,7 +73,7 @@ module _ (g : Given.Over) where
           others = c.settle.ensures.other_names;
           left = c.settle.ensures.left;
         })
-        laws g.Op.OpMeaning.boxed g.Op.OpMeaning.distinguished.apart (sym is ∙ c.in-Ok.ensures.committed) c.commit-in-Ok.ensures.committed
+        (record { local = g.Op.OpMeaning.local; dual = g.Op.OpMeaning.dual }) g.Op.OpMeaning.boxed g.Op.OpMeaning.distinguished.apart (sym is ∙ c.in-Ok.ensures.committed) c.commit-in-Ok.ensures.committed
         (rectangles_of c.deref-2.result.now) (ap rectangles_of c.deref-2.ensures.value) c.in-Ok.ensures.damages
 
 pub returns-in_err-shared-clause-same : goal.returns-in_err-shared-clause-same
@@ -91,15 +85,11 @@ returns-in_err-shared-clause-over g c = (unshared_still g c).over
 pub returns-in_err-shared-clause-left : goal.returns-in_err-shared-clause-left
 returns-in_err-shared-clause-left g c = (unshared_still g c).left
 
-pub settle-requires-clause-cache : goal.settle-requires-clause-cache
-settle-requires-clause-cache g c =
-    (ready g.Op.OpMeaning.same g.Op.OpMeaning.meanings _ c.args.self.now c.self.view_is (state g c.args.chain.now) (state g c.share_working.new.chain) (state g c.commit-in-Ok.new.chain) c.requires
-    c.commit-in-Ok.new.self _ c.in_ok-shared.ensures.kept c.commit-in-Ok.ensures.released).cache
-
-pub settle-requires-clause-alone : goal.settle-requires-clause-alone
-settle-requires-clause-alone g c =
-    (ready g.Op.OpMeaning.same g.Op.OpMeaning.meanings _ c.args.self.now c.self.view_is (state g c.args.chain.now) (state g c.share_working.new.chain) (state g c.commit-in-Ok.new.chain) c.requires
-    c.commit-in-Ok.new.self _ c.in_ok-shared.ensures.kept c.commit-in-Ok.ensures.released).alone
+pub settle-requires : goal.settle-requires
+settle-requires g c =
+    let is = ready g.Op.OpMeaning.same g.Op.OpMeaning.meanings _ c.args.self.now c.self.view_is (chain_state g.C.ChainMeaning c.args.chain.now) (chain_state g.C.ChainMeaning c.share_working.new.chain) (chain_state g.C.ChainMeaning c.commit-in-Ok.new.chain)
+    c.requires c.commit-in-Ok.new.self _ c.in_ok-shared.ensures.kept c.commit-in-Ok.ensures.released in
+    record { cache = is.cache; alone = is.alone }
 
 pub returns-in-Ok-clause-committed : goal.returns-in-Ok-clause-committed
 returns-in-Ok-clause-committed g c = (step g c (commit_is g (goal.at.returns-in-Ok-clause-committed g c).After-deref-2)).1
@@ -114,13 +104,13 @@ pub returns-in-Ok-clause-left : goal.returns-in-Ok-clause-left
 returns-in-Ok-clause-left g c = (step g c (commit_is g (goal.at.returns-in-Ok-clause-left g c).After-deref-2)).0.left
 
 pub returns-in-Err-clause-same : goal.returns-in-Err-clause-same
-returns-in-Err-clause-same g c = (regraphed g.Op.OpMeaning.same g.Op.OpMeaning.meanings _ c.args.self.now c.self.view_is 0 c.commit.new.self _ _ (refused_still g c)).session
+returns-in-Err-clause-same g c = (refused_still g c).session
 
 pub returns-in-Err-clause-over : goal.returns-in-Err-clause-over
-returns-in-Err-clause-over g c = (regraphed g.Op.OpMeaning.same g.Op.OpMeaning.meanings _ c.args.self.now c.self.view_is 0 c.commit.new.self _ _ (refused_still g c)).over
+returns-in-Err-clause-over g c = (refused_still g c).over
 
 pub returns-in-Err-clause-left : goal.returns-in-Err-clause-left
-returns-in-Err-clause-left g c = (regraphed g.Op.OpMeaning.same g.Op.OpMeaning.meanings _ c.args.self.now c.self.view_is 0 c.commit.new.self _ _ (refused_still g c)).left
+returns-in-Err-clause-left g c = (refused_still g c).left
 
 pub returns-in-Err-clause-refused : goal.returns-in-Err-clause-refused
 returns-in-Err-clause-refused g c = refusal g c (commit_is g (goal.at.returns-in-Err-clause-refused g c).After-deref-2)

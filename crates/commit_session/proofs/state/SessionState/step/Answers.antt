@@ -1,6 +1,4 @@
 use Rattle.std.proofs.Common.{sym, subst, rules, tests, Err}
-use Rattle.root_tiles.specs.Chains.{ChainState}
-use Rattle.model_graphs.specs.Laws.{KeepsLaws}
 use Rattle.session_states.specs.OverChains.{AreVersionsOver}
 use Rattle.graph_edits.specs.Refusals.{IsRefusalOf}
 use Rattle.graph_commits.specs.Directions.{stepped}
@@ -9,41 +7,37 @@ use Rattle.commit_session.specs.Refusals.{IsRefusedAs, by_graph}
 use Rattle.commit_session.specs.Steps.{history_step}
 use Rattle.commit_session.proofs.Nothing.{none-there}
 use Rattle.commit_session.proofs.Stepped.{none-ahead, step-refused}
+use Rattle.commit_session.proofs.Chain.{chain_state}
 use Rattle.commit_session.proofs.Changed.{on-err, versions-over}
 use Rattle.commit_session.proofs.Done.{IsMade, history-step-is, made-step, ready, step-made}
-use Rattle.commit_session.proofs.Kept.{IsKept, kept, over-here, refused-too, regraphed, unshared}
+use Rattle.commit_session.proofs.Kept.{IsKept, kept, over-here, refused-too, unshared}
+use Rattle.commit_session.proofs.Same.{this}
 use Rattle.commit_session.proofs.state.SessionState.step.Given
 use Rattle.commit_session.proofs.state.SessionState.step.Goals as goal
 
 module _ (g : Given.Over) where
-  abbrev state : g.row.C.Denot → ChainState
-  state chain = record { held = g.C.ChainMeaning.held chain; counts = g.C.ChainMeaning.counts chain; loans = g.C.ChainMeaning.loans chain; valid = g.C.ChainMeaning.is_valid chain }
-
-  laws : KeepsLaws g.Op.OpMeaning.meanings
-  laws = record { local = g.Op.OpMeaning.local; dual = g.Op.OpMeaning.dual }
-
   -- ---- the buffers couldn't be shared
 
-  unshared_still : (c : goal.After-from_residual g) → IsKept g.Op.OpMeaning.same g.Op.OpMeaning.meanings 0 c.args.self.now c.args.self.now (state c.args.chain.now) (state c.share_ahead.new.chain)
+  unshared_still : (c : goal.After-from_residual g) → IsKept g.Op.OpMeaning.same g.Op.OpMeaning.meanings 0 c.args.self.now c.args.self.now (chain_state g.C.ChainMeaning c.args.chain.now) (chain_state g.C.ChainMeaning c.share_ahead.new.chain)
   unshared_still c =
-      kept g.Op.OpMeaning.same g.Op.OpMeaning.meanings _ c.args.self.now c.self.view_is (state c.args.chain.now) (state c.share_ahead.new.chain) c.requires
+      kept g.Op.OpMeaning.same g.Op.OpMeaning.meanings _ c.args.self.now c.self.view_is (chain_state g.C.ChainMeaning c.args.chain.now) (chain_state g.C.ChainMeaning c.share_ahead.new.chain) c.requires
       c.in_err-shared.ensures.kept
 
   -- ---- the graph refused
 
-  refused_still : (c : goal.After-from g) → IsKept g.Op.OpMeaning.same g.Op.OpMeaning.meanings 0 c.args.self.now (record c.args.self.now { graph = c.step.new.self }) (state c.args.chain.now) (state c.release.new.chain)
+  refused_still : (c : goal.After-from g) → IsKept g.Op.OpMeaning.same g.Op.OpMeaning.meanings 0 c.args.self.now (record (this c.self.view_is) { graph = c.step.new.self }) (chain_state g.C.ChainMeaning c.args.chain.now) (chain_state g.C.ChainMeaning c.release.new.chain)
   refused_still c =
-      unshared g.Op.OpMeaning.same g.Op.OpMeaning.meanings _ c.args.self.now c.self.view_is (state c.args.chain.now) (state c.release.new.chain) c.requires c.in_ok-shared.shared (state c.share_ahead.new.chain)
+      unshared g.Op.OpMeaning.same g.Op.OpMeaning.meanings _ c.args.self.now c.self.view_is (chain_state g.C.ChainMeaning c.args.chain.now) (chain_state g.C.ChainMeaning c.release.new.chain) c.requires c.in_ok-shared.shared (chain_state g.C.ChainMeaning c.share_ahead.new.chain)
       c.in_ok-shared.ensures.kept
       (record { others = c.release.ensures.others; counts = c.release.ensures.counts; loans = c.release.ensures.loans; valid = c.release.ensures.valid })
       c.step.new.self c.in-Err.ensures.unchanged
 
   -- ---- the step was made
 
-  done : (c : goal.After-drop-damage g) → IsMade g.Op.OpMeaning.same g.Op.OpMeaning.meanings c.args.self.now c.settle.new.self (history_step c.args.direction) (state c.args.chain.now) (state c.settle.new.chain)
+  done : (c : goal.After-drop-damage g) → IsMade g.Op.OpMeaning.same g.Op.OpMeaning.meanings c.args.self.now c.settle.new.self (history_step c.args.direction) (chain_state g.C.ChainMeaning c.args.chain.now) (chain_state g.C.ChainMeaning c.settle.new.chain)
   done c =
-      step-made g.Op.OpMeaning.same g.Op.OpMeaning.meanings _ c.args.self.now c.self.view_is (state c.args.chain.now) (state c.share_ahead.new.chain) (state c.step-in-Ok.new.chain) c.requires
-      c.step-in-Ok.new.self _ (state c.settle.new.chain) c.settle.new.self c.step.new.self c.in-Ok.damage.rects
+      step-made g.Op.OpMeaning.same g.Op.OpMeaning.meanings _ c.args.self.now c.self.view_is (chain_state g.C.ChainMeaning c.args.chain.now) (chain_state g.C.ChainMeaning c.share_ahead.new.chain) (chain_state g.C.ChainMeaning c.step-in-Ok.new.chain) c.requires
+      c.step-in-Ok.new.self _ (chain_state g.C.ChainMeaning c.settle.new.chain) c.settle.new.self c.step.new.self c.in-Ok.damage.rects
       (record {
         shared = c.in_ok-shared.ensures.kept;
         put = c.step-in-Ok.ensures.released;
@@ -57,7 +51,7 @@ module _ (g : Given.Over) where
         others = c.settle.ensures.other_names;
         left = c.settle.ensures.left;
       })
-      laws g.Op.OpMeaning.boxed g.Op.OpMeaning.distinguished.apart c.args.direction c.in-Ok.ensures.stepped.made
+      (record { local = g.Op.OpMeaning.local; dual = g.Op.OpMeaning.dual }) g.Op.OpMeaning.boxed g.Op.OpMeaning.distinguished.apart c.args.direction c.in-Ok.ensures.stepped.made
       (made-step c.args.direction c.self.inside.versions c.step-in-Ok.new.self c.in_ok-shared.shared c.in_ok-shared.ensures.shared c.step-in-Ok.ensures.stepped)
       c.in-Ok.ensures.stepped.damages
 
@@ -70,15 +64,11 @@ returns-in_err-shared-clause-over g c = (unshared_still g c).over
 pub returns-in_err-shared-clause-left : goal.returns-in_err-shared-clause-left
 returns-in_err-shared-clause-left g c = (unshared_still g c).left
 
-pub settle-requires-clause-cache : goal.settle-requires-clause-cache
-settle-requires-clause-cache g c =
-    (ready g.Op.OpMeaning.same g.Op.OpMeaning.meanings _ c.args.self.now c.self.view_is (state g c.args.chain.now) (state g c.share_ahead.new.chain) (state g c.step-in-Ok.new.chain) c.requires
-    c.step-in-Ok.new.self _ c.in_ok-shared.ensures.kept c.step-in-Ok.ensures.released).cache
-
-pub settle-requires-clause-alone : goal.settle-requires-clause-alone
-settle-requires-clause-alone g c =
-    (ready g.Op.OpMeaning.same g.Op.OpMeaning.meanings _ c.args.self.now c.self.view_is (state g c.args.chain.now) (state g c.share_ahead.new.chain) (state g c.step-in-Ok.new.chain) c.requires
-    c.step-in-Ok.new.self _ c.in_ok-shared.ensures.kept c.step-in-Ok.ensures.released).alone
+pub settle-requires : goal.settle-requires
+settle-requires g c =
+    let is = ready g.Op.OpMeaning.same g.Op.OpMeaning.meanings _ c.args.self.now c.self.view_is (chain_state g.C.ChainMeaning c.args.chain.now) (chain_state g.C.ChainMeaning c.share_ahead.new.chain) (chain_state g.C.ChainMeaning c.step-in-Ok.new.chain)
+    c.requires c.step-in-Ok.new.self _ c.in_ok-shared.ensures.kept c.step-in-Ok.ensures.released in
+    record { cache = is.cache; alone = is.alone }
 
 pub returns-in-Ok-clause-session : goal.returns-in-Ok-clause-session
 returns-in-Ok-clause-session g c = (done g c).session
@@ -90,13 +80,13 @@ pub returns-in-Ok-clause-left : goal.returns-in-Ok-clause-left
 returns-in-Ok-clause-left g c = (done g c).left
 
 pub returns-in-Err-clause-same : goal.returns-in-Err-clause-same
-returns-in-Err-clause-same g c = (regraphed g.Op.OpMeaning.same g.Op.OpMeaning.meanings _ c.args.self.now c.self.view_is 0 c.step.new.self _ _ (refused_still g c)).session
+returns-in-Err-clause-same g c = (refused_still g c).session
 
 pub returns-in-Err-clause-over : goal.returns-in-Err-clause-over
-returns-in-Err-clause-over g c = (regraphed g.Op.OpMeaning.same g.Op.OpMeaning.meanings _ c.args.self.now c.self.view_is 0 c.step.new.self _ _ (refused_still g c)).over
+returns-in-Err-clause-over g c = (refused_still g c).over
 
 pub returns-in-Err-clause-left : goal.returns-in-Err-clause-left
-returns-in-Err-clause-left g c = (regraphed g.Op.OpMeaning.same g.Op.OpMeaning.meanings _ c.args.self.now c.self.view_is 0 c.step.new.self _ _ (refused_still g c)).left
+returns-in-Err-clause-left g c = (refused_still g c).left
 
 pub returns-in-Err-clause-refused_session : goal.returns-in-Err-clause-refused_session
 returns-in-Err-clause-refused_session g c = λ session of.
