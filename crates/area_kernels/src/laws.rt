@@ -7,7 +7,7 @@ ghost use Rattle.model_operations.specs.Windows.{read_before, window};
 
 use pixel_formats::Abyss;
 
-/// Where a part holds what is read of an image under a policy, in columns and rows that count from
+/// States that where a part holds what is read of an image under a policy, in columns and rows that count from
 /// so many positions left of and above the plane's corner, the square of a position is the image's
 /// window.
 pub fn square_is_window()

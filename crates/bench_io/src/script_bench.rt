@@ -40,7 +40,7 @@ pub fn time_all<R: Clock + Print + Eprint + Alloc<A = Global>>(
     Ok(())
 }
 
-/// The text of a script of so many lines.
+/// Returns the text of a script of so many lines.
 fn sample_script(alloc: Global, count: usize) -> Result<Vec<u8>> {
     let mut text = Vec::new(alloc);
     for line in LINES.iter().cycle().take(count) {

@@ -68,7 +68,7 @@ fn time_blocks<R: Clock + Print + Eprint + Alloc<A = Global>, D: SwapDisk>(
     Ok(())
 }
 
-/// A tile of each number of blocks from 1 to 16, of the byte of that number.
+/// Returns a tile of each number of blocks from 1 to 16, of the byte of that number.
 fn tiles_of_all_lengths(alloc: Global) -> Result<Vec<Tile>> {
     let mut tiles = Vec::new(alloc);
     for count in 1..17u8 {

@@ -6,12 +6,12 @@ use outside_io::{SwapAnswer, SwapDisk};
 use swap_store::{Store, SwapRefused};
 use tile_cow::Tile;
 
-/// The tile of one of 16 lengths that goes under a name.
+/// Returns the tile of one of 16 lengths that goes under a name.
 fn tile_for(tiles: &[Tile], number: u64) -> Option<&Tile> {
     tiles.get((number.wrapping_mul(7) % 16) as usize)
 }
 
-/// One of the first `names` numbers: each of them once, where the round runs over all of them.
+/// Returns one of the first `names` numbers: each of them once, where the round runs over all of them.
 fn scattered(round: u64, names: u64) -> u64 {
     round.wrapping_mul(7_919).checked_rem(names).unwrap_or(0)
 }
@@ -116,7 +116,7 @@ pub fn read_blocks<D: SwapDisk>(
     Ok(found)
 }
 
-/// The last byte, or 0.
+/// Returns the last byte, or 0.
 fn last(bytes: &[u8]) -> u64 {
     bytes.last().copied().map_or(0, u64::from)
 }

@@ -7,7 +7,7 @@ use pixel_formats::Format;
 use plane_rect::Rect;
 use std::alloc::{AllocError, Global};
 
-/// The square of so many columns and rows from x = y = `corner` on, and else the rectangle without
+/// Returns the square of so many columns and rows from x = y = `corner` on, and else the rectangle without
 /// a position.
 pub fn square(corner: i64, side: u32) -> Rect
     ensures { InLimits result }
@@ -18,7 +18,7 @@ pub fn square(corner: i64, side: u32) -> Rect
     }
 }
 
-/// An image over a square from the origin on.
+/// Returns an image over a square from the origin on.
 pub fn image(alloc: Global, side: u32, format: Format) -> Result<Patch, PatchRefused> {
     let rect = square(0, side);
     let count = rect.area().saturating_mul(u64::from(format.pixel_bytes()));
@@ -26,7 +26,7 @@ pub fn image(alloc: Global, side: u32, format: Format) -> Result<Patch, PatchRef
     Patch::from_raw(alloc, rect, format, &bytes)
 }
 
-/// So many bytes without a pattern: the high bytes of a sequence in which each number is the one
+/// Returns so many bytes without a pattern: the high bytes of a sequence in which each number is the one
 /// before it times 1,664,525 and 1,013,904,223 more.
 pub fn bytes(alloc: Global, count: u64) -> Result<Vec<u8>, AllocError> {
     let mut bytes = vec![in alloc; 0; count as usize]?;

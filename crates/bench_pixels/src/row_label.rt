@@ -12,7 +12,7 @@ pub struct Label {
 }
 
 impl Label {
-    /// A kernel that works on one format.
+    /// Returns a kernel that works on one format.
     pub fn new(kernel: &'static str, f: Format) -> Label {
         Label {
             kernel,

@@ -6,7 +6,7 @@ ghost use Rattle.pixel_formats.specs.Format.{pixel_bytes};
 use pixel_formats::Format;
 use std::alloc::{AllocError, Global};
 
-/// A row of so many pixels. Each byte is `step` above the one before it, round the largest byte.
+/// Returns a row of so many pixels. Each byte is `step` above the one before it, round the largest byte.
 pub fn pixels(alloc: Global, count: u32, f: Format, step: u8) -> Result<Vec<u8>, AllocError>
     requires { count ≤ 8192 }
     ensures { IfOk result (λ row. length row.items ≡ count * pixel_bytes f) }
@@ -14,7 +14,7 @@ pub fn pixels(alloc: Global, count: u32, f: Format, step: u8) -> Result<Vec<u8>,
     bytes(alloc, count * f.pixel_bytes(), step)
 }
 
-/// A row of so many bytes. Each is `step` above the one before it, round the largest byte.
+/// Returns a row of so many bytes. Each is `step` above the one before it, round the largest byte.
 pub fn bytes(alloc: Global, count: u32, step: u8) -> Result<Vec<u8>, AllocError>
     ensures { IfOk result (λ row. length row.items ≡ count) }
 {

@@ -9,14 +9,14 @@ use std::{fmt, io};
 pub struct Speed(u64);
 
 impl Speed {
-    /// The speed at which so many bytes were written since then.
+    /// Returns the speed at which so many bytes were written since then.
     pub fn since(rt: &impl Clock, start: Instant, bytes: u64) -> io::Result<Speed> {
         let elapsed = start.elapsed(rt)?;
         let nanoseconds = u64::try_from(elapsed.as_nanos()).unwrap_or(u64::MAX);
         Ok(Speed(bytes.saturating_mul(1_000) / nanoseconds.max(1)))
     }
 
-    /// What part of another speed it is.
+    /// Returns what part of another speed it is.
     pub fn share_of(self, other: Speed) -> Share {
         Share(self.0.saturating_mul(1_000) / other.0.max(1))
     }

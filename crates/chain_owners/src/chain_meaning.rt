@@ -65,7 +65,7 @@ impl ChainMeaning for () {
     ghost chain_laws = { λ _ _. unit_is_chain };
 }
 
-/// The laws hold of each type of chains.
+/// States that the laws hold of each type of chains.
 pub fn chains_keep_laws<H: ChainMeaning>()
     ensures names { (chain : H) → HasSameNames (H.held chain) }
     ensures counts { (chain : H) → AreCounts (H.counts chain) (H.held chain) (H.store chain) }

@@ -11,7 +11,7 @@ pub fn growths_add_up()
     ensures weaker { (old new : Counts) (added more : ℕ) → added ≤ more → Grows added old new → Grows more old new }
 {}
 
-/// Where so many names may fill a store, more of them may.
+/// States that where so many names may fill a store, more of them may.
 pub fn more_names_fill()
     ensures { (used : Option ℕ) (capacity names more needed longest : ℕ) →
         names ≤ more → IsFullOver used capacity names needed longest → IsFullOver used capacity more needed longest }

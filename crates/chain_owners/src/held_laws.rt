@@ -12,7 +12,7 @@ pub fn owners_count_up()
     ensures stopped { (held : Held) (name : ℕ) → owners_of held name ≡ max_owners → owned held name ≡ held }
 {}
 
-/// A name goes with its last owner; the largest number stays.
+/// States that a name goes with its last owner; the largest number stays.
 pub fn owners_count_down()
     ensures fewer { (held : Held) (name : ℕ) →
         owners_of held name ≢ max_owners → 1 < owners_of held name →
@@ -22,7 +22,7 @@ pub fn owners_count_down()
     ensures stopped { (held : Held) (name : ℕ) → owners_of held name ≡ max_owners → disowned held name ≡ held }
 {}
 
-/// Other names are unchanged where a name comes, goes or changes its number of owners.
+/// States that other names are unchanged where a name comes, goes or changes its number of owners.
 pub fn other_names_are_unchanged()
     ensures put { (held : Held) (name other : ℕ) (bytes : List ℕ) →
         other ≢ name → Unchanged held (with_tile held name bytes) other }
@@ -33,7 +33,7 @@ pub fn other_names_are_unchanged()
         other ≢ name → Unchanged held (disowned held name) other }
 {}
 
-/// The lengths of names stay those of their bytes.
+/// States that the lengths of names stay those of their bytes.
 pub fn lengths_stay_exact()
     ensures none { HasLengths nothing_held }
     ensures put { (held : Held) (name : ℕ) (bytes : List ℕ) → HasLengths held → HasLengths (with_tile held name bytes) }
@@ -42,7 +42,7 @@ pub fn lengths_stay_exact()
     ensures disowned { (held : Held) (name : ℕ) → HasLengths held → HasLengths (disowned held name) }
 {}
 
-/// A name more is one name more at most, and one fewer is none more.
+/// States that a name more is one name more at most, and one fewer is none more.
 pub fn names_are_counted()
     ensures put { (held : Held) (name : ℕ) (bytes : List ℕ) →
         map.len (with_tile held name bytes).lengths ≤ map.len held.lengths + 1 }

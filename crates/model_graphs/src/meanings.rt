@@ -30,19 +30,19 @@ pub trait OpMeaning {
     ghost distinguished: { IsEquality same };
 }
 
-/// The laws by which damage is found hold of the meanings of each type of operations.
+/// States that the laws by which damage is found hold of the meanings of each type of operations.
 pub fn meanings_keep_laws<Op: OpMeaning>()
     ensures { KeepsLaws Op.meanings }
 {}
 
-/// Outside the box of a result each sample is 0.
+/// States that outside the box of a result each sample is 0.
 pub fn outside_is_zero<Op: OpMeaning>()
     ensures { (operation : Op) (images : List Image) (u v c : ℕ) →
         (Inside u v (result_box Op.meanings operation (boxes_of images)) → ⊥) →
         at (result_of Op.meanings operation images) u v c ≡ 0 }
 {}
 
-/// Where an input changes in a region alone, the result changes only in what the region invalidates.
+/// States that where an input changes in a region alone, the result changes only in what the region invalidates.
 pub fn changes_stay_inside<Op: OpMeaning>()
     ensures { (operation : Op) (i : ℕ) (region : Rectangle) (before after : List Image) →
         ChangedWithin i region before after →
@@ -50,7 +50,7 @@ pub fn changes_stay_inside<Op: OpMeaning>()
         (Op.meanings.invalidated operation (boxes_of before) i region) }
 {}
 
-/// Two images that agree outside a region are inputs of which one changed in the region alone.
+/// States that two images that agree outside a region are inputs of which one changed in the region alone.
 pub fn input_changed()
     ensures only { (a b : Image) (region : Rectangle) →
         AgreeOutside a b region → ChangedWithin 0 region (a ∷ []) (b ∷ []) }

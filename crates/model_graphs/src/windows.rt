@@ -9,7 +9,7 @@ ghost use Rattle.model_graphs.specs.Laws.{AgreeInside};
 
 use crate::meanings::OpMeaning;
 
-/// A whole window shows the image that it is of, wherever it is needed.
+/// States that a whole window shows the image that it is of, wherever it is needed.
 pub fn windows_show_their_images()
     ensures shape { (image : Image) (window : Window) → IsWindowOf image window →
         ((window_image window).box ≡ image.box) × ((window_image window).format ≡ image.format) }
@@ -17,7 +17,7 @@ pub fn windows_show_their_images()
         AgreeInside (window_image window) image window.need }
 {}
 
-/// Over a part of a result, an operation gives of windows what it gives of their images, where each
+/// States that over a part of a result, an operation gives of windows what it gives of their images, where each
 /// window is needed at all that the part requires of its input.
 pub fn windows_give_the_result<Op: OpMeaning>()
     ensures { (operation : Op) (images : List Image) (windows : List Window) (part : Rectangle) →

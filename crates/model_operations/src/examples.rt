@@ -34,7 +34,7 @@ pub fn conversions()
         ≡ 7 ∷ 255 ∷ [] }
 {}
 
-/// Each pixel by itself: 100 * 5 / 4, and 250 * 5 / 4 up to 255; half of 5, rounded up; 99 and 100
+/// Works out each pixel by itself: 100 * 5 / 4, and 250 * 5 / 4 up to 255; half of 5, rounded up; 99 and 100
 /// at a threshold of 100; colors subtracted from their alpha, and one that is above it.
 pub fn single_pixels()
     ensures gain { whole (IntOp.Gain 5 4) (row_image Format.Y8 (pos 0) 2 (100 ∷ 250 ∷ []) ∷ [])
@@ -48,7 +48,7 @@ pub fn single_pixels()
         ≡ 70 ∷ 100 ∷ 0 ∷ 100 ∷ [] }
 {}
 
-/// Two inputs: a sum that is above 255, a half of 200, and a color over another, of which 127 of 255
+/// Works out two inputs: a sum that is above 255, a half of 200, and a color over another, of which 127 of 255
 /// is left.
 pub fn pairs()
     ensures add { whole IntOp.Add
@@ -82,7 +82,7 @@ pub fn moves()
         ≡ Some (positions_from (pos 1) 2) }
 {}
 
-/// One pixel of 9: its mean with eight zeros is (9 + 4) / 9 at each of the nine positions around
+/// Works out one pixel of 9: its mean with eight zeros is (9 + 4) / 9 at each of the nine positions around
 /// it, and with eight equal to it 9.
 pub fn means()
     ensures none { whole (IntOp.BoxMean 1 Abyss.None) (row_image Format.Y8 (pos 0) 1 (9 ∷ []) ∷ [])
@@ -97,7 +97,7 @@ pub fn means()
     ensures none_repeats { box_of (IntOp.BoxMean 1 Abyss.Loop) (positions_from (pos 0) 1 ∷ []) ≡ None }
 {}
 
-/// The largest and the smallest sample around each position, also at the plane's left edge, left of
+/// Works out the largest and the smallest sample around each position, also at the plane's left edge, left of
 /// which the policy reads white.
 pub fn extremes()
     ensures dilate { whole (IntOp.Dilate 1 Abyss.Clamp)
@@ -164,7 +164,7 @@ pub fn arguments()
     ensures color_short { format_of (IntOp.Color Format.RGB8 empty (5 ∷ [])) [] ≡ None }
 {}
 
-/// What is required and what is invalidated of a row of three positions, by a mean of radius 1 of its
+/// Works out what is required and what is invalidated of a row of three positions, by a mean of radius 1 of its
 /// first position, by a row moved by 1 and by a row that is mirrored.
 pub fn regions_of_a_row()
     ensures mean_none { required (IntOp.BoxMean 1 Abyss.None)

@@ -12,7 +12,7 @@ ghost use Rattle.model_operations.specs.Results.{IsInRange, result_format, resul
 ghost use Rattle.model_operations.specs.{declared.operation.IntOp.IntOp, Formats.format_of, Meanings.int_meanings, Values.value_at};
 ghost use Rattle.model_graphs.specs.Laws.{KeepsNothing};
 
-/// A result is an image of the box and the format that the operation gives for its inputs, with the
+/// States that a result is an image of the box and the format that the operation gives for its inputs, with the
 /// operation's value at each position of the box.
 #[tactic(auto, using(crate::proofs::ResultLaws::result_laws))]
 pub fn result_is_generated()
@@ -27,19 +27,19 @@ pub fn result_is_generated()
         at (result_of op images) u v c ≡ value_at op images u v c }
 {}
 
-/// An operation gives no box that is too large for an image.
+/// States that an operation gives no box that is too large for an image.
 pub fn box_in_limits()
     ensures { (op : IntOp) (boxes : List Rectangle) (box : Rectangle) →
         box_of op boxes ≡ Some box → InLimits box }
 {}
 
-/// The operation that inverts gives the inverse of an image.
+/// States that the operation that inverts gives the inverse of an image.
 pub fn inverse_of_image()
     ensures { (image : Image) → InLimits image.box →
         result_of IntOp.Invert (image ∷ []) ≡ inverted_image image }
 {}
 
-/// Where no sample of the inputs is above the largest of its format, none of the result is, if the
+/// States that where no sample of the inputs is above the largest of its format, none of the result is, if the
 /// operation takes such inputs.
 pub fn result_in_range()
     ensures { (op : IntOp) (images : List Image) (format : Format) →
@@ -48,7 +48,7 @@ pub fn result_in_range()
         (u v c : ℕ) → at (result_of op images) u v c ≤ max_sample format }
 {}
 
-/// A change without a pixel invalidates none.
+/// States that a change without a pixel invalidates none.
 pub fn nothing_invalidates_nothing()
     ensures { KeepsNothing int_meanings }
 {}

@@ -8,7 +8,7 @@ ghost use Rattle.model_operations.specs.Moves.{source_index, mirrored, mirrored_
 ghost use Rattle.model_operations.specs.Regions.{IsNearestTo, invalidated, is_pointwise, required};
 ghost use Rattle.model_operations.specs.declared.operation.IntOp.{IntOp};
 
-/// Where each pixel of the result is of the pixels at its own position, a region reads and reaches
+/// States that where each pixel of the result is of the pixels at its own position, a region reads and reaches
 /// itself, as far as it is in the input's box and in the result's.
 pub fn pointwise_regions()
     ensures required { (op : IntOp) (boxes : List Rectangle) (i : ℕ) (region : Rectangle) (u v : ℕ) →
@@ -21,7 +21,7 @@ pub fn pointwise_regions()
         ↔ (Inside u v region × Inside u v (input_box boxes i) × Inside u v (result_box op boxes)) }
 {}
 
-/// A surrounded rectangle has the positions that are near to one of its own. Moved into a box, a
+/// States that a surrounded rectangle has the positions that are near to one of its own. Moved into a box, a
 /// rectangle has the nearest position of the box to each of its own.
 pub fn area_regions()
     ensures surrounded { (by u v : ℕ) (r : Rectangle) →
@@ -30,7 +30,7 @@ pub fn area_regions()
         Inside u v (moved_into box r) ↔ IsNearestTo box u v r }
 {}
 
-/// A part of a box, mirrored in it, has the positions of the box whose own mirror positions are in the
+/// States that a part of a box, mirrored in it, has the positions of the box whose own mirror positions are in the
 /// part.
 pub fn mirrored_regions()
     ensures sideways { (box part : Rectangle) (u v : ℕ) → Includes box part → Inside u v box →
@@ -39,7 +39,7 @@ pub fn mirrored_regions()
         Inside u v (mirrored_part false box part) ↔ Inside u (mirrored box.first_row box.height v) part }
 {}
 
-/// Each position of a translated image shows the position of its input that was moved there.
+/// States that each position of a translated image shows the position of its input that was moved there.
 pub fn translated_positions()
     ensures { (dx dy : ℤ) (box moved : Rectangle) →
         box_of (IntOp.Translate dx dy) (box ∷ []) ≡ Some moved →

@@ -8,7 +8,7 @@ ghost use Rattle.model_operations.specs.Windows.{Has, max_of_all, min_of_all, re
 
 use pixel_formats::Abyss;
 
-/// A window has the sample under the policy of each position of its square, and no other: as many
+/// States that a window has the sample under the policy of each position of its square, and no other: as many
 /// as the square has positions. Its columns and rows count from left of and above the plane's
 /// corner, so that a window may begin before it.
 pub fn window_reads()
@@ -23,7 +23,7 @@ pub fn window_reads()
         read_before radius image policy (u + radius) (v + radius) c ≡ abyss_at image policy u v c }
 {}
 
-/// The largest of some samples is one of them, and none of them is larger.
+/// States that the largest of some samples is one of them, and none of them is larger.
 pub fn max_of_samples()
     ensures among { (samples : List ℕ) → 0 < length samples →
         Has samples (max_of_all samples) }
@@ -31,7 +31,7 @@ pub fn max_of_samples()
         slice_index samples k ≤ max_of_all samples }
 {}
 
-/// The smallest of some samples is one of them, and none of them is smaller.
+/// States that the smallest of some samples is one of them, and none of them is smaller.
 pub fn min_of_samples()
     ensures among { (samples : List ℕ) → 0 < length samples →
         Has samples (min_of_all samples) }

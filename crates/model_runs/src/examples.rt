@@ -13,7 +13,7 @@ ghost use Rattle.model_runs.specs.MadeJob.{draws, fills};
 ghost use Rattle.model_runs.specs.Words.{MakeJob, RunScript, default_options, request_of};
 ghost use Rattle.model_runs.specs.Swap.{effects_to_stop, tiles_in};
 
-/// A raster of 64 and 255 is inverted. A region without positions is an empty file.
+/// States that a raster of 64 and 255 is inverted. A region without positions is an empty file.
 pub fn an_inverted_raster()
     ensures events { (files : Files) → HasRaster (64 ∷ 255 ∷ []) files →
         (outcome_of [] files (inverted_raster ++ render (row_from 0 2) (codes "out.raw") ∷ render empty (codes "none.raw") ∷ [])).events
@@ -24,7 +24,7 @@ pub fn an_inverted_raster()
         (outcome_of [] files (inverted_raster ++ render (row_from 0 2) (codes "out.raw") ∷ [])).refused ≡ None }
 {}
 
-/// A raster of three bytes for two positions is refused at its line, and nothing after it is done.
+/// States that a raster of three bytes for two positions is refused at its line, and nothing after it is done.
 pub fn a_raster_of_a_wrong_size()
     ensures events { (files : Files) → HasRaster (0 ∷ 64 ∷ 128 ∷ []) files →
         (outcome_of [] files inverted_raster).events ≡ Puts (codes "line 2: WrongSize\n") ∷ [] }
@@ -33,7 +33,7 @@ pub fn a_raster_of_a_wrong_size()
         ≡ Some (record { line = 2; cause = causes.WrongSize }) }
 {}
 
-/// A part of a buffer shares its samples. A position that the part doesn't have can't be filled through it.
+/// States that a part of a buffer shares its samples. A position that the part doesn't have can't be filled through it.
 pub fn a_part_of_a_buffer()
     ensures { (files : Files) → (outcome_of [] files (part_of_zeros
         ++ fill (codes "s") (row_from 2 1) 7 ∷ grab (codes "a") (row_from 0 4) (codes "o") ∷ fill (codes "s") (row_from 0 1) 9 ∷ [])).events
@@ -57,14 +57,14 @@ pub fn refused_lines()
         ≡ Puts (codes "line 2: UnknownBuffer\n") ∷ [] }
 {}
 
-/// A tile is filled before a file is written, and once more after it. Where no text was put the run stopped at the
+/// States that a tile is filled before a file is written, and once more after it. Where no text was put the run stopped at the
 /// file's line, and the tile after it doesn't count.
 pub fn tiles_of_fills()
     ensures all { (files : Files) → tiles_in 100 (effects_to_stop None (filled_twice files)) ≡ 3 }
     ensures to_the_file { (files : Files) → tiles_in 100 (effects_to_stop (Some []) (filled_twice files)) ≡ 2 }
 {}
 
-/// A script alone has the default options. Options stand before and after it, with their values in the next word or
+/// States that a script alone has the default options. Options stand before and after it, with their values in the next word or
 /// after `=`.
 pub fn words_of_runs()
     ensures alone { request_of (codes "run" ∷ codes "s.txt" ∷ []) ≡ Some (RunScript (codes "s.txt") default_options) }
@@ -85,7 +85,7 @@ pub fn words_of_nothing()
     ensures two_scripts { request_of (codes "run" ∷ codes "s" ∷ codes "t" ∷ []) ≡ None }
 {}
 
-/// A job is made of a number below 2^32. The first numbers that are drawn for job 0, and its second fill.
+/// States that a job is made of a number below 2^32. The first numbers that are drawn for job 0, and its second fill.
 pub fn made_jobs()
     ensures largest { request_of (codes "make" ∷ codes "4294967295" ∷ []) ≡ Some (MakeJob 4294967295) }
     ensures too_large { request_of (codes "make" ∷ codes "4294967296" ∷ []) ≡ None }

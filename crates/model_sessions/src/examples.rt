@@ -12,7 +12,7 @@ ghost use Rattle.model_states.specs.{Need.wide, Cache.uncounted};
 ghost use Rattle.model_sessions.specs.Examples.{carried, color, commit_after, crop_rendered, crop_twice, history, node_counts, of_buffer, of_color, rendered, row, set, two_commits, voided_by, wide_need, with_edit};
 ghost use Rattle.model_sessions.specs.Steps.{Commit, EditNode, Redo, Undo};
 
-/// Two commits, of a whole buffer and of one place of it. An undo and a redo carry the rectangle of the second; two
+/// Works out two commits, of a whole buffer and of one place of it. An undo and a redo carry the rectangle of the second; two
 /// undos lead back to the state without nodes, and then nothing is left to undo.
 pub fn undo_and_redo()
     ensures commits { carried two_commits ≡ [] ∷ of_buffer (row 2) ∷ of_buffer (row 1) ∷ [] }
@@ -48,13 +48,13 @@ pub fn work_after_an_edit()
     ensures undone { counts (rendered (voided_by (square 1) (with_edit (square 1)))) ≡ (6, 10) }
 {}
 
-/// A part of 200 positions becomes one of 100 under a mean: both nodes' tiles go, and half as many are needed.
+/// States that a part of 200 positions becomes one of 100 under a mean: both nodes' tiles go, and half as many are needed.
 pub fn work_after_a_crop()
     ensures first { counts (crop_rendered 200 (uncounted [])) ≡ (8, 0) }
     ensures both { counts crop_twice ≡ (12, 0) }
 {}
 
-/// A strip of 65 tiles fits a capacity of 65, and is too wide for one of 64.
+/// States that a strip of 65 tiles fits a capacity of 65, and is too wide for one of 64.
 pub fn wide_strip()
     ensures too_wide { wide 64 wide_need ≡ Some 65 }
     ensures fits { wide 65 wide_need ≡ None }

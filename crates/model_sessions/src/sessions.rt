@@ -9,7 +9,7 @@ ghost use Rattle.model_operations.specs.Meanings.{int_meanings, same_operation};
 ghost use Rattle.model_operations.specs.declared.operation.IntOp.{IntOp};
 ghost use Rattle.model_sessions.specs.Sessions.{Action, AreProperActions, IsProperAction, IsSession, Session, after_action, last_scene, session_of};
 
-/// After any edits, renders, commits, undos and redos each cached pair is right for the last state: its node is one of
+/// States that after any edits, renders, commits, undos and redos each cached pair is right for the last state: its node is one of
 /// the state's operations, its tile meets the node's box, and its bytes are those of the node's image. No pair is there
 /// twice, and there are at most as many as the capacity.
 pub fn cached_pairs_are_right<Op>()
@@ -25,7 +25,7 @@ pub fn cached_pairs_are_right<Op>()
         length (session_of same meanings capacity actions).cached.list ≤ capacity }
 {}
 
-/// An action makes a session of a session, whatever made that one.
+/// States that an action makes a session of a session, whatever made that one.
 pub fn actions_keep_sessions<Op>()
     ensures { (same : Op → Op → Bool) (meanings : Meanings Op) (capacity : ℕ) (session : Session Table Op) (action : Action Op) →
         KeepsLaws meanings → IsBoxed meanings → Distinguishes same →
@@ -33,7 +33,7 @@ pub fn actions_keep_sessions<Op>()
         IsSession meanings capacity (after_action same meanings capacity session action) }
 {}
 
-/// So it is with the fifteen operations.
+/// States that it is so with the fifteen operations.
 pub fn sessions_of_fifteen_operations()
     ensures { (capacity : ℕ) (actions : List (Action IntOp)) → AreProperActions actions →
         IsSession int_meanings capacity (session_of same_operation int_meanings capacity actions) }

@@ -13,7 +13,7 @@ ghost use Rattle.model_states.specs.Rectangles.{Rectangles};
 ghost use Rattle.model_sessions.specs.Tables.{Continues, table_facts, table_images};
 ghost use Rattle.model_sessions.specs.{Histories.AreTablesSeparated, Steps.rectangles_by};
 
-/// A table's buffers have distinct names, and a graph knows and reads them as they are.
+/// States that a table's buffers have distinct names, and a graph knows and reads them as they are.
 pub fn tables_are_sources()
     ensures distinct { (table : Table) → IsTable table → IsDistinct bytes_eq (fact_names (table_facts table)) }
     ensures found { (table : Table) (name : List ℕ) →
@@ -23,7 +23,7 @@ pub fn tables_are_sources()
         buffer_image (table_images table) name ≡ image_of table name }
 {}
 
-/// An edit keeps each buffer on its root, and changes no image outside the rectangle that it writes to its root.
+/// States that an edit keeps each buffer on its root, and changes no image outside the rectangle that it writes to its root.
 pub fn edits_continue_tables()
     ensures table { (table : Table) (edit : BufferEdit) →
         IsTable table → IsProperEdit edit → IfOk (edited_table table edit) IsTable }
@@ -32,7 +32,7 @@ pub fn edits_continue_tables()
         IfOk (edited_table table edit) (Continues table (rectangles_by table edit)) }
 {}
 
-/// A table and one that continues it are neighbors, also the other way round.
+/// States that a table and one that continues it are neighbors, also the other way round.
 pub fn continued_tables_are_neighbors()
     ensures on { (table next : Table) (rectangles : Rectangles) →
         Continues table rectangles next → AreTablesSeparated table next rectangles }

@@ -36,21 +36,21 @@ ghost use Rattle.model_states.specs.{Samples.HaveSameBuffers, declared.strip.Str
 pub use refused::StateRefused;
 pub use strip::{NeedList, Strip};
 
-/// Each pair that is looked up counts once, as applied or as reused.
+/// States that each pair that is looked up counts once, as applied or as reused.
 pub fn counts_add_up<X>()
     ensures { (key : X → Pair) (fresh : Pair → X) (capacity : Option ℕ) (counted : Counted X) (pairs : List Pair) →
         (all_looked_up key fresh capacity counted pairs).applied
         + (all_looked_up key fresh capacity counted pairs).reused ≡ counted.applied + counted.reused + length pairs }
 {}
 
-/// A list that has at most as many pairs as the capacity still has when pairs were looked up.
+/// States that a list that has at most as many pairs as the capacity still has when pairs were looked up.
 pub fn list_stays_in_capacity<X>()
     ensures { (key : X → Pair) (fresh : Pair → X) (capacity : ℕ) (counted : Counted X) (pairs : List Pair) →
         length counted.list ≤ capacity →
         length (all_looked_up key fresh (Some capacity) counted pairs).list ≤ capacity }
 {}
 
-/// A list of distinct pairs still is one when pairs were looked up.
+/// States that a list of distinct pairs still is one when pairs were looked up.
 pub fn pairs_stay_distinct<X>()
     ensures { (key : X → Pair) (fresh : Pair → X) (capacity : Option ℕ) (counted : Counted X) (pairs : List Pair) →
         ((pair : Pair) → key (fresh pair) ≡ pair) →
@@ -58,7 +58,7 @@ pub fn pairs_stay_distinct<X>()
         HasDistinctPairs key (all_looked_up key fresh capacity counted pairs).list }
 {}
 
-/// With pairs alone the list has the same pairs in the same order, and the counts are the same.
+/// States that with pairs alone the list has the same pairs in the same order, and the counts are the same.
 pub fn pairs_need_no_bytes<X>()
     ensures { (key : X → Pair) (fresh : Pair → X) (capacity : Option ℕ) (counted : Counted X) (pairs : List Pair) →
         ((pair : Pair) → key (fresh pair) ≡ pair) →
@@ -66,7 +66,7 @@ pub fn pairs_need_no_bytes<X>()
         ≡ all_looked_up itself itself capacity (counted_pairs key counted) pairs }
 {}
 
-/// A list of right pairs still is one when right pairs were looked up.
+/// States that a list of right pairs still is one when right pairs were looked up.
 pub fn looked_up_pairs_are_right<Op>()
     ensures { (meanings : Meanings Op) (scene : Scene Op) (capacity : Option ℕ) (counted : Counted Cached) (pairs : List Pair) →
         AreRight meanings scene counted.list → AreRightPairs meanings scene pairs →
@@ -81,7 +81,7 @@ pub fn nodes_after_change_nothing<Op>()
         ≡ image_of meanings (record { table = buffers; nodes = nodes }) name }
 {}
 
-/// The image of a valid node is what its body makes: a source's is its buffer's, another's is that of its operation
+/// States that the image of a valid node is what its body makes: a source's is its buffer's, another's is that of its operation
 /// on the images of its inputs.
 pub fn image_is_by_body<Op>()
     ensures { (meanings : Meanings Op) (buffers : Buffers) (nodes : List (Node Op)) (name : List ℕ) (node : Node Op) →
@@ -90,27 +90,27 @@ pub fn image_is_by_body<Op>()
         ≡ body_image meanings (record { table = buffers; nodes = nodes }) node.body }
 {}
 
-/// A node's box is that of its image.
+/// States that a node's box is that of its image.
 pub fn box_of_image<Op>()
     ensures { (meanings : Meanings Op) (buffers : Buffers) (nodes : List (Node Op)) (name : List ℕ) →
         (shape_of meanings (record { table = buffers; nodes = nodes }) name).box
         ≡ (image_of meanings (record { table = buffers; nodes = nodes }) name).box }
 {}
 
-/// A node's format is that of its image.
+/// States that a node's format is that of its image.
 pub fn format_of_image<Op>()
     ensures { (meanings : Meanings Op) (buffers : Buffers) (nodes : List (Node Op)) (name : List ℕ) →
         (shape_of meanings (record { table = buffers; nodes = nodes }) name).format
         ≡ (image_of meanings (record { table = buffers; nodes = nodes }) name).format }
 {}
 
-/// A tile that does not meet a rectangle has the same bytes in images that agree outside the rectangle.
+/// States that a tile that does not meet a rectangle has the same bytes in images that agree outside the rectangle.
 pub fn tiles_outside_unchanged()
     ensures { (a b : Image) (r : Rectangle) (t : Tile) → AgreeOutside a b r → meets t r ≡ false →
         raw a (tile_square t) ≡ raw b (tile_square t) }
 {}
 
-/// Outside its damage a node's image has the same samples in both states, where one state follows the other: each
+/// States that outside its damage a node's image has the same samples in both states, where one state follows the other: each
 /// buffer that both have is steady, and nodes may be new, gone, moved or edited. A node that is in one state alone is 0
 /// outside its damage. A node that is kept also has its box and its format.
 pub fn images_unchanged_outside_damage<Op>()
@@ -130,7 +130,7 @@ pub fn images_unchanged_outside_damage<Op>()
         (damage same meanings change node.name) }
 {}
 
-/// There, a right pair whose tile does not meet the damage of its node stays right.
+/// States that there, a right pair whose tile does not meet the damage of its node stays right.
 pub fn pair_stays_right<Op>()
     ensures { (same : Op → Op → Bool) (meanings : Meanings Op) (change : Change Op) (old new : Buffers) (cached : Cached) →
         KeepsLaws meanings → Distinguishes same → IsChange meanings change old new →
@@ -139,7 +139,7 @@ pub fn pair_stays_right<Op>()
         IsRight meanings (scene_of_side change.new new) cached }
 {}
 
-/// So a list of right pairs, without the damaged ones, is again one.
+/// States that therefore a list of right pairs, without the damaged ones, is again one.
 pub fn list_stays_right<Op>()
     ensures { (same : Op → Op → Bool) (meanings : Meanings Op) (change : Change Op) (old new : Buffers) (list : List Cached) →
         KeepsLaws meanings → Distinguishes same → IsChange meanings change old new →
@@ -148,14 +148,14 @@ pub fn list_stays_right<Op>()
         (without_damaged by_pair (damage same meanings change) list) }
 {}
 
-/// Where buffers keep their names, boxes and formats under the same nodes, no node's box or format does.
+/// States that where buffers keep their names, boxes and formats under the same nodes, no node's box or format does.
 pub fn shapes_unchanged_where_samples_change<Op>()
     ensures { (meanings : Meanings Op) (nodes : List (Node Op)) (old new : Facts) →
         HaveSameBuffers old new →
         shapes_of meanings (shapes_of_facts old) nodes ≡ shapes_of meanings (shapes_of_facts new) nodes }
 {}
 
-/// In the need of a strip no pair stands twice.
+/// States that in the need of a strip no pair stands twice.
 pub fn needed_pairs_are_distinct<Op>()
     ensures { (meanings : Meanings Op) (facts : List (NodeFact Op)) (node : ℕ) (request : Rectangle) →
         IsDistinct bytes_eq (node_names (specs_of facts)) →
@@ -163,7 +163,7 @@ pub fn needed_pairs_are_distinct<Op>()
         (need meanings facts node request) }
 {}
 
-/// What is needed of nodes are pairs of theirs: tiles of operations, each of which meets its node's box.
+/// States that what is needed of nodes are pairs of theirs: tiles of operations, each of which meets its node's box.
 pub fn needed_pairs_are_of_nodes<Op>()
     ensures { (meanings : Meanings Op) (facts : List (NodeFact Op)) (node : ℕ) (request : Rectangle) →
         IsBoxed meanings → IsDistinct bytes_eq (node_names (specs_of facts)) →
@@ -171,7 +171,7 @@ pub fn needed_pairs_are_of_nodes<Op>()
         (needed_pairs (specs_of facts) (need meanings facts node request)) }
 {}
 
-/// What is needed in a valid state are right pairs: tiles of operations, each of which meets its node's box.
+/// States that what is needed in a valid state are right pairs: tiles of operations, each of which meets its node's box.
 pub fn needed_pairs_are_right<Op>()
     ensures { (meanings : Meanings Op) (scene : Scene Op) (node : ℕ) (request : Rectangle) →
         IsBoxed meanings → IsValidScene meanings scene →
@@ -179,47 +179,47 @@ pub fn needed_pairs_are_right<Op>()
         (need meanings (stated_nodes meanings scene) node request)) }
 {}
 
-/// Voided pairs leave distinct pairs of distinct ones.
+/// States that voided pairs leave distinct pairs of distinct ones.
 pub fn voided_pairs_stay_distinct<X>()
     ensures { (key : X → Pair) (damage : List ℕ → Rectangle) (list : List X) →
         HasDistinctPairs key list → HasDistinctPairs key (without_damaged key damage list) }
 {}
 
-/// A commit that is not refused appends one state.
+/// States that a commit that is not refused appends one state.
 pub fn commit_appends_one_state<Table, Op>()
     ensures { (meanings : Meanings Op) (shapes : Table → Shapes) (history : History Table Op) →
         IfOk (committed meanings shapes history) (Appends history) }
 {}
 
-/// So does an undo.
+/// States that an undo does so too.
 pub fn undo_appends_one_state<Table, Op>()
     ensures { (history : History Table Op) → IfOk (undone history) (Appends history) }
 {}
 
-/// So does a redo.
+/// States that a redo does so too.
 pub fn redo_appends_one_state<Table, Op>()
     ensures { (history : History Table Op) → IfOk (redone history) (Appends history) }
 {}
 
-/// An undo right after a commit returns to the state before it, and carries the commit's rectangles.
+/// States that an undo right after a commit returns to the state before it, and carries the commit's rectangles.
 pub fn undo_reverts_commit<Table, Op>()
     ensures { (history : History Table Op) (nodes : List (Node Op)) →
         IfOk (undone (with_commit history nodes)) (Returns history.workspace.retained.latest history.workspace.written) }
 {}
 
-/// A redo right after an undo returns to the state before it, and carries the same rectangles.
+/// States that a redo right after an undo returns to the state before it, and carries the same rectangles.
 pub fn redo_reverts_undo<Table, Op>()
     ensures { (history : History Table Op) →
         IfOk (undone history) (λ before.
         IfOk (redone before) (Returns history.workspace.retained.latest before.rectangles)) }
 {}
 
-/// A table of buffers is its own neighbour, with no rectangles.
+/// States that a table of buffers is its own neighbour, with no rectangles.
 pub fn buffers_are_their_own_neighbor()
     ensures { (facts : Facts) (images : Buffers) → AreNeighbors facts facts images images [] }
 {}
 
-/// From a state to itself, with no rectangles, no node's damage has a position.
+/// States that from a state to itself, with no rectangles, no node's damage has a position.
 pub fn nothing_is_damaged<Op>()
     ensures { (same : Op → Op → Bool) (meanings : Meanings Op) (side : Side Op) →
         ((operation : Op) → same operation operation ≡ true) → KeepsNothing meanings →
@@ -227,7 +227,7 @@ pub fn nothing_is_damaged<Op>()
         HaveNoPosition (damages same meanings (own_change side)) }
 {}
 
-/// The walk over steps refuses none exactly where each is valid after those before it.
+/// States that the walk over steps refuses none exactly where each is valid after those before it.
 pub fn walk_refuses_what_is_not_valid<Op>()
     ensures { (meanings : Meanings Op) (shapes : Shapes) (known : List Shape) (steps : List (Step Op)) →
         (steps_refused meanings shapes known steps ≡ None) ↔ AreValidSteps meanings shapes known steps }
@@ -240,7 +240,7 @@ pub fn edits_leave_valid_nodes<Op>()
         IfOk (edited meanings shapes nodes edits) (AreValid meanings shapes) }
 {}
 
-/// Valid nodes with the shapes that they have are stated as they are, and no others are.
+/// States that valid nodes with the shapes that they have are stated as they are, and no others are.
 pub fn stated_nodes_are_theirs<Op>()
     ensures nodes { (meanings : Meanings Op) (shapes : Shapes) (nodes : List (Node Op)) →
         specs_of (stated meanings shapes nodes) ≡ nodes }
@@ -252,7 +252,7 @@ pub fn stated_nodes_are_theirs<Op>()
         AreStated meanings shapes facts → facts ≡ stated meanings shapes (specs_of facts) }
 {}
 
-/// An undo right after a commit leads to the state before it by the commit's delta, and a redo right after an undo to
+/// States that an undo right after a commit leads to the state before it by the commit's delta, and a redo right after an undo to
 /// the state before that, by the same delta.
 pub fn undo_and_redo_lead_back<State, Delta>()
     ensures undone { (before : Retained State Delta) (state : State) (delta : Delta) →
@@ -261,7 +261,7 @@ pub fn undo_and_redo_lead_back<State, Delta>()
         IfOk (retained.undone before) (λ undo. IfOk (retained.redone undo.next) (Leads before.latest undo.delta)) }
 {}
 
-/// There are never more states to undo and to redo to than can be undone.
+/// States that there are never more states to undo and to redo to than can be undone.
 pub fn retained_states_stay_few<State, Delta>()
     ensures commit { (before : Retained State Delta) (state : State) (delta : Delta) →
         AreFew (retained.with_commit before state delta) }
@@ -271,7 +271,7 @@ pub fn retained_states_stay_few<State, Delta>()
         IfOk (retained.redone before) (λ step. AreFew step.next) }
 {}
 
-/// The rectangle of a root that is written becomes the hull with what was written; those of others are unchanged.
+/// States that the rectangle of a root that is written becomes the hull with what was written; those of others are unchanged.
 pub fn written_rectangles_grow()
     ensures own { (rectangles : Rectangles) (root : List ℕ) (r : Rectangle) →
         rectangle_of (with_written rectangles root r) root ≡ hull (rectangle_of rectangles root) r }

@@ -53,7 +53,7 @@ impl Abyss {
     }
 }
 
-/// Whether a word is that of a policy.
+/// Returns whether a word is that of a policy.
 fn is_named(policy: Abyss, word: &[u8]) -> bool
     ensures { result ≡ bytes_eq (policy_word policy) word.now }
 {

@@ -31,7 +31,7 @@ pub enum Step {
     Apply(IntOp, Vec<usize>),
 }
 
-/// The images of the steps, one after another in their order, and None exactly where an operation
+/// Returns the images of the steps, one after another in their order, and None exactly where an operation
 /// doesn't take its inputs.
 ///
 /// # Errors
@@ -57,7 +57,7 @@ pub fn evaluate(
     Ok(Some(images))
 }
 
-/// The image of a step after others.
+/// Returns the image of a step after others.
 fn step_picture(
     alloc: Global,
     buffers: &[Buffer],
@@ -74,7 +74,7 @@ fn step_picture(
     }
 }
 
-/// The image of the first buffer of a name, and that of no position where there is none.
+/// Returns the image of the first buffer of a name, and that of no position where there is none.
 fn buffer_picture(alloc: Global, buffers: &[Buffer], name: Name) -> Result<Picture, NoMemory>
     ensures { IfOk result (λ picture. picture ≡ buffer_image (named buffers.now) name) }
 {
@@ -84,7 +84,7 @@ fn buffer_picture(alloc: Global, buffers: &[Buffer], name: Name) -> Result<Pictu
     }
 }
 
-/// The first buffer of a name.
+/// Returns the first buffer of a name.
 fn buffer_of(buffers: &[Buffer], name: Name) -> Option<&Buffer>
     ensures { option_map (λ buffer. buffer.now.picture) result
         ≡ lookup (bytes_eq name) (named buffers.now) }
@@ -92,7 +92,7 @@ fn buffer_of(buffers: &[Buffer], name: Name) -> Option<&Buffer>
     buffers.iter().find(|buffer| name == buffer.name)
 }
 
-/// The images at some positions of a list, and that of no position after its end.
+/// Returns the images at some positions of a list, and that of no position after its end.
 fn inputs_among(
     alloc: Global,
     before: &[Picture],
@@ -107,7 +107,7 @@ fn inputs_among(
     Ok(inputs)
 }
 
-/// The image at a place of a list, and that of no position after its end.
+/// Returns the image at a place of a list, and that of no position after its end.
 fn picture_among(alloc: Global, before: &[Picture], position: usize) -> Result<Picture, NoMemory>
     ensures { IfOk result (λ picture. picture ≡ slice_index_or before.now position no_image) }
 {

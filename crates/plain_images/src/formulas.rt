@@ -5,21 +5,21 @@ ghost use Rattle.pixel_formats.specs.Average.{mean_of_four, mean_of_three};
 ghost use Rattle.pixel_formats.specs.{Add.added, Convert.rescaled, Gain.gained, Invert.inverted, Mask.scaled_by, Over.composited};
 ghost use Rattle.pixel_formats.specs.Threshold.{thresholded};
 
-/// A color subtracted from its cap.
+/// Returns a color subtracted from its cap.
 pub fn inverted(cap: u32, color: u32) -> u32
     ensures { result ≡ inverted cap color }
 {
     cap.saturating_sub(color)
 }
 
-/// The cap for a color that reaches the threshold, and 0 for one below it.
+/// Returns the cap for a color that reaches the threshold, and 0 for one below it.
 pub fn thresholded(threshold: u32, cap: u32, color: u32) -> u32
     ensures { result ≡ thresholded threshold cap color }
 {
     if threshold <= color { cap } else { 0 }
 }
 
-/// `num` of `den` parts of a color, rounded to the nearest, and at most the cap.
+/// Returns `num` of `den` parts of a color, rounded to the nearest, and at most the cap.
 pub fn gained(num: u32, den: u32, cap: u32, color: u32) -> u32
     requires { 0 < den }
     ensures { result ≡ gained num den cap color }
@@ -28,14 +28,14 @@ pub fn gained(num: u32, den: u32, cap: u32, color: u32) -> u32
     (product / u64::from(den)).min(u64::from(cap)) as u32
 }
 
-/// The sum of two samples, at most the largest.
+/// Returns the sum of two samples, at most the largest.
 pub fn added(max_sample: u32, a: u32, b: u32) -> u32
     ensures { result ≡ added max_sample a b }
 {
     a.saturating_add(b).min(max_sample)
 }
 
-/// The part of a sample that a weight leaves, rounded to the nearest.
+/// Returns the part of a sample that a weight leaves, rounded to the nearest.
 pub fn scaled_by(max_sample: u32, sample: u32, weight: u32) -> u32
     requires some { 0 < max_sample }
     requires weight { weight ≤ max_sample }
@@ -45,7 +45,7 @@ pub fn scaled_by(max_sample: u32, sample: u32, weight: u32) -> u32
     (product / u64::from(max_sample)) as u32
 }
 
-/// A sample over another: what the alpha of its pixel leaves of the lower one is added.
+/// Returns a sample over another: what the alpha of its pixel leaves of the lower one is added.
 pub fn composited(max_sample: u32, alpha: u32, first_row: u32, end_row: u32) -> u32
     requires { 0 < max_sample }
     ensures { result ≡ composited max_sample alpha first_row end_row }
@@ -58,7 +58,7 @@ pub fn composited(max_sample: u32, alpha: u32, first_row: u32, end_row: u32) -> 
     )
 }
 
-/// The mean of four samples, a half rounded up.
+/// Returns the mean of four samples, a half rounded up.
 pub fn mean_of_four(a: u32, b: u32, c: u32, d: u32) -> u32
     ensures { result ≡ mean_of_four a b c d }
 {
@@ -66,7 +66,7 @@ pub fn mean_of_four(a: u32, b: u32, c: u32, d: u32) -> u32
     ((sum + 2) / 4) as u32
 }
 
-/// The mean of three samples, rounded to the nearest.
+/// Returns the mean of three samples, rounded to the nearest.
 pub fn mean_of_three(a: u32, b: u32, c: u32) -> u32
     ensures { result ≡ mean_of_three a b c }
 {
@@ -74,7 +74,7 @@ pub fn mean_of_three(a: u32, b: u32, c: u32) -> u32
     ((sum + 1) / 3) as u32
 }
 
-/// A sample of so many bytes in as many others, rounded to the nearest.
+/// Returns a sample of so many bytes in as many others, rounded to the nearest.
 pub fn rescaled(from: u32, to: u32, sample: u32) -> u32
     requires { sample < 2 ^ 16 }
     ensures { result ≡ rescaled from to sample }

@@ -37,7 +37,7 @@ impl Samples for MeansOfFour<'_> {
     }
 }
 
-/// The image at a level: halved so many times.
+/// Returns the image at a level: halved so many times.
 ///
 /// # Errors
 ///
@@ -52,14 +52,14 @@ pub fn level(alloc: Global, picture: &Picture, z: u32) -> Result<Picture, NoMemo
     Ok(reduced)
 }
 
-/// The image over half its rectangle.
+/// Returns the image over half its rectangle.
 fn halved(alloc: Global, picture: &Picture) -> Result<Picture, NoMemory>
     ensures { IfOk result (λ half. half ≡ halved_image picture.now) }
 {
     draw(alloc, picture.rect().halved(), &MeansOfFour { of: picture })
 }
 
-/// The column of twice an x, or the row of twice a y.
+/// Returns the column of twice an x, or the row of twice a y.
 fn doubled(n: u32) -> u32
     requires { n < plane_side }
     ensures value { result ≡ doubled n }

@@ -45,11 +45,11 @@ pub trait Samples {
     /// The samples can be asked for.
     ghost can_sample: { Self → Type 0 } = { λ _. Unit {0} };
 
-    /// The format.
+    /// Returns the format.
     fn format(&self) -> Format
         ensures { result ≡ sample_format self.now };
 
-    /// The sample of a column and a row, both counted from the plane's corner, and a channel.
+    /// Returns the sample of a column and a row, both counted from the plane's corner, and a channel.
     fn sample(&self, column: u32, row: u32, channel: u32) -> u32
         requires can { can_sample self.now }
         requires position { IsPosition column row }
@@ -58,7 +58,7 @@ pub trait Samples {
 }
 
 impl Picture {
-    /// The rectangle.
+    /// Returns the rectangle.
     pub fn rect(&self) -> Rect
         ensures value { result ≡ self.now.box }
         ensures picture { IsPicture self.now }
@@ -66,7 +66,7 @@ impl Picture {
         self.rect
     }
 
-    /// The sample of a column and a row, both counted from the plane's corner, and a channel: 0
+    /// Returns the sample of a column and a row, both counted from the plane's corner, and a channel: 0
     /// outside the rectangle, and for a channel that the format lacks.
     pub fn at(&self, column: u32, row: u32, channel: u32) -> u32
         ensures value { result ≡ at self.now column row channel }
@@ -81,7 +81,7 @@ impl Picture {
         self.samples[position * channels as usize + channel as usize]
     }
 
-    /// The samples, row by row from the top, each row from the left, the channels of a position in
+    /// Returns the samples, row by row from the top, each row from the left, the channels of a position in
     /// their order.
     pub fn samples(&self) -> &[u32]
         ensures { result.now ≡ self.now.samples }
@@ -89,7 +89,7 @@ impl Picture {
         &self.samples
     }
 
-    /// The same image once more.
+    /// Returns the same image once more.
     ///
     /// # Errors
     ///
@@ -118,7 +118,7 @@ impl Samples for Picture {
     }
 }
 
-/// The image of no position, which stands where one is lacking.
+/// Returns the image of no position, which stands where one is lacking.
 pub(crate) fn no_picture(alloc: Global) -> Picture
     ensures { result ≡ no_image }
 {
@@ -129,7 +129,7 @@ pub(crate) fn no_picture(alloc: Global) -> Picture
     }
 }
 
-/// The image of these samples over a rectangle.
+/// Returns the image of these samples over a rectangle.
 ///
 /// # Errors
 ///
@@ -147,7 +147,7 @@ pub fn draw<S: Samples>(alloc: Global, rect: Rect, samples: &S) -> Result<Pictur
     })
 }
 
-/// The samples of all positions of a rectangle, row by row from the top, each row from the left, the
+/// Returns the samples of all positions of a rectangle, row by row from the top, each row from the left, the
 /// channels of a position in their order.
 ///
 /// # Errors
@@ -169,7 +169,7 @@ pub fn sample_all<S: Samples>(alloc: Global, rect: &Rect, samples: &S) -> Result
     Ok(all)
 }
 
-/// The column and the row of a place of a rectangle, by its index among them.
+/// Returns the column and the row of a place of a rectangle, by its index among them.
 fn position_of(rect: &Rect, index: u64) -> (u32, u32)
     requires { index < area rect.now }
     ensures column { result.0 ≡ rect.now.first_column + index % rect.now.width }

@@ -15,7 +15,7 @@ use crate::policies::is_alpha;
 use pixel_formats::Format;
 use plane_rect::PLANE_ORIGIN;
 
-/// What a color of a pixel is at most: its alpha, or the largest sample where there is none.
+/// Returns what a color of a pixel is at most: its alpha, or the largest sample where there is none.
 pub(crate) fn cap_at(picture: &Picture, column: u32, row: u32) -> u32
     ensures value { result ≡ cap picture.now.format (at picture.now column row) }
     ensures range { result ≤ max_sample picture.now.format }
@@ -28,7 +28,7 @@ pub(crate) fn cap_at(picture: &Picture, column: u32, row: u32) -> u32
     }
 }
 
-/// The changed sample of a color, and the own one of alpha.
+/// Returns the changed sample of a color, and the own one of alpha.
 pub(crate) fn recolored(format: Format, channel: u32, own: u32, changed: u32) -> u32
     ensures { result ≡ (if is_alpha format channel then own else changed) }
 {
@@ -39,7 +39,7 @@ pub(crate) fn recolored(format: Format, channel: u32, own: u32, changed: u32) ->
     }
 }
 
-/// The sample of a pixel in another format.
+/// Returns the sample of a pixel in another format.
 pub(crate) fn converted_at(
     picture: &Picture,
     to: Format,
@@ -53,7 +53,7 @@ pub(crate) fn converted_at(
     rescaled(picture.format().depth(), to.depth(), sample)
 }
 
-/// The sample of a pixel with the channels of another format, at its own depth.
+/// Returns the sample of a pixel with the channels of another format, at its own depth.
 fn rechannelled_at(picture: &Picture, to: Format, column: u32, row: u32, channel: u32) -> u32
     ensures value { result ≡ rechannelled picture.now.format to (at picture.now column row) channel }
     ensures range { result ≤ max_sample picture.now.format }
@@ -67,7 +67,7 @@ fn rechannelled_at(picture: &Picture, to: Format, column: u32, row: u32, channel
     }
 }
 
-/// The gray of a pixel: its own, or the mean of its three colors.
+/// Returns the gray of a pixel: its own, or the mean of its three colors.
 fn gray_at(picture: &Picture, column: u32, row: u32) -> u32
     ensures value { result ≡ gray_of picture.now.format (at picture.now column row) }
     ensures range { result ≤ max_sample picture.now.format }
@@ -82,7 +82,7 @@ fn gray_at(picture: &Picture, column: u32, row: u32) -> u32
     )
 }
 
-/// A color of a pixel, where gray counts as all three.
+/// Returns a color of a pixel, where gray counts as all three.
 fn color_at(picture: &Picture, column: u32, row: u32, channel: u32) -> u32
     ensures value { result ≡ color_of picture.now.format (at picture.now column row) channel }
     ensures range { result ≤ max_sample picture.now.format }
@@ -94,14 +94,14 @@ fn color_at(picture: &Picture, column: u32, row: u32, channel: u32) -> u32
     }
 }
 
-/// Whether a format has one color.
+/// Returns whether a format has one color.
 fn is_gray(format: Format) -> bool
     ensures { result ≡ is_gray format }
 {
     format.channels() < 3
 }
 
-/// The sample of an image that is mirrored in its rectangle: left and right if `sideways`, else top
+/// Returns the sample of an image that is mirrored in its rectangle: left and right if `sideways`, else top
 /// and bottom.
 pub(crate) fn flipped_at(
     picture: &Picture,
@@ -128,7 +128,7 @@ pub(crate) fn flipped_at(
     }
 }
 
-/// The number that stands as far from the last of those from `start` up to `end` as another from
+/// Returns the number that stands as far from the last of those from `start` up to `end` as another from
 /// the first.
 fn mirrored(start: u32, end: u32, n: u32) -> u32
     requires order { start ≤ end }
@@ -138,7 +138,7 @@ fn mirrored(start: u32, end: u32, n: u32) -> u32
     (start + end).saturating_sub(1).saturating_sub(n)
 }
 
-/// The column from which one came that was moved by `d`, or the row.
+/// Returns the column from which one came that was moved by `d`, or the row.
 pub(crate) fn source_index(d: i64, n: u32) -> u32
     requires distance { IsTrue (is_move d) }
     requires side { n < plane_side }
@@ -147,7 +147,7 @@ pub(crate) fn source_index(d: i64, n: u32) -> u32
     (i64::from(n) - d).max(0) as u32
 }
 
-/// The sample of a checkerboard of squares of `size` positions: `even` in the square at the origin,
+/// Returns the sample of a checkerboard of squares of `size` positions: `even` in the square at the origin,
 /// `odd` in those beside it, and full alpha.
 pub(crate) fn checker_at(
     format: Format,
@@ -170,7 +170,7 @@ pub(crate) fn checker_at(
     }
 }
 
-/// The number of a column's square, or a row's: the origin begins an even one.
+/// Returns the number of a column's square, or a row's: the origin begins an even one.
 fn square_number(size: u32, n: u32) -> u64
     requires { 0 < size }
     ensures value { result ≡ square_number size n }
@@ -180,7 +180,7 @@ fn square_number(size: u32, n: u32) -> u64
     (u64::from(n) + origin * u64::from(size) - origin) / u64::from(size)
 }
 
-/// The sample of one pixel composited over another.
+/// Returns the sample of one pixel composited over another.
 pub(crate) fn over_at(
     first_row: &Picture,
     end_row: &Picture,
@@ -199,7 +199,7 @@ pub(crate) fn over_at(
     )
 }
 
-/// The sample of a pixel scaled by that of another, of one channel.
+/// Returns the sample of a pixel scaled by that of another, of one channel.
 pub(crate) fn masked_at(
     picture: &Picture,
     mask: &Picture,

@@ -29,7 +29,7 @@ impl Samples for Read<'_> {
     }
 }
 
-/// The sample of a position under a policy.
+/// Returns the sample of a position under a policy.
 pub(crate) fn read_at(picture: &Picture, policy: Abyss, column: u32, row: u32, channel: u32) -> u32
     ensures value { result ≡ abyss_at picture.now policy column row channel }
     ensures range { result ≤ max_sample picture.now.format }
@@ -41,7 +41,7 @@ pub(crate) fn read_at(picture: &Picture, policy: Abyss, column: u32, row: u32, c
     }
 }
 
-/// The sample that a policy gives for a position outside the rectangle.
+/// Returns the sample that a policy gives for a position outside the rectangle.
 pub(crate) fn outside_at(
     picture: &Picture,
     policy: Abyss,
@@ -61,7 +61,7 @@ pub(crate) fn outside_at(
     }
 }
 
-/// The sample of the nearest place of the rectangle.
+/// Returns the sample of the nearest place of the rectangle.
 fn clamped_at(picture: &Picture, column: u32, row: u32, channel: u32) -> u32
     ensures value { result ≡ outside_at picture.now Abyss.Clamp column row channel }
     ensures range { result ≤ max_sample picture.now.format }
@@ -74,7 +74,7 @@ fn clamped_at(picture: &Picture, column: u32, row: u32, channel: u32) -> u32
     )
 }
 
-/// The sample of the place of the rectangle that is whole widths and heights away.
+/// Returns the sample of the place of the rectangle that is whole widths and heights away.
 fn looped_at(picture: &Picture, column: u32, row: u32, channel: u32) -> u32
     ensures value { result ≡ outside_at picture.now Abyss.Loop column row channel }
     ensures range { result ≤ max_sample picture.now.format }
@@ -94,7 +94,7 @@ fn looped_at(picture: &Picture, column: u32, row: u32, channel: u32) -> u32
     )
 }
 
-/// The nearest of the numbers from `start` up to `end`.
+/// Returns the nearest of the numbers from `start` up to `end`.
 fn nearest(start: u32, end: u32, n: u32) -> u32
     requires { start ≤ end }
     ensures { result ≡ nearest start (end - start) n }
@@ -102,7 +102,7 @@ fn nearest(start: u32, end: u32, n: u32) -> u32
     start.max(n.min(end.saturating_sub(1)))
 }
 
-/// Of the `len` numbers from `start` on, the one that is a multiple of `len` away.
+/// Returns, of the `len` numbers from `start` on, the one that is a multiple of `len` away.
 fn wrapped(start: u32, len: u32, n: u32) -> u32
     requires some { 0 < len }
     requires side { start + len ≤ plane_side }
@@ -112,7 +112,7 @@ fn wrapped(start: u32, len: u32, n: u32) -> u32
     start + ((u64::from(n) + from * length - from) % length) as u32
 }
 
-/// Whether a channel is a format's alpha.
+/// Returns whether a channel is a format's alpha.
 pub(crate) fn is_alpha(format: Format, channel: u32) -> bool
     ensures { result ≡ is_alpha format channel }
 {

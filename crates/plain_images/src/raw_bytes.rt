@@ -44,7 +44,7 @@ impl Samples for RawBytes<'_> {
     }
 }
 
-/// The image that the raw bytes of a rectangle spell: its places row by row, each row from the
+/// Returns the image that the raw bytes of a rectangle spell: its places row by row, each row from the
 /// left, the less significant byte of a sample first.
 ///
 /// # Errors
@@ -72,7 +72,7 @@ pub fn from_raw(
     )
 }
 
-/// The raw bytes of a rectangle of an image under a policy.
+/// Returns the raw bytes of a rectangle of an image under a policy.
 ///
 /// # Errors
 ///
@@ -89,7 +89,7 @@ pub fn raw_with(
     to_bytes(alloc, picture.format(), &samples)
 }
 
-/// The raw bytes of samples.
+/// Returns the raw bytes of samples.
 ///
 /// # Errors
 ///
@@ -111,7 +111,7 @@ fn to_bytes(alloc: Global, format: Format, samples: &[u32]) -> Result<Vec<u8>, N
     Ok(bytes)
 }
 
-/// A sample of raw bytes, by its index: 0 after the last.
+/// Returns a sample of raw bytes, by its index: 0 after the last.
 fn sample_at(format: Format, bytes: &[u8], index: usize) -> u32
     requires { index < 2 ^ 62 }
     ensures value { result ≡ sample_at (depth format) bytes.now index }
@@ -123,7 +123,7 @@ fn sample_at(format: Format, bytes: &[u8], index: usize) -> u32
     }
 }
 
-/// A byte, and 0 after the last.
+/// Returns a byte, and 0 after the last.
 fn byte_at(bytes: &[u8], index: usize) -> u32
     ensures value { result ≡ slice_index bytes.now index }
     ensures range { result < 256 }

@@ -48,7 +48,7 @@ impl Samples for Applied<'_> {
     }
 }
 
-/// The image that an operation gives of images, and None exactly where it takes none of their
+/// Returns the image that an operation gives of images, and None exactly where it takes none of their
 /// number and formats, or its arguments are out of their ranges.
 ///
 /// # Errors
@@ -68,7 +68,7 @@ pub fn result_of(alloc: Global, op: &IntOp, inputs: &[Picture]) -> Result<Option
     Ok(Some(picture))
 }
 
-/// The rectangles of images.
+/// Returns the rectangles of images.
 fn boxes_of(alloc: Global, pictures: &[Picture]) -> Result<Vec<Rect>, NoMemory>
     ensures { IfOk result (λ boxes. boxes.items ≡ boxes_of pictures.now) }
 {
@@ -80,7 +80,7 @@ fn boxes_of(alloc: Global, pictures: &[Picture]) -> Result<Vec<Rect>, NoMemory>
     )
 }
 
-/// The formats of images.
+/// Returns the formats of images.
 fn formats_of(alloc: Global, pictures: &[Picture]) -> Result<Vec<Format>, NoMemory>
     ensures { IfOk result (λ formats. formats.items ≡ formats_of pictures.now) }
 {
@@ -92,7 +92,7 @@ fn formats_of(alloc: Global, pictures: &[Picture]) -> Result<Vec<Format>, NoMemo
     )
 }
 
-/// The sample that an operation without inputs gives.
+/// Returns the sample that an operation without inputs gives.
 fn generated(op: &IntOp, column: u32, row: u32, channel: u32) -> u32
     requires count { input_count op.now ≡ 0 }
     requires arguments { IsTrue (in_range op.now) }
@@ -117,7 +117,7 @@ fn generated(op: &IntOp, column: u32, row: u32, channel: u32) -> u32
     }
 }
 
-/// The sample that an operation of one input gives.
+/// Returns the sample that an operation of one input gives.
 fn changed(op: &IntOp, input: &Picture, column: u32, row: u32, channel: u32) -> u32
     requires count { input_count op.now ≡ 1 }
     requires arguments { IsTrue (in_range op.now) }
@@ -158,7 +158,7 @@ fn changed(op: &IntOp, input: &Picture, column: u32, row: u32, channel: u32) -> 
     }
 }
 
-/// The sample that an operation of two inputs gives.
+/// Returns the sample that an operation of two inputs gives.
 fn combined(
     op: &IntOp,
     first: &Picture,

@@ -35,7 +35,7 @@ impl<'a> Model for Window<'a> {
 }
 
 impl<'a> Window<'a> {
-    /// The window of a position.
+    /// Returns the window of a position.
     pub(crate) fn new(
         picture: &'a Picture,
         radius: u32,
@@ -58,7 +58,7 @@ impl<'a> Window<'a> {
         }
     }
 
-    /// How many samples it has.
+    /// Returns how many samples it has.
     fn len(&self) -> u32
         ensures value { result ≡ length self.now }
         ensures some { 0 < result }
@@ -67,7 +67,7 @@ impl<'a> Window<'a> {
         side * side
     }
 
-    /// A sample, by its index.
+    /// Returns a sample, by its index.
     fn get(&self, index: u32) -> u32
         requires { index < length self.now }
         ensures { result ≡ slice_index self.now index }
@@ -85,7 +85,7 @@ impl<'a> Window<'a> {
         )
     }
 
-    /// The mean, rounded to the nearest.
+    /// Returns the mean, rounded to the nearest.
     pub(crate) fn mean(&self) -> u32
         ensures { result ≡ mean_of (length self.now) self.now }
     {
@@ -97,7 +97,7 @@ impl<'a> Window<'a> {
         ((sum + count / 2) / count) as u32
     }
 
-    /// The largest sample.
+    /// Returns the largest sample.
     pub(crate) fn max_sample(&self) -> u32
         ensures { result ≡ max_of_all self.now }
     {
@@ -108,7 +108,7 @@ impl<'a> Window<'a> {
         max_sample
     }
 
-    /// The smallest sample.
+    /// Returns the smallest sample.
     pub(crate) fn minimum(&self) -> u32
         ensures { result ≡ min_of_all self.now }
     {
@@ -121,7 +121,7 @@ impl<'a> Window<'a> {
     }
 }
 
-/// The sample under a policy of a column and a row that count from `by` positions left of and above
+/// Returns the sample under a policy of a column and a row that count from `by` positions left of and above
 /// the plane's corner.
 fn read_before(
     by: u32,

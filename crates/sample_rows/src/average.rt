@@ -97,7 +97,7 @@ impl<L: Lanes, P: Layout> PairKernel for Average<L, P> {
     ghost written_blocks = { vector_blocks L.BYTES L.depth L.sixteen L.few L.some_depth P.pixels P.channels P.sixteen };
 }
 
-/// The means of each two pixels of two vectors and the two of two others.
+/// Returns the means of each two pixels of two vectors and the two of two others.
 #[inline(always)]
 fn mean_of_pixels<L: Lanes, P: Layout>(up: (L, L), down: (L, L)) -> L
     ensures { (s t : ℕ → ℕ) → HoldTwo (L.lane up.0) (L.lane up.1) s → HoldTwo (L.lane down.0) (L.lane down.1) t

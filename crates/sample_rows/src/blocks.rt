@@ -109,7 +109,7 @@ fn transform_rest<K: PairKernel>(kernel: &K, a: &[u8], b: &[u8], dst: &mut [u8],
     rest.copy_from_slice(&written[..len]);
 }
 
-/// The bytes of a row, and zeros after it.
+/// Returns the bytes of a row, and zeros after it.
 fn padded(row: &[u8]) -> [u8; MOST]
     requires { length row.now ≤ 192 }
     ensures { (p : ℕ) → slice_index result p ≡ slice_index row.now p }

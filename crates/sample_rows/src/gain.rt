@@ -89,7 +89,7 @@ struct Factors {
     last: u32,
 }
 
-/// The numbers of a gain by num / den, for samples of so many levels.
+/// Returns the numbers of a gain by num / den, for samples of so many levels.
 fn factors_of(num: u64, den: u64, levels: u64) -> Factors
     requires num { num ≤ 65535 }
     requires some { 0 < den }
@@ -113,7 +113,7 @@ fn factors_of(num: u64, den: u64, levels: u64) -> Factors
     }
 }
 
-/// The largest sample that comes out below the number of levels.
+/// Returns the largest sample that comes out below the number of levels.
 fn last_within(num: u64, den: u64, levels: u64) -> u32
     requires num { num ≤ 65535 }
     requires some { 0 < den }

@@ -9,7 +9,7 @@ ghost use Rattle.script_words.specs.Lines.{is_line, is_text, lines_of, text_of};
 ghost use Rattle.script_words.specs.Numbers.{integer_in, natural_in};
 ghost use Rattle.script_words.specs.Words.{is_word, joined, words_of};
 
-/// A text is read as the lines that it was made of, where each can be read before a line feed.
+/// States that a text is read as the lines that it was made of, where each can be read before a line feed.
 pub fn lines_read_again()
     ensures first { (line rest : List ℕ) → IsTrue (is_line line)
         → lines_of (line ++ 10 ∷ rest) ≡ line ∷ lines_of rest }
@@ -17,7 +17,7 @@ pub fn lines_read_again()
         → lines_of (text_of lines) ≡ lines }
 {}
 
-/// A line of text bytes alone can be read before a line feed.
+/// States that a line of text bytes alone can be read before a line feed.
 pub fn text_is_line()
     ensures { (line : List ℕ) → IsTrue (is_text line) → IsTrue (is_line line) }
 {}
@@ -34,7 +34,7 @@ pub fn joined_words_are_text()
         → IsTrue (is_text (joined words)) }
 {}
 
-/// The words of a line of a text are words of a text.
+/// States that the words of a line of a text are words of a text.
 pub fn words_of_text()
     ensures { (line : List ℕ) → IsTrue (is_text line) → IsTrue (list_all is_word (words_of line)) }
 {}
@@ -46,38 +46,38 @@ pub fn length_of_joined()
         → length (joined (word ∷ words)) ≡ length word + sum_by (λ other. length other + 1) words }
 {}
 
-/// The digits of a number of a range are read as the number.
+/// States that the digits of a number of a range are read as the number.
 pub fn natural_read_again()
     ensures { (low high value : ℕ) → low ≤ value → value ≤ high → value < 10 ^ 10
         → natural_in low high (decimal value) ≡ Some value }
 {}
 
-/// The printed form of an integer of a range is read as the integer.
+/// States that the printed form of an integer of a range is read as the integer.
 pub fn integer_read_again()
     ensures { (low high value : ℤ) → low ≤ℤ value → value ≤ℤ high
         → unsigned_abs value < 10 ^ 10
         → integer_in low high (signed_decimal value) ≡ Some value }
 {}
 
-/// The digits of a number are a word, of at most 10 bytes.
+/// States that the digits of a number are a word, of at most 10 bytes.
 pub fn natural_is_word()
     ensures word { (value : ℕ) → value < 10 ^ 10 → IsTrue (is_word (decimal value)) }
     ensures short { (value : ℕ) → value < 10 ^ 10 → length (decimal value) ≤ 10 }
 {}
 
-/// The printed form of an integer is a word, of at most 11 bytes.
+/// States that the printed form of an integer is a word, of at most 11 bytes.
 pub fn integer_is_word()
     ensures word { (value : ℤ) → unsigned_abs value < 10 ^ 10 → IsTrue (is_word (signed_decimal value)) }
     ensures short { (value : ℤ) → unsigned_abs value < 10 ^ 10 → length (signed_decimal value) ≤ 11 }
 {}
 
-/// A name of a file is a word, of at most 64 bytes.
+/// States that a name of a file is a word, of at most 64 bytes.
 pub fn file_name_is_word()
     ensures word { (name : List ℕ) → IsTrue (is_file_name name) → IsTrue (is_word name) }
     ensures short { (name : List ℕ) → IsTrue (is_file_name name) → length name ≤ 64 }
 {}
 
-/// A name of a buffer or a node is a word, of at most 16 bytes.
+/// States that a name of a buffer or a node is a word, of at most 16 bytes.
 pub fn name_is_word()
     ensures word { (name : List ℕ) → IsTrue (is_name name) → IsTrue (is_word name) }
     ensures short { (name : List ℕ) → IsTrue (is_name name) → length name ≤ 16 }

@@ -14,17 +14,17 @@ pub trait Components<L: Lanes>: Planes<L> {
     /// The parts of a pixel, where the largest sample is given.
     ghost components: { ℕ → (ℕ → ℕ) → ℕ → ℕ };
 
-    /// The gray of each pixel; of colors it is their mean, rounded to the nearest.
+    /// Returns the gray of each pixel; of colors it is their mean, rounded to the nearest.
     fn gray(self) -> L
         ensures { Hold (L.lane result) (λ k. components (max_sample_of L.depth) (λ i. Self.sample self i k) 0) };
 
-    /// Red, green and blue of each pixel; gray counts as all three.
+    /// Returns red, green and blue of each pixel; gray counts as all three.
     fn colors(self) -> (L, L, L)
         ensures red { Hold (L.lane result.0) (λ k. components (max_sample_of L.depth) (λ i. Self.sample self i k) 1) }
         ensures green { Hold (L.lane result.1) (λ k. components (max_sample_of L.depth) (λ i. Self.sample self i k) 2) }
         ensures blue { Hold (L.lane result.2) (λ k. components (max_sample_of L.depth) (λ i. Self.sample self i k) 3) };
 
-    /// The alpha of each pixel; without one it is the largest sample.
+    /// Returns the alpha of each pixel; without one it is the largest sample.
     fn alpha(self) -> L
         ensures { Hold (L.lane result) (λ k. components (max_sample_of L.depth) (λ i. Self.sample self i k) 4) };
 
@@ -33,7 +33,7 @@ pub trait Components<L: Lanes>: Planes<L> {
 
 /// Planes that are made of the parts of others.
 pub trait FromComponents<L: Lanes>: Planes<L> {
-    /// The planes at the depth of `L`, of pixels with other channels at another depth. Samples are
+    /// Returns the planes at the depth of `L`, of pixels with other channels at another depth. Samples are
     /// rounded to the nearest.
     fn from_components<S: Rescale<L>, P: Components<S>>(pixels: P) -> Self
         ensures { (k i : ℕ) → k < 16 → i < Self.channels

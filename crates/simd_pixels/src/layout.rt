@@ -22,17 +22,17 @@ pub trait Layout: Copy {
     /// What the colors of a pixel are at most, where the largest sample is given.
     ghost cap: { ℕ → (ℕ → ℕ) → ℕ };
 
-    /// In each lane the cap of its pixel.
+    /// Returns in each lane the cap of its pixel.
     fn caps<L: Lanes>(samples: L) -> L
         ensures { (k i : ℕ) → k < pixels → i < channels
             → L.lane result (k * channels + i) ≡ cap (max_sample_of L.depth) (λ c. L.lane samples (k * channels + c)) };
 
-    /// The changed samples, but alpha as it was.
+    /// Returns the changed samples, but alpha as it was.
     fn with_alpha<L: Lanes>(changed: L, old: L) -> L
         ensures { (k i : ℕ) → k < pixels → i < channels
             → L.lane result (k * channels + i) ≡ (if is_alpha i then L.lane old (k * channels + i) else L.lane changed (k * channels + i)) };
 
-    /// Of two vectors the pixels with even and those with odd numbers.
+    /// Returns of two vectors the pixels with even and those with odd numbers.
     fn halves<L: Lanes>(first: L, second: L) -> (L, L)
         ensures even { (s : ℕ → ℕ) → HoldTwo (L.lane first) (L.lane second) s → (k i : ℕ) → k < pixels → i < channels
             → L.lane result.0 (k * channels + i) ≡ s (k * (2 * channels) + i) }

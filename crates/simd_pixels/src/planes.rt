@@ -20,7 +20,7 @@ pub trait Planes<L: Lanes>: Copy {
     /// The bytes of the sixteen pixels.
     const BYTES: usize;
 
-    /// The first sixteen pixels of a row of bytes.
+    /// Returns the first sixteen pixels of a row of bytes.
     fn load(src: &[u8]) -> Self
         requires { BYTES ≤ length src.now }
         ensures { (k i : ℕ) → k < 16 → i < channels → sample result i k ≡ sample_at L.depth src.now (k * channels + i) };
@@ -31,7 +31,7 @@ pub trait Planes<L: Lanes>: Copy {
         ensures here { (k i : ℕ) → k < 16 → i < channels → sample_at L.depth dst.new (k * channels + i) ≡ sample self i k }
         ensures after { (k : ℕ) → BYTES ≤ k → slice_index dst.new k ≡ slice_index dst.old k };
 
-    /// The part of each sample that its pixel's weight leaves, rounded to the nearest.
+    /// Returns the part of each sample that its pixel's weight leaves, rounded to the nearest.
     fn scale_by(self, weights: L) -> Self
         ensures { (k i : ℕ) → k < 16 → i < channels → sample result i k ≡ scaled_by (max_sample_of L.depth) (sample self i k) (L.lane weights k) };
 

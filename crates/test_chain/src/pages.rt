@@ -11,7 +11,7 @@ use std::alloc::Global;
 use std::process::Abort;
 use tile_cow::Tile;
 
-/// A tile of 4,096 times this byte.
+/// Returns a tile of 4,096 times this byte.
 pub fn page(alloc: Global, byte: u8) -> Result<Tile, NoMemory>
     ensures { IfOk result (λ tile. length tile ≡ 4096) }
 {

@@ -3,14 +3,14 @@
 use outside_io::{Gate, MeetGate};
 use std::thread::join;
 
-/// A viewer that reports so many frames, one after another.
+/// Returns a viewer that reports so many frames, one after another.
 fn look(gate: &MeetGate, viewer: u32, frames: u32) {
     for frame in 0..frames {
         gate.looked(viewer, frame);
     }
 }
 
-/// An editor that publishes the scenes of so many commits.
+/// Returns an editor that publishes the scenes of so many commits.
 fn publish(gate: &MeetGate, commits: u64) {
     for number in 0..commits {
         gate.published(number);

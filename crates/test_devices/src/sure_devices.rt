@@ -71,7 +71,7 @@ fn a_sure_swap_disk(rt: HostRuntime) {
     check_block(&rt, &mut disk, 1, 7);
 }
 
-/// The second block of the second call is the fourth write.
+/// Checks that the second block of the second call is the fourth write.
 #[test]
 fn several_blocks_in_one_call(rt: HostRuntime) {
     let alloc = rt.alloc();

@@ -23,7 +23,7 @@ pub fn tile_at(column: u8, row: u8) -> TileAt
     TileAt::from_indices(262_144 + u32::from(column), 262_144 + u32::from(row))
 }
 
-/// A tile of 4,096 times this byte.
+/// Returns a tile of 4,096 times this byte.
 pub fn page(alloc: Global, byte: u8) -> Result<Tile, NoMemory>
     ensures { IfOk result (λ tile. length tile ≡ 4096) }
 {
@@ -163,7 +163,7 @@ fn check_samples(rt: &impl Abort, samples: &[u8], side: usize, byte: u8) {
     }
 }
 
-/// The same of the first of two tables.
+/// Does the same with the first of two tables.
 pub fn check_first<C: TileChain>(
     rt: &impl Abort,
     table: &mut LevelTable,

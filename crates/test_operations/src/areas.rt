@@ -115,7 +115,7 @@ fn repeated(rt: &impl Abort, alloc: Global, count: u32) -> Vec<u8> {
     bytes
 }
 
-/// A row of 200 pixels of 0 to 199, which is in four tiles, and what is read of it from one tile.
+/// Checks a row of 200 pixels of 0 to 199, which is in four tiles, and what is read of it from one tile.
 #[test]
 fn parts_of_several_tiles(rt: HostRuntime) {
     let alloc = rt.alloc();

@@ -65,7 +65,7 @@ fn check_renders(rt: &impl Abort, alloc: Global, graph: &Graph, renders: &[Rende
     }
 }
 
-/// The mean over a square around each pixel of a buffer of 128 by 128 pixels.
+/// Checks the mean over a square around each pixel of a buffer of 128 by 128 pixels.
 #[test]
 fn renders_after_edits(rt: HostRuntime) {
     let alloc = rt.alloc();

@@ -47,7 +47,7 @@ fn check_plan(
     }
 }
 
-/// The nine positions around one pixel are in four tiles, and in two rows of tiles.
+/// Checks that the nine positions around one pixel are in four tiles, and in two rows of tiles.
 #[test]
 fn squares_around_one_pixel(rt: HostRuntime) {
     let alloc = rt.alloc();
@@ -85,7 +85,7 @@ const NEEDED: [(u32, &[Needed]); 2] = [
     (3, &[(1, 0, 0), (1, 64, 0), (3, 0, 0), (3, 64, 0)]),
 ];
 
-/// A crop of ten by ten pixels across four tiles, what it is dilated to, and its inverse.
+/// Checks a crop of ten by ten pixels across four tiles, what it is dilated to, and its inverse.
 #[test]
 fn operations_over_a_crop(rt: HostRuntime) {
     let alloc = rt.alloc();

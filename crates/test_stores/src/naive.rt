@@ -14,7 +14,7 @@ pub struct NaiveStore {
 }
 
 impl NaiveStore {
-    /// No names, over this many blocks.
+    /// Returns a store of no names, over this many blocks.
     pub fn new(alloc: Global, blocks: usize) -> Result<NaiveStore, AllocError> {
         Ok(NaiveStore {
             entries: Vec::new(alloc),
@@ -22,7 +22,7 @@ impl NaiveStore {
         })
     }
 
-    /// The free runs: each looked for block by block.
+    /// Returns the free runs, each looked for block by block.
     pub fn free_runs(&self, alloc: Global) -> Result<Vec<Run>, AllocError> {
         let mut runs = Vec::new(alloc);
         let mut open: Option<Run> = None;
@@ -49,7 +49,7 @@ impl NaiveStore {
         Ok(runs)
     }
 
-    /// What a put of so many bytes is to answer.
+    /// Returns what a put of so many bytes is to answer.
     pub fn wanted_answer(
         &self,
         alloc: Global,
@@ -92,7 +92,7 @@ impl NaiveStore {
         }
     }
 
-    /// The bytes of a name.
+    /// Returns the bytes of a name.
     pub fn bytes(&self, name: u64) -> Option<&[u8]> {
         for entry in &self.entries {
             if entry.0 == name {

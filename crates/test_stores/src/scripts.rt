@@ -7,7 +7,7 @@ use std::process::Abort;
 use swap_store::{Store, SwapRefused, SwapStore};
 use tile_cow::Tile;
 
-/// A tile of so many bytes, which differ by their positions and by `seed`.
+/// Returns a tile of so many bytes, which differ by their positions and by `seed`.
 pub fn tile_of(rt: &impl Abort, alloc: Global, len: u64, seed: u64) -> Tile {
     let mut bytes = Vec::new(alloc);
     for place in 0..len {
@@ -45,7 +45,7 @@ pub fn replace<D: SwapDisk>(
     store.replace(name, tile)
 }
 
-/// The tile of a name that is there.
+/// Returns the tile of a name that is there.
 pub fn get<D: SwapDisk>(
     rt: &impl Abort,
     store: &mut Store<D>,
@@ -61,7 +61,7 @@ pub fn forget<D: SwapDisk>(rt: &impl Abort, store: &mut Store<D>, name: u64) {
     store.forget(name);
 }
 
-/// The next number of a fixed sequence without order.
+/// Returns the next number of a fixed sequence without order.
 fn next(random: u64) -> u64 {
     random
         .wrapping_mul(6_364_136_223_846_793_005)

@@ -26,12 +26,12 @@ fn failing_disk(rt: &impl Abort, alloc: Global, blocks: u32, call: Call, number:
     MemSwap::new(alloc, blocks, reads, writes).expect(rt, "memory")
 }
 
-/// A run of this first block and count.
+/// Returns a run of this first block and count.
 fn run(first: u32, count: u32) -> Run {
     Run { first, count }
 }
 
-/// The refusal of a store that is too full.
+/// Returns the refusal of a store that is too full.
 fn full(needed: u32, longest: u32) -> Result<(), SwapRefused> {
     Err(SwapRefused::SwapFull { needed, longest })
 }

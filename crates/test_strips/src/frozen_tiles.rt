@@ -33,7 +33,7 @@ fn shared<T: Send + Sync>(value: T) -> T
     value
 }
 
-/// The tiles of an image across the column 64, one beside it, and one that is held anew.
+/// Checks the tiles of an image across the column 64, one beside it, and one that is held anew.
 #[test]
 fn tiles_of_a_frozen_image(rt: HostRuntime) -> Result<(), Fail> {
     let alloc = rt.alloc();
@@ -51,7 +51,7 @@ fn tiles_of_a_frozen_image(rt: HostRuntime) -> Result<(), Fail> {
     Ok(())
 }
 
-/// The tile of a buffer by its name.
+/// Checks the tile of a buffer by its name.
 #[test]
 fn tiles_of_a_scene(rt: HostRuntime) -> Result<(), Fail> {
     let alloc = rt.alloc();

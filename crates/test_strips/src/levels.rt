@@ -32,7 +32,7 @@ fn of_one(alloc: Global, fields: Fields, level: u32, strip: Patch) -> Result<Pat
     Ok(strips.finish(alloc)?)
 }
 
-/// At level 0 the patch is the strip, and at level 1 the mean of four, rounded to the nearest.
+/// Checks that at level 0 the patch is the strip, and at level 1 the mean of four, rounded to the nearest.
 #[test]
 fn request_of_one_strip(rt: HostRuntime) -> Result<(), Fail> {
     let alloc = rt.alloc();
@@ -48,7 +48,7 @@ fn request_of_one_strip(rt: HostRuntime) -> Result<(), Fail> {
     Ok(())
 }
 
-/// Two strips across the row 64, whose rows of level 1 follow one another, and one pixel of level 7, which
+/// Checks two strips across the row 64, whose rows of level 1 follow one another, and one pixel of level 7, which
 /// is averaged of both.
 #[test]
 fn requests_of_two_strips(rt: HostRuntime) -> Result<(), Fail> {
@@ -67,7 +67,7 @@ fn requests_of_two_strips(rt: HostRuntime) -> Result<(), Fail> {
     Ok(())
 }
 
-/// A request of no position has no strip, and its patch no pixel.
+/// Checks that a request of no position has no strip, and its patch no pixel.
 #[test]
 fn request_of_no_position(rt: HostRuntime) -> Result<(), Fail> {
     let alloc = rt.alloc();

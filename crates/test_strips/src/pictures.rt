@@ -86,7 +86,7 @@ fn band(alloc: Global, tiled: &TiledPatch, index: u32, count: usize) -> Result<P
     Ok(tiled.band(alloc, memory, index)?)
 }
 
-/// The three bands of a picture, each in new memory and in memory of other bytes that is too small for it, just large
+/// Checks the three bands of a picture, each in new memory and in memory of other bytes that is too small for it, just large
 /// enough, and larger.
 #[test]
 fn bands_of_tiles(rt: HostRuntime) -> Result<(), Fail> {
@@ -144,7 +144,7 @@ fn pictures_that_keep_tiles(rt: HostRuntime) -> Result<(), Fail> {
     Ok(())
 }
 
-/// The patch of a picture that is one, with no strip added.
+/// Checks the patch of a picture that is one, with no strip added.
 #[test]
 fn picture_that_is_a_patch(rt: HostRuntime) -> Result<(), Fail> {
     let alloc = rt.alloc();

@@ -111,7 +111,7 @@ fn good_rounds(mine: &Tile, lent: &Tile, alloc: Global, mark: u8) -> Result<u32,
     Ok(good)
 }
 
-/// Four more owners of one block, each with the number of its thread.
+/// Returns four more owners of one block, each with the number of its thread.
 fn four_owners(tile: &Tile, alloc: Global) -> Result<Vec<(Tile, u8)>, NoMemory> {
     let mut owners = Vec::new(alloc);
     for mark in 4..8 {

@@ -62,7 +62,7 @@ fn a_raster_of_four_bands_is_loaded(rt: HostRuntime) {
     }
 }
 
-/// A file of another size is refused before a tile is made, so also where the swap has no room for the tiles.
+/// Checks that a file of another size is refused before a tile is made, so also where the swap has no room for the tiles.
 #[test]
 fn a_raster_of_four_bands_has_its_size(rt: HostRuntime) {
     let alloc = rt.alloc();
@@ -85,7 +85,7 @@ fn a_raster_of_four_bands_has_its_size(rt: HostRuntime) {
     );
 }
 
-/// The script is the first file that is read, and each band is one call more.
+/// Checks that the script is the first file that is read, and each band is one call more.
 #[test]
 fn a_band_that_fails_ends_the_run(rt: HostRuntime) {
     let alloc = rt.alloc();

@@ -187,7 +187,7 @@ fn a_put_that_fails_comes_after_its_file(rt: HostRuntime) {
     check_faults(&rt, rt.alloc(), Call::Put, (6, Kept::Whole), &PUTS);
 }
 
-/// A write that fails leaves half a file.
+/// Checks that a write that fails leaves half a file.
 #[test]
 fn a_call_of_the_shelf_that_fails_ends_the_run(rt: HostRuntime) {
     check_faults(&rt, rt.alloc(), Call::Read, (3, Kept::Nothing), &READS);
@@ -241,7 +241,7 @@ fn check_few_blocks(rt: &(impl Abort + Threads + Sync), alloc: Global) {
     }
 }
 
-/// Four tiles and one more suffice for the first script, and 27 for the last: so many in memory, or 32 blocks for each and
+/// Checks that four tiles and one more suffice for the first script, and 27 for the last: so many in memory, or 32 blocks for each and
 /// for one more. No swap's end tears a file that is written by bands.
 #[test]
 fn a_full_swap_ends_the_run(rt: HostRuntime) {

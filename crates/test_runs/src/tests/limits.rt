@@ -92,7 +92,7 @@ fn images_names_and_histories_have_limits(rt: HostRuntime) {
     check_history(&rt, rt.alloc());
 }
 
-/// A comment of 1,023 bytes and its end, 1,024 times, is as long as a script may be.
+/// Checks that a comment of 1,023 bytes and its end, 1,024 times, is as long as a script may be.
 #[test]
 fn scripts_have_limits(rt: HostRuntime) {
     let alloc = rt.alloc();

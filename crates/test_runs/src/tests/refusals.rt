@@ -35,7 +35,7 @@ fn check_sizes(rt: &(impl Abort + Threads + Sync), alloc: Global) {
     }
 }
 
-/// Where the text of a refusal isn't put whole, the status is that of the output.
+/// Checks that where the text of a refusal isn't put whole, the status is that of the output.
 #[test]
 fn rasters_of_a_wrong_size_and_absent_files_are_refused(rt: HostRuntime) {
     let alloc = rt.alloc();
