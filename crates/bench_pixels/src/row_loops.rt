@@ -81,7 +81,7 @@ pub fn run(
     found
 }
 
-/// Weighs a row by a mask.
+/// Scales a row by a mask.
 pub fn mask(f: Format, src: &mut [u8], mask: &[u8], dst: &mut [u8], rounds: u32) -> u64
     requires whole { length src.old % pixel_bytes f ≡ 0 }
     requires mask_length { length mask.now ≡ pixel_count f src.old * depth f }

@@ -113,7 +113,7 @@ impl BufferLayout {
         number_named(roots, name).unwrap_or(roots.len())
     }
 
-    /// Returns the bounding box of the root of a number, and that of no position past the last.
+    /// Returns the bounding box of the root at an index, and that of no position past the last.
     fn bounds_of(&self, root: usize) -> Rect
         ensures { result ≡ (shape_at self.now.layout root).box }
     {

@@ -50,7 +50,7 @@ impl Buffers {
         Ok(())
     }
 
-    /// Returns the raw bytes of a part of the root of a number.
+    /// Returns the raw bytes of a part of the root at an index.
     fn read<C: TileChain>(
         &self,
         chain: &mut C,

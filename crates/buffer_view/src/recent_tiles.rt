@@ -25,7 +25,7 @@ pub(crate) struct GivenTile {
 #[derive(Drop)]
 pub(crate) struct RecentTiles {
     tiles: Vec<GivenTile>,
-    /// The place of the next one.
+    /// The index of the next one.
     next: usize,
 }
 
@@ -39,7 +39,7 @@ impl Model for RecentTiles {
 }
 
 impl RecentTiles {
-    /// Returns the list of no tile, without memory.
+    /// Returns an empty list. Takes no memory.
     pub(crate) fn new(alloc: Global) -> RecentTiles
         ensures { result ≡ [] }
     {
@@ -60,7 +60,7 @@ impl RecentTiles {
         Some(&given.tile)
     }
 
-    /// Keeps a tile, in place of the one that was kept first where there are enough.
+    /// Keeps a tile, and gives up the one that was kept first where there are `MOST_TILES`.
     ///
     /// # Errors
     ///

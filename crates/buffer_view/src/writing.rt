@@ -12,7 +12,7 @@ use plane_rect::Rect;
 use swap_store::SwapRefused;
 
 impl Buffers {
-    /// Writes over a rectangle of the root of a number. After an error the buffers are as before.
+    /// Writes over a rectangle of the root at an index. After an error the buffers are as before.
     pub(crate) fn write<C: TileChain, W: Written>(
         &mut self,
         chain: &mut C,

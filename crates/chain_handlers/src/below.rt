@@ -1,4 +1,4 @@
-//! Calls on the handler below a cache, some of whose names are there.
+//! Calls on the handler below a cache, some of whose names are there. `len` is also called for its clause alone.
 
 ghost use Rattle.std.specs.Prelude.{◌≡◌, IfErr, OnErr, OnOk, is_some, true};
 ghost use Rattle.std.specs.FinMap as map;
@@ -53,7 +53,7 @@ pub(crate) fn forget_where_there<H: TileHandler>(below: &mut H, name: u64)
     }
 }
 
-/// Gives up the places below of these tiles, which are in memory. It looks at each of them.
+/// Forgets below the names of these tiles, which are in memory. It looks at each of them.
 pub(crate) fn give_up_places<H: TileHandler>(below: &mut H, tiles: &LruCache<u64, Tile>)
     ensures held { overlay tiles.now.entries (H.held below.new) ≡ overlay tiles.now.entries (H.held below.old) }
     ensures cached { IsCache tiles.now.entries tiles.now.cap (H.held below.old)

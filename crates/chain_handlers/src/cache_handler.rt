@@ -1,4 +1,4 @@
-//! The handler that keeps tiles in memory.
+//! The handler that keeps tiles in memory. `len` is also called for its clause alone, that no name is there twice.
 
 ghost use Rattle.std.specs.Prelude.{◌≡◌, ◌⊎◌, ℕ, ◌≤◌, ◌<◌, ◌-◌, [], Some, None, IfErr, IfOk, IsNone, OnErr, OnOk, length, nat_eq};
 ghost use Rattle.std.specs.FinMap as map;
@@ -59,7 +59,7 @@ impl<H: TileHandler + Drop> ChainMeaning for CacheHandler<H> {
 }
 
 impl<H: TileHandler + Drop> CacheHandler<H> {
-    /// Returns a handler of the tiles below, which keeps at most `capacity` of them in memory.
+    /// Returns a handler of the tiles below, which keeps at most `capacity` of them in memory. `NoMemory` if it runs out.
     pub fn new(alloc: Global, below: H, capacity: u32) -> Result<CacheHandler<H>, NoMemory>
         requires { 1 ≤ capacity }
         ensures below { IfOk result (λ cache. cache.below ≡ below) }
@@ -84,7 +84,7 @@ impl<H: TileHandler + Drop> CacheHandler<H> {
         }
     }
 
-    /// Puts the tile that was used the longest time ago below, unless it is there, and then takes it out of
+    /// Evicts the tile that was used the longest time ago: puts it below, unless it is there, and takes it out of
     /// memory.
     fn move_last_once(&mut self) -> Result<(), SwapRefused>
         ensures moves { MovesTiles H.ChainMeaning self.old.tiles self.new.tiles self.old.below self.new.below }
@@ -103,7 +103,7 @@ impl<H: TileHandler + Drop> CacheHandler<H> {
         Ok(())
     }
 
-    /// Gives up the places below of all tiles in memory. It looks at each of them.
+    /// Forgets below the names of all tiles in memory. It looks at each of them.
     fn give_up_places(&mut self)
         ensures moves { MovesTiles H.ChainMeaning self.old.tiles self.new.tiles self.old.below self.new.below }
         ensures tiles { self.new.tiles ≡ self.old.tiles }
@@ -111,8 +111,8 @@ impl<H: TileHandler + Drop> CacheHandler<H> {
         give_up_places(&mut self.below, &self.tiles);
     }
 
-    /// Puts the tile that was used the longest time ago below, unless it is there, and then takes it out of
-    /// memory. Where it finds no room, all tiles in memory give up their places below first.
+    /// Evicts the tile that was used the longest time ago: puts it below, unless it is there, and takes it out of
+    /// memory. Where there is no room below, the names of all tiles in memory are first forgotten there.
     fn move_last(&mut self) -> Result<(), SwapRefused>
         ensures moves { MovesTiles H.ChainMeaning self.old.tiles self.new.tiles self.old.below self.new.below }
         ensures refused { IfErr result (CannotMove H.ChainMeaning self.old.tiles self.old.below self.new.below) }

@@ -1,4 +1,4 @@
-//! The handler whose tiles are on a swap disk.
+//! The handler whose tiles are on a swap disk. `free_runs` and `bytes` are also called for their clauses alone.
 
 ghost use Rattle.std.specs.Prelude.{◌≡◌, ◌≤◌, Some, IfErr, OnErr, OnOk, length, ⊤};
 ghost use Rattle.std.specs.Option.{option_map};

@@ -1,4 +1,4 @@
-//! Tiles under names, in handlers that stand on one another.
+//! Tiles under names, in handlers each over another.
 #![tactic(auto)]
 
 mod below;

@@ -22,7 +22,7 @@ use tile_cow::Tile;
 type Tiles<D> = EmptyHandler<CacheHandler<DiskHandler<D>>>;
 
 /// A map from names to tiles over a disk that it owns, in which each name has owners. A clause sees what
-/// it holds by `ChainMeaning`.
+/// it holds by `ChainMeaning`. `near` is the name that came or went last, `next` one past the largest that was given.
 #[derive(Drop)]
 pub struct OwnedTiles<D: SwapDisk + Drop>
 where
@@ -62,8 +62,8 @@ impl<D: SwapDisk + Drop> ChainMeaning for OwnedTiles<D> {
 
 impl<'s, D: SwapDisk> OwnedTiles<Lent<'s, D>> {
     /// Returns a chain without names, whose tiles take at most `blocks` blocks of a disk, or all where it
-    /// has fewer, and of which at most `resident` are in memory. Who has to know the disk where that runs
-    /// out of memory takes a `ChainMemory` first, and then makes the chain by `over`.
+    /// has fewer, and of which at most `resident` are in memory. A caller that must still know the disk where
+    /// memory runs out takes a `ChainMemory` first, and then makes the chain by `over`.
     pub fn new(
         alloc: Global,
         disk: &'s mut D,
@@ -88,7 +88,7 @@ impl<'s, D: SwapDisk> OwnedTiles<Lent<'s, D>> {
 
 impl<D: SwapDisk + Drop> OwnedTiles<D> {
     /// Returns a chain without names over a disk, for which the memory was taken before. It can't fail,
-    /// so who lends the disk here knows it where the memory was refused.
+    /// so the disk is lent only once all memory is there.
     pub fn over(memory: ChainMemory, disk: D) -> OwnedTiles<D>
         requires { memory.store.used ≤ D.block_count disk }
         ensures held { ⟦<OwnedTiles<D> as ChainMeaning>⟧.held result ≡ nothing_over (D.blocks disk) }
@@ -131,7 +131,7 @@ impl<D: SwapDisk + Drop> OwnedTiles<D> {
 
     /// Returns a name that isn't there, and is never 0: one near the name that came or went last, so that
     /// names stay close to one another, or else the first one from the next on, or from 1 on where all of
-    /// those are there. It looks at as many names as there are at most, and some more.
+    /// those are there. Takes time in proportion to the number of names at most.
     fn free_name(&self) -> Option<u64>
         ensures absent { IfSome result (λ name. map.get self.now.owners name ≡ None) }
         ensures range { IfSome result (λ name. (1 ≤ name) × (name < 2 ^ 64 - 1)) }

@@ -3,7 +3,7 @@
 ghost use Rattle.std.specs.Prelude.{ℕ, ◌+◌, ◌≤◌, Option};
 ghost use Rattle.chain_owners.specs.Counts.{Counts, Grows, IsFullOver};
 
-/// Calls that add names add their sum.
+/// States that calls that add names add their sum.
 pub fn growths_add_up()
     ensures none { (counts : Counts) → Grows 0 counts counts }
     ensures both { (first second last : Counts) (added more : ℕ) →

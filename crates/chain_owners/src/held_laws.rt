@@ -5,7 +5,7 @@ ghost use Rattle.std.specs.FinMap as map;
 ghost use Rattle.chain_owners.specs.Held.{HasLengths, Held, disowned, max_owners, nothing_held, owned, owners_of, with_name, with_owners, with_tile, without_name, without_tile};
 ghost use Rattle.chain_owners.specs.Owners.{Unchanged};
 
-/// Owners are counted one by one; the largest number stays.
+/// States that owners are counted one by one, and that the largest number stays.
 pub fn owners_count_up()
     ensures more { (held : Held) (name : ℕ) →
         owners_of held name ≢ max_owners → owned held name ≡ with_owners held name (owners_of held name + 1) }

@@ -35,7 +35,7 @@ pub fn calls_respect_beside()
         Respects old new before after → Respects old new (before ++ beside) (after ++ beside) }
 {}
 
-/// Names count as often as they are held, in whatever order.
+/// States that names count as often as they are held, in whatever order.
 pub fn calls_respect_in_any_order()
     ensures { (old new : Held) (before after before' after' : List ℕ) →
         ((name : ℕ) → times before' name ≡ times before name) →

@@ -62,7 +62,7 @@ step_action Redo = actions.Redo
 abbrev pub history_step : {Table Op : Type 0} → Direction → History Table Op → Result (History Table Op) StateRefused
 history_step direction history = by_direction direction (undone history) (redone history)
 
--- An edit was made of the buffers that are edited, and what it writes was noted.
+-- An edit was made of the buffers that are edited, and what it writes was recorded.
 pub record IsEditedBy {Op : Type 0} (edit : BufferEdit) (old new : Parts Op) : Type 0 where
   pub carried_out : edit_refused old.versions.working.layout edit ≡ None
   pub layout : new.versions.working.layout ≡ layout_with old.versions.working.layout edit

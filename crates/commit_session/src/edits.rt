@@ -32,7 +32,7 @@ use std::thread::Threads;
 use worker_pieces::Workers;
 
 impl<Op: OpMeaning + Drop> SessionState<Op> {
-    /// Makes an edit of the buffers that are edited, and notes the rectangle of a root that it writes. The
+    /// Makes an edit of the buffers that are edited, and records the rectangle of a root that it writes. The
     /// states and the cached pairs are unchanged.
     ///
     /// # Errors
@@ -72,7 +72,7 @@ impl<Op: OpMeaning + Drop> SessionState<Op> {
         Ok(())
     }
 
-    /// Notes an edit of nodes, which the next commit makes. Nothing else changes.
+    /// Adds an edit of nodes to the pending ones, which the next commit makes. Nothing else changes.
     ///
     /// # Errors
     ///

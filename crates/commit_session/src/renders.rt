@@ -44,7 +44,7 @@ impl<Op: OpMeaning + Drop> SessionState<Op> {
     /// `Render` with `UnknownNode` exactly where the last state has no node of the name; with `Rect` exactly where
     /// it has, and the rectangle at level 0 is not in limits; with `Strip` exactly where, past these, a strip needs
     /// more tiles than the cache holds. Then nothing has changed. Else `Render` with the swap's causes, and
-    /// `NoMemory` if memory runs out: then the cached pairs are those of a part of the request, and right, and
+    /// `NoMemory` if memory runs out: then the cached pairs are those of a part of the request, and are right, and
     /// permits may be spent. No refused render is counted.
     pub fn render<K: OpKit<Op = Op> + Sync, C: TileChain, R: Threads + Sync>(
         &mut self,

@@ -29,7 +29,7 @@ use std::thread::Threads;
 use worker_pieces::Workers;
 
 impl<K: OpKit, C: TileChain> OwnedSession<K, C> {
-    /// Makes an edit of the buffers that are edited, or notes one of nodes, which the next commit makes.
+    /// Makes an edit of the buffers that are edited, or adds one of nodes to those that the next commit makes.
     ///
     /// # Errors
     ///

@@ -40,7 +40,7 @@ impl<K: OpKit + Sync, C: TileChain> OwnedSession<K, C> {
     /// `Render` with `UnknownNode` exactly where the last state has no node of the name; with `Rect` exactly where
     /// it has, and the rectangle at level 0 is not in limits; with `Strip` exactly where, past these, a strip needs
     /// more tiles than the cache holds. Then nothing has changed. Else `Render` with the swap's causes, and
-    /// `NoMemory` if memory runs out: then the cached pairs may be others, and right, and permits may be spent. No
+    /// `NoMemory` if memory runs out: then the cached pairs may have changed, and are right, and permits may be spent. No
     /// refused render is counted.
     pub fn render<R: Threads + Sync>(
         &mut self,

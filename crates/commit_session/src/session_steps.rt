@@ -22,7 +22,7 @@ use graph_commits::Direction;
 use op_contracts::OpKit;
 
 impl<K: OpKit, C: TileChain> OwnedSession<K, C> {
-    /// Commits the edits of nodes that were noted, over the buffers that are edited: they are the next state, and its
+    /// Commits the pending edits of nodes, over the buffers that are edited: they are the next state, and its
     /// number is returned. Nothing can be redone after it. Exactly the cached tiles that meet the damage of their
     /// node are voided. Takes time in proportion to the damage and to the nodes with their inputs, and one look at
     /// each tile that the buffers hold.
@@ -30,8 +30,8 @@ impl<K: OpKit, C: TileChain> OwnedSession<K, C> {
     /// # Errors
     ///
     /// `Graph` with `TooManyCommits`, or else with the cause of the first edit that is refused, or else of the
-    /// first node that is not valid; and `NoMemory` if memory runs out. The session is unchanged: the edits that were
-    /// noted still are.
+    /// first node that is not valid; and `NoMemory` if memory runs out. The session is unchanged: the pending edits
+    /// are still pending.
     pub fn commit(&mut self) -> Result<u64, SessionRefused>
         requires { IsOver K.Op.same K.Op.meanings self.old.state (C.held self.old.chain) }
         ensures session { (session : SessionOf Table K.Op) → IsSessionOf K.Op.same K.Op.meanings self.old.state (C.held self.old.chain) session →
@@ -56,7 +56,7 @@ impl<K: OpKit, C: TileChain> OwnedSession<K, C> {
     }
 
     /// Goes back to the state before the last commit that is not yet undone, under the next number, which is
-    /// returned. What is edited goes: the buffers become those of the state, and no edit is noted. The cached
+    /// returned. What was edited goes: the buffers become those of the state, and no edit is pending. The cached
     /// tiles are voided that meet the damage of their node. Takes time in proportion to the damage, and one look at
     /// each tile that the state's buffers hold.
     ///

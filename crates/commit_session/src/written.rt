@@ -67,7 +67,7 @@ fn target_of(edit: &BufferEdit) -> Option<Target>
     }
 }
 
-/// Notes the rectangle of a root that an edit of these buffers wrote, where it wrote one. There is room for one
+/// Records the rectangle of a root that an edit of these buffers wrote, where it wrote one. There is room for one
 /// more.
 pub(crate) fn note_written(written: &mut Vec<Edited>, buffers: &Buffers, edit: &BufferEdit)
     requires { vec_len written.old < vec_capacity written.old }
@@ -79,7 +79,7 @@ pub(crate) fn note_written(written: &mut Vec<Edited>, buffers: &Buffers, edit: &
     }
 }
 
-/// Notes the rectangle of a root that a rectangle of one of these buffers is. There is room for one more.
+/// Records the rectangle of a root that a rectangle of one of these buffers is. There is room for one more.
 fn note_target(written: &mut Vec<Edited>, buffers: &Buffers, target: Target)
     requires { vec_len written.old < vec_capacity written.old }
     ensures { rectangles_of written.new.items

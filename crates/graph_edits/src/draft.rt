@@ -182,7 +182,7 @@ impl<Op: Drop> Draft<Op> {
         self.nodes().iter().any(|node| reads_node(name, &node.body))
     }
 
-    /// Returns whether a body reads only buffers that are there, and nodes that stand before a position.
+    /// Returns whether a body reads only buffers that are there, and nodes that are before an index.
     #[tactic(auto, using(crate::proofs::BufferLaws::some_shape))]
     fn reads_earlier(&self, buffers: &[BufferFact], index: usize, body: &Body<Op>) -> bool
         ensures { result ≡ reads_earlier (shapes_of_facts buffers.now) self.now index body.now }
@@ -193,7 +193,7 @@ impl<Op: Drop> Draft<Op> {
         }
     }
 
-    /// Returns whether the nodes of these names stand before a position.
+    /// Returns whether the nodes of these names are before an index.
     fn come_before(&self, index: usize, names: &[Name]) -> bool
         ensures { result ≡ list_all (λ name. nat_lt (index_of self.now name) index) names.now }
     {

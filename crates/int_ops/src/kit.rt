@@ -1,4 +1,4 @@
-//! The kit.
+//! The kit of the fifteen operations: what each asks of its inputs, and how it is applied.
 
 ghost use Rattle.std.specs.Prelude.{◌≡◌, ◌<◌, All, IfOk, IfSome, IsSome, length};
 ghost use Rattle.plane_rect.specs.Rectangle.{Includes};
@@ -91,7 +91,7 @@ impl OpKit for IntKit {
     }
 }
 
-/// Returns the number of the one of two boxes that contains a part of which the other has no position, where there is one.
+/// Returns which of two boxes, 0 or 1, contains a part of which the other has no position, where one does.
 fn lone_input(first: &Rect, second: &Rect, part: &Rect) -> Option<usize>
     ensures { IfSome result (IsLone first.now second.now part.now) }
 {

@@ -9,7 +9,7 @@ use Rattle.model_graphs.specs.Meanings.{Meanings, boxes_of, formats_of, result_b
 abbrev pub unit_rectangle : ℕ → ℕ → Rectangle
 unit_rectangle u v = record { first_column = u; first_row = v; width = 1; height = 1 }
 
--- two images have the same samples at each place of a rectangle
+-- two images have the same samples at each position of a rectangle
 abbrev pub AgreeInside : Image → Image → Rectangle → Type 0
 AgreeInside a b r = (u v c : ℕ) → Inside u v r → at a u v c ≡ at b u v c
 
@@ -28,7 +28,7 @@ IsLocal {Op} meanings =
     AgreeWhereRequired meanings operation a b part →
     AgreeInside (result_of meanings operation a) (result_of meanings operation b) part
 
--- A place of the box that is not invalidated by a change requires no position that changed.
+-- A position of the box that is not invalidated by a change requires no position that changed.
 abbrev pub IsDual : {Op : Type 0} → Meanings Op → Type 0
 IsDual {Op} meanings =
     (operation : Op) (boxes : List Rectangle) (i : ℕ) (changed : Rectangle) (u v : ℕ) →

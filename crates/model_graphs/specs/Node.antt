@@ -9,7 +9,7 @@ use Rattle.std.specs.Str.{bytes_eq}
 abbrev pub Node : Type 0 → Type 0
 Node Op = NodeSpec Op
 
--- the place of the first node of a name, and the number of nodes where there is none
+-- the index of the first node of a name, and the number of nodes where there is none
 abbrev pub index_of : {Op : Type 0} → List (Node Op) → List ℕ → ℕ
 index_of {Op} nodes name = unwrap_or (position (λ (node : Node Op). bytes_eq node.name name) nodes) (length nodes)
 

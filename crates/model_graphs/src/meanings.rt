@@ -20,7 +20,7 @@ pub trait OpMeaning {
     /// The samples of a part of the box depend only on what the part requires.
     ghost local: { IsLocal meanings };
 
-    /// A place of the box that a change does not invalidate requires no position that changed.
+    /// A position of the box that a change does not invalidate requires no position that changed.
     ghost dual: { IsDual meanings };
 
     /// What is required is in the input's box, what is invalidated in the result's.

@@ -30,7 +30,7 @@ pub struct NodeFact<Op> {
 /// An edit of the nodes of a graph.
 #[derive(Drop)]
 pub enum NodeEdit<Op> {
-    /// A node takes the position of its name, and stands last where no node has the name.
+    /// A node takes the position of its name, and is last where no node has the name.
     Set(NodeSpec<Op>),
     /// The node of a name goes.
     Remove(Name),

@@ -11,7 +11,7 @@ ghost use Rattle.plane_rect.specs.Rectangle.{empty};
 use crate::operation::IntOp;
 use pixel_formats::{Abyss, Format};
 
-/// Samples of other depths and channels: 128 of 255 is 32,896 of 65,535, and back; (10 + 20 + 31 +
+/// Works out samples of other depths and channels: 128 of 255 is 32,896 of 65,535, and back; (10 + 20 + 31 +
 /// 1) / 3 is 20.
 pub fn conversions()
     ensures deeper { whole (IntOp.Convert Format.Y16)
@@ -64,7 +64,7 @@ pub fn pairs()
         ≡ 100 ∷ 100 ∷ 0 ∷ 255 ∷ [] }
 {}
 
-/// Images moved and mirrored.
+/// Works out images that are moved and mirrored.
 pub fn moves()
     ensures flip { whole (IntOp.Flip true) (row_image Format.Y8 (pos 0) 3 (1 ∷ 2 ∷ 3 ∷ []) ∷ [])
         ≡ 3 ∷ 2 ∷ 1 ∷ [] }
@@ -111,7 +111,7 @@ pub fn extremes()
         ≡ 255 ∷ [] }
 {}
 
-/// Squares of two and of three pixels a side, left of the origin too, and one pixel for all
+/// Works out squares of two and of three pixels a side, left of the origin too, and one pixel for all
 /// positions.
 pub fn without_inputs()
     ensures checker { whole (IntOp.Checker Format.Y8 (positions_from (negsuc 1) 6) 2 0 9) []
@@ -124,7 +124,7 @@ pub fn without_inputs()
         ≡ 3 ∷ 4 ∷ 3 ∷ 4 ∷ [] }
 {}
 
-/// Formats that two inputs have together, and those that don't fit.
+/// Works out formats that two inputs have together, and those that don't fit.
 pub fn formats_of_pairs()
     ensures add { format_of IntOp.Add (Format.Y16 ∷ Format.Y16 ∷ []) ≡ Some Format.Y16 }
     ensures add_of_two_depths { format_of IntOp.Add (Format.Y8 ∷ Format.Y16 ∷ []) ≡ None }
@@ -137,7 +137,7 @@ pub fn formats_of_pairs()
     ensures one_input { format_of IntOp.Mask (Format.RGB8 ∷ []) ≡ None }
 {}
 
-/// Arguments at the ends of their ranges, and just outside.
+/// Works out arguments at the ends of their ranges, and just outside.
 pub fn arguments()
     ensures threshold { format_of (IntOp.Threshold 255) (Format.Y8 ∷ []) ≡ Some Format.Y8 }
     ensures threshold_above { format_of (IntOp.Threshold 256) (Format.Y8 ∷ []) ≡ None }

@@ -40,7 +40,7 @@ pub fn a_part_of_a_buffer()
         ≡ exposed (codes "o") (0 ∷ 0 ∷ 7 ∷ 0 ∷ []) (codes "grab 4 bytes 4") ++ Puts (codes "line 5: OutOfBounds\n") ∷ [] }
 {}
 
-/// Frames of a viewer that saw the first commit, the second and the last.
+/// Works out frames of a viewer that saw the first commit, the second and the last.
 pub fn a_watch()
     ensures { (files : Files) → (outcome_of (((1 ∷ 2 ∷ 3 ∷ []) ∷ []) ∷ []) files watched_edits).events
         ≡ exposed (codes "w.0.0") (254 ∷ 254 ∷ []) (codes "frame 6 0 0 commit 1 bytes 2")
@@ -49,7 +49,7 @@ pub fn a_watch()
         ++ Puts (codes "report applied 0 reused 0\n") ∷ [] }
 {}
 
-/// Lines that are refused: nothing to undo, a node that is not there, and a buffer that is not.
+/// Works out lines that are refused: nothing to undo, a node that is not there, and a buffer that is not.
 pub fn refused_lines()
     ensures undo { (files : Files) → (outcome_of [] files (commands.Undo ∷ [])).events ≡ Puts (codes "line 1: NothingToUndo\n") ∷ [] }
     ensures node { (files : Files) → (outcome_of [] files (render (row_from 0 2) (codes "o") ∷ [])).events ≡ Puts (codes "line 1: UnknownNode\n") ∷ [] }
@@ -74,7 +74,7 @@ pub fn words_of_runs()
         ≡ Some (RunScript (codes "s") (record default_options { workers = 16; resident = 32768 })) }
 {}
 
-/// Words that are in no grammar: an option twice, one past its range, a value of eight digits, an option of no name, no
+/// Works out words that are in no grammar: an option twice, one past its range, a value of eight digits, an option of no name, no
 /// script, and two.
 pub fn words_of_nothing()
     ensures twice { request_of (codes "run" ∷ codes "s" ∷ codes "--cache" ∷ codes "5" ∷ codes "--cache=5" ∷ []) ≡ None }
@@ -85,7 +85,7 @@ pub fn words_of_nothing()
     ensures two_scripts { request_of (codes "run" ∷ codes "s" ∷ codes "t" ∷ []) ≡ None }
 {}
 
-/// States that a job is made of a number below 2^32. The first numbers that are drawn for job 0, and its second fill.
+/// States that a job is made of a number below 2^32. Works out the first numbers of job 0 and its second fill.
 pub fn made_jobs()
     ensures largest { request_of (codes "make" ∷ codes "4294967295" ∷ []) ≡ Some (MakeJob 4294967295) }
     ensures too_large { request_of (codes "make" ∷ codes "4294967296" ∷ []) ≡ None }

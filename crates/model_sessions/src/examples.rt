@@ -12,7 +12,7 @@ ghost use Rattle.model_states.specs.{Need.wide, Cache.uncounted};
 ghost use Rattle.model_sessions.specs.Examples.{carried, color, commit_after, crop_rendered, crop_twice, history, node_counts, of_buffer, of_color, rendered, row, set, two_commits, voided_by, wide_need, with_edit};
 ghost use Rattle.model_sessions.specs.Steps.{Commit, EditNode, Redo, Undo};
 
-/// Works out two commits, of a whole buffer and of one place of it. An undo and a redo carry the rectangle of the second; two
+/// Works out two commits, of a whole buffer and of one pixel of it. An undo and a redo carry the rectangle of the second; two
 /// undos lead back to the state without nodes, and then nothing is left to undo.
 pub fn undo_and_redo()
     ensures commits { carried two_commits ≡ [] ∷ of_buffer (row 2) ∷ of_buffer (row 1) ∷ [] }
@@ -24,7 +24,7 @@ pub fn undo_and_redo()
     ensures no_more { undone (history (two_commits ++ Undo ∷ Undo ∷ [])) ≡ Err NothingToUndo }
 {}
 
-/// Commits that are refused: an input that is not there, a node that goes while another reads it, an operation that
+/// Works out commits that are refused: an input that is not there, a node that goes while another reads it, an operation that
 /// does not take its inputs, and a box that would be too wide. Nothing is left to redo at first.
 pub fn refused_commits()
     ensures unknown { commit_after (set (codes "i") (Compute Invert (codes "zz" ∷ [])) ∷ []) ≡ Err UnknownInput }
@@ -40,7 +40,7 @@ pub fn refused_commits()
     ensures redo { redone (history []) ≡ Err NothingToRedo }
 {}
 
-/// Renders of a mean over 128 by 128 pixels: twice, then once after an edit. One of the corner damages one of four
+/// Works out renders of a mean over 128 by 128 pixels: twice, then once after an edit. One of the corner damages one of four
 /// tiles, one in the middle all four. An undo of the first damages the same tile again.
 pub fn work_after_an_edit()
     ensures corner { counts (with_edit (square 1)) ≡ (5, 7) }

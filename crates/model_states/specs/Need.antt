@@ -12,11 +12,11 @@ use Rattle.model_states.specs.declared.strip.Strip.{Strip}
 use Rattle.model_states.specs.Valid.{input_boxes, steps_of}
 use Rattle.model_states.specs.Regions.{tiles_of_any}
 
--- a rectangle that is asked of a node, by the place of the node
+-- a rectangle that is asked of a node, by the index of the node
 abbrev pub Asked : Type 0
 Asked = ℕ × Rectangle
 
--- a tile that is needed of a node, by the place of the node
+-- a tile that is needed of a node, by the index of the node
 abbrev pub Needed : Type 0
 Needed = ℕ × Tile
 

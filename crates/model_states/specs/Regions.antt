@@ -9,7 +9,7 @@ abbrev pub hull_of : List Rectangle → Rectangle
 hull_of [] = empty
 hull_of (r ∷ rs) = hull r (hull_of rs)
 
--- some place of the rectangle is in the tile
+-- some position of the rectangle is in the tile
 abbrev pub meets : Tile → Rectangle → Bool
 meets t r = has_positions (meet (tile_square t) r)
 

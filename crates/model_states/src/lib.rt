@@ -73,7 +73,7 @@ pub fn looked_up_pairs_are_right<Op>()
         AreRight meanings scene (all_looked_up by_pair (with_bytes meanings scene) capacity counted pairs).list }
 {}
 
-/// Nodes after others change no image of those.
+/// States that nodes after others change no image of those.
 pub fn nodes_after_change_nothing<Op>()
     ensures { (meanings : Meanings Op) (buffers : Buffers) (nodes more : List (Node Op)) (name : List ℕ) →
         IsTrue (has_node nodes name) →
@@ -155,7 +155,7 @@ pub fn shapes_unchanged_where_samples_change<Op>()
         shapes_of meanings (shapes_of_facts old) nodes ≡ shapes_of meanings (shapes_of_facts new) nodes }
 {}
 
-/// States that in the need of a strip no pair stands twice.
+/// States that in the need of a strip no pair is there twice.
 pub fn needed_pairs_are_distinct<Op>()
     ensures { (meanings : Meanings Op) (facts : List (NodeFact Op)) (node : ℕ) (request : Rectangle) →
         IsDistinct bytes_eq (node_names (specs_of facts)) →
@@ -214,7 +214,7 @@ pub fn redo_reverts_undo<Table, Op>()
         IfOk (redone before) (Returns history.workspace.retained.latest before.rectangles)) }
 {}
 
-/// States that a table of buffers is its own neighbour, with no rectangles.
+/// States that a table of buffers is its own neighbor, with no rectangles.
 pub fn buffers_are_their_own_neighbor()
     ensures { (facts : Facts) (images : Buffers) → AreNeighbors facts facts images images [] }
 {}
@@ -233,7 +233,7 @@ pub fn walk_refuses_what_is_not_valid<Op>()
         (steps_refused meanings shapes known steps ≡ None) ↔ AreValidSteps meanings shapes known steps }
 {}
 
-/// Edits that are not refused leave valid nodes of nodes of distinct names, of which there are few enough.
+/// States that edits that are not refused leave valid nodes of nodes of distinct names, of which there are few enough.
 pub fn edits_leave_valid_nodes<Op>()
     ensures { (meanings : Meanings Op) (shapes : Shapes) (nodes : List (Node Op)) (edits : List (NodeEdit Op)) →
         length nodes ≤ max_nodes → IsDistinct bytes_eq (node_names nodes) →

@@ -3,7 +3,7 @@
 /// Why edits, a commit, an undo or a redo are refused, in the order of the causes.
 #[derive(Clone, Copy, Debug, PartialEq, Eq)]
 pub enum StateRefused {
-    /// An input does not stand earlier in the list, or a buffer or a removed node is not there.
+    /// An input is not earlier in the list, or a buffer or a removed node is not there.
     UnknownInput,
     /// The number of inputs is not the operation's.
     Arity,

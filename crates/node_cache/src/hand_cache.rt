@@ -1,4 +1,4 @@
-//! The cache that keeps its tiles itself.
+//! The cache that keeps its tiles itself. `len` is also called for its clause alone, that no pair is there twice.
 
 ghost use Rattle.std.specs.Prelude.{◌≡◌, ℕ, ◌-◌, ◌^◌, ◌≤◌, List, [], ◌∷◌, ◌++◌, map, take, IfErr, IfOk, OnErr, OnOk, Some, None};
 ghost use Rattle.std.specs.Map.{lookup, remove_entry};

@@ -1,4 +1,4 @@
-//! The cache whose tiles are in a chain.
+//! The cache whose tiles are in a chain. `len` and `bytes` are also called for their clauses alone, which proofs cite.
 
 ghost use Rattle.std.specs.Prelude.{◌≡◌, ℕ, ◌≤◌, [], ◌∷◌, ◌++◌, IfErr, IfOk, IfSome, MatchResult, OnErr, OnOk, None, Some};
 ghost use Rattle.std.specs.Map.{lookup, remove_entry, values_of};

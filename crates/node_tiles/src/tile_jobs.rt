@@ -29,7 +29,7 @@ use tile_parts::tile_part;
 /// How many pixels a tile has.
 const TILE_PIXELS: u64 = 64 * 64;
 
-/// How many bytes a pixel of the tile that a job makes has, as one has in most formats.
+/// How many bytes a pixel of the tile that a job makes is taken to have, near the mean of the eight formats.
 const MADE_BYTES: u64 = 4;
 
 /// How many bytes of its windows an operation goes through in a nanosecond, at least: an area operation takes some 0.1 ns for

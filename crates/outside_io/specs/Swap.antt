@@ -32,7 +32,7 @@ abbrev pub ReadsBlock : Blocks → ℕ → Result (Unit {0}) SwapAnswer → List
 ReadsBlock blocks n (Ok done) into = slice_get blocks n ≡ Some into
 ReadsBlock blocks n (Err answer) into = ⊤
 
--- The blocks that a write leaves: this one written after Ok, or unknown after a refusal. All others stand.
+-- The blocks that a write leaves: this one written after Ok, or unknown after a refusal. All others are unchanged.
 abbrev pub WritesBlock : Option Blocks → ℕ → List ℕ → Result (Unit {0}) SwapAnswer → Option Blocks → Type 0
 WritesBlock old n bytes (Ok done) new = new ≡ option_map (λ blocks. slice_set blocks n bytes) old
 WritesBlock old n bytes (Err answer) new =

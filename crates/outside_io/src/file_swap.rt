@@ -15,7 +15,7 @@ use std::{fs, io};
 const FILE_NAME: &str = ".tilegraph-swap";
 
 /// The blocks of a file `.tilegraph-swap` of the current folder, which is made afresh at the first
-/// block call. It doesn't expose what they hold.
+/// block call. It doesn't expose what they hold: a clause sees how many they are, and how many calls failed.
 #[derive(Drop)]
 pub struct FileSwap<R: Files + Drop> {
     rt: R,

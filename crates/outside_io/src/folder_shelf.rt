@@ -20,7 +20,7 @@ use worker_pieces::Workers;
 /// caches from when new memory is made zero until they are read into it.
 const READ_BYTES: usize = 128 << 10;
 
-/// The files of the current folder. It doesn't expose what they hold.
+/// The files of the current folder. It doesn't expose what they hold: a clause sees how many reads failed, and how many writes.
 #[derive(Drop)]
 pub struct FolderShelf<R: Files + AllocGlobal + Drop> {
     rt: R,

@@ -16,7 +16,7 @@ use std::thread::Threads;
 use worker_pieces::Workers;
 
 /// Keeps files in memory, under whatever names. Fails at chosen calls; a write that fails keeps the first half of the
-/// bytes, rounded down.
+/// bytes, rounded down. A clause sees the files, and of reads and of writes which calls fail and how many did.
 #[derive(Drop)]
 pub struct MemShelf {
     files: StoredFiles,

@@ -10,7 +10,7 @@ use std::alloc::Global;
 use std::marker::Model;
 
 /// Keeps all that it is sent. Fails at chosen calls, where it keeps the first half of the piece,
-/// rounded down.
+/// rounded down. A clause sees what is written, and which puts fail and how many did.
 #[derive(Drop)]
 pub struct MemSink {
     written: Vec<u8>,

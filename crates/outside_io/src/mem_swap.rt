@@ -13,7 +13,7 @@ use std::alloc::Global;
 use std::marker::Model;
 
 /// Keeps blocks in memory. Fails at chosen calls; a write that fails fills the block with EE. Its
-/// block calls take no memory.
+/// block calls take no memory. A clause sees the blocks, and of reads and of writes which calls fail and how many did.
 #[derive(Drop)]
 pub struct MemSwap {
     blocks: StoredBlocks,

@@ -8,7 +8,7 @@ use std::io;
 use std::io::{ErrorKind, Write};
 use std::marker::Model;
 
-/// Standard output. It doesn't expose what went out.
+/// Standard output. It doesn't expose what went out: a clause sees how many puts failed.
 #[derive(Drop)]
 pub struct StdSink<R: Print + Drop> {
     rt: R,

@@ -13,7 +13,7 @@ use std::marker::Model;
 use std::thread::Threads;
 use worker_pieces::Workers;
 
-/// Keeps files in memory, under whatever names, and never fails.
+/// Keeps files in memory, under whatever names, and never fails. A clause sees the files.
 #[derive(Drop)]
 pub struct SureShelf {
     files: StoredFiles,

@@ -6,7 +6,7 @@ use crate::sink::{Sink, SinkAnswer};
 use std::alloc::Global;
 use std::marker::Model;
 
-/// Keeps all that it is sent, and never fails.
+/// Keeps all that it is sent, and never fails. A clause sees the list of its bytes.
 #[derive(Drop)]
 pub struct SureSink {
     written: Vec<u8>,

@@ -9,7 +9,7 @@ use no_memory::NoMemory;
 use std::alloc::Global;
 use std::marker::Model;
 
-/// Keeps blocks in memory. Its block calls take no memory and never fail.
+/// Keeps blocks in memory. Its block calls take no memory and never fail. A clause sees the list of the blocks.
 #[derive(Drop)]
 pub struct SureSwap {
     blocks: StoredBlocks,

@@ -4,7 +4,7 @@ use Rattle.pixel_formats.specs.declared.format.Format.{Format}
 use Rattle.pixel_formats.specs.Recolor.{recolored}
 use Rattle.pixel_formats.specs.Row.{Pixel}
 
--- a color subtracted from its cap: what lies above the cap becomes 0
+-- a color subtracted from its cap: what is above the cap becomes 0
 abbrev pub inverted : ℕ → ℕ → ℕ
 inverted cap color = cap - color
 

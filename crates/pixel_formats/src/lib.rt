@@ -1,4 +1,4 @@
-//! The formats of pixels, the policies for what lies outside an image, and the limits of the script
+//! The formats of pixels, the policies for what is outside an image, and the limits of the script
 //! language and of the operations. Nothing here computes with images.
 #![tactic(auto)]
 

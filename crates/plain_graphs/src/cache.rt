@@ -52,7 +52,7 @@ impl Model for Lookups {
 }
 
 impl Lookups {
-    /// Looks pairs up in their order: each stands first then, and what stands past the capacity when
+    /// Looks pairs up in their order: each is first then, and what is past the capacity when
     /// one is new is gone. The list and the counts are those of the list with bytes.
     ///
     /// # Errors

@@ -25,7 +25,7 @@ use std::marker::Model;
 use tile_parts::meets;
 
 /// Two graphs of which one follows the other, and the rectangles of root buffers that separate them:
-/// a root that is not listed has not changed.
+/// a root that is not listed has not changed. A clause sees the change from the one to the other.
 #[derive(Drop)]
 pub struct Change<'a> {
     old: &'a Graph,

@@ -95,7 +95,7 @@ fn is_read(nodes: &[NodeSpec<IntOp>], name: Name) -> bool
     nodes.iter().any(|node| reads_node(name, &node.body))
 }
 
-/// Tests whether a body reads only buffers that are there, and nodes that stand before a position.
+/// Tests whether a body reads only buffers that are there, and nodes that are before an index.
 #[tactic(auto, using(crate::proofs::Named::some_shape))]
 fn reads_earlier(
     buffers: &[BufferFact],
@@ -111,7 +111,7 @@ fn reads_earlier(
     }
 }
 
-/// Tests whether the nodes of these names stand before a position.
+/// Tests whether the nodes of these names are before an index.
 fn come_before(nodes: &[NodeSpec<IntOp>], index: usize, names: &[Name]) -> bool
     ensures { result ≡ list_all (λ name. nat_lt (index_of nodes.now name) index) names.now }
 {

@@ -31,7 +31,7 @@ impl Model for Shape {
     ghost inverse = { λ shape. record { bounds = shape.box; format = shape.format } };
 }
 
-/// Buffers, and nodes over them with their stated boxes and formats.
+/// Buffers, and nodes over them with their stated boxes and formats. A clause sees both lists.
 #[derive(Drop)]
 pub struct Graph {
     pub buffers: Vec<BufferFact>,

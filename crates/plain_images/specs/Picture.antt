@@ -1,4 +1,4 @@
--- Images whose samples stand in memory one by one.
+-- Images whose samples are in memory one by one.
 use Rattle.std.specs.Prelude.{ℕ, ◌<◌, ◌≤◌, List, slice_index}
 use Rattle.plane_rect.specs.Rectangle.{InLimits, IsRectangle, plane_side}
 use Rattle.pixel_formats.specs.Format.{max_sample}

@@ -107,7 +107,7 @@ fn inputs_among(
     Ok(inputs)
 }
 
-/// Returns the image at a place of a list, and that of no position after its end.
+/// Returns the image at an index of a list, and that of no position after its end.
 fn picture_among(alloc: Global, before: &[Picture], position: usize) -> Result<Picture, NoMemory>
     ensures { IfOk result (λ picture. picture ≡ slice_index_or before.now position no_image) }
 {

@@ -1,4 +1,4 @@
-//! Images whose samples stand in memory one by one.
+//! Images whose samples are in memory one by one.
 
 ghost use Rattle.std.specs.Prelude.{◌≡◌, ℕ, ◌+◌, ◌/◌, ◌%◌, ◌<◌, ◌≤◌, IfOk};
 ghost use Rattle.plane_rect.specs.Rectangle.{InLimits, IsRectangle, area};
@@ -14,7 +14,7 @@ use plane_rect::Rect;
 use std::alloc::Global;
 use std::marker::Model;
 
-/// An image, whose rectangle is in limits and whose samples are none above its format's largest.
+/// An image, whose rectangle is in limits and whose samples are none above its format's largest. A clause sees an image.
 #[derive(Drop)]
 pub struct Picture {
     rect: Rect,
@@ -34,7 +34,7 @@ impl Model for Picture {
     ghost invariant = { λ p. IsPicture (record { box = p.rect; format = p.format; samples = p.samples.items }) };
 }
 
-/// A sample for each place of the plane and each channel of a format.
+/// A sample for each position of the plane and each channel of a format.
 pub trait Samples {
     /// The format.
     ghost sample_format: { Self → Format };
@@ -118,7 +118,7 @@ impl Samples for Picture {
     }
 }
 
-/// Returns the image of no position, which stands where one is lacking.
+/// Returns the image of no position, which is taken where one is missing.
 pub(crate) fn no_picture(alloc: Global) -> Picture
     ensures { result ≡ no_image }
 {
@@ -169,7 +169,7 @@ pub fn sample_all<S: Samples>(alloc: Global, rect: &Rect, samples: &S) -> Result
     Ok(all)
 }
 
-/// Returns the column and the row of a place of a rectangle, by its index among them.
+/// Returns the column and the row of a position of a rectangle, by its index among them.
 fn position_of(rect: &Rect, index: u64) -> (u32, u32)
     requires { index < area rect.now }
     ensures column { result.0 ≡ rect.now.first_column + index % rect.now.width }

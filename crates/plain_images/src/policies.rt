@@ -61,7 +61,7 @@ pub(crate) fn outside_at(
     }
 }
 
-/// Returns the sample of the nearest place of the rectangle.
+/// Returns the sample of the nearest position of the rectangle.
 fn clamped_at(picture: &Picture, column: u32, row: u32, channel: u32) -> u32
     ensures value { result ≡ outside_at picture.now Abyss.Clamp column row channel }
     ensures range { result ≤ max_sample picture.now.format }
@@ -74,7 +74,7 @@ fn clamped_at(picture: &Picture, column: u32, row: u32, channel: u32) -> u32
     )
 }
 
-/// Returns the sample of the place of the rectangle that is whole widths and heights away.
+/// Returns the sample of the position of the rectangle that is whole widths and heights away.
 fn looped_at(picture: &Picture, column: u32, row: u32, channel: u32) -> u32
     ensures value { result ≡ outside_at picture.now Abyss.Loop column row channel }
     ensures range { result ≤ max_sample picture.now.format }

@@ -17,7 +17,7 @@ use pixel_formats::{Abyss, Format};
 use plane_rect::Rect;
 use std::alloc::Global;
 
-/// The samples that the raw bytes of a rectangle spell.
+/// The samples that are decoded from the raw bytes of a rectangle.
 #[derive(Drop)]
 struct RawBytes<'a> {
     rect: Rect,
@@ -44,7 +44,7 @@ impl Samples for RawBytes<'_> {
     }
 }
 
-/// Returns the image that the raw bytes of a rectangle spell: its places row by row, each row from the
+/// Returns the image that the raw bytes of a rectangle encode: its pixels row by row, each row from the
 /// left, the less significant byte of a sample first.
 ///
 /// # Errors

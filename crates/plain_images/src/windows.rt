@@ -10,7 +10,7 @@ use crate::policies::{outside_at, read_at};
 use pixel_formats::Abyss;
 use std::marker::Model;
 
-/// The samples of a channel in the square of `2 * radius + 1` places a side around a position, row by
+/// The samples of a channel in the square of `2 * radius + 1` pixels a side around a position, row by
 /// row from the top, each row from the left, under a policy. The radius is 1 to 64 positions.
 #[derive(Drop)]
 pub(crate) struct Window<'a> {

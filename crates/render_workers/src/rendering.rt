@@ -161,7 +161,7 @@ where
 ///
 /// `UnknownNode` exactly where no node has the name; `Rect` exactly where one has, and the rectangle at
 /// level 0 is not in limits; `Strip` exactly where, past these, a strip needs more tiles than the
-/// capacity, with the number of the first such strip. Then nothing has changed. `SwapFault` only where the
+/// capacity, with how many tiles the first such one needs. Then nothing has changed. `SwapFault` only where the
 /// swap's count of I/O errors rose in this call, `SwapFull` only where the chain's names and one more for
 /// each needed tile can fill the swap, and, where each cached name has one owner, the names of a full cache
 /// and one more can too; and `NoMemory` if memory runs out. The cached pairs are then those of a part of

@@ -22,8 +22,8 @@ use tile_parts::strip_rects;
 ///
 /// # Errors
 ///
-/// `Strip` exactly where a strip needs more tiles than the capacity, with the number of the first such
-/// strip, and `NoMemory` if memory runs out.
+/// `Strip` exactly where a strip needs more tiles than the capacity, with how many the first such strip
+/// needs, and `NoMemory` if memory runs out.
 pub fn plan<K: OpKit>(
     kit: &K,
     alloc: Global,

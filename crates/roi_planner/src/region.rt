@@ -30,7 +30,7 @@ impl Model for Region {
 }
 
 impl Region {
-    /// Makes a region without a rectangle, without memory.
+    /// Returns an empty region. Takes no memory.
     pub(crate) fn new(alloc: Global) -> Region
         ensures { result ≡ [] }
     {
@@ -90,7 +90,7 @@ impl Region {
     }
 }
 
-/// Returns whether two rectangles are seen to have a hull of no position but theirs: one contains the
+/// Returns whether the hull of two rectangles is seen to be their union: one contains the
 /// other, or they are beside or above one another.
 fn are_joined(a: &Rect, b: &Rect) -> bool
     ensures { OnTrue result (HullIsUnion a.now b.now) }

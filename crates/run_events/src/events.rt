@@ -14,7 +14,7 @@ use run_texts::{Cause, refusal_text};
 use script_read::FileName;
 use std::alloc::Global;
 
-/// Makes a file hold these bytes.
+/// Makes a file hold these bytes. `WriteFault` where the shelf fails, and `NoMemory` if memory runs out.
 pub fn write_file<F: Shelf>(bytes: &[u8], file: &FileName, shelf: &mut F) -> Result<(), End>
     ensures leaves { (text : Option (List ℕ)) → Leaves (events_alone (Writes file.now bytes.now ∷ [])) result
         (record { files = F.files shelf.old; text = text }) (record { files = F.files shelf.new; text = text }) }
@@ -30,7 +30,7 @@ pub fn write_file<F: Shelf>(bytes: &[u8], file: &FileName, shelf: &mut F) -> Res
 }
 
 /// Adds bytes at the end of a file that was begun. Together with what made it hold the bytes before them, this makes the
-/// file hold all of these.
+/// file hold all of these. The errors are those of [`write_file`].
 pub fn append_file<F: Shelf>(bytes: &[u8], file: &FileName, shelf: &mut F) -> Result<(), End>
     ensures leaves { (text : Option (List ℕ)) (begun : Option Files) (before : List ℕ) →
         F.files shelf.old ≡ option_map (λ files. filed files file.now before) begun →
@@ -47,7 +47,7 @@ pub fn append_file<F: Shelf>(bytes: &[u8], file: &FileName, shelf: &mut F) -> Re
     }
 }
 
-/// Ends a run at a line that is refused, and puts its text.
+/// Ends a run at a line that is refused, and puts its text. Answers `Refused`, or why the text couldn't be put.
 pub fn refuse<O: Sink>(alloc: Global, line: u32, cause: Cause, out: &mut O) -> Result<(), End>
     ensures leaves { SinkLeaves O.written (refusal line cause) result out.old out.new }
     ensures cause { HasSinkCause O.faults result out.old out.new }
@@ -57,7 +57,7 @@ pub fn refuse<O: Sink>(alloc: Global, line: u32, cause: Cause, out: &mut O) -> R
     Err(End::Refused)
 }
 
-/// Puts a text.
+/// Puts a text. `OutputFault` where the sink fails, and `NoMemory` if memory runs out.
 pub fn put_text<O: Sink>(text: &str, out: &mut O) -> Result<(), End>
     ensures leaves { SinkLeaves O.written (events_alone (Puts text.now ∷ [])) result out.old out.new }
     ensures cause { HasSinkCause O.faults result out.old out.new }

@@ -192,8 +192,8 @@ fn byte_len(target: &Target, rows: u32) -> u64
     u64::from(target.rect.w) * u64::from(rows) * u64::from(target.format.pixel_bytes())
 }
 
-/// Reads so many bytes of a file from a position on, into a vector that was used before. They are to be the last of the
-/// file where they are the last that is wanted: then there is room for one byte more, which a file that is too long fills.
+/// Reads so many bytes of a file from a position on, into a vector that was used before. Where they are the last
+/// that are wanted, the file must end there: the vector has room for one byte more, which a file that is too long fills.
 fn read_part<F: Shelf, R: Threads + Sync>(
     file: &FileName,
     start: u64,

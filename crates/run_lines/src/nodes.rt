@@ -18,7 +18,7 @@ use no_memory::NoMemory;
 use plane_rect::NameList;
 use script_read::{Command, Line, OpWords};
 
-/// Notes the edit of nodes that a line is.
+/// Adds the edit of nodes that a line is to the pending ones.
 pub(crate) fn note(line: &Line, session: &mut SessionState<IntOp>) -> Result<(), Stop>
     requires { IsSome (node_edit_of line.now.command) }
     ensures did { (now : Moment) (held : Held) (exposed : Bool) (capacity : ℕ) (state : RunState) (files : Files) →

@@ -17,7 +17,7 @@ use simd_samples::{ByteLanes, Lanes, WordLanes, load_three, load_two, store_thre
 use std::marker::PhantomData;
 
 /// Writes to `dst` a row half as long as `up` and `down`, the row below it: each of its pixels is
-/// the mean of two neighbours of the one and the two below them, in each channel and rounded to
+/// the mean of two neighbors of the one and the two below them, in each channel and rounded to
 /// the nearest.
 pub fn row_average4(f: Format, up: &[u8], down: &[u8], dst: &mut [u8])
     requires whole { length dst.old % pixel_bytes f ≡ 0 }

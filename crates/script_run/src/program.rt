@@ -20,7 +20,18 @@ use std::thread::Threads;
 /// The status of words that are no command line.
 const WRONG_WORDS: u8 = 1;
 
-/// Runs the program's words, without the program's own name.
+/// Runs the program's words, without the program's own name, and returns its status:
+///
+/// - 0: every line was carried out.
+/// - 1: the words are no command line, and nothing was touched.
+/// - 2: a line is refused, and the last line of the text says which and why.
+/// - 3: a file couldn't be read; 4: one couldn't be written.
+/// - 5: the swap failed; 8: it is full.
+/// - 6: the text couldn't be put.
+/// - 7: memory ran out.
+///
+/// At 0 and 2 the files and the text are those of all lines that were carried out. At the others the first of them have
+/// come, and perhaps a prefix of the next.
 pub fn run<F: Shelf, D: SwapDisk, O: Sink, G: Gate + Sync, R: Threads + Sync>(
     threads: &R,
     alloc: Global,

@@ -22,13 +22,13 @@ pub fn text_is_line()
     ensures { (line : List ℕ) → IsTrue (is_text line) → IsTrue (is_line line) }
 {}
 
-/// Words that are separated by single spaces are read as they were.
+/// States that words that are separated by single spaces are read as they were.
 pub fn words_read_again()
     ensures { (words : List (List ℕ)) → IsTrue (list_all is_word words)
         → words_of (joined words) ≡ words }
 {}
 
-/// Words that are separated by single spaces have only text bytes.
+/// States that words that are separated by single spaces have only text bytes.
 pub fn joined_words_are_text()
     ensures { (words : List (List ℕ)) → IsTrue (list_all is_word words)
         → IsTrue (is_text (joined words)) }
@@ -39,7 +39,7 @@ pub fn words_of_text()
     ensures { (line : List ℕ) → IsTrue (is_text line) → IsTrue (list_all is_word (words_of line)) }
 {}
 
-/// Words that are separated by single spaces are as long as they are together, and a space more for
+/// States that words that are separated by single spaces are as long as they are together, and a space more for
 /// each but one.
 pub fn length_of_joined()
     ensures { (word : List ℕ) (words : List (List ℕ))

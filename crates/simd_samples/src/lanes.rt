@@ -185,7 +185,7 @@ pub trait Lanes: Copy {
         )
     }
 
-    /// Returns the lanes of two vectors by turns, as two vectors.
+    /// Returns the lanes of two vectors interleaved, as two vectors.
     #[inline(always)]
     fn interleave(self, other: Self) -> (Self, Self)
         ensures { (s : ℕ → ℕ) → Hold (lane self) (λ j. s (2 * j)) → Hold (lane other) (λ j. s (2 * j + 1))
@@ -212,7 +212,7 @@ pub trait Lanes: Copy {
         )
     }
 
-    /// Returns the lanes of three vectors by turns, as three vectors.
+    /// Returns the lanes of three vectors interleaved, as three vectors.
     #[inline(always)]
     fn join_thirds(self, second: Self, third: Self) -> (Self, Self, Self)
         ensures { (s : ℕ → ℕ) → Hold (lane self) (λ j. s (3 * j)) → Hold (lane second) (λ j. s (3 * j + 1)) → Hold (lane third) (λ j. s (3 * j + 2))

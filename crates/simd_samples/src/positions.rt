@@ -26,10 +26,10 @@ pub(crate) const EVENS: [usize; 16] = [0, 2, 4, 6, 8, 10, 12, 14, 16, 18, 20, 22
 /// The lanes with odd numbers, of both vectors.
 pub(crate) const ODDS: [usize; 16] = [1, 3, 5, 7, 9, 11, 13, 15, 17, 19, 21, 23, 25, 27, 29, 31];
 
-/// The lanes of two vectors by turns: the first sixteen.
+/// The lanes of two vectors interleaved: the first sixteen.
 pub(crate) const LOWS: [usize; 16] = [0, 16, 1, 17, 2, 18, 3, 19, 4, 20, 5, 21, 6, 22, 7, 23];
 
-/// The lanes of two vectors by turns: the second sixteen.
+/// The lanes of two vectors interleaved: the second sixteen.
 pub(crate) const HIGHS: [usize; 16] = [
     8, 24, 9, 25, 10, 26, 11, 27, 12, 28, 13, 29, 14, 30, 15, 31,
 ];
@@ -84,7 +84,7 @@ pub(crate) const THIRD_OF_LAST: [usize; 16] = [
     0, 1, 2, 3, 4, 5, 6, 7, 8, 9, 16, 19, 22, 25, 28, 31,
 ];
 
-/// The lanes of three vectors by turns, as far as they come from the first two: the first sixteen.
+/// The lanes of three vectors interleaved, as far as they come from the first two: the first sixteen.
 pub(crate) const FIRST_JOINED_BY_TWO: [usize; 16] = [
     0, 16, 0, 1, 17, 0, 2, 18, 0, 3, 19, 0, 4, 20, 0, 5,
 ];
@@ -94,7 +94,7 @@ pub(crate) const FIRST_JOINED_BY_LAST: [usize; 16] = [
     0, 1, 16, 3, 4, 17, 6, 7, 18, 9, 10, 19, 12, 13, 20, 15,
 ];
 
-/// The lanes of three vectors by turns, as far as they come from the first two: the second sixteen.
+/// The lanes of three vectors interleaved, as far as they come from the first two: the second sixteen.
 pub(crate) const SECOND_JOINED_BY_TWO: [usize; 16] = [
     21, 0, 6, 22, 0, 7, 23, 0, 8, 24, 0, 9, 25, 0, 10, 26,
 ];
@@ -104,7 +104,7 @@ pub(crate) const SECOND_JOINED_BY_LAST: [usize; 16] = [
     0, 21, 2, 3, 22, 5, 6, 23, 8, 9, 24, 11, 12, 25, 14, 15,
 ];
 
-/// The lanes of three vectors by turns, as far as they come from the first two: the third sixteen.
+/// The lanes of three vectors interleaved, as far as they come from the first two: the third sixteen.
 pub(crate) const THIRD_JOINED_BY_TWO: [usize; 16] = [
     0, 11, 27, 0, 12, 28, 0, 13, 29, 0, 14, 30, 0, 15, 31, 0,
 ];

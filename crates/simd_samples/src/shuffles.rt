@@ -23,9 +23,9 @@ pub enum ShuffleOfTwo {
     EvenFours,
     /// The fours of lanes with odd numbers.
     OddFours,
-    /// The lanes of both vectors by turns: the first sixteen.
+    /// The lanes of both vectors interleaved: the first sixteen.
     JoinedLow,
-    /// The lanes of both vectors by turns: the second sixteen.
+    /// The lanes of both vectors interleaved: the second sixteen.
     JoinedHigh,
 }
 
@@ -38,11 +38,11 @@ pub enum ShuffleOfThree {
     Seconds,
     /// Every third lane, from the third on.
     Thirds,
-    /// The lanes of the three vectors by turns: the first sixteen.
+    /// The lanes of the three vectors interleaved: the first sixteen.
     JoinedFirst,
-    /// The lanes of the three vectors by turns: the second sixteen.
+    /// The lanes of the three vectors interleaved: the second sixteen.
     JoinedSecond,
-    /// The lanes of the three vectors by turns: the third sixteen.
+    /// The lanes of the three vectors interleaved: the third sixteen.
     JoinedThird,
 }
 

@@ -44,7 +44,7 @@ impl Model for AheadTiles {
 }
 
 impl AheadTiles {
-    /// Returns the list of no tile, from the first needed one on. Takes no memory.
+    /// Returns an empty list, as it is before any batch. Takes no memory.
     pub fn new(alloc: Global) -> AheadTiles
         ensures { result ≡ [] }
     {
@@ -54,7 +54,7 @@ impl AheadTiles {
         }
     }
 
-    /// Takes the tile of a needed one at its turn, if it is the first of the list.
+    /// Takes the first tile of the list, if it is that of the needed one whose turn it is.
     pub(crate) fn take(&mut self, node: u32, at: TileAt) -> Option<Tile>
         ensures { IsTaken self.old self.new (node, at) result }
     {

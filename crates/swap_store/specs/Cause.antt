@@ -5,7 +5,7 @@ use Rattle.chain_owners.specs.Counts.{Counts, IsFullOver}
 use Rattle.swap_store.specs.declared.refusal.SwapRefused.{SwapRefused}
 use Rattle.swap_store.specs.declared.refusal.SwapRefused.TheVariants as refusals
 
--- Why a call that leaves so many names at most is refused: the swap's count of faults rose in it, or
+-- Why a call that leaves so many names at most is refused: the swap's count of I/O errors rose in it, or
 -- that many names can fill the store. It may run out of memory at any time.
 abbrev pub HasSwapCause : Counts → Counts → ℕ → SwapRefused → Type 0
 HasSwapCause old new names refusals.SwapFault = Rose old.faults new.faults

@@ -1,4 +1,4 @@
--- Where names lie on a disk.
+-- Where names are on a disk.
 use Rattle.std.specs.Prelude.{◌≡◌, ◌≢◌, ℕ, ◌+◌, ◌<◌, ◌≤◌, ◌^◌, ◌↔◌, List, OnErr, OnOk, Result, Some, length, refl, slice_index_or}
 use Rattle.std.specs.Coded.{Coded, code_by, coded×, coded_list, coded_ℕ}
 use Rattle.std.specs.FinMap as map
@@ -36,9 +36,9 @@ InExtent block extent = InBlocks block extent.first (blocks_for extent.len)
 abbrev pub IsUnnamed : Named Extent → ℕ → Type 0
 IsUnnamed extents block = (name : ℕ) (extent : Extent) → map.get extents name ≡ Some extent → ¬ InExtent block extent
 
--- What holds of where names lie, at every moment.
+-- What holds of where names are, at every moment.
 pub record IsPlacement (p : Placement) : Type 0 where
-  -- the free runs are in order, and neighbours are one run
+  -- the free runs are in order, and neighbors are one run
   pub runs : IsRunList 0 (2 ^ 20) p.free
   -- they have exactly the blocks of no name
   pub exact : (block : ℕ) → HasBlock p.free block ↔ ((block < p.used) × IsUnnamed p.extents block)

@@ -1,4 +1,4 @@
--- Runs of blocks that lie beside one another.
+-- Runs of blocks beside one another.
 use Rattle.std.specs.Prelude.{◌≡◌, ℕ, ◌+◌, ◌-◌, ◌<◌, ◌≤◌, List, [], ◌∷◌, Option, Some, length, slice_index_or, ◌⊎◌, find, nat_le}
 use Rattle.std.specs.Option.{option_map}
 use Rattle.chain_owners.specs.declared.run.Run.{Run}

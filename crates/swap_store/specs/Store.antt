@@ -13,7 +13,7 @@ use Rattle.swap_store.specs.Run.{IsFirstFit, blocks_for, longest}
 use Rattle.swap_store.specs.Content.{bytes_in, content_of, lengths_of}
 use Rattle.swap_store.specs.Placement.{Placement, PutsAtFirstFit, extent_at, placement_code}
 
--- where its names lie, and its disk
+-- where its names are, and its disk
 pub record StoreState (D : Type 0) : Type 0 where
   pub placement : Placement
   pub disk : D

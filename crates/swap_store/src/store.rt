@@ -52,7 +52,7 @@ impl StoreMemory {
     }
 }
 
-/// Keeps tiles under names in runs of blocks of a disk that it owns.
+/// Keeps tiles under names in runs of blocks of a disk that it owns. A clause sees it as its `placement` and `disk`.
 #[derive(Drop)]
 pub struct Store<D: SwapDisk> {
     map: BlockMap,
@@ -80,7 +80,7 @@ impl<D: SwapDisk> Model for Store<D> {
 
 impl<'s, D: SwapDisk> Store<Lent<'s, D>> {
     /// Returns a store without names, over the first `blocks` blocks of a disk, or all where it has
-    /// fewer. Who has to know the disk where that runs out of memory takes a `StoreMemory` first, and
+    /// fewer. A caller that must still know the disk where memory runs out takes a `StoreMemory` first, and
     /// then makes the store by `over`.
     pub fn new(alloc: Global, disk: &'s mut D, blocks: u32) -> Result<Store<Lent<'s, D>>, NoMemory>
         ensures used { IfOk result (λ store. store.placement.used ≡ min blocks (D.block_count disk.old)) }
@@ -93,8 +93,8 @@ impl<'s, D: SwapDisk> Store<Lent<'s, D>> {
 }
 
 impl<D: SwapDisk> Store<D> {
-    /// Returns a store over a disk, for which the memory was taken before. It can't fail, so who lends
-    /// the disk here knows it where the memory was refused.
+    /// Returns a store over a disk, for which the memory was taken before. It can't fail,
+    /// so the disk is lent only once all memory is there.
     pub fn over(memory: StoreMemory, disk: D) -> Store<D>
         requires { memory.used ≤ D.block_count disk }
         ensures placement { result.placement ≡ memory }
@@ -155,7 +155,7 @@ impl<D: SwapDisk> Store<D> {
     }
 
     /// Keeps the bytes of a tile under a name, in the lowest free run that is long enough for them.
-    /// After an error no name was changed, but blocks of no name may have other bytes.
+    /// After `SwapFault`, `SwapFull` or `NoMemory` no name was changed, but blocks of no name may have other bytes.
     pub fn put(&mut self, name: u64, tile: &Tile) -> Result<(), SwapRefused>
         requires { IsNone (map.get self.old.placement.extents name) }
         ensures { Keeps name tile.now result
@@ -169,7 +169,7 @@ impl<D: SwapDisk> Store<D> {
 
     /// Replaces the bytes of a name that is there. The new ones are written to the lowest free run that
     /// is long enough, beside the old ones, whose blocks become free then. After an error the name
-    /// has its old bytes, but blocks of no name may have other bytes.
+    /// has its old bytes, but blocks of no name may have other bytes. The errors are those of [`Store::put`].
     pub fn replace(&mut self, name: u64, tile: &Tile) -> Result<(), SwapRefused>
         requires { IsSome (map.get self.old.placement.extents name) }
         ensures { Keeps name tile.now result
@@ -181,7 +181,7 @@ impl<D: SwapDisk> Store<D> {
         Ok(())
     }
 
-    /// Reads the tile of a name, which has this many bytes.
+    /// Reads the tile of a name, which has this many bytes. `SwapFault` where the disk fails, `NoMemory` if memory runs out.
     pub fn get(&mut self, name: u64, len: u32) -> Result<Tile, SwapRefused>
         requires { map.get (lengths_of self.old.placement.extents) name ≡ Some len }
         ensures length { IfOk result (λ tile. length tile ≡ len) }

@@ -8,7 +8,7 @@ use std::alloc::Global;
 use swap_store::{Store, StoreMemory, SwapRefused};
 use tile_cow::Tile;
 
-/// Keeps a tile on a disk by a store of its own. It is refused as a fault only where the disk's count
+/// Keeps a tile on a disk by a store of its own. It is refused for an I/O error only where the disk's count
 /// rose. The count and the size of the disk are known whatever is answered, also where the store's own
 /// memory was refused.
 pub fn keep<D: SwapDisk>(alloc: Global, disk: &mut D, tile: &Tile) -> Result<(), SwapRefused>

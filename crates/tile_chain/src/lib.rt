@@ -1,4 +1,4 @@
-//! Chains of tiles with their handlers, and the tables of tiles that stand on them.
+//! Chains of tiles with their handlers, and the tables of tiles over them.
 #![tactic(auto)]
 
 pub use chain_contracts::{TileChain, TileHandler};

@@ -97,7 +97,7 @@ fn zero_tile<C: TileChain>(root: &Root, chain: &mut C) -> Result<Tile, SwapRefus
     Ok(chain.zero(TILE_PIXELS * root.format().pixel_bytes())?)
 }
 
-/// Returns a tile of the image of half an image's coordinates.
+/// Returns a tile of an image that is halved once.
 fn half_tile(alloc: Global, part: &Patch, at: TileAt) -> Result<Tile, NoMemory>
     ensures { IfOk result (λ tile. tile ≡ tile_bytes (halved_image part.now) at) }
 {
