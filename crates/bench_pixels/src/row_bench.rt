@@ -24,7 +24,7 @@ const FORMATS: [Format; 8] = [
     Format::RGBA16,
 ];
 
-/// The formats that differ where alpha does: three colors without it are as three greys.
+/// The formats that differ where alpha does: three colors without it are as three grays.
 const ALPHAS: [Format; 6] = [
     Format::Y8,
     Format::YA8,

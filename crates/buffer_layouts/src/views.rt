@@ -4,7 +4,7 @@ use pixel_formats::Format;
 use plane_rect::{Name, Rect};
 
 /// A root buffer: its name, its bounding box and its format.
-#[derive(Clone, Copy)]
+#[derive(Clone, Copy, Debug, PartialEq, Eq)]
 pub struct RootShape {
     pub name: Name,
     pub bounds: Rect,
@@ -12,7 +12,7 @@ pub struct RootShape {
 }
 
 /// What a buffer shows: a part of a root, which the root's bounding box contains.
-#[derive(Clone, Copy)]
+#[derive(Clone, Copy, Debug, PartialEq, Eq)]
 pub struct RootView {
     /// The number of the root among the roots, in the order in which they were added.
     pub root: usize,
@@ -26,7 +26,7 @@ pub struct RootView {
 
 /// What a copy reads and writes: a rectangle of a source, which the caller knows, and the same moved in a
 /// target.
-#[derive(Clone, Copy)]
+#[derive(Clone, Copy, Debug, PartialEq, Eq)]
 pub struct CopyParts {
     pub source: RootView,
     pub target: RootView,

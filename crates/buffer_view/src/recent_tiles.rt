@@ -11,7 +11,7 @@ use tile_cow::Tile;
 
 /// How many tiles are kept: the nine at most that a window of an operation on squares meets, of which the window of the
 /// next tile meets six, and as many more as that one adds.
-const MOST_TILES: usize = 12;
+const MAX_TILES: usize = 12;
 
 /// A tile that was given, of a buffer at a position.
 #[derive(Drop)]
@@ -60,7 +60,7 @@ impl RecentTiles {
         Some(&given.tile)
     }
 
-    /// Keeps a tile, and gives up the one that was kept first where there are `MOST_TILES`.
+    /// Keeps a tile, and gives up the one that was kept first where there are `MAX_TILES`.
     ///
     /// # Errors
     ///
@@ -73,7 +73,7 @@ impl RecentTiles {
         } else {
             self.tiles.push(given)?;
         }
-        self.next = self.next.wrapping_add(1) % MOST_TILES;
+        self.next = self.next.wrapping_add(1) % MAX_TILES;
         Ok(())
     }
 }

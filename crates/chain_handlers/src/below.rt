@@ -54,7 +54,7 @@ pub(crate) fn forget_where_there<H: TileHandler>(below: &mut H, name: u64)
 }
 
 /// Forgets below the names of these tiles, which are in memory. It looks at each of them.
-pub(crate) fn give_up_places<H: TileHandler>(below: &mut H, tiles: &LruCache<u64, Tile>)
+pub(crate) fn forget_below<H: TileHandler>(below: &mut H, tiles: &LruCache<u64, Tile>)
     ensures held { overlay tiles.now.entries (H.held below.new) ≡ overlay tiles.now.entries (H.held below.old) }
     ensures cached { IsCache tiles.now.entries tiles.now.cap (H.held below.old)
         → IsCache tiles.now.entries tiles.now.cap (H.held below.new) }

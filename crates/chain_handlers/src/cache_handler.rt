@@ -13,7 +13,7 @@ ghost use Rattle.chain_contracts.specs.Tiles.{OnFull, Reads, ReportsPut, emptied
 ghost use Rattle.chain_handlers.specs.CacheCalls.{CannotMove, MovesTiles};
 ghost use Rattle.chain_handlers.specs.Overlay.{IsCache, IsCrowded, cache_counts, cache_has_counts, cache_is_chain, overlay, overlay_has_same_names};
 
-use crate::below::{forget_where_there, give_up_places, put_where_missing};
+use crate::below::{forget_below, forget_where_there, put_where_missing};
 use chain_contracts::TileHandler;
 use chain_owners::ChainMeaning;
 use lru::LruCache;
@@ -86,7 +86,7 @@ impl<H: TileHandler + Drop> CacheHandler<H> {
 
     /// Evicts the tile that was used the longest time ago: puts it below, unless it is there, and takes it out of
     /// memory.
-    fn move_last_once(&mut self) -> Result<(), SwapRefused>
+    fn evict_once(&mut self) -> Result<(), SwapRefused>
         ensures moves { MovesTiles H.ChainMeaning self.old.tiles self.new.tiles self.old.below self.new.below }
         ensures refused { IfErr result (CannotMove H.ChainMeaning self.old.tiles self.old.below self.new.below) }
         ensures moved { OnOk result (length self.new.tiles.entries ≡ length self.old.tiles.entries - 1) }
@@ -104,16 +104,16 @@ impl<H: TileHandler + Drop> CacheHandler<H> {
     }
 
     /// Forgets below the names of all tiles in memory. It looks at each of them.
-    fn give_up_places(&mut self)
+    fn forget_below(&mut self)
         ensures moves { MovesTiles H.ChainMeaning self.old.tiles self.new.tiles self.old.below self.new.below }
         ensures tiles { self.new.tiles ≡ self.old.tiles }
     {
-        give_up_places(&mut self.below, &self.tiles);
+        forget_below(&mut self.below, &self.tiles);
     }
 
     /// Evicts the tile that was used the longest time ago: puts it below, unless it is there, and takes it out of
     /// memory. Where there is no room below, the names of all tiles in memory are first forgotten there.
-    fn move_last(&mut self) -> Result<(), SwapRefused>
+    fn evict(&mut self) -> Result<(), SwapRefused>
         ensures moves { MovesTiles H.ChainMeaning self.old.tiles self.new.tiles self.old.below self.new.below }
         ensures refused { IfErr result (CannotMove H.ChainMeaning self.old.tiles self.old.below self.new.below) }
         ensures moved { OnOk result (length self.new.tiles.entries ≡ length self.old.tiles.entries - 1) }
@@ -121,10 +121,10 @@ impl<H: TileHandler + Drop> CacheHandler<H> {
         ensures fewer { (k : ℕ) → lookup (nat_eq k) self.old.tiles.entries ≡ None
             → lookup (nat_eq k) self.new.tiles.entries ≡ None }
     {
-        match self.move_last_once() {
+        match self.evict_once() {
             Err(SwapRefused::SwapFull { .. }) => {
-                self.give_up_places();
-                self.move_last_once()
+                self.forget_below();
+                self.evict_once()
             }
             answer => answer,
         }
@@ -144,7 +144,7 @@ impl<H: TileHandler + Drop> CacheHandler<H> {
         if self.tiles.len() < self.tiles.cap().get() {
             return Ok(());
         }
-        self.move_last()
+        self.evict()
     }
 
     /// Keeps a tile in memory under a name, for which there is room, and nowhere else.
@@ -273,13 +273,13 @@ impl<H: TileHandler + Drop> CacheHandler<H> {
     }
 
     /// Puts all tiles below that are in memory, and takes them out of it.
-    fn move_all(&mut self) -> Result<(), SwapRefused>
+    fn evict_all(&mut self) -> Result<(), SwapRefused>
         ensures moves { MovesTiles H.ChainMeaning self.old.tiles self.new.tiles self.old.below self.new.below }
         ensures refused { IfErr result (CannotMove H.ChainMeaning self.old.tiles self.old.below self.new.below) }
         ensures empty { OnOk result (self.new.tiles.entries ≡ []) }
     {
         while !self.tiles.is_empty() {
-            self.move_last()?;
+            self.evict()?;
         }
         Ok(())
     }
@@ -325,7 +325,7 @@ impl<H: TileHandler + Drop> TileHandler for CacheHandler<H> {
     }
 
     fn flush(&mut self) -> Result<(), SwapRefused> {
-        self.move_all()?;
+        self.evict_all()?;
         self.below.flush()
     }
 }

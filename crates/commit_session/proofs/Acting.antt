@@ -42,25 +42,25 @@ pub on-error : {T E : Type 0} (r : Result T E) (P Q : Type 0) → (P → Q) → 
 on-error (Ok x) P Q to p = tt
 on-error (Err e) P Q to p = to p
 
--- ---- an edit of nodes that was noted, or was not
+-- ---- an edit of nodes that was added, or was not
 
-module _ {Op T E : Type 0} (r : Result T E) (old new : Parts Op) (pending : List (NodeEdit Op)) (noted : OnOk r (new ≡ record old { pending = pending })) (unchanged : OnErr r (new ≡ old)) where
-  noted-as : (P : Parts Op → Type 0) → P (record old { pending = pending }) → P old → P new
-  noted-as P first second = by r noted unchanged
+module _ {Op T E : Type 0} (r : Result T E) (old new : Parts Op) (pending : List (NodeEdit Op)) (added : OnOk r (new ≡ record old { pending = pending })) (unchanged : OnErr r (new ≡ old)) where
+  pending-as : (P : Parts Op → Type 0) → P (record old { pending = pending }) → P old → P new
+  pending-as P first second = by r added unchanged
     where
       by : (r : Result T E) → OnOk r (new ≡ record old { pending = pending }) → OnErr r (new ≡ old) → P new
       by (Ok x) is not = subst P (sym is) first
       by (Err e) is not = subst P (sym not) second
 
-  pub noted-states : HasSameStates old new
-  noted-states =
-      noted-as (λ (p : Parts Op). HasSameStates old p)
+  pub pending-states : HasSameStates old new
+  pending-states =
+      pending-as (λ (p : Parts Op). HasSameStates old p)
       (record { latest = refl; undoable = refl; redoable = refl; graph = refl; entries = refl; most = refl; capacity = refl; applied = refl; reused = refl })
       (record { latest = refl; undoable = refl; redoable = refl; graph = refl; entries = refl; most = refl; capacity = refl; applied = refl; reused = refl })
 
-  pub noted-left : (state : ChainState) → Leaves 0 (session_names old) (session_names new) state state
-  noted-left state =
-      noted-as (λ (p : Parts Op). Leaves 0 (session_names old) (session_names p) state state)
+  pub pending-left : (state : ChainState) → Leaves 0 (session_names old) (session_names new) state state
+  pending-left state =
+      pending-as (λ (p : Parts Op). Leaves 0 (session_names old) (session_names p) state state)
       (leaves-nothing (session_names old) state) (leaves-nothing (session_names old) state)
 
 -- ---- actions

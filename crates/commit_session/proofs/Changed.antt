@@ -29,7 +29,7 @@ use Rattle.commit_session.specs.Parts.{Parts, new_parts, session_names}
 use Rattle.commit_session.specs.Seen.{IsOver, IsSessionOf}
 use Rattle.commit_session.specs.Steps.{after_writing}
 use Rattle.commit_session.proofs.Cached.{alone-again, cache-again, cached-again, session-left, session-owned, sizes-again}
-use Rattle.commit_session.proofs.Working.{edit-number, session-edited, session-noted, session-shown, valid-edited, with_edited}
+use Rattle.commit_session.proofs.Working.{edit-number, session-edited, session-pending, session-shown, valid-edited, with_edited}
 use Rattle.model_sessions.proofs.Actions.{first_session}
 use Rattle.model_sessions.specs.Sessions.{new_session}
 
@@ -87,11 +87,11 @@ module _ {Op : Type 0} (same : Op → Op → Bool) (meanings : Meanings Op) wher
         → written ≡ after_writing v.written (written_by v.versions.working.layout edit)
         → (session : Session Table Op) → IsSessionOf same meanings now s0.held session
         → IsSessionOf same meanings (final written) s1.held (record session { history = after_step meanings session.history (EditBuffer edit) })
-    edited-now edit written made noted session of =
+    edited-now edit written made recorded session of =
         subst (λ (p : Parts Op). IsSessionOf same meanings p s1.held (record session { history = after_step meanings session.history (EditBuffer edit) })) (final-is written)
         (session-edited same meanings v edited.working s0.held s1.held tables-is bytes
         (sizes-again added (versions_names v.versions) (versions_names edited) s0 s1 leaves v.entries owned)
-        session (subst (λ (p : Parts Op). IsSessionOf same meanings p s0.held session) (sym is) of) edit written made noted)
+        session (subst (λ (p : Parts Op). IsSessionOf same meanings p s0.held session) (sym is) of) edit written made recorded)
 
     pub over-shown : AreShownAgain v.versions.working edited.working s0.held s1.held → IsOver same meanings (final v.written) s1.held
     over-shown again = record {
@@ -107,13 +107,13 @@ module _ {Op : Type 0} (same : Op → Op → Bool) (meanings : Meanings Op) wher
     pub over-edited : KeepsLaws meanings → IsBoxed meanings → Distinguishes same → (edit : BufferEdit) (written : Rectangles) → IsProperEdit edit
         → IsEdited edit v.versions.working edited.working s0.held s1.held
         → written ≡ after_writing v.written (written_by v.versions.working.layout edit) → IsOver same meanings (final written) s1.held
-    over-edited laws boxed apart edit written proper made noted = record {
+    over-edited laws boxed apart edit written proper made recorded = record {
       owned = session-owned added (versions_names v.versions) (versions_names edited) s0 s1 leaves v.entries owned;
       alone = alone-again added (versions_names v.versions) (versions_names edited) s0 s1 leaves v.entries owned over.alone;
       over = versions.over;
       cache = cache-again added (versions_names v.versions) (versions_names edited) s0 s1 leaves v.entries owned v.most v.capacity over.cache;
       session = record requires.session { history = after_step meanings requires.session.history (EditBuffer edit) };
-      is = edited-now edit written made noted requires.session requires.is;
+      is = edited-now edit written made recorded requires.session requires.is;
       valid =
           valid-edited same meanings laws boxed apart v.capacity requires.session (EditBuffer edit)
           (subst (λ (p : Parts Op). IsSession meanings p.capacity requires.session) (sym is) requires.valid) proper
@@ -123,15 +123,15 @@ module _ {Op : Type 0} (same : Op → Op → Bool) (meanings : Meanings Op) wher
 
   -- ---- a node's edit
 
-  pub over-noted : KeepsLaws meanings → IsBoxed meanings → Distinguishes same → (parts : Parts Op) (edit : NodeEdit Op) (held : Held) → IsOver same meanings parts held
+  pub over-pending : KeepsLaws meanings → IsBoxed meanings → Distinguishes same → (parts : Parts Op) (edit : NodeEdit Op) (held : Held) → IsOver same meanings parts held
       → IsOver same meanings (record parts { pending = parts.pending ++ edit ∷ [] }) held
-  over-noted laws boxed apart parts edit held over = record {
+  over-pending laws boxed apart parts edit held over = record {
     owned = over.owned;
     alone = over.alone;
     over = over.over;
     cache = over.cache;
     session = record over.session { history = after_step meanings over.session.history (EditNode edit) };
-    is = session-noted same meanings parts edit held over.session over.is;
+    is = session-pending same meanings parts edit held over.session over.is;
     valid = valid-edited same meanings laws boxed apart parts.capacity over.session (EditNode edit) over.valid tt refl;
   }
 
@@ -187,9 +187,9 @@ written-still layout (Fill name r samples) = refl
 written-still layout (Put name r raw) = refl
 written-still layout (Copy from to r dx dy) = refl
 
-pub noted-is : (edit : BufferEdit) (before after : BufferTable) (shown : BufferTable) (old new : Held) (written noted : Rectangles) → IsEdited edit before after old new → shown ≡ after
-    → noted ≡ after_writing written (written_by shown.layout edit) → noted ≡ after_writing written (written_by before.layout edit)
-noted-is edit before after shown old new written noted made same is =
+pub recorded-is : (edit : BufferEdit) (before after : BufferTable) (shown : BufferTable) (old new : Held) (written recorded : Rectangles) → IsEdited edit before after old new → shown ≡ after
+    → recorded ≡ after_writing written (written_by shown.layout edit) → recorded ≡ after_writing written (written_by before.layout edit)
+recorded-is edit before after shown old new written recorded made same is =
     is ∙ ap (λ (b : BufferTable). after_writing written (written_by b.layout edit)) same
     ∙ ap (λ (l : TableLayout). after_writing written (written_by l edit)) made.layout
     ∙ ap (after_writing written) (written-still before.layout edit)

@@ -18,7 +18,7 @@ use Rattle.session_states.specs.Versions.{Versions}
 use Rattle.commit_session.specs.Parts.{Parts, session_names}
 use Rattle.commit_session.specs.Seen.{IsOver, IsSessionOf}
 use Rattle.commit_session.specs.Steps.{after_writing}
-use Rattle.commit_session.proofs.Changed.{edited-now, final-left, noted-is, over-edited, over-shown, shown-again}
+use Rattle.commit_session.proofs.Changed.{edited-now, final-left, recorded-is, over-edited, over-shown, shown-again}
 use Rattle.commit_session.proofs.Kept.{IsKept}
 
 -- room for one rectangle more changes none
@@ -46,12 +46,12 @@ module _ {Op : Type 0} (same : Op → Op → Bool) (meanings : Meanings Op) wher
       left = final-left same meanings v now is s0 s1 requires (tiles_added edit) edited states leaves tables versions v.written;
     }
 
-    -- what was written is noted by the buffers as the edit shows them
+    -- what was written is recorded by the buffers as the edit shows them
     pub made : KeepsLaws meanings → IsBoxed meanings → Distinguishes same → (shown : BufferTable) (written : Rectangles) → IsProperEdit edit
         → IsEdited edit v.versions.working edited.working s0.held s1.held → shown ≡ edited.working
         → written ≡ after_writing v.written (written_by shown.layout edit) → IsMade edit now (record v { versions = edited; written = written }) s0 s1
-    made laws boxed apart shown written proper done shown_is noted =
-        let by_old = noted-is edit v.versions.working edited.working shown s0.held s1.held v.written written done shown_is noted in
+    made laws boxed apart shown written proper done shown_is recorded =
+        let by_old = recorded-is edit v.versions.working edited.working shown s0.held s1.held v.written written done shown_is recorded in
         record {
           session = edited-now same meanings v now is s0 s1 requires (tiles_added edit) edited states leaves tables versions edit written done by_old;
           over = over-edited same meanings v now is s0 s1 requires (tiles_added edit) edited states leaves tables versions laws boxed apart edit written proper done by_old;

@@ -136,7 +136,7 @@ module _ {Op : Type 0} (same : Op → Op → Bool) (meanings : Meanings Op) (par
   pub session-edited : (edit : BufferEdit) (written : Rectangles) → IsEdited edit parts.versions.working edited old new
       → written ≡ after_writing parts.written (written_by parts.versions.working.layout edit)
       → IsSessionOf same meanings (with_edited same meanings parts edited written old new) new (record session { history = after_step meanings session.history (EditBuffer edit) })
-  session-edited edit written made noted =
+  session-edited edit written made recorded =
       let space = session.history.workspace in
       let table = space.working in
       let none : edit_refused (layout_of table) edit ≡ None = ap (λ (l : TableLayout). edit_refused l edit) is.working.layout ∙ made.carried_out in
@@ -146,7 +146,7 @@ module _ {Op : Type 0} (same : Op → Op → Bool) (meanings : Meanings Op) (par
         working = subst (λ (t : Table). AreOfTable edited new t) (sym after.working) (table-edited edit parts.versions.working edited old new table made is.working);
         pending = after.pending ∙ is.pending;
         written = after.written ∙ ap (λ (w : Rectangles). after_writing w (written_by (layout_of table) edit)) is.written
-            ∙ ap (λ (l : TableLayout). after_writing parts.written (written_by l edit)) is.working.layout ∙ sym noted;
+            ∙ ap (λ (l : TableLayout). after_writing parts.written (written_by l edit)) is.working.layout ∙ sym recorded;
         retained = subst (λ (r : Retained (State Table Op) Rectangles). AreRetained same meanings (with_edited same meanings parts edited written old new) new r) (sym after.retained)
             (retained-again same meanings parts edited written old new tables session is.retained);
         cached = are-cached-again parts.entries old new bytes sizes session.cached.list is.cached;
@@ -155,10 +155,10 @@ module _ {Op : Type 0} (same : Op → Op → Bool) (meanings : Meanings Op) (par
       }
 
 -- a node's edit is pending after the others
-pub session-noted : {Op : Type 0} (same : Op → Op → Bool) (meanings : Meanings Op) (parts : Parts Op) (edit : NodeEdit Op) (held : Held) (session : Session Table Op)
+pub session-pending : {Op : Type 0} (same : Op → Op → Bool) (meanings : Meanings Op) (parts : Parts Op) (edit : NodeEdit Op) (held : Held) (session : Session Table Op)
     → IsSessionOf same meanings parts held session
     → IsSessionOf same meanings (record parts { pending = parts.pending ++ edit ∷ [] }) held (record session { history = after_step meanings session.history (EditNode edit) })
-session-noted {Op} same meanings parts edit held session is = record {
+session-pending {Op} same meanings parts edit held session is = record {
   working = is.working;
   pending = ap (λ (es : List (NodeEdit Op)). es ++ edit ∷ []) is.pending;
   written = is.written;

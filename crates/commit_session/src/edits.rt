@@ -22,7 +22,7 @@ ghost use Rattle.commit_session.specs.Parts.{session_names};
 
 use crate::refused::SessionRefused;
 use crate::state::SessionState;
-use crate::written::note_written;
+use crate::written::record_written;
 use chain_contracts::TileChain;
 use model_buffers::BufferEdit;
 use model_graphs::{NodeEdit, OpMeaning};
@@ -68,7 +68,7 @@ impl<Op: OpMeaning + Drop> SessionState<Op> {
     {
         self.written.reserve(1)?;
         self.versions.edit(chain, edit, workers)?;
-        note_written(&mut self.written, self.versions.working(), edit);
+        record_written(&mut self.written, self.versions.working(), edit);
         Ok(())
     }
 
@@ -77,8 +77,8 @@ impl<Op: OpMeaning + Drop> SessionState<Op> {
     /// # Errors
     ///
     /// `NoMemory` if memory runs out: the session is unchanged.
-    pub fn note(&mut self, edit: NodeEdit<Op>) -> Result<(), SessionRefused>
-        ensures noted { OnOk result (self.new ≡ record self.old { pending = self.old.pending ++ edit ∷ [] }) }
+    pub fn add_pending(&mut self, edit: NodeEdit<Op>) -> Result<(), SessionRefused>
+        ensures added { OnOk result (self.new ≡ record self.old { pending = self.old.pending ++ edit ∷ [] }) }
         ensures unchanged { OnErr result (self.new ≡ self.old) }
         ensures cause { IfErr result (λ refused. refused ≡ NoMemory) }
         ensures session { (held : Held) (session : Session Table Op) → IsSessionOf Op.same Op.meanings self.old held session →

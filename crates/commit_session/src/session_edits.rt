@@ -62,7 +62,7 @@ impl<K: OpKit, C: TileChain> OwnedSession<K, C> {
                 let workers = Workers::new(threads, self.workers);
                 self.state.edit(&mut self.chain, &edit, workers)
             }
-            EditPart::Node(edit) => self.state.note(edit),
+            EditPart::Node(edit) => self.state.add_pending(edit),
         }
     }
 

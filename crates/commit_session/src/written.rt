@@ -27,36 +27,17 @@ fn target_of(edit: &BufferEdit) -> Option<Target>
         ≡ option_and_then (λ target. on_root layout target.buffer (Ok target.rect)) result }
 {
     match edit {
-        BufferEdit::Create {
-            name: _,
-            format: _,
-            extent: _,
-        }
-        | BufferEdit::Sub {
-            name: _,
-            parent: _,
-            rect: _,
-        }
-        | BufferEdit::Duplicate { name: _, from: _ } => None,
-        BufferEdit::Fill {
-            name,
-            rect,
-            samples: _,
-        }
-        | BufferEdit::Put {
-            name,
-            rect,
-            bytes: _,
-        } => Some(Target {
+        BufferEdit::Create { .. } | BufferEdit::Sub { .. } | BufferEdit::Duplicate { .. } => None,
+        BufferEdit::Fill { name, rect, .. } | BufferEdit::Put { name, rect, .. } => Some(Target {
             buffer: *name,
             rect: *rect,
         }),
         BufferEdit::Copy {
-            from: _,
             to,
             rect,
             dx,
             dy,
+            ..
         } => match rect.shift(*dx, *dy) {
             Ok(moved) => Some(Target {
                 buffer: *to,
@@ -69,18 +50,18 @@ fn target_of(edit: &BufferEdit) -> Option<Target>
 
 /// Records the rectangle of a root that an edit of these buffers wrote, where it wrote one. There is room for one
 /// more.
-pub(crate) fn note_written(written: &mut Vec<Edited>, buffers: &Buffers, edit: &BufferEdit)
+pub(crate) fn record_written(written: &mut Vec<Edited>, buffers: &Buffers, edit: &BufferEdit)
     requires { vec_len written.old < vec_capacity written.old }
     ensures { rectangles_of written.new.items
         ≡ after_writing (rectangles_of written.old.items) (written_by buffers.now.layout edit.now) }
 {
     if let Some(target) = target_of(edit) {
-        note_target(written, buffers, target);
+        record_target(written, buffers, target);
     }
 }
 
 /// Records the rectangle of a root that a rectangle of one of these buffers is. There is room for one more.
-fn note_target(written: &mut Vec<Edited>, buffers: &Buffers, target: Target)
+fn record_target(written: &mut Vec<Edited>, buffers: &Buffers, target: Target)
     requires { vec_len written.old < vec_capacity written.old }
     ensures { rectangles_of written.new.items
         ≡ after_writing (rectangles_of written.old.items) (on_root buffers.now.layout target.buffer (Ok target.rect)) }

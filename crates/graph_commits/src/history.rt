@@ -18,7 +18,7 @@ use std::marker::Model;
 use std::mem;
 
 /// The largest number of states that can be undone to, or redone to.
-const MAX_UNDOABLE: usize = 64;
+pub const MAX_UNDOABLE: usize = 64;
 
 /// A state, and what separates it from another one. A clause sees it as these two.
 #[derive(Drop)]

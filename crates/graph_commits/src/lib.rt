@@ -20,4 +20,5 @@ pub use damage_list::DamageList;
 pub use direction::Direction;
 pub use graph::{Damage, Graph};
 pub use graph_edits::GraphRefused;
+pub use history::MAX_UNDOABLE;
 pub use state::GraphState;

@@ -18,12 +18,10 @@ use model_graphs::{Body, BufferFact, NodeEdit, NodeFact, NodeSpec};
 use model_states::StateRefused;
 use no_memory::NoMemory;
 use op_contracts::OpKit;
+use pixel_formats::limits::MAX_NODES;
 use plane_rect::Name;
 use std::alloc::Global;
 use std::marker::Model;
-
-/// The largest number of nodes.
-const MAX_NODES: usize = 256;
 
 /// Nodes while they are edited, with the index of their names. A clause sees them as their list.
 #[derive(Drop)]

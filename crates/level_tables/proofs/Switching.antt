@@ -11,8 +11,9 @@ use Rattle.chain_owners.specs.Held.{Held, bytes_of, disowned, length_of}
 use Rattle.chain_owners.specs.Owners.{Owns, Respects, Unchanged, times}
 use Rattle.chain_owners.proofs.Ownership.{disowned-respects, others-own, others-unchanged, owns-fewer, respects-beside, respects-both, respects-same, times-append, times-here}
 use Rattle.model_images.specs.Tiles.{AreTileBytes}
+use Rattle.pixel_formats.specs.Limits.{max_level}
 use Rattle.level_tables.specs.LevelTiles.{LevelTiles, bytes_in, names, position_with, positions, tile_with}
-use Rattle.level_tables.specs.Over.{IsOver, IsTileName, max_level}
+use Rattle.level_tables.specs.Over.{IsOver, IsTileName}
 use Rattle.level_tables.specs.Steps.{State, Switches, VoidsAbove, state}
 use Rattle.level_tables.proofs.Entries.{keys-inserted}
 use Rattle.level_tables.proofs.Frames.{bytes-beside, over-beside, put-named}

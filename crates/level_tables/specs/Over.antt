@@ -4,6 +4,7 @@ use Rattle.std.specs.List.{IsDistinct}
 use Rattle.std.specs.Map.{keys_of}
 use Rattle.plane_rect.specs.Tile.{IsWhole, Tile}
 use Rattle.pixel_formats.specs.Format.{pixel_bytes}
+use Rattle.pixel_formats.specs.Limits.{max_level}
 use Rattle.pixel_formats.specs.declared.format.Format.{Format}
 use Rattle.chain_owners.specs.Held.{Held, bytes_of, length_of}
 use Rattle.chain_owners.specs.Owners.{Owns, times}
@@ -13,10 +14,6 @@ use Rattle.model_images.specs.Raw.{tile_bytes}
 use Rattle.model_images.specs.Tiles.{AreTileBytes}
 use Rattle.level_tables.specs.LevelTiles.{LevelTiles, image_of, names, positions, same_level_tile}
 use Rattle.level_tables.specs.declared.level_tile.LevelTile.{LevelTile}
-
--- the largest level
-abbrev pub max_level : ℕ
-max_level = 8
 
 -- how many bytes a tile has
 abbrev pub tile_length : Format → ℕ

@@ -82,7 +82,7 @@ impl NewTiles {
         ensures format { self.new.format ≡ self.old.format }
         ensures entries { self.new.entries ≡ self.old.entries ++ (at, name) ∷ [] }
     {
-        let _pushed = self.entries.push((at, name)).is_ok();
+        self.entries.push_reserved((at, name));
     }
 
     /// Adds a tile for a position, under a name of its own. After an error the tiles, the names and their

@@ -4,10 +4,11 @@ ghost use Rattle.std.specs.Prelude.{◌≡◌, ℕ, ◌+◌, ◌-◌, ◌≤◌,
 ghost use Rattle.std.specs.Map.{lookup};
 ghost use Rattle.chain_owners.specs.{Counts.Grows, Owners.Respects};
 ghost use Rattle.tile_cow.specs.Tile.{IsTileLength};
+ghost use Rattle.pixel_formats.specs.Limits.{max_level};
 ghost use Rattle.model_images.specs.TileCounts.{level_tiles};
 ghost use Rattle.swap_store.specs.Cause.{HasSwapCause};
 ghost use Rattle.level_tables.specs.LevelTiles.{hull_of, image_of, names, positions, same_level_tile};
-ghost use Rattle.level_tables.specs.Over.{IsOver, IsTileOfLevel, max_level, tile_length};
+ghost use Rattle.level_tables.specs.Over.{IsOver, IsTileOfLevel, tile_length};
 ghost use Rattle.level_tables.specs.Steps.{HoldsMore, names_with_levels, state};
 ghost use Rattle.level_tables.specs.Found.{AreFound, Finds, HasNoneBelow, IsHeldTile, IsInHalf, name_in};
 

@@ -3,12 +3,12 @@ use Rattle.std.proofs.Common.{◌≡◌, ◌≢◌, ℕ, zero, suc, ◌<◌, tru
 use Rattle.std.proofs.lemmas.Bool.Decides.{nat_tests}
 use Rattle.plane_rect.specs.Rectangle.{Includes, Inside, Rectangle}
 use Rattle.pixel_formats.specs.declared.format.Format.{Format}
-use Rattle.model_images.specs.Agreement.{AgreeOutside}
+use Rattle.model_images.specs.Agreement.{AgreeOutside, AgreeOver}
 use Rattle.model_images.specs.Image.{Image, at}
 use Rattle.model_images.proofs.Laws.{at_outside}
 use Rattle.model_images.proofs.Positions.{by_positions}
 use Rattle.model_graphs.specs.Changes.{HaveEqualShapes, ChangedWithin, input_image}
-use Rattle.model_graphs.specs.Laws.{AgreeInside, IsDual, IsLocal, unit_rectangle}
+use Rattle.model_graphs.specs.Laws.{IsDual, IsLocal, unit_rectangle}
 use Rattle.model_graphs.specs.Meanings.{Meanings, boxes_of, result_box, result_format, result_of}
 
 -- ---- positions
@@ -26,7 +26,7 @@ position_only u v r inside = λ u' v' h.
 
 -- images of an operation agree at a place of which the inputs agree in what it requires
 pub results_agree : {Op : Type 0} (meanings : Meanings Op) (operation : Op) (a b : List Image) (u v c : ℕ) → IsLocal meanings → HaveEqualShapes a b →
-    (Inside u v (result_box meanings operation (boxes_of a)) → (i : ℕ) → i < length a → AgreeInside (input_image a i) (input_image b i) (meanings.required operation (boxes_of a) i (unit_rectangle u v))) →
+    (Inside u v (result_box meanings operation (boxes_of a)) → (i : ℕ) → i < length a → AgreeOver (input_image a i) (input_image b i) (meanings.required operation (boxes_of a) i (unit_rectangle u v))) →
     at (result_of meanings operation a) u v c ≡ at (result_of meanings operation b) u v c
 results_agree meanings operation a b u v c local equal agree =
     let box = result_box meanings operation (boxes_of a) in
@@ -42,7 +42,7 @@ results_agree meanings operation a b u v c local equal agree =
 module _ {Op : Type 0} (meanings : Meanings Op) (local : IsLocal meanings) (dual : IsDual meanings)
     (operation : Op) (i : ℕ) (r : Rectangle) (before after : List Image) (changed : ChangedWithin i r before after) where
   unreached : (u v : ℕ) → ¬ Inside u v (meanings.invalidated operation (boxes_of before) i r) → Inside u v (result_box meanings operation (boxes_of before)) →
-      (j : ℕ) → j < length before → AgreeInside (input_image before j) (input_image after j) (meanings.required operation (boxes_of before) j (unit_rectangle u v))
+      (j : ℕ) → j < length before → AgreeOver (input_image before j) (input_image after j) (meanings.required operation (boxes_of before) j (unit_rectangle u v))
   unreached u v out inside j less s t k read =
       elim (eqb j i) as (λ b. eqb j i ≡ b → at (input_image before j) s t k ≡ at (input_image after j) s t k) [
         | true ↦ λ same.

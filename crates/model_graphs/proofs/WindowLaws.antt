@@ -15,7 +15,8 @@ use Rattle.model_images.proofs.HeldTiles.{pixel-held}
 use Rattle.model_images.proofs.Laws.{at-image_from_fn, at_outside}
 use Rattle.model_images.proofs.Positions.{by_positions}
 use Rattle.model_images.proofs.RawLaws.{raw-samples}
-use Rattle.model_graphs.specs.Laws.{AgreeInside, IsLocal}
+use Rattle.model_images.specs.Agreement.{AgreeOver}
+use Rattle.model_graphs.specs.Laws.{IsLocal}
 use Rattle.model_graphs.specs.Meanings.{Meanings, boxes_of, formats_of, result_box, result_of}
 use Rattle.model_graphs.specs.Windows.{AreWindowsOf, IsWholeWindow, IsWindowOf, Window, tiles_of, window_image}
 
@@ -36,7 +37,7 @@ module _ (image : Image) (held : HeldTiles) (need : Rectangle) (complete : (tile
       ∙ raw-samples image (tile_square tile) u v c there known
   pixel-shown u v c inside known None none e = grind (arith, none)
 
-  pub held-shows : AgreeInside shown image need
+  pub held-shows : AgreeOver shown image need
   held-shows u v c there =
       by_positions (at shown u v c ≡ at image u v c) u v image.box
       (λ inside. at-by_channels shown image u v c refl
@@ -44,7 +45,7 @@ module _ (image : Image) (held : HeldTiles) (need : Rectangle) (complete : (tile
       (λ outside. at_outside shown u v c outside ∙ sym (at_outside image u v c outside))
 
 -- over its need, a whole window shows the image that it is of
-pub window-shows : (image : Image) (window : Window) → IsWindowOf image window → IsWholeWindow window → AgreeInside (window_image window) image window.need
+pub window-shows : (image : Image) (window : Window) → IsWindowOf image window → IsWholeWindow window → AgreeOver (window_image window) image window.need
 window-shows image window is whole =
     rw (is.bounds, is.format) (held-shows image (tiles_of window) window.need whole.complete is.tiles)
 
@@ -95,7 +96,7 @@ numbered (image ∷ images) (window ∷ windows) (suc i) count below =
 
 pub windows-give : {Op : Type 0} (meanings : Meanings Op) (operation : Op) (images : List Image) (windows : List Window) (part : Rectangle) → IsLocal meanings
     → Includes (result_box meanings operation (boxes_of images)) part → AreWindowsOf meanings operation images windows part
-    → AgreeInside (result_of meanings operation (map window_image windows)) (result_of meanings operation images) part
+    → AgreeOver (result_of meanings operation (map window_image windows)) (result_of meanings operation images) part
 windows-give meanings operation images windows part local inside are =
     let theirs : AreTheirs images windows = λ i image window e f. (are.each i image window e f).0 in
     let boxes : boxes_of (map window_image windows) ≡ boxes_of images = all_alike (λ (image : Image). image.box) (λ image window is. is.bounds) images windows are.count theirs in

@@ -1,7 +1,8 @@
 -- The laws that the meanings of operations keep.
 use Rattle.std.specs.Prelude.{◌≡◌, ℕ, ◌<◌, Bool, true, List, length, slice_index_or}
 use Rattle.plane_rect.specs.Rectangle.{Rectangle, Inside, Includes, AreDisjoint, empty, is_empty}
-use Rattle.model_images.specs.Image.{Image, at}
+use Rattle.model_images.specs.Agreement.{AgreeOver}
+use Rattle.model_images.specs.Image.{Image}
 use Rattle.model_images.specs.Paint.{no_image}
 use Rattle.model_graphs.specs.Meanings.{Meanings, boxes_of, formats_of, result_box, result_of}
 
@@ -9,16 +10,12 @@ use Rattle.model_graphs.specs.Meanings.{Meanings, boxes_of, formats_of, result_b
 abbrev pub unit_rectangle : ℕ → ℕ → Rectangle
 unit_rectangle u v = record { first_column = u; first_row = v; width = 1; height = 1 }
 
--- two images have the same samples at each position of a rectangle
-abbrev pub AgreeInside : Image → Image → Rectangle → Type 0
-AgreeInside a b r = (u v c : ℕ) → Inside u v r → at a u v c ≡ at b u v c
-
 -- the images of inputs have one box and one format, and agree where a part of the output requires them
 pub record AgreeWhereRequired {Op : Type 0} (meanings : Meanings Op) (operation : Op) (a b : List Image) (part : Rectangle) : Type 0 where
   pub boxes : boxes_of a ≡ boxes_of b
   pub formats : formats_of a ≡ formats_of b
   pub samples : (i : ℕ) → i < length a →
-      AgreeInside (slice_index_or a i no_image) (slice_index_or b i no_image) (meanings.required operation (boxes_of a) i part)
+      AgreeOver (slice_index_or a i no_image) (slice_index_or b i no_image) (meanings.required operation (boxes_of a) i part)
 
 -- The samples of a part of the box depend only on what it requires.
 abbrev pub IsLocal : {Op : Type 0} → Meanings Op → Type 0
@@ -26,7 +23,7 @@ IsLocal {Op} meanings =
     (operation : Op) (a b : List Image) (part : Rectangle) →
     Includes (result_box meanings operation (boxes_of a)) part →
     AgreeWhereRequired meanings operation a b part →
-    AgreeInside (result_of meanings operation a) (result_of meanings operation b) part
+    AgreeOver (result_of meanings operation a) (result_of meanings operation b) part
 
 -- A position of the box that is not invalidated by a change requires no position that changed.
 abbrev pub IsDual : {Op : Type 0} → Meanings Op → Type 0

@@ -5,7 +5,7 @@ use plane_rect::{Name, Rect};
 
 /// What a graph knows of a buffer: its name, the root buffer that it is a view on, its bounding box
 /// and its format.
-#[derive(Clone, Copy)]
+#[derive(Clone, Copy, Debug, PartialEq, Eq)]
 pub struct BufferFact {
     pub name: Name,
     pub root: Name,
@@ -14,7 +14,7 @@ pub struct BufferFact {
 }
 
 /// A rectangle of a root buffer that was written.
-#[derive(Clone, Copy)]
+#[derive(Clone, Copy, Debug, PartialEq, Eq)]
 pub struct Edited {
     pub root: Name,
     pub rect: Rect,

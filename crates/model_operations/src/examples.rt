@@ -23,7 +23,7 @@ pub fn conversions()
     ensures gray { whole (IntOp.Convert Format.Y8)
         (row_image Format.RGB8 (pos 0) 1 (10 ∷ 20 ∷ 31 ∷ []) ∷ [])
         ≡ 20 ∷ [] }
-    ensures coloured { whole (IntOp.Convert Format.RGBA8)
+    ensures colored { whole (IntOp.Convert Format.RGBA8)
         (row_image Format.YA8 (pos 0) 1 (7 ∷ 9 ∷ []) ∷ [])
         ≡ 7 ∷ 7 ∷ 7 ∷ 9 ∷ [] }
     ensures alpha_dropped { whole (IntOp.Convert Format.Y8)

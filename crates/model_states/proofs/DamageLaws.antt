@@ -6,7 +6,7 @@ use Rattle.std.proofs.lemmas.List.{length-map, get_or-map}
 use Rattle.plane_rect.specs.Rectangle.{Rectangle, Inside, Includes}
 use Rattle.plane_rect.proofs.RectangleLaws.{Includes-hull_left, Includes-hull_right}
 use Rattle.model_images.specs.Image.{Image, at}
-use Rattle.model_images.specs.Agreement.{AgreeOutside}
+use Rattle.model_images.specs.Agreement.{AgreeOutside, AgreeOver}
 use Rattle.model_images.specs.Paint.{no_image}
 use Rattle.model_graphs.specs.Evaluation.{Buffers, buffer_image}
 use Rattle.model_graphs.specs.Meanings.{Meanings, result_of, result_box, result_format, boxes_of, formats_of}
@@ -15,7 +15,7 @@ use Rattle.model_states.specs.Regions.{hull_of}
 use Rattle.model_states.specs.Neighbors.{AgreeOutsideRoots, SamplesAgreeOutside}
 use Rattle.model_graphs.specs.declared.buffer.BufferFact.{BufferFact}
 use Rattle.model_graphs.specs.Facts.{Facts, fact_of, root_of}
-use Rattle.model_graphs.specs.Laws.{unit_rectangle, AgreeInside, KeepsLaws}
+use Rattle.model_graphs.specs.Laws.{unit_rectangle, KeepsLaws}
 use Rattle.model_graphs.proofs.ChangeLaws.{results_agree}
 
 -- ---- buffers
@@ -70,7 +70,7 @@ module _ {Op : Type 0} (meanings : Meanings Op) (operation : Op) (inputs : List 
   invalidated = hull_of (map invalidated_by (enumerate_from 0 inputs))
 
   samples_required : (u v : ℕ) → ¬ Inside u v invalidated → Inside u v (result_box meanings operation (boxes_of before)) →
-      (i : ℕ) → i < length before → AgreeInside (get_or before i no_image) (get_or after i no_image) (meanings.required operation (boxes_of before) i (unit_rectangle u v))
+      (i : ℕ) → i < length before → AgreeOver (get_or before i no_image) (get_or after i no_image) (meanings.required operation (boxes_of before) i (unit_rectangle u v))
   samples_required u v out inside i less = λ u' v' c' read.
       let below : i < length inputs = omega (arith, length-map inputs first) in
       let name = get_or inputs i [] in

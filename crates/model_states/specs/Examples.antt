@@ -27,8 +27,8 @@ first_box [] = empty
 first_box (box ∷ boxes) = box
 
 -- operations of which each sample depends on so many positions on each side: their regions, no values
-abbrev pub neighbourhoods : Meanings ℕ
-neighbourhoods =
+abbrev pub neighborhoods : Meanings ℕ
+neighborhoods =
     record {
       input_count = λ by. 1;
       format = λ by formats. first_format formats;
@@ -55,16 +55,16 @@ two_nodes =
     ∷ []
 
 abbrev pub two_node_facts : ℕ → List (NodeFact ℕ)
-two_node_facts side = stated neighbourhoods (shapes_of_facts (square_buffer side)) two_nodes
+two_node_facts side = stated neighborhoods (shapes_of_facts (square_buffer side)) two_nodes
 
 -- the damage of the second node where one pixel of the buffer of 128 by 128 is written
 abbrev pub damage_by : Rectangle → List ℕ → Rectangle
 damage_by written =
-    damage (λ a b. a == b) neighbourhoods (samples_change neighbourhoods (square_buffer 128) two_nodes ((codes "a", written) ∷ []))
+    damage (λ a b. a == b) neighborhoods (samples_change neighborhoods (square_buffer 128) two_nodes ((codes "a", written) ∷ []))
 
 -- what a render of the square's 128 by 128 pixels looks up
 abbrev pub square_pairs : List Pair
-square_pairs = needed_pairs two_nodes (need neighbourhoods (two_node_facts 128) 1 (square 128))
+square_pairs = needed_pairs two_nodes (need neighborhoods (two_node_facts 128) 1 (square 128))
 
 -- a list of pairs after such a render, with its counts
 abbrev pub rendered : List Pair → Counted Pair

@@ -2,14 +2,14 @@
 
 ghost use Rattle.std.specs.Prelude.{◌≡◌, [], codes, negsuc, pos, length};
 ghost use Rattle.plane_rect.specs.Rectangle.{placed};
-ghost use Rattle.model_states.specs.Examples.{counts, damage_by, neighbourhoods, rendered, rendered_after_edit, square, two_node_facts, two_nodes};
+ghost use Rattle.model_states.specs.Examples.{counts, damage_by, neighborhoods, rendered, rendered_after_edit, square, two_node_facts, two_nodes};
 ghost use Rattle.model_states.specs.{Cache.needed_pairs, Need.need};
 
 /// States that a position at the origin and its neighbors are in four tiles, in two strips.
 pub fn tiles_around_the_origin()
-    ensures strips { length (need neighbourhoods (two_node_facts 1) 1 (placed (negsuc 0) (negsuc 0) 3 3)) ≡ 2 }
-    ensures pairs { length (needed_pairs two_nodes (need neighbourhoods (two_node_facts 1) 1 (placed (negsuc 0) (negsuc 0) 3 3))) ≡ 4 }
-    ensures source { needed_pairs two_nodes (need neighbourhoods (two_node_facts 1) 0 (square 1)) ≡ [] }
+    ensures strips { length (need neighborhoods (two_node_facts 1) 1 (placed (negsuc 0) (negsuc 0) 3 3)) ≡ 2 }
+    ensures pairs { length (needed_pairs two_nodes (need neighborhoods (two_node_facts 1) 1 (placed (negsuc 0) (negsuc 0) 3 3))) ≡ 4 }
+    ensures source { needed_pairs two_nodes (need neighborhoods (two_node_facts 1) 0 (square 1)) ≡ [] }
 {}
 
 /// States that a written position damages its neighbors.

@@ -13,11 +13,9 @@ use model_graphs::{Body, BufferFact, NodeEdit, NodeSpec};
 use model_operations::IntOp;
 use model_states::StateRefused;
 use no_memory::NoMemory;
+use pixel_formats::limits::MAX_NODES;
 use plane_rect::Name;
 use std::alloc::Global;
-
-/// The largest number of nodes.
-const MAX_NODES: usize = 256;
 
 /// Returns the nodes with these edits made one by one, or why the first of them that is refused is.
 ///

@@ -15,7 +15,7 @@ use std::hash::{Hash, Hasher};
 use std::marker::Model;
 
 /// The largest number of bytes in a name.
-const LONGEST: usize = 16;
+const MAX_BYTES: usize = 16;
 
 /// A name: 1 to 16 ASCII bytes, the first `a` to `z`, the others `a` to `z`, `0` to `9` or `_`.
 ///
@@ -23,7 +23,7 @@ const LONGEST: usize = 16;
 #[derive(Clone, Copy, Debug)]
 pub struct Name {
     /// The name, and zeros after it.
-    padded: [u8; LONGEST],
+    padded: [u8; MAX_BYTES],
     len: u8,
 }
 
@@ -48,7 +48,7 @@ impl Name {
         if !is_name(word) {
             return None;
         }
-        let mut padded = [0; LONGEST];
+        let mut padded = [0; MAX_BYTES];
         padded[..word.len()].copy_from_slice(word);
         Some(Name {
             padded,
@@ -72,7 +72,7 @@ fn is_name(word: &[u8]) -> bool
 {
     match word.split_first() {
         Some((first, rest)) => {
-            first.is_ascii_lowercase() && rest.len() < LONGEST && may_follow(rest)
+            first.is_ascii_lowercase() && rest.len() < MAX_BYTES && may_follow(rest)
         }
         None => false,
     }

@@ -1,7 +1,8 @@
 //! Tiles of a root's image and of its levels.
 
 ghost use Rattle.std.specs.Prelude.{◌≡◌, ℕ, ◌+◌, ◌≤◌, IfErr, IfOk, length};
-ghost use Rattle.level_tables.specs.Over.{IsTileOfLevel, max_level, tile_length};
+ghost use Rattle.pixel_formats.specs.Limits.{max_level};
+ghost use Rattle.level_tables.specs.Over.{IsTileOfLevel, tile_length};
 ghost use Rattle.model_images.specs.TileCounts.{level_tiles};
 ghost use Rattle.swap_store.specs.Cause.{HasSwapCause};
 ghost use Rattle.root_tiles.specs.Growth.{HoldsMoreTiles, names_with_root_levels, root_state};

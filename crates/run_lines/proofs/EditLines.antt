@@ -148,7 +148,7 @@ module _ (exposed : Bool) (capacity line : ℕ) (state : RunState) (files : File
           as_many = is.capacity ∙ holds.as_many;
           unwatched = holds.unwatched;
           content = is.content ∙ holds.content;
-          alike = holds.alike;
+          same_lengths = holds.same_lengths;
           same = holds.same;
         };
         names = names_grow (tiles_added edit) state next old.counts new.counts refl is.counts;

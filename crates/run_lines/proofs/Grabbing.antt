@@ -84,7 +84,7 @@ module _ (exposed : Bool) (capacity line : ℕ) (state : RunState) (files : File
         Grows (level_tiles (box_of_root layout name) z) before.chain after.chain → IsDone exposed capacity state files done before after later after_held
     grab_done ok as_many content session grows =
         let given = has_events there in
-        let are_filed = file-written exposed done target wanted bytes text wants result before after leaves files ok holds.alike holds.same in
+        let are_filed = file-written exposed done target wanted bytes text wants result before after leaves files ok holds.same_lengths holds.same in
         let tiles = grab_tiles exposed capacity line state files parts held before.files name z policy r target holds there in
         record {
           carried = subst (λ (r : Result (Unit {0}) End). CarriesOut exposed (outcome_of_line done) most r before after) ok
@@ -97,7 +97,7 @@ module _ (exposed : Bool) (capacity line : ℕ) (state : RunState) (files : File
                 as_many = as_many ∙ holds.as_many;
                 unwatched = holds.unwatched;
                 content = content ∙ holds.content;
-                alike = are_filed.alike;
+                same_lengths = are_filed.same_lengths;
                 same = are_filed.same;
               });
           names = names_grow done.tiles state done.next before.chain after.chain (ap (λ (s : RunState). s.session.cached) given.2)

@@ -31,7 +31,7 @@ use Rattle.run_lines.proofs.LoadBands.{IsLoad}
 use Rattle.run_lines.proofs.Puts.{put_alike}
 use Rattle.run_lines.specs.Edited.{IsEdited, SessionOver}
 use Rattle.run_lines.specs.Rasters.{IsNoRaster, IsTarget, IsUnread}
-use Rattle.run_lines.specs.States.{AreAlike, Holds}
+use Rattle.run_lines.specs.States.{HaveSameLengths, Holds}
 use Rattle.run_lines.specs.Stops.{Did, IsDone, IsEnded, stop_of}
 use Rattle.run_lines.specs.declared.stop.Stop.{Stop}
 use Rattle.run_lines.specs.declared.stop.Stop.TheVariants as stops
@@ -49,10 +49,10 @@ unequal a b apart =
 
 -- ---- files of the same length
 
--- a file that is there, in files that are alike
-there_alike : (a b : Option (List ℕ)) (bytes : List ℕ) → option_map length a ≡ option_map length b → b ≡ Some bytes → (planned : List ℕ) × (a ≡ Some planned) × (length planned ≡ length bytes)
-there_alike (Some planned) b bytes same is = (planned, refl, (let there : option_map length b ≡ Some (length bytes) = ap (option_map length) is in cc))
-there_alike None b bytes same is = absurd (let there : option_map length b ≡ Some (length bytes) = ap (option_map length) is in cc)
+-- a file that is there, in files of the same lengths
+there_as_long : (a b : Option (List ℕ)) (bytes : List ℕ) → option_map length a ≡ option_map length b → b ≡ Some bytes → (planned : List ℕ) × (a ≡ Some planned) × (length planned ≡ length bytes)
+there_as_long (Some planned) b bytes same is = (planned, refl, (let there : option_map length b ≡ Some (length bytes) = ap (option_map length) is in cc))
+there_as_long None b bytes same is = absurd (let there : option_map length b ≡ Some (length bytes) = ap (option_map length) is in cc)
 
 absent_alike : (a b : Option (List ℕ)) → option_map length a ≡ option_map length b → b ≡ None → a ≡ None
 absent_alike None b same is = refl
@@ -133,7 +133,7 @@ module _ (exposed : Bool) (capacity line : ℕ) (state : RunState) (files : File
       ∙ ap (load_into line state name r None) there.1 ∙ ap (λ b. refuses line state (cond b causes.Absent causes.OutOfBounds)) within ∙ ap (refuses line state) (sym none.0)
   missing found fact cause actual is inside same (inr (wrong, long)) =
       let there = view_of (find layout.buffers name) fact refl is in
-      let planned = there_alike found actual long.0 same long.1 in
+      let planned = there_as_long found actual long.0 same long.1 in
       let bytes = planned.0 in
       let shape = view_shape (layout_of working) there.0 in
       let wanted = byte_count r shape.format in
@@ -149,7 +149,7 @@ module _ (exposed : Bool) (capacity line : ℕ) (state : RunState) (files : File
   load_missing : (source : List ℕ) (fact : BufferFact) (cause : Cause) (actual : Files) → facts ≡ Some fact → includes fact.bounds r ≡ true → shelf ≡ Some actual →
       IsNoRaster (file actual source) (byte_count r fact.format) cause → loads line state name r (file files source) ≡ refuses line state cause
   load_missing source fact cause actual is inside shown none =
-      missing (file files source) fact cause (file actual source) is inside ((subst (λ (o : Option Files). IsSomeAnd o (AreAlike files)) shown holds.alike) source) none
+      missing (file files source) fact cause (file actual source) is inside ((subst (λ (o : Option Files). IsSomeAnd o (HaveSameLengths files)) shown holds.same_lengths) source) none
 
   -- a raster that was read
   pub load_read : (source bytes : List ℕ) (fact : BufferFact) (actual : Files) → facts ≡ Some fact → shelf ≡ Some actual → file actual source ≡ Some bytes →
@@ -157,7 +157,7 @@ module _ (exposed : Bool) (capacity line : ℕ) (state : RunState) (files : File
       × (loads line state name r (file files source) ≡ edits line state (Put name r planned))
   load_read source bytes fact actual is shown read =
       let there = view_of (find layout.buffers name) fact refl is in
-      let planned = there_alike (file files source) (file actual source) bytes ((subst (λ (o : Option Files). IsSomeAnd o (AreAlike files)) shown holds.alike) source) read in (
+      let planned = there_as_long (file files source) (file actual source) bytes ((subst (λ (o : Option Files). IsSomeAnd o (HaveSameLengths files)) shown holds.same_lengths) source) read in (
         planned.0,
         planned.1,
         sym planned.2,
@@ -171,17 +171,17 @@ module _ (exposed : Bool) (capacity line : ℕ) (state : RunState) (files : File
   pub load_not_read : (source : List ℕ) (stop : Stop) (fact : BufferFact) (before after : Moment) (later : Parts IntOp) (after_held : Held) → facts ≡ Some fact → includes fact.bounds r ≡ true →
       IfSome shelf (λ actual. IsUnread (file actual source) (byte_count r fact.format) stop) → after.files ≡ before.files → after.text ≡ before.text →
       Did exposed capacity line state files (loads line state name r (file files source)) (Err stop) before after later after_held
-  load_not_read source stop fact before after later after_held is inside raster same_files same_text = by shelf refl stop raster holds.alike
+  load_not_read source stop fact before after later after_held is inside raster same_files same_text = by shelf refl stop raster holds.same_lengths
     where
       ended : (end : End) → (end ≡ ends.ReadFault) ⊎ (end ≡ ends.NoMemory) → IsEnded exposed capacity state (loads line state name r (file files source)) end before after
       ended end (inl read) = record { other = λ e. cc; carried = nothing_carried exposed _ _ end before after (λ e. cc) same_files same_text (λ e. absurd (cc)) }
       ended end (inr memory) = record { other = λ e. cc; carried = nothing_carried exposed _ _ end before after (λ e. cc) same_files same_text (λ e. absurd (cc)) }
 
-      by : (o : Option Files) → shelf ≡ o → (stop : Stop) → IfSome o (λ actual. IsUnread (file actual source) (byte_count r fact.format) stop) → IsSomeAnd shelf (AreAlike files) →
+      by : (o : Option Files) → shelf ≡ o → (stop : Stop) → IfSome o (λ actual. IsUnread (file actual source) (byte_count r fact.format) stop) → IsSomeAnd shelf (HaveSameLengths files) →
           Did exposed capacity line state files (loads line state name r (file files source)) (Err stop) before after later after_held
-      by None shown stop raster alike = absurd (subst (λ (o : Option Files). IsSomeAnd o (AreAlike files)) shown alike)
-      by (Some actual) shown (stops.Refused cause) raster alike = record { effect = load_missing source fact cause actual is inside shown raster; files = same_files; text = same_text }
-      by (Some actual) shown (stops.Ended end) raster alike = ended end raster
+      by None shown stop raster same_lengths = absurd (subst (λ (o : Option Files). IsSomeAnd o (HaveSameLengths files)) shown same_lengths)
+      by (Some actual) shown (stops.Refused cause) raster same_lengths = record { effect = load_missing source fact cause actual is inside shown raster; files = same_files; text = same_text }
+      by (Some actual) shown (stops.Ended end) raster same_lengths = ended end raster
 
 -- ---- a raster that was read, and put
 
@@ -203,16 +203,16 @@ module _ (exposed : Bool) (capacity line : ℕ) (state : RunState) (files : File
     effect : loads line state name r (file files source) ≡ edits line state (Put name r raster)
     edited : IsEdited (Put name r raster) result old new
 
-  there : (result : Result (Unit {0}) SessionRefused) (o : Option Files) → shelf ≡ o → IfSome o (λ actual. IsLoad (file actual source) name r result old new) → IsSomeAnd shelf (AreAlike files) → Planned result
-  there result None shown load alike = absurd (subst (λ (o : Option Files). IsSomeAnd o (AreAlike files)) shown alike)
-  there result (Some actual) shown load alike =
+  there : (result : Result (Unit {0}) SessionRefused) (o : Option Files) → shelf ≡ o → IfSome o (λ actual. IsLoad (file actual source) name r result old new) → IsSomeAnd shelf (HaveSameLengths files) → Planned result
+  there result None shown load same_lengths = absurd (subst (λ (o : Option Files). IsSomeAnd o (HaveSameLengths files)) shown same_lengths)
+  there result (Some actual) shown load same_lengths =
       let planned = load_read exposed capacity line state files old.parts old.held shelf name r holds source load.bytes fact actual is shown load.there in
       record { raster = planned.0; effect = planned.4; edited = put_alike name r load.bytes planned.0 planned.2 exposed result old new planned.3 holds.content load.edited }
 
   pub load_done : IfSome shelf (λ actual. IsLoad (file actual source) name r (Ok tt) old new) →
       IsDone exposed capacity state files (loads line state name r (file files source)) before after new.parts new.held
   load_done load =
-      let plan = there (Ok tt) shelf refl load holds.alike in
+      let plan = there (Ok tt) shelf refl load holds.same_lengths in
       subst (λ (o : Option Files). IsDone exposed capacity state files (loads line state name r (file files source)) before (after_at o) new.parts new.held) (sym same_files)
       (subst (λ (done : Effect). IsDone exposed capacity state files done before (after_at shelf) new.parts new.held) (sym plan.effect)
       (edit_done exposed capacity line state files (Put name r plan.raster) old new shelf text reads writes puts more_reads more_writes more_puts holds tt plan.edited))
@@ -220,7 +220,7 @@ module _ (exposed : Bool) (capacity line : ℕ) (state : RunState) (files : File
   pub load_stopped : (refused : SessionRefused) → IfSome shelf (λ actual. IsLoad (file actual source) name r (Err refused) old new) →
       Did exposed capacity line state files (loads line state name r (file files source)) (Err (stop_of refused)) before after new.parts new.held
   load_stopped refused load =
-      let plan = there (Err refused) shelf refl load holds.alike in
+      let plan = there (Err refused) shelf refl load holds.same_lengths in
       subst (λ (o : Option Files). Did exposed capacity line state files (loads line state name r (file files source)) (Err (stop_of refused)) before (after_at o) new.parts new.held) (sym same_files)
       (subst (λ (done : Effect). Did exposed capacity line state files done (Err (stop_of refused)) before (after_at shelf) new.parts new.held) (sym plan.effect)
       (edit_stopped exposed capacity line state files (Put name r plan.raster) old new shelf text reads writes puts more_reads more_writes more_puts holds refused plan.edited))

@@ -198,7 +198,7 @@ module _ (exposed : Bool) (capacity line : ℕ) (state : RunState) (files : File
         let session : IsSessionOf same_operation int_meanings later after_held next =
         subst (IsSessionOf same_operation int_meanings later after_held) is
         (subst (λ (n : ℕ). IsSessionOf same_operation int_meanings later after_held (after_render int_meanings n state.session name z r)) holds.as_many left.session) in
-        let filed = file-written exposed given target wanted bytes text wants result before after leaves files ok holds.alike holds.same in
+        let filed = file-written exposed given target wanted bytes text wants result before after leaves files ok holds.same_lengths holds.same in
         subst (λ (e : Effect). IsDone exposed capacity state files e before after later after_held) (sym gives)
         (record {
           carried = subst (λ (r : Result (Unit {0}) End). CarriesOut exposed (outcome_of_line given) (most_of_line capacity state before.chain.names given) r before after) ok
@@ -210,7 +210,7 @@ module _ (exposed : Bool) (capacity line : ℕ) (state : RunState) (files : File
             as_many = left.states.capacity ∙ holds.as_many;
             unwatched = holds.unwatched;
             content = left.content ∙ holds.content;
-            alike = filed.alike;
+            same_lengths = filed.same_lengths;
             same = filed.same;
           };
           names = names-fall state given.next before.chain after.chain parts later held after_held left.continues left.others holds.session.cached session.cached;

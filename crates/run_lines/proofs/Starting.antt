@@ -48,7 +48,7 @@ begins capacity blocks files session = record {
   as_many = refl;
   unwatched = refl;
   content = content_begins blocks;
-  alike = λ name. refl;
+  same_lengths = λ name. refl;
   same = λ e. refl;
 }
 

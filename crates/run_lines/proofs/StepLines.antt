@@ -45,7 +45,7 @@ use Rattle.run_events.specs.Moments.{HasFaults, Moment, world_at}
 use Rattle.run_lines.proofs.CachedNames.{names-fall}
 use Rattle.run_lines.proofs.LookingUp.{filter-fewer}
 use Rattle.run_lines.proofs.Stopping.{same_stop, same_stop_faults}
-use Rattle.run_lines.specs.States.{AreAlike, Holds}
+use Rattle.run_lines.specs.States.{HaveSameLengths, Holds}
 use Rattle.run_lines.specs.Stops.{CarriesOutCommand, Did, IsDone, RunPoint, end_of, stop_of}
 use Rattle.run_lines.specs.declared.stop.Stop.{Stop}
 use Rattle.script_read.specs.declared.command.Command.{Command}
@@ -131,7 +131,7 @@ module _ (exposed : Bool) (capacity line : ℕ) (state : RunState) (files : File
         as_many = did.capacity ∙ holds.as_many;
         unwatched = holds.unwatched;
         content = did.content ∙ holds.content;
-        alike = subst (λ (o : Option Files). IsSomeAnd o (AreAlike files)) (sym files_same) holds.alike;
+        same_lengths = subst (λ (o : Option Files). IsSomeAnd o (HaveSameLengths files)) (sym files_same) holds.same_lengths;
         same = λ e. files_same ∙ holds.same e;
       })
       (names-fall state then before.chain after.chain old new held later did.counts.continues did.others holds.session.cached did.leads.cached)

@@ -16,27 +16,27 @@ use Rattle.run_events.proofs.Faults.{chain_faults, faults_by_cause, faults_then}
 use Rattle.run_events.specs.Carried.{CarriesOut, most_of_line, outcome_of_line}
 use Rattle.run_events.specs.Causes.{HasCause}
 use Rattle.run_events.specs.Moments.{HasFaults, Moment, world_at}
-use Rattle.run_lines.specs.States.{AreAlike}
+use Rattle.run_lines.specs.States.{HaveSameLengths}
 use Rattle.run_lines.specs.Stops.{IsEnded}
 use Rattle.run_texts.specs.Events.{Event, Outcome, events_alone}
 use Rattle.run_texts.specs.World.{World}
 
--- files that were alike, with a file of the same length
-filed-alike : (a b : Files) (name wanted bytes : List ℕ) → AreAlike a b → length wanted ≡ length bytes → AreAlike (filed a name wanted) (filed b name bytes)
-filed-alike a b name wanted bytes alike same = λ q. lookups q
+-- files of the same lengths, with one more file of the same length
+filed-same_lengths : (a b : Files) (name wanted bytes : List ℕ) → HaveSameLengths a b → length wanted ≡ length bytes → HaveSameLengths (filed a name wanted) (filed b name bytes)
+filed-same_lengths a b name wanted bytes same_lengths same = λ q. lookups q
   where
     lookups : (q : List ℕ) → option_map length (file (filed a name wanted) q) ≡ option_map length (file (filed b name bytes) q)
     lookups q = rw (get-insert nat_list_cmp_total a name wanted q, get-insert nat_list_cmp_total b name bytes q) (by _)
       where
         by : (c : Bool) → option_map length (cond c (Some wanted) (file a q)) ≡ option_map length (cond c (Some bytes) (file b q))
         by true = ap Some same
-        by false = alike q
+        by false = same_lengths q
 
-alike-after : (files : Files) (shelf now : Option Files) (target wanted bytes : List ℕ) → IsSomeAnd shelf (AreAlike files) → length wanted ≡ length bytes →
-    now ≡ option_map (λ f. filed f target bytes) shelf → IsSomeAnd now (AreAlike (filed files target wanted))
-alike-after files None now target wanted bytes alike same is = absurd alike
-alike-after files (Some shelf) now target wanted bytes alike same is =
-    subst (λ (o : Option Files). IsSomeAnd o (AreAlike (filed files target wanted))) (sym is) (filed-alike files shelf target wanted bytes alike same)
+same_lengths-after : (files : Files) (shelf now : Option Files) (target wanted bytes : List ℕ) → IsSomeAnd shelf (HaveSameLengths files) → length wanted ≡ length bytes →
+    now ≡ option_map (λ f. filed f target bytes) shelf → IsSomeAnd now (HaveSameLengths (filed files target wanted))
+same_lengths-after files None now target wanted bytes same_lengths same is = absurd same_lengths
+same_lengths-after files (Some shelf) now target wanted bytes same_lengths same is =
+    subst (λ (o : Option Files). IsSomeAnd o (HaveSameLengths (filed files target wanted))) (sym is) (filed-same_lengths files shelf target wanted bytes same_lengths same)
 
 outcome-by : (done : Effect) (events : List Event) → done.events ≡ events → done.refused ≡ None → outcome_of_line done ≡ events_alone events
 outcome-by done events is none = cc
@@ -60,7 +60,7 @@ pub record Wants (exposed : Bool) (done : Effect) (target wanted bytes text : Li
 
 -- The files after it are those that are to be there.
 pub record AreFiled (exposed : Bool) (done : Effect) (files : Files) (now : Option Files) : Type 0 where
-  pub alike : IsSomeAnd now (AreAlike (files_after_all done.events files))
+  pub same_lengths : IsSomeAnd now (HaveSameLengths (files_after_all done.events files))
   pub same : IsTrue exposed → now ≡ Some (files_after_all done.events files)
 
 module _ (exposed : Bool) (done : Effect) (target wanted bytes text : List ℕ) (wants : Wants exposed done target wanted bytes text) (result : Result (Unit {0}) End) (before after : Moment)
@@ -84,14 +84,14 @@ module _ (exposed : Bool) (done : Effect) (target wanted bytes text : List ℕ) 
       }
 
   -- the file is written and the text put
-  pub file-written : (files : Files) → result ≡ Ok tt → IsSomeAnd before.files (AreAlike files) → (IsTrue exposed → before.files ≡ Some files) → AreFiled exposed done files after.files
-  file-written files ok alike same =
+  pub file-written : (files : Files) → result ≡ Ok tt → IsSomeAnd before.files (HaveSameLengths files) → (IsTrue exposed → before.files ≡ Some files) → AreFiled exposed done files after.files
+  file-written files ok same_lengths same =
       let came : world_at after ≡ (let w : World = record { files = option_map (λ f. filed f target bytes) before.files; text = option_map (λ t. t ++ text) before.text } in w) =
       (subst (λ (r : Result (Unit {0}) End). Leaves (events_alone (writes target bytes text)) r (world_at before) (world_at after)) ok leaves).whole tt in
       let now : after.files ≡ option_map (λ f. filed f target bytes) before.files = ap (λ (w : World). w.files) came in
       let then : files_after_all done.events files ≡ filed files target wanted = ap (λ (list : List Event). files_after_all list files) wants.events in
       record {
-        alike = subst (λ (f : Files). IsSomeAnd after.files (AreAlike f)) (sym then) (alike-after files before.files after.files target wanted bytes alike wants.as_long now);
+        same_lengths = subst (λ (f : Files). IsSomeAnd after.files (HaveSameLengths f)) (sym then) (same_lengths-after files before.files after.files target wanted bytes same_lengths wants.as_long now);
         same = λ e. now ∙ ap (option_map (λ f. filed f target bytes)) (same e) ∙ ap (λ (b : List ℕ). Some (filed files target b)) (wants.as_wanted e) ∙ ap Some (sym then);
       }
 

@@ -11,8 +11,8 @@ use Rattle.model_sessions.specs.Sessions.{IsSession}
 use Rattle.outside_io.specs.Files.{Files, file}
 
 -- the same names, each of a file of the same length
-abbrev pub AreAlike : Files → Files → Type 0
-AreAlike a b = (name : List ℕ) → option_map length (file a name) ≡ option_map length (file b name)
+abbrev pub HaveSameLengths : Files → Files → Type 0
+HaveSameLengths a b = (name : List ℕ) → option_map length (file a name) ≡ option_map length (file b name)
 
 -- The session is that of a state in which no watch is open, and the files of the shelf are these: what is known of both
 -- without samples always, and all of it where the chain exposes its bytes. Each cached tile was evaluated once.
@@ -23,5 +23,5 @@ pub record Holds (exposed : Bool) (capacity : ℕ) (state : RunState) (files : F
   pub as_many : parts.capacity ≡ capacity
   pub unwatched : state.watching ≡ None
   pub content : is_some held.content ≡ exposed
-  pub alike : IsSomeAnd shelf (AreAlike files)
+  pub same_lengths : IsSomeAnd shelf (HaveSameLengths files)
   pub same : IsTrue exposed → shelf ≡ Some files

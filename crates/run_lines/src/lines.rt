@@ -15,7 +15,7 @@ ghost use Rattle.run_lines.specs.{Commands.IsBuiltLine, States.Holds};
 use crate::edits::edit;
 use crate::files::grab;
 use crate::loads::load;
-use crate::nodes::note;
+use crate::nodes::add_pending;
 use crate::renders::render;
 use crate::steps::step;
 use crate::stop::Stop;
@@ -115,7 +115,7 @@ fn carry_out_command<C: TileChain, F: Shelf, O: Sink, R: Threads + Sync>(
         Command::Load { .. } => load(alloc, line, session, chain, shelf, workers),
         Command::Grab { .. } => grab(alloc, line, session, chain, shelf, out),
         Command::Render { .. } => render(alloc, line, session, chain, shelf, out, workers),
-        Command::Node { .. } | Command::Drop { .. } => note(line, session),
+        Command::Node { .. } | Command::Drop { .. } => add_pending(line, session),
         Command::Commit | Command::Undo | Command::Redo => step(line, session, chain),
         _ => edit(line, session, chain, workers),
     }

@@ -116,18 +116,18 @@ fn load_bands<C: TileChain, F: Shelf, R: Threads + Sync>(
 }
 
 /// Returns how many rows of tiles a band has at most: one, whose bytes mostly stay in the processor's caches until its tiles
-/// are cut, or as many as are worth splitting among several workers; 0 if one is more than that.
+/// are cut, or as many as are worth splitting among several workers, and at least one.
 fn band_tile_rows<R: Threads + Sync>(target: &Target, workers: Workers<'_, R>) -> u32 {
     if !workers.are_several() {
         return 1;
     }
     let row_bytes = u64::from(target.rect.w).saturating_mul(u64::from(target.format.pixel_bytes()));
     let tile_row_bytes = row_bytes.saturating_mul(u64::from(TILE_SIDE));
-    (SHARED_BAND_BYTES / tile_row_bytes.max(1)) as u32
+    ((SHARED_BAND_BYTES / tile_row_bytes.max(1)) as u32).max(1)
 }
 
-/// Returns the row at which the last band of a rectangle's rows up to an end begins: the band has so many rows of tiles, or
-/// one where that is none, and begins where a row of tiles does, or the rectangle.
+/// Returns the row at which the last band of a rectangle's rows up to an end begins: the band has at most so many rows of
+/// tiles, and at least one, and begins where a row of tiles does, or the rectangle.
 fn band_row(rect: &Rect, end: u32, tile_rows: u32) -> u32
     requires { rect.now.first_row ≤ end }
     ensures { BeginsBand rect.now end result }

@@ -19,7 +19,7 @@ use plane_rect::NameList;
 use script_read::{Command, Line, OpWords};
 
 /// Adds the edit of nodes that a line is to the pending ones.
-pub(crate) fn note(line: &Line, session: &mut SessionState<IntOp>) -> Result<(), Stop>
+pub(crate) fn add_pending(line: &Line, session: &mut SessionState<IntOp>) -> Result<(), Stop>
     requires { IsSome (node_edit_of line.now.command) }
     ensures did { (now : Moment) (held : Held) (exposed : Bool) (capacity : ℕ) (state : RunState) (files : Files) →
         Holds exposed capacity state files session.old held now.files →
@@ -29,7 +29,7 @@ pub(crate) fn note(line: &Line, session: &mut SessionState<IntOp>) -> Result<(),
         IsOver same_operation int_meanings session.new held }
 {
     let made = edit_by(&line.command)?;
-    session.note(made)?;
+    session.add_pending(made)?;
     Ok(())
 }
 

@@ -4,7 +4,7 @@ ghost use Rattle.std.specs.Prelude.{◌≡◌, ℕ, ◌+◌, ◌*◌, ◌/◌, �
 ghost use Rattle.sample_rows.specs.Groups.{Blocks, Groups, group_at, group_bytes, Maps, MapsPairs, SameGroups};
 
 /// The most bytes that a block has.
-const MOST: usize = 192;
+const MAX_BLOCK_BYTES: usize = 192;
 
 /// What is made of two rows, block by block.
 pub(crate) trait PairKernel {
@@ -102,7 +102,7 @@ fn transform_rest<K: PairKernel>(kernel: &K, a: &[u8], b: &[u8], dst: &mut [u8],
 {
     let first = padded(&a[K::FIRST * blocks..]);
     let second = padded(&b[K::SECOND * blocks..]);
-    let mut written = [0; MOST];
+    let mut written = [0; MAX_BLOCK_BYTES];
     kernel.block(&first, &second, &mut written);
     let rest = &mut dst[K::WRITTEN * blocks..];
     let len = rest.len();
@@ -110,11 +110,11 @@ fn transform_rest<K: PairKernel>(kernel: &K, a: &[u8], b: &[u8], dst: &mut [u8],
 }
 
 /// Returns the bytes of a row, and zeros after it.
-fn padded(row: &[u8]) -> [u8; MOST]
+fn padded(row: &[u8]) -> [u8; MAX_BLOCK_BYTES]
     requires { length row.now ≤ 192 }
     ensures { (p : ℕ) → slice_index result p ≡ slice_index row.now p }
 {
-    let mut bytes = [0; MOST];
+    let mut bytes = [0; MAX_BLOCK_BYTES];
     bytes[..row.len()].copy_from_slice(row);
     bytes
 }

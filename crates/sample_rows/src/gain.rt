@@ -16,7 +16,7 @@ use std::alloc::AllocError;
 use std::marker::PhantomData;
 
 /// The largest number and divisor of a gain that is done by a multiplication.
-const MOST: u32 = 65_535;
+const MAX_FACTOR: u32 = 65_535;
 
 /// Multiplies each color by num / den without a division: `factor` and `offset` are num / den and
 /// one half in parts of 65,536 times the levels of a sample. Colors above `last` would come out
@@ -170,7 +170,7 @@ pub fn row_gain(f: Format, num: u32, den: u32, src: &[u8], dst: &mut [u8])
     requires same_length { length dst.old ≡ length src.now }
     ensures { HasPixels f dst.new (λ k. gained_pixel f num den (pixel_at f src.now k)) }
 {
-    if num > MOST || den > MOST {
+    if num > MAX_FACTOR || den > MAX_FACTOR {
         let division = Division { num, den };
         return match f.depth() {
             1 => recolor_row::<ByteLanes, Division>(f, division, src, dst),

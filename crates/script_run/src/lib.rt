@@ -8,4 +8,4 @@ mod program;
 mod script;
 mod sums;
 
-pub use program::run;
+pub use program::{WRONG_WORDS, run};

@@ -18,7 +18,7 @@ use std::alloc::Global;
 use std::thread::Threads;
 
 /// The status of words that are no command line.
-const WRONG_WORDS: u8 = 1;
+pub const WRONG_WORDS: u8 = 1;
 
 /// Runs the program's words, without the program's own name, and returns its status:
 ///

@@ -10,7 +10,7 @@ use std::marker::Model;
 use std::str;
 
 /// The largest number of bytes in a file name.
-const LONGEST: usize = 64;
+const MAX_BYTES: usize = 64;
 
 /// The name of a file: 1 to 64 letters, digits, `_`, `-` and `.`, of which the first is neither `-`
 /// nor `.`.
@@ -19,7 +19,7 @@ const LONGEST: usize = 64;
 #[derive(Clone, Copy, Debug)]
 pub struct FileName {
     /// The name, and zeros after it.
-    padded: [u8; LONGEST],
+    padded: [u8; MAX_BYTES],
     len: u8,
 }
 
@@ -44,7 +44,7 @@ impl FileName {
         if !is_file_name(word) {
             return None;
         }
-        let mut padded = [0; LONGEST];
+        let mut padded = [0; MAX_BYTES];
         padded[..word.len()].copy_from_slice(word);
         Some(FileName {
             padded,

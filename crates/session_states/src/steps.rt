@@ -8,10 +8,10 @@ ghost use Rattle.buffer_view.specs.BufferTables.{AreBuffersOver, BufferTable, bu
 ghost use Rattle.session_states.specs.OverChains.{AreAllOver, AreAllSame, AreShared, AreVersionsOver, IsReleased, Leaves, names_of_all, versions_names};
 ghost use Rattle.session_states.specs.Versions.{IsMoved, IsOneOf, after_commit, all_versions, versions_after, versions_ahead};
 
-use crate::versions::{BufferVersions, MAX_UNDOABLE};
+use crate::versions::BufferVersions;
 use buffer_view::Buffers;
 use chain_contracts::TileChain;
-use graph_commits::Direction;
+use graph_commits::{Direction, MAX_UNDOABLE};
 use no_memory::NoMemory;
 use std::collections::VecDeque;
 use std::mem;

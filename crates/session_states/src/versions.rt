@@ -7,14 +7,11 @@ ghost use Rattle.session_states.specs.Versions.{new_versions, versions_ahead};
 ghost use Rattle.session_states.specs.OverChains.{AreVersionsOver};
 
 use buffer_view::{Buffers, no_buffers_ask_nothing};
-use graph_commits::Direction;
+use graph_commits::{Direction, MAX_UNDOABLE};
 use no_memory::NoMemory;
 use std::alloc::Global;
 use std::collections::VecDeque;
 use std::marker::Model;
-
-/// The largest number of states that can be undone to, or redone to.
-pub(crate) const MAX_UNDOABLE: usize = 64;
 
 /// Buffers as they are edited, those of the last state, and those of the at most 64 states that can be undone
 /// and redone to, the next one first. Each holds names of the chain that the calls are lent, and tiles that

@@ -15,10 +15,10 @@ use roi_planner::Strip;
 
 /// How many needed tiles a batch has at most. The windows of all its jobs are held at once, so it bounds the memory of
 /// source tiles that are read from the swap; and it is more than several workers need to be worth their threads.
-const MOST_TILES: usize = 256;
+const MAX_TILES: usize = 256;
 
 /// Returns the end of the batch of needed tiles that begins at an index: of those of one node, and of no more than
-/// `MOST_TILES`.
+/// `MAX_TILES`.
 fn batch_end(need: &[(u32, TileAt)], index: usize) -> usize
     requires { index < length need.now }
     ensures after { index ≤ result }
@@ -26,7 +26,7 @@ fn batch_end(need: &[(u32, TileAt)], index: usize) -> usize
     ensures one { AreOfOneNode need.now index result }
 {
     let node = need[index].0;
-    let most = need.len().min(index.saturating_add(MOST_TILES));
+    let most = need.len().min(index.saturating_add(MAX_TILES));
     for end in index..most {
         if need[end].0 != node {
             return end;
@@ -50,7 +50,7 @@ fn row_of(need: &[(u32, TileAt)], node: u32) -> Option<u32>
 }
 
 /// Adds to a batch what the strips after it need, from the first one on: as long as each needs tiles of this node alone, all
-/// in one row that is further down than this one and than those before it, and the batch has no more than `MOST_TILES`.
+/// in one row that is further down than this one and than those before it, and the batch has no more than `MAX_TILES`.
 ///
 /// # Errors
 ///
@@ -67,7 +67,7 @@ fn add_rows(
         return Ok(());
     };
     let need = next.need.as_slice();
-    if batch.len().saturating_add(need.len()) > MOST_TILES {
+    if batch.len().saturating_add(need.len()) > MAX_TILES {
         return Ok(());
     }
     match row_of(need, node) {
@@ -80,7 +80,7 @@ fn add_rows(
 }
 
 /// Returns the needed tiles of the batch that begins at an index of a strip's need: those of one node, and no more than
-/// `MOST_TILES`. Where they are the last of the strip, all in one row, the batch goes on with the strips after it that
+/// `MAX_TILES`. Where they are the last of the strip, all in one row, the batch goes on with the strips after it that
 /// need tiles of this node alone, so that the threads that are started for it make the tiles of several rows.
 ///
 /// # Errors

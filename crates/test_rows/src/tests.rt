@@ -39,13 +39,13 @@ fn conversions(rt: HostRuntime) {
 
 #[test]
 fn changes_of_colors(rt: HostRuntime) {
-    let mut greys = [0u8; 2];
-    row_gain(Format::Y8, 5, 4, &[100, 250], &mut greys);
-    assert_eq!(rt; greys, [125, 255]);
-    row_gain(Format::Y8, 3, 200_000, &[100, 250], &mut greys);
-    assert_eq!(rt; greys, [0, 0]);
-    row_threshold(Format::Y8, 100, &[99, 100], &mut greys);
-    assert_eq!(rt; greys, [0, 255]);
+    let mut grays = [0u8; 2];
+    row_gain(Format::Y8, 5, 4, &[100, 250], &mut grays);
+    assert_eq!(rt; grays, [125, 255]);
+    row_gain(Format::Y8, 3, 200_000, &[100, 250], &mut grays);
+    assert_eq!(rt; grays, [0, 0]);
+    row_threshold(Format::Y8, 100, &[99, 100], &mut grays);
+    assert_eq!(rt; grays, [0, 255]);
     let mut capped = [0u8; 4];
     row_invert(Format::YA8, &[30, 100, 120, 100], &mut capped);
     assert_eq!(rt; capped, [70, 100, 0, 100]);
@@ -58,21 +58,21 @@ fn changes_of_colors(rt: HostRuntime) {
 
 #[test]
 fn two_rows(rt: HostRuntime) {
-    let mut greys = [0u8; 2];
-    row_add(Format::Y8, &[200, 3], &[100, 4], &mut greys);
-    assert_eq!(rt; greys, [255, 7]);
-    row_min(Format::Y8, &[200, 3], &[100, 4], &mut greys);
-    assert_eq!(rt; greys, [100, 3]);
-    row_max(Format::Y8, &[200, 3], &[100, 4], &mut greys);
-    assert_eq!(rt; greys, [200, 4]);
+    let mut grays = [0u8; 2];
+    row_add(Format::Y8, &[200, 3], &[100, 4], &mut grays);
+    assert_eq!(rt; grays, [255, 7]);
+    row_min(Format::Y8, &[200, 3], &[100, 4], &mut grays);
+    assert_eq!(rt; grays, [100, 3]);
+    row_max(Format::Y8, &[200, 3], &[100, 4], &mut grays);
+    assert_eq!(rt; grays, [200, 4]);
     // As numbers of two bytes, 513 is above 258.
-    row_max(Format::Y16, &[2, 1], &[1, 2], &mut greys);
-    assert_eq!(rt; greys, [1, 2]);
-    row_mask(Format::Y8, &[200, 200], &[128, 255], &mut greys);
-    assert_eq!(rt; greys, [100, 200]);
+    row_max(Format::Y16, &[2, 1], &[1, 2], &mut grays);
+    assert_eq!(rt; grays, [1, 2]);
+    row_mask(Format::Y8, &[200, 200], &[128, 255], &mut grays);
+    assert_eq!(rt; grays, [100, 200]);
     // The upper pixel leaves 155 parts in 255 of the lower one, which are 61 of 100 and 122 of 200.
-    row_over(Format::YA8, &[50, 100], &[100, 200], &mut greys);
-    assert_eq!(rt; greys, [111, 222]);
-    row_average4(Format::Y8, &[1, 2, 9, 9], &[3, 4, 9, 8], &mut greys);
-    assert_eq!(rt; greys, [3, 9]);
+    row_over(Format::YA8, &[50, 100], &[100, 200], &mut grays);
+    assert_eq!(rt; grays, [111, 222]);
+    row_average4(Format::Y8, &[1, 2, 9, 9], &[3, 4, 9, 8], &mut grays);
+    assert_eq!(rt; grays, [3, 9]);
 }

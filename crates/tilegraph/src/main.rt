@@ -1,18 +1,13 @@
 //! The program: `tilegraph run SCRIPT`, in the folder of the script and its files.
 #![tactic(auto)]
 
+use model_runs::{End, status_of};
 use outside_io::{FileSwap, FolderShelf, OpenGate, StdSink};
-use script_run::run;
+use script_run::{WRONG_WORDS, run};
 use std::io::ErrorKind;
 use std::process::ExitCode;
 use std::thread::Threads;
 use std::{env, io};
-
-/// The status of words that are no text, and so no command line.
-const WRONG_WORDS: u8 = 1;
-
-/// The status of a program that could not begin for running out of memory.
-const NO_MEMORY: u8 = 7;
 
 /// How many blocks the swap has: 4 GiB, of which a run uses what its tiles need.
 const SWAP_BLOCKS: u32 = 1 << 20;
@@ -20,8 +15,9 @@ const SWAP_BLOCKS: u32 = 1 << 20;
 fn main(rt: HostRuntime) -> ExitCode {
     match status(&rt, &rt) {
         Ok(status) => ExitCode::from(status),
+        // Words that are no text are no command line.
         Err(error) if error.kind() == ErrorKind::InvalidData => ExitCode::from(WRONG_WORDS),
-        Err(_) => ExitCode::from(NO_MEMORY),
+        Err(_) => ExitCode::from(status_of(Err(End::NoMemory))),
     }
 }
 

@@ -8,7 +8,7 @@ use std::alloc::{AllocError, Global};
 use std::thread::{Threads, join, join_mut};
 
 /// How much work a piece is worth at least, in nanoseconds: some times what it takes to start its thread.
-const LEAST_PIECE: u64 = 150_000;
+const MIN_PIECE_NANOSECONDS: u64 = 150_000;
 
 /// How many threads work may be split among, with the leave to start them. There is no pool of threads: each piece
 /// of a call's work starts a thread of its own, which takes 13 to 50 us. So work is split only where it is worth more
@@ -48,7 +48,7 @@ impl<'r, R: Threads + Sync> Workers<'r, R> {
     /// Returns as many of these workers as work of about so many nanoseconds is worth, each of a piece of it that is
     /// longer than it takes to start its thread. Work of less than two such pieces is left whole.
     pub fn for_work(self, nanoseconds: u64) -> Workers<'r, R> {
-        let pieces = nanoseconds / LEAST_PIECE;
+        let pieces = nanoseconds / MIN_PIECE_NANOSECONDS;
         let count = pieces.min(self.count as u64) as u32;
         Workers {
             threads: self.threads,

@@ -13,7 +13,7 @@ use Rattle.model_operations.specs.Moves.{position}
 use Rattle.model_operations.specs.Regions.{invalidated, reached_from, read_for, required}
 use Rattle.model_operations.specs.Results.{result_format, result_of}
 use Rattle.model_graphs.specs.Changes.{HaveEqualShapes}
-use Rattle.model_graphs.specs.Laws.{AgreeInside}
+use Rattle.model_images.specs.Agreement.{AgreeOver}
 use Rattle.model_operations.specs.Values.{value_at}
 use Rattle.model_operations.specs.declared.operation.IntOp.{IntOp}
 use Rattle.model_operations.specs.Lawful.Inputs.{AgreeIn, generated_same, input_box-image, input_format-image}
@@ -85,7 +85,7 @@ module _ (op : IntOp) (before after : List Image) (equal : HaveEqualShapes befor
       ∙ ap (λ (boxes : List Rectangle). at (image_from_fn (result_box op boxes) format (value_at op after)) u v c) equal.boxes
       ∙ ap (λ (formats : List Format). at (image_from_fn (result_box op (boxes_of after)) (result_format op formats) (value_at op after)) u v c) equal.formats
 
-  pub local : (region : Rectangle) → ((i : ℕ) → i < input_count op → AgreeInside (input_image before i) (input_image after i) (required op (boxes_of before) i region))
+  pub local : (region : Rectangle) → ((i : ℕ) → i < input_count op → AgreeOver (input_image before i) (input_image after i) (required op (boxes_of before) i region))
       → (u v c : ℕ) → Inside u v region → at (result_of op before) u v c ≡ at (result_of op after) u v c
   local region agree u v c there =
       result-same u v c

@@ -15,13 +15,14 @@ use Rattle.model_operations.specs.Regions.{invalidated, reached_from, read_for, 
 use Rattle.model_operations.specs.declared.operation.IntOp.{IntOp}
 use Rattle.model_operations.specs.declared.operation.IntOp.TheVariants.{Color, Checker, Convert, Invert, Threshold, Gain, Translate, Crop, Flip, BoxMean, Dilate, Erode, Add, Over, Mask}
 use Rattle.model_operations.specs.Lawful.ImageLaws.{input-reaches, invalidated-inside, local, required-inside}
-use Rattle.model_graphs.specs.Laws.{AgreeInside, AgreeWhereRequired, IsBoxed, IsDual, IsLocal, KeepsNothing, unit_rectangle}
+use Rattle.model_images.specs.Agreement.{AgreeOver}
+use Rattle.model_graphs.specs.Laws.{AgreeWhereRequired, IsBoxed, IsDual, IsLocal, KeepsNothing, unit_rectangle}
 use Rattle.model_operations.specs.Meanings.{int_meanings}
 
 -- ---- local
 
 -- inputs that agree where a part requires them: those that are there, and those that are not
-agree_on : (operation : IntOp) (a b : List Image) (part : Rectangle) → AgreeWhereRequired int_meanings operation a b part → (i : ℕ) → AgreeInside (input_image a i) (input_image b i) (required operation (boxes_of a) i part)
+agree_on : (operation : IntOp) (a b : List Image) (part : Rectangle) → AgreeWhereRequired int_meanings operation a b part → (i : ℕ) → AgreeOver (input_image a i) (input_image b i) (required operation (boxes_of a) i part)
 agree_on operation a b part agree i =
     let count = ap length agree.boxes in
     let first = length-map a (λ (image : Image). image.box) in

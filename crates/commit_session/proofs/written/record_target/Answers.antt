@@ -4,7 +4,7 @@ use Rattle.model_buffers.specs.declared.edit.BufferEdit.TheVariants.{Put}
 use Rattle.model_graphs.specs.Facts.{rectangles_of}
 use Rattle.commit_session.specs.Steps.{after_writing}
 use Rattle.commit_session.proofs.Hulls.{pair_of, written-is}
-use Rattle.commit_session.proofs.written.note_target.Goals as goal
+use Rattle.commit_session.proofs.written.record_target.Goals as goal
 
 pub returns-in_default : goal.returns-in_default
 returns-in_default c =

@@ -6,9 +6,9 @@ returns-in-Load g c = c.load.ensures (g.O.Sink.written c.args.out.now) (g.O.Sink
 
 pub returns-in-Node : goal.returns-in-Node
 returns-in-Node g c = record {
-  did = λ exposed capacity state files holds. c.note.ensures.did _ _ exposed capacity state files holds;
-  faults = c.note.ensures.faults _;
-  over = c.note.ensures.over _ c.requires.over;
+  did = λ exposed capacity state files holds. c.add_pending.ensures.did _ _ exposed capacity state files holds;
+  faults = c.add_pending.ensures.faults _;
+  over = c.add_pending.ensures.over _ c.requires.over;
   loans = refl;
   valid = λ valid. valid;
 }

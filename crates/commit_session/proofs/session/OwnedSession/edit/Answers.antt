@@ -9,7 +9,7 @@ use Rattle.session_states.specs.OverChains.{Leaves}
 use Rattle.commit_session.specs.Edits.{HasStepCause, step_refused, tiles_by}
 use Rattle.commit_session.specs.Parts.{Parts, session_names}
 use Rattle.commit_session.specs.Seen.{IsSessionOf}
-use Rattle.commit_session.proofs.Acting.{acts-buffer, acts-edit, noted-left, noted-states, on-both, on-error, on-ok}
+use Rattle.commit_session.proofs.Acting.{acts-buffer, acts-edit, pending-left, pending-states, on-both, on-error, on-ok}
 use Rattle.commit_session.proofs.session.OwnedSession.edit.Given
 use Rattle.commit_session.proofs.session.OwnedSession.edit.Goals as goal
 
@@ -46,12 +46,12 @@ returns-in-Buffer-clause-left g c =
 pub returns-in-Node-clause-session : goal.returns-in-Node-clause-session
 returns-in-Node-clause-session g c =
     λ session of.
-    subst (λ (step : HistoryEdit g.row.K-Op.Denot). OnOk c.note.result (IsSessionOf g.K.Op.OpMeaning.same g.K.Op.OpMeaning.meanings c.note.new.self (g.C.ChainMeaning.held c.args.self.now.chain) (after_action g.K.Op.OpMeaning.same g.K.Op.OpMeaning.meanings c.args.self.now.state.capacity session (Make step)))) c.in-Node.ensures
-    (on-ok c.note.result _ _ (acts-edit g.K.Op.OpMeaning.same g.K.Op.OpMeaning.meanings session c.args.self.now.state.capacity (IsSessionOf g.K.Op.OpMeaning.same g.K.Op.OpMeaning.meanings c.note.new.self (g.C.ChainMeaning.held c.args.self.now.chain)) (EditNode c.in-Node.edit) refl) (c.note.ensures.session (g.C.ChainMeaning.held c.args.self.now.chain) session of))
+    subst (λ (step : HistoryEdit g.row.K-Op.Denot). OnOk c.add_pending.result (IsSessionOf g.K.Op.OpMeaning.same g.K.Op.OpMeaning.meanings c.add_pending.new.self (g.C.ChainMeaning.held c.args.self.now.chain) (after_action g.K.Op.OpMeaning.same g.K.Op.OpMeaning.meanings c.args.self.now.state.capacity session (Make step)))) c.in-Node.ensures
+    (on-ok c.add_pending.result _ _ (acts-edit g.K.Op.OpMeaning.same g.K.Op.OpMeaning.meanings session c.args.self.now.state.capacity (IsSessionOf g.K.Op.OpMeaning.same g.K.Op.OpMeaning.meanings c.add_pending.new.self (g.C.ChainMeaning.held c.args.self.now.chain)) (EditNode c.in-Node.edit) refl) (c.add_pending.ensures.session (g.C.ChainMeaning.held c.args.self.now.chain) session of))
 
 pub returns-in-Node-clause-same : goal.returns-in-Node-clause-same
 returns-in-Node-clause-same g c =
-    λ session of. on-error c.note.result _ _ (λ is. subst (λ (p : Parts g.row.K-Op.Denot). IsSessionOf g.K.Op.OpMeaning.same g.K.Op.OpMeaning.meanings p (g.C.ChainMeaning.held c.args.self.now.chain) session) (sym is) of) c.note.ensures.unchanged
+    λ session of. on-error c.add_pending.result _ _ (λ is. subst (λ (p : Parts g.row.K-Op.Denot). IsSessionOf g.K.Op.OpMeaning.same g.K.Op.OpMeaning.meanings p (g.C.ChainMeaning.held c.args.self.now.chain) session) (sym is) of) c.add_pending.ensures.unchanged
 
 pub returns-in-Node-clause-exact : goal.returns-in-Node-clause-exact
 returns-in-Node-clause-exact g c =
@@ -59,18 +59,18 @@ returns-in-Node-clause-exact g c =
 
 pub returns-in-Node-clause-cause : goal.returns-in-Node-clause-cause
 returns-in-Node-clause-cause g c =
-    subst (λ (step : HistoryEdit g.row.K-Op.Denot). IfErr c.note.result (HasStepCause c.args.self.now.state.versions.working.layout step (g.C.ChainMeaning.counts c.args.self.now.chain) (g.C.ChainMeaning.counts c.args.self.now.chain))) c.in-Node.ensures c.note.ensures.cause
+    subst (λ (step : HistoryEdit g.row.K-Op.Denot). IfErr c.add_pending.result (HasStepCause c.args.self.now.state.versions.working.layout step (g.C.ChainMeaning.counts c.args.self.now.chain) (g.C.ChainMeaning.counts c.args.self.now.chain))) c.in-Node.ensures c.add_pending.ensures.cause
 
 pub returns-in-Node-clause-states : goal.returns-in-Node-clause-states
 returns-in-Node-clause-states g c =
-    noted-states c.note.result c.args.self.now.state c.note.new.self (c.args.self.now.state.pending ++ c.in-Node.edit ∷ []) c.note.ensures.noted c.note.ensures.unchanged
+    pending-states c.add_pending.result c.args.self.now.state c.add_pending.new.self (c.args.self.now.state.pending ++ c.in-Node.edit ∷ []) c.add_pending.ensures.added c.add_pending.ensures.unchanged
 
 pub returns-in-Node-clause-over : goal.returns-in-Node-clause-over
 returns-in-Node-clause-over g c =
-    c.note.ensures.over (g.C.ChainMeaning.held c.args.self.now.chain) c.requires.over
+    c.add_pending.ensures.over (g.C.ChainMeaning.held c.args.self.now.chain) c.requires.over
 
 pub returns-in-Node-clause-left : goal.returns-in-Node-clause-left
 returns-in-Node-clause-left g c =
     let s0 : ChainState = record { held = g.C.ChainMeaning.held c.args.self.now.chain; counts = g.C.ChainMeaning.counts c.args.self.now.chain; loans = g.C.ChainMeaning.loans c.args.self.now.chain; valid = g.C.ChainMeaning.is_valid c.args.self.now.chain } in
-    subst (λ (step : HistoryEdit g.row.K-Op.Denot). Leaves (tiles_by step) (session_names c.args.self.now.state) (session_names c.note.new.self) s0 s0) c.in-Node.ensures
-    (noted-left c.note.result c.args.self.now.state c.note.new.self (c.args.self.now.state.pending ++ c.in-Node.edit ∷ []) c.note.ensures.noted c.note.ensures.unchanged s0)
+    subst (λ (step : HistoryEdit g.row.K-Op.Denot). Leaves (tiles_by step) (session_names c.args.self.now.state) (session_names c.add_pending.new.self) s0 s0) c.in-Node.ensures
+    (pending-left c.add_pending.result c.args.self.now.state c.add_pending.new.self (c.args.self.now.state.pending ++ c.in-Node.edit ∷ []) c.add_pending.ensures.added c.add_pending.ensures.unchanged s0)

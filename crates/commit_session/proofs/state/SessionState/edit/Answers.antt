@@ -76,15 +76,15 @@ returns-in_err-edit-clause-same g c = λ session of. on-err _ _ ((unchanged g (g
 
 pub returns-clause-session : goal.returns-clause-session
 returns-clause-session g c =
-    (done g (goal.at.returns-clause-session g c).After-edit c.working.result.now (rectangles_of c.note_written.new.written.items)
-    c.in_ok-edit.ensures.edited c.working.ensures c.note_written.ensures).session
+    (done g (goal.at.returns-clause-session g c).After-edit c.working.result.now (rectangles_of c.record_written.new.written.items)
+    c.in_ok-edit.ensures.edited c.working.ensures c.record_written.ensures).session
 
 pub returns-clause-over : goal.returns-clause-over
 returns-clause-over g c =
-    (done g (goal.at.returns-clause-over g c).After-edit c.working.result.now (rectangles_of c.note_written.new.written.items)
-    c.in_ok-edit.ensures.edited c.working.ensures c.note_written.ensures).over
+    (done g (goal.at.returns-clause-over g c).After-edit c.working.result.now (rectangles_of c.record_written.new.written.items)
+    c.in_ok-edit.ensures.edited c.working.ensures c.record_written.ensures).over
 
 pub returns-clause-left : goal.returns-clause-left
 returns-clause-left g c =
-    (done g (goal.at.returns-clause-left g c).After-edit c.working.result.now (rectangles_of c.note_written.new.written.items)
-    c.in_ok-edit.ensures.edited c.working.ensures c.note_written.ensures).left
+    (done g (goal.at.returns-clause-left g c).After-edit c.working.result.now (rectangles_of c.record_written.new.written.items)
+    c.in_ok-edit.ensures.edited c.working.ensures c.record_written.ensures).left

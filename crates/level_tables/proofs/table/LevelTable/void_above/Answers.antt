@@ -1,7 +1,7 @@
 use Rattle.std.proofs.Common.{◌≡◌, ◌+◌, ℕ, refl, ap, subst, ◌∙◌, arith}
 use Rattle.plane_rect.specs.Tile.{Tile}
 use Rattle.model_images.specs.Level.{tile_above, tile_at_level}
-use Rattle.level_tables.specs.Over.{max_level}
+use Rattle.pixel_formats.specs.Limits.{max_level}
 use Rattle.level_tables.specs.Steps.{VoidsAbove, VoidsOne, state}
 use Rattle.level_tables.proofs.Keeping.{tile_at_level-next, voids-first, voids-next}
 use Rattle.level_tables.proofs.table.LevelTable.void_above.Goals as goal

@@ -1,7 +1,7 @@
 use Rattle.std.proofs.Common.{◌≡◌}
 use Rattle.chain_owners.specs.Counts.{Continues}
 use Rattle.chain_handlers.specs.Overlay.{IsCache, overlay}
-use Rattle.chain_handlers.proofs.below.give_up_places.Given as goal
+use Rattle.chain_handlers.proofs.below.forget_below.Given as goal
 
 abbrev pub invariant-loop-name : goal.invariant-loop-name
 invariant-loop-name g l = record {

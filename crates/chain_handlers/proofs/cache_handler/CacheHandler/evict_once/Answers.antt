@@ -2,7 +2,7 @@ use Rattle.std.proofs.Common.{◌≡◌, Err, sym, rules}
 use Rattle.chain_contracts.specs.Tiles.{emptied}
 use Rattle.chain_handlers.proofs.CacheCallLaws.{moves-beneath, moves-none}
 use Rattle.chain_handlers.proofs.Moves.{last-known, laws-moved, lacks-moved, moved-cause, moved-held, moved-report}
-use Rattle.chain_handlers.proofs.cache_handler.CacheHandler.move_last_once.Goals as goal
+use Rattle.chain_handlers.proofs.cache_handler.CacheHandler.evict_once.Goals as goal
 
 pub put_where_missing-requires : goal.put_where_missing-requires
 put_where_missing-requires g c =

@@ -4,7 +4,7 @@ use Rattle.std.specs.Map.Iter.{deref_pair}
 use Rattle.std.proofs.lemmas.Map.Entries.{lookup_from_place}
 use Rattle.std.proofs.lemmas.Map.Iter.{iter_turn}
 use Rattle.chain_handlers.proofs.Moves.{given_up-held, given_up-laws}
-use Rattle.chain_handlers.proofs.below.give_up_places.Goals as goal
+use Rattle.chain_handlers.proofs.below.forget_below.Goals as goal
 
 pub loop-name-preserved : goal.loop-name-preserved
 loop-name-preserved g c =
