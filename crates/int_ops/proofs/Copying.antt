@@ -1,5 +1,5 @@
 -- Operations that copy an input over a part of their result.
-use Rattle.std.proofs.Common.{◌≡◌, ℕ, zero, suc, ◌+◌, ◌*◌, ◌-◌, ◌/◌, ◌<◌, ◌≤◌, ◌==◌, ◌&&◌, List, [], ◌∷◌, length, Bool, true, false, cond, Some, None, Option, refl, sym, ap, ◌∙◌, subst, arith, ◌⊎◌, inl, inr}
+use Rattle.std.proofs.Common.{◌≡◌, ℕ, zero, suc, ◌-◌, ◌≤◌, ◌==◌, ◌&&◌, List, [], ◌∷◌, length, Bool, true, false, cond, Some, None, refl, sym, ap, ◌∙◌, subst, arith, ◌⊎◌, inl, inr}
 use Rattle.std.specs.Prelude.{IsSome, slice_get, unwrap_or}
 use Rattle.std.proofs.lemmas.Bool.Decides.{nat_tests}
 use Rattle.plane_rect.specs.Rectangle.{Includes, Inside, Rectangle, empty, in_limits, meet}
@@ -15,7 +15,6 @@ use Rattle.model_images.proofs.FromRawLaws.{by_depth}
 use Rattle.model_images.proofs.Laws.{at_outside}
 use Rattle.model_images.proofs.Tests.{both, Decides-same_format}
 use Rattle.model_graphs.specs.Meanings.{boxes_of, formats_of, result_box}
-use Rattle.model_operations.specs.Boxes.{box_of}
 use Rattle.model_operations.specs.Formats.{format_of}
 use Rattle.model_operations.specs.Inputs.{input_count}
 use Rattle.model_operations.specs.Meanings.{int_meanings}

@@ -17,7 +17,7 @@ use Rattle.model_images.proofs.Positions.{by_positions}
 use Rattle.model_images.proofs.RawLaws.{raw-samples}
 use Rattle.model_images.specs.Agreement.{AgreeOver}
 use Rattle.model_graphs.specs.Laws.{IsLocal}
-use Rattle.model_graphs.specs.Meanings.{Meanings, boxes_of, formats_of, result_box, result_of}
+use Rattle.model_graphs.specs.Meanings.{Meanings, boxes_of, result_box, result_of}
 use Rattle.model_graphs.specs.Windows.{AreWindowsOf, IsWholeWindow, IsWindowOf, Window, tiles_of, window_image}
 
 module _ (image : Image) (held : HeldTiles) (need : Rectangle) (complete : (tile : Tile) → Meets tile need → IsSome (held tile))

@@ -3,12 +3,12 @@ use Rattle.std.specs.Prelude.{◌≡◌, ℕ, Bool, true, false, List}
 use Rattle.plane_rect.specs.Rectangle.{Inside, Rectangle, meet}
 use Rattle.model_images.specs.Abyss.{nearest}
 use Rattle.pixel_formats.specs.declared.abyss.Abyss.{Abyss}
-use Rattle.pixel_formats.specs.declared.abyss.Abyss.TheVariants.{None, Clamp, Loop, Black, White}
+use Rattle.pixel_formats.specs.declared.abyss.Abyss.TheVariants.{Clamp}
 use Rattle.model_operations.specs.Boxes.{result_box}
 use Rattle.model_operations.specs.Inputs.{input_box}
 use Rattle.model_operations.specs.Moves.{mirrored_part, moved, moved_back, moved_into, surrounded}
 use Rattle.model_operations.specs.declared.operation.IntOp.{IntOp}
-use Rattle.model_operations.specs.declared.operation.IntOp.TheVariants.{Color, Checker, Convert, Invert, Threshold, Gain, Translate, Crop, Flip, BoxMean, Dilate, Erode, Add, Over, Mask}
+use Rattle.model_operations.specs.declared.operation.IntOp.TheVariants.{Translate, Flip, BoxMean, Dilate, Erode}
 
 -- the positions that the windows of a part are read from, of an input of a box
 abbrev pub area_read : ℕ → Abyss → Rectangle → Rectangle → Rectangle

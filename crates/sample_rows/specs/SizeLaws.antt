@@ -1,5 +1,5 @@
 -- The bytes of groups and of blocks. A vector has sixteen samples.
-use Rattle.std.proofs.Common.{◌≡◌, ℕ, zero, suc, ◌+◌, ◌*◌, ◌<◌, ◌≤◌, ap, ◌∙◌, refl, arith}
+use Rattle.std.proofs.Common.{◌≡◌, ℕ, zero, suc, ◌+◌, ◌*◌, ◌<◌, ◌≤◌, ap, arith}
 use Rattle.std.proofs.Math.Nat.{mul-le-mul, mul-le-mul_left}
 use Rattle.sample_rows.specs.Groups.{Blocks, groups}
 use Rattle.simd_pixels.specs.Planes.{PlaneSizes}
