@@ -3,7 +3,7 @@
 ghost use Rattle.std.specs.Prelude.{◌≡◌, ◌≤◌, ℕ, List, IfErr, IfOk, IsSomeAnd, Err, None, Some, slice_get};
 ghost use Rattle.buffer_layouts.specs.Views.{root_view};
 ghost use Rattle.chain_owners.specs.{Counts.Grows, Owners.Respects};
-ghost use Rattle.level_tables.specs.Over.{max_level};
+ghost use Rattle.pixel_formats.specs.Limits.{max_level};
 ghost use Rattle.model_buffers.specs.{Layout.find, declared.refused.EditRefused.TheVariants.UnknownBuffer};
 ghost use Rattle.model_graphs.specs.Shapes.{Shape};
 ghost use Rattle.model_images.specs.TileCounts.{level_tiles, names_after_read};

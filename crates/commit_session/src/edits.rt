@@ -2,7 +2,7 @@
 
 ghost use Rattle.std.specs.Prelude.{◌≡◌, ◌≢◌, ◌≤◌, ◌++◌, ◌∷◌, [], Err, IfErr, IfOk, List, None, OnErr, OnOk, Option, Some};
 ghost use Rattle.chain_owners.specs.Held.{Held};
-ghost use Rattle.level_tables.specs.Over.{max_level};
+ghost use Rattle.pixel_formats.specs.Limits.{max_level};
 ghost use Rattle.model_buffers.specs.BufferEdit.{IsProperEdit, edit_refused};
 ghost use Rattle.model_buffers.specs.{Counts.tiles_added, Layout.find, Table.Table, declared.refused.EditRefused.EditRefused as Cause};
 ghost use Rattle.model_buffers.specs.declared.refused.EditRefused.TheVariants.{UnknownBuffer};

@@ -1,7 +1,7 @@
 //! Edits and reads of the buffers of a session.
 
 ghost use Rattle.std.specs.Prelude.{◌≡◌, ◌≢◌, ◌≤◌, Err, IfErr, IfOk, List, None, OnErr, OnOk, Some};
-ghost use Rattle.level_tables.specs.Over.{max_level};
+ghost use Rattle.pixel_formats.specs.Limits.{max_level};
 ghost use Rattle.model_buffers.specs.{Layout.find, Table.Table, declared.refused.EditRefused.EditRefused as Cause};
 ghost use Rattle.model_buffers.specs.declared.refused.EditRefused.TheVariants.{UnknownBuffer};
 ghost use Rattle.model_images.specs.TileCounts.{level_tiles};

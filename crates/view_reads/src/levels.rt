@@ -1,7 +1,8 @@
 //! Levels of the images of views.
 
 ghost use Rattle.std.specs.Prelude.{◌≡◌, ◌≤◌, IfErr, IfOk, length, replicate};
-ghost use Rattle.level_tables.specs.Over.{IsTileOfLevel, max_level, tile_length};
+ghost use Rattle.pixel_formats.specs.Limits.{max_level};
+ghost use Rattle.level_tables.specs.Over.{IsTileOfLevel, tile_length};
 ghost use Rattle.model_images.specs.{Level.halved_image, Raw.tile_bytes};
 ghost use Rattle.plane_rect.specs.Rectangle.{InLimits};
 ghost use Rattle.swap_store.specs.Cause.{HasSwapCause};

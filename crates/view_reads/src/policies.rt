@@ -1,7 +1,7 @@
 //! Levels of the images of views, read under a policy.
 
 ghost use Rattle.std.specs.Prelude.{◌≡◌, ◌+◌, ◌-◌, ◌<◌, ◌≤◌, ◌⊎◌, IfErr, IfOk, IsTrue, false, max, min};
-ghost use Rattle.level_tables.specs.Over.{max_level};
+ghost use Rattle.pixel_formats.specs.Limits.{max_level};
 ghost use Rattle.model_images.specs.Abyss.{abyss_at, wrapped};
 ghost use Rattle.model_images.specs.{Image.image_from_fn, TileCounts.level_tiles};
 ghost use Rattle.plane_rect.specs.Rectangle.{InLimits, Within, empty, is_empty, plane_side};
