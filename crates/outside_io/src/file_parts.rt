@@ -33,7 +33,7 @@ pub(crate) fn read_at<F: FileExt + Sync, R: Threads + Sync>(
     if readers.are_several() {
         fill_by_pieces(file, start, readers.count() as usize, readers, into)
     } else {
-        fill_at(file, start, into)
+        fill_piece(file, start, into)
     }
 }
 
@@ -51,7 +51,7 @@ fn fill_by_pieces<F: FileExt + Sync, R: Threads + Sync>(
     ensures length { length into.new ≡ length into.old }
 {
     if pieces == 0 || into.is_empty() {
-        return fill_at(file, start, into);
+        return fill_piece(file, start, into);
     }
     let count = into.len().div_ceil(pieces);
     let next = start.saturating_add(count as u64);
@@ -60,7 +60,7 @@ fn fill_by_pieces<F: FileExt + Sync, R: Threads + Sync>(
         &mut || -> Result<usize, ShelfAnswer>
             ensures within { IfOk result (λ filled. filled ≤ length first.exit.now) }
             ensures length { length first.exit.now ≡ length first.entry.now }
-        { fill_at(file, start, first) },
+        { fill_piece(file, start, first) },
         &mut || -> Result<usize, ShelfAnswer>
             requires { (0 < pieces) × IsSync F.row × IsSync R.row }
             ensures within { IfOk result (λ more. more ≤ length rest.exit.now) }
@@ -76,16 +76,24 @@ fn fill_by_pieces<F: FileExt + Sync, R: Threads + Sync>(
     }
 }
 
+/// Reads a piece of a file, as `fill_at` does.
+fn fill_piece<F: FileExt>(file: &F, start: u64, into: &mut [u8]) -> Result<usize, ShelfAnswer>
+    ensures within { IfOk result (λ count. count ≤ length into.new) }
+    ensures length { length into.new ≡ length into.old }
+{
+    fill_at(file, start, into).map_err(refusal)
+}
+
 /// Reads a file from a position on into the slice, to the file's end or the slice's, and returns how many bytes.
 /// Each turn but the last takes at least one byte.
-fn fill_at<F: FileExt>(file: &F, start: u64, into: &mut [u8]) -> Result<usize, ShelfAnswer>
+pub(crate) fn fill_at<F: FileExt>(file: &F, start: u64, into: &mut [u8]) -> io::Result<usize>
     ensures within { IfOk result (λ filled. filled ≤ length into.new) }
     ensures length { length into.new ≡ length into.old }
 {
     let mut filled = 0;
     while filled < into.len() {
         let position = start.saturating_add(filled as u64);
-        let count = read_some_at(file, position, &mut into[filled..]).map_err(refusal)?;
+        let count = read_some_at(file, position, &mut into[filled..])?;
         if count == 0 {
             return Ok(filled);
         }

@@ -3,6 +3,7 @@
 ghost use Rattle.std.specs.Prelude.{◌≡◌, ◌+◌, ◌/◌, ◌%◌, ◌<◌, ◌≤◌, ◌^◌, [], None, length};
 ghost use Rattle.outside_io.specs.{Faults.faults_after, Swap.has_failed};
 
+use crate::file_parts::fill_at;
 use crate::stored_blocks::BLOCK_BYTES;
 use crate::swap::{SwapAnswer, SwapDisk};
 use std::fs::{File, Files, OpenFile};
@@ -14,8 +15,12 @@ use std::{fs, io};
 /// The name of the file in the current folder.
 const FILE_NAME: &str = ".tilegraph-swap";
 
+/// How often the file is made at most, where another of its name is there each time.
+const MAX_TRIES: u32 = 64;
+
 /// The blocks of a file `.tilegraph-swap` of the current folder, which is made afresh at the first
-/// block call. It doesn't expose what they hold: a clause sees how many they are, and how many calls failed.
+/// block call, and is as long as the blocks that were written. It doesn't expose what they hold: a clause sees how many
+/// they are, and how many calls failed.
 #[derive(Drop)]
 pub struct FileSwap<R: Files + Drop> {
     rt: R,
@@ -76,8 +81,8 @@ where
     {
         let done = self
             .file
-            .get_or_try_insert_with(|| make_file(&self.rt, self.blocks))
-            .and_then(|file| file.read_exact_at(into, offset(first)));
+            .get_or_try_insert_with(|| make_file(&self.rt))
+            .and_then(|file| read_blocks_at(file, first, into));
         self.answer(done)
     }
 
@@ -88,7 +93,7 @@ where
     {
         let done = self
             .file
-            .get_or_try_insert_with(|| make_file(&self.rt, self.blocks))
+            .get_or_try_insert_with(|| make_file(&self.rt))
             .and_then(|file| file.write_all_at(bytes, offset(first)));
         self.answer(done)
     }
@@ -164,13 +169,40 @@ fn offset(n: u32) -> u64 {
     u64::from(n) * BLOCK_BYTES as u64
 }
 
-/// Makes the file of the blocks afresh. Its name is taken away at once, so that nothing is left of
+/// Reads blocks of the file, from block `first` on. The file ends where the last block that was written does, and those
+/// after it are zeros, as those in between that no call wrote.
+fn read_blocks_at<F: FileExt>(file: &F, first: u32, into: &mut [u8]) -> io::Result<()> {
+    let filled = fill_at(file, offset(first), into)?;
+    into[filled..].fill(0);
+    Ok(())
+}
+
+/// Makes the file of the blocks afresh, without a block. Its name is taken away at once, so that nothing is left of
 /// it when the program ends, however it ends.
-fn make_file<R: Files>(rt: &R, blocks: u32) -> io::Result<R::File> {
-    // A file of an earlier run may be in use, or a link to another file: it is never written to.
-    let _ = fs::remove_file(rt, FILE_NAME);
-    let file = File::create_new(rt, FILE_NAME)?;
-    fs::remove_file(rt, FILE_NAME)?;
-    file.set_len(offset(blocks))?;
-    Ok(file)
+///
+/// A file of that name may be in use by another run, or be a link to another file: it is never written to, but its name
+/// is taken away, so that a new file may have it. No two runs have one file, since each made its own.
+fn make_file<R: Files>(rt: &R) -> io::Result<R::File> {
+    for _ in 0..MAX_TRIES {
+        match File::create_new(rt, FILE_NAME) {
+            Ok(file) => {
+                remove_name(rt)?;
+                return Ok(file);
+            }
+            // What can't be removed is met again.
+            Err(error) if error.kind() == ErrorKind::AlreadyExists => {
+                let _ = remove_name(rt);
+            }
+            Err(error) => return Err(error),
+        }
+    }
+    Err(io::Error::from(ErrorKind::AlreadyExists))
+}
+
+/// Takes the name of the file away, where it is still there: another run that makes its own file may have done so.
+fn remove_name<R: Files>(rt: &R) -> io::Result<()> {
+    match fs::remove_file(rt, FILE_NAME) {
+        Err(error) if error.kind() == ErrorKind::NotFound => Ok(()),
+        answer => answer,
+    }
 }
