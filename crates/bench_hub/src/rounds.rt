@@ -2,7 +2,7 @@
 
 use scene_hub::{Editor, Viewer};
 use std::sync::Wait;
-use test_hub::Page;
+use test_hub::{Page, publish_next};
 
 /// Enters so often by the first viewer. Returns the sum of the numbers that it saw.
 pub fn enter_often(viewers: &mut [Viewer<Page>], rounds: u32) -> u64 {
@@ -22,20 +22,7 @@ pub fn enter_often(viewers: &mut [Viewer<Page>], rounds: u32) -> u64 {
 pub fn publish_often<R: Wait>(rt: &R, editor: &mut Editor<Page>, rounds: u32) -> u64 {
     let mut sum: u64 = 0;
     for _ in 0..rounds {
-        sum = sum.wrapping_add(publish_next(rt, editor));
+        sum = sum.wrapping_add(publish_next(rt, editor).unwrap_or(0));
     }
     sum
-}
-
-/// Publishes the next page. Returns its receipt's number, or 0 where it is refused.
-fn publish_next<R: Wait>(rt: &R, editor: &mut Editor<Page>) -> u64 {
-    let number = editor.number();
-    if number == u64::MAX {
-        return 0;
-    }
-    let page = Page { number: number + 1 };
-    match editor.publish(rt, page) {
-        Ok(receipt) => receipt.number(),
-        Err(_) => 0,
-    }
 }

@@ -1,5 +1,5 @@
 -- The steps of the hub keep its rule.
-use Rattle.std.proofs.Common.{◌≡◌, ◌≢◌, ℕ, ◌<◌, List, [], ◌∷◌, ◌++◌, set, refl, ap, sym, ◌∙◌, subst, ⊎_elim, Option, Some, None}
+use Rattle.std.proofs.Common.{◌≡◌, ◌≢◌, ◌⊎◌, ℕ, ◌<◌, ◌≤◌, List, [], ◌∷◌, ◌++◌, set, refl, ap, sym, ◌∙◌, subst, ⊎_elim, Option, Some, None}
 use Rattle.std.specs.Prelude.{option_map}
 use mathlib.Core.Option.{some}
 use lib.ListN.{get_elem?}
@@ -7,11 +7,11 @@ use Rattle.crossbeam_utils.specs.Register.{Admits, TurnsAt, Forks, Merges}
 use Rattle.atomic_table.proofs.Lists.{at_set, at_snoc}
 use Rattle.scene_hub.specs.declared.prefix.ListPrefix.{ListPrefix}
 use Rattle.scene_hub.specs.declared.showing.Showing.{Showing}
-use Rattle.scene_hub.specs.HubList.{ComesBefore, IsReached, RisesTo, scenes}
+use Rattle.scene_hub.specs.HubList.{ComesBefore, FollowUpTo, IsReached, scenes}
 use Rattle.scene_hub.specs.HubRule.{HasSeen, IsLast, IsSeen, AllSeen, IsShown, Sees}
-use Rattle.scene_hub.specs.SceneLog.{Begins, NumbersRise, last_of, list_of}
+use Rattle.scene_hub.specs.SceneLog.{AllFollow, Begins, IsNext, last_of, list_of}
 use Rattle.scene_hub.proofs.LogLists.{lists_grow}
-use Rattle.scene_hub.proofs.Numbers.{last_of-push, rises_push}
+use Rattle.scene_hub.proofs.Numbers.{follows_push, last_of-push, newer_is_longer, numbers_rise}
 use Rattle.scene_hub.proofs.Prefixes.{begins_same, begins_trans}
 
 module _ {S : Type 0} where
@@ -21,8 +21,8 @@ module _ {S : Type 0} where
   pub comes_trans : (p q r : ListPrefix S) → ComesBefore p q → ComesBefore q r → ComesBefore p r
   comes_trans p q r a b = (a.0 ∙ b.0, begins_trans p.reached.log q.reached.log r.reached.log a.1 b.1)
 
-  abbrev pub holds : (S → ℕ) → Showing S → List (Option (ListPrefix S)) → Type 0
-  holds number shown views = IsShown number shown × AllSeen shown.list views
+  abbrev pub holds : (S → ℕ) → (S → S → Type 0) → Showing S → List (Option (ListPrefix S)) → Type 0
+  holds number follows shown views = IsShown number follows shown × AllSeen shown.list views
 
   nothing_seen : (shown : ListPrefix S) → IsSeen shown None
   nothing_seen shown p is = absurd (cc is)
@@ -35,12 +35,12 @@ module _ {S : Type 0} where
   all_snoc shown views w all new j u at =
       ⊎_elim (λ (t : get_elem? views j ≡ some u). all j u t) (λ (t : w ≡ u). subst (IsSeen shown) t new) (at_snoc views w u j at)
 
-  pub admits : (number : S → ℕ) → Admits (holds number) None
-  admits number x views h = (h.0, all_snoc x.list views None h.1 (nothing_seen x.list))
+  pub admits : (number : S → ℕ) (follows : S → S → Type 0) → Admits (holds number follows) None
+  admits number follows x views h = (h.0, all_snoc x.list views None h.1 (nothing_seen x.list))
 
-  pub turns : (number : S → ℕ) (seat : ℕ) (v : Option (ListPrefix S)) (x y : Showing S) → (IsShown number x → IsShown number y) → ComesBefore x.list y.list
-      → TurnsAt (holds number) seat v x y (λ before shown next after. Sees number before next after)
-  turns number seat v x y shown later views h at =
+  pub turns : (number : S → ℕ) (follows : S → S → Type 0) (seat : ℕ) (v : Option (ListPrefix S)) (x y : Showing S) → (IsShown number follows x → IsShown number follows y) → ComesBefore x.list y.list
+      → TurnsAt (holds number follows) seat v x y (λ before shown next after. Sees number follows before next after)
+  turns number follows seat v x y shown later views h at =
       let grown : (w : Option (ListPrefix S)) → IsSeen x.list w → IsSeen y.list w = λ w seen p is. comes_trans p x.list y.list (seen p is) later in
       let all : AllSeen y.list views = λ j u e. grown u (h.1 j u e) in
       let own : IsSeen y.list (Some y.list) = λ p is. let e : y.list ≡ p = cc is in subst (λ q. ComesBefore q y.list) e (comes_same y.list) in (
@@ -49,13 +49,13 @@ module _ {S : Type 0} where
         (shown h.0, grown v (h.1 seat v at), refl),
       )
 
-  pub forks : (number : S → ℕ) (seat : ℕ) (v : Option (ListPrefix S)) → Forks (holds number) seat v v v
-  forks number seat v x views h at =
+  pub forks : (number : S → ℕ) (follows : S → S → Type 0) (seat : ℕ) (v : Option (ListPrefix S)) → Forks (holds number follows) seat v v v
+  forks number follows seat v x views h at =
       let own = h.1 seat v at in
       (h.0, all_snoc x.list (set views seat v) v (all_set x.list views seat v h.1 own) own)
 
-  pub merges : (number : S → ℕ) (seat : ℕ) (v : Option (ListPrefix S)) (other : ℕ) (w : Option (ListPrefix S)) → Merges (holds number) seat v other w w None
-  merges number seat v other w x views h at apart there =
+  pub merges : (number : S → ℕ) (follows : S → S → Type 0) (seat : ℕ) (v : Option (ListPrefix S)) (other : ℕ) (w : Option (ListPrefix S)) → Merges (holds number follows) seat v other w w None
+  merges number follows seat v other w x views h at apart there =
       let told : IsSeen x.list w = ⊎_elim (λ (t : (other ≡ seat) × (w ≡ w)). absurd (apart t.0)) (λ (t : (other ≢ seat) × (get_elem? views other ≡ some w)). h.1 other w t.1) (at_set views seat other w w there) in
       (h.0, all_set x.list (set views seat w) other None (all_set x.list views seat w h.1 told) (nothing_seen x.list))
 
@@ -78,15 +78,22 @@ module _ {S : Type 0} where
       let e : p.origin.log ≡ q.origin.log = ap (λ s. s.log) b.0 in
       subst (λ l. Begins (scenes p) (list_of l q.reached.log).1) e (lists_grow p.origin.log p.reached.log q.reached.log reached.1 b.1)
 
-  last_pushed : (number : S → ℕ) (list : ListPrefix S) (before : List S) (s : S) (m : ℕ) → IsReached list → scenes list ≡ before ++ s ∷ []
-      → NumbersRise number before → option_map number (last_of before) ≡ Some m → m < number s → IsLast number list s (number s)
-  last_pushed number list before s m reached is rises last less =
+  last_pushed : (number : S → ℕ) (follows : S → S → Type 0) → ((a b c : S) → follows a b → follows b c → follows a c) → (list : ListPrefix S) (before : List S) (s : S)
+      → IsReached list → scenes list ≡ before ++ s ∷ [] → AllFollow follows before → IsNext follows before s → IsLast number follows list s (number s)
+  last_pushed number follows transitive list before s reached is follow next =
       let e : last_of (scenes list) ≡ Some s = ap last_of is ∙ last_of-push before s in
-      (reached, (subst (NumbersRise number) (sym is) (rises_push number before m s rises last less), ap (option_map number) e), e)
+      (reached, (subst (AllFollow follows) (sym is) (follows_push follows transitive before s follow next), ap (option_map number) e), e)
 
-  -- the list after a scene was appended, whose number exceeds the last one's
-  pub last_after : (number : S → ℕ) (list whole old : ListPrefix S) (t s : S) (m n : ℕ) → list ≡ whole → IsReached whole → scenes whole ≡ scenes old ++ t ∷ [] → t ≡ s → n ≡ number s
-      → RisesTo number old m → m < number s → IsLast number list s n
-  last_after number list whole old t s m n copied reached is same numbered rises less =
-      let pushed = last_pushed number whole (scenes old) s m reached (is ∙ ap (λ x. scenes old ++ x ∷ []) same) rises.0 rises.1 less in
-      subst (λ k. IsLast number list s k) (sym numbered) (subst (λ l. IsLast number l s (number s)) (sym copied) pushed)
+  -- the list after a scene was appended that follows the last one
+  pub last_after : (number : S → ℕ) (follows : S → S → Type 0) → ((a b c : S) → follows a b → follows b c → follows a c) → (list whole old : ListPrefix S) (t s : S) (n : ℕ)
+      → list ≡ whole → IsReached whole → scenes whole ≡ scenes old ++ t ∷ [] → t ≡ s → n ≡ number s
+      → AllFollow follows (scenes old) → IsNext follows (scenes old) s → IsLast number follows list s n
+  last_after number follows transitive list whole old t s n copied reached is same numbered follow next =
+      let pushed = last_pushed number follows transitive whole (scenes old) s reached (is ∙ ap (λ x. scenes old ++ x ∷ []) same) follow next in
+      subst (λ k. IsLast number follows list s k) (sym numbered) (subst (λ l. IsLast number follows l s (number s)) (sym copied) pushed)
+
+  -- of two prefixes of a hub's list, the one with the greater last number is the longer
+  pub newer_prefix : (number : S → ℕ) (follows : S → S → Type 0) → ((a b : S) → follows a b → number a < number b) → (p q : ListPrefix S) (m n : ℕ)
+      → Begins (scenes p) (scenes q) ⊎ Begins (scenes q) (scenes p) → FollowUpTo number follows p m → FollowUpTo number follows q n → m ≤ n → Begins (scenes p) (scenes q)
+  newer_prefix number follows rises p q m n either a b le =
+      newer_is_longer number (scenes p) (scenes q) m n either (numbers_rise number follows rises (scenes p) a.0) a.1 b.1 le

@@ -1,21 +1,22 @@
--- Lists whose numbers rise, and their last numbers.
+-- Lists of scenes that follow one another, whose numbers rise, and their last numbers.
 use Rattle.std.proofs.Common.{◌≡◌, ℕ, ◌+◌, ◌<◌, ◌≤◌, ◌⊎◌, List, [], ◌∷◌, ◌++◌, length, drop, fold, refl, ap, sym, ◌∙◌, subst, arith, append_assoc, length-append, Option, Some, None, ⊎_elim, slice_index_or}
-use Rattle.std.specs.Prelude.{option_map}
+use Rattle.std.specs.Prelude.{AllPairs, option_map}
+use Rattle.std.specs.Option.{ForSome}
 use Rattle.std.proofs.lemmas.Bool.{cases_lt}
 use Rattle.std.proofs.lemmas.List.{append-nil}
 use Rattle.std.proofs.lemmas.List.Sums.{fold-append}
 use Rattle.std.proofs.lemmas.List.Quantifiers.{all_pairs_push}
 use Rattle.std.proofs.Math.Seq.{get_or-append_seam}
-use Rattle.scene_hub.specs.SceneLog.{Begins, last_of, NumbersRise}
+use Rattle.std.proofs.Math.Logic.{∥∥₁_map₂}
+use Rattle.std.proofs.lemmas.Grind.{not_there}
+use Rattle.scene_hub.specs.SceneLog.{AllFollow, Begins, IsNext, last_of}
 use Rattle.scene_hub.proofs.Prefixes.{begins_same, begins_rest}
 
-le_of_lt : (m n : ℕ) → m < n → m ≤ n
-le_of_lt m n lt = omega arith
-
-le_of_same : (m n : ℕ) → m ≡ n → m ≤ n
-le_of_same m n same = omega (arith, same)
-
 module _ {S : Type 0} where
+  -- each number is less than each later one
+  abbrev pub NumbersRise : (S → ℕ) → List S → Type 0
+  NumbersRise number scenes = AllPairs (λ s t. number s < number t) scenes
+
   ends : (xs : List S) (y : S) → (before : List S) × (z : S) × (fold (λ _ x. Some x) (Some y) xs ≡ Some z) × (y ∷ xs ≡ before ++ z ∷ [])
   ends [] y = ([], y, refl, refl)
   ends (x ∷ xs) y = let r = ends xs x in (y ∷ r.0, r.1, r.2, cc (r.3))
@@ -60,15 +61,38 @@ module _ {S : Type 0} where
   pub newer_is_longer : (number : S → ℕ) (ps qs : List S) (m n : ℕ) → Begins ps qs ⊎ Begins qs ps → NumbersRise number ps → option_map number (last_of ps) ≡ Some m → option_map number (last_of qs) ≡ Some n → m ≤ n → Begins ps qs
   newer_is_longer number ps qs m n either rises p q le = ⊎_elim (λ (b : Begins ps qs). b) (λ (b : Begins qs ps). newer_from number ps qs (drop (length qs) ps) m n (begins_rest qs ps b) rises p q le) either
 
-  up_to_last : (number : S → ℕ) (xs before : List S) (s : S) → NumbersRise number xs → xs ≡ before ++ s ∷ [] → (k : ℕ) (d : S) → k < length xs → number (slice_index_or xs k d) ≤ number s
-  up_to_last number xs before s rises is k d lt =
-      let size : length xs ≡ length before + 1 = ap length is ∙ length-append before (s ∷ []) in
-      let last : slice_index_or xs (length before) d ≡ s = ap (λ l. slice_index_or l (length before) d) is ∙ get_or-append_seam before s [] d in
-      ⊎_elim (λ (less : k < length before). le_of_lt _ _ (subst (λ t. number (slice_index_or xs k d) < number t) last (rises k (length before) d less (omega arith))))
-      (λ (le : length before ≤ k). let same : k ≡ length before = omega arith in le_of_same _ _ (ap (λ j. number (slice_index_or xs j d)) same ∙ ap number last)) (cases_lt k (length before))
+  -- the numbers of scenes that follow one another rise
+  pub numbers_rise : (number : S → ℕ) (follows : S → S → Type 0) → ((a b : S) → follows a b → number a < number b) → (xs : List S) → AllFollow follows xs → NumbersRise number xs
+  numbers_rise number follows rises xs all = λ i j d less lt.
+      let a = slice_index_or xs i d in
+      let b = slice_index_or xs j d in
+      ⊎_elim (λ (l : number a < number b). l)
+      (λ (ge : number b ≤ number a). absurd (not_there (all i j d less lt) (λ f. let r = rises a b f in omega (arith, r, ge))))
+      (cases_lt (number a) (number b))
 
-  -- a scene with a greater number may come next
-  pub rises_push : (number : S → ℕ) (xs : List S) (m : ℕ) (s : S) → NumbersRise number xs → option_map number (last_of xs) ≡ Some m → m < number s → NumbersRise number (xs ++ s ∷ [])
-  rises_push number xs m s rises is less =
-      let l = last_numbered number xs m is in
-      all_pairs_push (λ s t. number s < number t) xs s rises (λ k d lt. omega (arith, up_to_last number xs l.0 l.1 rises l.2 k d lt, l.3, less))
+  at_last : (xs before : List S) (z : S) → xs ≡ before ++ z ∷ [] → (d : S) → slice_index_or xs (length before) d ≡ z
+  at_last xs before z is d = ap (λ l. slice_index_or l (length before) d) is ∙ get_or-append_seam before z [] d
+
+  -- what the last item is related to, each item is
+  related_to : (R : S → S → Type 0) → ((a b c : S) → R a b → R b c → R a c) → (xs before : List S) (z s : S) → AllPairs R xs → xs ≡ before ++ z ∷ []
+      → R z s → (k : ℕ) (d : S) → k < length xs → R (slice_index_or xs k d) s
+  related_to R transitive xs before z s all is next k d lt =
+      let size : length xs ≡ length before + 1 = ap length is ∙ length-append before (z ∷ []) in
+      let item = slice_index_or xs k d in
+      let ended : slice_index_or xs (length before) d ≡ z = at_last xs before z is d in
+      ⊎_elim (λ (less : k < length before). transitive item z s (subst (λ t. R item t) ended (all k (length before) d less (omega arith))) next)
+      (λ (le : length before ≤ k). let same : k ≡ length before = omega arith in subst (λ t. R t s) (sym (ap (λ j. slice_index_or xs j d) same ∙ ended)) next)
+      (cases_lt k (length before))
+
+  pairs_push : (R : S → S → Type 0) → ((a b c : S) → R a b → R b c → R a c) → (xs : List S) (s : S) → AllPairs R xs
+      → ForSome (last_of xs) (λ last. R last s) → AllPairs R (xs ++ s ∷ [])
+  pairs_push R transitive [] s all next = all_pairs_push R [] s all (λ k d lt. absurd (omega (arith, lt)))
+  pairs_push R transitive (x ∷ xs) s all next =
+      let e = ends xs x in
+      all_pairs_push R (x ∷ xs) s all (related_to R transitive (x ∷ xs) e.0 e.1 s all e.3 (next e.1 e.2))
+
+  -- a scene that follows the last one may come next
+  pub follows_push : (follows : S → S → Type 0) → ((a b c : S) → follows a b → follows b c → follows a c) → (xs : List S) (s : S)
+      → AllFollow follows xs → IsNext follows xs s → AllFollow follows (xs ++ s ∷ [])
+  follows_push follows transitive xs s all next =
+      pairs_push (λ a b. ∥ follows a b ∥₁) (λ a b c p q. ∥∥₁_map₂ p q (transitive a b c)) xs s all (λ z is. ∣ next z is ∣₁)

@@ -1,6 +1,5 @@
 -- What contracts see of an editor, a viewer and a receipt.
-use Rattle.std.specs.Prelude.{ℕ, ◌<◌, List, option_map}
-use Rattle.std.specs.Option.{ForSome}
+use Rattle.std.specs.Prelude.{List}
 use Rattle.left_right.specs.declared.Absorb as absorbing
 use Rattle.scene_hub.specs.declared.numbered.Numbered.{Ghosts}
 use Rattle.scene_hub.specs.declared.editor.Editor.{Editor}
@@ -8,11 +7,6 @@ use Rattle.scene_hub.specs.declared.receipt.Receipt.{Receipt}
 use Rattle.scene_hub.specs.declared.showing.Showing.{Showing}
 use Rattle.scene_hub.specs.declared.viewer.Viewer.{Viewer}
 use Rattle.scene_hub.specs.HubList.{scenes, IsSameHub}
-use Rattle.scene_hub.specs.SceneLog.{last_of}
-
--- the scene's number exceeds the last number of the list
-abbrev pub IsNewer : {S : Type 0} → (S → ℕ) → List S → S → Type 0
-IsNewer number list scene = ForSome (option_map number (last_of list)) (λ n. n < number scene)
 
 module _ {S : Type 0} {g : Ghosts S} where
   -- the prefix of its hub's list that a receipt holds

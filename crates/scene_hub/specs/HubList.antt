@@ -1,7 +1,7 @@
 -- What contracts see of a prefix of a hub's list.
 use Rattle.std.specs.Prelude.{◌≡◌, ℕ, List, Some, option_map}
 use Rattle.scene_hub.specs.declared.prefix.ListPrefix.{ListPrefix}
-use Rattle.scene_hub.specs.SceneLog.{Begins, list_of, last_of, NumbersRise}
+use Rattle.scene_hub.specs.SceneLog.{Begins, list_of, last_of, AllFollow}
 
 module _ {S : Type 0} where
   -- the scenes of a prefix, from the first on
@@ -24,6 +24,6 @@ module _ {S : Type 0} where
   abbrev pub ComesBefore : ListPrefix S → ListPrefix S → Type 0
   ComesBefore p q = IsSameHub p q × Begins p.reached.log q.reached.log
 
-  -- the numbers of its scenes rise up to this one
-  abbrev pub RisesTo : (S → ℕ) → ListPrefix S → ℕ → Type 0
-  RisesTo number p last = NumbersRise number (scenes p) × (option_map number (last_of (scenes p)) ≡ Some last)
+  -- its scenes follow one another, and the last has this number
+  abbrev pub FollowUpTo : (S → ℕ) → (S → S → Type 0) → ListPrefix S → ℕ → Type 0
+  FollowUpTo number follows p last = AllFollow follows (scenes p) × (option_map number (last_of (scenes p)) ≡ Some last)

@@ -1,5 +1,6 @@
 -- The list of scenes that a log gives.
-use Rattle.std.specs.Prelude.{◌≡◌, ℕ, ◌==◌, ◌<◌, List, [], ◌∷◌, ◌++◌, length, take, drop, fold, AllPairs, Option, Some, None, if◌then◌else◌}
+use Rattle.std.specs.Prelude.{◌≡◌, ℕ, ◌==◌, List, [], ◌∷◌, ◌++◌, length, take, drop, fold, AllPairs, Option, Some, None, if◌then◌else◌}
+use Rattle.std.specs.Option.{ForSome}
 use Rattle.scene_hub.specs.declared.entry.Entry.{Entry}
 
 -- the second list begins with the first
@@ -23,6 +24,10 @@ module _ {S : Type 0} where
   abbrev pub list_of : List (Entry S) → List (Entry S) → ℕ × List S
   list_of origin log = fold with_entry (begun origin) (drop (length origin) log)
 
-  -- each number is less than each later one
-  abbrev pub NumbersRise : (S → ℕ) → List S → Type 0
-  NumbersRise number scenes = AllPairs (λ s t. number s < number t) scenes
+  -- each scene follows all before it
+  abbrev pub AllFollow : (S → S → Type 0) → List S → Type 0
+  AllFollow follows scenes = AllPairs (λ s t. ∥ follows s t ∥₁) scenes
+
+  -- the scene follows the last one of the list
+  abbrev pub IsNext : (S → S → Type 0) → List S → S → Type 0
+  IsNext follows scenes scene = ForSome (last_of scenes) (λ last. follows last scene)

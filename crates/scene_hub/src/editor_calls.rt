@@ -1,8 +1,8 @@
 //! What an editor does.
 
 ghost use Rattle.std.specs.Prelude.{◌≡◌, [], ◌∷◌, ◌++◌, Some, IfOk, OnErr, option_map};
-ghost use Rattle.scene_hub.specs.Hub.{published, receipted, IsOfEditor, IsSameEditorHub, IsNewer};
-ghost use Rattle.scene_hub.specs.SceneLog.{last_of};
+ghost use Rattle.scene_hub.specs.Hub.{published, receipted, IsOfEditor, IsSameEditorHub};
+ghost use Rattle.scene_hub.specs.SceneLog.{AllFollow, IsNext, last_of};
 
 use crate::editor::Editor;
 use crate::numbered::Numbered;
@@ -13,11 +13,13 @@ use no_memory::NoMemory;
 use std::sync::{Arc, Wait};
 
 impl<S: Numbered> Editor<S> {
-    /// Appends a scene to the hub's list and shows it to all viewers, and returns its receipt. It waits
-    /// for viewers that are just entering. Where memory runs out nothing is published.
+    /// Appends a scene that follows the last one to the hub's list and shows it to all viewers, and
+    /// returns its receipt. It waits for viewers that are just entering. Where memory runs out nothing is
+    /// published.
     pub fn publish<R: Wait>(&mut self, rt: &R, scene: S) -> Result<Receipt<S>, NoMemory>
-        requires rises { IsNewer S.number_of (published self.old) scene }
+        requires follows { IsNext S.follows (published self.old) scene }
         ensures published { IfOk result (λ receipt. published self.new ≡ published self.old ++ scene ∷ []) }
+        ensures follow { AllFollow S.follows (published self.new) }
         ensures receipt { IfOk result (λ receipt. IsOfEditor receipt self.new × (receipted receipt ≡ published self.new)) }
         ensures refused { OnErr result (published self.new ≡ published self.old) }
         ensures hub { IsSameEditorHub self.old self.new }

@@ -30,7 +30,7 @@ fn show_again<S: Numbered, R: Wait>(
     first: &Showing<S>,
 ) -> (SceneWriter<S>, bool)
     requires pending { drop writer.behind writer.log.items ≡ [] }
-    requires shown { IsShown S.number_of first.now × (writer.desk.shown.value.list ≡ first.now.list) }
+    requires shown { IsShown S.number_of S.follows first.now × (writer.desk.shown.value.list ≡ first.now.list) }
     ensures { MatchBool result.1
         ((result.0.desk.shown.value.list ≡ first.now.list) × (view result.0.desk.place ≡ Some first.now.list) × (drop result.0.behind result.0.log.items ≡ []))
         (Unit {0}) }
@@ -54,7 +54,7 @@ fn first_publisher<S: Numbered, R: Wait>(
     first: &Showing<S>,
 ) -> Result<Publisher<S>, HubRefused>
     requires viewers { (1 ≤ viewers) × (viewers ≤ 16) }
-    requires shown { IsShown S.number_of first.now }
+    requires shown { IsShown S.number_of S.follows first.now }
     ensures { IfOk result (λ publisher. publisher.writer.desk.shown.value.list ≡ first.now.list) }
 {
     let (one, other) = (first.share()?, first.share()?);
@@ -75,7 +75,7 @@ fn first_publisher<S: Numbered, R: Wait>(
 impl<S: Numbered> Editor<S> {
     /// Makes a viewer that has seen what is shown.
     fn viewer(&mut self, shown: &Showing<S>) -> Result<Viewer<S>, HubRefused>
-        requires { IsShown S.number_of shown.now × (shown.now.list ≡ self.old.list.whole) }
+        requires { IsShown S.number_of S.follows shown.now × (shown.now.list ≡ self.old.list.whole) }
         ensures viewer { IfOk result (λ viewer. IsViewerOf viewer self.new × (seen viewer ≡ scenes shown.now.list) × (told viewer ≡ scenes shown.now.list)) }
         ensures list { self.new.list ≡ self.old.list }
     {
@@ -103,7 +103,7 @@ impl<S: Numbered> Editor<S> {
         count: u32,
         shown: &Showing<S>,
     ) -> Result<Vec<Viewer<S>>, HubRefused>
-        requires { IsShown S.number_of shown.now × (shown.now.list ≡ self.old.list.whole) }
+        requires { IsShown S.number_of S.follows shown.now × (shown.now.list ≡ self.old.list.whole) }
         ensures viewers { IfOk result (λ viewers. (vec_len viewers ≡ count) × All (λ viewer. IsViewerOf viewer self.new × (seen viewer ≡ scenes shown.now.list) × (told viewer ≡ scenes shown.now.list)) viewers.items) }
         ensures list { self.new.list ≡ self.old.list }
     {

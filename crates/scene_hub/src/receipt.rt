@@ -1,7 +1,7 @@
 //! What a viewer is told by.
 
 ghost use Rattle.std.specs.Prelude.{◌≡◌, Some, option_map};
-ghost use Rattle.scene_hub.specs.HubList.{scenes, IsReached, RisesTo};
+ghost use Rattle.scene_hub.specs.HubList.{scenes, IsReached, FollowUpTo};
 ghost use Rattle.scene_hub.specs.SceneLog.{last_of};
 
 use crate::numbered::Numbered;
@@ -14,7 +14,7 @@ pub struct Receipt<S: Numbered> {
     pub(crate) number: u64,
     pub(crate) list: ListPrefix<S>,
     ghost reached: { IsReached list },
-    ghost rises: { RisesTo S.number_of list number },
+    ghost follow: { FollowUpTo S.number_of S.follows list number },
 }
 
 impl<S: Numbered> Receipt<S> {

@@ -28,7 +28,7 @@ impl<S: Numbered> Protocol<Showing<S>, View<S>> for HubRule {
     ghost use Rattle.std.specs.Prelude.{None};
     ghost use Rattle.scene_hub.specs.HubRule.{AllSeen, IsShown};
 
-    ghost holds = { λ shown views. IsShown S.number_of shown × AllSeen shown.list views };
+    ghost holds = { λ shown views. IsShown S.number_of S.follows shown × AllSeen shown.list views };
 
     ghost first = { None };
 }
@@ -39,7 +39,7 @@ pub struct Look;
 impl<S: Numbered> Outcome<Showing<S>, View<S>> for Look {
     ghost use Rattle.scene_hub.specs.HubRule.{Sees};
 
-    ghost then = { λ before shown next after. Sees S.number_of before next after };
+    ghost then = { λ before shown next after. Sees S.number_of S.follows before next after };
 }
 
 /// The editor tells what it has seen, and a new viewer learns it.

@@ -38,7 +38,7 @@ pub(crate) fn turn<S: Numbered, R: Wait>(
     next: &Snapshot<Showing<S>>,
 ) -> (SceneWriter<S>, bool)
     requires queued { drop writer.behind writer.log.items ≡ next.now.value ∷ [] }
-    requires shown { IsShown S.number_of next.now.value }
+    requires shown { IsShown S.number_of S.follows next.now.value }
     requires later { ComesBefore writer.desk.shown.value.list next.now.value.list }
     ensures { MatchBool result.1
         ((result.0.desk.shown.value.list ≡ next.now.value.list) × (view result.0.desk.place ≡ Some next.now.value.list) × (drop result.0.behind result.0.log.items ≡ []))
@@ -55,7 +55,7 @@ fn show_queued<S: Numbered, R: Wait>(
     next: &Snapshot<Showing<S>>,
 ) -> SceneWriter<S>
     requires queued { drop writer.behind writer.log.items ≡ next.now.value ∷ [] }
-    requires shown { IsShown S.number_of next.now.value }
+    requires shown { IsShown S.number_of S.follows next.now.value }
     requires later { ComesBefore writer.desk.shown.value.list next.now.value.list }
     ensures shown { result.desk.shown.value.list ≡ next.now.value.list }
     ensures seen { view result.desk.place ≡ Some next.now.value.list }
@@ -77,7 +77,7 @@ fn show_next<S: Numbered, R: Wait>(
     job: (&R, Showing<S>),
 ) -> (SceneWriter<S>, ())
     requires queued { drop writer.behind writer.log.items ≡ [] }
-    requires shown { IsShown S.number_of job.1 }
+    requires shown { IsShown S.number_of S.follows job.1 }
     requires later { ComesBefore writer.desk.shown.value.list job.1.list }
     ensures shown { result.0.desk.shown.value.list ≡ job.entry.1.list }
     ensures seen { view result.0.desk.place ≡ Some job.entry.1.list }
@@ -92,7 +92,7 @@ fn show_next<S: Numbered, R: Wait>(
 impl<S: Numbered> Publisher<S> {
     /// Shows the next scene. It waits for the viewers that are entering.
     pub(crate) fn show<R: Wait>(&mut self, rt: &R, next: Showing<S>)
-        requires shown { IsShown S.number_of next }
+        requires shown { IsShown S.number_of S.follows next }
         requires later { ComesBefore self.old.writer.desk.shown.value.list next.list }
         ensures { self.new.writer.desk.shown.value.list ≡ next.list }
     {

@@ -2,7 +2,7 @@
 
 ghost use Rattle.std.specs.Prelude.{◌≡◌, ◌⊎◌, Some, IfOk, OnOk, OnErr, option_map};
 ghost use Rattle.left_right.specs.Sides.{view};
-ghost use Rattle.scene_hub.specs.SceneLog.{Begins, last_of};
+ghost use Rattle.scene_hub.specs.SceneLog.{AllFollow, Begins, last_of};
 ghost use Rattle.scene_hub.specs.HubRule.{HasSeen, IsSeen, IsShown};
 ghost use Rattle.scene_hub.specs.Hub.{seen, told, receipted, IsOfViewer, IsSameViewerHub};
 
@@ -20,7 +20,7 @@ fn look<S: Numbered>(
     _nothing: (),
 ) -> (SceneReader<S>, Result<Showing<S>, ViewRefused>)
     ensures later { (p : _) → HasSeen (view reader.place) p → HasSeen (view result.0.place) p }
-    ensures shown { IfOk result.1 (λ next. IsShown S.number_of next × IsSeen next.list (view reader.place)) }
+    ensures shown { IfOk result.1 (λ next. IsShown S.number_of S.follows next × IsSeen next.list (view reader.place)) }
     ensures seen { IfOk result.1 (λ next. view result.0.place ≡ Some next.list) }
 {
     match reader.enter_as::<Look>() {
@@ -39,7 +39,7 @@ fn look<S: Numbered>(
 /// Takes a share of the scene that is shown, by a reader that stays where it is.
 fn glance<S: Numbered>(reader: &mut SceneReader<S>) -> Result<Showing<S>, ViewRefused>
     ensures later { (p : _) → HasSeen (view reader.old.place) p → HasSeen (view reader.new.place) p }
-    ensures shown { IfOk result (λ next. IsShown S.number_of next × IsSeen next.list (view reader.old.place)) }
+    ensures shown { IfOk result (λ next. IsShown S.number_of S.follows next × IsSeen next.list (view reader.old.place)) }
     ensures seen { IfOk result (λ next. view reader.new.place ≡ Some next.list) }
 {
     replace_with(reader, (), look)
@@ -79,6 +79,7 @@ impl<S: Numbered> Viewer<S> {
     /// runs out.
     pub fn enter(&mut self) -> Result<(), ViewRefused>
         ensures seen { OnOk result (Begins (seen self.old) (seen self.new) × Begins (told self.old) (seen self.new)) }
+        ensures follow { AllFollow S.follows (seen self.new) }
         ensures entered { OnOk result (view self.new.reader.place ≡ Some self.new.showing.list) }
         ensures refused { OnErr result (seen self.new ≡ seen self.old) }
         ensures told { told self.new ≡ told self.old }

@@ -2,9 +2,11 @@
 #![tactic(auto)]
 
 mod pages;
+mod publications;
 #[cfg(test)]
 mod tests;
 #[cfg(test)]
 mod watches;
 
 pub use pages::Page;
+pub use publications::publish_next;

@@ -1,26 +1,15 @@
 //! What the editor and the viewers of a watch do, each on a thread of its own.
 
-ghost use Rattle.std.specs.Prelude.{◌≡◌, IfOk};
 ghost use Rattle.scene_hub.specs.Hub.{IsSameEditorHub, IsSameViewerHub, IsViewerOf};
 
 use crate::pages::Page;
+use crate::publications::publish_next;
 use outside_io::{Gate, OpenGate};
-use scene_hub::{Editor, Hub, HubRefused, Viewer};
+use scene_hub::{Editor, Hub, Viewer};
 use std::alloc::Global;
+use std::process::Abort;
 use std::sync::Wait;
 use std::thread::{Threads, join_mut};
-
-/// Publishes the next page. Returns whether it did.
-pub fn publish_next<R: Wait>(rt: &R, editor: &mut Editor<Page>) -> bool
-    ensures { IsSameEditorHub editor.old editor.new }
-{
-    let number = editor.number();
-    if number == u64::MAX {
-        return false;
-    }
-    let page = Page { number: number + 1 };
-    editor.publish(rt, page).is_ok()
-}
 
 /// Publishes so many pages, each of which is reported to the gate. Returns whether it published all.
 pub fn publish_all<R: Wait, G: Gate>(
@@ -33,7 +22,7 @@ pub fn publish_all<R: Wait, G: Gate>(
 {
     let mut all = true;
     for _page in 0..count {
-        all = publish_next(rt, editor) && all;
+        all = publish_next(rt, editor).is_some() && all;
         gate.published(editor.number());
     }
     all
@@ -110,18 +99,14 @@ pub fn watch_often<R: Threads + Wait + Sync>(
 }
 
 /// Starts a hub with two viewers.
-pub fn start_two<R: Wait>(
+pub fn start_two(
     alloc: Global,
-    rt: &R,
-) -> Result<(Editor<Page>, Viewer<Page>, Viewer<Page>), HubRefused>
-    ensures { IfOk result (λ hub. IsViewerOf hub.1 hub.0 × IsViewerOf hub.2 hub.0) }
+    rt: &(impl Abort + Wait),
+) -> (Editor<Page>, Viewer<Page>, Viewer<Page>)
+    ensures { IsViewerOf result.1 result.0 × IsViewerOf result.2 result.0 }
 {
-    let (editor, mut viewers) = Hub::start(alloc, rt, 2, Page { number: 1 })?;
-    match (viewers.pop(), viewers.pop()) {
-        (Some(two), Some(one)) => Ok((editor, one, two)),
-        _ => {
-            editor.end(rt);
-            Err(HubRefused::NoPlace)
-        }
-    }
+    let (editor, mut viewers) = Hub::start(alloc, rt, 2, Page { number: 1 }).expect(rt, "a hub");
+    let two = viewers.pop().expect(rt, "the second viewer");
+    let one = viewers.pop().expect(rt, "the first viewer");
+    (editor, one, two)
 }

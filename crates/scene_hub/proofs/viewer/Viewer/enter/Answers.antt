@@ -1,8 +1,7 @@
 use Rattle.std.proofs.Common.{◌∙◌}
 use Rattle.left_right.specs.Sides.{view}
-use Rattle.scene_hub.specs.HubList.{ComesBefore, scenes}
-use Rattle.scene_hub.proofs.HubSteps.{has_itself, scenes_grow, seen_before}
-use Rattle.scene_hub.proofs.Numbers.{newer_is_longer}
+use Rattle.scene_hub.specs.HubList.{ComesBefore}
+use Rattle.scene_hub.proofs.HubSteps.{has_itself, newer_prefix, scenes_grow, seen_before}
 use Rattle.scene_hub.proofs.viewer.Viewer.enter.Goals as goal
 
 pub invariant_of-self : goal.invariant_of-self
@@ -30,7 +29,8 @@ returns-clause-seen g c =
     let self = c.args.self.now in
     let next = c.in_ok-next.next in
     let shown = c.in_ok-next.ensures.shown.0 in
+    let numbered = g.S.Numbered in
     let before : ComesBefore self.showing.list next.list = seen_before (view self.reader.place) next.list self.showing.list c.in_ok-next.ensures.shown.1 self.has_seen in (
       scenes_grow self.showing.list next.list self.shown.0 before,
-      newer_is_longer g.S.Numbered.number_of (scenes self.told.list) (scenes next.list) self.told.number next.number c.compare.ensures self.told.rises.0 self.told.rises.1 shown.1.1 c.if-next-self.false,
+      newer_prefix numbered.number_of numbered.follows numbered.rises self.told.list next.list self.told.number next.number c.compare.ensures self.told.follow shown.1 c.if-next-self.false,
     )
