@@ -59,6 +59,16 @@ impl HandCache {
         }
     }
 
+    /// Takes all pairs out. Takes no memory; costs time in proportion to their number.
+    pub fn clear(&mut self)
+        requires { IsHandCache self.old.tiles.entries self.old.tiles.cap }
+        ensures entries { self.new.tiles.entries ≡ [] }
+        ensures over { IsHandCache self.new.tiles.entries self.new.tiles.cap }
+        ensures capacity { self.new.capacity ≡ self.old.capacity }
+    {
+        self.tiles.clear();
+    }
+
     /// Returns the tile of a pair, and moves the pair to the front; None where it isn't there.
     fn find(&mut self, key: PairKey) -> Result<Option<Tile>, SwapRefused>
         requires { IsHandCache self.old.tiles.entries self.old.tiles.cap }
