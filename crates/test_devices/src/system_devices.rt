@@ -103,6 +103,7 @@ fn a_swap_disk_in_a_file(rt: HostRuntime) {
     fs::create_dir(&rt, name).expect(&rt, "a folder");
     assert!(rt; disk.read_block(0, &mut block) == Err(SwapAnswer::Failed));
     fs::remove_dir(&rt, name).expect(&rt, "the folder");
+    check_block(&rt, &mut disk, 2, 0);
     keep_blocks(&rt, &mut disk);
     keep_several_blocks(&rt, &mut disk);
     assert!(rt; !fs::exists(&rt, name).expect(&rt, "the folder is read"));
