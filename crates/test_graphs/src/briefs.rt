@@ -1,16 +1,14 @@
 //! Edits and graphs in few words.
 
 use crate::trial::Trial;
+use crate::values::{Fields, name};
 use int_ops::{IntKit, IntOp};
 use model_graphs::{Edited, NodeEdit};
 use pixel_formats::{Abyss, Format, PixelSamples};
 use std::alloc::{AllocError, Global};
 use std::process::Abort;
-use test_nodes::{buffer, name, node, source};
+use test_nodes::{buffer, node, source};
 use test_rects::rect;
-
-/// A rectangle by x, y, width and height.
-pub(crate) type Fields = [i64; 4];
 
 /// An edit.
 #[derive(Clone, Copy)]
@@ -30,14 +28,21 @@ pub(crate) enum Kind {
     Color(i64),
     Crop(Fields),
     Invert,
+    /// Left and right change places.
+    Mirror,
+    /// So many columns to the right and rows down.
+    Move(i64, i64),
+    /// Gray with alpha.
+    WithAlpha,
+    Add,
     /// The mean of the square of this radius, beyond whose input is nothing.
     Mean(u32),
     Over,
 }
 
 /// Returns an operation.
-fn op_of(rt: &impl Abort, alloc: Global, kind: Kind) -> IntOp {
-    match kind {
+fn op_of(rt: &impl Abort, alloc: Global, kind: &Kind) -> IntOp {
+    match *kind {
         Kind::Color(width) => IntOp::Color {
             format: Format::Y8,
             rect: rect([0, 0, width, 1]),
@@ -45,6 +50,12 @@ fn op_of(rt: &impl Abort, alloc: Global, kind: Kind) -> IntOp {
         },
         Kind::Crop(fields) => IntOp::Crop { rect: rect(fields) },
         Kind::Invert => IntOp::Invert,
+        Kind::Mirror => IntOp::Flip { sideways: true },
+        Kind::Move(dx, dy) => IntOp::Translate { dx, dy },
+        Kind::WithAlpha => IntOp::Convert {
+            format: Format::YA8,
+        },
+        Kind::Add => IntOp::Add,
         Kind::Mean(radius) => IntOp::BoxMean {
             radius,
             abyss: Abyss::None,
@@ -54,11 +65,11 @@ fn op_of(rt: &impl Abort, alloc: Global, kind: Kind) -> IntOp {
 }
 
 /// Returns an edit.
-fn edit_of(rt: &impl Abort, alloc: Global, brief: Brief) -> NodeEdit<IntOp> {
+fn edit_of(rt: &impl Abort, alloc: Global, brief: &Brief) -> NodeEdit<IntOp> {
     let set = match brief {
         Brief::Source(word, buffer) => source(word, buffer),
         Brief::Compute(word, kind, inputs) => node(alloc, word, op_of(rt, alloc, kind), inputs),
-        Brief::Remove(word) => return NodeEdit::Remove(name(word).expect(rt, "a name")),
+        Brief::Remove(word) => return NodeEdit::Remove(name(rt, word)),
     };
     NodeEdit::Set(set.expect(rt, "a node"))
 }
@@ -75,7 +86,7 @@ fn add(rt: &impl Abort, edits: &mut Vec<NodeEdit<IntOp>>, edit: NodeEdit<IntOp>)
 pub(crate) fn edits_of(rt: &impl Abort, alloc: Global, briefs: &[Brief]) -> Vec<NodeEdit<IntOp>> {
     let mut edits = Vec::new(alloc);
     for brief in briefs {
-        add(rt, &mut edits, edit_of(rt, alloc, *brief));
+        add(rt, &mut edits, edit_of(rt, alloc, brief));
     }
     edits
 }
@@ -85,7 +96,7 @@ pub(crate) fn new_nodes(rt: &impl Abort, alloc: Global, count: u32) -> Vec<NodeE
     let mut edits = Vec::new(alloc);
     for number in 0..count {
         let word = format!(in alloc; "k{number}").expect(rt, "memory");
-        let set = node(alloc, &word, op_of(rt, alloc, Kind::Color(1)), &[]);
+        let set = node(alloc, &word, op_of(rt, alloc, &Kind::Color(1)), &[]);
         add(rt, &mut edits, NodeEdit::Set(set.expect(rt, "a node")));
     }
     edits
@@ -110,7 +121,7 @@ pub(crate) fn add_buffer(rt: &impl Abort, trial: &mut Trial<IntKit>, word: &str)
 
 /// Commits that a rectangle of the root `a` was written.
 pub(crate) fn write(rt: &impl Abort, trial: &mut Trial<IntKit>, fields: Fields) {
-    let root = name("a").expect(rt, "a name");
+    let root = name(rt, "a");
     let rect = rect(fields);
     trial.commit(rt, &[], &[Edited { root, rect }]);
 }

@@ -90,9 +90,12 @@ const MOVED: Example = (
     ],
 );
 
+/// All of them.
+pub(crate) const DAMAGES: [&Example; 5] = [&SQUARE, &BEYOND, &HULL, &REMOVED, &MOVED];
+
 #[test]
 fn commits_damage_what_changes(rt: HostRuntime) {
-    for example in [SQUARE, BEYOND, HULL, REMOVED, MOVED] {
+    for example in &DAMAGES {
         make_all(&rt, rt.alloc(), example);
     }
 }

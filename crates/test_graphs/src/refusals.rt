@@ -18,7 +18,7 @@ const FINE: Brief = Brief::Source("t", "b");
 const UNCHANGED: Step = Step::Nodes(3, &["s", "i", "k"]);
 
 /// Edits that are refused, each after one that is not: the graph is unchanged, and its nodes can be removed.
-const REFUSED: Example = (
+pub(crate) const REFUSED: Example = (
     [0, 0, 8, 8],
     &[
         Step::Add("b"),
@@ -87,7 +87,7 @@ const LEFT: Example = (
 );
 
 /// An edit is refused before a node.
-const FIRST: Example = (
+pub(crate) const FIRST: Example = (
     [0, 0, 8, 8],
     &[Step::Refused(
         &[Brief::Compute("n", Kind::Invert, &[]), Brief::Remove("zz")],
@@ -109,9 +109,11 @@ const TAKEN_AWAY: Example = (
     ],
 );
 
+const REFUSALS: [&Example; 4] = [&REFUSED, &LEFT, &FIRST, &TAKEN_AWAY];
+
 #[test]
 fn refused_commits_leave_the_graph(rt: HostRuntime) {
-    for example in [REFUSED, LEFT, FIRST, TAKEN_AWAY] {
+    for example in &REFUSALS {
         make_all(&rt, rt.alloc(), example);
     }
 }
@@ -121,8 +123,8 @@ fn a_graph_has_at_most_256_nodes(rt: HostRuntime) {
     let alloc = rt.alloc();
     let mut trial = trial_over(&rt, alloc, [0, 0, 8, 8]);
     let refused = StateRefused::TooManyNodes;
-    trial.check_refused(&rt, &new_nodes(&rt, alloc, 257), refused);
-    trial.check_counts(&rt, 0, 0);
+    trial.check_refused(&rt, 0, &new_nodes(&rt, alloc, 257), refused);
+    trial.check_counts(&rt, 1, 0, 0);
     trial.commit(&rt, &new_nodes(&rt, alloc, 256), &[]);
-    trial.check_counts(&rt, 1, 256);
+    trial.check_counts(&rt, 2, 1, 256);
 }

@@ -1,7 +1,8 @@
 //! Lists of steps of a graph, each with what is wanted of it.
 
-use crate::briefs::{Brief, Fields, add_buffer, edits_of, trial_over, write};
+use crate::briefs::{Brief, add_buffer, edits_of, trial_over, write};
 use crate::trial::Trial;
+use crate::values::Fields;
 use int_ops::IntKit;
 use model_states::StateRefused;
 use std::alloc::Global;
@@ -37,29 +38,30 @@ pub(crate) enum Step {
 /// The box of a buffer `a` of gray bytes, and steps of a graph over it.
 pub(crate) type Example = (Fields, &'static [Step]);
 
-/// Makes one step.
-fn make(rt: &impl Abort, alloc: Global, trial: &mut Trial<IntKit>, step: Step) {
+/// Makes the step of a row.
+fn make(rt: &impl Abort, alloc: Global, trial: &mut Trial<IntKit>, row: usize, step: &Step) {
     match step {
         Step::Add(word) => add_buffer(rt, trial, word),
         Step::TakeAway => trial.buffers.truncate(1),
         Step::Commit(briefs) => trial.commit(rt, &edits_of(rt, alloc, briefs), &[]),
-        Step::Write(fields) => write(rt, trial, fields),
+        Step::Write(fields) => write(rt, trial, *fields),
         Step::Undo => trial.undo(rt),
         Step::Redo => trial.redo(rt),
         Step::Refused(briefs, wanted) => {
-            trial.check_refused(rt, &edits_of(rt, alloc, briefs), wanted);
+            trial.check_refused(rt, row, &edits_of(rt, alloc, briefs), *wanted);
         }
-        Step::First => trial.check_first(rt),
-        Step::Last => trial.check_last(rt),
-        Step::Damage(number, rects) => trial.check_damage(rt, number, rects),
-        Step::Nodes(number, names) => trial.check_nodes(rt, number, names),
+        Step::First => trial.check_first(rt, row),
+        Step::Last => trial.check_last(rt, row),
+        Step::Damage(number, rects) => trial.check_damage(rt, alloc, row, *number, rects),
+        Step::Nodes(number, names) => trial.check_nodes(rt, alloc, row, *number, names),
     }
 }
 
 /// Makes the steps of an example.
-pub(crate) fn make_all(rt: &impl Abort, alloc: Global, (extent, steps): Example) {
-    let mut trial = trial_over(rt, alloc, extent);
-    for step in steps {
-        make(rt, alloc, &mut trial, *step);
+pub(crate) fn make_all(rt: &impl Abort, alloc: Global, example: &Example) {
+    let (extent, steps) = example;
+    let mut trial = trial_over(rt, alloc, *extent);
+    for (row, step) in steps.iter().enumerate() {
+        make(rt, alloc, &mut trial, row, step);
     }
 }

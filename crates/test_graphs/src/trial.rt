@@ -1,6 +1,6 @@
 //! A graph under test.
 
-use crate::briefs::Fields;
+use crate::values::{Fields, check_row, name};
 use graph_commits::{Damage, Graph, GraphRefused};
 use model_graphs::{BufferFact, Edited, NodeEdit};
 use model_states::StateRefused;
@@ -50,56 +50,78 @@ impl<K: OpKit + Drop> Trial<K> {
     pub(crate) fn check_refused(
         &mut self,
         rt: &impl Abort,
+        row: usize,
         edits: &[NodeEdit<K::Op>],
         wanted: StateRefused,
     ) {
         assert!(rt; self.graph.has_all_buffers_in(&self.buffers));
         let answer = self.graph.commit(&self.kit, edits, &self.buffers, &[]);
-        check_cause(rt, answer, wanted);
+        check_cause(rt, row, answer, wanted);
     }
 
     /// Checks that there is nothing to undo.
-    pub(crate) fn check_first(&mut self, rt: &impl Abort) {
-        check_cause(rt, self.graph.undo(), StateRefused::NothingToUndo);
+    pub(crate) fn check_first(&mut self, rt: &impl Abort, row: usize) {
+        check_cause(rt, row, self.graph.undo(), StateRefused::NothingToUndo);
     }
 
     /// Checks that there is nothing to redo.
-    pub(crate) fn check_last(&mut self, rt: &impl Abort) {
-        check_cause(rt, self.graph.redo(), StateRefused::NothingToRedo);
+    pub(crate) fn check_last(&mut self, rt: &impl Abort, row: usize) {
+        check_cause(rt, row, self.graph.redo(), StateRefused::NothingToRedo);
     }
 
     /// Checks the number of the last state, and what the step to it damaged of its nodes, in their order.
-    pub(crate) fn check_damage(&self, rt: &impl Abort, number: u64, wanted: &[(&str, Fields)]) {
+    pub(crate) fn check_damage(
+        &self,
+        rt: &impl Abort,
+        alloc: Global,
+        row: usize,
+        number: u64,
+        wanted: &[(&str, Fields)],
+    ) {
         let damage = self.damage.as_ref().expect(rt, "a step");
-        check_rects(rt, damage, number, wanted);
+        let mut rects = Vec::new(alloc);
+        for (word, fields) in wanted {
+            rects
+                .push((name(rt, word), rect(*fields)))
+                .expect(rt, "memory");
+        }
+        check_row(rt, row, &damage.number, &number);
+        check_row(rt, row, &damage.rects.as_slice(), &rects.as_slice());
     }
 
     /// Checks the number of the last state, and the number of its nodes.
-    pub(crate) fn check_counts(&self, rt: &impl Abort, number: u64, nodes: usize) {
-        assert_eq!(rt; self.graph.number(), number);
-        assert_eq!(rt; self.graph.nodes().len(), nodes);
+    pub(crate) fn check_counts(&self, rt: &impl Abort, row: usize, number: u64, nodes: usize) {
+        let found = (self.graph.number(), self.graph.nodes().len());
+        check_row(rt, row, &found, &(number, nodes));
     }
 
     /// Checks the number of the last state, and the names of its nodes in their order.
-    pub(crate) fn check_nodes(&self, rt: &impl Abort, number: u64, names: &[&str]) {
-        self.check_counts(rt, number, names.len());
-        for (fact, name) in self.graph.nodes().iter().zip(names) {
-            assert_eq!(rt; fact.spec.name.as_bytes(), name.as_bytes());
+    pub(crate) fn check_nodes(
+        &self,
+        rt: &impl Abort,
+        alloc: Global,
+        row: usize,
+        number: u64,
+        wanted: &[&str],
+    ) {
+        let (mut found, mut names) = (Vec::new(alloc), Vec::new(alloc));
+        for fact in self.graph.nodes() {
+            found.push(fact.spec.name).expect(rt, "memory");
         }
+        for word in wanted {
+            names.push(name(rt, word)).expect(rt, "memory");
+        }
+        check_row(rt, row, &self.graph.number(), &number);
+        check_row(rt, row, &found, &names);
     }
 }
 
-/// Checks why a step is refused.
-fn check_cause(rt: &impl Abort, answer: Result<Damage, GraphRefused>, wanted: StateRefused) {
-    assert!(rt; answer.err() == Some(GraphRefused::State(wanted)));
-}
-
-/// Checks the number and the rectangles of a damage, in their order.
-fn check_rects(rt: &impl Abort, damage: &Damage, number: u64, wanted: &[(&str, Fields)]) {
-    let rects = damage.rects.as_slice();
-    assert_eq!(rt; (damage.number, rects.len()), (number, wanted.len()));
-    for (found, (name, fields)) in rects.iter().zip(wanted) {
-        assert_eq!(rt; found.0.as_bytes(), name.as_bytes());
-        assert!(rt; found.1 == rect(*fields), "{fields:?}");
-    }
+/// Checks why the step of a row is refused.
+fn check_cause(
+    rt: &impl Abort,
+    row: usize,
+    answer: Result<Damage, GraphRefused>,
+    wanted: StateRefused,
+) {
+    check_row(rt, row, &answer.err(), &Some(GraphRefused::State(wanted)));
 }
