@@ -1,14 +1,13 @@
 //! The operations on two pixels of each format, on parts of tiles, and where they are refused.
 
-use crate::areas::Kind;
 use crate::cases::{
     ABOVE, CHECKERED, COMPOSITED, CONVERTED, DILATED, ERODED, FIRST, FORMATS, GAINED, INVERTED,
     MASKED, MEANS, PIXEL, Rows, SECOND, SUMS,
 };
-use crate::shown::{Fields, applied, bytes_of, check, check_text, row, window};
+use crate::shown::{Fields, applied, bytes_of, check, op_of, row_of, window};
 use int_ops::{IntKit, IntOp};
 use op_contracts::{OpKit, Window};
-use pixel_formats::{Abyss, Format, PixelSamples};
+use pixel_formats::{Format, PixelSamples};
 use std::alloc::Global;
 use std::process::Abort;
 use test_rects::rect;
@@ -16,42 +15,60 @@ use test_rects::rect;
 /// Where the two pixels are.
 const PAIR: Fields = [0, 0, 2, 1];
 
-/// Returns operations of one image that compute samples, with their results.
-fn changes() -> [(IntOp, Rows); 6] {
-    [
-        (IntOp::Invert, INVERTED),
-        (IntOp::Threshold { at: 100 }, ABOVE),
-        (IntOp::Gain { num: 5, den: 4 }, GAINED),
-        (Kind::BoxMean.op(1, Abyss::Clamp), MEANS),
-        (Kind::Dilate.op(1, Abyss::Black), DILATED),
-        (Kind::Erode.op(1, Abyss::White), ERODED),
-    ]
+/// Operations of one image that compute samples, with their results.
+const CHANGES: [(&str, &Rows); 6] = [
+    ("invert a", &INVERTED),
+    ("threshold 100 a", &ABOVE),
+    ("gain 5 4 a", &GAINED),
+    ("box 1 CLAMP a", &MEANS),
+    ("dilate 1 BLACK a", &DILATED),
+    ("erode 1 WHITE a", &ERODED),
+];
+
+/// Operations of one image that move pixels, with the rectangles of their results and the pixels there, by their numbers.
+const MOVES: [(&str, Fields, &[usize]); 4] = [
+    ("translate 9 -3 a", [9, -3, 2, 1], &[0, 1]),
+    ("crop 1 -1 9 9 a", [1, 0, 1, 1], &[1]),
+    ("flip h a", PAIR, &[1, 0]),
+    ("flip v a", PAIR, &[0, 1]),
+];
+
+/// Returns the image of a format of a table, by the number of the format.
+fn image_at(rt: &impl Abort, alloc: Global, rows: &Rows, index: usize) -> Window {
+    assert!(rt; index < 8);
+    row_of(rt, alloc, FORMATS[index], rows[index])
 }
 
-/// Returns operations of one image that move pixels, with the rectangles of their results and the pixels there,
-/// by their numbers.
-fn moves() -> [(IntOp, Fields, &'static [usize]); 4] {
-    let rect = rect([1, -1, 9, 9]);
-    [
-        (IntOp::Translate { dx: 9, dy: -3 }, [9, -3, 2, 1], &[0, 1]),
-        (IntOp::Crop { rect }, [1, 0, 1, 1], &[1]),
-        (IntOp::Flip { sideways: true }, PAIR, &[1, 0]),
-        (IntOp::Flip { sideways: false }, PAIR, &[0, 1]),
-    ]
-}
-
-/// Checks the results of an operation of the first image of each format.
-fn check_change(rt: &impl Abort, alloc: Global, op: &IntOp, results: Rows) {
-    for ((format, image), wanted) in FORMATS.into_iter().zip(FIRST).zip(results) {
-        let windows = [row(rt, alloc, format, image)];
-        check_text(rt, alloc, op, &windows, PAIR, wanted);
+/// Checks what an operation gives of two pixels of windows, whose format has the row's number modulo 8. Without a result the
+/// windows are not taken.
+fn check_pair(
+    rt: &impl Abort,
+    alloc: Global,
+    row: usize,
+    op: &IntOp,
+    windows: &[Window],
+    results: &Rows,
+) {
+    let wanted = results[row % 8];
+    if wanted.is_empty() {
+        assert!(rt; applied(rt, alloc, op, windows, PAIR).is_none());
+    } else {
+        let raw = bytes_of(rt, alloc, wanted);
+        check(rt, alloc, row, op, windows, PAIR, &raw);
     }
 }
 
 #[test]
 fn changes_of_samples(rt: HostRuntime) {
-    for (op, results) in &changes() {
-        check_change(&rt, rt.alloc(), op, *results);
+    let alloc = rt.alloc();
+    for (number, (words, results)) in CHANGES.iter().enumerate() {
+        let op = op_of(&rt, alloc, words);
+        check_copy(&rt, alloc, &op);
+        for index in 0..8 {
+            let row = number.wrapping_mul(8).wrapping_add(index);
+            let windows = [image_at(&rt, alloc, &FIRST, index)];
+            check_pair(&rt, alloc, row, &op, &windows, results);
+        }
     }
 }
 
@@ -59,103 +76,83 @@ fn changes_of_samples(rt: HostRuntime) {
 fn picked(rt: &impl Abort, alloc: Global, width: usize, image: &[u8], pixels: &[usize]) -> Vec<u8> {
     let mut bytes = Vec::new(alloc);
     for pixel in pixels {
-        let taken = image.iter().skip(pixel.saturating_mul(width)).take(width);
-        for byte in taken {
-            bytes.push(*byte).expect(rt, "memory");
-        }
+        let taken = image.get(pixel.saturating_mul(width)..).unwrap_or(&[]);
+        let pixel = taken.get(..width).expect(rt, "a pixel");
+        bytes.extend_from_slice(pixel).expect(rt, "memory");
     }
     bytes
 }
 
 /// Checks the pixels of what an operation of the first image of each format gives over a rectangle.
 fn check_move(rt: &impl Abort, alloc: Global, op: &IntOp, out: Fields, pixels: &[usize]) {
-    for (format, image) in FORMATS.into_iter().zip(FIRST) {
-        let windows = [row(rt, alloc, format, image)];
-        let image = bytes_of(rt, alloc, image);
-        let raw = picked(rt, alloc, format.pixel_bytes() as usize, &image, pixels);
-        check(rt, alloc, op, &windows, out, &raw);
+    for index in 0..8 {
+        let windows = [image_at(rt, alloc, &FIRST, index)];
+        let image = bytes_of(rt, alloc, FIRST[index]);
+        let width = FORMATS[index].pixel_bytes() as usize;
+        let raw = picked(rt, alloc, width, &image, pixels);
+        check(rt, alloc, index, op, &windows, out, &raw);
     }
 }
 
 #[test]
 fn moves_of_pixels(rt: HostRuntime) {
-    for (op, out, pixels) in &moves() {
-        check_move(&rt, rt.alloc(), op, *out, pixels);
+    for (words, out, pixels) in &MOVES {
+        let op = op_of(&rt, rt.alloc(), words);
+        check_copy(&rt, rt.alloc(), &op);
+        check_move(&rt, rt.alloc(), &op, *out, pixels);
     }
 }
 
 #[test]
 fn conversions(rt: HostRuntime) {
-    for ((format, image), results) in FORMATS.into_iter().zip(FIRST).zip(CONVERTED) {
-        let windows = [row(&rt, rt.alloc(), format, image)];
-        for (format, wanted) in FORMATS.into_iter().zip(results) {
-            let op = IntOp::Convert { format };
-            check_text(&rt, rt.alloc(), &op, &windows, PAIR, wanted);
+    for from in 0..8 {
+        let windows = [image_at(&rt, rt.alloc(), &FIRST, from)];
+        for to in 0..8 {
+            let op = IntOp::Convert {
+                format: FORMATS[to],
+            };
+            check_pair(
+                &rt,
+                rt.alloc(),
+                8 * from + to,
+                &op,
+                &windows,
+                &CONVERTED[from],
+            );
         }
     }
-}
-
-/// Returns the windows of both images of a format.
-fn both(rt: &impl Abort, alloc: Global, format: Format, first: &str, second: &str) -> [Window; 2] {
-    [
-        row(rt, alloc, format, first),
-        row(rt, alloc, format, second),
-    ]
 }
 
 /// Returns a mask of two pixels for images of a format.
 fn mask_of(rt: &impl Abort, alloc: Global, format: Format) -> Window {
     match format.depth() {
-        1 => row(rt, alloc, Format::Y8, "128 255"),
-        _ => row(rt, alloc, Format::Y16, "0 128 244 1"),
+        1 => row_of(rt, alloc, Format::Y8, "128 255"),
+        _ => row_of(rt, alloc, Format::Y16, "0 128 244 1"),
     }
 }
 
+/// Checks the sum of both images of each format, the first over the second, and the first under a mask.
 #[test]
-fn sums(rt: HostRuntime) {
-    for (((format, first), second), sum) in FORMATS.into_iter().zip(FIRST).zip(SECOND).zip(SUMS) {
-        let windows = both(&rt, rt.alloc(), format, first, second);
-        check_text(&rt, rt.alloc(), &IntOp::Add, &windows, PAIR, sum);
-    }
-}
-
-#[test]
-fn masked_images(rt: HostRuntime) {
-    for ((format, first), wanted) in FORMATS.into_iter().zip(FIRST).zip(MASKED) {
-        let windows = [
-            row(&rt, rt.alloc(), format, first),
-            mask_of(&rt, rt.alloc(), format),
+fn two_images(rt: HostRuntime) {
+    let alloc = rt.alloc();
+    for index in 0..8 {
+        let images = [
+            image_at(&rt, alloc, &FIRST, index),
+            image_at(&rt, alloc, &SECOND, index),
         ];
-        check_text(&rt, rt.alloc(), &IntOp::Mask, &windows, PAIR, wanted);
-    }
-}
-
-/// Checks what two windows of a format give that are composited. Without alpha they are refused.
-fn check_over(rt: &impl Abort, alloc: Global, format: Format, windows: &[Window], text: &str) {
-    if format.has_alpha() {
-        check_text(rt, alloc, &IntOp::Over, windows, PAIR, text);
-    } else {
-        assert!(rt; applied(rt, alloc, &IntOp::Over, windows, PAIR).is_none());
-    }
-}
-
-#[test]
-fn composited_images(rt: HostRuntime) {
-    for (((format, first), second), wanted) in FORMATS
-        .into_iter()
-        .zip(FIRST)
-        .zip(SECOND)
-        .zip(COMPOSITED)
-    {
-        let windows = both(&rt, rt.alloc(), format, first, second);
-        check_over(&rt, rt.alloc(), format, &windows, wanted);
+        check_pair(&rt, alloc, index, &IntOp::Add, &images, &SUMS);
+        check_pair(&rt, alloc, index, &IntOp::Over, &images, &COMPOSITED);
+        let masked = [
+            image_at(&rt, alloc, &FIRST, index),
+            mask_of(&rt, alloc, FORMATS[index]),
+        ];
+        check_pair(&rt, alloc, index, &IntOp::Mask, &masked, &MASKED);
     }
 }
 
 /// Returns one color over two pixels.
 fn color_of(rt: &impl Abort, alloc: Global, format: Format, pixel: &[u32]) -> IntOp {
-    let mut samples = Vec::new(alloc);
-    samples.extend_from_slice(pixel).expect(rt, "memory");
+    let samples = pixel.to_vec(alloc).expect(rt, "memory");
     IntOp::Color {
         format,
         rect: rect([-1, 0, 2, 1]),
@@ -175,29 +172,30 @@ fn checker_of(format: Format) -> IntOp {
 }
 
 /// Checks the two pixels that an operation without an input gives, which are in two tiles.
-fn check_of_none(rt: &impl Abort, alloc: Global, op: &IntOp, left: &[u8], right: &[u8]) {
-    check(rt, alloc, op, &[], [-1, 0, 1, 1], left);
-    check(rt, alloc, op, &[], [0, 0, 1, 1], right);
+fn check_of_none(
+    rt: &impl Abort,
+    alloc: Global,
+    row: usize,
+    op: &IntOp,
+    left: &[u8],
+    right: &[u8],
+) {
+    check(rt, alloc, row, op, &[], [-1, 0, 1, 1], left);
+    check(rt, alloc, row, op, &[], [0, 0, 1, 1], right);
 }
 
 #[test]
-fn colors(rt: HostRuntime) {
-    for ((format, image), pixel) in FORMATS.into_iter().zip(FIRST).zip(PIXEL) {
-        let color = color_of(&rt, rt.alloc(), format, pixel);
-        let bytes = bytes_of(&rt, rt.alloc(), image);
-        let image = bytes.as_slice();
-        let (raw, _) = image.split_at(image.len() / 2);
-        check_of_none(&rt, rt.alloc(), &color, raw, raw);
-    }
-}
-
-#[test]
-fn checkerboards(rt: HostRuntime) {
-    for (format, image) in FORMATS.into_iter().zip(CHECKERED) {
-        let bytes = bytes_of(&rt, rt.alloc(), image);
-        let image = bytes.as_slice();
-        let (left, right) = image.split_at(image.len() / 2);
-        check_of_none(&rt, rt.alloc(), &checker_of(format), left, right);
+fn colors_and_checkerboards(rt: HostRuntime) {
+    let alloc = rt.alloc();
+    for index in 0..8 {
+        let format = FORMATS[index];
+        let image = bytes_of(&rt, alloc, FIRST[index]);
+        let (pixel, _) = image.as_slice().split_at(image.len() / 2);
+        let color = color_of(&rt, alloc, format, PIXEL[index]);
+        check_of_none(&rt, alloc, index, &color, pixel, pixel);
+        let image = bytes_of(&rt, alloc, CHECKERED[index]);
+        let (left, right) = image.as_slice().split_at(image.len() / 2);
+        check_of_none(&rt, alloc, index, &checker_of(format), left, right);
     }
 }
 
@@ -208,13 +206,7 @@ fn check_copy(rt: &impl Abort, alloc: Global, op: &IntOp) {
 }
 
 #[test]
-fn copies_are_the_same_operation(rt: HostRuntime) {
-    for (op, _) in &changes() {
-        check_copy(&rt, rt.alloc(), op);
-    }
-    for (op, _, _) in &moves() {
-        check_copy(&rt, rt.alloc(), op);
-    }
+fn other_numbers_are_another_operation(rt: HostRuntime) {
     let gain = IntOp::Gain { num: 5, den: 4 };
     let other = IntOp::Gain { num: 4, den: 5 };
     assert!(rt; !IntKit.same(&gain, &other));
@@ -227,25 +219,35 @@ fn sums_and_masks_of_other_boxes(rt: HostRuntime) {
         window(&rt, alloc, [0, 0, 2, 1], Format::Y8, &[1, 2]),
         window(&rt, alloc, [1, 0, 3, 1], Format::Y8, &[255, 128, 7]),
     ];
-    check_text(&rt, alloc, &IntOp::Add, &pair, [0, 0, 4, 1], "1 255 128 7");
-    check_text(&rt, alloc, &IntOp::Mask, &pair, [1, 0, 1, 1], "2");
-    let outside = applied(&rt, alloc, &IntOp::Mask, &pair, [0, 0, 2, 1]);
-    assert!(rt; outside.is_none());
+    check(
+        &rt,
+        alloc,
+        0,
+        &IntOp::Add,
+        &pair,
+        [0, 0, 4, 1],
+        &[1, 255, 128, 7],
+    );
+    check(&rt, alloc, 1, &IntOp::Mask, &pair, [1, 0, 1, 1], &[2]);
+    assert!(rt; applied(&rt, alloc, &IntOp::Mask, &pair, [0, 0, 2, 1]).is_none());
+}
+
+/// Checks an operation of an image over no pixel.
+fn check_empty(rt: &impl Abort, alloc: Global, row: usize, words: &str, image: &[Window]) {
+    let op = op_of(rt, alloc, words);
+    check(rt, alloc, row, &op, image, [0, 0, 0, 0], &[]);
 }
 
 #[test]
 fn results_that_are_empty(rt: HostRuntime) {
     let alloc = rt.alloc();
-    let apart = IntOp::Crop {
-        rect: rect([5, 5, 1, 1]),
-    };
-    let image = [row(&rt, alloc, Format::RGB8, "1 2 3")];
-    check(&rt, alloc, &apart, &image, [0, 0, 0, 0], &[]);
-    let empty = [row(&rt, alloc, Format::Y16, "")];
-    for (op, _) in &changes() {
-        check(&rt, alloc, op, &empty, [0, 0, 0, 0], &[]);
+    let image = [row_of(&rt, alloc, Format::RGB8, "1 2 3")];
+    check_empty(&rt, alloc, 0, "crop 5 5 1 1 a", &image);
+    let empty = [row_of(&rt, alloc, Format::Y16, "")];
+    for (row, (words, _)) in CHANGES.iter().enumerate() {
+        check_empty(&rt, alloc, row, words, &empty);
     }
-    for (op, _, _) in &moves() {
-        check(&rt, alloc, op, &empty, [0, 0, 0, 0], &[]);
+    for (row, (words, _, _)) in MOVES.iter().enumerate() {
+        check_empty(&rt, alloc, row, words, &empty);
     }
 }

@@ -11,10 +11,15 @@ use test_kit::applied_part;
 use test_rects::rect;
 
 /// A rectangle by x, y, width and height.
-pub(crate) type Fields = [i64; 4];
+pub type Fields = [i64; 4];
+
+/// Returns the operation that words are, with names of its inputs.
+pub fn op_of(rt: &impl Abort, alloc: Global, words: &str) -> IntOp {
+    test_nodes::operation(alloc, words).expect(rt, "an operation")
+}
 
 /// Returns the window that shows a whole image by all of its tiles.
-pub(crate) fn window(
+pub fn window(
     rt: &impl Abort,
     alloc: Global,
     bounds: Fields,
@@ -32,7 +37,7 @@ pub(crate) fn window(
 }
 
 /// Returns the bytes that decimal numbers are.
-pub(crate) fn bytes_of(rt: &impl Abort, alloc: Global, text: &str) -> Vec<u8> {
+pub fn bytes_of(rt: &impl Abort, alloc: Global, text: &str) -> Vec<u8> {
     let mut bytes = Vec::new(alloc);
     for word in text.split_whitespace() {
         let byte = word.parse::<u8>().expect(rt, "a byte");
@@ -42,14 +47,14 @@ pub(crate) fn bytes_of(rt: &impl Abort, alloc: Global, text: &str) -> Vec<u8> {
 }
 
 /// Returns the window of a row of pixels from the origin on.
-pub(crate) fn row(rt: &impl Abort, alloc: Global, format: Format, text: &str) -> Window {
+pub fn row_of(rt: &impl Abort, alloc: Global, format: Format, text: &str) -> Window {
     let raw = bytes_of(rt, alloc, text);
     let pixels = raw.len() / format.pixel_bytes() as usize;
     window(rt, alloc, [0, 0, pixels as i64, 1], format, &raw)
 }
 
 /// Returns a part of what an operation gives of windows, in the tile where it begins, if it takes them.
-pub(crate) fn applied(
+pub fn applied(
     rt: &impl Abort,
     alloc: Global,
     op: &IntOp,
@@ -62,27 +67,18 @@ pub(crate) fn applied(
     applied_part(&IntKit, alloc, &mut purse, op, windows, tile, out).expect(rt, "memory")
 }
 
-/// Checks the raw bytes that an operation gives over a rectangle.
-pub(crate) fn check(
+/// Checks the raw bytes that the operation of a row gives over a rectangle, and tells the row and both where they aren't
+/// these.
+pub fn check(
     rt: &impl Abort,
     alloc: Global,
+    row: usize,
     op: &IntOp,
     windows: &[Window],
     out: Fields,
     raw: &[u8],
 ) {
     let patch = applied(rt, alloc, op, windows, out).expect(rt, "a part of a result");
-    assert_eq!(rt; patch.raw_bytes(), raw, "{out:?}");
-}
-
-/// Checks the raw bytes that an operation gives over a rectangle, as decimal numbers.
-pub(crate) fn check_text(
-    rt: &impl Abort,
-    alloc: Global,
-    op: &IntOp,
-    windows: &[Window],
-    out: Fields,
-    text: &str,
-) {
-    check(rt, alloc, op, windows, out, &bytes_of(rt, alloc, text));
+    let found = patch.raw_bytes();
+    assert!(rt; found == raw, "row {row}: found {found:?}, wanted {raw:?}");
 }
