@@ -1,11 +1,13 @@
-//! Rectangles and names, words, tiles of bytes, pieces of work, layouts of buffers, scenes, and what the command line
-//! asks for.
+//! A file for each kind of call. Expected values were worked out by hand.
 
+mod check;
 mod jobs;
 mod layouts;
 mod lone_scene;
 mod options;
 mod rectangles;
+mod script_cases;
+mod scripts;
 mod tiles;
 mod words;
 mod workers;

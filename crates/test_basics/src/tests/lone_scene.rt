@@ -7,7 +7,5 @@ use scenes::Scene;
 fn a_scene_shows_what_it_was_made_of(rt: HostRuntime) {
     let alloc = rt.alloc();
     let scene: Scene<IntOp> = Scene::new(7, Vec::new(alloc), Vec::new(alloc));
-    assert_eq!(rt; scene.number(), 7);
-    assert_eq!(rt; scene.nodes().len(), 0);
-    assert_eq!(rt; scene.buffers().len(), 0);
+    assert!(rt; scene.number() == 7 && scene.nodes().len() == 0 && scene.buffers().len() == 0);
 }

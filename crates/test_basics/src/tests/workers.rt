@@ -1,19 +1,22 @@
 //! Expected values are worked out by hand.
 
+use crate::tests::check::check;
 use no_memory::NoMemory;
 use std::alloc::Global;
-use std::test::Fail;
+use std::process::Abort;
 use std::thread::Threads;
 use worker_pieces::Workers;
 
-/// Returns the squares of the numbers below 6, made by these workers. Memory runs out at the job of one number, if
+/// Returns the squares of the numbers below 6, made by so many workers. Memory runs out at the job of one number, if
 /// that is below 6.
-fn squares<R: Threads + Sync>(
-    workers: Workers<'_, R>,
+fn squares(
+    rt: &(impl Abort + Threads + Sync),
     alloc: Global,
+    count: u32,
     scarce: u32,
 ) -> Result<Vec<u32>, NoMemory> {
-    let jobs = vec![in alloc; 0, 1, 2, 3, 4, 5]?;
+    let jobs = vec![in alloc; 0, 1, 2, 3, 4, 5].expect(rt, "memory");
+    let workers = Workers::new(rt, count);
     workers.map(alloc, jobs, |number: u32| -> Result<u32, NoMemory> {
         if number == scarce {
             return Err(NoMemory);
@@ -23,23 +26,21 @@ fn squares<R: Threads + Sync>(
 }
 
 #[test]
-fn jobs_are_done_once_and_in_their_order(rt: HostRuntime) -> Result<(), Fail> {
+fn jobs_are_done_once_and_in_their_order(rt: HostRuntime) {
     for count in [0, 1, 2, 3, 16] {
-        let made = squares(Workers::new(&rt, count), rt.alloc(), 6)?;
-        assert_eq!(rt; made.as_slice(), [0, 1, 4, 9, 16, 25].as_slice());
+        let made = squares(&rt, rt.alloc(), count, 6).expect(&rt, "memory");
+        check(&rt, count, made.as_slice(), [0, 1, 4, 9, 16, 25].as_slice());
     }
-    Ok(())
 }
 
 #[test]
-fn memory_that_runs_out_in_one_piece_refuses_all(rt: HostRuntime) -> Result<(), Fail> {
+fn memory_that_runs_out_in_one_piece_refuses_all(rt: HostRuntime) {
     for count in [1, 2, 3, 16] {
         for scarce in 0..6 {
-            let made = squares(Workers::new(&rt, count), rt.alloc(), scarce);
-            assert!(rt; made.is_err());
+            let made = squares(&rt, rt.alloc(), count, scarce);
+            assert!(rt; made.is_err(), "{count} workers, scarce at {scarce}");
         }
     }
-    Ok(())
 }
 
 #[test]
@@ -58,7 +59,7 @@ fn two_jobs_are_done_once_each(rt: HostRuntime) {
                 "second"
             },
         );
-        assert_eq!(rt; given, ("first", "second"));
-        assert_eq!(rt; (first, second), (1, 10));
+        check(&rt, count, given, ("first", "second"));
+        check(&rt, count, (first, second), (1, 10));
     }
 }
