@@ -2,8 +2,10 @@
 
 ghost use Rattle.std.specs.Prelude.{◌<◌, ◌≤◌};
 
+use crate::check::check;
 use pixel_formats::Format;
 use sample_rows::{convert_row, row_add, row_average4, row_invert, row_mask, row_over};
+use std::process::Abort;
 
 /// How many bytes the rows have that are read and written, of which a kernel uses a prefix.
 const ROOM: usize = 200;
@@ -182,27 +184,34 @@ fn row(step: u8) -> [u8; ROOM] {
     row
 }
 
+/// Returns the row that so many pixels become.
+fn wanted_row(rt: &impl Abort, shape: Shape, count: usize) -> [u8; ROOM] {
+    assert!(rt; count <= 33);
+    let mut row = [OLD; ROOM];
+    let written = shape.written(count);
+    for index in 0..ROOM {
+        if index < written {
+            row[index] = u8::try_from(shape.expected(index)).expect(rt, "a byte");
+        }
+    }
+    row
+}
+
+/// Checks what a row of so many pixels becomes.
+fn check_row(rt: &impl Abort, shape: Shape, count: usize, first: &[u8; ROOM], second: &[u8; ROOM]) {
+    assert!(rt; count <= 33);
+    let mut dst = [OLD; ROOM];
+    shape.write(count, first, second, &mut dst);
+    check(rt, (shape, count), dst, wanted_row(rt, shape, count));
+}
+
 #[test]
 fn lengths(rt: HostRuntime) {
     let first = row(37);
     let second = row(91);
-    for shape in SHAPES {
-        for count in COUNTS {
-            let mut dst = [OLD; ROOM];
-            shape.write(count, &first, &second, &mut dst);
-            let written = shape.written(count);
-            for index in 0..ROOM {
-                let expected = if index < written {
-                    shape.expected(index)
-                } else {
-                    usize::from(OLD)
-                };
-                assert_eq!(rt;
-                    usize::from(dst[index]),
-                    expected,
-                    "{shape:?}, {count}: {index}"
-                );
-            }
+    for shape in &SHAPES {
+        for count in &COUNTS {
+            check_row(&rt, *shape, *count, &first, &second);
         }
     }
 }
