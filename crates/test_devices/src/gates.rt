@@ -1,5 +1,6 @@
 //! Viewers and an editor that meet at a gate, each on a thread.
 
+use crate::check::check;
 use outside_io::{Gate, MeetGate};
 use std::thread::join;
 
@@ -27,8 +28,7 @@ fn viewers_and_an_editor_meet(rt: HostRuntime) {
         },
         || publish(&gate, 3),
     );
-    assert!(rt; gate.ran_out() == 0);
-    assert!(rt; gate.calls() == 7);
+    assert!(rt; gate.ran_out() == 0 && gate.calls() == 7);
 }
 
 #[test]
@@ -36,8 +36,7 @@ fn a_single_viewer_waits_for_nobody(rt: HostRuntime) {
     let gate = MeetGate::new(rt.alloc(), 1, 1, 10).expect(&rt, "memory");
     gate.looked(0, 0);
     gate.published(2);
-    assert!(rt; gate.ran_out() == 0);
-    assert!(rt; gate.calls() == 2);
+    assert!(rt; gate.ran_out() == 0 && gate.calls() == 2);
 }
 
 /// A call on a gate, as a viewer's frame or a commit, each by its number.
@@ -73,7 +72,7 @@ fn waits_end_after_their_turns(rt: HostRuntime) {
             Call::Looked(viewer, frame) => gate.looked(viewer, frame),
             Call::Published(number) => gate.published(number),
         }
-        assert!(rt; gate.ran_out() == *ran_out, "call {index}");
+        check(&rt, index, gate.ran_out(), *ran_out);
     }
-    assert!(rt; gate.calls() == 10);
+    check(&rt, "calls", gate.calls(), 10);
 }

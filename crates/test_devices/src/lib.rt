@@ -1,14 +1,26 @@
-//! What the devices in memory return and leave, also where each of their calls in turn fails, and those of the
-//! system: a folder, a file and standard output. All expected values were worked out by hand.
+//! What the devices in memory return and leave, also where each of their calls in turn fails, those of the system: a
+//! folder, a file and standard output, and stores of tiles over swap disks. All expected values were worked out by hand,
+//! but for those of a naive store.
 #![tactic(auto)]
 
 #[cfg(test)]
-mod file_parts;
+mod check;
+#[cfg(test)]
+mod disk_steps;
+#[cfg(test)]
+mod disks;
+#[cfg(test)]
+mod failing_calls;
 #[cfg(test)]
 mod gates;
 #[cfg(test)]
-mod sure_devices;
+mod long_files;
 #[cfg(test)]
-mod system_devices;
+mod shelf_steps;
 #[cfg(test)]
-mod tests;
+mod shelves;
+#[cfg(test)]
+mod sinks;
+mod stores;
+
+pub use stores::keep;

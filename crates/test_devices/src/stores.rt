@@ -1,5 +1,4 @@
 //! Worked examples of stores, and a naive store that each call is compared with.
-#![tactic(auto)]
 
 mod lending;
 #[cfg(test)]

@@ -1,6 +1,7 @@
 //! Calls that are made on a store and on a naive one.
 
-use crate::naive::NaiveStore;
+use crate::check::check;
+use crate::stores::naive::NaiveStore;
 use outside_io::SwapDisk;
 use std::alloc::Global;
 use std::process::Abort;
@@ -18,8 +19,7 @@ pub fn tile_of(rt: &impl Abort, alloc: Global, len: u64, seed: u64) -> Tile {
             % 251;
         bytes.push(byte as u8).expect(rt, "memory");
     }
-    assert!(rt; !bytes.is_empty());
-    assert!(rt; bytes.len() <= 65_536);
+    assert!(rt; !bytes.is_empty() && bytes.len() <= 65_536);
     Tile::of(alloc, &bytes).expect(rt, "memory")
 }
 
@@ -70,8 +70,8 @@ fn next(random: u64) -> u64 {
 
 /// Checks that the store has the naive one's free runs.
 fn check_free<D: SwapDisk>(rt: &impl Abort, alloc: Global, store: &Store<D>, naive: &NaiveStore) {
-    let runs = naive.free_runs(alloc).expect(rt, "memory");
-    assert_eq!(rt; store.free_runs(), runs.as_slice());
+    let runs = naive.free_runs(rt, alloc);
+    check(rt, "free", store.free_runs(), runs.as_slice());
 }
 
 /// Checks that the store has the naive one's free runs, and the bytes of each of its names.
@@ -98,13 +98,13 @@ fn compare_bytes<D: SwapDisk>(
 ) -> u32 {
     match get(rt, store, name) {
         Ok(tile) => {
-            assert_eq!(rt; tile.bytes(), bytes, "the bytes of {name}");
+            check(rt, name, tile.bytes(), bytes);
             0
         }
         Err(refused) => {
-            assert_eq!(rt; refused, SwapRefused::SwapFault);
+            check(rt, name, refused, SwapRefused::SwapFault);
             let tile = get(rt, store, name).expect(rt, "only one read fails");
-            assert_eq!(rt; tile.bytes(), bytes, "the bytes of {name}");
+            check(rt, name, tile.bytes(), bytes);
             1
         }
     }
@@ -120,7 +120,7 @@ fn put_into_both<D: SwapDisk>(
     tile: &Tile,
 ) -> u32 {
     let len = tile.bytes().len();
-    let wanted = naive.wanted_answer(alloc, len).expect(rt, "memory");
+    let wanted = naive.wanted_answer(rt, alloc, len);
     let mut faults = 0u32;
     let mut answer = put(rt, store, name, tile);
     if answer == Err(SwapRefused::SwapFault) {
@@ -128,10 +128,9 @@ fn put_into_both<D: SwapDisk>(
         faults = compare(rt, alloc, store, naive).saturating_add(1);
         answer = put(rt, store, name, tile);
     }
-    assert_eq!(rt; answer, wanted);
+    check(rt, name, answer, wanted);
     if wanted.is_ok() {
-        let noted = naive.put(alloc, name, tile.bytes());
-        noted.expect(rt, "memory");
+        naive.put(rt, alloc, name, tile.bytes());
     }
     faults
 }
@@ -170,7 +169,7 @@ pub fn play<D: SwapDisk>(
     steps: u64,
 ) -> u32 {
     let mut store = SwapStore::new(alloc, disk, blocks).expect(rt, "memory");
-    let mut naive = NaiveStore::new(alloc, blocks as usize).expect(rt, "memory");
+    let mut naive = NaiveStore::new(rt, alloc, blocks as usize);
     let mut faults = 0u32;
     let mut random = next(steps);
     for step in 0..steps {

@@ -1,6 +1,7 @@
 //! Expected values are worked out by hand, or by a naive store.
 
-use crate::scripts::{forget, get, play, put, replace, tile_of};
+use crate::check::check;
+use crate::stores::scripts::{forget, get, play, put, replace, tile_of};
 use outside_io::{FileSwap, Lent, MemSwap, SureSwap, SwapDisk};
 use std::alloc::Global;
 use std::process::Abort;
@@ -45,14 +46,41 @@ fn check_put<D: SwapDisk>(
     wanted: Result<(), SwapRefused>,
     left: &[Run],
 ) {
-    assert_eq!(rt; put(rt, store, name, tile), wanted, "the answer of {name}");
-    assert_eq!(rt; store.free_runs(), left, "what is free after {name}");
+    check(rt, name, put(rt, store, name, tile), wanted);
+    check(rt, name, store.free_runs(), left);
 }
 
 /// Checks the bytes of a name.
 fn check_bytes<D: SwapDisk>(rt: &impl Abort, store: &mut Store<D>, name: u64, wanted: &Tile) {
     let found = get(rt, store, name).expect(rt, "the tile");
-    assert_eq!(rt; found.bytes(), wanted.bytes(), "the bytes of {name}");
+    check(rt, name, found.bytes(), wanted.bytes());
+}
+
+/// Puts a tile of so many bytes, which differ by their positions and by the name, and checks the answer and what is
+/// free then.
+fn put_sized<D: SwapDisk>(
+    rt: &impl Abort,
+    alloc: Global,
+    store: &mut Store<D>,
+    name: u64,
+    len: u64,
+    wanted: Result<(), SwapRefused>,
+    left: &[Run],
+) {
+    let tile = tile_of(rt, alloc, len, name);
+    check_put(rt, store, name, &tile, wanted, left);
+}
+
+/// Puts four tiles into a store of four blocks, of which the first is forgotten before the third.
+fn put_four<D: SwapDisk>(rt: &impl Abort, alloc: Global, store: &mut Store<D>) {
+    put_sized(rt, alloc, store, 1, 8_192, Ok(()), &[run(2, 2)]);
+    put_sized(rt, alloc, store, 2, 4_096, Ok(()), &[run(3, 1)]);
+    forget(rt, store, 1);
+    let left = [run(0, 2), run(3, 1)];
+    put_sized(rt, alloc, store, 3, 12_288, full(3, 2), &left);
+    let left = [run(1, 1), run(3, 1)];
+    put_sized(rt, alloc, store, 4, 4_096, Ok(()), &left);
+    check_bytes(rt, store, 2, &tile_of(rt, alloc, 4_096, 2));
 }
 
 #[test]
@@ -60,18 +88,17 @@ fn a_name_takes_the_lowest_run_that_is_long_enough(rt: HostRuntime) {
     let alloc = rt.alloc();
     let mut disk = failing_disk(&rt, alloc, 4, Call::Write, 0);
     let mut store = SwapStore::new(alloc, &mut disk, 4).expect(&rt, "memory");
-    let second = tile_of(&rt, alloc, 4_096, 2);
-    let first = tile_of(&rt, alloc, 8_192, 1);
-    check_put(&rt, &mut store, 1, &first, Ok(()), &[run(2, 2)]);
-    check_put(&rt, &mut store, 2, &second, Ok(()), &[run(3, 1)]);
-    forget(&rt, &mut store, 1);
-    let third = tile_of(&rt, alloc, 12_288, 3);
-    let left = [run(0, 2), run(3, 1)];
-    check_put(&rt, &mut store, 3, &third, full(3, 2), &left);
-    let fourth = tile_of(&rt, alloc, 4_096, 4);
-    let left = [run(1, 1), run(3, 1)];
-    check_put(&rt, &mut store, 4, &fourth, Ok(()), &left);
-    check_bytes(&rt, &mut store, 2, &second);
+    put_four(&rt, alloc, &mut store);
+}
+
+/// Puts a tile into a store of four blocks whose first write fails, and puts it again.
+fn put_again<D: SwapDisk>(rt: &impl Abort, alloc: Global, store: &mut Store<D>) {
+    let tile = tile_of(rt, alloc, 8_192, 1);
+    let failed = Err(SwapRefused::SwapFault);
+    check_put(rt, store, 1, &tile, failed, &[run(0, 4)]);
+    assert!(rt; !store.has(1));
+    check_put(rt, store, 1, &tile, Ok(()), &[run(2, 2)]);
+    check_bytes(rt, store, 1, &tile);
 }
 
 #[test]
@@ -79,12 +106,7 @@ fn a_put_that_failed_leaves_an_empty_store_empty(rt: HostRuntime) {
     let alloc = rt.alloc();
     let mut disk = failing_disk(&rt, alloc, 4, Call::Write, 1);
     let mut store = SwapStore::new(alloc, &mut disk, 4).expect(&rt, "memory");
-    let tile = tile_of(&rt, alloc, 8_192, 1);
-    let failed = Err(SwapRefused::SwapFault);
-    check_put(&rt, &mut store, 1, &tile, failed, &[run(0, 4)]);
-    assert!(rt; !store.has(1));
-    check_put(&rt, &mut store, 1, &tile, Ok(()), &[run(2, 2)]);
-    check_bytes(&rt, &mut store, 1, &tile);
+    put_again(&rt, alloc, &mut store);
 }
 
 /// Puts names from 0 on, as many as have room of twelve, and forgets every second.
@@ -117,8 +139,24 @@ fn put_between(
     check_put(rt, &mut store, 100, &long, wanted, left);
 }
 
-/// Puts a tile of 3 blocks into a store over so many, and replaces it by another of 3 blocks, where the
-/// write of this number fails. Checks the answer, the bytes of the name and what is free then.
+/// Puts a tile of 3 blocks into a store, and replaces it by another of 3 blocks. Checks the answer, the bytes of the
+/// name and what is free then.
+fn replace_one<D: SwapDisk>(
+    rt: &impl Abort,
+    alloc: Global,
+    store: &mut Store<D>,
+    wanted: Result<(), SwapRefused>,
+    left: &[Run],
+) {
+    let old = tile_of(rt, alloc, 9_000, 1);
+    let new = tile_of(rt, alloc, 12_000, 2);
+    check(rt, "put", put(rt, store, 1, &old), Ok(()));
+    check(rt, "replaced", replace(rt, store, 1, &new), wanted);
+    check_bytes(rt, store, 1, if wanted.is_ok() { &new } else { &old });
+    check(rt, "left", store.free_runs(), left);
+}
+
+/// Replaces a tile in a store over so many blocks, where the write of this number fails.
 fn replace_once(
     rt: &impl Abort,
     alloc: Global,
@@ -129,14 +167,7 @@ fn replace_once(
 ) {
     let mut disk = failing_disk(rt, alloc, 8, Call::Write, failing);
     let mut store = SwapStore::new(alloc, &mut disk, blocks).expect(rt, "memory");
-    let old = tile_of(rt, alloc, 9_000, 1);
-    let new = tile_of(rt, alloc, 12_000, 2);
-    assert_eq!(rt; put(rt, &mut store, 1, &old), Ok(()));
-    let answer = replace(rt, &mut store, 1, &new);
-    assert_eq!(rt; answer, wanted, "where write {failing} fails");
-    let kept = if answer.is_ok() { &new } else { &old };
-    check_bytes(rt, &mut store, 1, kept);
-    assert_eq!(rt; store.free_runs(), left);
+    replace_one(rt, alloc, &mut store, wanted, left);
 }
 
 #[test]
@@ -175,7 +206,7 @@ fn fail_each(rt: &impl Abort, alloc: Global, call: Call) {
     for failing in 1..200 {
         let mut disk = failing_disk(rt, alloc, 8, call, failing);
         let faults = play(rt, alloc, &mut disk, 8, 30);
-        assert!(rt; faults <= 1);
+        assert!(rt; faults <= 1, "{faults} where call {failing} fails");
         if faults == 0 {
             assert!(rt; failing > 10, "only {failing} calls were made");
             return;
@@ -194,22 +225,25 @@ fn each_read_fails_in_turn(rt: HostRuntime) {
     fail_each(&rt, rt.alloc(), Call::Read);
 }
 
+/// Numbers of blocks, and of calls on a store over them, one after another over one disk.
+const PLAYED: [(u32, u64); 3] = [(9, 100), (1, 20), (0, 5)];
+
 #[test]
-fn disks_of_other_sizes_and_kinds(rt: HostRuntime) {
+fn disks_of_other_sizes(rt: HostRuntime) {
     let alloc = rt.alloc();
     let mut disk = SureSwap::new(alloc, 9).expect(&rt, "memory");
-    assert_eq!(rt; play(&rt, alloc, &mut disk, 9, 100), 0);
-    assert_eq!(rt;
-        play(&rt, alloc, &mut disk, 1, 20),
-        0,
-        "of the blocks that were used before"
-    );
-    assert_eq!(rt; play(&rt, alloc, &mut disk, 0, 5), 0, "over no block");
-
+    for (blocks, steps) in &PLAYED {
+        check(&rt, blocks, play(&rt, alloc, &mut disk, *blocks, *steps), 0);
+    }
+    // The disk has no more.
     let store = SwapStore::new(alloc, &mut disk, 1_000).expect(&rt, "memory");
-    assert_eq!(rt; store.used_blocks(), 9, "the disk has no more");
+    check(&rt, "blocks", store.used_blocks(), 9);
     let Lent { disk: _back } = store.end();
+}
 
-    let mut file = FileSwap::new(rt, 10);
-    assert_eq!(rt; play(&rt, alloc, &mut file, 10, 40), 0);
+#[test]
+fn a_disk_in_a_file(rt: HostRuntime) {
+    let alloc = rt.alloc();
+    let mut file = FileSwap::new(&rt, 10);
+    check(&rt, "file", play(&rt, alloc, &mut file, 10, 40), 0);
 }

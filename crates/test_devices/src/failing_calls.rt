@@ -1,9 +1,10 @@
-//! For each kind of call a few calls, of which none fails, and then each in turn.
+//! For each kind of call of the devices in memory a few calls, of which none fails, and then each in turn.
 
-use crate::sure_devices::check_block;
+use crate::check::check;
+use crate::disk_steps::{read, write};
+use crate::shelf_steps::{Read, bytes_of};
 use outside_io::{
     MemShelf, MemSink, MemSwap, Shelf, ShelfAnswer, Sink, SinkAnswer, SwapAnswer, SwapDisk,
-    is_file_name,
 };
 use std::alloc::Global;
 use std::process::Abort;
@@ -31,41 +32,40 @@ fn shelf(rt: &impl Abort, alloc: Global, fail_read: u64, fail_write: u64) -> Mem
     MemShelf::new(alloc, files, reads, writes)
 }
 
-/// Returns what a call that returns nothing answers, where it is the one that fails or isn't.
-fn answer_of<E: Copy>(fails: bool, failed: E) -> Result<(), E> {
-    if fails { Err(failed) } else { Ok(()) }
-}
-
-/// Checks that a call answered what it should, by its number from 0 on, where the one of another number fails.
-fn check_call(rt: &impl Abort, is_right: bool, call: u64, failing: u64) {
-    assert!(rt; is_right, "call {call} where {failing} fails");
+/// Returns what a call answers, by its index, where the one of a number counted from 1 fails.
+fn answer_of<T: Copy, E: Copy>(
+    index: usize,
+    failing: u64,
+    answer: Result<T, E>,
+    failed: E,
+) -> Result<T, E> {
+    if (index as u64).saturating_add(1) == failing {
+        Err(failed)
+    } else {
+        answer
+    }
 }
 
 /// Checks the bytes of a file of a shelf, of which a call fails.
 fn check_file(rt: &impl Abort, shelf: &MemShelf, name: &str, wanted: &[u8], failing: u64) {
-    assert!(rt;
-        shelf.get(name) == Some(wanted),
-        "{name} where {failing} fails"
-    );
+    check(rt, (name, failing), shelf.get(name), Some(wanted));
 }
 
 /// Four reads, and what each returns where it doesn't fail.
-const READS: [(&str, u64, Result<&[u8], ShelfAnswer>); 4] = [
+const READS: [(&str, u64, Read<'_>); 4] = [
     ("one", 1, Ok(ONE)),
     ("none", 9, Err(ShelfAnswer::Absent)),
     ("two", 1, Err(ShelfAnswer::TooLong { taken: 2 })),
     ("two", 9, Ok(TWO)),
 ];
 
-/// Returns whether a read returned what it should.
-pub fn is_answer(
-    answer: &Result<Vec<u8>, ShelfAnswer>,
-    wanted: &Result<&[u8], ShelfAnswer>,
-) -> bool {
-    match (answer, wanted) {
-        (Ok(bytes), Ok(wanted)) => bytes.as_slice() == *wanted,
-        (Err(answer), Err(wanted)) => answer == wanted,
-        _ => false,
+/// Makes the reads on a shelf, of which one fails.
+fn read_each<S: Shelf>(rt: &impl Abort, shelf: &mut S, failing: u64) {
+    for (index, (name, limit, wanted)) in READS.iter().enumerate() {
+        assert!(rt; outside_io::is_file_name(name.as_bytes()));
+        let answer = shelf.read(name, *limit);
+        let wanted = answer_of(index, failing, *wanted, ShelfAnswer::Failed);
+        check(rt, (index, failing), bytes_of(&answer), wanted);
     }
 }
 
@@ -73,16 +73,7 @@ pub fn is_answer(
 fn each_read_of_a_shelf_fails_in_turn(rt: HostRuntime) {
     for failing in 0..=5 {
         let mut shelf = shelf(&rt, rt.alloc(), failing, 0);
-        for (index, (name, limit, wanted)) in READS.iter().enumerate() {
-            assert!(rt; is_file_name(name.as_bytes()));
-            let answer = shelf.read(name, *limit);
-            let wanted = if index as u64 + 1 == failing {
-                Err(ShelfAnswer::Failed)
-            } else {
-                *wanted
-            };
-            check_call(&rt, is_answer(&answer, &wanted), index as u64, failing);
-        }
+        read_each(&rt, &mut shelf, failing);
         check_file(&rt, &shelf, "one", ONE, failing);
         check_file(&rt, &shelf, "two", TWO, failing);
     }
@@ -106,16 +97,20 @@ const WRITTEN: [(u64, &[u8], &[u8], &[u8]); 6] = [
     (5, &[6, 7, 8, 9], &[], &[5]),
 ];
 
+/// Makes the writes on a shelf, of which one fails.
+fn write_each<S: Shelf>(rt: &impl Abort, shelf: &mut S, failing: u64) {
+    for (index, (name, bytes)) in WRITES.iter().enumerate() {
+        assert!(rt; outside_io::is_file_name(name.as_bytes()));
+        let wanted = answer_of(index, failing, Ok(()), ShelfAnswer::Failed);
+        check(rt, (index, failing), shelf.write(name, bytes), wanted);
+    }
+}
+
 #[test]
 fn each_write_of_a_shelf_fails_in_turn(rt: HostRuntime) {
     for (failing, new, two, last) in &WRITTEN {
         let mut shelf = shelf(&rt, rt.alloc(), 0, *failing);
-        for (index, (name, bytes)) in WRITES.iter().enumerate() {
-            assert!(rt; is_file_name(name.as_bytes()));
-            let answer = shelf.write(name, bytes);
-            let wanted = answer_of(index as u64 + 1 == *failing, ShelfAnswer::Failed);
-            check_call(&rt, answer == wanted, index as u64, *failing);
-        }
+        write_each(&rt, &mut shelf, *failing);
         check_file(&rt, &shelf, "one", ONE, *failing);
         check_file(&rt, &shelf, "new", new, *failing);
         check_file(&rt, &shelf, "two", two, *failing);
@@ -136,17 +131,21 @@ const PUT: [(u64, &[u8]); 6] = [
     (5, b"abcdefghi"),
 ];
 
+/// Puts the pieces into a sink, of which one fails.
+fn put_each<S: Sink>(rt: &impl Abort, sink: &mut S, failing: u64) {
+    for (index, piece) in PIECES.iter().enumerate() {
+        let wanted = answer_of(index, failing, Ok(()), SinkAnswer::Failed);
+        check(rt, (index, failing), sink.put(piece), wanted);
+    }
+}
+
 #[test]
 fn each_put_of_a_sink_fails_in_turn(rt: HostRuntime) {
     for (failing, written) in &PUT {
         let chosen = chosen(&rt, rt.alloc(), *failing);
         let mut sink = MemSink::new(rt.alloc(), chosen);
-        for (index, piece) in PIECES.iter().enumerate() {
-            let answer = sink.put(piece);
-            let wanted = answer_of(index as u64 + 1 == *failing, SinkAnswer::Failed);
-            check_call(&rt, answer == wanted, index as u64, *failing);
-        }
-        assert!(rt; sink.bytes() == *written, "where {failing} fails");
+        put_each(&rt, &mut sink, *failing);
+        check(&rt, failing, sink.bytes(), *written);
     }
 }
 
@@ -164,35 +163,40 @@ fn disk(rt: &impl Abort, alloc: Global, blocks: u32, fail_read: u64, fail_write:
     MemSwap::new(alloc, blocks.min(1 << 20), reads, writes).expect(rt, "memory")
 }
 
+/// Writes the blocks of a disk, of which one write fails, and checks both.
+fn write_blocks<D: SwapDisk>(rt: &impl Abort, disk: &mut D, failing: u64, both: [u8; 2]) {
+    for (index, (block, fill)) in BLOCK_WRITES.iter().enumerate() {
+        let wanted = answer_of(index, failing, Ok(()), SwapAnswer::Failed);
+        check(rt, (index, failing), write(rt, disk, *block, *fill), wanted);
+    }
+    let [first, second] = both;
+    check(rt, "size", disk.size(), 2);
+    check(rt, (0, failing), read(rt, disk, 0), Ok(first));
+    check(rt, (1, failing), read(rt, disk, 1), Ok(second));
+}
+
 #[test]
 fn each_write_of_a_swap_disk_fails_in_turn(rt: HostRuntime) {
     for (failing, first, second) in &BLOCKS {
         let mut disk = disk(&rt, rt.alloc(), 2, 0, *failing);
-        for (index, (number, fill)) in BLOCK_WRITES.iter().enumerate() {
-            assert!(rt; *number < disk.size());
-            let answer = disk.write_block(*number, &[*fill; 4096]);
-            let wanted = answer_of(index as u64 + 1 == *failing, SwapAnswer::Failed);
-            check_call(&rt, answer == wanted, index as u64, *failing);
-        }
-        assert!(rt; disk.size() == 2);
-        check_block(&rt, &mut disk, 0, *first);
-        check_block(&rt, &mut disk, 1, *second);
+        write_blocks(&rt, &mut disk, *failing, [*first, *second]);
+    }
+}
+
+/// Writes a block and reads it three times, of which one read fails.
+fn read_blocks<D: SwapDisk>(rt: &impl Abort, disk: &mut D, failing: u64) {
+    check(rt, "size", disk.size(), 1);
+    check(rt, "write", write(rt, disk, 0, 7), Ok(()));
+    for index in 0..3 {
+        let wanted = answer_of(index, failing, Ok(7), SwapAnswer::Failed);
+        check(rt, (index, failing), read(rt, disk, 0), wanted);
     }
 }
 
 #[test]
 fn each_read_of_a_swap_disk_fails_in_turn(rt: HostRuntime) {
-    let mut block = [0u8; 4096];
     for failing in 0..=4u64 {
         let mut disk = disk(&rt, rt.alloc(), 1, failing, 0);
-        assert!(rt; disk.size() == 1);
-        assert!(rt; disk.write_block(0, &[7; 4096]).is_ok());
-        for number in 1..=3u64 {
-            assert!(rt; disk.size() == 1);
-            let answer = disk.read_block(0, &mut block);
-            let wanted = answer_of(number == failing, SwapAnswer::Failed);
-            let is_right = answer == wanted && (answer.is_err() || block == [7; 4096]);
-            check_call(&rt, is_right, number, failing);
-        }
+        read_blocks(&rt, &mut disk, failing);
     }
 }

@@ -1,6 +1,7 @@
 //! A store that keeps its names in a list, and an owner for each block.
 
-use std::alloc::{AllocError, Global};
+use std::alloc::Global;
+use std::process::Abort;
 use swap_store::{Run, SwapRefused};
 
 /// The bytes of a block.
@@ -15,15 +16,15 @@ pub struct NaiveStore {
 
 impl NaiveStore {
     /// Returns a store of no names, over this many blocks.
-    pub fn new(alloc: Global, blocks: usize) -> Result<NaiveStore, AllocError> {
-        Ok(NaiveStore {
+    pub fn new(rt: &impl Abort, alloc: Global, blocks: usize) -> NaiveStore {
+        NaiveStore {
             entries: Vec::new(alloc),
-            owners: vec![in alloc; None; blocks]?,
-        })
+            owners: vec![in alloc; None; blocks].expect(rt, "memory"),
+        }
     }
 
     /// Returns the free runs, each looked for block by block.
-    pub fn free_runs(&self, alloc: Global) -> Result<Vec<Run>, AllocError> {
+    pub fn free_runs(&self, rt: &impl Abort, alloc: Global) -> Vec<Run> {
         let mut runs = Vec::new(alloc);
         let mut open: Option<Run> = None;
         for (block, owner) in (0..u32::MAX).zip(self.owners.iter()) {
@@ -37,40 +38,41 @@ impl NaiveStore {
                     count: 1,
                 }),
                 (Some(_), Some(run)) => {
-                    runs.push(run)?;
+                    runs.push(run).expect(rt, "memory");
                     None
                 }
                 (Some(_), None) => None,
             };
         }
         if let Some(run) = open {
-            runs.push(run)?;
+            runs.push(run).expect(rt, "memory");
         }
-        Ok(runs)
+        runs
     }
 
     /// Returns what a put of so many bytes is to answer.
     pub fn wanted_answer(
         &self,
+        rt: &impl Abort,
         alloc: Global,
         len: usize,
-    ) -> Result<Result<(), SwapRefused>, AllocError> {
+    ) -> Result<(), SwapRefused> {
         let needed = u32::try_from(len.div_ceil(BLOCK_BYTES)).unwrap_or(u32::MAX);
         let mut longest = 0;
-        for run in &self.free_runs(alloc)? {
+        for run in &self.free_runs(rt, alloc) {
             longest = longest.max(run.count);
         }
-        Ok(if needed <= longest {
+        if needed <= longest {
             Ok(())
         } else {
             Err(SwapRefused::SwapFull { needed, longest })
-        })
+        }
     }
 
     /// Puts a name into the lowest run that is long enough.
-    pub fn put(&mut self, alloc: Global, name: u64, bytes: &[u8]) -> Result<(), AllocError> {
+    pub fn put(&mut self, rt: &impl Abort, alloc: Global, name: u64, bytes: &[u8]) {
         let needed = bytes.len().div_ceil(BLOCK_BYTES);
-        for run in &self.free_runs(alloc)? {
+        for run in &self.free_runs(rt, alloc) {
             if run.count as usize >= needed {
                 for owner in self.owners.iter_mut().skip(run.first as usize).take(needed) {
                     *owner = Some(name);
@@ -78,8 +80,8 @@ impl NaiveStore {
                 break;
             }
         }
-        self.entries.push((name, bytes.to_vec(alloc)?))?;
-        Ok(())
+        let bytes = bytes.to_vec(alloc).expect(rt, "memory");
+        self.entries.push((name, bytes)).expect(rt, "memory");
     }
 
     /// Takes a name out.
