@@ -1,1 +1,2 @@
 mod PageLaws
+pub mod TableLaws

@@ -3,6 +3,7 @@
 ghost use Rattle.std.specs.Prelude.{◌≡◌, ◌≤◌, IfOk};
 ghost use Rattle.test_chain.specs.Pages.{ArePages};
 
+use crate::check::check;
 use crate::pages::{byte_of, page};
 use chain_handlers::{CacheHandler, EmptyHandler, SwapHandler, SwapRefused, TileHandler};
 use chain_owners::ChainMeaning;
@@ -13,10 +14,7 @@ use std::process::Abort;
 use swap_store::SwapStore;
 
 /// Returns a handler without names over all blocks of a disk.
-pub fn on_disk<'s, D: SwapDisk>(
-    alloc: Global,
-    disk: &'s mut D,
-) -> Result<SwapHandler<'s, D>, NoMemory>
+fn on_disk<'s, D: SwapDisk>(alloc: Global, disk: &'s mut D) -> Result<SwapHandler<'s, D>, NoMemory>
     ensures { IfOk result (λ handler. ArePages (⟦<SwapHandler<'s, D> as ChainMeaning>⟧.held handler)) }
 {
     let store = SwapStore::new(alloc, disk, 1 << 20)?;
@@ -39,13 +37,13 @@ fn put<H: TileHandler>(
 }
 
 /// Checks that a name is there, with a page of this byte.
-fn check<H: TileHandler>(rt: &impl Abort, handler: &mut H, name: u64, byte: u8)
+fn check_page<H: TileHandler>(rt: &impl Abort, handler: &mut H, name: u64, byte: u8)
     requires { ArePages (H.held handler.old) }
     ensures { ArePages (H.held handler.new) }
 {
     assert!(rt; handler.has(name), "{name} is there");
     let tile = handler.get(name, 4_096).expect(rt, "a page");
-    assert_eq!(rt; byte_of(rt, &tile), byte, "the page of {name}");
+    check(rt, name, byte_of(rt, &tile), byte);
 }
 
 /// Takes a name out that is there.
@@ -57,25 +55,65 @@ fn forget<H: TileHandler>(rt: &impl Abort, handler: &mut H, name: u64)
     handler.forget(name);
 }
 
+/// A call on a handler, or a look at it.
+#[derive(Clone, Copy)]
+enum Call {
+    /// Gives a name a page of this byte.
+    Put(u64, u8),
+
+    /// Checks that a name has a page of this byte.
+    Shows(u64, u8),
+
+    /// Checks that there is no such name.
+    Lacks(u64),
+
+    /// Takes a name out.
+    Forget(u64),
+
+    /// Writes all pages to the disk.
+    Flush,
+}
+
 /// Gives three names pages, replaces one of these and takes another out, and checks all reads.
-pub fn put_three<H: TileHandler>(rt: &impl Abort, handler: &mut H, alloc: Global)
+const THREE: [Call; 14] = [
+    Call::Lacks(1),
+    Call::Put(1, 10),
+    Call::Put(2, 20),
+    Call::Put(3, 30),
+    Call::Shows(1, 10),
+    Call::Shows(3, 30),
+    Call::Put(1, 40),
+    Call::Shows(2, 20),
+    Call::Shows(1, 40),
+    Call::Forget(2),
+    Call::Lacks(2),
+    Call::Flush,
+    Call::Shows(1, 40),
+    Call::Shows(3, 30),
+];
+
+/// Makes one call.
+fn make<H: TileHandler>(rt: &impl Abort, handler: &mut H, alloc: Global, call: Call)
     requires { ArePages (H.held handler.old) }
     ensures { ArePages (H.held handler.new) }
 {
-    assert!(rt; !handler.has(1));
-    put(handler, alloc, 1, 10).expect(rt, "room");
-    put(handler, alloc, 2, 20).expect(rt, "room");
-    put(handler, alloc, 3, 30).expect(rt, "room");
-    check(rt, handler, 1, 10);
-    check(rt, handler, 3, 30);
-    put(handler, alloc, 1, 40).expect(rt, "room");
-    check(rt, handler, 2, 20);
-    check(rt, handler, 1, 40);
-    forget(rt, handler, 2);
-    assert!(rt; !handler.has(2));
-    handler.flush().expect(rt, "a sound disk");
-    check(rt, handler, 1, 40);
-    check(rt, handler, 3, 30);
+    match call {
+        Call::Put(name, byte) => put(handler, alloc, name, byte).expect(rt, "room"),
+        Call::Shows(name, byte) => check_page(rt, handler, name, byte),
+        Call::Lacks(name) => assert!(rt; !handler.has(name), "{name} is there"),
+        Call::Forget(name) => forget(rt, handler, name),
+        Call::Flush => handler.flush().expect(rt, "a sound disk"),
+    }
+}
+
+/// Makes the calls on three names.
+fn put_three<H: TileHandler>(rt: &impl Abort, handler: &mut H, alloc: Global)
+    requires { ArePages (H.held handler.old) }
+    ensures { ArePages (H.held handler.new) }
+{
+    for call in &THREE {
+        make(rt, handler, alloc, *call);
+    }
 }
 
 /// Checks zeros over a handler. Returns the handler.
@@ -96,7 +134,7 @@ fn put_in_cache<H: TileHandler + Drop>(
     requires { ArePages (H.held below) }
 {
     let mut cache = CacheHandler::new(alloc, below, 1)?;
-    check(rt, &mut cache, 3, 30);
+    check_page(rt, &mut cache, 3, 30);
     put_three(rt, &mut cache, alloc);
     forget(rt, &mut cache, 1);
     Ok(put_in_empty(rt, alloc, cache).into_below())
@@ -112,9 +150,7 @@ pub fn put_in_each<D: SwapDisk>(
     put_three(rt, &mut below, alloc);
     forget(rt, &mut below, 1);
     let again = put_in_cache(rt, alloc, below)?;
-    assert!(rt; again.has(1));
-    assert!(rt; !again.has(2));
-    assert!(rt; again.has(3));
+    assert!(rt; again.has(1) && !again.has(2) && again.has(3));
     let Lent { disk: _back } = again.end();
     Ok(())
 }

@@ -41,7 +41,7 @@ pub fn replace<C: TileChain>(
     ensures { HasPages (C.held chain.new) (C.is_valid chain.new) }
 {
     let tile = page(alloc, byte)?;
-    assert_eq!(rt; chain.owners(name), 1);
+    assert!(rt; chain.owners(name) == 1);
     chain.rewrite(name, &tile)?;
     Ok(())
 }
@@ -69,8 +69,9 @@ pub fn disown<C: TileChain>(rt: &impl Abort, chain: &mut C, name: u64) -> u32
 /// Returns the byte that a page has everywhere.
 pub fn byte_of(rt: &impl Abort, page: &Tile) -> u8 {
     let byte = page.bytes().first().copied();
-    assert!(rt; page.bytes().len() == 4_096);
-    assert!(rt; page.bytes().iter().all(|other| Some(*other) == byte));
+    assert!(rt;
+        page.bytes().len() == 4_096 && page.bytes().iter().all(|other| Some(*other) == byte)
+    );
     byte.unwrap_or(0)
 }
 

@@ -1,6 +1,7 @@
 //! A plain list of names with their pages and their owners.
 
-use std::alloc::{AllocError, Global};
+use std::alloc::Global;
+use std::process::Abort;
 
 /// A name, the byte that its page has everywhere, and its number of owners.
 #[derive(Clone, Copy, Debug, PartialEq, Eq)]
@@ -36,9 +37,8 @@ impl PlainNames {
     }
 
     /// Adds a name.
-    pub fn add(&mut self, entry: PlainName) -> Result<(), AllocError> {
-        self.entries.push(entry)?;
-        Ok(())
+    pub fn add(&mut self, rt: &impl Abort, entry: PlainName) {
+        self.entries.push(entry).expect(rt, "memory");
     }
 
     /// Gives a name the page and the owners of this entry. Without owners it goes.

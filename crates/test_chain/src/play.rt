@@ -3,6 +3,7 @@
 
 ghost use Rattle.test_chain.specs.Pages.{HasPages};
 
+use crate::check::check;
 use crate::pages::{add, disown, own, read, replace};
 use crate::plain::{PlainName, PlainNames};
 use chain_handlers::{SwapRefused, TileChain};
@@ -24,7 +25,7 @@ fn refusals<T>(rt: &impl Abort, answer: &Result<T, SwapRefused>) -> u32 {
     match answer {
         Ok(_) => 0,
         Err(refused) => {
-            assert_eq!(rt; *refused, SwapRefused::SwapFault);
+            assert!(rt; *refused == SwapRefused::SwapFault, "{refused:?}");
             1
         }
     }
@@ -35,9 +36,9 @@ fn check_name<C: TileChain>(rt: &impl Abort, chain: &mut C, entry: PlainName) ->
     requires { HasPages (C.held chain.old) (C.is_valid chain.old) }
     ensures { HasPages (C.held chain.new) (C.is_valid chain.new) }
 {
-    assert_eq!(rt; chain.owners(entry.name), entry.owners);
+    check(rt, entry.name, chain.owners(entry.name), entry.owners);
     let refused = refusals(rt, &read(rt, chain, entry.name));
-    assert_eq!(rt; read(rt, chain, entry.name), Ok(entry.byte));
+    check(rt, entry.name, read(rt, chain, entry.name), Ok(entry.byte));
     refused
 }
 
@@ -138,16 +139,11 @@ fn make<C: TileChain>(
 fn note(rt: &impl Abort, names: &mut PlainNames, call: Call, after: PlainName) {
     match call {
         Call::Add(_) => {
-            assert!(rt; after.name != 0);
-            assert!(rt;
-                names
-                    .as_slice()
-                    .iter()
-                    .all(|entry| entry.name != after.name)
-            );
-            names.add(after).expect(rt, "memory");
+            let mut others = names.as_slice().iter();
+            assert!(rt; after.name != 0 && others.all(|entry| entry.name != after.name));
+            names.add(rt, after);
         }
-        Call::Read(entry) => assert_eq!(rt; after, entry),
+        Call::Read(entry) => check(rt, entry.name, after, entry),
         _ => names.change(after),
     }
 }

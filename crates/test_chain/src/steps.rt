@@ -2,6 +2,7 @@
 
 ghost use Rattle.test_chain.specs.Pages.{HasPages};
 
+use crate::check::check;
 use crate::pages::{add, disown, own, read, replace};
 use chain_handlers::{SwapRefused, TileChain};
 use std::alloc::Global;
@@ -40,6 +41,7 @@ fn make_step<C: TileChain>(
     chain: &mut C,
     alloc: Global,
     names: &mut Vec<u64>,
+    row: usize,
     step: Step,
 )
     requires { HasPages (C.held chain.old) (C.is_valid chain.old) }
@@ -48,31 +50,30 @@ fn make_step<C: TileChain>(
     match step {
         Step::Add(byte, refused) => {
             let added = add(chain, alloc, byte);
-            assert_eq!(rt; added.err(), refused, "a page of {byte}");
+            check(rt, row, added.err(), refused);
             if let Ok(name) = added {
                 names.push(name).expect(rt, "memory");
             }
         }
         Step::Read(number, answer) => {
-            assert_eq!(rt;
-                read(rt, chain, name_of(rt, names, number)),
-                answer,
-                "name {number}"
-            );
+            check(rt, row, read(rt, chain, name_of(rt, names, number)), answer);
         }
         Step::Replace(number, byte) => {
             let replaced = replace(rt, chain, alloc, name_of(rt, names, number), byte);
-            assert_eq!(rt; replaced, Ok(()));
+            check(rt, row, replaced, Ok(()));
         }
-        Step::Own(number, owners) => assert_eq!(rt;
-            own(rt, chain, name_of(rt, names, number)),
-            owners
-        ),
-        Step::Disown(number, owners) => assert_eq!(rt;
-            disown(rt, chain, name_of(rt, names, number)),
-            owners
-        ),
-        Step::Flush => assert_eq!(rt; chain.flush(), Ok(())),
+        Step::Own(number, owners) => {
+            check(rt, row, own(rt, chain, name_of(rt, names, number)), owners);
+        }
+        Step::Disown(number, owners) => {
+            check(
+                rt,
+                row,
+                disown(rt, chain, name_of(rt, names, number)),
+                owners,
+            );
+        }
+        Step::Flush => check(rt, row, chain.flush(), Ok(())),
     }
 }
 
@@ -82,7 +83,7 @@ pub fn make<C: TileChain>(rt: &impl Abort, chain: &mut C, alloc: Global, steps: 
     ensures { HasPages (C.held chain.new) (C.is_valid chain.new) }
 {
     let mut names = Vec::new(alloc);
-    for step in steps {
-        make_step(rt, chain, alloc, &mut names, *step);
+    for (row, step) in steps.iter().enumerate() {
+        make_step(rt, chain, alloc, &mut names, row, *step);
     }
 }

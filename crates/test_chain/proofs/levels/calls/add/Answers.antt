@@ -1,5 +1,5 @@
-use Rattle.test_levels.proofs.TableLaws.{beside-after, one-more}
-use Rattle.test_levels.proofs.calls.add.Goals as goal
+use Rattle.test_chain.proofs.TableLaws.{beside-after, one-more}
+use Rattle.test_chain.proofs.levels.calls.add.Goals as goal
 
 pub returns-clause-beside : goal.returns-clause-beside
 returns-clause-beside g c =

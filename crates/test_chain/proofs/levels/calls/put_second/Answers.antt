@@ -1,5 +1,5 @@
-use Rattle.test_levels.proofs.TableLaws.{two-second}
-use Rattle.test_levels.proofs.calls.put_second.Goals as goal
+use Rattle.test_chain.proofs.TableLaws.{two-second}
+use Rattle.test_chain.proofs.levels.calls.put_second.Goals as goal
 
 pub returns : goal.returns
 returns g c =

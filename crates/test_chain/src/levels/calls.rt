@@ -4,8 +4,10 @@ ghost use Rattle.std.specs.Prelude.{◌≡◌, ◌+◌, ◌≤◌, IfOk, OnOk, l
 ghost use Rattle.plane_rect.specs.Tile.{IsWhole};
 ghost use Rattle.chain_owners.specs.Owners.{Respects};
 ghost use Rattle.level_tables.specs.LevelTiles.{names};
-ghost use Rattle.test_levels.specs.Tables.{AreTwo, HasBeside, IsGray};
+ghost use Rattle.test_chain.specs.Tables.{AreTwo, HasBeside, IsGray};
 
+use crate::check::check as check_value;
+use crate::pages::page;
 use chain_handlers::TileChain;
 use level_tables::{LevelTable, NewTiles, new_tables_ask_nothing, no_new_tiles_ask_nothing};
 use no_memory::NoMemory;
@@ -14,21 +16,12 @@ use plane_rect::TileAt;
 use std::alloc::Global;
 use std::process::Abort;
 use swap_store::SwapRefused;
-use tile_cow::Tile;
 
 /// Returns the tile so many columns and rows after that of the origin.
 pub fn tile_at(column: u8, row: u8) -> TileAt
     ensures { IsWhole result }
 {
     TileAt::from_indices(262_144 + u32::from(column), 262_144 + u32::from(row))
-}
-
-/// Returns a tile of 4,096 times this byte.
-pub fn page(alloc: Global, byte: u8) -> Result<Tile, NoMemory>
-    ensures { IfOk result (λ tile. length tile ≡ 4096) }
-{
-    let tile = Tile::from_vec(alloc, vec![in alloc; byte; 4_096]?)?;
-    Ok(tile)
 }
 
 /// Returns a table of no tile.
@@ -159,7 +152,7 @@ fn check_samples(rt: &impl Abort, samples: &[u8], side: usize, byte: u8) {
     for (index, found) in samples.iter().enumerate() {
         let is_in = index % 64 < side && index / 64 < side;
         let wanted = if is_in { byte } else { 0 };
-        assert_eq!(rt; *found, wanted, "sample {index}");
+        check_value(rt, index, *found, wanted);
     }
 }
 

@@ -1,5 +1,5 @@
-use Rattle.test_levels.proofs.TableLaws.{beside-gone}
-use Rattle.test_levels.proofs.calls.discard.Goals as goal
+use Rattle.test_chain.proofs.TableLaws.{beside-gone}
+use Rattle.test_chain.proofs.levels.calls.discard.Goals as goal
 
 pub returns : goal.returns
 returns g c =

@@ -1,11 +1,6 @@
 //! Tables of tiles: small examples over chains.
-#![tactic(auto)]
 
-#[cfg(test)]
 mod calls;
-#[cfg(test)]
 mod examples;
-#[cfg(test)]
 mod steps;
-#[cfg(test)]
 mod tests;

@@ -1,5 +1,5 @@
-use Rattle.test_levels.proofs.TableLaws.{beside-none}
-use Rattle.test_levels.proofs.calls.no_new_tiles.Goals as goal
+use Rattle.test_chain.proofs.TableLaws.{beside-none}
+use Rattle.test_chain.proofs.levels.calls.no_new_tiles.Goals as goal
 
 pub returns-clause-beside : goal.returns-clause-beside
 returns-clause-beside g c =

@@ -1,5 +1,5 @@
-use Rattle.test_levels.proofs.TableLaws.{two-first}
-use Rattle.test_levels.proofs.calls.check_first.Goals as goal
+use Rattle.test_chain.proofs.TableLaws.{two-first}
+use Rattle.test_chain.proofs.levels.calls.check_first.Goals as goal
 
 pub returns : goal.returns
 returns g c =

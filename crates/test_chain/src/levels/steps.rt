@@ -1,8 +1,9 @@
 //! Lists of calls on a table, each with what is wanted after it.
 
-ghost use Rattle.test_levels.specs.Tables.{IsGray};
+ghost use Rattle.test_chain.specs.Tables.{IsGray};
 
-use crate::calls::{check, put, tile_at};
+use crate::check::check as check_value;
+use crate::levels::calls::{check, put, tile_at};
 use chain_handlers::TileChain;
 use level_tables::LevelTable;
 use std::alloc::Global;
@@ -42,6 +43,7 @@ fn make_step<C: TileChain>(
     table: &mut LevelTable,
     chain: &mut C,
     alloc: Global,
+    row: usize,
     step: Step,
 )
     requires { IsGray table.old.tiles (C.held chain.old) }
@@ -55,7 +57,7 @@ fn make_step<C: TileChain>(
         Step::Shows(level, column, row, side, byte) => {
             check(rt, table, chain, level, tile_at(column, row), side, byte);
         }
-        Step::Names(count) => assert_eq!(rt; count_names(chain), count),
+        Step::Names(count) => check_value(rt, row, count_names(chain), count),
     }
 }
 
@@ -70,7 +72,7 @@ pub fn make<C: TileChain>(
     requires { IsGray table.old.tiles (C.held chain.old) }
     ensures { IsGray table.new.tiles (C.held chain.new) }
 {
-    for step in steps {
-        make_step(rt, table, chain, alloc, *step);
+    for (row, step) in steps.iter().enumerate() {
+        make_step(rt, table, chain, alloc, row, *step);
     }
 }

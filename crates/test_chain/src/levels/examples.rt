@@ -1,13 +1,13 @@
 //! Small examples, whose results are worked out by hand.
 
 ghost use Rattle.std.specs.Prelude.{◌≡◌, ◌+◌, OnOk, length};
-ghost use Rattle.test_levels.specs.Tables.{AreTwo, HasBeside};
+ghost use Rattle.test_chain.specs.Tables.{AreTwo, HasBeside};
 
-use crate::calls::{
+use crate::levels::calls::{
     add, check_first, discard, no_new_tiles, no_tiles, put_second, release_first, share, switch,
     tile_at,
 };
-use crate::steps::{Step, count_names, make};
+use crate::levels::steps::{Step, count_names, make};
 use chain_handlers::{SwapRefused, TileChain};
 use level_tables::{LevelTable, NewTiles};
 use std::alloc::Global;
@@ -52,7 +52,7 @@ pub fn put_again<C: TileChain>(rt: &impl Abort, chain: &mut C, alloc: Global) {
     let mut table = no_tiles(chain, alloc);
     make(rt, &mut table, chain, alloc, &PUT_AGAIN);
     table.release(chain);
-    assert_eq!(rt; count_names(chain), 0);
+    assert!(rt; count_names(chain) == 0);
 }
 
 /// Checks that a tile that is put into the second of two tables isn't in the first.
@@ -88,7 +88,7 @@ pub fn share_one<C: TileChain>(rt: &impl Abort, chain: &mut C, alloc: Global) {
     ];
     make(rt, &mut other, chain, alloc, &steps);
     other.release(chain);
-    assert_eq!(rt; count_names(chain), 0);
+    assert!(rt; count_names(chain) == 0);
 }
 
 /// Puts three tiles, one after another.
@@ -140,7 +140,7 @@ pub fn add_in_vain<C: TileChain>(rt: &impl Abort, chain: &mut C, alloc: Global) 
     make(rt, &mut table, chain, alloc, &[Step::Put(0, 0, 9)]);
     let mut tiles = no_new_tiles(&table, chain, alloc);
     let refused = add(&mut tiles, &table, chain, alloc, tile_at(0, 0), 100);
-    assert_eq!(rt; refused, Err(SwapRefused::SwapFault));
+    assert!(rt; refused == Err(SwapRefused::SwapFault), "{refused:?}");
     add(&mut tiles, &table, chain, alloc, tile_at(2, 0), 40).expect(rt, "room for a tile");
     discard(&table, chain, tiles);
     let steps = [

@@ -12,7 +12,7 @@ use Rattle.level_tables.specs.LevelTiles.{LevelTiles, names}
 use Rattle.level_tables.specs.NewTiles.{Adds, AreNewTiles}
 use Rattle.level_tables.proofs.Frames.{over-beside}
 use Rattle.level_tables.proofs.SwitchingAll.{made-none}
-use Rattle.test_levels.specs.Tables.{AreTwo, HasBeside, IsGray}
+use Rattle.test_chain.specs.Tables.{AreTwo, HasBeside, IsGray}
 
 -- names may be taken in any order
 turned : (held : Held) (a b : List ℕ) → Owns held (a ++ b) → Owns held (b ++ a)
