@@ -1,5 +1,6 @@
 //! What files must hold.
 
+use crate::runs::check_row;
 use std::alloc::Global;
 use std::process::Abort;
 
@@ -37,53 +38,52 @@ pub enum Kept {
 }
 
 impl Content {
-    /// Returns whether so much of this is there. Of a hash, only the whole is known.
-    pub fn is(&self, rt: &impl Abort, alloc: Global, file: Option<&[u8]>, kept: Kept) -> bool {
-        match (kept, file) {
-            (Kept::Nothing, found) => found.is_none(),
-            (Kept::Whole, found) => self.is_whole(rt, alloc, found),
-            (Kept::Beginning, None) => true,
-            (Kept::First(_) | Kept::Half, None) => false,
-            (Kept::First(count), Some(found)) => {
-                found.len() == count && self.begins(rt, alloc, found).is_some()
+    /// Checks that so much of this is in the file of a row. Of a hash, only the whole is known.
+    pub fn check(
+        &self,
+        rt: &impl Abort,
+        alloc: Global,
+        row: &str,
+        found: Option<&[u8]>,
+        kept: Kept,
+    ) {
+        match (kept, self) {
+            (Kept::Nothing, _) | (Kept::Whole, Content::Absent) => {
+                check_row(rt, row, &found, &None);
             }
-            (Kept::Beginning, Some(found)) => self.begins(rt, alloc, found).is_some(),
-            (Kept::Half, Some(found)) => match self.begins(rt, alloc, found) {
-                Some(count) => found.len() == count / 2,
-                None => false,
-            },
+            (Kept::Whole, Content::Hashed(count, hash)) => {
+                let bytes = found.unwrap_or(&[]);
+                check_row(rt, row, &(bytes.len(), hash_of(bytes)), &(*count, *hash));
+            }
+            _ => {
+                let wanted = self.bytes(rt, alloc);
+                let wanted = wanted.as_slice();
+                check_row(rt, row, &found, &kept.part_of(wanted, found));
+            }
         }
     }
 
-    /// Returns whether a file holds this.
-    fn is_whole(&self, rt: &impl Abort, alloc: Global, file: Option<&[u8]>) -> bool {
-        match (self, file) {
-            (Content::Absent, found) => found.is_none(),
-            (_, None) => false,
-            (Content::Hashed(count, wanted), Some(found)) => {
-                found.len() == *count && hash_of(found) == *wanted
-            }
-            (_, Some(found)) => self.begins(rt, alloc, found) == Some(found.len()),
-        }
-    }
-
-    /// Returns how many bytes this has, where they are known and begin with those that were found.
-    fn begins(&self, rt: &impl Abort, alloc: Global, found: &[u8]) -> Option<usize> {
+    /// Returns the bytes, which are known.
+    fn bytes(&self, rt: &impl Abort, alloc: Global) -> Vec<u8> {
         match self {
-            Content::Bytes(wanted) => begun(wanted, found),
-            Content::Bands(bands) => begun(&bytes_of(rt, alloc, bands, usize::MAX), found),
-            Content::FirstOf(count, bands) => begun(&bytes_of(rt, alloc, bands, *count), found),
-            _ => None,
+            Content::Bytes(bytes) => bytes.to_vec(alloc).expect(rt, "memory"),
+            Content::Bands(bands) => bytes_of(rt, alloc, bands, usize::MAX),
+            Content::FirstOf(count, bands) => bytes_of(rt, alloc, bands, *count),
+            _ => panic!(rt; "bytes that are known"),
         }
     }
 }
 
-/// Returns how many bytes there are, where they begin with those that were found.
-fn begun(wanted: &[u8], found: &[u8]) -> Option<usize> {
-    if wanted.starts_with(found) {
-        Some(wanted.len())
-    } else {
-        None
+impl Kept {
+    /// Returns so much of bytes, of which these were found.
+    fn part_of<'a>(self, bytes: &'a [u8], found: Option<&[u8]>) -> Option<&'a [u8]> {
+        match self {
+            Kept::Nothing => None,
+            Kept::Half => bytes.get(..bytes.len() / 2),
+            Kept::First(count) => bytes.get(..count),
+            Kept::Beginning => bytes.get(..found?.len()),
+            Kept::Whole => Some(bytes),
+        }
     }
 }
 

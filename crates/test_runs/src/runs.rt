@@ -6,7 +6,9 @@ use crate::examples::{Case, Example, example_of};
 use outside_io::{MemShelf, MemSink, MemSwap, OpenGate};
 use script_run::run;
 use std::alloc::Global;
+use std::fmt::Debug;
 use std::process::Abort;
+use std::str::from_utf8;
 use std::thread::Threads;
 
 /// The bytes of `in.raw`.
@@ -106,10 +108,18 @@ pub fn run_words(
     Ended { status, text }
 }
 
-/// Checks the status and the text of a run.
-pub fn check_ended(rt: &impl Abort, ended: &Ended, status: u8, text: &str) {
-    assert!(rt; ended.text.as_slice() == text.as_bytes(), "{text}");
-    assert_eq!(rt; ended.status, status, "{text}");
+/// Checks that what a row gives is what it should, and tells the row and both where it isn't.
+pub fn check_row<T: PartialEq + Debug>(rt: &impl Abort, row: &str, found: &T, wanted: &T) {
+    assert!(rt;
+        found == wanted,
+        "{row}: found {found:?}, wanted {wanted:?}"
+    );
+}
+
+/// Checks the status and the text of the run of a row.
+pub fn check_ended(rt: &impl Abort, row: &str, ended: &Ended, status: u8, text: &str) {
+    check_row(rt, row, &from_utf8(&ended.text).unwrap_or("no text"), &text);
+    check_row(rt, row, &ended.status, &status);
 }
 
 /// Runs the words of a line over these files, and checks status and text. Returns the shelf.
@@ -123,27 +133,31 @@ pub fn check_run(
 ) -> MemShelf {
     let mut shelf = shelf_of(rt, alloc, files, devices);
     let ended = run_over(rt, alloc, line, &mut shelf, devices);
-    check_ended(rt, &ended, wanted.0, wanted.1);
+    check_ended(rt, line, &ended, wanted.0, wanted.1);
     shelf
 }
 
-/// Runs the words of a line over a folder with a script and `in.raw`, and checks status and text.
+/// Runs the words of a line over a folder with a script and `in.raw`, and checks status and text, for a row.
 pub fn check_text(
     rt: &(impl Abort + Threads + Sync),
     alloc: Global,
+    row: &str,
     line: &str,
     script: &[u8],
     status: u8,
     text: &str,
 ) {
     let files = [("script.txt", script), ("in.raw", RASTER)];
-    check_run(rt, alloc, line, &files, SOUND, (status, text));
+    let mut shelf = shelf_of(rt, alloc, &files, SOUND);
+    let ended = run_over(rt, alloc, line, &mut shelf, SOUND);
+    check_ended(rt, row, &ended, status, text);
 }
 
 /// Runs a script, and checks that it is refused with its text, or carried out where that is the report.
 pub fn check_script(rt: &(impl Abort + Threads + Sync), alloc: Global, script: &[u8], text: &str) {
     let status = if text == REPORT { 0 } else { 2 };
-    check_text(rt, alloc, PLAIN, script, status, text);
+    let row = from_utf8(script.get(..200).unwrap_or(script)).unwrap_or("no text");
+    check_text(rt, alloc, row, PLAIN, script, status, text);
 }
 
 /// Returns the folder that an example is run over.
@@ -182,12 +196,7 @@ pub fn check_files(
             Kept::Nothing
         };
         let found = file_of(shelf, file.line);
-        assert!(rt;
-            file.content.is(rt, alloc, found, kept),
-            "the file of {} after {}",
-            file.line,
-            example.script.as_str()
-        );
+        file.content.check(rt, alloc, file.line, found, kept);
     }
 }
 
@@ -199,7 +208,7 @@ pub fn check_end(
     ended: &Ended,
     shelf: &MemShelf,
 ) {
-    check_ended(rt, ended, example.status, &example.text);
+    check_ended(rt, &example.script, ended, example.status, &example.text);
     check_files(rt, alloc, example, shelf, example.written, Kept::Nothing);
 }
 

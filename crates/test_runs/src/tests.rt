@@ -8,6 +8,7 @@ mod photographs;
 mod refusals;
 mod words;
 
+use crate::examples::Case;
 use crate::examples::buffers::{BUFFERS, EDGES};
 use crate::examples::edits::EDITED;
 use crate::examples::faults::{EDITING_JOB, EDITING_JOB_IN_7, EDITING_JOB_IN_8};
@@ -24,7 +25,7 @@ const SAME_RUNS: [&str; 3] = [
 
 #[test]
 fn buffers_are_edited_and_grabbed(rt: HostRuntime) {
-    for line in SAME_RUNS {
+    for line in &SAME_RUNS {
         check_cases(&rt, rt.alloc(), line, &BUFFERS);
         check_cases(&rt, rt.alloc(), line, &EDGES);
     }
@@ -32,7 +33,7 @@ fn buffers_are_edited_and_grabbed(rt: HostRuntime) {
 
 #[test]
 fn nodes_are_rendered_edited_and_undone(rt: HostRuntime) {
-    for line in SAME_RUNS {
+    for line in &SAME_RUNS {
         check_cases(&rt, rt.alloc(), line, &RENDERED);
         check_cases(&rt, rt.alloc(), line, &EDITED);
         check_case(&rt, rt.alloc(), line, &EDITING_JOB);
@@ -44,14 +45,17 @@ fn large_rectangles_are_rendered(rt: HostRuntime) {
     check_case(&rt, rt.alloc(), PLAIN, &FOUR_BANDS);
 }
 
+/// Words of runs, and what they leave.
+const CACHED: [(&str, &Case); 4] = [
+    ("run script.txt --cache 8", &EDITING_JOB_IN_8),
+    ("run script.txt --cache 7", &EDITING_JOB_IN_7),
+    ("run script.txt --cache=65", &WIDEST_STRIP),
+    ("run script.txt --cache=64", &STRIP_TOO_WIDE),
+];
+
 #[test]
 fn the_cache_decides_on_strips_and_the_report_alone(rt: HostRuntime) {
-    for (line, case) in [
-        ("run script.txt --cache 8", EDITING_JOB_IN_8),
-        ("run script.txt --cache 7", EDITING_JOB_IN_7),
-        ("run script.txt --cache=65", WIDEST_STRIP),
-        ("run script.txt --cache=64", STRIP_TOO_WIDE),
-    ] {
-        check_case(&rt, rt.alloc(), line, &case);
+    for (line, case) in &CACHED {
+        check_case(&rt, rt.alloc(), line, case);
     }
 }

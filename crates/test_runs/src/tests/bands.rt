@@ -1,6 +1,6 @@
 //! Rasters that are loaded by bands of rows.
 
-use crate::runs::{Devices, SOUND, check_run};
+use crate::runs::{Devices, SOUND, check_row, check_run};
 use outside_io::MemShelf;
 use std::alloc::Global;
 use std::process::Abort;
@@ -47,18 +47,20 @@ fn check_raster(
     check_run(rt, alloc, line, &files, devices, wanted)
 }
 
+const LINES: [&str; 3] = [
+    ONE_WORKER,
+    ONE_RESIDENT,
+    "run script.txt --workers 3 --resident 1",
+];
+
 #[test]
 fn a_raster_of_four_bands_is_loaded(rt: HostRuntime) {
     let alloc = rt.alloc();
     let raster = raster_of(&rt, alloc, 420);
-    for line in [
-        ONE_WORKER,
-        ONE_RESIDENT,
-        "run script.txt --workers 3 --resident 1",
-    ] {
+    for line in &LINES {
         let shelf = check_raster(&rt, alloc, line, 420, SOUND, (0, TEXT));
-        assert_eq!(rt; shelf.get("whole.raw"), Some(raster.as_slice()), "{line}");
-        assert_eq!(rt; shelf.get("part.raw"), Some(PART), "{line}");
+        check_row(&rt, line, &shelf.get("whole.raw"), &Some(raster.as_slice()));
+        check_row(&rt, line, &shelf.get("part.raw"), &Some(PART));
     }
 }
 
@@ -70,7 +72,7 @@ fn a_raster_of_four_bands_has_its_size(rt: HostRuntime) {
     for count in [0, 18, 210, 402, 419, 421, 840] {
         let wanted = (2, "line 2: WrongSize\n");
         let shelf = check_raster(&rt, alloc, ONE_WORKER, count, SOUND, wanted);
-        assert_eq!(rt; shelf.get("whole.raw"), None, "{count}");
+        assert!(rt; shelf.get("whole.raw").is_none());
         check_raster(&rt, alloc, ONE_RESIDENT, count, devices, wanted);
     }
     check_raster(&rt, alloc, ONE_RESIDENT, 420, devices, (8, ""));
@@ -92,7 +94,7 @@ fn a_band_that_fails_ends_the_run(rt: HostRuntime) {
     for read in 2..6 {
         let devices = Devices { read, ..SOUND };
         let shelf = check_raster(&rt, alloc, ONE_WORKER, 420, devices, (3, ""));
-        assert_eq!(rt; shelf.get("whole.raw"), None, "read {read}");
+        assert!(rt; shelf.get("whole.raw").is_none());
     }
     let devices = Devices { read: 6, ..SOUND };
     check_raster(&rt, alloc, ONE_WORKER, 420, devices, (0, TEXT));

@@ -6,7 +6,10 @@ use crate::examples::faults::{EDITING_JOB, EITHER_SIDE, FOUR_GRABS, FOUR_TILES, 
 use crate::examples::graphs::ONE_RENDER;
 use crate::examples::pictures::FOUR_BANDS;
 use crate::examples::{Case, Example, example_of};
-use crate::runs::{Devices, Ended, PLAIN, SOUND, check_end, check_files, folder_of, run_over};
+use crate::runs::{
+    Devices, Ended, PLAIN, SOUND, check_end, check_ended, check_files, check_row, folder_of,
+    run_over,
+};
 use outside_io::MemShelf;
 use std::alloc::Global;
 use std::process::Abort;
@@ -68,7 +71,7 @@ fn fail_and_run_again(
     let ended = run_over(rt, alloc, ONE_RESIDENT, &mut shelf, devices);
     let failed = ended.status != example.status;
     if failed {
-        assert_eq!(rt; ended.status, 5);
+        assert!(rt; ended.status == 5);
         check_beginning(rt, alloc, example, &ended, &shelf, Kept::Nothing);
         let again = run_over(rt, alloc, ONE_RESIDENT, &mut shelf, SOUND);
         check_end(rt, alloc, example, &again, &shelf);
@@ -98,7 +101,7 @@ fn failures(
 fn fail_each(rt: &(impl Abort + Threads + Sync), alloc: Global, case: &Case, call: Call) {
     let example = example_of(rt, alloc, case);
     let failed = failures(rt, alloc, &example, call);
-    assert!(rt; failed > 0 && failed < MOST_CALLS, "{failed}");
+    assert!(rt; failed > 0 && failed < MOST_CALLS);
 }
 
 #[test]
@@ -111,15 +114,18 @@ fn each_write_of_the_swap_ends_a_job_where_it_fails(rt: HostRuntime) {
     fail_each(&rt, rt.alloc(), &EDITING_JOB, Call::SwapWrite);
 }
 
+/// Cases, and the kind of call that fails.
+const FAILING: [(&Case, Call); 4] = [
+    (&MEANS_AFTER_AN_EDIT, Call::SwapRead),
+    (&MEANS_AFTER_AN_EDIT, Call::SwapWrite),
+    (&FOUR_GRABS, Call::SwapRead),
+    (&FOUR_TILES, Call::SwapWrite),
+];
+
 #[test]
 fn each_call_of_the_swap_ends_a_run_where_it_fails(rt: HostRuntime) {
-    for (case, call) in [
-        (MEANS_AFTER_AN_EDIT, Call::SwapRead),
-        (MEANS_AFTER_AN_EDIT, Call::SwapWrite),
-        (FOUR_GRABS, Call::SwapRead),
-        (FOUR_TILES, Call::SwapWrite),
-    ] {
-        fail_each(&rt, rt.alloc(), &case, call);
+    for (case, call) in &FAILING {
+        fail_each(&rt, rt.alloc(), case, *call);
     }
 }
 
@@ -130,53 +136,52 @@ fn check_faults(
     alloc: Global,
     call: Call,
     wanted: (u8, Kept),
-    cases: &[(Case, u64, &str)],
+    cases: &[(&Case, u64, &str)],
 ) {
     for (case, number, text) in cases {
         let example = example_of(rt, alloc, case);
         let devices = failing_at(call, *number);
         let mut shelf = folder_of(rt, alloc, &example, devices);
         let ended = run_over(rt, alloc, PLAIN, &mut shelf, devices);
-        assert_eq!(rt; ended.status, wanted.0);
+        check_ended(rt, &example.script, &ended, wanted.0, text);
         check_beginning(rt, alloc, &example, &ended, &shelf, wanted.1);
-        assert_eq!(rt; ended.text.as_slice(), text.as_bytes());
     }
 }
 
 /// Puts that fail, and the texts then: that of the put is half there.
-const PUTS: [(Case, u64, &str); 6] = [
-    (ONE_RENDER, 1, "render 6 comm"),
-    (EITHER_SIDE, 1, "grab 5 "),
-    (EITHER_SIDE, 2, "grab 5 bytes 2\ngrab 6 "),
-    (EITHER_SIDE, 3, "grab 5 bytes 2\ngrab 6 bytes 2\ngrab 8 "),
+const PUTS: [(&Case, u64, &str); 6] = [
+    (&ONE_RENDER, 1, "render 6 comm"),
+    (&EITHER_SIDE, 1, "grab 5 "),
+    (&EITHER_SIDE, 2, "grab 5 bytes 2\ngrab 6 "),
+    (&EITHER_SIDE, 3, "grab 5 bytes 2\ngrab 6 bytes 2\ngrab 8 "),
     (
-        EITHER_SIDE,
+        &EITHER_SIDE,
         4,
         "grab 5 bytes 2\ngrab 6 bytes 2\ngrab 8 bytes 2\ngrab 9 ",
     ),
     (
-        EITHER_SIDE,
+        &EITHER_SIDE,
         5,
         "grab 5 bytes 2\ngrab 6 bytes 2\ngrab 8 bytes 2\ngrab 9 bytes 2\nreport applie",
     ),
 ];
 
 /// Reads that fail, the first of which is that of the script, and the texts then.
-const READS: [(Case, u64, &str); 4] = [
-    (TWO_LOADS, 1, ""),
-    (TWO_LOADS, 2, ""),
-    (TWO_LOADS, 3, "grab 3 bytes 4\n"),
-    (ONE_RENDER, 2, ""),
+const READS: [(&Case, u64, &str); 4] = [
+    (&TWO_LOADS, 1, ""),
+    (&TWO_LOADS, 2, ""),
+    (&TWO_LOADS, 3, "grab 3 bytes 4\n"),
+    (&ONE_RENDER, 2, ""),
 ];
 
 /// Writes that fail, and the texts then.
-const WRITES: [(Case, u64, &str); 5] = [
-    (ONE_RENDER, 1, ""),
-    (EITHER_SIDE, 1, ""),
-    (EITHER_SIDE, 2, "grab 5 bytes 2\n"),
-    (EITHER_SIDE, 3, "grab 5 bytes 2\ngrab 6 bytes 2\n"),
+const WRITES: [(&Case, u64, &str); 5] = [
+    (&ONE_RENDER, 1, ""),
+    (&EITHER_SIDE, 1, ""),
+    (&EITHER_SIDE, 2, "grab 5 bytes 2\n"),
+    (&EITHER_SIDE, 3, "grab 5 bytes 2\ngrab 6 bytes 2\n"),
     (
-        EITHER_SIDE,
+        &EITHER_SIDE,
         4,
         "grab 5 bytes 2\ngrab 6 bytes 2\ngrab 8 bytes 2\n",
     ),
@@ -200,15 +205,10 @@ const BANDS: [(u64, usize); 4] = [(1, 2060), (2, 70_040), (3, 201_880), (4, 268_
 
 #[test]
 fn a_band_of_rows_that_fails_ends_the_run(rt: HostRuntime) {
-    for (number, count) in BANDS {
-        let cases = [(FOUR_BANDS, number, "")];
-        check_faults(
-            &rt,
-            rt.alloc(),
-            Call::Write,
-            (4, Kept::First(count)),
-            &cases,
-        );
+    for (number, count) in &BANDS {
+        let cases = [(&FOUR_BANDS, *number, "")];
+        let wanted = (4, Kept::First(*count));
+        check_faults(&rt, rt.alloc(), Call::Write, wanted, &cases);
     }
 }
 
@@ -237,46 +237,49 @@ fn check_few_blocks(rt: &(impl Abort + Threads + Sync), alloc: Global) {
     let example = example_of(rt, alloc, &EDITING_JOB);
     for blocks in 1..32 {
         let status = run_in_blocks(rt, alloc, ONE_RESIDENT, &example, blocks);
-        assert!(rt; status == 0 || status == 8, "{blocks}");
+        assert!(rt; status == 0 || status == 8);
     }
 }
 
-/// Checks that four tiles and one more suffice for the first script, and 27 for the last: so many in memory, or 32 blocks for each and
-/// for one more. No swap's end tears a file that is written by bands.
+/// Words of runs, cases, the blocks of the swap, and the status then. Four tiles and one more suffice for the first script, and
+/// 27 for the last: so many in memory, or 32 blocks for each and for one more. No swap's end tears a file that is written by
+/// bands.
+const FULL: [(&str, &Case, u32, u8); 11] = [
+    (ONE_RESIDENT, &FOUR_TILES, 1, 8),
+    (
+        "run script.txt --resident 1 --swap-blocks 1",
+        &FOUR_TILES,
+        64,
+        8,
+    ),
+    (
+        "run script.txt --resident 5 --swap-blocks 1",
+        &FOUR_TILES,
+        64,
+        0,
+    ),
+    (ONE_RESIDENT, &FOUR_TILES, 192, 0),
+    (
+        "run script.txt --resident 1 --swap-blocks 192",
+        &FOUR_TILES,
+        192,
+        0,
+    ),
+    (ONE_RESIDENT, &FOUR_BANDS, 64, 8),
+    (ONE_RESIDENT, &FOUR_BANDS, 16_384, 0),
+    ("run script.txt --workers 3", &FOUR_BANDS, 1, 0),
+    (ONE_RESIDENT, &EDITING_JOB, 4, 8),
+    (ONE_RESIDENT, &EDITING_JOB, 896, 0),
+    ("run script.txt --resident 27", &EDITING_JOB, 1, 0),
+];
+
 #[test]
 fn a_full_swap_ends_the_run(rt: HostRuntime) {
     let alloc = rt.alloc();
-    for (line, case, blocks, status) in [
-        (ONE_RESIDENT, FOUR_TILES, 1, 8),
-        (
-            "run script.txt --resident 1 --swap-blocks 1",
-            FOUR_TILES,
-            64,
-            8,
-        ),
-        (
-            "run script.txt --resident 5 --swap-blocks 1",
-            FOUR_TILES,
-            64,
-            0,
-        ),
-        (ONE_RESIDENT, FOUR_TILES, 192, 0),
-        (
-            "run script.txt --resident 1 --swap-blocks 192",
-            FOUR_TILES,
-            192,
-            0,
-        ),
-        (ONE_RESIDENT, FOUR_BANDS, 64, 8),
-        (ONE_RESIDENT, FOUR_BANDS, 16_384, 0),
-        ("run script.txt --workers 3", FOUR_BANDS, 1, 0),
-        (ONE_RESIDENT, EDITING_JOB, 4, 8),
-        (ONE_RESIDENT, EDITING_JOB, 896, 0),
-        ("run script.txt --resident 27", EDITING_JOB, 1, 0),
-    ] {
-        let example = example_of(&rt, alloc, &case);
-        let ended = run_in_blocks(&rt, alloc, line, &example, blocks);
-        assert_eq!(rt; ended, status, "{line}");
+    for (line, case, blocks, status) in &FULL {
+        let example = example_of(&rt, alloc, case);
+        let ended = run_in_blocks(&rt, alloc, line, &example, *blocks);
+        check_row(&rt, line, &ended, status);
     }
     check_few_blocks(&rt, alloc);
 }

@@ -1,6 +1,6 @@
 //! A made job.
 
-use crate::runs::{SOUND, check_run};
+use crate::runs::{SOUND, check_row, check_run};
 use std::alloc::Global;
 use std::process::Abort;
 
@@ -35,10 +35,6 @@ fn a_made_job_prints_its_renders_their_sum_and_the_report(rt: HostRuntime) {
     let text = text_of_job(&rt, alloc);
     let files = [("g.raw", b"mine".as_slice())];
     let shelf = check_run(&rt, alloc, "make 0", &files, SOUND, (0, &text));
-    assert_eq!(rt;
-        shelf.get("g.raw"),
-        Some(b"mine".as_slice()),
-        "the handed shelf"
-    );
-    assert_eq!(rt; shelf.get("job.txt"), None, "the handed shelf");
+    check_row(&rt, "g.raw", &shelf.get("g.raw"), &Some(b"mine".as_slice()));
+    assert!(rt; shelf.get("job.txt").is_none());
 }

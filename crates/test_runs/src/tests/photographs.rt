@@ -72,11 +72,8 @@ fn check_photograph(
         ("caption.raw", caption.as_slice()),
     ];
     let shelf = check_run(rt, alloc, line, &files, devices, (0, TEXT));
-    for (name, content) in FILES {
-        assert!(rt;
-            content.is(rt, alloc, shelf.get(name), Kept::Whole),
-            "{name} of {line}"
-        );
+    for (name, content) in &FILES {
+        content.check(rt, alloc, line, shelf.get(name), Kept::Whole);
     }
 }
 
@@ -91,7 +88,7 @@ fn workers_and_resident_tiles_change_no_byte(rt: HostRuntime) {
         blocks: 40_960,
         ..SOUND
     };
-    for line in LINES {
+    for line in &LINES {
         check_photograph(&rt, rt.alloc(), line, devices);
     }
 }

@@ -31,23 +31,26 @@ fn check_sizes(rt: &(impl Abort + Threads + Sync), alloc: Global) {
         let files = [("script.txt", INVERT), ("in.raw", raster)];
         let wanted = (2, "line 2: WrongSize\n");
         let shelf = check_run(rt, alloc, PLAIN, &files, SOUND, wanted);
-        assert_eq!(rt; shelf.get("out.raw"), None);
+        assert!(rt; shelf.get("out.raw").is_none());
     }
 }
+
+/// Words of runs without a file, the put that fails, and the status and the text then.
+const ABSENT: [(&str, u64, u8, &str); 4] = [
+    (PLAIN, 0, 2, "line 2: Absent\n"),
+    (PLAIN, 1, 6, "line 2:"),
+    ("run absent.txt", 0, 2, "line 0: Absent\n"),
+    ("run absent.txt", 1, 6, "line 0:"),
+];
 
 /// Checks that where the text of a refusal isn't put whole, the status is that of the output.
 #[test]
 fn rasters_of_a_wrong_size_and_absent_files_are_refused(rt: HostRuntime) {
     let alloc = rt.alloc();
     check_sizes(&rt, alloc);
-    for (line, put, status, text) in [
-        (PLAIN, 0, 2, "line 2: Absent\n"),
-        (PLAIN, 1, 6, "line 2:"),
-        ("run absent.txt", 0, 2, "line 0: Absent\n"),
-        ("run absent.txt", 1, 6, "line 0:"),
-    ] {
+    for (line, put, status, text) in &ABSENT {
         let files = [("script.txt", INVERT)];
-        let devices = Devices { put, ..SOUND };
-        check_run(&rt, alloc, line, &files, devices, (status, text));
+        let devices = Devices { put: *put, ..SOUND };
+        check_run(&rt, alloc, line, &files, devices, (*status, text));
     }
 }

@@ -1,7 +1,7 @@
 //! The words of the command line.
 
 use crate::examples::refusals::REPORT;
-use crate::runs::{SOUND, check_text, run_over, run_words, shelf_of};
+use crate::runs::{SOUND, check_row, check_text, run_over, run_words, shelf_of};
 
 /// Words of a run of a script that is there.
 const RUNS: [&str; 23] = [
@@ -96,25 +96,25 @@ const SCRIPT: &[u8] = b"buffer a Y8 0 0 1 1\n";
 #[test]
 fn options_stand_in_any_order_and_have_ends(rt: HostRuntime) {
     let alloc = rt.alloc();
-    for line in RUNS {
-        check_text(&rt, alloc, line, SCRIPT, 0, REPORT);
+    for line in &RUNS {
+        check_text(&rt, alloc, line, line, SCRIPT, 0, REPORT);
     }
     let mut shelf = shelf_of(&rt, alloc, &[("16", b"".as_slice())], SOUND);
     let ended = run_over(&rt, alloc, "run --resident 16 16", &mut shelf, SOUND);
-    assert_eq!(rt; ended.status, 0, "a number is a name too");
+    check_row(&rt, "a number is a name too", &ended.status, &0);
 }
 
 #[test]
 fn other_words_have_status_1(rt: HostRuntime) {
     let alloc = rt.alloc();
-    for line in OTHER_WORDS {
-        check_text(&rt, alloc, line, SCRIPT, 1, "");
+    for line in &OTHER_WORDS {
+        check_text(&rt, alloc, line, line, SCRIPT, 1, "");
     }
     let mut shelf = shelf_of(&rt, alloc, &[("script.txt", b"".as_slice())], SOUND);
     let ended = run_over(&rt, alloc, "", &mut shelf, SOUND);
-    assert_eq!(rt; ended.status, 1, "no word");
+    check_row(&rt, "no word", &ended.status, &1);
     let run = "run".to_string(alloc).expect(&rt, "memory");
     let words = vec![in alloc; run, String::new(alloc)].expect(&rt, "memory");
     let ended = run_words(&rt, alloc, &words, &mut shelf, SOUND);
-    assert_eq!(rt; ended.status, 1, "a word without a byte");
+    check_row(&rt, "a word without a byte", &ended.status, &1);
 }
