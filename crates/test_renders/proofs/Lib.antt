@@ -1,2 +1,2 @@
-mod ReadyLaws
+pub mod ReadyLaws
 mod CommitLaws

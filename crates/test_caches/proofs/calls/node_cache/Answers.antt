@@ -1,4 +1,0 @@
-use Rattle.test_caches.proofs.calls.node_cache.Goals as goal
-
-pub returns-clause-over : goal.returns-clause-over
-returns-clause-over g c = c.in_ok-cache.ensures.over (g.C.ChainMeaning.held c.args._chain.now)
