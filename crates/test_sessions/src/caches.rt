@@ -76,3 +76,14 @@ fn a_cache_in_memory_is_cut_by_its_trim(rt: HostRuntime) {
     cache.trim();
     check_order(&rt, 0, &cache, &(), rt.alloc(), &[("n", 1, 0)]);
 }
+
+#[test]
+fn a_cleared_cache_takes_pairs_again(rt: HostRuntime) {
+    let mut cache = hand_cache(rt.alloc(), 1).expect(&rt, "memory");
+    make(&rt, &mut cache, &mut (), rt.alloc(), &TWO_KEPT);
+    cache.clear();
+    check_order(&rt, 0, &cache, &(), rt.alloc(), &[]);
+    make(&rt, &mut cache, &mut (), rt.alloc(), &TWO_KEPT);
+    cache.trim();
+    check_order(&rt, 0, &cache, &(), rt.alloc(), &[("n", 1, 0)]);
+}
