@@ -4,6 +4,7 @@ ghost use Rattle.std.specs.Prelude.{◌≡◌, ◌≤◌};
 ghost use Rattle.chain_owners.specs.Held.{Held};
 ghost use Rattle.buffer_view.specs.BufferTables.{AreBuffersOver};
 
+use crate::check::check as check_value;
 use buffer_view::{BufferRefused, Buffers, no_buffers_ask_nothing};
 use chain_handlers::TileChain;
 use op_contracts::SourceTiles;
@@ -83,7 +84,7 @@ pub fn fill_refused<C: TileChain>(
     ensures { AreBuffersOver buffers.new (C.held chain.new) }
 {
     let answer = buffers.fill(chain, name(rt, word), rect(fields), samples);
-    assert_eq!(rt; answer, Err(wanted));
+    check_value(rt, word, answer, Err(wanted));
 }
 
 /// Checks a byte of the tile at the plane's origin of a buffer, by the buffer's name and the byte's index.
@@ -102,7 +103,7 @@ pub fn check<C: TileChain>(
     assert!(rt; buffers.fact(name).is_some());
     let tile = buffers.tile(chain, name, TileAt::of(0, 0));
     let tile = tile.expect(rt, "a tile");
-    assert_eq!(rt; tile.bytes().get(index).copied(), Some(wanted));
+    check_value(rt, (word, index), tile.bytes().get(index), Some(&wanted));
 }
 
 /// Checks the bytes of a rectangle of a level of a buffer, read under a policy.
@@ -120,5 +121,5 @@ pub fn check_level<C: TileChain>(
     assert!(rt; level <= 8);
     let patch = buffers.get(chain, name(rt, word), level, abyss, rect(fields));
     let patch = patch.expect(rt, "a part");
-    assert_eq!(rt; patch.raw_bytes(), wanted);
+    check_value(rt, read, patch.raw_bytes(), wanted);
 }

@@ -4,6 +4,7 @@ ghost use Rattle.std.specs.Prelude.{◌≤◌};
 ghost use Rattle.buffer_view.specs.BufferTables.{AreBuffersOver};
 
 use crate::calls::{check_level, name, one_buffer};
+use crate::check::check;
 use crate::plain::Plain;
 use buffer_view::Buffers;
 use chain_handlers::TileChain;
@@ -59,11 +60,11 @@ pub fn compare_levels<C: TileChain>(
     chain: &mut C,
     alloc: Global,
 ) {
-    let mut plain = Plain::noise(alloc, [-37, 21], [150, 70]).expect(rt, "memory");
+    let mut plain = Plain::noise(rt, alloc, [-37, 21], [150, 70]);
     let mut buffers = buffer_of(rt, chain, alloc, &plain);
     for level in 0..9u32 {
         compare_policies(rt, &mut buffers, chain, alloc, level, &plain);
-        plain = plain.halved(alloc).expect(rt, "memory");
+        plain = plain.halved(rt, alloc);
     }
     buffers.release(chain);
 }
@@ -86,9 +87,9 @@ fn compare_policies<C: TileChain>(
         i64::from(plain.width).saturating_add(6),
         i64::from(plain.height).saturating_add(6),
     ];
-    for abyss in POLICIES {
-        let wanted = plain.around(alloc, abyss).expect(rt, "memory");
-        check_level(rt, buffers, chain, ("n00", level, abyss, around), &wanted);
+    for abyss in &POLICIES {
+        let wanted = plain.around(rt, alloc, *abyss);
+        check_level(rt, buffers, chain, ("n00", level, *abyss, around), &wanted);
     }
 }
 
@@ -104,7 +105,7 @@ pub fn compare_duplicates<C: TileChain>(
     chain: &mut C,
     alloc: Global,
 ) {
-    let plain = Plain::noise(alloc, [0, 0], [130, 2]).expect(rt, "memory");
+    let plain = Plain::noise(rt, alloc, [0, 0], [130, 2]);
     let mut buffers = buffer_of(rt, chain, alloc, &plain);
     duplicate_each(rt, &mut buffers, chain);
     write_each(rt, &mut buffers, chain);
@@ -155,7 +156,7 @@ fn compare_each<C: TileChain>(
         let whole = rect(plain.fields());
         let patch = buffers.get(chain, numbered(rt, number), 0, Abyss::None, whole);
         let patch = patch.expect(rt, "the buffer");
-        assert_eq!(rt; patch.raw_bytes(), wanted.as_slice(), "buffer {number}");
+        check(rt, number, patch.raw_bytes(), wanted.as_slice());
     }
 }
 
@@ -166,11 +167,11 @@ pub fn compare_moves<C: TileChain>(
     alloc: Global,
 ) {
     let from = [10, 10, 80, 70];
-    let mut plain = Plain::noise(alloc, [0, 0], [100, 90]).expect(rt, "memory");
+    let mut plain = Plain::noise(rt, alloc, [0, 0], [100, 90]);
     let mut buffers = buffer_of(rt, chain, alloc, &plain);
-    for by in MOVES {
-        plain = plain.moved(alloc, from, by).expect(rt, "memory");
-        copy_to_itself(rt, &mut buffers, chain, from, by);
+    for by in &MOVES {
+        plain = plain.moved(rt, alloc, from, *by);
+        copy_to_itself(rt, &mut buffers, chain, from, *by);
         let all = ("n00", 0, Abyss::None, plain.fields());
         check_level(rt, &mut buffers, chain, all, &plain.bytes);
     }

@@ -1,13 +1,13 @@
 //! Small examples, whose results are worked out by hand.
 
 use crate::calls::{check, check_level, fill, fill_refused, name, one_buffer, part};
+use crate::check::check as check_value;
 use buffer_view::BufferRefused;
 use chain_handlers::{SwapRefused, TileChain};
 use pixel_formats::Abyss;
 use plane_rect::TileAt;
 use std::alloc::Global;
 use std::process::Abort;
-use std::test::Fail;
 use std::thread::Threads;
 use test_rects::rect;
 use worker_pieces::Workers;
@@ -83,20 +83,15 @@ pub fn read_levels<C: TileChain>(rt: &(impl Abort + Threads + Sync), chain: &mut
 }
 
 /// Freezes a part of a buffer, of which a snapshot shows what it did.
-pub fn freeze_parts<C: TileChain>(
-    rt: &impl Abort,
-    chain: &mut C,
-    alloc: Global,
-) -> Result<(), Fail> {
+pub fn freeze_parts<C: TileChain>(rt: &impl Abort, chain: &mut C, alloc: Global) {
     let mut buffers = one_buffer(rt, chain, alloc, "a", [0, 0, 4, 1]);
     fill(rt, &mut buffers, chain, "a", [0, 0, 4, 1], 5);
     part(rt, &mut buffers, "p", "a", [1, 0, 2, 1]);
     let frozen = buffers.freeze(chain, name(rt, "p"));
     let frozen = frozen.expect(rt, "a frozen part");
-    let mut snapshot = buffers.snapshot(chain)?;
+    let mut snapshot = buffers.snapshot(chain).expect(rt, "memory");
     check(rt, &mut snapshot, chain, ("a", 3), 5);
     snapshot.release(chain);
     let tile = frozen.tile(TileAt::of(0, 0)).expect(rt, "a tile");
-    assert_eq!(rt; tile.bytes().get(..4), Some(&[0, 5, 5, 0][..]));
-    Ok(())
+    check_value(rt, "frozen", tile.bytes().get(..4), Some(&[0, 5, 5, 0][..]));
 }

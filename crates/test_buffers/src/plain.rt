@@ -1,7 +1,8 @@
 //! Small gray images as plain lists of bytes, each of whose samples is worked out by itself.
 
 use pixel_formats::Abyss;
-use std::alloc::{AllocError, Global};
+use std::alloc::Global;
+use std::process::Abort;
 
 /// The bytes of a rectangle of pixels, row by row, each row from the left. It has at least one pixel.
 #[derive(Drop)]
@@ -16,21 +17,23 @@ pub struct Plain {
 impl Plain {
     /// Returns an image of bytes that repeat after 251.
     pub fn noise(
+        rt: &impl Abort,
         alloc: Global,
         [left, top]: [i16; 2],
         [width, height]: [u8; 2],
-    ) -> Result<Plain, AllocError> {
-        let mut bytes = vec![in alloc; 0u8; usize::from(width) * usize::from(height)]?;
+    ) -> Plain {
+        let count = usize::from(width) * usize::from(height);
+        let mut bytes = vec![in alloc; 0u8; count].expect(rt, "memory");
         for (index, byte) in bytes.iter_mut().enumerate() {
             *byte = ((index % 251) as u8).wrapping_mul(37);
         }
-        Ok(Plain {
+        Plain {
             left,
             top,
             width,
             height,
             bytes,
-        })
+        }
     }
 
     /// Returns the rectangle, as four numbers.
@@ -77,19 +80,19 @@ impl Plain {
     }
 
     /// Returns the bytes of the rectangle and of three pixels on each side of it, under a policy.
-    pub fn around(&self, alloc: Global, abyss: Abyss) -> Result<Vec<u8>, AllocError> {
+    pub fn around(&self, rt: &impl Abort, alloc: Global, abyss: Abyss) -> Vec<u8> {
         let columns = u32::from(self.width) + 6;
         let mut bytes = Vec::new(alloc);
         for index in 0..count_around(self.width, self.height) {
             let x = i64::from(self.left) - 3 + i64::from(index % columns);
             let y = i64::from(self.top) - 3 + i64::from(index / columns);
-            bytes.push(self.under(abyss, [x, y]))?;
+            bytes.push(self.under(abyss, [x, y])).expect(rt, "memory");
         }
-        Ok(bytes)
+        bytes
     }
 
     /// Returns the image of half the coordinates: the mean of four samples each, a half rounded up.
-    pub fn halved(&self, alloc: Global) -> Result<Plain, AllocError> {
+    pub fn halved(&self, rt: &impl Abort, alloc: Global) -> Plain {
         let (left, width) = half_span(self.left, self.width);
         let (top, height) = half_span(self.top, self.height);
         let columns = u32::from(width.max(1));
@@ -97,25 +100,26 @@ impl Plain {
         for index in 0..u32::from(width) * u32::from(height) {
             let x = 2 * (i64::from(left) + i64::from(index % columns));
             let y = 2 * (i64::from(top) + i64::from(index / columns));
-            bytes.push(self.mean_of_four(x, y))?;
+            bytes.push(self.mean_of_four(x, y)).expect(rt, "memory");
         }
-        Ok(Plain {
+        Plain {
             left,
             top,
             width,
             height,
             bytes,
-        })
+        }
     }
 
     /// Returns the image after a rectangle of it is copied `dx` to the right and `dy` down.
     pub fn moved(
         &self,
+        rt: &impl Abort,
         alloc: Global,
         [left, top, width, height]: [u8; 4],
         [dx, dy]: [i8; 2],
-    ) -> Result<Plain, AllocError> {
-        let mut bytes = Vec::from_slice(alloc, &self.bytes)?;
+    ) -> Plain {
+        let mut bytes = Vec::from_slice(alloc, &self.bytes).expect(rt, "memory");
         let columns = u32::from(width.max(1));
         for index in 0..u32::from(width) * u32::from(height) {
             let x = i64::from(left) + i64::from(index % columns);
@@ -125,7 +129,7 @@ impl Plain {
                 *byte = self.at([x, y]);
             }
         }
-        Ok(Plain { bytes, ..*self })
+        Plain { bytes, ..*self }
     }
 
     /// Returns the mean of the samples of a position, of its right neighbor and of the two below them.

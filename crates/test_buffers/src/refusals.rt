@@ -1,6 +1,7 @@
 //! Refused edits, each cause before those that come later.
 
 use crate::calls::{fill_refused, name, one_buffer};
+use crate::check::check;
 use buffer_layouts::EditRefused;
 use buffer_view::{BufferRefused, Buffers};
 use chain_handlers::TileChain;
@@ -15,11 +16,16 @@ use worker_pieces::Workers;
 /// The words of as many buffers as a table may have are made of a letter and of these.
 const DIGITS: [u8; 8] = *b"01234567";
 
+/// Checks why an edit is refused.
+fn check_edit(rt: &impl Abort, answer: Result<(), BufferRefused>, wanted: EditRefused) {
+    check(rt, "edit", answer, Err(BufferRefused::Edit(wanted)));
+}
+
 /// Adds a buffer for each of 64 names.
 fn fill_table(rt: &impl Abort, buffers: &mut Buffers) {
-    for high in DIGITS {
-        for low in DIGITS {
-            let name = Name::parse(&[b'n', high, low]).expect(rt, "a name");
+    for high in &DIGITS {
+        for low in &DIGITS {
+            let name = Name::parse(&[b'n', *high, *low]).expect(rt, "a name");
             let created = buffers.create(name, Format::Y8, rect([0, 0, 1, 1]));
             created.expect(rt, "a buffer");
         }
@@ -33,18 +39,12 @@ pub fn add_too_many(rt: &impl Abort, alloc: Global) {
     fill_table(rt, &mut buffers);
     let extent = rect([0, 0, 1, 1]);
     let answer = buffers.create(name(rt, "n00"), Format::Y8, extent);
-    assert_eq!(rt; answer, Err(BufferRefused::Edit(EditRefused::NameTaken)));
+    check_edit(rt, answer, EditRefused::NameTaken);
     let answer = buffers.create(name(rt, "m"), Format::Y8, extent);
-    assert_eq!(rt;
-        answer,
-        Err(BufferRefused::Edit(EditRefused::TooManyBuffers))
-    );
+    check_edit(rt, answer, EditRefused::TooManyBuffers);
     let answer = buffers.sub(name(rt, "n00"), name(rt, "m"), extent);
-    assert_eq!(rt;
-        answer,
-        Err(BufferRefused::Edit(EditRefused::UnknownBuffer))
-    );
-    assert_eq!(rt; buffers.facts().len(), 64);
+    check_edit(rt, answer, EditRefused::UnknownBuffer);
+    check(rt, "buffers", buffers.facts().len(), 64);
 }
 
 /// Writes to a buffer where that is refused.
@@ -66,8 +66,8 @@ pub fn write_refused<C: TileChain>(
         found: 3,
         wanted: 4,
     };
-    assert_eq!(rt; answer, Err(BufferRefused::Edit(size)));
+    check_edit(rt, answer, size);
     let answer = buffers.copy(chain, name(rt, "a"), name(rt, "a"), extent, 1, 0);
-    assert_eq!(rt; answer, Err(outside));
+    check_edit(rt, answer, EditRefused::OutOfBounds);
     buffers.release(chain);
 }

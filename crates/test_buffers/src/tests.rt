@@ -7,7 +7,6 @@ use chain_handlers::{Chain, TileChain};
 use outside_io::{MemSwap, SureSwap, SwapDisk};
 use std::alloc::Global;
 use std::process::Abort;
-use std::test::Fail;
 use std::thread::Threads;
 
 /// Calls on buffers.
@@ -31,7 +30,7 @@ fn make<C: TileChain>(
     chain: &mut C,
     alloc: Global,
     calls: Calls,
-) -> Result<(), Fail> {
+) {
     match calls {
         Calls::Write => {
             write_to_duplicates(rt, chain, alloc);
@@ -41,7 +40,7 @@ fn make<C: TileChain>(
         Calls::Refuse => write_refused(rt, chain, alloc),
         Calls::Read => {
             read_levels(rt, chain, alloc);
-            freeze_parts(rt, chain, alloc)?;
+            freeze_parts(rt, chain, alloc);
         }
         Calls::Compare => {
             compare_levels(rt, chain, alloc);
@@ -49,7 +48,6 @@ fn make<C: TileChain>(
             compare_moves(rt, chain, alloc);
         }
     }
-    Ok(())
 }
 
 /// Makes calls over a chain of so many blocks and tiles in memory.
@@ -60,33 +58,32 @@ fn make_over<D: SwapDisk>(
     calls: Calls,
     blocks: u32,
     resident: u32,
-) -> Result<(), Fail> {
+) {
     assert!(rt; resident >= 1);
     let mut chain = Chain::new(alloc, disk, blocks, resident).expect(rt, "memory");
-    make(rt, &mut chain, alloc, calls)
+    make(rt, &mut chain, alloc, calls);
 }
 
 #[test]
-fn buffers_show_what_is_written_to_their_roots(rt: HostRuntime) -> Result<(), Fail> {
+fn buffers_show_what_is_written_to_their_roots(rt: HostRuntime) {
     let alloc = rt.alloc();
     for calls in [Calls::Write, Calls::Read, Calls::Refuse] {
         let mut disk = SureSwap::new(alloc, 16).expect(&rt, "memory");
-        make_over(&rt, alloc, &mut disk, calls, 16, 1)?;
+        make_over(&rt, alloc, &mut disk, calls, 16, 1);
     }
     add_too_many(&rt, alloc);
-    Ok(())
 }
 
 #[test]
-fn a_fill_that_the_disk_refuses_is_made_again(rt: HostRuntime) -> Result<(), Fail> {
+fn a_fill_that_the_disk_refuses_is_made_again(rt: HostRuntime) {
     let alloc = rt.alloc();
     let writes = vec![in alloc; 1].expect(&rt, "memory");
     let mut disk = MemSwap::new(alloc, 16, Vec::new(alloc), writes).expect(&rt, "memory");
-    make_over(&rt, alloc, &mut disk, Calls::Fill, 16, 1)
+    make_over(&rt, alloc, &mut disk, Calls::Fill, 16, 1);
 }
 
 #[test]
-fn buffers_are_as_plain_lists(rt: HostRuntime) -> Result<(), Fail> {
+fn buffers_are_as_plain_lists(rt: HostRuntime) {
     let mut disk = SureSwap::new(rt.alloc(), 512).expect(&rt, "memory");
-    make_over(&rt, rt.alloc(), &mut disk, Calls::Compare, 512, 2)
+    make_over(&rt, rt.alloc(), &mut disk, Calls::Compare, 512, 2);
 }

@@ -1,7 +1,7 @@
 use Rattle.std.proofs.Common.{◌++◌, [], sym, subst}
 use Rattle.chain_owners.specs.Owners.{Owns}
 use Rattle.root_tiles.specs.Roots.{RootTiles, root_names}
-use Rattle.test_roots.proofs.calls.share_and_release.Goals as goal
+use Rattle.test_buffers.proofs.roots.calls.share_and_release.Goals as goal
 
 pub returns : goal.returns
 returns g c =

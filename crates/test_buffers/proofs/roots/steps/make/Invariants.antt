@@ -1,5 +1,5 @@
-use Rattle.test_roots.specs.Gray.{IsGray}
-use Rattle.test_roots.proofs.calls.check_rows.Given as goal
+use Rattle.test_buffers.specs.Gray.{IsGray}
+use Rattle.test_buffers.proofs.roots.steps.make.Given as goal
 
 abbrev pub invariant-loop-row : goal.invariant-loop-row
 invariant-loop-row g l = IsGray l.root (g.C.ChainMeaning.held l.chain)

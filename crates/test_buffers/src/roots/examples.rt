@@ -1,10 +1,10 @@
 //! Small examples, whose results are worked out by hand.
 
-use crate::steps::Example;
-use crate::steps::Step::{Fill, First, Part, Put, Rows, Share};
-use crate::views::Fields;
-use crate::views::First::{Level, Put as PutTile, View, ViewLevel};
-use crate::views::Part::{Root, Under, ViewLevelOne};
+use crate::roots::steps::Example;
+use crate::roots::steps::Step::{Fill, First, Part, Put, Rows, Share};
+use crate::roots::views::Fields;
+use crate::roots::views::First::{Level, Put as PutTile, View, ViewLevel};
+use crate::roots::views::Part::{Root, Under, ViewLevelOne};
 use pixel_formats::Abyss;
 
 /// Writes over the borders of tiles, which are between the columns -1 and 0, and 63 and 64, and checks parts

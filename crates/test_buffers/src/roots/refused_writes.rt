@@ -1,8 +1,9 @@
 //! Writes that the disk refuses.
 
-ghost use Rattle.test_roots.specs.Gray.{IsGray};
+ghost use Rattle.test_buffers.specs.Gray.{IsGray};
 
-use crate::calls::{fill, new_root, part, put};
+use crate::check::check;
+use crate::roots::calls::{fill, new_root, part, put};
 use chain_handlers::TileChain;
 use root_tiles::Root;
 use std::alloc::Global;
@@ -19,7 +20,7 @@ fn check_column<C: TileChain>(rt: &impl Abort, root: &Root, chain: &mut C)
     ensures { IsGray root.now (C.held chain.new) }
 {
     let column = part(rt, root, chain, [0, 0, 1, 256]).expect(rt, "a part");
-    assert!(rt; column.raw_bytes() == [9; 256].as_slice());
+    check(rt, "column", column.raw_bytes(), [9; 256].as_slice());
 }
 
 /// Writes over four rows of tiles that were written before, and returns whether that was refused. All that was written

@@ -2,8 +2,9 @@
 
 ghost use Rattle.std.specs.Prelude.{◌≡◌};
 ghost use Rattle.plane_rect.specs.Rectangle.{InLimits, Includes};
-ghost use Rattle.test_roots.specs.Gray.{IsGray};
+ghost use Rattle.test_buffers.specs.Gray.{IsGray};
 
+use crate::check::check;
 use chain_handlers::TileChain;
 use no_memory::NoMemory;
 use patch_abyss::Patch;
@@ -96,11 +97,10 @@ fn check_line<C: TileChain>(rt: &impl Abort, root: &Root, chain: &mut C, whole: 
     requires { IsGray root.now (C.held chain.old) }
     ensures { IsGray root.now (C.held chain.new) }
 {
-    assert!(rt; root.bounds().contains(&line));
-    assert!(rt; line.in_limits());
+    assert!(rt; root.bounds().contains(&line) && line.in_limits());
     let part = root.part(chain, line).expect(rt, "a line");
     let cut = whole.part(root.allocator(), line).expect(rt, "memory");
-    assert!(rt; cut.raw_bytes() == part.raw_bytes());
+    check(rt, line, cut.raw_bytes(), part.raw_bytes());
 }
 
 /// Shares a root, and gives the other one up.

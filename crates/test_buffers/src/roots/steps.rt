@@ -1,9 +1,10 @@
 //! Lists of calls on a root, each with what is wanted of it.
 
-ghost use Rattle.test_roots.specs.Gray.{IsGray};
+ghost use Rattle.test_buffers.specs.Gray.{IsGray};
 
-use crate::calls::{check_rows, fill, new_root, put, share_and_release};
-use crate::views::{Fields, First, Part, first_tile, read_part};
+use crate::check::check;
+use crate::roots::calls::{check_rows, fill, new_root, put, share_and_release};
+use crate::roots::views::{Fields, First, Part, first_tile, read_part};
 use chain_handlers::TileChain;
 use root_tiles::Root;
 use std::alloc::Global;
@@ -35,14 +36,13 @@ pub enum Step {
 pub type Example = (Fields, &'static [Step]);
 
 /// Checks the first bytes of a tile, and that the next one is 0.
-fn check_bytes(rt: &impl Abort, bytes: &[u8], wanted: &[u8]) {
-    assert!(rt; wanted.len() < bytes.len());
-    assert!(rt; &bytes[..wanted.len()] == wanted);
-    assert!(rt; bytes[wanted.len()] == 0);
+fn check_bytes(rt: &impl Abort, row: usize, bytes: &[u8], wanted: &[u8]) {
+    check(rt, row, bytes.get(..wanted.len()), Some(wanted));
+    check(rt, row, bytes.get(wanted.len()), Some(&0));
 }
 
 /// Makes one step.
-fn make_step<C: TileChain>(rt: &impl Abort, root: &mut Root, chain: &mut C, step: Step)
+fn make_step<C: TileChain>(rt: &impl Abort, root: &mut Root, chain: &mut C, row: usize, step: Step)
     requires { IsGray root.old (C.held chain.old) }
     ensures { IsGray root.new (C.held chain.new) }
 {
@@ -52,11 +52,11 @@ fn make_step<C: TileChain>(rt: &impl Abort, root: &mut Root, chain: &mut C, step
         Step::Share => share_and_release(root, chain).expect(rt, "memory"),
         Step::First(of, wanted) => {
             let tile = first_tile(rt, root, chain, of).expect(rt, "a tile");
-            check_bytes(rt, tile.bytes(), wanted);
+            check_bytes(rt, row, tile.bytes(), wanted);
         }
         Step::Part(of, wanted) => {
             let part = read_part(rt, root, chain, of).expect(rt, "a part");
-            assert_eq!(rt; part.raw_bytes(), wanted, "{of:?}");
+            check(rt, row, part.raw_bytes(), wanted);
         }
         Step::Rows(fields) => check_rows(rt, root, chain, fields),
     }
@@ -65,8 +65,8 @@ fn make_step<C: TileChain>(rt: &impl Abort, root: &mut Root, chain: &mut C, step
 /// Makes the steps of an example, and gives its root up.
 pub fn make<C: TileChain>(rt: &impl Abort, chain: &mut C, alloc: Global, (bounds, steps): Example) {
     let mut root = new_root(chain, alloc, bounds);
-    for step in steps {
-        make_step(rt, &mut root, chain, *step);
+    for (row, step) in steps.iter().enumerate() {
+        make_step(rt, &mut root, chain, row, *step);
     }
     root.release(chain);
 }

@@ -1,9 +1,9 @@
 //! Reads of gray roots and of views of them, on rectangles of four numbers.
 
 ghost use Rattle.plane_rect.specs.Rectangle.{Includes, IsRectangle};
-ghost use Rattle.test_roots.specs.Gray.{IsGray};
+ghost use Rattle.test_buffers.specs.Gray.{IsGray};
 
-use crate::calls::part;
+use crate::roots::calls::part;
 use chain_handlers::TileChain;
 use patch_abyss::Patch;
 use pixel_formats::Abyss;
