@@ -97,7 +97,8 @@ fn check_line<C: TileChain>(rt: &impl Abort, root: &Root, chain: &mut C, whole: 
     requires { IsGray root.now (C.held chain.old) }
     ensures { IsGray root.now (C.held chain.new) }
 {
-    assert!(rt; root.bounds().contains(&line) && line.in_limits());
+    assert!(rt; root.bounds().contains(&line));
+    assert!(rt; line.in_limits());
     let part = root.part(chain, line).expect(rt, "a line");
     let cut = whole.part(root.allocator(), line).expect(rt, "memory");
     check(rt, line, cut.raw_bytes(), part.raw_bytes());
