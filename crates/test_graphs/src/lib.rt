@@ -13,13 +13,13 @@ mod histories;
 #[cfg(test)]
 mod plain_edits;
 #[cfg(test)]
-mod plain_images;
-#[cfg(test)]
 mod plain_renders;
 #[cfg(test)]
 mod plans;
 #[cfg(test)]
 mod refusals;
+#[cfg(test)]
+mod small_images;
 #[cfg(test)]
 mod steps;
 #[cfg(test)]
