@@ -1,5 +1,0 @@
-use Rattle.buffer_view.specs.BufferTables.{AreBuffersOver}
-use Rattle.bench_buffers.proofs.calls.time_puts.Given as goal
-
-abbrev pub invariant-loop-round : goal.invariant-loop-round
-invariant-loop-round g l = AreBuffersOver l.buffers (g.C.ChainMeaning.held l.chain)
