@@ -8,7 +8,7 @@ ghost use Rattle.model_images.specs.{FromRaw.image_from_raw, Raw.raw};
 ghost use Rattle.model_graphs.specs.Windows.{IsWholeWindow, window_image};
 ghost use Rattle.area_ops.specs.Grown.{HoldsGrown, IsNear, IsPartNear, counted_part, near_part};
 
-use no_memory::NoMemory;
+use alloc_basics::NoMemory;
 use op_contracts::Window;
 use patch_abyss::{Abyss, Patch, fetch};
 use plane_rect::Rect;

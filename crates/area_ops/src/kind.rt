@@ -5,8 +5,8 @@ ghost use Rattle.pixel_formats.specs.Format.{channels, depth};
 ghost use Rattle.area_kernels.specs.Parts.{HoldsPart, grown, read_samples, square_samples, written_samples};
 ghost use Rattle.area_ops.specs.Kinds.{square_value};
 
+use alloc_basics::NoMemory;
 use area_kernels::{Area, area_max, area_mean, area_min};
-use no_memory::NoMemory;
 use pixel_formats::Format;
 use std::alloc::Global;
 

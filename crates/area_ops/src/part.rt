@@ -11,8 +11,8 @@ ghost use Rattle.area_ops.specs.Kinds.{operation_of};
 
 use crate::grown::grown_part;
 use crate::kind::AreaKind;
+use alloc_basics::NoMemory;
 use area_kernels::Area;
-use no_memory::NoMemory;
 use op_contracts::Window;
 use patch_abyss::{Abyss, Patch};
 use plane_rect::Rect;

@@ -3,13 +3,14 @@
 use std::alloc::Global;
 use std::io;
 use std::rt::Clock;
+use std::sync::Wait;
 use std::thread::Threads;
 use std::time::Instant;
 
 /// What benchmarks ask of the system.
-pub trait Host: Clock + Print + Eprint + Threads + Sync + Alloc<A = Global> {}
+pub trait Host: Clock + Print + Eprint + Threads + Wait + Sync + Alloc<A = Global> {}
 
-impl<R: Clock + Print + Eprint + Threads + Sync + Alloc<A = Global>> Host for R {}
+impl<R: Clock + Print + Eprint + Threads + Wait + Sync + Alloc<A = Global>> Host for R {}
 
 /// Work whose calls are timed.
 pub trait Work {

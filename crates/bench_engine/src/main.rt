@@ -1,15 +1,16 @@
 //! Times of the engine's parts, beside plain copies and plain kernels in the same run.
 //!
 //! The words on its command line are what is timed, a number of rounds, and a size: of `rows` how many times 64 rows of
-//! 4,096 bytes a round makes, of `swap` the names, of `script` the lines, and else the columns of tiles of an image, of
-//! which most have half as many rows. Without words it times everything in few rounds and sizes. It prints numbers that
-//! depend on what was read and written, which are the same at each run of as many rounds; the shortest and the mean time
-//! of the rounds go to standard error.
+//! 4,096 bytes a round makes, of `swap` the names, of `script` the lines, of `hub` the calls, and else the columns of
+//! tiles of an image, of which most have half as many rows. Without words it times everything in few rounds and sizes.
+//! It prints numbers that depend on what was read and written, which are the same at each run of as many rounds; the
+//! shortest and the mean time of the rounds go to standard error.
 #![tactic(auto)]
 
 mod areas;
 mod bench;
 mod bytes;
+mod hub;
 mod jobs;
 mod lines;
 mod operations;
@@ -29,7 +30,7 @@ use std::process::ExitCode;
 use std::rt::Env;
 
 /// What can be timed, and the rounds and the size of each where the command line says nothing.
-const WORDS: [(&str, u32, u32); 14] = [
+const WORDS: [(&str, u32, u32); 15] = [
     ("rows", 1, 1),
     ("points", 1, 1),
     ("areas", 1, 1),
@@ -44,6 +45,7 @@ const WORDS: [(&str, u32, u32); 14] = [
     ("bands", 2, 4),
     ("graphs", 3, 1),
     ("renders", 2, 4),
+    ("hub", 1, 100),
 ];
 
 /// How many blocks the files may have.
@@ -103,6 +105,7 @@ fn time_group<R: Host, D: SwapDisk>(
         "bands" => jobs::time_bands(bench, file, other),
         "graphs" => jobs::time_graphs(bench),
         "renders" => jobs::time_renders(bench),
+        "hub" => hub::time_all(bench),
         _ => None,
     }
 }

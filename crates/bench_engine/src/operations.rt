@@ -8,15 +8,15 @@ use crate::areas::AreaWork;
 use crate::bench::{Bench, Host, Times, Work};
 use crate::bytes::{last, noise};
 use crate::rows::{Kernel, RowWork};
+use alloc_basics::NoMemory;
 use int_ops::{IntKit, IntOp, IntPurse};
-use no_memory::NoMemory;
 use op_contracts::{OpKit, Window, WindowTiles};
 use patch_abyss::{Abyss, Patch};
 use pixel_formats::Format;
 use plane_rect::{Rect, TileAt};
 use std::alloc::Global;
 use test_kit::{boxes_of, formats_of, is_applicable};
-use test_rects::rect;
+use test_nodes::rect;
 
 /// How often a call applies its operation.
 const TIMES: u32 = 64;

@@ -5,7 +5,7 @@ use crate::bytes::{last, noise};
 use patch_abyss::{Abyss, Patch, fetch, halve};
 use pixel_formats::Format;
 use std::alloc::Global;
-use test_rects::rect;
+use test_nodes::rect;
 
 /// What is made of an image.
 #[derive(Clone, Copy)]

@@ -8,7 +8,7 @@ use op_contracts::OpKit;
 use plane_rect::Rect;
 use roi_planner::{PlanRefused, plan};
 use std::alloc::Global;
-use test_rects::rect;
+use test_nodes::rect;
 
 /// A graph, and a request of its last node.
 #[derive(Drop)]

@@ -9,7 +9,6 @@ ghost use Rattle.commit_session.specs.{Edits.step_of, Seen.IsOver};
 use crate::bench::{Bench, Host, Rounds, Times};
 use crate::bytes::{last, noise};
 use crate::lines::{lines_of, node_edit, numbers_of};
-use chain_handlers::TileChain;
 use commit_session::{Edit, OwnedSession, Session};
 use int_ops::{IntKit, IntOp, IntPurse};
 use model_buffers::RawBytes;
@@ -19,7 +18,8 @@ use plane_rect::Rect;
 use script_read::{Command, Line};
 use std::alloc::Global;
 use std::time::Instant;
-use test_rects::rect;
+use test_nodes::rect;
+use tile_chain::TileChain;
 
 /// One call a round.
 const ONCE: Times = Times {

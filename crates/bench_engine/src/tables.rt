@@ -8,12 +8,12 @@ ghost use Rattle.level_tables.specs.Over.{IsOver, tile_length};
 use crate::bench::{Bench, Host, Times, Work};
 use crate::bytes::noise;
 use crate::plain::PlainWork;
-use chain_handlers::{Chain, TileChain};
 use level_tables::{LevelTable, new_tables_ask_nothing};
 use outside_io::{SureSwap, SwapDisk};
 use pixel_formats::Format;
 use plane_rect::TileAt;
 use std::alloc::Global;
+use tile_chain::{Chain, TileChain};
 use tile_cow::Tile;
 
 /// A call on a table.

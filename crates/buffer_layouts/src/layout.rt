@@ -9,8 +9,8 @@ ghost use Rattle.buffer_layouts.specs.Views.{root_number, root_view, shape_at};
 ghost use Rattle.buffer_layouts.specs.Layouts.{root_entry};
 
 use crate::views::{RootShape, RootView};
+use alloc_basics::NoMemory;
 use model_graphs::BufferFact;
-use no_memory::NoMemory;
 use plane_rect::{Name, Rect};
 use std::alloc::Global;
 use std::marker::Model;

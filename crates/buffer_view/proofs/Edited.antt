@@ -19,9 +19,9 @@ use Rattle.pixel_formats.specs.declared.format.Format.{Format}
 use Rattle.plane_rect.specs.Rectangle.{Rectangle}
 use Rattle.root_tiles.specs.Chains.{ChainState, IsRead}
 use Rattle.root_tiles.proofs.ChainReads.{refused-after}
-use Rattle.swap_store.specs.Cause.{HasSwapCause}
-use Rattle.swap_store.specs.declared.refusal.SwapRefused.{SwapRefused}
-use Rattle.swap_store.proofs.Causes.{cause-more}
+use Rattle.chain_owners.specs.Cause.{HasSwapCause}
+use Rattle.chain_owners.specs.declared.swap_refused.SwapRefused.{SwapRefused}
+use Rattle.chain_owners.proofs.Causes.{cause-more}
 use Rattle.buffer_view.specs.BufferTables.{AreBuffersOver, BufferTable, buffers_names, table_of}
 use Rattle.buffer_view.specs.Causes.{refusal_of}
 use Rattle.buffer_view.specs.Edits.{AddsBuffer, WritesBuffers, WritesRoot}

@@ -21,8 +21,8 @@ use Rattle.pixel_formats.specs.declared.abyss.Abyss.{Abyss}
 use Rattle.plane_rect.specs.Rectangle.{Includes, Rectangle, empty}
 use Rattle.root_tiles.specs.Growth.{HoldsMoreTiles, RootState}
 use Rattle.root_tiles.specs.Roots.{HasShape, RootTiles, part_shape, root_image, root_names, root_shape}
-use Rattle.swap_store.specs.Cause.{HasSwapCause}
-use Rattle.swap_store.specs.declared.refusal.SwapRefused.{SwapRefused}
+use Rattle.chain_owners.specs.Cause.{HasSwapCause}
+use Rattle.chain_owners.specs.declared.swap_refused.SwapRefused.{SwapRefused}
 use Rattle.view_reads.specs.Views.{IsReadOfLevel, view_image}
 use Rattle.buffer_view.specs.BufferLaws.{IsSameOver, images-same}
 use Rattle.buffer_view.specs.BufferTables.{AreBuffersOver, BufferTable, IsBufferTable, image_over, images_over, names_of_roots, table_of}

@@ -5,9 +5,9 @@ use Rattle.model_buffers.specs.BufferEdit.{edit_refused}
 use Rattle.model_buffers.specs.Counts.{names_after_edit}
 use Rattle.model_buffers.specs.Layout.{TableLayout}
 use Rattle.model_buffers.specs.declared.edit.BufferEdit.{BufferEdit}
-use Rattle.swap_store.specs.Cause.{HasSwapCause}
-use Rattle.swap_store.specs.declared.refusal.SwapRefused.{SwapRefused}
-use Rattle.swap_store.specs.declared.refusal.SwapRefused.TheVariants as swap_refusals
+use Rattle.chain_owners.specs.Cause.{HasSwapCause}
+use Rattle.chain_owners.specs.declared.swap_refused.SwapRefused.{SwapRefused}
+use Rattle.chain_owners.specs.declared.swap_refused.SwapRefused.TheVariants as swap_refusals
 use Rattle.buffer_view.specs.declared.refused.BufferRefused.{BufferRefused}
 use Rattle.buffer_view.specs.declared.refused.BufferRefused.TheVariants as refusals
 

@@ -15,8 +15,8 @@ use Rattle.pixel_formats.specs.Row.{Pixel}
 use Rattle.pixel_formats.specs.declared.format.Format.{Format}
 use Rattle.plane_rect.specs.Rectangle.{Rectangle}
 use Rattle.root_tiles.specs.Chains.{ChainState}
-use Rattle.swap_store.specs.Cause.{HasSwapCause}
-use Rattle.swap_store.specs.declared.refusal.SwapRefused.{SwapRefused}
+use Rattle.chain_owners.specs.Cause.{HasSwapCause}
+use Rattle.chain_owners.specs.declared.swap_refused.SwapRefused.{SwapRefused}
 use Rattle.buffer_view.specs.BufferTables.{AreBuffersOver, BufferTable, buffers_names, table_of}
 use Rattle.buffer_view.specs.Causes.{HasAddCause, HasEditCause}
 use Rattle.buffer_view.specs.declared.refused.BufferRefused.{BufferRefused}

@@ -6,7 +6,7 @@ ghost use Rattle.model_graphs.specs.Shapes.{Shape};
 ghost use Rattle.model_images.specs.{FromRaw.byte_count, Paint.cut, Raw.raw};
 ghost use Rattle.plane_rect.specs.Rectangle.{Includes};
 ghost use Rattle.root_tiles.specs.Chains.{IsRead};
-ghost use Rattle.swap_store.specs.Cause.{HasSwapCause};
+ghost use Rattle.chain_owners.specs.Cause.{HasSwapCause};
 ghost use Rattle.buffer_view.specs.BufferTables.{AreBuffersOver, table_of};
 ghost use Rattle.buffer_view.specs.Edits.{WritesBuffers};
 
@@ -14,8 +14,8 @@ use crate::buffers::Buffers;
 use crate::refused::BufferRefused;
 use crate::written::Raw;
 use chain_contracts::TileChain;
+use chain_owners::SwapRefused;
 use plane_rect::{Name, Rect};
-use swap_store::SwapRefused;
 
 impl Buffers {
     /// Copies a rectangle of one buffer to another or the same, `dx` to the right and `dy` down, in pixels: all

@@ -6,7 +6,7 @@ ghost use Rattle.model_buffers.specs.declared.refused.EditRefused.TheVariants.{U
 ghost use Rattle.model_images.specs.{Raw.tile_bytes, Tiles.AreZeroOutside};
 ghost use Rattle.plane_rect.specs.Tile.{IsWhole};
 ghost use Rattle.root_tiles.specs.Chains.{IsRead};
-ghost use Rattle.swap_store.specs.Cause.{HasSwapCause};
+ghost use Rattle.chain_owners.specs.Cause.{HasSwapCause};
 ghost use Rattle.view_reads.specs.Views.{IsViewOver, ReadsViewTile, view_image};
 ghost use Rattle.buffer_view.specs.BufferTables.{AreBuffersOver, table_of};
 ghost use Rattle.buffer_view.specs.Freezing.{IsFrozenBuffer, IsFrozenImage, IsFrozenOver, with_held};
@@ -15,11 +15,11 @@ ghost use Rattle.buffer_view.specs.{Reads.HasReadCause, declared.refused.BufferR
 use crate::buffers::Buffers;
 use crate::refused::BufferRefused;
 use chain_contracts::TileChain;
+use chain_owners::SwapRefused;
 use frozen_images::Frozen;
 use model_buffers::EditRefused;
 use plane_rect::{Name, Rect, TileAt};
 use root_tiles::Root;
-use swap_store::SwapRefused;
 use tile_cow::Tile;
 use view_reads::view_tile;
 

@@ -9,7 +9,7 @@ ghost use Rattle.model_graphs.specs.Shapes.{Shape};
 ghost use Rattle.model_images.specs.TileCounts.{level_tiles, names_after_read};
 ghost use Rattle.plane_rect.specs.Rectangle.{InLimits, Includes};
 ghost use Rattle.root_tiles.specs.Roots.{HasShape};
-ghost use Rattle.swap_store.specs.Cause.{HasSwapCause};
+ghost use Rattle.chain_owners.specs.Cause.{HasSwapCause};
 ghost use Rattle.buffer_view.specs.BufferTables.{AreBuffersOver, buffers_names, table_of};
 ghost use Rattle.buffer_view.specs.Reads.{HasReadCause, IsReadOfBuffer, box_of_root, part_of_buffer};
 ghost use Rattle.buffer_view.specs.declared.refused.BufferRefused.TheVariants.{Edit};
@@ -18,10 +18,10 @@ use crate::buffers::Buffers;
 use crate::refused::BufferRefused;
 use buffer_layouts::RootView;
 use chain_contracts::TileChain;
+use chain_owners::SwapRefused;
 use model_buffers::EditRefused;
 use patch_abyss::{Abyss, Patch};
 use plane_rect::{Name, Rect};
-use swap_store::SwapRefused;
 
 impl Buffers {
     /// Returns a rectangle of a level of a buffer's image, under a policy outside the level. Tiles of levels

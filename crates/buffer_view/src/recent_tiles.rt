@@ -3,7 +3,7 @@
 ghost use Rattle.std.specs.Prelude.{◌≡◌, ◌⊎◌, [], Contains, IfSome};
 ghost use Rattle.buffer_view.specs.declared.recent_tiles.GivenTile.{GivenTile};
 
-use no_memory::NoMemory;
+use alloc_basics::NoMemory;
 use plane_rect::{Name, TileAt};
 use std::alloc::Global;
 use std::marker::Model;

@@ -4,10 +4,10 @@ ghost use Rattle.std.specs.Prelude.{◌≡◌};
 ghost use Rattle.buffer_view.specs.Causes.{refusal_of};
 ghost use Rattle.buffer_view.specs.declared.refused.BufferRefused.TheVariants as refusals;
 
+use alloc_basics::NoMemory;
+use chain_owners::SwapRefused;
 use model_buffers::EditRefused;
-use no_memory::NoMemory;
 use std::alloc::AllocError;
-use swap_store::SwapRefused;
 use thiserror::Error;
 
 /// Why a call on buffers did not do what it was asked to.

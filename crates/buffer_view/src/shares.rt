@@ -8,8 +8,8 @@ ghost use Rattle.buffer_view.specs.BufferTables.{AreBuffersOver, buffers_names, 
 ghost use Rattle.buffer_view.specs.Shares.{Shares};
 
 use crate::buffers::Buffers;
+use alloc_basics::NoMemory;
 use chain_contracts::TileChain;
-use no_memory::NoMemory;
 use root_tiles::Root;
 use std::alloc::Global;
 

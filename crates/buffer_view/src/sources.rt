@@ -6,7 +6,7 @@ ghost use Rattle.model_buffers.specs.Layout.{facts_of};
 ghost use Rattle.model_graphs.specs.Facts.{fact_of};
 ghost use Rattle.op_contracts.specs.Sources.{HasBufferLength, IsTileOf};
 ghost use Rattle.root_tiles.specs.Chains.{IsRead};
-ghost use Rattle.swap_store.specs.Cause.{HasSwapCause};
+ghost use Rattle.chain_owners.specs.Cause.{HasSwapCause};
 ghost use Rattle.buffer_view.specs.BufferLaws.{buffers_exposed, buffers_framed, buffers_framed_condition};
 ghost use Rattle.buffer_view.specs.BufferTables.{AreBuffersOver, buffer_images, buffers_names};
 ghost use Rattle.buffer_view.specs.RecentTiles.{AreRecentOver, recent_framed_condition};
@@ -14,9 +14,9 @@ ghost use Rattle.buffer_view.specs.RecentTiles.{AreRecentOver, recent_framed_con
 use crate::buffers::Buffers;
 use crate::recent_tiles::{GivenTile, RecentTiles};
 use chain_contracts::TileChain;
+use chain_owners::SwapRefused;
 use op_contracts::SourceTiles;
 use plane_rect::{Name, TileAt};
-use swap_store::SwapRefused;
 use tile_cow::Tile;
 use view_reads::view_tile;
 

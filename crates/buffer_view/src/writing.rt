@@ -8,8 +8,8 @@ ghost use Rattle.buffer_view.specs.{BufferTables.AreBuffersOver, Edits.WritesRoo
 use crate::buffers::Buffers;
 use crate::written::Written;
 use chain_contracts::TileChain;
+use chain_owners::SwapRefused;
 use plane_rect::Rect;
-use swap_store::SwapRefused;
 
 impl Buffers {
     /// Writes over a rectangle of the root at an index. After an error the buffers are as before.

@@ -9,10 +9,10 @@ ghost use Rattle.plane_rect.specs.Rectangle.{Includes, Rectangle};
 ghost use Rattle.root_tiles.specs.{Roots.IsRootOver, Writes.IsWritten};
 
 use chain_contracts::TileChain;
+use chain_owners::SwapRefused;
 use plane_rect::Rect;
 use root_tiles::Root;
 use std::thread::Threads;
-use swap_store::SwapRefused;
 use worker_pieces::Workers;
 
 /// What is written over a rectangle of a root.

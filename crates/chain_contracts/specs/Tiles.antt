@@ -4,8 +4,8 @@ use Rattle.chain_owners.specs.Counts.{Counts}
 use Rattle.chain_owners.specs.Held.{Held, bytes_of, length_of}
 use Rattle.chain_owners.specs.Room.{Room}
 use Rattle.chain_owners.specs.Run.{blocks_for, longest}
-use Rattle.swap_store.specs.declared.refusal.SwapRefused.{SwapRefused}
-use Rattle.swap_store.specs.declared.refusal.SwapRefused.TheVariants as refusals
+use Rattle.chain_owners.specs.declared.swap_refused.SwapRefused.{SwapRefused}
+use Rattle.chain_owners.specs.declared.swap_refused.SwapRefused.TheVariants as refusals
 
 -- A tile that is read has the length that was asked for, and the bytes of its name. Without the name
 -- it is zero.

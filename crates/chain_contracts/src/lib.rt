@@ -4,7 +4,6 @@
 mod tile_chain;
 mod tile_handler;
 
-pub use chain_owners::ChainMeaning;
-pub use swap_store::SwapRefused;
+pub use chain_owners::{ChainMeaning, SwapRefused};
 pub use tile_chain::TileChain;
 pub use tile_handler::TileHandler;

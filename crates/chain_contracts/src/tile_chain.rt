@@ -4,12 +4,11 @@ ghost use Rattle.std.specs.Prelude.{◌≡◌, ◌≢◌, ◌+◌, ℕ, Some, No
 ghost use Rattle.tile_cow.specs.Tile.{IsTileLength};
 ghost use Rattle.chain_owners.specs.Held.{Held, disowned, length_of, owned, owners_of, with_name, with_tile};
 ghost use Rattle.chain_owners.specs.Counts.{Grows};
-ghost use Rattle.swap_store.specs.Cause.{HasSwapCause};
+ghost use Rattle.chain_owners.specs.Cause.{HasSwapCause};
 ghost use Rattle.chain_contracts.specs.Tiles.{OnFull, Reads, ReportsPut, ReportsRoom, emptied};
 
-use chain_owners::ChainMeaning;
-use no_memory::NoMemory;
-use swap_store::SwapRefused;
+use alloc_basics::NoMemory;
+use chain_owners::{ChainMeaning, SwapRefused};
 use tile_cow::Tile;
 
 /// A map from names to tiles, each name with a number of owners. Nothing is said of what is in memory:

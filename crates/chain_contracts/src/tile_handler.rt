@@ -5,11 +5,10 @@ ghost use Rattle.std.specs.FinMap as map;
 ghost use Rattle.tile_cow.specs.Tile.{IsTileLength};
 ghost use Rattle.chain_owners.specs.Held.{Held, length_of, with_tile, without_tile};
 ghost use Rattle.chain_owners.specs.Counts.{Continues};
-ghost use Rattle.swap_store.specs.Cause.{HasSwapCause};
+ghost use Rattle.chain_owners.specs.Cause.{HasSwapCause};
 ghost use Rattle.chain_contracts.specs.Tiles.{OnFull, Reads, ReportsPut, ReportsRoom, emptied};
 
-use chain_owners::ChainMeaning;
-use swap_store::SwapRefused;
+use chain_owners::{ChainMeaning, SwapRefused};
 use tile_cow::Tile;
 
 /// A map from names to tiles. A clause sees what it holds by `ChainMeaning`. After an error the map is

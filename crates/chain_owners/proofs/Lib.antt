@@ -3,3 +3,4 @@ pub mod MapValues
 pub mod Ownership
 pub mod Growing
 pub mod HeldLaws
+pub mod Causes

@@ -1,9 +1,13 @@
 -- The counts of a chain, by which refusals of its swap are excused.
-use Rattle.std.specs.Prelude.{◌≡◌, ℕ, ◌+◌, ◌*◌, ◌<◌, ◌≤◌, Option, Some, None}
+use Rattle.std.specs.Prelude.{◌≡◌, ℕ, ◌+◌, ◌-◌, ◌*◌, ◌^◌, ◌<◌, ◌≤◌, min, Option, Some, None}
 use Rattle.std.specs.Option.{option_map}
 use Rattle.std.specs.FinMap as map
 use Rattle.chain_owners.specs.Held.{Held}
 use Rattle.chain_owners.specs.Room.{Room}
+
+-- a count of I/O errors rose by one at least, or stays at the last value of its type
+abbrev pub Rose : ℕ → ℕ → Type 0
+Rose before now = min (before + 1) (2 ^ 64 - 1) ≤ now
 
 -- How many calls on the swap failed, how many names there are, how many blocks the store uses, where
 -- there is one, and how many tiles the cache holds at most.

@@ -6,3 +6,4 @@ pub mod Owners
 pub mod Counts
 pub mod Chain
 pub mod UnitChain
+pub mod Cause

@@ -1,11 +1,13 @@
-//! What chains of tiles mean, and the owners of their names.
+//! What chains of tiles mean, the owners of their names, and why a call on one is refused.
 #![tactic(auto)]
 
 mod chain_meaning;
 mod counts_laws;
 mod held_laws;
 mod owners_laws;
+mod refusal_laws;
 mod run;
+mod swap_refused;
 
 pub use chain_meaning::{ChainMeaning, chains_keep_laws};
 pub use counts_laws::{growths_add_up, more_names_fill};
@@ -19,4 +21,6 @@ pub use owners_laws::{
     others_keep_bytes, others_still_own, owners_own_fewer, owning_respects, rewriting_respects,
     times_add_up,
 };
+pub use refusal_laws::causes_add_up;
 pub use run::Run;
+pub use swap_refused::SwapRefused;

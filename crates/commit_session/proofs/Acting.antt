@@ -20,8 +20,8 @@ use Rattle.model_states.specs.History as history
 use Rattle.model_sessions.specs.Sessions.{Make, Session, after_action, with_history, with_state}
 use Rattle.model_sessions.specs.Steps.{Commit, EditBuffer, HistoryEdit, after_step}
 use Rattle.model_sessions.specs.Tables.{table_shapes}
-use Rattle.graph_commits.specs.declared.direction.Direction.{Direction}
-use Rattle.graph_commits.specs.declared.direction.Direction.TheVariants.{Redo, Undo}
+use Rattle.model_states.specs.declared.direction.Direction.{Direction}
+use Rattle.model_states.specs.declared.direction.Direction.TheVariants.{Redo, Undo}
 use Rattle.session_states.specs.OverChains.{Leaves}
 use Rattle.commit_session.specs.Parts.{Parts, session_names}
 use Rattle.commit_session.specs.Seen.{IsSessionOf}

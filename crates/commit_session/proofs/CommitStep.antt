@@ -18,7 +18,7 @@ use Rattle.model_states.proofs.Stated.{stated-nodes}
 use Rattle.model_sessions.specs.Sessions.{Session}
 use Rattle.model_sessions.specs.Tables.{table_shapes}
 use Rattle.graph_commits.specs.Graphs.{AreDamagesOf}
-use Rattle.graph_commits.specs.declared.direction.Direction.TheVariants.{Undo}
+use Rattle.model_states.specs.declared.direction.Direction.TheVariants.{Undo}
 use Rattle.buffer_view.specs.BufferTables.{BufferTable}
 use Rattle.session_states.specs.Versions.{Versions, after_commit}
 use Rattle.commit_session.specs.Parts.{Parts, working_facts}

@@ -22,9 +22,9 @@ use Rattle.chain_owners.specs.Owners.{Owns}
 use Rattle.root_tiles.specs.Chains.{ChainState}
 use Rattle.node_cache.specs.NodeNames.{IsNodeCache, cached_in, sizes_in}
 use Rattle.node_cache.specs.Stores.{AddsNoOther, HaveOneOwner, by_sized}
-use Rattle.graph_commits.specs.declared.direction.Direction.{Direction}
-use Rattle.graph_commits.specs.declared.direction.Direction.TheVariants.{Undo, Redo}
-use Rattle.graph_commits.specs.Directions.{stepped}
+use Rattle.model_states.specs.declared.direction.Direction.{Direction}
+use Rattle.model_states.specs.declared.direction.Direction.TheVariants.{Undo, Redo}
+use Rattle.model_states.specs.Directions.{stepped}
 use Rattle.graph_commits.specs.Graphs.{AreDamagesOf}
 use Rattle.buffer_view.specs.BufferTables.{BufferTable}
 use Rattle.session_states.specs.OverChains.{AreAllOver, IsReleased, IsShared, Leaves, versions_names}

@@ -24,7 +24,7 @@ use Rattle.model_states.specs.Need.{wide}
 use Rattle.model_states.specs.State.{Scene, image_of}
 use Rattle.model_states.specs.Valid.{AreStated}
 use Rattle.model_sessions.specs.Sessions.{Session, after_render, can_render, last_scene, max_count, render_need, with_render}
-use Rattle.swap_store.specs.Cause.{HasSwapCause}
+use Rattle.chain_owners.specs.Cause.{HasSwapCause}
 use Rattle.node_cache.specs.NodeNames.{Entries, IsNodeCache, cached_in, pairs_in, sizes_in}
 use Rattle.node_cache.specs.Stores.{AddsNoOther, HaveOneOwner}
 use Rattle.node_tiles.specs.Stated.{scene_of}

@@ -18,7 +18,7 @@ use Rattle.model_states.specs.Valid.{stated}
 use Rattle.model_states.proofs.Stated.{stated_only}
 use Rattle.model_sessions.specs.Histories.{side_of_state}
 use Rattle.model_sessions.specs.Tables.{table_facts, table_shapes}
-use Rattle.graph_commits.specs.declared.direction.Direction.{Direction}
+use Rattle.model_states.specs.declared.direction.Direction.{Direction}
 use Rattle.buffer_view.specs.BufferTables.{BufferTable, table_of}
 use Rattle.commit_session.specs.Seen.{AreOfState, AreOfTable, AreStatesAhead}
 

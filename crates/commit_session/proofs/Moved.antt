@@ -8,7 +8,7 @@ use Rattle.model_states.specs.Commits.{Graph}
 use Rattle.model_states.specs.Rectangles.{Rectangles}
 use Rattle.model_states.specs.Retained.{Retained}
 use Rattle.model_states.specs.State.{State}
-use Rattle.graph_commits.specs.declared.direction.Direction.TheVariants.{Undo, Redo}
+use Rattle.model_states.specs.declared.direction.Direction.TheVariants.{Undo, Redo}
 use Rattle.buffer_view.specs.BufferTables.{BufferTable, table_of}
 use Rattle.session_states.specs.OverChains.{tables_of}
 use Rattle.session_states.specs.Versions.{Versions}

@@ -13,9 +13,9 @@ use Rattle.model_states.specs.Rectangles.{Rectangles, rectangle_of}
 use Rattle.model_states.specs.Retained.{Retained, Separated, Stepped, last_number, unless_last}
 use Rattle.model_states.specs.State.{State}
 use Rattle.model_states.proofs.Voids.{listed_damage}
-use Rattle.graph_commits.specs.declared.direction.Direction.{Direction}
-use Rattle.graph_commits.specs.declared.direction.Direction.TheVariants.{Undo, Redo}
-use Rattle.graph_commits.specs.Directions.{ahead, commit_between, step_to, stepped, with_first}
+use Rattle.model_states.specs.declared.direction.Direction.{Direction}
+use Rattle.model_states.specs.declared.direction.Direction.TheVariants.{Undo, Redo}
+use Rattle.model_states.specs.Directions.{ahead, commit_between, step_to, stepped, with_first}
 use Rattle.graph_commits.specs.Graphs.{AreDamagesOf}
 use Rattle.graph_commits.proofs.GraphLaws.{first_given, nowhere_given, step_first, step_nowhere}
 use Rattle.buffer_view.specs.BufferTables.{BufferTable}

@@ -8,7 +8,7 @@ use Rattle.model_graphs.specs.Meanings.{Meanings}
 use Rattle.model_states.specs.Cache.{Cached, Pair, all_voided, by_pair, itself, without_damaged}
 use Rattle.model_states.specs.Damage.{Change, damage, damage_list}
 use Rattle.model_states.specs.Rectangles.{Rectangles}
-use Rattle.model_states.specs.Regions.{meets}
+use Rattle.plane_rect.specs.Tile.{meets}
 use Rattle.model_states.proofs.Voids.{damage_voids}
 use Rattle.node_cache.specs.NodeNames.{Entries, cached_in, pairs_in, sizes_in}
 use Rattle.node_cache.specs.Stores.{Sized, by_sized, sized_of}

@@ -25,7 +25,7 @@ use Rattle.model_sessions.specs.Sessions.{IsSession, Make, Session, with_state}
 use Rattle.model_sessions.specs.Steps.{EditBuffer, EditNode, HistoryEdit, IsProper, after_edit, after_step, with_edit, with_working}
 use Rattle.model_sessions.proofs.Actions.{action_keeps}
 use Rattle.node_cache.specs.NodeNames.{Entries, cached_in, sizes_in}
-use Rattle.graph_commits.specs.declared.direction.Direction.TheVariants.{Undo, Redo}
+use Rattle.model_states.specs.declared.direction.Direction.TheVariants.{Undo, Redo}
 use Rattle.buffer_view.specs.BufferTables.{BufferTable, table_of}
 use Rattle.session_states.specs.OverChains.{AreShownAgain, IsEdited, tables_of}
 use Rattle.session_states.specs.Versions.{Versions}

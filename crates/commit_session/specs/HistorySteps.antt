@@ -5,8 +5,8 @@ use Rattle.model_buffers.specs.Table.{Table}
 use Rattle.model_graphs.specs.Meanings.{Meanings}
 use Rattle.model_sessions.specs.Sessions.{Make, Session, after_action}
 use Rattle.root_tiles.specs.Chains.{ChainState}
-use Rattle.graph_commits.specs.declared.direction.Direction.{Direction}
-use Rattle.graph_commits.specs.Directions.{stepped}
+use Rattle.model_states.specs.declared.direction.Direction.{Direction}
+use Rattle.model_states.specs.Directions.{stepped}
 use Rattle.graph_edits.specs.Refusals.{IsRefusalOf}
 use Rattle.node_cache.specs.Stores.{AddsNoOther}
 use Rattle.session_states.specs.OverChains.{Leaves}

@@ -13,9 +13,9 @@ use Rattle.model_states.specs.Rectangles.{Rectangles}
 use Rattle.model_states.specs.Retained.{Retained, Separated}
 use Rattle.model_states.specs.State.{State}
 use Rattle.model_sessions.specs.Sessions.{IsSession, Session, counts_of}
-use Rattle.graph_commits.specs.declared.direction.Direction.{Direction}
-use Rattle.graph_commits.specs.declared.direction.Direction.TheVariants.{Undo, Redo}
-use Rattle.graph_commits.specs.Directions.{commit_between}
+use Rattle.model_states.specs.declared.direction.Direction.{Direction}
+use Rattle.model_states.specs.declared.direction.Direction.TheVariants.{Undo, Redo}
+use Rattle.model_states.specs.Directions.{commit_between}
 use Rattle.node_cache.specs.NodeNames.{Entries, IsNodeCache, cached_in, pairs_in, sizes_in}
 use Rattle.node_cache.specs.Stores.{HaveOneOwner, sized_of}
 use Rattle.buffer_view.specs.BufferTables.{BufferTable, table_of}

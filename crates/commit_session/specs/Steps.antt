@@ -13,9 +13,9 @@ use Rattle.model_states.specs.History.{History, redone, undone}
 use Rattle.model_sessions.specs.Steps as actions
 use Rattle.model_sessions.specs.Steps.{HistoryEdit}
 use Rattle.buffer_view.specs.BufferTables.{BufferTable}
-use Rattle.graph_commits.specs.declared.direction.Direction.{Direction}
-use Rattle.graph_commits.specs.declared.direction.Direction.TheVariants.{Redo, Undo}
-use Rattle.graph_commits.specs.Directions.{by_direction, stepped}
+use Rattle.model_states.specs.declared.direction.Direction.{Direction}
+use Rattle.model_states.specs.declared.direction.Direction.TheVariants.{Redo, Undo}
+use Rattle.model_states.specs.Directions.{by_direction, stepped}
 use Rattle.session_states.specs.Versions.{after_commit, versions_after, versions_ahead}
 use Rattle.commit_session.specs.Parts.{Parts, cached_pairs, working_facts}
 

@@ -15,7 +15,7 @@ mod voids;
 mod written;
 
 pub use edit::Edit;
-pub use graph_commits::Direction;
+pub use model_states::Direction;
 pub use refused::SessionRefused;
 pub use session::{OwnedSession, Session};
 pub use state::{Counts, SessionState};

@@ -4,9 +4,9 @@ ghost use Rattle.std.specs.Prelude.{◌≡◌};
 ghost use Rattle.commit_session.specs.Refusals.{by_buffers, by_graph, by_render};
 ghost use Rattle.commit_session.specs.declared.refused.SessionRefused.TheVariants as refusals;
 
+use alloc_basics::NoMemory;
 use buffer_view::BufferRefused;
 use graph_commits::GraphRefused;
-use no_memory::NoMemory;
 use render_workers::RenderRefused;
 use std::alloc::{AllocError, AllocFailed};
 use thiserror::Error;

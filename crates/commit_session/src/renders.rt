@@ -8,7 +8,7 @@ ghost use Rattle.model_graphs.specs.{Facts.specs_of, Node.index_of, Permits.Spen
 ghost use Rattle.model_images.specs.Level.{level as level_of};
 ghost use Rattle.model_sessions.specs.Sessions.{Session, after_render, last_scene};
 ghost use Rattle.model_states.specs.{Damage.IsStated, Edits.has_node, State.image_of};
-ghost use Rattle.swap_store.specs.Cause.{HasSwapCause};
+ghost use Rattle.chain_owners.specs.Cause.{HasSwapCause};
 ghost use Rattle.node_cache.specs.Stores.{AddsNoOther};
 ghost use Rattle.node_tiles.specs.Stated.{shape_at};
 ghost use Rattle.render_workers.specs.Refusals.{CanBeRendered, IsRefusedBy};

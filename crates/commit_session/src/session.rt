@@ -1,7 +1,7 @@
 //! Sessions that own their chain.
 
 ghost use Rattle.std.specs.Prelude.{◌≡◌, ◌∷◌, ◌≤◌, ◌^◌, IfOk, min};
-ghost use Rattle.chain_handlers.specs.OwnedTiles.{counts_over, nothing_over};
+ghost use Rattle.tile_chain.specs.OwnedTiles.{counts_over, nothing_over};
 ghost use Rattle.model_graphs.specs.Facts.{fact_of, specs_of};
 ghost use Rattle.model_states.specs.Edits.{has_node};
 ghost use Rattle.model_sessions.specs.Sessions.{new_session};
@@ -9,15 +9,15 @@ ghost use Rattle.commit_session.specs.Parts.{new_parts, working_facts};
 ghost use Rattle.commit_session.specs.Seen.{IsOver, IsSessionOf};
 
 use crate::state::{Counts, SessionState};
+use alloc_basics::NoMemory;
 use chain_contracts::TileChain;
-use chain_handlers::{Chain, OwnedTiles};
 use chain_owners::ChainMeaning;
 use model_graphs::BufferFact;
-use no_memory::NoMemory;
 use op_contracts::OpKit;
 use outside_io::{Lent, SwapDisk};
 use plane_rect::Name;
 use std::alloc::Global;
+use tile_chain::{Chain, OwnedTiles};
 
 /// Buffers that are edited, graphs of nodes over them, and cached tiles, with the kit that carries out the
 /// operations and the chain that holds all tiles. A clause sees a session as its `state`, and its `chain` by what

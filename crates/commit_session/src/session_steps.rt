@@ -13,12 +13,12 @@ ghost use Rattle.commit_session.specs.Parts.{session_names, working_facts};
 ghost use Rattle.commit_session.specs.Refusals.{IsRefusedAs, by_graph};
 ghost use Rattle.commit_session.specs.Seen.{IsOver, IsSessionOf};
 ghost use Rattle.commit_session.specs.{HistorySteps.MakesStep, Steps.IsCommitted};
-ghost use Rattle.graph_commits.specs.declared.direction.Direction.TheVariants.{Redo, Undo};
+ghost use Rattle.model_states.specs.declared.direction.Direction.TheVariants.{Redo, Undo};
 
 use crate::refused::SessionRefused;
 use crate::session::OwnedSession;
 use chain_contracts::TileChain;
-use graph_commits::Direction;
+use model_states::Direction;
 use op_contracts::OpKit;
 
 impl<K: OpKit, C: TileChain> OwnedSession<K, C> {

@@ -8,9 +8,9 @@ ghost use Rattle.model_sessions.specs.Sessions.{new_session};
 ghost use Rattle.commit_session.specs.Parts.{new_parts, working_facts};
 ghost use Rattle.commit_session.specs.Seen.{IsOver, IsSessionOf};
 
+use alloc_basics::NoMemory;
 use graph_commits::Graph;
 use model_graphs::{BufferFact, Edited, NodeEdit, NodeFact, OpMeaning};
-use no_memory::NoMemory;
 use node_cache::NodeCache;
 use plane_rect::Name;
 use session_states::BufferVersions;

@@ -8,7 +8,7 @@ ghost use Rattle.model_sessions.specs.Sessions.{Session, with_state};
 ghost use Rattle.model_sessions.specs.Tables.{table_shapes};
 ghost use Rattle.model_states.specs.Cache.{all_voided, by_pair};
 ghost use Rattle.model_states.specs.{Commits.committed as commit_of, History.committed as committed_history};
-ghost use Rattle.graph_commits.specs.Directions.{ahead, stepped};
+ghost use Rattle.model_states.specs.Directions.{ahead, stepped};
 ghost use Rattle.node_cache.specs.NodeNames.{IsNodeCache, cached_in, sizes_in};
 ghost use Rattle.node_cache.specs.Stores.{AddsNoOther, HaveOneOwner, by_sized};
 ghost use Rattle.graph_edits.specs.Refusals.{IsRefusalOf};
@@ -22,8 +22,9 @@ use crate::refused::SessionRefused;
 use crate::state::SessionState;
 use crate::voids::void_all;
 use chain_contracts::TileChain;
-use graph_commits::{Damage, Direction, Graph};
+use graph_commits::Graph;
 use model_graphs::OpMeaning;
+use model_states::{Damage, Direction};
 use op_contracts::OpKit;
 
 impl<Op: OpMeaning + Drop> SessionState<Op> {

@@ -7,9 +7,9 @@ ghost use Rattle.pixel_formats.specs.Format.{pixel_bytes};
 ghost use Rattle.model_images.specs.{Raw.tile_bytes, Tiles.AreZeroOutside};
 ghost use Rattle.frozen_images.specs.Frozen.{frozen_image, no_tiles, zero_bytes};
 
+use alloc_basics::NoMemory;
 use indexmap::IndexMap;
 use model_images::raw_bytes::are_bytes;
-use no_memory::NoMemory;
 use pixel_formats::Format;
 use plane_rect::{Rect, TileAt};
 use std::alloc::Global;

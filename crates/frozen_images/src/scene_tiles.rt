@@ -5,17 +5,16 @@ ghost use Rattle.std.specs.List.{find};
 ghost use Rattle.std.specs.Str.{bytes_eq};
 ghost use Rattle.chain_owners.specs.{Counts.Grows, Owners.Respects};
 ghost use Rattle.model_graphs.specs.Facts.{fact_of};
-ghost use Rattle.swap_store.specs.Cause.{HasSwapCause};
+ghost use Rattle.chain_owners.specs.Cause.{HasSwapCause};
 ghost use Rattle.op_contracts.specs.Sources.{HasBufferLength, IsTileOf};
 ghost use Rattle.frozen_images.specs.Scenes.{NamedTiles, SuitsFact, facts_in, frozen-exposed, images_in, owns-none};
 
 use crate::frozen::Frozen;
-use chain_owners::ChainMeaning;
+use chain_owners::{ChainMeaning, SwapRefused};
 use model_graphs::BufferFact;
 use op_contracts::SourceTiles;
 use plane_rect::{Name, TileAt};
 use std::marker::Model;
-use swap_store::SwapRefused;
 use tile_cow::Tile;
 
 /// A buffer with its frozen image. A clause sees what is known of the buffer, and the image by its tiles.

@@ -22,9 +22,9 @@ use Rattle.model_states.proofs.RetainedLaws.{commit_few}
 use Rattle.model_states.proofs.Symmetric as symmetric
 use Rattle.model_states.proofs.Voids.{listed_damage}
 use Rattle.graph_commits.proofs.VoidLaws.{steady_back}
-use Rattle.graph_commits.specs.declared.direction.Direction.{Direction}
-use Rattle.graph_commits.specs.declared.direction.Direction.TheVariants.{Undo, Redo}
-use Rattle.graph_commits.specs.Directions.{ahead, commit_between, nothing_ahead, step_to, with_first}
+use Rattle.model_states.specs.declared.direction.Direction.{Direction}
+use Rattle.model_states.specs.declared.direction.Direction.TheVariants.{Undo, Redo}
+use Rattle.model_states.specs.Directions.{ahead, commit_between, nothing_ahead, step_to, with_first}
 use Rattle.graph_commits.specs.Graphs.{AreAhead, AreDamagesOf, AreStillThere, AreUnchangedOutside, IsAnswered, IsGraph, IsStepIn}
 use Rattle.graph_commits.specs.Histories.{first_delta}
 use Rattle.graph_commits.specs.States.{IsGraphState, edited_side, side_of_result}

@@ -8,7 +8,7 @@ use Rattle.model_states.specs.Cache.{AreRight, Cached, Pair, all_voided, by_pair
 use Rattle.model_graphs.specs.Facts.{Facts}
 use Rattle.model_states.specs.Damage.{AreSteady, Change, HaveRectangles, IsStatedChange, damage, damage_list, reversed}
 use Rattle.model_states.specs.Neighbors.{IsChange, scene_of_side}
-use Rattle.model_states.specs.Regions.{meets}
+use Rattle.plane_rect.specs.Tile.{meets}
 use Rattle.model_states.proofs.RightPairs.{stay_right}
 use Rattle.model_states.proofs.Symmetric as symmetric
 use Rattle.model_states.proofs.Voids.{damage_voids}

@@ -12,9 +12,9 @@ use Rattle.model_states.specs.Neighbors.{AgreeOutsideRoots, SamplesAgreeOutside,
 use Rattle.model_states.specs.Rectangles.{Rectangles, rectangle_of}
 use Rattle.model_states.specs.Retained.{AreFew, Separated}
 use Rattle.model_states.specs.State.{image_of}
-use Rattle.graph_commits.specs.declared.direction.Direction.{Direction}
-use Rattle.graph_commits.specs.declared.direction.Direction.TheVariants.{Undo, Redo}
-use Rattle.graph_commits.specs.Directions.{commit_between, stepped}
+use Rattle.model_states.specs.declared.direction.Direction.{Direction}
+use Rattle.model_states.specs.declared.direction.Direction.TheVariants.{Undo, Redo}
+use Rattle.model_states.specs.Directions.{commit_between, stepped}
 use Rattle.graph_commits.specs.States.{IsGraphState}
 
 -- each buffer of a table is among these, with the same root, box and format

@@ -1,5 +1,4 @@
 pub mod States
 pub mod Damages
 pub mod Histories
-pub mod Directions
 pub mod Graphs

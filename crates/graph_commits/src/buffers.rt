@@ -6,9 +6,9 @@ ghost use Rattle.model_graphs.specs.Facts.{fact_of, shape_of_fact};
 ghost use Rattle.model_states.specs.Damage.{same_shape};
 ghost use Rattle.graph_commits.specs.Graphs.{is_still_there};
 
+use alloc_basics::NoMemory;
 use graph_edits::buffer_of;
 use model_graphs::BufferFact;
-use no_memory::NoMemory;
 use std::alloc::Global;
 
 /// Returns whether each of these buffers is among others, with its root, its bounds and its format.

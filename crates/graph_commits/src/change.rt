@@ -11,14 +11,14 @@ ghost use Rattle.op_contracts.specs.Applying.{bounds_of};
 ghost use Rattle.graph_commits.specs.{Damages.damages_of, States.IsGraphState};
 
 use crate::bodies::{inputs_of, same_body};
-use crate::damage_list::DamageList;
 use crate::inputs::Inputs;
 use crate::regions::rectangle_of;
 use crate::shape::{Shape, stated_at};
 use crate::state::GraphState;
+use alloc_basics::NoMemory;
 use graph_edits::buffer_of;
 use model_graphs::{Body, Edited, NodeFact, NodeSpec, OpMeaning};
-use no_memory::NoMemory;
+use model_states::DamageList;
 use op_contracts::OpKit;
 use plane_rect::{Name, Rect};
 use std::alloc::Global;

@@ -6,32 +6,21 @@ ghost use Rattle.std.specs.List.{list_all};
 ghost use Rattle.model_graphs.specs.Facts.{rectangles_of};
 ghost use Rattle.model_states.specs.Commits.{change_to, committed, new_graph};
 ghost use Rattle.model_states.specs.Retained.{redone, undone};
-ghost use Rattle.graph_commits.specs.declared.direction.Direction.TheVariants.{Redo, Undo};
+ghost use Rattle.model_states.specs.declared.direction.Direction.TheVariants.{Redo, Undo};
 ghost use Rattle.graph_commits.specs.Graphs.{AreDamagesOf, AreStillThere, IsAnswered, IsGraph, is_still_there};
-ghost use Rattle.graph_commits.specs.Directions.{stepped};
+ghost use Rattle.model_states.specs.Directions.{stepped};
 ghost use Rattle.graph_edits.specs.Refusals.{IsRefusalOf};
 
 use crate::buffers::are_still_there;
 use crate::change::Change;
-use crate::damage_list::DamageList;
-use crate::direction::Direction;
 use crate::history::History;
 use crate::state::GraphState;
 use graph_edits::GraphRefused;
 use model_graphs::{BufferFact, Edited, NodeEdit, NodeFact, OpMeaning};
+use model_states::{Damage, DamageList, Direction};
 use op_contracts::OpKit;
 use std::alloc::Global;
 use std::marker::Model;
-
-/// The damage of a step: for each node of the old state or the new one the rectangle outside of which its
-/// image has not changed.
-#[derive(Drop)]
-pub struct Damage {
-    /// The number of the new state.
-    pub number: u64,
-    /// The new nodes in their order, and then those that are gone.
-    pub rects: DamageList,
-}
 
 /// A graph of operations: its last state, and up to 64 states that can be undone or redone. A clause sees
 /// it as these states with their damages, and the number of the last one.

@@ -5,20 +5,16 @@ ghost use Rattle.std.specs.VecDeque.{deque_capacity, deque_len};
 ghost use Rattle.model_states.specs.Retained.{last_number, retained_from, with_commit};
 ghost use Rattle.model_states.specs.declared.refused.StateRefused.TheVariants.{TooManyCommits};
 ghost use Rattle.graph_edits.specs.declared.refused.GraphRefused.TheVariants as refusals;
-ghost use Rattle.graph_commits.specs.Directions.{ahead, step_to};
+ghost use Rattle.model_states.specs.Directions.{ahead, step_to};
 ghost use Rattle.graph_commits.specs.Histories.{IsMoved, first_delta};
 
-use crate::direction::Direction;
+use alloc_basics::NoMemory;
 use graph_edits::GraphRefused;
-use model_states::StateRefused;
-use no_memory::NoMemory;
+use model_states::{Direction, MAX_UNDOABLE, StateRefused};
 use std::alloc::Global;
 use std::collections::VecDeque;
 use std::marker::Model;
 use std::mem;
-
-/// The largest number of states that can be undone to, or redone to.
-pub const MAX_UNDOABLE: usize = 64;
 
 /// A state, and what separates it from another one. A clause sees it as these two.
 #[derive(Drop)]

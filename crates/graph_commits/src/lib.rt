@@ -5,8 +5,6 @@
 mod bodies;
 mod buffers;
 mod change;
-mod damage_list;
-mod direction;
 mod graph;
 mod history;
 mod inputs;
@@ -16,9 +14,6 @@ mod shape;
 mod state;
 mod walk;
 
-pub use damage_list::DamageList;
-pub use direction::Direction;
-pub use graph::{Damage, Graph};
+pub use graph::Graph;
 pub use graph_edits::GraphRefused;
-pub use history::MAX_UNDOABLE;
 pub use state::GraphState;

@@ -12,10 +12,10 @@ ghost use Rattle.graph_edits.specs.Refusals.{IsRefusalOf};
 ghost use Rattle.graph_commits.specs.States.{HaveRectangularBoxes, shape_unless_refused, shapes_unless_refused};
 
 use crate::shape::{Shape, shape_at};
+use alloc_basics::NoMemory;
 use graph_edits::{Draft, GraphRefused, buffer_of};
 use model_graphs::{Body, BufferFact};
 use model_states::StateRefused;
-use no_memory::NoMemory;
 use op_contracts::OpKit;
 use pixel_formats::Format;
 use plane_rect::{Name, Rect};

@@ -3,8 +3,8 @@
 ghost use Rattle.std.specs.Prelude.{◌≡◌, IfOk};
 ghost use Rattle.model_graphs.specs.Facts.{specs_of};
 
+use alloc_basics::NoMemory;
 use model_graphs::{Body, NodeFact, NodeSpec};
-use no_memory::NoMemory;
 use op_contracts::OpKit;
 use std::alloc::Global;
 

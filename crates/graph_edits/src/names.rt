@@ -5,8 +5,8 @@ ghost use Rattle.std.specs.List.{IsDistinct};
 ghost use Rattle.std.specs.Str.{bytes_eq};
 ghost use Rattle.graph_edits.specs.Names.{name_index};
 
+use alloc_basics::NoMemory;
 use indexmap::IndexSet;
-use no_memory::NoMemory;
 use plane_rect::Name;
 use std::alloc::Global;
 use std::marker::Model;

@@ -3,8 +3,8 @@
 ghost use Rattle.std.specs.Prelude.{◌≡◌};
 ghost use Rattle.graph_edits.specs.declared.refused.GraphRefused.TheVariants as refusals;
 
+use alloc_basics::OutOfMemory;
 use model_states::StateRefused;
-use no_memory::OutOfMemory;
 use thiserror::Error;
 
 /// Why a call on a graph did not do what it was asked to.

@@ -9,9 +9,9 @@ ghost use Rattle.op_contracts.specs.Applying.{IsInOneTile, result_of_windows, wi
 ghost use Rattle.area_ops.specs.Kinds.{operation_of};
 ghost use Rattle.point_ops.specs.PointOps.{IsPointOp};
 
+use alloc_basics::NoMemory;
 use area_ops::{AreaKind, area_part};
 use model_operations::IntOp;
-use no_memory::NoMemory;
 use op_contracts::Window;
 use patch_abyss::{Abyss, Patch};
 use plane_rect::Rect;

@@ -10,8 +10,8 @@ ghost use Rattle.int_ops.specs.Lone.{IsLone};
 
 use crate::area_op::AreaOp;
 use crate::purse::{IntPermit, IntPurse};
+use alloc_basics::NoMemory;
 use model_operations::IntOp;
-use no_memory::NoMemory;
 use op_contracts::{OpKit, Window};
 use patch_abyss::Patch;
 use pixel_formats::Format;

@@ -10,9 +10,9 @@ use Rattle.chain_owners.specs.Counts.{Continues, Counts, Grows}
 use Rattle.chain_owners.specs.Held.{Held, owners_of, with_name}
 use Rattle.chain_owners.proofs.Growing.{continues-same}
 use Rattle.chain_owners.proofs.Ownership.{respects-beside, times-append}
-use Rattle.swap_store.specs.Cause.{HasSwapCause}
-use Rattle.swap_store.specs.declared.refusal.SwapRefused.{SwapRefused}
-use Rattle.swap_store.proofs.Causes.{cause-before, cause-more}
+use Rattle.chain_owners.specs.Cause.{HasSwapCause}
+use Rattle.chain_owners.specs.declared.swap_refused.SwapRefused.{SwapRefused}
+use Rattle.chain_owners.proofs.Causes.{cause-before, cause-more}
 use Rattle.model_images.specs.FromRaw.{AreBytes}
 use Rattle.model_images.specs.Image.{Image}
 use Rattle.level_tables.specs.LevelTiles.{LevelTiles, image_of, names, positions, same_level_tile}

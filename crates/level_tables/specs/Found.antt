@@ -11,8 +11,8 @@ use Rattle.model_images.specs.Level.{tile_at_level}
 use Rattle.model_images.specs.Paint.{blank, put_raw}
 use Rattle.level_tables.specs.Over.{IsTileOfLevel, tile_length}
 use Rattle.level_tables.specs.Steps.{HoldsMore, State, names_with_levels}
-use Rattle.swap_store.specs.Cause.{HasSwapCause}
-use Rattle.swap_store.specs.declared.refusal.SwapRefused.{SwapRefused}
+use Rattle.chain_owners.specs.Cause.{HasSwapCause}
+use Rattle.chain_owners.specs.declared.swap_refused.SwapRefused.{SwapRefused}
 use Rattle.level_tables.specs.declared.four_tiles.FourTiles.{FourTiles}
 
 -- the bytes are those of a tile of a level, for which some tile that was put is averaged

@@ -9,7 +9,7 @@ ghost use Rattle.level_tables.specs.Means.{HasMeans, left_of, mean_in_row, mean_
 ghost use Rattle.level_tables.specs.Over.{tile_length};
 
 use crate::tile_bytes::bytes_of;
-use no_memory::NoMemory;
+use alloc_basics::NoMemory;
 use pixel_formats::Format;
 use plane_rect::{TILE_SIDE, TileAt};
 use sample_rows::row_average4;

@@ -4,18 +4,18 @@ ghost use Rattle.std.specs.Prelude.{◌≡◌, ℕ, ◌+◌, ◌≤◌, ◌++◌
 ghost use Rattle.std.specs.Map.{values_of};
 ghost use Rattle.chain_owners.specs.{Counts.Grows, Owners.Respects};
 ghost use Rattle.plane_rect.specs.Tile.{IsWhole};
-ghost use Rattle.swap_store.specs.Cause.{HasSwapCause};
+ghost use Rattle.chain_owners.specs.Cause.{HasSwapCause};
 ghost use Rattle.level_tables.specs.NewTiles.{Adds, AreNewTiles, tiles_in};
 ghost use Rattle.level_tables.specs.Over.{tile_length};
 
 use crate::tile_bytes::bytes_of;
+use alloc_basics::NoMemory;
 use chain_contracts::TileChain;
-use no_memory::NoMemory;
+use chain_owners::SwapRefused;
 use pixel_formats::Format;
 use plane_rect::TileAt;
 use std::alloc::Global;
 use std::marker::Model;
-use swap_store::SwapRefused;
 use tile_cow::Tile;
 
 /// Tiles that were made beside a table, under names of their own, of which they are the owner. A table

@@ -2,13 +2,13 @@
 
 ghost use Rattle.std.specs.Prelude.{◌≡◌, IfErr, IfOk};
 ghost use Rattle.chain_owners.specs.Counts.{Grows};
-ghost use Rattle.swap_store.specs.Cause.{HasSwapCause};
+ghost use Rattle.chain_owners.specs.Cause.{HasSwapCause};
 ghost use Rattle.level_tables.specs.{Found.IsPutTile, Over.IsOver};
 
 use crate::table::LevelTable;
 use chain_contracts::TileChain;
+use chain_owners::SwapRefused;
 use plane_rect::TileAt;
-use swap_store::SwapRefused;
 use tile_cow::Tile;
 
 impl LevelTable {

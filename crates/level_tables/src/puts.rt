@@ -6,7 +6,7 @@ ghost use Rattle.chain_owners.specs.Owners.{Owns, Respects};
 ghost use Rattle.chain_owners.specs.Counts.{Grows};
 ghost use Rattle.plane_rect.specs.Tile.{IsWhole, Tile as Position};
 ghost use Rattle.pixel_formats.specs.Limits.{max_level};
-ghost use Rattle.swap_store.specs.Cause.{HasSwapCause};
+ghost use Rattle.chain_owners.specs.Cause.{HasSwapCause};
 ghost use Rattle.level_tables.specs.LevelTiles.{bytes_in, image_of, image_with, names, position_with, positions, positions_with, tiles_with};
 ghost use Rattle.level_tables.specs.NewTiles.{AreNewTiles, tiles_in};
 ghost use Rattle.level_tables.specs.Over.{IsOver, IsTileName, tile_length};
@@ -18,9 +18,9 @@ use crate::new_tiles::NewTiles;
 use crate::table::LevelTable;
 use crate::tile_bytes::bytes_of;
 use chain_contracts::TileChain;
+use chain_owners::SwapRefused;
 use pixel_formats::limits::MAX_LEVEL;
 use plane_rect::TileAt;
-use swap_store::SwapRefused;
 use tile_cow::Tile;
 
 impl LevelTable {

@@ -6,7 +6,7 @@ ghost use Rattle.chain_owners.specs.{Counts.Grows, Owners.Respects};
 ghost use Rattle.tile_cow.specs.Tile.{IsTileLength};
 ghost use Rattle.pixel_formats.specs.Limits.{max_level};
 ghost use Rattle.model_images.specs.TileCounts.{level_tiles};
-ghost use Rattle.swap_store.specs.Cause.{HasSwapCause};
+ghost use Rattle.chain_owners.specs.Cause.{HasSwapCause};
 ghost use Rattle.level_tables.specs.LevelTiles.{hull_of, image_of, names, positions, same_level_tile};
 ghost use Rattle.level_tables.specs.Over.{IsOver, IsTileOfLevel, tile_length};
 ghost use Rattle.level_tables.specs.Steps.{HoldsMore, names_with_levels, state};
@@ -17,8 +17,8 @@ use crate::level_tile::LevelTile;
 use crate::table::LevelTable;
 use crate::tile_bytes::bytes_of;
 use chain_contracts::TileChain;
+use chain_owners::SwapRefused;
 use plane_rect::TileAt;
-use swap_store::SwapRefused;
 use tile_cow::Tile;
 
 impl LevelTable {

@@ -8,9 +8,9 @@ ghost use Rattle.level_tables.specs.LevelTiles.{image_of, names};
 ghost use Rattle.level_tables.specs.Over.{IsOver};
 
 use crate::table::LevelTable;
+use alloc_basics::NoMemory;
 use chain_contracts::TileChain;
 use indexmap::IndexMap;
-use no_memory::NoMemory;
 use std::hash::Hash;
 
 impl LevelTable {

@@ -9,8 +9,8 @@ ghost use Rattle.plane_rect.specs.Tile.{same_tile};
 ghost use Rattle.level_tables.specs.LevelTiles.{same_level_tile};
 
 use crate::level_tile::LevelTile;
+use alloc_basics::NoMemory;
 use indexmap::IndexMap;
-use no_memory::NoMemory;
 use pixel_formats::Format;
 use plane_rect::TileAt;
 use std::alloc::Global;

@@ -3,7 +3,7 @@
 ghost use Rattle.std.specs.Prelude.{◌≡◌, ◌/◌, ◌^◌, IfOk};
 ghost use Rattle.model_runs.specs.MadeJob.{draws, next_state};
 
-use no_memory::NoMemory;
+use alloc_basics::NoMemory;
 use std::alloc::Global;
 
 /// Draws bytes, each by its last state alone.

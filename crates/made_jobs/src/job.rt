@@ -5,7 +5,7 @@ ghost use Rattle.model_runs.specs.MadeJob.{made_raster, made_script};
 
 use crate::generator::Generator;
 use crate::script::put_script;
-use no_memory::NoMemory;
+use alloc_basics::NoMemory;
 use std::alloc::Global;
 
 /// How many bytes the raster has: 512 by 384 pixels of three.

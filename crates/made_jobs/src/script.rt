@@ -5,8 +5,8 @@ ghost use Rattle.script_words.specs.{Lines.text_of, Words.joined};
 ghost use Rattle.model_runs.specs.MadeJob.{draws, edit_lines, fill_by, fills, first_lines, last_lines, next_state, render_line, state_after_draws};
 
 use crate::generator::Generator;
+use alloc_basics::NoMemory;
 use itoa::Buffer;
-use no_memory::NoMemory;
 use script_words::push_natural;
 use std::alloc::Global;
 

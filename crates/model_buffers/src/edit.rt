@@ -1,6 +1,6 @@
 //! The edits of tables, as data.
 
-use item_lists::ItemList;
+use alloc_basics::ItemList;
 use pixel_formats::{Format, PixelSamples};
 use plane_rect::{Name, Rect};
 

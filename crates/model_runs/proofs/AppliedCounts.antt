@@ -24,7 +24,7 @@ use Rattle.model_runs.specs.Effects.{edit_gives, edits, effect, grabs_view, load
 use Rattle.model_runs.specs.Run.{effects, files_after_all, state_after}
 use Rattle.model_runs.specs.State.{Effect, RunState, Watching, in_workspace, leaves, refuses, scene_in, workspace_of}
 use Rattle.model_runs.specs.Watching.{ends}
-use Rattle.run_texts.specs.declared.cause.Cause.TheVariants as causes
+use Rattle.model_runs.specs.declared.cause.Cause.TheVariants as causes
 use Rattle.script_read.specs.declared.command.Command.{Command}
 use Rattle.script_read.specs.declared.command.Command.TheVariants as commands
 use Rattle.script_read.specs.declared.command.Line.{Line}

@@ -6,7 +6,7 @@ use Rattle.model_operations.specs.declared.operation.IntOp.{IntOp}
 use Rattle.pixel_formats.specs.declared.abyss.Abyss.{Abyss}
 use Rattle.model_buffers.specs.Layout.{View, find}
 use Rattle.model_buffers.specs.Table.{Table}
-use Rattle.model_buffers.specs.Edits.{Edited}
+use Rattle.model_buffers.specs.Edits.{Edited, edited_table}
 use Rattle.model_graphs.specs.declared.node.NodeEdit.TheVariants.{Remove, Set}
 use Rattle.model_states.specs.Cache.{Cached, Counted}
 use Rattle.model_states.specs.declared.refused.StateRefused.{StateRefused}
@@ -18,10 +18,9 @@ use Rattle.model_operations.specs.Meanings.{int_meanings, same_operation}
 use Rattle.model_sessions.specs.Sessions.{render_need, with_render, with_state}
 use Rattle.model_buffers.specs.declared.edit.BufferEdit.{BufferEdit}
 use Rattle.model_buffers.specs.declared.edit.BufferEdit.TheVariants.{Copy, Create, Duplicate, Fill, Put, Sub}
-use Rattle.model_buffers.specs.Edits.{edited_table}
 use Rattle.model_sessions.specs.Tables.{table_shapes}
-use Rattle.run_texts.specs.Events.{Event}
-use Rattle.run_texts.specs.declared.cause.Cause.TheVariants.{Strip, UnknownNode}
+use Rattle.model_runs.specs.Events.{Event}
+use Rattle.model_runs.specs.declared.cause.Cause.TheVariants.{Strip, UnknownNode}
 use Rattle.script_read.specs.declared.command.Command.{Command}
 use Rattle.script_read.specs.declared.command.Command.TheVariants as commands
 use Rattle.script_read.specs.declared.command.Line.{Line}

@@ -7,7 +7,7 @@ use Rattle.outside_io.specs.Files.{Files}
 use Rattle.model_images.specs.Image.{at}
 use Rattle.model_images.specs.Raw.{raw}
 use Rattle.model_images.specs.Level.{level}
-use Rattle.run_texts.specs.Events.{Event, Puts}
+use Rattle.model_runs.specs.Events.{Event, Puts}
 use Rattle.script_read.specs.declared.command.Command.TheVariants as commands
 use Rattle.script_read.specs.declared.command.Line.{Line}
 use Rattle.model_runs.specs.Examples.{HasRaster, inverting_node, inverted_raster, lines_from, outcome_of, render, row_from, source_node, exposed}

@@ -1,8 +1,8 @@
 -- What is built today of runs: all but watches. Later work shortens this until it is gone.
 use Rattle.std.specs.Prelude.{ℕ, Bool, true, false, is_some, if◌then◌else◌, List, [], ◌∷◌, Option, Some, None, Result, Ok, Err}
 use Rattle.outside_io.specs.Files.{Files, file}
-use Rattle.run_texts.specs.Events.{Refusal}
-use Rattle.run_texts.specs.declared.cause.Cause.TheVariants.{Grammar}
+use Rattle.model_runs.specs.Events.{Refusal}
+use Rattle.model_runs.specs.declared.cause.Cause.TheVariants.{Grammar}
 use Rattle.script_fields.specs.declared.cause.ScriptCause.TheVariants.{UnknownCommand}
 use Rattle.script_read.specs.declared.command.Command.{Command}
 use Rattle.script_read.specs.declared.command.Command.TheVariants as commands

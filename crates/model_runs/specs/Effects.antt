@@ -29,10 +29,10 @@ use Rattle.model_states.specs.declared.refused.StateRefused.TheVariants as state
 use Rattle.model_sessions.specs.Sessions.{render_need, with_render, with_state}
 use Rattle.model_sessions.specs.Steps.{with_edit}
 use Rattle.model_sessions.specs.Tables.{table_shapes}
-use Rattle.run_texts.specs.Events.{Event, Puts, Writes}
-use Rattle.run_texts.specs.Texts.{grab_text, render_text}
-use Rattle.run_texts.specs.declared.cause.Cause.{Cause}
-use Rattle.run_texts.specs.declared.cause.Cause.TheVariants as causes
+use Rattle.model_runs.specs.Events.{Event, Puts, Writes}
+use Rattle.model_runs.specs.Texts.{grab_text, render_text}
+use Rattle.model_runs.specs.declared.cause.Cause.{Cause}
+use Rattle.model_runs.specs.declared.cause.Cause.TheVariants as causes
 use Rattle.script_read.specs.declared.command.Command.{Command}
 use Rattle.script_read.specs.declared.command.Command.TheVariants as commands
 use Rattle.model_runs.specs.Commands.{node_of}

@@ -1,7 +1,7 @@
 -- How a run ends, or a part of one, and what it leaves then.
 use Rattle.std.specs.Prelude.{◌≡◌, ℕ, Option, Some, None, Result, Ok, Err, ⊤}
-use Rattle.run_texts.specs.Events.{Outcome, Refusal}
-use Rattle.run_texts.specs.World.{World, after_all, LeavesSome}
+use Rattle.model_runs.specs.Events.{Outcome, Refusal}
+use Rattle.model_runs.specs.World.{World, after_all, LeavesSome}
 use Rattle.model_runs.specs.declared.ending.End.{End}
 use Rattle.model_runs.specs.declared.ending.End.TheVariants as ends
 

@@ -5,7 +5,7 @@ use Rattle.pixel_formats.specs.declared.format.Format.TheVariants.{Y8}
 use Rattle.pixel_formats.specs.declared.abyss.Abyss.TheVariants as policies
 use Rattle.model_operations.specs.declared.operation.IntOp.TheVariants as operations
 use Rattle.outside_io.specs.Files.{Files, file}
-use Rattle.run_texts.specs.Events.{Event, Outcome, Puts, Writes}
+use Rattle.model_runs.specs.Events.{Event, Outcome, Puts, Writes}
 use Rattle.script_read.specs.declared.command.Command.{Command}
 use Rattle.script_read.specs.declared.command.Command.TheVariants as commands
 use Rattle.script_read.specs.declared.command.Line.{Line}

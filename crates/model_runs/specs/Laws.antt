@@ -1,7 +1,7 @@
 -- What laws of runs speak of.
 use Rattle.std.specs.Prelude.{◌≢◌, ℕ, ◌≤◌, List, Some}
 use Rattle.std.specs.List.{AllByRecursion}
-use Rattle.run_texts.specs.declared.cause.Cause.TheVariants.{Strip}
+use Rattle.model_runs.specs.declared.cause.Cause.TheVariants.{Strip}
 use Rattle.model_runs.specs.State.{Effect}
 use Rattle.model_runs.specs.Words.{Cache, OptionName, Options, Resident, SwapBlocks, Workers, max_value}
 

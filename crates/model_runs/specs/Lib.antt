@@ -11,3 +11,7 @@ pub mod Ending
 pub mod Ran
 pub mod Laws
 pub mod Examples
+pub mod Texts
+pub mod Events
+pub mod World
+pub mod Counts

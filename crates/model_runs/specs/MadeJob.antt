@@ -6,8 +6,8 @@ use Rattle.std.specs.List.{range_with_len}
 use Rattle.outside_io.specs.Files.{Files, file, filed}
 use Rattle.script_words.specs.Lines.{text_of}
 use Rattle.script_words.specs.Words.{joined}
-use Rattle.run_texts.specs.Events.{Puts}
-use Rattle.run_texts.specs.Texts.{sum_text}
+use Rattle.model_runs.specs.Events.{Puts}
+use Rattle.model_runs.specs.Texts.{sum_text}
 use Rattle.model_runs.specs.Run.{Ending, Plan, plan_of_script, report}
 use Rattle.model_runs.specs.Words.{default_options}
 

@@ -1,9 +1,9 @@
 -- What is promised of a run, whatever it meets.
 use Rattle.std.specs.Prelude.{◌≡◌, ℕ, ◌≤◌, ◌⊎◌, List, ◌++◌, drop, flat_map, length, min, take, Option, Some, None, []}
 use Rattle.std.specs.Option.{option_map}
-use Rattle.outside_io.specs.Faults.{Rose}
-use Rattle.run_texts.specs.Events.{Event, Puts, Writes}
-use Rattle.run_texts.specs.World.{World, after_all, LeavesSome}
+use Rattle.chain_owners.specs.Counts.{Rose}
+use Rattle.model_runs.specs.Events.{Event, Puts, Writes}
+use Rattle.model_runs.specs.World.{World, after_all, LeavesSome}
 use Rattle.model_runs.specs.Ending.{IsRefusal, end_status}
 use Rattle.model_runs.specs.Run.{Plan, watched_in}
 use Rattle.model_runs.specs.State.{Numbers}

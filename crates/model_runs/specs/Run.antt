@@ -2,10 +2,10 @@
 use Rattle.std.specs.Prelude.{ℕ, nat_lt, if◌then◌else◌, List, [], ◌∷◌, flat_map, fold, length, is_none, Option, Some, None, Result, Ok, Err}
 use Rattle.std.specs.List.{filter_map}
 use Rattle.outside_io.specs.Files.{Files, file}
-use Rattle.run_texts.specs.Events.{Event, Outcome, Puts, Refusal, events_alone, files_after, refusal, then_do}
-use Rattle.run_texts.specs.Texts.{report_text}
-use Rattle.run_texts.specs.declared.cause.Cause.{Cause}
-use Rattle.run_texts.specs.declared.cause.Cause.TheVariants as causes
+use Rattle.model_runs.specs.Events.{Event, Outcome, Puts, Refusal, events_alone, files_after, refusal, then_do}
+use Rattle.model_runs.specs.Texts.{report_text}
+use Rattle.model_runs.specs.declared.cause.Cause.{Cause}
+use Rattle.model_runs.specs.declared.cause.Cause.TheVariants as causes
 use Rattle.script_read.specs.declared.command.Line.{Line}
 use Rattle.script_read.specs.Script as grammar
 use Rattle.pixel_formats.specs.Limits.{max_script_bytes}

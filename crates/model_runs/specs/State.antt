@@ -9,9 +9,9 @@ use Rattle.model_states.specs.Workspace.{Workspace}
 use Rattle.model_states.specs.Rectangles.{Rectangles}
 use Rattle.model_sessions.specs.Sessions.{Session, last_scene, new_session}
 use Rattle.model_sessions.specs.Steps.{with_workspace}
-use Rattle.run_texts.specs.Events.{Event, Puts}
-use Rattle.run_texts.specs.Texts.{refusal_text}
-use Rattle.run_texts.specs.declared.cause.Cause.{Cause}
+use Rattle.model_runs.specs.Events.{Event, Puts}
+use Rattle.model_runs.specs.Texts.{refusal_text}
+use Rattle.model_runs.specs.declared.cause.Cause.{Cause}
 
 -- A watch that is open: its line, the node and the rectangle that viewers render, how many viewers there are and how
 -- many frames each renders, what the names of their files begin with, and the number of the commit at its line.

@@ -1,7 +1,7 @@
 -- How much of a swap suffices for a run.
 use Rattle.std.specs.Prelude.{ℕ, suc, ◌+◌, ◌-◌, ◌≤◌, ◌⊎◌, nat_lt, if◌then◌else◌, List, [], ◌∷◌, length, map, min, sum, take, Option, Some, None}
 use Rattle.model_buffers.specs.Counts.{RoomFor}
-use Rattle.run_texts.specs.Events.{Event, Puts, Writes}
+use Rattle.model_runs.specs.Events.{Event, Puts, Writes}
 use Rattle.model_runs.specs.Run.{applied_in}
 use Rattle.model_runs.specs.State.{Effect}
 

@@ -11,8 +11,8 @@ use Rattle.model_states.specs.State as states
 use Rattle.model_states.specs.State.{State}
 use Rattle.model_sessions.specs.Histories.{scene_of}
 use Rattle.model_operations.specs.Meanings.{int_meanings}
-use Rattle.run_texts.specs.Events.{Event, Puts, Writes}
-use Rattle.run_texts.specs.Texts.{frame_text}
+use Rattle.model_runs.specs.Events.{Event, Puts, Writes}
+use Rattle.model_runs.specs.Texts.{frame_text}
 use Rattle.model_runs.specs.State.{Numbers, RunState, Effect, Watched, Watching, leaves, number_in}
 
 -- the committed state of a number

@@ -1,6 +1,6 @@
 //! How a run ends.
 
-use no_memory::OutOfMemory;
+use alloc_basics::OutOfMemory;
 
 /// Why a run ends before its last line.
 #[derive(Clone, Copy, Debug, PartialEq, Eq)]

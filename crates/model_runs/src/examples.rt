@@ -5,8 +5,8 @@ ghost use Rattle.std.specs.Prelude.{◌≡◌, [], ◌∷◌, ◌++◌, codes, s
 ghost use Rattle.script_words.specs.Words.{joined};
 ghost use Rattle.plane_rect.specs.Rectangle.{empty};
 ghost use Rattle.outside_io.specs.Files.{Files};
-ghost use Rattle.run_texts.specs.Events.{Puts, Refusal};
-ghost use Rattle.run_texts.specs.declared.cause.Cause.TheVariants as causes;
+ghost use Rattle.model_runs.specs.Events.{Puts, Refusal};
+ghost use Rattle.model_runs.specs.declared.cause.Cause.TheVariants as causes;
 ghost use Rattle.script_read.specs.declared.command.Command.TheVariants as commands;
 ghost use Rattle.model_runs.specs.Examples.{HasRaster, fill, filled_twice, grab, inverted_raster, outcome_of, part_of_zeros, render, row_from, exposed, watched_edits};
 ghost use Rattle.model_runs.specs.MadeJob.{draws, fills};

@@ -16,7 +16,7 @@ use Rattle.model_states.specs.declared.refused.StateRefused.{StateRefused}
 use Rattle.model_states.specs.Cache.{AreRight, Cached, by_pair, needed_pairs, with_bytes}
 use Rattle.model_states.specs.Damage.{damage}
 use Rattle.model_states.specs.History.{Appends, History, committed, number_of, redone, undone}
-use Rattle.model_states.specs.Regions.{meets}
+use Rattle.plane_rect.specs.Tile.{meets}
 use Rattle.model_states.specs.State.{State}
 use Rattle.model_states.proofs.CacheLaws.{distinct-filter, stays_distinct, stays_in_capacity}
 use Rattle.model_states.proofs.HistoryLaws.{commit_appends, redo_appends, undo_appends}

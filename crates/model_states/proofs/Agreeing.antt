@@ -2,7 +2,7 @@
 use Rattle.std.proofs.Common.{◌≡◌, false, sym, ap, ◌∙◌, subst}
 use Rattle.std.specs.List.{flat_map}
 use Rattle.plane_rect.specs.Rectangle.{Rectangle, Inside, hull, meet}
-use Rattle.plane_rect.specs.Tile.{Tile, tile_square}
+use Rattle.plane_rect.specs.Tile.{Tile, tile_square, meets}
 use Rattle.plane_rect.proofs.Rectangles.{Inside-meet}
 use Rattle.plane_rect.proofs.RectangleLaws.{Includes-hull_left, Includes-hull_right}
 use Rattle.plane_rect.proofs.Differences.{no_positions}
@@ -13,7 +13,6 @@ use Rattle.model_images.specs.Raw.{raw, sample_bytes}
 use Rattle.model_images.specs.Agreement.{AgreeOutside}
 use Rattle.model_images.proofs.Laws.{at_outside, sampled_equal}
 use Rattle.model_images.proofs.Positions.{by_positions}
-use Rattle.model_states.specs.Regions.{meets}
 use Rattle.model_states.specs.Neighbors.{SamplesAgreeOutside}
 
 -- outside their box all images are 0

@@ -17,7 +17,6 @@ pub mod AskedInside
 pub mod NeededRight
 pub mod TileCounts
 pub mod NeedCounts
-pub mod Rows
 pub mod Steady
 pub mod RetainedLaws
 pub mod HistoryLaws

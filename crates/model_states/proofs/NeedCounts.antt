@@ -6,7 +6,7 @@ use Rattle.std.proofs.lemmas.List.{length-map, length-reverse, length-take}
 use Rattle.std.proofs.lemmas.List.FromFn.{length-range_with_len}
 use Rattle.std.proofs.lemmas.Option.{same_Some, slice_get-map}
 use Rattle.plane_rect.specs.Rectangle.{InLimits, Includes, Rectangle, empty, meet}
-use Rattle.plane_rect.specs.Tile.{Tile, tile_lines, tile_of}
+use Rattle.plane_rect.specs.Tile.{Tile, tile_lines, tile_of, strip_rectangles, tile_line}
 use Rattle.plane_rect.proofs.Rectangles.{Inside-meet}
 use Rattle.model_graphs.specs.declared.node.NodeFact.{NodeFact}
 use Rattle.model_graphs.specs.Facts.{specs_of, stated_shapes}
@@ -15,7 +15,7 @@ use Rattle.model_graphs.specs.Meanings.{Meanings}
 use Rattle.model_graphs.specs.Node.{Apply, FromBuffer, Node, Step, step_of}
 use Rattle.model_graphs.specs.Shapes.{Shape, Shapes, no_shape}
 use Rattle.model_states.specs.declared.strip.Strip.{Strip}
-use Rattle.model_states.specs.Need.{Asked, Needed, asked_by, asked_of, need, needed, needed_of, strip_of, strip_rectangles, tile_line}
+use Rattle.model_states.specs.Need.{Asked, Needed, asked_by, asked_of, need, needed, needed_of, strip_of}
 use Rattle.model_states.specs.Regions.{tiles_of_any}
 use Rattle.model_states.specs.Valid.{AreStated, AreValid, input_boxes, shapes_of, steps_of}
 use Rattle.model_states.proofs.AskedInside.{InsideBox, all-append, asked_by_inside, asked_inside}

@@ -10,15 +10,15 @@ use Rattle.std.proofs.lemmas.Map.Made.{AllPairs-from_IsDistinct, IsDistinct-from
 use Rattle.std.proofs.lemmas.Slice.Eq.{bytes_eq-Decides}
 use Rattle.plane_rect.specs.Rectangle.{Rectangle}
 use Rattle.plane_rect.specs.SameTile.{same_tile-laws}
-use Rattle.plane_rect.specs.Tile.{Tile, IsBefore, same_tile, tiles}
+use Rattle.plane_rect.specs.Tile.{Tile, IsBefore, same_tile, tiles, strip_rectangles, meets}
 use Rattle.plane_rect.proofs.Lists.{AllPairs-append, AllPairs-nil}
 use Rattle.plane_rect.proofs.TileLists.{tiles-in_order}
 use Rattle.model_graphs.specs.Node.{Node, Step, FromBuffer, Apply, step_of}
 use Rattle.model_states.specs.Cache.{Pair, pair_of, same_pair}
 use Rattle.model_graphs.specs.Meanings.{Meanings}
-use Rattle.model_states.specs.Need.{Asked, Needed, asked_by, asked_of, need, needed, needed_of, strip_of, strip_rectangles}
+use Rattle.model_states.specs.Need.{Asked, Needed, asked_by, asked_of, need, needed, needed_of, strip_of}
 use Rattle.model_states.specs.declared.strip.Strip.{Strip}
-use Rattle.model_states.specs.Regions.{hull_of, meets, tiles_of_any}
+use Rattle.model_states.specs.Regions.{hull_of, tiles_of_any}
 use Rattle.model_graphs.specs.declared.node.NodeFact.{NodeFact}
 use Rattle.model_graphs.specs.Facts.{specs_of}
 use Rattle.model_states.specs.Valid.{node_names, steps_of}

@@ -8,7 +8,7 @@ use Rattle.std.proofs.lemmas.Bool.{cases_lt}
 use Rattle.std.proofs.lemmas.List.{length-reverse, length-take-le, reverse-append, take_all}
 use Rattle.std.proofs.lemmas.Option.{get_or_from_slice_get, same_Some, slice_get-get_or, slice_get-map}
 use Rattle.plane_rect.specs.Rectangle.{Rectangle, Includes, meet}
-use Rattle.plane_rect.specs.Tile.{Tile, tiles}
+use Rattle.plane_rect.specs.Tile.{Tile, tiles, strip_rectangles, meets}
 use Rattle.plane_rect.proofs.Rectangles.{Inside-meet}
 use Rattle.model_graphs.specs.Node.{Node, Step, FromBuffer, Apply, index_of, step_of}
 use Rattle.model_graphs.specs.declared.node.Body.{Body}
@@ -16,9 +16,9 @@ use Rattle.model_graphs.specs.declared.node.Body.TheVariants.{Source, Compute}
 use Rattle.model_states.specs.Cache.{AreRightPairs, IsComputed, IsPairOf, IsRight, needed_pairs, pair_of, with_bytes}
 use Rattle.model_graphs.specs.Laws.{IsBoxed}
 use Rattle.model_graphs.specs.Meanings.{Meanings}
-use Rattle.model_states.specs.Need.{Asked, Needed, asked_by, asked_of, need, needed, needed_of, strip_of, strip_rectangles}
+use Rattle.model_states.specs.Need.{Asked, Needed, asked_by, asked_of, need, needed, needed_of, strip_of}
 use Rattle.model_states.specs.declared.strip.Strip.{Strip}
-use Rattle.model_states.specs.Regions.{hull_of, meets, tiles_of_any}
+use Rattle.model_states.specs.Regions.{hull_of, tiles_of_any}
 use Rattle.model_states.specs.State.{IsValidScene, Scene, node_shapes, stated_nodes}
 use Rattle.model_graphs.specs.declared.node.NodeFact.{NodeFact}
 use Rattle.model_graphs.specs.Facts.{specs_of, stated_shapes}

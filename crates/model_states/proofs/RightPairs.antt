@@ -3,7 +3,7 @@ use Rattle.std.proofs.Common.{◌≡◌, ℕ, Bool, true, false, not, List, [], 
 use Rattle.std.specs.List.{AllByRecursion}
 use Rattle.std.proofs.lemmas.Bool.Decides.{nat_tests}
 use Rattle.plane_rect.specs.Rectangle.{Includes, Rectangle, Inside, has_positions, meet}
-use Rattle.plane_rect.specs.Tile.{Tile, tile_square}
+use Rattle.plane_rect.specs.Tile.{Tile, tile_square, meets}
 use Rattle.plane_rect.proofs.Differences.{no_positions}
 use Rattle.plane_rect.proofs.Rectangles.{Inside-meet}
 use Rattle.model_graphs.specs.Node.{Node}
@@ -12,7 +12,6 @@ use Rattle.model_states.specs.Cache.{by_pair, Cached, IsRight, IsComputed, witho
 use Rattle.model_graphs.specs.Meanings.{Meanings}
 use Rattle.model_graphs.specs.Shapes.{Shape}
 use Rattle.model_states.specs.State.{Scene, image_of, node_of, shape_of}
-use Rattle.model_states.specs.Regions.{meets}
 use Rattle.model_states.specs.Damage.{Change, damage, is_unedited, side_shape}
 use Rattle.model_states.specs.Neighbors.{IsChange, scene_of_side}
 use Rattle.model_graphs.specs.Facts.{specs_of}

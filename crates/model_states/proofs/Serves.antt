@@ -7,7 +7,7 @@ use Rattle.std.proofs.lemmas.Bool.Decides.{nat_tests}
 use Rattle.std.proofs.lemmas.List.{length-append}
 use Rattle.std.proofs.lemmas.Option.{get_or_from_slice_get, same_Some, slice_get_within}
 use Rattle.plane_rect.specs.Rectangle.{Includes, Inside, Rectangle, meet}
-use Rattle.plane_rect.specs.Tile.{Tile, tile_at, tile_columns, tile_lines, tile_of, tile_row, tile_rows, tile_square, tiles}
+use Rattle.plane_rect.specs.Tile.{Tile, tile_at, tile_columns, tile_lines, tile_of, tile_row, tile_rows, tile_square, tiles, strip_rectangles, meets}
 use Rattle.plane_rect.proofs.RectangleLaws.{Includes-hull_left, Includes-hull_right}
 use Rattle.plane_rect.proofs.Rectangles.{Inside-meet}
 use Rattle.plane_rect.proofs.TileLists.{Inside-tile_square}
@@ -17,8 +17,8 @@ use Rattle.model_graphs.specs.Meanings.{Meanings}
 use Rattle.model_graphs.specs.Node.{Apply, FromBuffer, Step}
 use Rattle.model_graphs.specs.Shapes.{Shape, Shapes, no_shape}
 use Rattle.model_states.specs.declared.strip.Strip.{Strip}
-use Rattle.model_states.specs.Need.{Asked, Needed, asked_by, asked_by_part, asked_of, need, needed, needed_of, strip_of, strip_rectangles}
-use Rattle.model_states.specs.Regions.{hull_of, meets, tiles_of_any}
+use Rattle.model_states.specs.Need.{Asked, Needed, asked_by, asked_by_part, asked_of, need, needed, needed_of, strip_of}
+use Rattle.model_states.specs.Regions.{hull_of, tiles_of_any}
 use Rattle.model_states.specs.Serving.{IsNeededBefore, IsSourceAt, ServesItself}
 use Rattle.model_states.specs.Valid.{AreStated, AreValidSteps, IsValidStep, input_boxes, step_shape, steps_of}
 use Rattle.model_states.proofs.Members.{Member, get-enumerated, get-left, get-map, get-split, later, made_of, member-filter, member-flat_map, member-left, member-map, member-right}

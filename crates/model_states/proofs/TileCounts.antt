@@ -4,9 +4,9 @@ use Rattle.std.specs.List.{AllByRecursion, list_any}
 use Rattle.std.proofs.lemmas.Bool.Decides.{nat_tests}
 use Rattle.std.proofs.lemmas.Nat.{mul-le}
 use Rattle.plane_rect.specs.Rectangle.{InLimits, Includes, Inside, Rectangle, empty, end_column, end_row, hull, is_empty, rectangle, spanning}
-use Rattle.plane_rect.specs.Tile.{tile_columns, tile_lines, tiles}
+use Rattle.plane_rect.specs.Tile.{tile_columns, tile_lines, tiles, meets}
 use Rattle.plane_rect.proofs.TileLists.{length-tiles}
-use Rattle.model_states.specs.Regions.{hull_of, meets, tiles_of_any}
+use Rattle.model_states.specs.Regions.{hull_of, tiles_of_any}
 
 -- the sides of a rectangle are between those of a box
 record IsBetween (box r : Rectangle) : Type 0 where

@@ -7,7 +7,7 @@ use Rattle.std.proofs.lemmas.Bool.Decides.{nat_tests}
 use Rattle.std.proofs.lemmas.List.{get_or_past, length-map}
 use Rattle.std.proofs.lemmas.Slice.Eq.{bytes_eq-Decides}
 use Rattle.plane_rect.specs.Rectangle.{Rectangle, empty}
-use Rattle.plane_rect.specs.Tile.{Tile}
+use Rattle.plane_rect.specs.Tile.{Tile, meets}
 use Rattle.model_graphs.specs.Facts.{specs_of, stated_shape, stated_shapes}
 use Rattle.model_graphs.specs.declared.node.NodeFact.{NodeFact}
 use Rattle.model_graphs.specs.Meanings.{Meanings}
@@ -17,7 +17,6 @@ use Rattle.model_states.specs.Cache.{Pair, all_voided, voided, without_damaged}
 use Rattle.model_states.specs.Damage.{Change, damage, damage_list, damages, gone_names, side_shape}
 use Rattle.model_states.specs.Edits.{has_node}
 use Rattle.model_states.specs.Rectangles.{rectangle_of}
-use Rattle.model_states.specs.Regions.{meets}
 use Rattle.model_states.specs.Valid.{node_names}
 use Rattle.model_states.proofs.NodeDamage.{length-damages}
 use Rattle.model_states.proofs.PrefixLaws.{before_name, index_of-is}

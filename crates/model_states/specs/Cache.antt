@@ -3,7 +3,7 @@ use Rattle.std.specs.Prelude.{◌≡◌, ℕ, ◌+◌, Bool, ◌&&◌, not, ⊤,
 use Rattle.std.specs.List.{AllByRecursion, IsDistinct}
 use Rattle.std.specs.Str.{bytes_eq}
 use Rattle.plane_rect.specs.Rectangle.{Rectangle}
-use Rattle.plane_rect.specs.Tile.{Tile, same_tile}
+use Rattle.plane_rect.specs.Tile.{Tile, same_tile, meets}
 use Rattle.model_images.specs.Raw.{tile_bytes}
 use Rattle.model_graphs.specs.declared.node.Body.{Body}
 use Rattle.model_graphs.specs.declared.node.Body.TheVariants.{Source, Compute}
@@ -13,7 +13,6 @@ use Rattle.model_graphs.specs.Meanings.{Meanings}
 use Rattle.model_states.specs.declared.strip.Strip.{Strip}
 use Rattle.model_states.specs.Need.{Needed}
 use Rattle.model_states.specs.Rectangles.{Rectangles}
-use Rattle.model_states.specs.Regions.{meets}
 use Rattle.model_states.specs.State.{Scene, image_of, node_of, node_shapes}
 use Rattle.model_states.specs.Valid.{node_names}
 

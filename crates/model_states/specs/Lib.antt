@@ -14,3 +14,4 @@ pub mod Need
 pub mod Cache
 pub mod Serving
 pub mod Examples
+pub mod Directions

@@ -1,8 +1,8 @@
 -- The tiles of nodes that are needed for a rectangle of one of them, strip by strip.
-use Rattle.std.specs.Prelude.{ℕ, suc, ◌*◌, ◌==◌, nat_lt, if◌then◌else◌, List, [], ◌∷◌, ◌++◌, map, filter, reverse, take, length, slice_index_or, flat_map, Option, Some, None}
-use Rattle.std.specs.List.{enumerate_from, range_with_len}
-use Rattle.plane_rect.specs.Rectangle.{Rectangle, meet, plane_side}
-use Rattle.plane_rect.specs.Tile.{Tile, tile_side, tile_of, tile_lines, tile_square}
+use Rattle.std.specs.Prelude.{ℕ, suc, ◌==◌, nat_lt, if◌then◌else◌, List, [], ◌∷◌, ◌++◌, map, filter, reverse, take, length, slice_index_or, flat_map, Option, Some, None}
+use Rattle.std.specs.List.{enumerate_from}
+use Rattle.plane_rect.specs.Rectangle.{Rectangle, meet}
+use Rattle.plane_rect.specs.Tile.{Tile, strip_rectangles, tile_square}
 use Rattle.model_graphs.specs.declared.node.NodeFact.{NodeFact}
 use Rattle.model_graphs.specs.Facts.{specs_of, stated_shapes}
 use Rattle.model_graphs.specs.Shapes.{Shape, no_shape}
@@ -51,15 +51,6 @@ needed meanings shapes asked (step ∷ before) =
     let box = (slice_index_or shapes node no_shape).box in
     let tiles = tiles_of_any (asked_of asked node) in
     needed meanings shapes (asked ++ asked_by meanings shapes step box tiles) before ++ needed_of node step tiles
-
--- all positions of a row of tiles
-abbrev pub tile_line : ℕ → Rectangle
-tile_line row = record { first_column = 0; first_row = tile_side * row; width = plane_side; height = tile_side }
-
--- a request cut at the rows of tiles that it meets, from the top
-abbrev pub strip_rectangles : Rectangle → List Rectangle
-strip_rectangles request =
-    map (λ row. meet request (tile_line row)) (range_with_len (tile_of request.first_row) (tile_lines request))
 
 -- what is needed for a rectangle of the node at a position
 abbrev pub strip_of : {Op : Type 0} → Meanings Op → List (NodeFact Op) → ℕ → Rectangle → Strip

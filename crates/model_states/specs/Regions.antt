@@ -1,17 +1,13 @@
 -- Several rectangles at once, and the tiles that they meet.
-use Rattle.std.specs.Prelude.{◌≡◌, Bool, true, List, [], ◌∷◌, filter}
+use Rattle.std.specs.Prelude.{◌≡◌, true, List, [], ◌∷◌, filter}
 use Rattle.std.specs.List.{list_any, AllByRecursion}
-use Rattle.plane_rect.specs.Rectangle.{Rectangle, empty, hull, meet, has_positions, is_empty}
-use Rattle.plane_rect.specs.Tile.{Tile, tile_square, tiles}
+use Rattle.plane_rect.specs.Rectangle.{Rectangle, empty, hull, is_empty}
+use Rattle.plane_rect.specs.Tile.{Tile, meets, tiles}
 
 -- the hull of all of them
 abbrev pub hull_of : List Rectangle → Rectangle
 hull_of [] = empty
 hull_of (r ∷ rs) = hull r (hull_of rs)
-
--- some position of the rectangle is in the tile
-abbrev pub meets : Tile → Rectangle → Bool
-meets t r = has_positions (meet (tile_square t) r)
 
 -- the tiles that meet one of them, row by row from the top, each row from the left
 abbrev pub tiles_of_any : List Rectangle → List Tile

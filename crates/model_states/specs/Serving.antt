@@ -1,12 +1,11 @@
 -- A strip's need serves itself: what a needed tile requires is needed before it.
 use Rattle.std.specs.Prelude.{◌≡◌, ℕ, ◌<◌, ◌⊎◌, IsTrue, List, length, slice_get, slice_index_or, Some}
 use Rattle.plane_rect.specs.Rectangle.{meet}
-use Rattle.plane_rect.specs.Tile.{Tile, tile_square}
+use Rattle.plane_rect.specs.Tile.{Tile, tile_square, meets}
 use Rattle.model_graphs.specs.Meanings.{Meanings}
 use Rattle.model_graphs.specs.Node.{Apply, FromBuffer, Step}
 use Rattle.model_graphs.specs.Shapes.{Shape, no_shape}
 use Rattle.model_states.specs.Need.{Needed}
-use Rattle.model_states.specs.Regions.{meets}
 use Rattle.model_states.specs.Valid.{input_boxes}
 
 -- the step at a position is a source

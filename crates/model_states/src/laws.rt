@@ -2,7 +2,7 @@
 
 ghost use Rattle.std.specs.Prelude.{◌≡◌, ◌↔◌, ◌≤◌, ℕ, Bool, length, List, map, None, slice_get, Some, true};
 ghost use Rattle.std.specs.List.{AllByRecursion, Contains};
-ghost use Rattle.plane_rect.specs.Tile.{Tile, tiles};
+ghost use Rattle.plane_rect.specs.Tile.{Tile, tiles, meets};
 ghost use Rattle.plane_rect.specs.Rectangle.{Rectangle};
 ghost use Rattle.model_graphs.specs.Facts.{specs_of, stated_shapes};
 ghost use Rattle.model_graphs.specs.Node.{index_of, Node};
@@ -12,7 +12,9 @@ ghost use Rattle.model_states.specs.Cache.{all_voided, Pair, same_pair, without_
 ghost use Rattle.model_states.specs.Damage.{Change, damage, damage_list, HaveRectangles, IsStatedChange, reversed};
 ghost use Rattle.model_states.specs.Need.{need, wide};
 ghost use Rattle.model_states.specs.Valid.{AreStated, AreValid, shapes_of, steps_of, Suits};
-ghost use Rattle.model_states.specs.{Rectangles.rectangle_of, declared.strip.Strip.Strip as StripData, Regions.meets, Serving.ServesItself};
+ghost use Rattle.model_states.specs.Rectangles.{rectangle_of};
+ghost use Rattle.model_states.specs.declared.strip.Strip.{Strip as StripData};
+ghost use Rattle.model_states.specs.Serving.{ServesItself};
 
 /// States that the damage of a change is the same from the other side, so that an undo has the damage of its commit.
 pub fn damage_is_symmetric<Op>()

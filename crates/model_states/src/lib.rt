@@ -1,6 +1,8 @@
 //! What states of a graph are, how one follows another, and what a render of one needs.
 #![tactic(auto)]
 
+mod damage;
+mod direction;
 pub mod examples;
 pub mod laws;
 mod refused;
@@ -10,7 +12,7 @@ ghost use Rattle.std.specs.List.{AllByRecursion, IsDistinct};
 ghost use Rattle.std.specs.Str.{bytes_eq};
 ghost use Rattle.std.specs.Prelude.{◌≡◌, [], Bool, true, ◌++◌, ◌+◌, ◌≤◌, ◌↔◌, ℕ, None, Option, Some, false, IfOk, IsTrue, length, List, map};
 ghost use Rattle.plane_rect.specs.Rectangle.{hull, Rectangle};
-ghost use Rattle.plane_rect.specs.Tile.{Tile, tile_square};
+ghost use Rattle.plane_rect.specs.Tile.{Tile, tile_square, meets};
 ghost use Rattle.model_images.specs.{Agreement.AgreeOutside, Image.Image, Raw.raw};
 ghost use Rattle.model_graphs.specs.Facts.{AreImagesOf, Facts, shapes_of_facts, specs_of, stated_shapes};
 ghost use Rattle.model_graphs.specs.Node.{Node, Step};
@@ -25,7 +27,7 @@ ghost use Rattle.model_states.specs.Edits.{edited, has_node, steps_refused};
 ghost use Rattle.model_states.specs.History.{Appends, committed, History, redone, Returns, undone, with_commit};
 ghost use Rattle.model_states.specs.Neighbors.{AreNeighbors, IsChange, SamplesAgreeOutside, scene_of_side};
 ghost use Rattle.model_states.specs.Rectangles.{rectangle_of, Rectangles, with_written};
-ghost use Rattle.model_states.specs.Regions.{HaveNoPosition, meets};
+ghost use Rattle.model_states.specs.Regions.{HaveNoPosition};
 ghost use Rattle.model_states.specs.Need.{need};
 ghost use Rattle.model_states.specs.Retained as retained;
 ghost use Rattle.model_states.specs.Retained.{AreFew, Leads, Retained};
@@ -33,6 +35,8 @@ ghost use Rattle.model_states.specs.State.{IsValidScene, Scene, body_image, imag
 ghost use Rattle.model_states.specs.Valid.{AreStated, AreValid, AreValidSteps, node_names, shapes_of, stated};
 ghost use Rattle.model_states.specs.{Samples.HaveSameBuffers, declared.strip.Strip.Strip as StripData};
 
+pub use damage::{Damage, DamageList};
+pub use direction::{Direction, MAX_UNDOABLE};
 pub use refused::StateRefused;
 pub use strip::{NeedList, Strip};
 

@@ -1,6 +1,6 @@
 //! Strips of requests, as plain data.
 
-use item_lists::ItemList;
+use alloc_basics::ItemList;
 use plane_rect::{Rect, TileAt};
 
 /// Needed tiles in their order, each with the position of its node. A clause sees them as a list.

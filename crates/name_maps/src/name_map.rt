@@ -4,7 +4,7 @@ ghost use Rattle.std.specs.Prelude.{◌≡◌, IsSome, OnErr, OnOk};
 ghost use Rattle.std.specs.FinMap as map;
 
 use crate::name_pages::NamePages;
-use no_memory::NoMemory;
+use alloc_basics::NoMemory;
 use std::alloc::Global;
 use std::marker::Model;
 

@@ -4,7 +4,7 @@ ghost use Rattle.std.specs.Prelude.{◌≡◌, ◌%◌, IsSome, OnErr, OnOk};
 ghost use Rattle.std.specs.FinMap as map;
 
 use crate::page::{clear_in, is_blank, replace_in, set_in, value_in};
-use no_memory::NoMemory;
+use alloc_basics::NoMemory;
 use std::alloc::Global;
 use std::collections::HashMap;
 use std::marker::Model;

@@ -2,7 +2,7 @@
 
 ghost use Rattle.std.specs.Prelude.{◌≡◌, ℕ, ◌<◌, OnErr, OnOk, IsSome, IsTrue, None, Some, cond, nat_eq, slice_index_or};
 
-use no_memory::NoMemory;
+use alloc_basics::NoMemory;
 
 /// Returns the value at an index, where there is one.
 pub(crate) fn value_in<V: Copy>(page: &[Option<V>], index: usize) -> Option<V>

@@ -10,7 +10,7 @@ use Rattle.std.proofs.lemmas.List.Elements.{filter-append}
 use Rattle.lru.specs.LruCache.{lru_cache, promoted, put_entries}
 use Rattle.plane_rect.specs.Rectangle.{Rectangle}
 use Rattle.model_states.specs.Cache.{Pair, after_keep, after_look, find_pair, itself, same_pair, to_prefix, voided, without_pair}
-use Rattle.model_states.specs.Regions.{meets}
+use Rattle.plane_rect.specs.Tile.{meets}
 use Rattle.model_states.proofs.CacheLaws.{same_pair-true}
 use Rattle.model_states.proofs.NeedLaws.{Decides-same_pair}
 use Rattle.node_cache.specs.declared.pair_key.PairKey.{PairKey}

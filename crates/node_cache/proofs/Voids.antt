@@ -6,12 +6,11 @@ use Rattle.std.specs.Map.{keys_of, remove_entry}
 use Rattle.std.specs.Str.{bytes_eq}
 use Rattle.plane_rect.specs.Rectangle.{Rectangle, meet}
 use Rattle.plane_rect.specs.SameTile.{same_tile-laws, same_tile-true}
-use Rattle.plane_rect.specs.Tile.{Meets, Tile, same_tile, tile_square, tiles}
+use Rattle.plane_rect.specs.Tile.{Meets, Tile, same_tile, tile_square, tiles, meets}
 use Rattle.plane_rect.proofs.Differences.{no_positions}
 use Rattle.plane_rect.proofs.Lists.{Contains-cases, Contains-first, Contains-later}
 use Rattle.plane_rect.proofs.Rectangles.{Inside-meet}
 use Rattle.plane_rect.proofs.TileLists.{Inside-tile_square}
-use Rattle.model_states.specs.Regions.{meets}
 use Rattle.model_states.proofs.Serves.{tiles_contain}
 use Rattle.node_cache.specs.declared.pair_key.PairKey.{PairKey}
 use Rattle.node_cache.specs.Keys.{entries_left, same_key}

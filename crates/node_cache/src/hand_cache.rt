@@ -3,7 +3,7 @@
 ghost use Rattle.std.specs.Prelude.{◌≡◌, ℕ, ◌-◌, ◌^◌, ◌≤◌, List, [], ◌∷◌, ◌++◌, map, take, IfErr, IfOk, OnErr, OnOk, Some, None};
 ghost use Rattle.std.specs.Map.{lookup, remove_entry};
 ghost use Rattle.lru.specs.LruCache.{promoted, put_entries};
-ghost use Rattle.swap_store.specs.declared.refusal.SwapRefused.TheVariants as refusals;
+ghost use Rattle.chain_owners.specs.declared.swap_refused.SwapRefused.TheVariants as refusals;
 ghost use Rattle.node_cache.specs.Keys.{entries_left, same_key};
 ghost use Rattle.node_cache.specs.HandTiles.{HandEntries, HandEntry, IsHandCache, hand_bytes, hand_exposed, hand_few_names, hand_framed, hand_framed_condition, hand_owned, hand_size, hand_within};
 ghost use Rattle.node_cache.specs.{NodeNames.pairs_in, NodeLaws.pairs_distinct};
@@ -11,11 +11,11 @@ ghost use Rattle.node_cache.specs.{NodeNames.pairs_in, NodeLaws.pairs_distinct};
 use crate::pair_key::{PairKey, order_of};
 use crate::pair_store::PairStore;
 use crate::rectangles::tile_count;
+use alloc_basics::NoMemory;
+use chain_owners::SwapRefused;
 use lru::LruCache;
-use no_memory::NoMemory;
 use plane_rect::{Name, Rect, TileAt};
 use std::alloc::Global;
-use swap_store::SwapRefused;
 use tile_cow::Tile;
 
 /// Keeps tiles in memory, over no chain. No pair falls off at a keep: `trim` cuts the list to the capacity.

@@ -8,9 +8,8 @@ mod pair_key;
 mod pair_store;
 mod rectangles;
 
-pub use chain_owners::ChainMeaning;
+pub use chain_owners::{ChainMeaning, SwapRefused};
 pub use hand_cache::HandCache;
 pub use node_cache::NodeCache;
 pub use pair_key::PairKey;
 pub use pair_store::PairStore;
-pub use swap_store::SwapRefused;

@@ -5,8 +5,8 @@ ghost use Rattle.std.specs.Map.{lookup, remove_entry, values_of};
 ghost use Rattle.tile_cow.specs.Tile.{IsTileLength};
 ghost use Rattle.chain_owners.specs.Held.{Held, length_of};
 ghost use Rattle.chain_owners.specs.{Counts.Grows, Owners.Owns};
-ghost use Rattle.swap_store.specs.Cause.{HasSwapCause};
-ghost use Rattle.swap_store.specs.declared.refusal.SwapRefused.TheVariants as refusals;
+ghost use Rattle.chain_owners.specs.Cause.{HasSwapCause};
+ghost use Rattle.chain_owners.specs.declared.swap_refused.SwapRefused.TheVariants as refusals;
 ghost use Rattle.chain_contracts.specs.Tiles.{Reads};
 ghost use Rattle.lru.specs.LruCache.{promoted, put_entries};
 ghost use Rattle.node_cache.specs.Keys.{entries_left, same_key};
@@ -16,13 +16,13 @@ ghost use Rattle.node_cache.specs.NodeLaws.{node_exposed, node_few_names, node_f
 use crate::pair_key::{PairKey, order_of};
 use crate::pair_store::PairStore;
 use crate::rectangles::tile_count;
+use alloc_basics::NoMemory;
 use chain_contracts::TileChain;
+use chain_owners::SwapRefused;
 use lru::LruCache;
-use no_memory::NoMemory;
 use plane_rect::{Name, Rect, TileAt};
 use std::alloc::Global;
 use std::num::NonZeroUsize;
-use swap_store::SwapRefused;
 use tile_cow::Tile;
 
 /// Keeps tiles in the chain that its calls are lent, each under a name of its own, and at most so many

@@ -3,11 +3,10 @@
 ghost use Rattle.std.specs.Prelude.{◌≡◌, IfOk};
 ghost use Rattle.node_cache.specs.{Keys.is_voided, NodeNames.pairs_in, Stores.pairs_at};
 
+use alloc_basics::NoMemory;
 use lru::LruCache;
-use no_memory::NoMemory;
-use plane_rect::{Name, Rect, TileAt};
+use plane_rect::{Name, Rect, TileAt, meets};
 use std::alloc::Global;
-use tile_parts::meets;
 
 /// A tile of the node of a name.
 #[derive(Clone, Copy, Debug, PartialEq, Eq, Hash)]

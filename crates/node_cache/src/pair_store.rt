@@ -5,13 +5,12 @@ ghost use Rattle.std.specs.Option.{option_map};
 ghost use Rattle.chain_owners.specs.Owners.{IsFramed, Owns, Respects};
 ghost use Rattle.chain_owners.specs.{Counts.Grows, Held.Held};
 ghost use Rattle.model_states.specs.Cache.{Cached, HasDistinctPairs, Pair, after_keep, after_look, by_pair, find_pair, itself, voided};
-ghost use Rattle.swap_store.specs.Cause.{HasSwapCause};
+ghost use Rattle.chain_owners.specs.Cause.{HasSwapCause};
 ghost use Rattle.node_cache.specs.Stores.{AddsOnlyOwn, AreExposed, AreWithin, Finds, IsFramedCondition, KeepsOneOwner, Sized, by_sized, cached_at, pair_at, pairs_at, sized_at};
 
-use chain_owners::ChainMeaning;
-use no_memory::NoMemory;
+use alloc_basics::NoMemory;
+use chain_owners::{ChainMeaning, SwapRefused};
 use plane_rect::{Name, Rect, TileAt};
-use swap_store::SwapRefused;
 use tile_cow::Tile;
 
 /// Keeps tiles of nodes under pairs of a node's name and a tile. It may hold names of the chain that its

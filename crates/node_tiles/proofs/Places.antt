@@ -4,7 +4,7 @@ use Rattle.std.specs.Prelude.{IsSome, option_map, slice_get}
 use Rattle.std.proofs.lemmas.List.{length-map}
 use Rattle.std.proofs.lemmas.Option.{get_or_from_slice_get, slice_get-map, slice_get_within}
 use Rattle.plane_rect.specs.Rectangle.{Inside, Rectangle, meet}
-use Rattle.plane_rect.specs.Tile.{Meets, Tile, tile_square}
+use Rattle.plane_rect.specs.Tile.{Meets, Tile, tile_square, meets}
 use Rattle.plane_rect.proofs.Differences.{no_positions}
 use Rattle.plane_rect.proofs.Rectangles.{Inside-meet}
 use Rattle.plane_rect.proofs.TileLists.{Inside-tile_square}
@@ -16,7 +16,6 @@ use Rattle.model_graphs.specs.Facts.{Facts, fact_of, shape_of_fact, shapes_of_fa
 use Rattle.model_graphs.specs.Meanings.{Meanings}
 use Rattle.model_graphs.specs.Node.{Apply, FromBuffer, Node, Step, index_of, step_of}
 use Rattle.model_graphs.specs.Shapes.{Shape, no_shape, shape_in}
-use Rattle.model_states.specs.Regions.{meets}
 use Rattle.model_states.specs.Serving.{IsSourceAt}
 use Rattle.model_states.specs.Valid.{AreStated, steps_of}
 use Rattle.model_states.proofs.Shapes.{shape_in-facts}

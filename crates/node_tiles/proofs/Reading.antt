@@ -3,9 +3,9 @@ use Rattle.std.proofs.Common.{◌≡◌, ℕ, ◌∙◌, List, [], refl, ap, ari
 use Rattle.chain_owners.specs.Owners.{Respects, times}
 use Rattle.chain_owners.proofs.Growing.{grows-both, grows-same}
 use Rattle.chain_owners.proofs.Ownership.{respects-beside, respects-both, respects-same}
-use Rattle.swap_store.specs.Cause.{HasSwapCause}
-use Rattle.swap_store.specs.declared.refusal.SwapRefused.{SwapRefused}
-use Rattle.swap_store.proofs.Causes.{cause-before, cause-more}
+use Rattle.chain_owners.specs.Cause.{HasSwapCause}
+use Rattle.chain_owners.specs.declared.swap_refused.SwapRefused.{SwapRefused}
+use Rattle.chain_owners.proofs.Causes.{cause-before, cause-more}
 use Rattle.node_tiles.specs.Reads.{Reads, Seen}
 
 pub reads-none : (a : Seen) → Reads a a

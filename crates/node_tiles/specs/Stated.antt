@@ -1,7 +1,7 @@
 -- The tiles of stated nodes, by the positions of the nodes.
 use Rattle.std.specs.Prelude.{◌≡◌, ℕ, ◌*◌, ◌<◌, ◌⊎◌, IsSome, IsTrue, List, length, slice_get, slice_index_or, Some}
 use Rattle.plane_rect.specs.Rectangle.{Rectangle, meet}
-use Rattle.plane_rect.specs.Tile.{Tile, tile_square}
+use Rattle.plane_rect.specs.Tile.{Tile, tile_square, meets}
 use Rattle.pixel_formats.specs.Format.{pixel_bytes}
 use Rattle.model_graphs.specs.declared.node.NodeFact.{NodeFact}
 use Rattle.model_graphs.specs.Evaluation.{Buffers}
@@ -10,7 +10,6 @@ use Rattle.model_graphs.specs.Meanings.{Meanings}
 use Rattle.model_graphs.specs.Node.{Apply}
 use Rattle.model_graphs.specs.Shapes.{Shape, no_shape}
 use Rattle.model_states.specs.Cache.{pair_bytes, pair_of}
-use Rattle.model_states.specs.Regions.{meets}
 use Rattle.model_states.specs.Serving.{IsSourceAt}
 use Rattle.model_states.specs.State.{Scene}
 use Rattle.model_states.specs.Valid.{input_boxes, steps_of}

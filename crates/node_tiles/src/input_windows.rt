@@ -4,20 +4,19 @@ ghost use Rattle.std.specs.Prelude.{◌≡◌, ◌≤◌, IfErr, IfOk, length};
 ghost use Rattle.chain_owners.specs.Counts.{Grows};
 ghost use Rattle.plane_rect.specs.Tile.{tiles};
 ghost use Rattle.pixel_formats.specs.Limits.{max_nodes};
-ghost use Rattle.swap_store.specs.Cause.{HasSwapCause};
+ghost use Rattle.chain_owners.specs.Cause.{HasSwapCause};
 ghost use Rattle.op_contracts.specs.TileList.{tiles_in};
 ghost use Rattle.roi_planner.specs.Inputs.{SuitsInputs};
 ghost use Rattle.node_tiles.specs.Inputs.{AreInputTiles, AreInputWindows, AreInputsThere, AreThere, IsInputTile, IsInputWindow, IsThere};
 ghost use Rattle.node_tiles.specs.Reads.{Reads, seen};
 
 use crate::strip_tiles::StripTiles;
-use chain_owners::ChainMeaning;
+use chain_owners::{ChainMeaning, SwapRefused};
 use model_graphs::{Body, NodeFact};
 use op_contracts::{OpKit, SourceTiles, Window, WindowTiles};
 use plane_rect::{Rect, TileAt};
 use roi_planner::NodeInputs;
 use std::alloc::Global;
-use swap_store::SwapRefused;
 use tile_cow::Tile;
 
 /// Returns a tile of a node of this body: a share of the held one, or the tile of a source's buffer.

@@ -5,8 +5,8 @@ ghost use Rattle.std.specs.Option.{option_copied};
 ghost use Rattle.indexmap.specs.IndexMap.{insert_entry};
 ghost use Rattle.node_tiles.specs.Held.{held_bytes, node_tile, same_node_tile};
 
+use alloc_basics::NoMemory;
 use indexmap::IndexMap;
-use no_memory::NoMemory;
 use plane_rect::TileAt;
 use std::alloc::Global;
 use std::marker::Model;

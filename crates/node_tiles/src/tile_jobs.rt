@@ -5,7 +5,7 @@ ghost use Rattle.chain_owners.specs.Counts.{Grows};
 ghost use Rattle.model_images.specs.{Paint.cut, Raw.tile_bytes};
 ghost use Rattle.model_graphs.specs.{Evaluation.Buffers, Facts.shapes_of_facts, Permits.Spent};
 ghost use Rattle.model_states.specs.Valid.{AreStated};
-ghost use Rattle.swap_store.specs.Cause.{HasSwapCause};
+ghost use Rattle.chain_owners.specs.Cause.{HasSwapCause};
 ghost use Rattle.op_contracts.specs.Applying.{result_of_windows};
 ghost use Rattle.roi_planner.specs.Inputs.{all_inputs};
 ghost use Rattle.node_tiles.specs.Jobs.{IsApplicable, IsTileJob, job_bytes};
@@ -14,17 +14,15 @@ ghost use Rattle.node_tiles.specs.Stated.{AreTilesOf, HaveLengths, IsReady, byte
 
 use crate::input_windows::input_windows;
 use crate::strip_tiles::StripTiles;
-use chain_owners::ChainMeaning;
+use alloc_basics::NoMemory;
+use chain_owners::{ChainMeaning, SwapRefused};
 use model_graphs::{Body, NodeFact};
-use no_memory::NoMemory;
 use op_contracts::{OpKit, SourceTiles, Window};
-use plane_rect::{Rect, TileAt};
+use plane_rect::{Rect, TileAt, tile_part};
 use roi_planner::NodeInputs;
 use std::alloc::Global;
 use std::marker::Model;
-use swap_store::SwapRefused;
 use tile_cow::Tile;
-use tile_parts::tile_part;
 
 /// How many pixels a tile has.
 const TILE_PIXELS: u64 = 64 * 64;

@@ -6,7 +6,7 @@ use Rattle.std.proofs.lemmas.List.{get_or-append_right, get_or_append_left, get_
 use Rattle.plane_rect.specs.Rectangle.{Includes, Rectangle}
 use Rattle.plane_rect.specs.Tile.{tile_at, tile_of}
 use Rattle.model_graphs.specs.Windows.{IsWholeWindow, Window, tiles_of, window_image}
-use Rattle.tile_lines.specs.Lines.{AreLineTiles, HasLine}
+use Rattle.patch_abyss.specs.Lines.{AreLineTiles, HasLine}
 use Rattle.op_contracts.specs.HeldBytes.{HasTiles}
 use Rattle.op_contracts.proofs.Shown.{found-long, shown-of}
 

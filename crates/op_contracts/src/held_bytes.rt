@@ -4,14 +4,14 @@ ghost use Rattle.std.specs.Prelude.{◌≡◌, ◌≤◌, IfOk, IfSome, false, m
 ghost use Rattle.plane_rect.specs.Rectangle.{InLimits, Includes, area, is_empty};
 ghost use Rattle.plane_rect.specs.Tile.{last_tile};
 ghost use Rattle.model_graphs.specs.Windows.{IsWholeWindow, window_image};
-ghost use Rattle.tile_lines.specs.Lines.{HasFirstPixels};
+ghost use Rattle.patch_abyss.specs.Lines.{HasFirstPixels};
 ghost use Rattle.op_contracts.specs.HeldBytes.{HasTiles};
 
 use crate::window::Window;
-use no_memory::NoMemory;
+use alloc_basics::NoMemory;
+use patch_abyss::add_line;
 use plane_rect::{Rect, TILE_SIDE, TileAt};
 use std::alloc::Global;
-use tile_lines::add_line;
 
 /// Returns the raw bytes of what a window shows over a part of the input's box, and None where it
 /// lacks a tile there. Takes time in proportion to the part's pixels and to the number of tiles.

@@ -7,8 +7,8 @@ ghost use Rattle.model_graphs.specs.{Meanings.result_box, Permits.Takes, Windows
 ghost use Rattle.op_contracts.specs.Applying.{CopiesInput, HaveRequired, IsInOneTile, bounds_of, result_of_windows, window_bounds, window_formats};
 
 use crate::window::Window;
+use alloc_basics::NoMemory;
 use model_graphs::OpMeaning;
-use no_memory::NoMemory;
 use patch_abyss::Patch;
 use pixel_formats::Format;
 use plane_rect::Rect;

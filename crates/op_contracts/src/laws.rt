@@ -7,8 +7,9 @@ ghost use Rattle.plane_rect.specs.Rectangle.{InLimits, Includes, IsRectangle, Re
 ghost use Rattle.model_images.specs.{Image.Image, Paint.cut};
 ghost use Rattle.model_graphs.specs.Meanings.{boxes_of, formats_of, result_box, result_of};
 ghost use Rattle.model_graphs.specs.Windows.{AreWindowsOf, IsWholeWindow, IsWindowOf, Window, window_image};
-ghost use Rattle.swap_store.specs.{Cause.HasSwapCause, declared.refusal.SwapRefused.SwapRefused as Refusal};
-ghost use Rattle.swap_store.specs.declared.refusal.SwapRefused.TheVariants.{NoMemory};
+ghost use Rattle.chain_owners.specs.Cause.{HasSwapCause};
+ghost use Rattle.chain_owners.specs.declared.swap_refused.SwapRefused.{SwapRefused as Refusal};
+ghost use Rattle.chain_owners.specs.declared.swap_refused.SwapRefused.TheVariants.{NoMemory};
 ghost use Rattle.op_contracts.specs.Applying.{HaveRequired, IsInOneTile, bounds_of, result_of_windows, window_bounds, window_formats};
 
 use crate::source_tiles::SourceTiles;

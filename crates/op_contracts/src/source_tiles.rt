@@ -5,12 +5,11 @@ ghost use Rattle.chain_owners.specs.Owners.{IsFramed, Owns, Respects};
 ghost use Rattle.chain_owners.specs.{Counts.Grows, Held.Held};
 ghost use Rattle.model_graphs.specs.Facts.{Facts, fact_of};
 ghost use Rattle.model_graphs.specs.Evaluation.{Buffers};
-ghost use Rattle.swap_store.specs.Cause.{HasSwapCause};
+ghost use Rattle.chain_owners.specs.Cause.{HasSwapCause};
 ghost use Rattle.op_contracts.specs.Sources.{AreExposed, HasBufferLength, IsFramedCondition, IsTileOf};
 
-use chain_owners::ChainMeaning;
+use chain_owners::{ChainMeaning, SwapRefused};
 use plane_rect::{Name, TileAt};
-use swap_store::SwapRefused;
 use tile_cow::Tile;
 
 /// Gives the tiles of buffers. It may hold names of the chain that its calls are lent, each some number

@@ -10,8 +10,8 @@ ghost use Rattle.model_graphs.specs.Windows.{IsWholeWindow, tiles_of, window_ima
 
 use crate::held_bytes::held_bytes;
 use crate::window_tiles::WindowTiles;
+use alloc_basics::NoMemory;
 use model_images::raw_bytes::are_bytes;
-use no_memory::NoMemory;
 use patch_abyss::{Patch, sample_at};
 use pixel_formats::Format;
 use plane_rect::{Rect, TileAt, plane_index};

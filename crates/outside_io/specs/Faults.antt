@@ -1,9 +1,5 @@
 -- Counts of I/O errors. One stays at the last value of its type.
-use Rattle.std.specs.Prelude.{ℕ, ◌+◌, ◌-◌, ◌^◌, ◌≤◌, Bool, min, if◌then◌else◌}
-
--- the count rose by one at least, or stays at the last value of its type
-abbrev pub Rose : ℕ → ℕ → Type 0
-Rose before now = min (before + 1) (2 ^ 64 - 1) ≤ now
+use Rattle.std.specs.Prelude.{ℕ, ◌+◌, ◌-◌, ◌^◌, Bool, min, if◌then◌else◌}
 
 -- a count after one more
 abbrev pub raised : ℕ → ℕ

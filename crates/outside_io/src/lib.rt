@@ -23,6 +23,7 @@ mod sure_sink;
 mod sure_swap;
 mod swap;
 
+pub use alloc_basics::NoMemory;
 pub use file_name::is_file_name;
 pub use file_swap::FileSwap;
 pub use folder_shelf::FolderShelf;
@@ -32,7 +33,6 @@ pub use meet_gate::MeetGate;
 pub use mem_shelf::MemShelf;
 pub use mem_sink::MemSink;
 pub use mem_swap::MemSwap;
-pub use no_memory::NoMemory;
 pub use shelf::{Shelf, ShelfAnswer};
 pub use sink::{Sink, SinkAnswer};
 pub use std_sink::StdSink;

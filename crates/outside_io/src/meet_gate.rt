@@ -1,7 +1,7 @@
 //! A gate at which viewers and an editor wait for one another.
 
 use crate::gate::Gate;
-use no_memory::NoMemory;
+use alloc_basics::NoMemory;
 use std::alloc::Global;
 use std::sync::atomic::{AtomicBool, AtomicU64, Ordering};
 use std::thread;

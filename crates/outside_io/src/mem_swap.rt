@@ -8,7 +8,7 @@ ghost use Rattle.outside_io.specs.Swap.{ReadsBlock, WritesBlock};
 use crate::failing_calls::FailingCalls;
 use crate::stored_blocks::StoredBlocks;
 use crate::swap::{SwapAnswer, SwapDisk};
-use no_memory::NoMemory;
+use alloc_basics::NoMemory;
 use std::alloc::Global;
 use std::marker::Model;
 

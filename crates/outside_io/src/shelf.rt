@@ -4,9 +4,11 @@ ghost use Rattle.std.specs.Prelude.{◌≡◌, ℕ, ◌≤◌, Option, IfOk, IfS
 ghost use Rattle.std.specs.Thread.{IsSync};
 ghost use Rattle.outside_io.specs.Files.{Files, file};
 ghost use Rattle.outside_io.specs.Shelf.{Answers, AppendLeaves, GivesPart, TakesAtMost, WriteLeaves};
-ghost use Rattle.outside_io.specs.{FileName.is_file_name, Faults.Rose, declared.shelf.ShelfAnswer.TheVariants.NoMemory};
+ghost use Rattle.outside_io.specs.FileName.{is_file_name};
+ghost use Rattle.outside_io.specs.declared.shelf.ShelfAnswer.TheVariants.{NoMemory};
+ghost use Rattle.chain_owners.specs.Counts.{Rose};
 
-use no_memory::OutOfMemory;
+use alloc_basics::OutOfMemory;
 use std::thread::Threads;
 use thiserror::Error;
 use worker_pieces::Workers;

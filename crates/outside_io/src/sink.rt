@@ -1,9 +1,11 @@
 //! Sinks: where texts go.
 
 ghost use Rattle.std.specs.Prelude.{◌≡◌, ℕ, ◌≤◌, List, Option, IsErrOf};
-ghost use Rattle.outside_io.specs.{Faults.Rose, Sink.Puts, declared.sink.SinkAnswer.TheVariants.NoMemory};
+ghost use Rattle.outside_io.specs.Sink.{Puts};
+ghost use Rattle.outside_io.specs.declared.sink.SinkAnswer.TheVariants.{NoMemory};
+ghost use Rattle.chain_owners.specs.Counts.{Rose};
 
-use no_memory::OutOfMemory;
+use alloc_basics::OutOfMemory;
 use thiserror::Error;
 
 /// Why a sink did not take a piece.

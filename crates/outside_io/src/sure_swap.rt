@@ -5,7 +5,7 @@ ghost use Rattle.outside_io.specs.StoredBlocks.{zero_blocks};
 
 use crate::stored_blocks::StoredBlocks;
 use crate::swap::{SwapAnswer, SwapDisk};
-use no_memory::NoMemory;
+use alloc_basics::NoMemory;
 use std::alloc::Global;
 use std::marker::Model;
 

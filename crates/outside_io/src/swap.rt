@@ -3,7 +3,7 @@
 ghost use Rattle.std.specs.Prelude.{◌≡◌, ℕ, ◌+◌, ◌/◌, ◌%◌, ◌<◌, ◌≤◌, ◌^◌, List, Option, IfSome, IsErrOf, OnOk, length};
 ghost use Rattle.std.specs.Borrow.{GName};
 ghost use Rattle.outside_io.specs.Swap.{Blocks, ReadsBlock, UnchangedOutside, WritesBlock, bytes_of_blocks};
-ghost use Rattle.outside_io.specs.Faults.{Rose};
+ghost use Rattle.chain_owners.specs.Counts.{Rose};
 
 use crate::stored_blocks::BLOCK_BYTES;
 use thiserror::Error;

@@ -12,3 +12,6 @@ pub mod ReadPixels
 pub mod Bands
 pub mod FilledRows
 pub mod HalvedRows
+pub mod FirstPixels
+pub mod LineRows
+pub mod Encoded

@@ -1,3 +1,5 @@
 pub mod Copied
 pub mod Fetched
 pub mod Rows
+pub mod Lines
+pub mod Samples

@@ -9,7 +9,7 @@ ghost use Rattle.patch_abyss.specs.Fetched.{RowsFilled};
 
 use crate::patch::{Patch, byte_count, has_rows};
 use crate::reading::read_row;
-use no_memory::NoMemory;
+use alloc_basics::NoMemory;
 use pixel_formats::Abyss;
 use plane_rect::{PLANE_ORIGIN, Rect};
 use sample_rows::row_average4;

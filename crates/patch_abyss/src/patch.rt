@@ -13,7 +13,7 @@ ghost use Rattle.patch_abyss.specs.declared.patch.PatchRefused.TheVariants.{NoMe
 ghost use Rattle.patch_abyss.specs.Rows.{HasWholeRows};
 
 use crate::rows::{LONG_ROW, Rows, copy_meet, cut_rows};
-use no_memory::NoMemory;
+use alloc_basics::NoMemory;
 use pixel_formats::Format;
 use plane_rect::{Rect, TileAt, plane_index};
 use std::alloc::{AllocError, Global};

@@ -12,7 +12,7 @@ use crate::fill::{RowParts, cycle, fill_sides, repeat, wrap_rows};
 use crate::outside::{Repetition, outside_pixel, repeated_rows, source_rows, wrapped};
 use crate::patch::{Patch, byte_count};
 use crate::rows::{Rows, copy_rows};
-use no_memory::NoMemory;
+use alloc_basics::NoMemory;
 use pixel_formats::{Abyss, Format};
 use plane_rect::Rect;
 use std::alloc::Global;

@@ -1,6 +1,6 @@
 //! The samples of one pixel.
 
-use item_lists::ItemList;
+use alloc_basics::ItemList;
 
 /// The samples of a pixel, one for each channel in the order of its format. A clause sees them as
 /// their list.

@@ -5,10 +5,10 @@ ghost use Rattle.model_graphs.specs.Facts.{specs_of};
 ghost use Rattle.model_states.specs.Cache.{all_looked_up, find_pair, itself, looked_up, needed_pairs, pair_of, recent_of, same_pair, without_pair};
 ghost use Rattle.plain_graphs.specs.Needs.{AreBelow, AreStripsBelow};
 
+use alloc_basics::NoMemory;
 use model_graphs::NodeFact;
 use model_operations::IntOp;
 use model_states::Strip;
-use no_memory::NoMemory;
 use plane_rect::{Name, TileAt};
 use std::alloc::Global;
 use std::marker::Model;

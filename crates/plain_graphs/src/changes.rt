@@ -8,21 +8,23 @@ ghost use Rattle.model_graphs.specs.Node.{index_of};
 ghost use Rattle.model_operations.specs.Meanings.{int_meanings, same_operation};
 ghost use Rattle.model_states.specs.Cache.{itself, without_damaged};
 ghost use Rattle.model_states.specs.Damage.{damage, damage_list, damage_of_node, damage_passed_on, damages, gone_names, have_same_shapes, inputs_of, invalidated_by, is_unedited, known_damage, new_boxes, same_body, same_names, same_shape, side_shape};
-ghost use Rattle.model_states.specs.{Rectangles.rectangle_of, Regions.meets, State.node_of, Valid.node_names};
+ghost use Rattle.model_states.specs.Rectangles.{rectangle_of};
+ghost use Rattle.model_states.specs.State.{node_of};
+ghost use Rattle.model_states.specs.Valid.{node_names};
+ghost use Rattle.plane_rect.specs.Tile.{meets};
 
 use crate::cache::Pair;
 use crate::graph::{Graph, Shape};
 use crate::names::{buffer_of, fact_index};
 use crate::shapes::stated_at;
 use crate::tiles::hull_of;
+use alloc_basics::NoMemory;
 use model_graphs::{Body, NodeSpec};
 use model_operations::IntOp;
-use no_memory::NoMemory;
 use operation_regions::invalidated;
-use plane_rect::{Name, Rect};
+use plane_rect::{Name, Rect, meets};
 use std::alloc::Global;
 use std::marker::Model;
-use tile_parts::meets;
 
 /// Two graphs of which one follows the other, and the rectangles of root buffers that separate them:
 /// a root that is not listed has not changed. A clause sees the change from the one to the other.

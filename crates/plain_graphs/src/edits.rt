@@ -9,10 +9,10 @@ ghost use Rattle.model_states.specs.Edits.{edit_refused, reads_earlier, reads_no
 ghost use Rattle.plain_graphs.specs.Edits.{answer_of};
 
 use crate::names::{buffer_of, has_node, index_of};
+use alloc_basics::NoMemory;
 use model_graphs::{Body, BufferFact, NodeEdit, NodeSpec};
 use model_operations::IntOp;
 use model_states::StateRefused;
-use no_memory::NoMemory;
 use pixel_formats::limits::MAX_NODES;
 use plane_rect::Name;
 use std::alloc::Global;

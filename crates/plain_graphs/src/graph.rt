@@ -6,9 +6,9 @@ ghost use Rattle.model_operations.specs.Meanings.{int_meanings};
 ghost use Rattle.model_states.specs.{Commits.side_of, Valid.stated};
 
 use crate::shapes::node_shapes;
+use alloc_basics::NoMemory;
 use model_graphs::{BufferFact, NodeFact, NodeSpec};
 use model_operations::IntOp;
-use no_memory::NoMemory;
 use pixel_formats::Format;
 use plane_rect::Rect;
 use std::alloc::Global;

@@ -5,9 +5,9 @@ ghost use Rattle.model_graphs.specs.Facts.{fact_of, specs_of};
 ghost use Rattle.model_graphs.specs.Node.{index_of};
 ghost use Rattle.model_states.specs.Edits.{has_node};
 
+use alloc_basics::NoMemory;
 use model_graphs::{BufferFact, NodeFact, NodeSpec};
 use model_operations::IntOp;
-use no_memory::NoMemory;
 use plane_rect::Name;
 use std::alloc::Global;
 

@@ -13,14 +13,13 @@ ghost use Rattle.plain_graphs.specs.Needs.{AreBelow, AreStripsBelow, asked_of_ti
 use crate::names::fact_index;
 use crate::shapes::stated_at;
 use crate::tiles::tiles_of_any;
+use alloc_basics::NoMemory;
 use model_graphs::{Body, NodeFact};
 use model_operations::IntOp;
 use model_states::{NeedList, Strip};
-use no_memory::NoMemory;
 use operation_regions::required;
-use plane_rect::{Name, Rect, TileAt};
+use plane_rect::{Name, Rect, TileAt, strip_rects, tile_part};
 use std::alloc::Global;
-use tile_parts::{strip_rects, tile_part};
 
 /// Returns what is needed for a rectangle of the node at a position: a strip for each row of tiles
 /// that it meets, from the top.

@@ -9,9 +9,9 @@ ghost use Rattle.model_states.specs.Valid.{input_boxes, input_formats, operation
 
 use crate::graph::Shape;
 use crate::names::{buffer_of, indices_of};
+use alloc_basics::NoMemory;
 use model_graphs::{Body, BufferFact, NodeFact, NodeSpec};
 use model_operations::IntOp;
-use no_memory::NoMemory;
 use operation_regions::{box_of, format_of};
 use pixel_formats::Format;
 use plane_rect::{Name, Rect};

@@ -2,12 +2,12 @@
 
 ghost use Rattle.std.specs.Prelude.{◌≡◌, IfOk};
 ghost use Rattle.std.specs.List.{list_any};
-ghost use Rattle.model_states.specs.Regions.{hull_of, meets, tiles_of_any};
+ghost use Rattle.model_states.specs.Regions.{hull_of, tiles_of_any};
+ghost use Rattle.plane_rect.specs.Tile.{meets};
 
-use no_memory::NoMemory;
-use plane_rect::{Rect, TileAt};
+use alloc_basics::NoMemory;
+use plane_rect::{Rect, TileAt, meets};
 use std::alloc::Global;
-use tile_parts::meets;
 
 /// Returns the hull of all of these.
 pub(crate) fn hull_of(rects: &[Rect]) -> Rect

@@ -10,8 +10,8 @@ ghost use Rattle.plain_images.specs.Evaluation.{AreTaken, IsTaken, graph_step, i
 
 use crate::picture::{Picture, no_picture};
 use crate::results::result_of;
+use alloc_basics::NoMemory;
 use model_operations::IntOp;
-use no_memory::NoMemory;
 use plane_rect::Name;
 use std::alloc::Global;
 

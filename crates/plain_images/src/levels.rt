@@ -6,7 +6,7 @@ ghost use Rattle.model_images.specs.Level.{doubled, halved_image, level, mean_at
 
 use crate::formulas::mean_of_four;
 use crate::picture::{Picture, Samples, draw};
-use no_memory::NoMemory;
+use alloc_basics::NoMemory;
 use pixel_formats::Format;
 use plane_rect::PLANE_ORIGIN;
 use std::alloc::Global;

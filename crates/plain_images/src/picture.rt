@@ -8,7 +8,7 @@ ghost use Rattle.model_images.specs.Image.{at, image_from_fn, sampled};
 ghost use Rattle.model_images.specs.Paint.{no_image};
 ghost use Rattle.plain_images.specs.Picture.{AreSamples, IsPicture, IsPosition};
 
-use no_memory::NoMemory;
+use alloc_basics::NoMemory;
 use pixel_formats::Format;
 use plane_rect::Rect;
 use std::alloc::Global;

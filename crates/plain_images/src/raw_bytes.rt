@@ -12,7 +12,7 @@ ghost use Rattle.plain_images.specs.Picture.{AreSamples};
 
 use crate::picture::{Picture, Samples, draw, sample_all};
 use crate::policies::Read;
-use no_memory::NoMemory;
+use alloc_basics::NoMemory;
 use pixel_formats::{Abyss, Format};
 use plane_rect::Rect;
 use std::alloc::Global;

@@ -12,8 +12,8 @@ use crate::pixels::{
     cap_at, checker_at, converted_at, flipped_at, masked_at, over_at, recolored, source_index,
 };
 use crate::windows::Window;
+use alloc_basics::NoMemory;
 use model_operations::IntOp;
-use no_memory::NoMemory;
 use operation_regions::{box_of, format_of};
 use pixel_formats::Format;
 use plane_rect::Rect;

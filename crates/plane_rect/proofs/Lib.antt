@@ -6,3 +6,4 @@ pub mod Names
 pub mod RectangleLaws
 pub mod Rectangles
 pub mod TileLists
+pub mod Rows

@@ -1,10 +1,11 @@
 -- Tiles of positions, in natural numbers: a tile's column and row count from the plane's upper left corner, 64 positions a
 -- tile. So the column of a tx is tx + 2^18.
-use Rattle.std.specs.Prelude.{◌≡◌, ℕ, zero, suc, ◌+◌, ◌-◌, ◌*◌, ◌/◌, ◌^◌, ◌<◌, ◌≤◌, ◌⊎◌, ◌&&◌, ◌==◌, Bool, nat_lt, if◌then◌else◌, ℤ, pos, negsuc, ◌-ℤ◌, ◌≤ℤ◌, List, [], ◌∷◌, ◌++◌}
+use Rattle.std.specs.Prelude.{◌≡◌, ℕ, zero, suc, ◌+◌, ◌-◌, ◌*◌, ◌/◌, ◌^◌, ◌<◌, ◌≤◌, ◌⊎◌, ◌&&◌, ◌==◌, Bool, nat_lt, if◌then◌else◌, ℤ, pos, negsuc, ◌-ℤ◌, ◌≤ℤ◌, List, [], ◌∷◌, ◌++◌, map}
 use Rattle.std.specs.Int.{div_ceil}
+use Rattle.std.specs.List.{range_with_len}
 use Rattle.std.specs.Ordering.{nat_cmp, on, then_cmp}
 use Rattle.std.specs.declared.cmp.Ordering.{Ordering}
-use Rattle.plane_rect.specs.Rectangle.{Rectangle, Inside, plane_side, meet, end_column, end_row}
+use Rattle.plane_rect.specs.Rectangle.{Rectangle, Inside, plane_side, meet, end_column, end_row, has_positions}
 
 -- how many columns, and how many rows, a tile has
 abbrev pub tile_side : ℕ
@@ -128,3 +129,16 @@ pub record AreLeft (first end column row end_tile_row : ℕ) : Type 0 where
   pub in_rows : end_tile_row ≤ last_tile
   pub after_first : row < end_tile_row → first ≤ column
   pub before_end : row < end_tile_row → column < end
+
+-- some position of the rectangle is in the tile
+abbrev pub meets : Tile → Rectangle → Bool
+meets t r = has_positions (meet (tile_square t) r)
+
+-- all positions of a row of tiles
+abbrev pub tile_line : ℕ → Rectangle
+tile_line row = record { first_column = 0; first_row = tile_side * row; width = plane_side; height = tile_side }
+
+-- a request cut at the rows of tiles that it meets, from the top
+abbrev pub strip_rectangles : Rectangle → List Rectangle
+strip_rectangles request =
+    map (λ row. meet request (tile_line row)) (range_with_len (tile_of request.first_row) (tile_lines request))

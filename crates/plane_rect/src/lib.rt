@@ -8,6 +8,7 @@ mod plane;
 mod rect;
 mod sets;
 mod tile;
+mod tile_parts;
 
 pub use name::Name;
 pub use name_list::NameList;
@@ -15,3 +16,4 @@ pub use plane::{PLANE_ORIGIN, PLANE_SIDE, plane_index};
 pub use rect::{Rect, RectRefused};
 pub use sets::Parts;
 pub use tile::{TILE_SIDE, TileAt, Tiles};
+pub use tile_parts::{meets, strip_rects, tile_part};

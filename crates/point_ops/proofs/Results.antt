@@ -24,7 +24,7 @@ use Rattle.model_operations.specs.declared.operation.IntOp.{IntOp}
 use Rattle.model_operations.specs.declared.operation.IntOp.TheVariants.{Color, Checker, Convert, Invert, Threshold, Gain, Translate, Crop, Flip, BoxMean, Dilate, Erode, Add, Over, Mask}
 use Rattle.op_contracts.specs.Applying.{IsInOneTile, result_of_windows, window_bounds, window_formats, window_images}
 use Rattle.op_contracts.proofs.Limits.{InLimits-in_tile}
-use Rattle.solid_patches.specs.Samples.{IsSampleOf}
+use Rattle.patch_abyss.specs.Samples.{IsSampleOf}
 
 -- ---- the formats of results
 

@@ -13,12 +13,11 @@ use crate::checker::checker_part;
 use crate::combine::{Combination, combined_part};
 use crate::flip::flipped_part;
 use crate::moves::translated_part;
+use alloc_basics::NoMemory;
 use model_operations::IntOp;
-use no_memory::NoMemory;
 use op_contracts::Window;
-use patch_abyss::Patch;
+use patch_abyss::{Patch, solid_patch};
 use plane_rect::Rect;
-use solid_patches::solid_patch;
 use std::alloc::Global;
 
 /// Returns a part of the result that an operation gives of the images that windows show. The part is

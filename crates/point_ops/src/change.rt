@@ -10,7 +10,7 @@ ghost use Rattle.point_ops.specs.Changes.{HasDivisor, changed_format, changed_pi
 
 use crate::part_bytes::part_bytes;
 use crate::patches::pixel_count;
-use no_memory::NoMemory;
+use alloc_basics::NoMemory;
 use op_contracts::Window;
 use patch_abyss::Patch;
 use pixel_formats::Format;

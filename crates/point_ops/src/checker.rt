@@ -8,13 +8,12 @@ ghost use Rattle.pixel_formats.specs.Row.{pixel_at};
 ghost use Rattle.model_images.specs.Image.{image_from_fn};
 ghost use Rattle.model_operations.specs.Values.{checker_pixel, square_number};
 ghost use Rattle.point_ops.specs.Generated.{IsCheckerboard, by_square, opaque_pixel};
-ghost use Rattle.solid_patches.specs.Samples.{IsSampleOf};
+ghost use Rattle.patch_abyss.specs.Samples.{IsSampleOf};
 
-use no_memory::NoMemory;
-use patch_abyss::Patch;
+use alloc_basics::NoMemory;
+use patch_abyss::{Patch, raw_pixel};
 use pixel_formats::Format;
 use plane_rect::{PLANE_ORIGIN, Rect};
-use solid_patches::raw_pixel;
 use std::alloc::Global;
 use std::ops::Range;
 

@@ -9,7 +9,7 @@ ghost use Rattle.model_graphs.specs.Windows.{IsWholeWindow, window_image};
 ghost use Rattle.point_ops.specs.Combinations.{Suit, combined_pixel};
 
 use crate::part_bytes::part_bytes;
-use no_memory::NoMemory;
+use alloc_basics::NoMemory;
 use op_contracts::Window;
 use patch_abyss::Patch;
 use pixel_formats::Format;

@@ -12,7 +12,7 @@ ghost use Rattle.point_ops.specs.Flipped.{chunk_from_end, flipped_index, mirrore
 
 use crate::part_bytes::part_bytes;
 use crate::patches::pixel_count;
-use no_memory::NoMemory;
+use alloc_basics::NoMemory;
 use op_contracts::Window;
 use patch_abyss::Patch;
 use pixel_formats::Format;

@@ -9,7 +9,7 @@ ghost use Rattle.point_ops.specs.Moved.{moved_source};
 
 use crate::part_bytes::part_bytes;
 use crate::patches::patch_of_slice;
-use no_memory::NoMemory;
+use alloc_basics::NoMemory;
 use op_contracts::Window;
 use patch_abyss::Patch;
 use plane_rect::Rect;

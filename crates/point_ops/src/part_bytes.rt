@@ -5,7 +5,7 @@ ghost use Rattle.plane_rect.specs.{Rectangle.InLimits, Tile.tile_square};
 ghost use Rattle.model_graphs.specs.Windows.{IsWholeWindow, window_image};
 ghost use Rattle.point_ops.specs.PartBytes.{AreRawBytesOf, bytes_of};
 
-use no_memory::NoMemory;
+use alloc_basics::NoMemory;
 use op_contracts::Window;
 use patch_abyss::Patch;
 use plane_rect::{Rect, TileAt};

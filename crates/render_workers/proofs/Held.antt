@@ -7,14 +7,14 @@ use Rattle.std.proofs.lemmas.Bool.Decides.{nat_tests}
 use Rattle.std.proofs.lemmas.List.{length-map, length-reverse, length-take, reverse-append}
 use Rattle.std.proofs.lemmas.Option.{same_Some, slice_get-get_or}
 use Rattle.plane_rect.specs.Rectangle.{Rectangle, empty, hull, meet}
-use Rattle.plane_rect.specs.Tile.{Meets, Tile, tiles}
+use Rattle.plane_rect.specs.Tile.{Meets, Tile, tiles, meets}
 use Rattle.plane_rect.proofs.RectangleLaws.{Includes-hull_left}
 use Rattle.model_graphs.specs.declared.node.NodeFact.{NodeFact}
 use Rattle.model_graphs.specs.Facts.{specs_of, stated_shapes}
 use Rattle.model_graphs.specs.Meanings.{Meanings}
 use Rattle.model_graphs.specs.Node.{Apply, FromBuffer, Node, Step, step_of}
 use Rattle.model_states.specs.Need.{Asked, Needed, asked_of, needed, needed_of, strip_of}
-use Rattle.model_states.specs.Regions.{meets, tiles_of_any}
+use Rattle.model_states.specs.Regions.{tiles_of_any}
 use Rattle.model_states.specs.Serving.{IsSourceAt}
 use Rattle.model_states.specs.Valid.{steps_of}
 use Rattle.model_states.proofs.Members.{Member, member-filter, member-map, member-right}

@@ -4,8 +4,8 @@ use Rattle.model_graphs.specs.declared.node.NodeFact.{NodeFact}
 use Rattle.model_graphs.specs.Meanings.{Meanings}
 use Rattle.model_states.specs.Cache.{AreRight, Counted, Pair, all_looked_up, by_pair, itself, uncounted, with_bytes}
 use Rattle.model_states.proofs.CacheLaws.{counts_add_up}
-use Rattle.swap_store.specs.Cause.{HasSwapCause}
-use Rattle.swap_store.specs.declared.refusal.SwapRefused.{SwapRefused}
+use Rattle.chain_owners.specs.Cause.{HasSwapCause}
+use Rattle.chain_owners.specs.declared.swap_refused.SwapRefused.{SwapRefused}
 use Rattle.node_cache.specs.Stores.{AddsNoOther, AreWithin}
 use Rattle.node_tiles.specs.Reads.{Reads}
 use Rattle.node_tiles.specs.Stated.{scene_of}

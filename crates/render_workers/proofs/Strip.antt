@@ -9,8 +9,8 @@ use Rattle.model_graphs.specs.Permits.{Spent}
 use Rattle.model_states.specs.Cache.{AreRight, Cached, Counted, Pair, all_looked_up, itself, pair_of, uncounted}
 use Rattle.model_states.specs.Need.{Needed}
 use Rattle.model_states.proofs.CacheLaws.{counts_add_up}
-use Rattle.swap_store.specs.Cause.{HasSwapCause}
-use Rattle.swap_store.specs.declared.refusal.SwapRefused.{SwapRefused}
+use Rattle.chain_owners.specs.Cause.{HasSwapCause}
+use Rattle.chain_owners.specs.declared.swap_refused.SwapRefused.{SwapRefused}
 use Rattle.node_cache.specs.Stores.{HaveOneOwner}
 use Rattle.node_tiles.specs.Held.{HeldTiles}
 use Rattle.node_tiles.specs.Stated.{scene_of}

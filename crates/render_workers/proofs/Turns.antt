@@ -6,14 +6,14 @@ use Rattle.std.proofs.lemmas.List.{length-map}
 use Rattle.std.proofs.lemmas.List.Elements.{All-drop, recursion_from_All}
 use Rattle.std.proofs.lemmas.Option.{same_Some, slice_get-get_or}
 use Rattle.plane_rect.specs.Rectangle.{InLimits, Rectangle, meet}
-use Rattle.plane_rect.specs.Tile.{tile_lines, tile_of}
+use Rattle.plane_rect.specs.Tile.{tile_lines, tile_of, strip_rectangles, tile_line}
 use Rattle.plane_rect.proofs.Lists.{All-from_contains}
 use Rattle.model_graphs.specs.declared.node.NodeFact.{NodeFact}
 use Rattle.model_graphs.specs.Facts.{specs_of}
 use Rattle.model_graphs.specs.Meanings.{Meanings}
 use Rattle.model_states.specs.declared.strip.Strip.{Strip}
 use Rattle.model_states.specs.Cache.{Pair, pair_of}
-use Rattle.model_states.specs.Need.{need, strip_of, strip_rectangles, tile_line}
+use Rattle.model_states.specs.Need.{need, strip_of}
 use Rattle.op_contracts.proofs.Limits.{InLimits-meet}
 use Rattle.strip_renders.specs.Ahead.{AreNext, MadeTiles}
 use Rattle.strip_renders.specs.Moments.{Moment}

@@ -1,3 +1,4 @@
 pub mod Parts
 pub mod Requests
 pub mod Refusals
+pub mod Scenes

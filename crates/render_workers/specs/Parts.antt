@@ -5,8 +5,8 @@ use Rattle.model_graphs.specs.Evaluation.{Buffers}
 use Rattle.model_graphs.specs.Meanings.{Meanings}
 use Rattle.model_graphs.specs.Permits.{Spent}
 use Rattle.model_states.specs.Cache.{AreRight, Cached, Pair, all_looked_up, itself, uncounted}
-use Rattle.swap_store.specs.Cause.{HasSwapCause}
-use Rattle.swap_store.specs.declared.refusal.SwapRefused.{SwapRefused}
+use Rattle.chain_owners.specs.Cause.{HasSwapCause}
+use Rattle.chain_owners.specs.declared.swap_refused.SwapRefused.{SwapRefused}
 use Rattle.node_cache.specs.Stores.{HaveOneOwner}
 use Rattle.node_tiles.specs.Stated.{scene_of}
 use Rattle.strip_renders.specs.Ahead.{AreMadeOf, MadeTiles}

@@ -8,8 +8,8 @@ use Rattle.model_states.specs.Edits.{has_node}
 use Rattle.model_states.specs.Need.{wide}
 use Rattle.roi_planner.specs.declared.refused.PlanRefused.{PlanRefused}
 use Rattle.roi_planner.specs.declared.refused.PlanRefused.TheVariants as plans
-use Rattle.swap_store.specs.declared.refusal.SwapRefused.{SwapRefused}
-use Rattle.swap_store.specs.declared.refusal.SwapRefused.TheVariants as swaps
+use Rattle.chain_owners.specs.declared.swap_refused.SwapRefused.{SwapRefused}
+use Rattle.chain_owners.specs.declared.swap_refused.SwapRefused.TheVariants as swaps
 use Rattle.strip_renders.specs.Moments.{Moment}
 use Rattle.render_workers.specs.declared.refused.RenderRefused.{RenderRefused}
 use Rattle.render_workers.specs.declared.refused.RenderRefused.TheVariants.{UnknownNode, Rect, Strip, SwapFault, SwapFull, NoMemory}

@@ -6,9 +6,10 @@ mod part;
 mod plan;
 mod refused;
 mod rendering;
+mod scene;
 mod strips;
 
 pub use frozen_images::{FrozenBuffer, SceneTiles};
 pub use refused::RenderRefused;
 pub use rendering::{Rendered, render};
-pub use scenes::Scene;
+pub use scene::Scene;

@@ -4,7 +4,8 @@ ghost use Rattle.std.specs.Prelude.{◌≡◌, [], ℕ, ◌+◌, ◌<◌, ◌≤
 ghost use Rattle.std.specs.List.{AllByRecursion};
 ghost use Rattle.plane_rect.specs.Rectangle.{InLimits};
 ghost use Rattle.model_graphs.specs.Evaluation.{Buffers};
-ghost use Rattle.model_states.specs.Need.{strip_of, strip_rectangles};
+ghost use Rattle.model_states.specs.Need.{strip_of};
+ghost use Rattle.plane_rect.specs.Tile.{strip_rectangles};
 ghost use Rattle.node_tiles.specs.Stated.{AreTilesOf, shape_at};
 ghost use Rattle.strip_renders.specs.Ahead.{AreMadeOf, AreNext};
 ghost use Rattle.strip_renders.specs.Moments.{AreOver, moment};
@@ -13,14 +14,13 @@ ghost use Rattle.strip_patches.specs.Shown.{AreOfOneRequest, HasStripsOf, format
 ghost use Rattle.strip_patches.specs.Nodes.{image_at};
 ghost use Rattle.render_workers.specs.Parts.{IsExcused, Leaves, LooksUp};
 
-use chain_owners::ChainMeaning;
+use chain_owners::{ChainMeaning, SwapRefused};
 use node_cache::PairStore;
 use op_contracts::{OpKit, SourceTiles};
 use roi_planner::Strip;
 use std::thread::Threads;
 use strip_patches::PictureStrips;
 use strip_renders::{AheadTiles, Evaluator, render_strip};
-use swap_store::SwapRefused;
 use worker_pieces::Workers;
 
 /// How many of the needed tiles were evaluated and how many the cache had.

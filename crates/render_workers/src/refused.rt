@@ -3,8 +3,8 @@
 ghost use Rattle.std.specs.Prelude.{◌≡◌};
 ghost use Rattle.render_workers.specs.Refusals.{by_plan, by_swap};
 
+use chain_owners::SwapRefused;
 use roi_planner::PlanRefused;
-use swap_store::SwapRefused;
 use thiserror::Error;
 
 /// Why a request is not rendered.

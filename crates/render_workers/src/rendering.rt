@@ -10,7 +10,7 @@ ghost use Rattle.model_states.specs.Cache.{AreRight, Cached, all_looked_up, itse
 ghost use Rattle.model_states.specs.Need.{need, wide};
 ghost use Rattle.model_states.specs.{Edits.has_node, Valid.AreStated};
 ghost use Rattle.model_sessions.specs.Sessions.{at_level_zero};
-ghost use Rattle.swap_store.specs.Cause.{HasSwapCause};
+ghost use Rattle.chain_owners.specs.Cause.{HasSwapCause};
 ghost use Rattle.node_cache.specs.Stores.{HaveOneOwner};
 ghost use Rattle.node_tiles.specs.Stated.{scene_of, shape_at};
 ghost use Rattle.strip_renders.specs.Moments.{AreOver, Keeps, moment};
@@ -24,16 +24,15 @@ ghost use Rattle.render_workers.specs.Requests.{IsShown, pairs_requested, reques
 use crate::plan::{RequestPlan, plan_of};
 use crate::refused::RenderRefused;
 use crate::strips::render_strips;
-use chain_owners::ChainMeaning;
+use alloc_basics::NoMemory;
+use chain_owners::{ChainMeaning, SwapRefused};
 use model_graphs::NodeFact;
-use no_memory::NoMemory;
 use node_cache::PairStore;
 use op_contracts::{OpKit, SourceTiles};
 use plane_rect::{Name, Rect};
 use std::alloc::Global;
 use std::thread::Threads;
 use strip_patches::{Picture, PictureForm, PictureStrips};
-use swap_store::SwapRefused;
 use worker_pieces::Workers;
 
 /// What a request gives: the rectangle of the level of the node's image, how many of the needed tiles

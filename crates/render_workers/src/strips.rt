@@ -4,7 +4,8 @@ ghost use Rattle.std.specs.Prelude.{◌≡◌, [], ℕ, ◌<◌, ◌≤◌, ◌^
 ghost use Rattle.plane_rect.specs.Rectangle.{InLimits};
 ghost use Rattle.model_graphs.specs.Facts.{shapes_of_facts, specs_of};
 ghost use Rattle.model_graphs.specs.Evaluation.{Buffers};
-ghost use Rattle.model_states.specs.Need.{need, strip_rectangles};
+ghost use Rattle.model_states.specs.Need.{need};
+ghost use Rattle.plane_rect.specs.Tile.{strip_rectangles};
 ghost use Rattle.model_states.specs.{Cache.needed_pairs, Valid.AreStated};
 ghost use Rattle.node_tiles.specs.Stated.{shape_at};
 ghost use Rattle.strip_renders.specs.Moments.{AreOver, moment};
@@ -14,7 +15,7 @@ ghost use Rattle.strip_patches.specs.Nodes.{image_at};
 ghost use Rattle.render_workers.specs.Parts.{IsExcused, Leaves, LooksUp};
 
 use crate::part::{LookCounts, add_part};
-use chain_owners::ChainMeaning;
+use chain_owners::{ChainMeaning, SwapRefused};
 use model_graphs::NodeFact;
 use node_cache::PairStore;
 use op_contracts::{OpKit, SourceTiles};
@@ -23,7 +24,6 @@ use std::alloc::Global;
 use std::thread::Threads;
 use strip_patches::PictureStrips;
 use strip_renders::{AheadTiles, Evaluator};
-use swap_store::SwapRefused;
 use worker_pieces::Workers;
 
 /// Renders the strips of a request for the node at a position, which are its plan, from the top, and adds each to the

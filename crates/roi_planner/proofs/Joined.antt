@@ -4,13 +4,13 @@ use Rattle.std.specs.Bool.{OnTrue}
 use Rattle.std.specs.List.{list_any}
 use Rattle.std.proofs.lemmas.List.Folds.{list_any-append}
 use Rattle.plane_rect.specs.Rectangle.{Includes, Inside, Rectangle, empty, hull, is_empty, meet}
-use Rattle.plane_rect.specs.Tile.{Meets, Tile, tile_square, tiles}
+use Rattle.plane_rect.specs.Tile.{Meets, Tile, tile_square, tiles, meets}
 use Rattle.plane_rect.proofs.Differences.{hull-minimum, no_positions}
 use Rattle.plane_rect.proofs.Lists.{Contains-first, Contains-later}
 use Rattle.plane_rect.proofs.RectangleLaws.{Includes-hull_left, Includes-hull_right}
 use Rattle.plane_rect.proofs.Rectangles.{Inside-meet}
 use Rattle.plane_rect.proofs.TileLists.{Inside-tile_square}
-use Rattle.model_states.specs.Regions.{hull_of, meets, tiles_of_any}
+use Rattle.model_states.specs.Regions.{hull_of, tiles_of_any}
 use Rattle.model_states.proofs.NeededRight.{meets_whole}
 use Rattle.model_states.proofs.RightPairs.{a_position}
 use Rattle.roi_planner.specs.Asked.{HullIsUnion, MeetSameTiles}

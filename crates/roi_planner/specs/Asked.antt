@@ -2,12 +2,12 @@
 use Rattle.std.specs.Prelude.{◌≡◌, ℕ, ◌<◌, ◌⊎◌, List, [], flat_map, length, map, slice_index_or}
 use Rattle.std.specs.List.{enumerate_from, list_any}
 use Rattle.plane_rect.specs.Rectangle.{Inside, Rectangle, hull, meet}
-use Rattle.plane_rect.specs.Tile.{Tile, tile_square}
+use Rattle.plane_rect.specs.Tile.{Tile, tile_square, meets}
 use Rattle.model_graphs.specs.declared.node.Body.{Body}
 use Rattle.model_graphs.specs.declared.node.Body.TheVariants.{Source, Compute}
 use Rattle.model_graphs.specs.Meanings.{Meanings}
 use Rattle.model_states.specs.Need.{Asked, asked_of}
-use Rattle.model_states.specs.Regions.{hull_of, meets}
+use Rattle.model_states.specs.Regions.{hull_of}
 use Rattle.roi_planner.specs.Inputs.{Inputs}
 
 -- the hull of two rectangles has no position but theirs

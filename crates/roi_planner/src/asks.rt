@@ -9,12 +9,11 @@ ghost use Rattle.roi_planner.specs.Inputs.{AreStatedOverSome, SuitsBody, SuitsIn
 
 use crate::inputs::NodeInputs;
 use crate::region::Region;
+use alloc_basics::NoMemory;
 use model_graphs::{Body, NodeFact};
-use no_memory::NoMemory;
 use op_contracts::OpKit;
-use plane_rect::{Rect, TileAt};
+use plane_rect::{Rect, TileAt, tile_part};
 use std::alloc::Global;
-use tile_parts::tile_part;
 
 /// Returns so many regions, of which nothing is asked.
 pub(crate) fn no_regions(alloc: Global, count: usize) -> Result<Vec<Region>, NoMemory>

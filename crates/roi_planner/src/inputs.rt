@@ -6,8 +6,8 @@ ghost use Rattle.model_graphs.specs.Node.{index_of};
 ghost use Rattle.model_states.specs.Valid.{input_boxes};
 ghost use Rattle.roi_planner.specs.Inputs.{all_inputs, box_at, inputs_of};
 
+use alloc_basics::NoMemory;
 use model_graphs::{Body, NodeFact};
-use no_memory::NoMemory;
 use plane_rect::{Name, Rect};
 use std::alloc::Global;
 use std::marker::Model;

@@ -8,13 +8,12 @@ use crate::inputs::all_inputs;
 use crate::need::strip_of;
 use crate::refused::PlanRefused;
 use crate::strips::StripList;
+use alloc_basics::NoMemory;
 use model_graphs::NodeFact;
 use model_states::Strip;
-use no_memory::NoMemory;
 use op_contracts::OpKit;
-use plane_rect::Rect;
+use plane_rect::{Rect, strip_rects};
 use std::alloc::Global;
-use tile_parts::strip_rects;
 
 /// Returns what is needed for a request of the node at a position: a strip for each row of tiles that
 /// it meets, from the top. Takes time in proportion to the needed tiles, and to the inputs times the

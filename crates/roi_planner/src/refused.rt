@@ -3,7 +3,7 @@
 ghost use Rattle.std.specs.Prelude.{◌≡◌};
 ghost use Rattle.roi_planner.specs.declared.refused.PlanRefused.TheVariants as refusals;
 
-use no_memory::OutOfMemory;
+use alloc_basics::OutOfMemory;
 use thiserror::Error;
 
 /// Why a request is not planned.

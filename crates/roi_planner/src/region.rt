@@ -3,15 +3,14 @@
 ghost use Rattle.std.specs.Prelude.{◌≡◌, [], ◌∷◌, ◌++◌, IfNone, IfOk, IfSome, OnOk, Contains};
 ghost use Rattle.std.specs.Bool.{OnTrue};
 ghost use Rattle.std.specs.List.{list_any};
-ghost use Rattle.plane_rect.specs.Tile.{Meets, Tile, tiles};
-ghost use Rattle.model_states.specs.Regions.{hull_of, meets, tiles_of_any};
+ghost use Rattle.plane_rect.specs.Tile.{Meets, Tile, tiles, meets};
+ghost use Rattle.model_states.specs.Regions.{hull_of, tiles_of_any};
 ghost use Rattle.roi_planner.specs.Asked.{HullIsUnion, MeetSameTiles};
 
-use no_memory::NoMemory;
-use plane_rect::{Rect, TileAt};
+use alloc_basics::NoMemory;
+use plane_rect::{Rect, TileAt, meets};
 use std::alloc::Global;
 use std::marker::Model;
-use tile_parts::meets;
 
 /// Rectangles of a node's image, of which only the tiles that they meet matter: those that are beside
 /// one another are joined. A clause sees them as a list.

@@ -1,6 +1,6 @@
 //! Lists of strips.
 
-use item_lists::ItemList;
+use alloc_basics::ItemList;
 use model_states::Strip;
 
 /// Strips of a request, from the top. A clause sees them as a list.

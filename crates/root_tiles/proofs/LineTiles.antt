@@ -17,7 +17,7 @@ use Rattle.pixel_formats.specs.declared.format.Format.{Format}
 use Rattle.plane_rect.specs.Rectangle.{Rectangle, end_column}
 use Rattle.plane_rect.specs.Tile.{tile_at, tile_end, tile_of, tile_square}
 use Rattle.plane_rect.proofs.TileLists.{Inside-tile_square}
-use Rattle.tile_lines.specs.Lines.{HasLine}
+use Rattle.patch_abyss.specs.Lines.{HasLine}
 
 -- where an image is known, bytes are those of one of its tiles
 abbrev pub IsKnownTile : Option Image → ℕ → ℕ → List ℕ → Type 0

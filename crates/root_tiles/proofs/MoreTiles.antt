@@ -24,9 +24,9 @@ use Rattle.model_images.proofs.HeldTiles.{boxes-agree}
 use Rattle.model_images.proofs.PutTiles.{around-hull, hull-is}
 use Rattle.pixel_formats.specs.declared.format.Format.{Format}
 use Rattle.plane_rect.specs.Tile.{Tile, tile_square}
-use Rattle.swap_store.specs.Cause.{HasSwapCause}
-use Rattle.swap_store.specs.declared.refusal.SwapRefused.{SwapRefused}
-use Rattle.swap_store.proofs.Causes.{cause-before, cause-more}
+use Rattle.chain_owners.specs.Cause.{HasSwapCause}
+use Rattle.chain_owners.specs.declared.swap_refused.SwapRefused.{SwapRefused}
+use Rattle.chain_owners.proofs.Causes.{cause-before, cause-more}
 use Rattle.root_tiles.specs.Growth.{HoldsMoreTiles, RootState, names_with_root_levels, root_state}
 use Rattle.root_tiles.specs.Roots.{IsRootOver, RootTiles, root_image, root_names}
 use Rattle.root_tiles.proofs.HullTiles.{hull-levels}

@@ -18,7 +18,7 @@ use Rattle.model_images.specs.Tiles.{held_image}
 use Rattle.model_images.proofs.FromRawLaws.{by_depth}
 use Rattle.model_images.proofs.Laws.{at-image_from_fn, generated_equal}
 use Rattle.model_images.proofs.RawLaws.{raw-samples}
-use Rattle.swap_store.specs.declared.refusal.SwapRefused.{SwapRefused}
+use Rattle.chain_owners.specs.declared.swap_refused.SwapRefused.{SwapRefused}
 use Rattle.root_tiles.specs.Chains.{ChainState}
 use Rattle.root_tiles.specs.Paints.{IsSolid, Paints}
 use Rattle.root_tiles.specs.Roots.{RootTiles, root_image}

@@ -5,8 +5,8 @@ use Rattle.level_tables.specs.Over.{tile_length}
 use Rattle.model_images.specs.Image.{Image}
 use Rattle.plane_rect.specs.Rectangle.{Rectangle}
 use Rattle.plane_rect.specs.Tile.{Tile}
-use Rattle.swap_store.specs.Cause.{HasSwapCause}
-use Rattle.swap_store.specs.declared.refusal.SwapRefused.{SwapRefused}
+use Rattle.chain_owners.specs.Cause.{HasSwapCause}
+use Rattle.chain_owners.specs.declared.swap_refused.SwapRefused.{SwapRefused}
 use Rattle.root_tiles.specs.Chains.{ChainState, IsRead}
 use Rattle.root_tiles.specs.Paints.{IsPainted, paint_pixels}
 use Rattle.root_tiles.specs.Roots.{HasShape, IsPartOf, RootTiles, part_shape, root_image}

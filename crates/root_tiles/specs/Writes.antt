@@ -7,8 +7,8 @@ use Rattle.model_images.specs.Paint.{painted}
 use Rattle.model_images.specs.TileCounts.{tile_count}
 use Rattle.pixel_formats.specs.Row.{Pixel}
 use Rattle.plane_rect.specs.Rectangle.{Rectangle}
-use Rattle.swap_store.specs.Cause.{HasSwapCause}
-use Rattle.swap_store.specs.declared.refusal.SwapRefused.{SwapRefused}
+use Rattle.chain_owners.specs.Cause.{HasSwapCause}
+use Rattle.chain_owners.specs.declared.swap_refused.SwapRefused.{SwapRefused}
 use Rattle.root_tiles.specs.Chains.{ChainState}
 use Rattle.root_tiles.specs.Roots.{IsRootOver, RootTiles, root_image, root_names, root_shape}
 

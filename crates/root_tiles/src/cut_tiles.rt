@@ -7,7 +7,7 @@ ghost use Rattle.root_tiles.specs.Cutting.{AreCutFrom, IsRaster, raster_cutting}
 
 use crate::cutting::{CutTile, Raster};
 use crate::ready::ReadyTiles;
-use no_memory::NoMemory;
+use alloc_basics::NoMemory;
 use plane_rect::{Rect, TileAt, Tiles};
 use std::alloc::Global;
 use std::thread::Threads;

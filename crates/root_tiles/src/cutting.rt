@@ -7,7 +7,7 @@ ghost use Rattle.plane_rect.specs.Tile.{IsWhole};
 ghost use Rattle.root_tiles.specs.Cutting.{IsCutAt, IsRaster};
 
 use crate::painting::{is_covered, painted_over};
-use no_memory::NoMemory;
+use alloc_basics::NoMemory;
 use pixel_formats::Format;
 use plane_rect::{Rect, TileAt};
 use std::alloc::Global;

@@ -10,7 +10,8 @@ ghost use Rattle.pixel_formats.specs.declared.format.Format.{Format};
 ghost use Rattle.plane_rect.specs.Rectangle.{InLimits, IsRectangle, Rectangle};
 ghost use Rattle.root_tiles.specs.Growth.{HoldsMoreTiles, RootState, names_with_root_levels, root_state};
 ghost use Rattle.root_tiles.specs.Roots.{IsRootOver, RootTiles, empty_root, root_image, root_names};
-ghost use Rattle.swap_store.specs.{Cause.HasSwapCause, declared.refusal.SwapRefused.SwapRefused};
+ghost use Rattle.chain_owners.specs.Cause.{HasSwapCause};
+ghost use Rattle.chain_owners.specs.declared.swap_refused.SwapRefused.{SwapRefused};
 
 use level_tables::new_tables_ask_nothing;
 

@@ -9,7 +9,7 @@ ghost use Rattle.model_images.specs.FromRaw.{byte_count, pixels_from_raw};
 ghost use Rattle.model_images.specs.TileCounts.{tile_count};
 ghost use Rattle.pixel_formats.specs.{Row.Pixel, declared.format.Format.Format};
 ghost use Rattle.plane_rect.specs.Rectangle.{Includes, Rectangle};
-ghost use Rattle.swap_store.specs.Cause.{HasSwapCause};
+ghost use Rattle.chain_owners.specs.Cause.{HasSwapCause};
 ghost use Rattle.root_tiles.specs.Made.{HasAll, Makes, MakesMore};
 ghost use Rattle.root_tiles.specs.Paints.{IsPaint, paint_pixels};
 ghost use Rattle.root_tiles.specs.Roots.{IsRootOver, RootTiles, root_names};
@@ -21,10 +21,10 @@ use crate::paint::Paint;
 use crate::ready::{NoneReady, ReadyTiles};
 use crate::root::Root;
 use chain_contracts::TileChain;
+use chain_owners::SwapRefused;
 use level_tables::NewTiles;
 use plane_rect::Rect;
 use std::thread::Threads;
-use swap_store::SwapRefused;
 use worker_pieces::Workers;
 
 /// Makes the tiles of a root as they are once something is written over a rectangle.

@@ -6,20 +6,20 @@ ghost use Rattle.model_images.specs.FromRaw.{byte_count, image_from_raw};
 ghost use Rattle.model_images.specs.{Paint.put_raw, Tiles.tile_or_zeros};
 ghost use Rattle.plane_rect.specs.Tile.{IsWhole, tile_square};
 ghost use Rattle.plane_rect.specs.Rectangle.{Includes};
-ghost use Rattle.swap_store.specs.Cause.{HasSwapCause};
+ghost use Rattle.chain_owners.specs.Cause.{HasSwapCause};
 ghost use Rattle.root_tiles.specs.Cutting.{Covers, cutting_of};
 ghost use Rattle.root_tiles.specs.{Chains.IsRead, Paints.IsPaint, Reads.MakesTile, Roots.IsRootOver};
 
 use crate::paint::Paint;
 use crate::ready::ReadyTiles;
 use crate::root::Root;
+use alloc_basics::NoMemory;
 use chain_contracts::TileChain;
-use no_memory::NoMemory;
+use chain_owners::SwapRefused;
 use patch_abyss::paint_raw;
 use pixel_formats::Format;
 use plane_rect::{Rect, TileAt};
 use std::alloc::Global;
-use swap_store::SwapRefused;
 use tile_cow::Tile;
 
 impl Root {

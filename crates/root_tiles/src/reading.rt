@@ -6,18 +6,18 @@ ghost use Rattle.model_graphs.specs.Shapes.{shape_of_image};
 ghost use Rattle.plane_rect.specs.Rectangle.{Includes, InLimits, end_row, is_empty, offset};
 ghost use Rattle.plane_rect.specs.Tile.{last_tile, tile_end, tile_of};
 ghost use Rattle.pixel_formats.specs.Format.{pixel_bytes};
-ghost use Rattle.tile_lines.specs.Lines.{AreLineTiles, HasFirstPixels, HasLine};
-ghost use Rattle.swap_store.specs.Cause.{HasSwapCause};
+ghost use Rattle.patch_abyss.specs.Lines.{AreLineTiles, HasFirstPixels, HasLine};
+ghost use Rattle.chain_owners.specs.Cause.{HasSwapCause};
 ghost use Rattle.root_tiles.specs.Roots.{HasShape, IsRootOver, root_image, with_tile};
 ghost use Rattle.root_tiles.specs.{Chains.IsRead, Reads.ReadsPart};
 
 use crate::root::Root;
+use alloc_basics::NoMemory;
 use chain_contracts::TileChain;
-use no_memory::NoMemory;
+use chain_owners::SwapRefused;
 use patch_abyss::Patch;
 use plane_rect::{Rect, TILE_SIDE, TileAt};
 use std::alloc::Global;
-use swap_store::SwapRefused;
 use tile_cow::Tile;
 
 /// From how many bytes on a part is put together row by row. Smaller ones stay in the nearest cache, where
@@ -107,7 +107,7 @@ impl Root {
     {
         let tiles = self.line_tiles(chain, rect, line)?;
         let tiles = bytes_of(self.alloc, &tiles)?;
-        tile_lines::add_line(self.format(), &rect, line, &tiles, bytes)?;
+        patch_abyss::add_line(self.format(), &rect, line, &tiles, bytes)?;
         Ok(())
     }
 

@@ -3,7 +3,7 @@
 ghost use Rattle.std.specs.Prelude.{IfOk, IfSome, OnOk};
 ghost use Rattle.root_tiles.specs.Cutting.{Cutting, IsCut};
 
-use no_memory::NoMemory;
+use alloc_basics::NoMemory;
 use plane_rect::TileAt;
 use tile_cow::Tile;
 

@@ -6,8 +6,8 @@ ghost use Rattle.chain_owners.specs.Counts.{Grows};
 ghost use Rattle.root_tiles.specs.Roots.{IsRootOver, root_image, root_names};
 
 use crate::root::Root;
+use alloc_basics::NoMemory;
 use chain_contracts::TileChain;
-use no_memory::NoMemory;
 
 impl Root {
     /// Returns a root with the same box and tiles, which is an owner of each name as this one is. The chain's

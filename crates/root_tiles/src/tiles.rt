@@ -4,15 +4,15 @@ ghost use Rattle.std.specs.Prelude.{◌≡◌, ℕ, ◌+◌, ◌≤◌, IfErr, I
 ghost use Rattle.pixel_formats.specs.Limits.{max_level};
 ghost use Rattle.level_tables.specs.Over.{IsTileOfLevel, tile_length};
 ghost use Rattle.model_images.specs.TileCounts.{level_tiles};
-ghost use Rattle.swap_store.specs.Cause.{HasSwapCause};
+ghost use Rattle.chain_owners.specs.Cause.{HasSwapCause};
 ghost use Rattle.root_tiles.specs.Growth.{HoldsMoreTiles, names_with_root_levels, root_state};
 ghost use Rattle.root_tiles.specs.Roots.{IsRootOver, root_image};
 ghost use Rattle.root_tiles.specs.Chains.{IsRead};
 
 use crate::root::Root;
 use chain_contracts::TileChain;
+use chain_owners::SwapRefused;
 use plane_rect::TileAt;
-use swap_store::SwapRefused;
 use tile_cow::Tile;
 
 impl Root {

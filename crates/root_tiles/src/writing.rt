@@ -5,19 +5,19 @@ ghost use Rattle.model_images.specs.FromRaw.{byte_count, pixels_from_raw};
 ghost use Rattle.pixel_formats.specs.Format.{channels, depth};
 ghost use Rattle.pixel_formats.specs.Row.{sample_at};
 ghost use Rattle.plane_rect.specs.Rectangle.{Includes};
-ghost use Rattle.solid_patches.specs.Samples.{IsSampleOf};
+ghost use Rattle.patch_abyss.specs.Samples.{IsSampleOf};
 ghost use Rattle.root_tiles.specs.{Paints.IsSolid, Roots.IsRootOver, Writes.IsWritten};
 
 use crate::makers::{SplitRaw, TileMaker};
 use crate::paint::Paint;
 use crate::root::Root;
+use alloc_basics::NoMemory;
 use chain_contracts::TileChain;
+use chain_owners::SwapRefused;
 use level_tables::NewTiles;
-use no_memory::NoMemory;
+use patch_abyss::solid_patch;
 use plane_rect::{Rect, TILE_SIDE};
-use solid_patches::solid_patch;
 use std::thread::Threads;
-use swap_store::SwapRefused;
 use tile_cow::Tile;
 use worker_pieces::Workers;
 

@@ -9,7 +9,7 @@ use Rattle.model_images.specs.FromRaw.{byte_count}
 use Rattle.model_images.specs.Image.{Image}
 use Rattle.model_images.specs.Paint.{blank}
 use Rattle.model_images.specs.Raw.{raw}
-use Rattle.model_states.specs.Need.{strip_rectangles}
+use Rattle.plane_rect.specs.Tile.{strip_rectangles}
 use Rattle.pixel_formats.specs.declared.abyss.Abyss.TheVariants as policies
 use Rattle.pixel_formats.specs.declared.format.Format.{Format}
 use Rattle.plane_rect.specs.Rectangle.{IsRectangle, Rectangle, empty}

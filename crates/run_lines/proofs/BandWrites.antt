@@ -15,14 +15,14 @@ use Rattle.model_runs.specs.declared.ending.End.TheVariants as ends
 use Rattle.outside_io.specs.Files.{Files, filed}
 use Rattle.pixel_formats.specs.declared.format.Format.{Format}
 use Rattle.plane_rect.specs.Rectangle.{Rectangle}
-use Rattle.run_events.proofs.Appending.{longer_left, nothing_added}
-use Rattle.run_events.proofs.Leaving.{Leaves-same_end}
-use Rattle.run_events.specs.Causes.{Counts, HasCause}
+use Rattle.run_lines.proofs.Appending.{longer_left, nothing_added}
+use Rattle.run_lines.proofs.Leaving.{Leaves-same_end}
+use Rattle.run_lines.specs.Causes.{Counts, HasCause}
 use Rattle.run_lines.specs.PictureBytes.{AreBandsOf, AreBytesOf, LeavesBands, LeavesBytes}
 use Rattle.run_lines.proofs.BandBytes.{band-alone, bands-some, bands-then, bytes-some}
 use Rattle.run_lines.proofs.RawBands.{raw-cut}
-use Rattle.run_texts.specs.Events.{Outcome, Writes, events_alone}
-use Rattle.run_texts.specs.World.{World}
+use Rattle.model_runs.specs.Events.{Outcome, Writes, events_alone}
+use Rattle.model_runs.specs.World.{World}
 use Rattle.strip_patches.specs.Pictures.{HasRows, TiledRect}
 
 -- a file is made to hold these bytes, and nothing else is done

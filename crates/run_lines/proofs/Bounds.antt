@@ -8,7 +8,7 @@ use Rattle.model_operations.specs.declared.operation.IntOp.{IntOp}
 use Rattle.model_runs.specs.State.{Effect, RunState}
 use Rattle.model_states.specs.Cache.{Cached, Counted}
 use Rattle.outside_io.specs.Files.{Files}
-use Rattle.run_events.specs.Carried.{Exceeds, HasNames, most_of_line}
+use Rattle.run_lines.specs.Carried.{Exceeds, HasNames, most_of_line}
 use Rattle.run_lines.specs.States.{Holds}
 
 -- names that fill a swap exceed what there is for them

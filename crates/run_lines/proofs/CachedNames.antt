@@ -11,7 +11,7 @@ use Rattle.model_runs.specs.State.{RunState}
 use Rattle.model_states.specs.Cache.{Cached, Pair, by_pair}
 use Rattle.node_cache.specs.NodeNames.{Entries, Entry, entry_pair}
 use Rattle.node_cache.specs.Stores.{AddsNoOther}
-use Rattle.run_events.specs.Carried.{HasNames}
+use Rattle.run_lines.specs.Carried.{HasNames}
 
 -- a session has as many names of cached tiles as it has cached tiles
 pub as-many-names : (entries : Entries) (held : Held) (list : List Cached) → AreCached entries held list → length list ≡ length (values_of entries)

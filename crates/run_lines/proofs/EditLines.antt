@@ -3,7 +3,7 @@ use Rattle.std.proofs.Common.{◌≡◌, ◌≢◌, ℕ, ◌+◌, Bool, true, Li
 use Rattle.buffer_view.specs.Causes.{HasEditCause}
 use Rattle.buffer_view.specs.declared.refused.BufferRefused.{BufferRefused}
 use Rattle.buffer_view.specs.declared.refused.BufferRefused.TheVariants as buffer_refusals
-use Rattle.chain_owners.specs.Counts.{Counts, Grows, IsFullOver}
+use Rattle.chain_owners.specs.Counts.{Counts, Grows, IsFullOver, Rose}
 use Rattle.chain_owners.specs.Held.{Held}
 use Rattle.commit_session.proofs.Working.{edit-number, valid-edited}
 use Rattle.commit_session.specs.Parts.{Parts}
@@ -30,13 +30,12 @@ use Rattle.model_runs.specs.declared.ending.End.TheVariants as ends
 use Rattle.model_sessions.specs.Sessions.{IsSession, Session}
 use Rattle.model_sessions.specs.Steps.{EditBuffer, HistoryEdit, IsProper, after_step, with_edit, with_workspace}
 use Rattle.model_states.specs.History.{number_of}
-use Rattle.outside_io.specs.Faults.{Rose}
 use Rattle.outside_io.specs.Files.{Files}
-use Rattle.run_events.proofs.Carrying.{Exceeds-more, nothing_carried}
-use Rattle.run_events.proofs.Faults.{continues_same, faults_of_swap, only_swap}
-use Rattle.run_events.proofs.Texts.{put_none}
-use Rattle.run_events.specs.Carried.{Exceeds, most_of_line, outcome_of_line}
-use Rattle.run_events.specs.Moments.{HasFaults, Moment}
+use Rattle.run_lines.proofs.Carrying.{Exceeds-more, nothing_carried}
+use Rattle.run_lines.proofs.Faults.{continues_same, faults_of_swap, only_swap}
+use Rattle.run_lines.proofs.Texts.{put_none}
+use Rattle.run_lines.specs.Carried.{Exceeds, most_of_line, outcome_of_line}
+use Rattle.run_lines.specs.Moments.{HasFaults, Moment}
 use Rattle.run_lines.proofs.Bounds.{full_exceeds, names_grow, names_within}
 use Rattle.run_lines.specs.Commands.{edit_of}
 use Rattle.run_lines.specs.Edited.{IsEdited, IsHeld, SessionOver, layout_in, stepped}
@@ -45,7 +44,7 @@ use Rattle.run_lines.specs.Stops.{Did, IsDone, IsEnded, end_of, stop_of}
 use Rattle.run_lines.specs.declared.stop.Stop.TheVariants as stops
 use Rattle.script_read.specs.declared.command.Command.{Command}
 use Rattle.script_read.specs.declared.command.Command.TheVariants as commands
-use Rattle.swap_store.specs.declared.refusal.SwapRefused.TheVariants as swap_refusals
+use Rattle.chain_owners.specs.declared.swap_refused.SwapRefused.TheVariants as swap_refusals
 
 -- ---- sessions
 

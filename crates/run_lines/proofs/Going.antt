@@ -3,7 +3,7 @@ use Rattle.std.proofs.Common.{◌≡◌, ◌≢◌, ℕ, Bool, List, [], ◌∷�
 use Rattle.std.specs.Result.{IsErrAnd}
 use Rattle.chain_owners.specs.Held.{Held}
 use Rattle.commit_session.specs.Parts.{Parts}
-use Rattle.model_bounds.specs.Counts.{HasTrueCounts, true_counts}
+use Rattle.model_runs.specs.Counts.{HasTrueCounts, true_counts}
 use Rattle.model_operations.specs.declared.operation.IntOp.{IntOp}
 use Rattle.model_runs.specs.Effects.{effect}
 use Rattle.model_runs.specs.Ending.{Leaves}
@@ -13,15 +13,15 @@ use Rattle.model_runs.specs.declared.ending.End.{End}
 use Rattle.model_runs.specs.declared.ending.End.TheVariants as ends
 use Rattle.model_sessions.specs.Sessions.{Counts, counts_of}
 use Rattle.outside_io.specs.Files.{Files}
-use Rattle.run_events.proofs.Carrying.{carried_by_leaves}
-use Rattle.run_events.proofs.Lines.{line_unrefused, lines_end, lines_then, none_left, state_then}
-use Rattle.run_events.specs.Carried.{CarriesOut, CarriesOutLines, IsCounted, most_of_line, outcome_of_line}
-use Rattle.run_events.specs.Moments.{Moment, world_at}
+use Rattle.run_lines.proofs.Carrying.{carried_by_leaves}
+use Rattle.run_lines.proofs.EventLines.{line_unrefused, lines_end, lines_then, none_left, state_then}
+use Rattle.run_lines.specs.Carried.{CarriesOut, CarriesOutLines, IsCounted, most_of_line, outcome_of_line}
+use Rattle.run_lines.specs.Moments.{Moment, world_at}
 use Rattle.run_lines.specs.States.{Holds}
 use Rattle.run_lines.specs.Stops.{Does, IsRefused}
-use Rattle.run_texts.specs.Events.{refusal}
-use Rattle.run_texts.specs.World.{World}
-use Rattle.run_texts.specs.declared.cause.Cause.{Cause}
+use Rattle.model_runs.specs.Events.{refusal}
+use Rattle.model_runs.specs.World.{World}
+use Rattle.model_runs.specs.declared.cause.Cause.{Cause}
 use Rattle.script_read.specs.declared.command.Line.{Line}
 
 -- ---- a line that is refused

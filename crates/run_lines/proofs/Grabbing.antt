@@ -4,7 +4,7 @@ use Rattle.buffer_view.specs.BufferTables.{table_of}
 use Rattle.buffer_view.specs.Reads.{HasReadCause, IsReadOfBuffer, box_of_root, part_of_buffer}
 use Rattle.buffer_view.specs.declared.refused.BufferRefused.{BufferRefused}
 use Rattle.buffer_view.specs.declared.refused.BufferRefused.TheVariants as buffer_refusals
-use Rattle.chain_owners.specs.Counts.{Continues, Grows, IsFullOver}
+use Rattle.chain_owners.specs.Counts.{Continues, Grows, IsFullOver, Rose}
 use Rattle.chain_owners.specs.Held.{Held}
 use Rattle.commit_session.specs.Parts.{Parts}
 use Rattle.commit_session.specs.Refusals.{IsRefusedAs, by_buffers}
@@ -23,25 +23,24 @@ use Rattle.model_runs.specs.Run.{files_after_all}
 use Rattle.model_runs.specs.State.{Effect, RunState, refuses}
 use Rattle.model_runs.specs.declared.ending.End.{End}
 use Rattle.model_runs.specs.declared.ending.End.TheVariants as ends
-use Rattle.outside_io.specs.Faults.{Rose}
 use Rattle.outside_io.specs.Files.{Files}
 use Rattle.pixel_formats.specs.Format.{pixel_bytes}
 use Rattle.pixel_formats.specs.declared.abyss.Abyss.{Abyss}
 use Rattle.plane_rect.specs.Rectangle.{Rectangle, area}
 use Rattle.root_tiles.specs.Roots.{HasShape}
-use Rattle.run_events.proofs.Carrying.{Exceeds-more, nothing_carried}
-use Rattle.run_events.proofs.Faults.{faults_of_swap, only_swap}
-use Rattle.run_events.specs.Carried.{CarriesOut, Exceeds, most_of_line, outcome_of_line}
-use Rattle.run_events.specs.Moments.{HasFaults, Moment, world_at}
+use Rattle.run_lines.proofs.Carrying.{Exceeds-more, nothing_carried}
+use Rattle.run_lines.proofs.Faults.{faults_of_swap, only_swap}
+use Rattle.run_lines.specs.Carried.{CarriesOut, Exceeds, most_of_line, outcome_of_line}
+use Rattle.run_lines.specs.Moments.{HasFaults, Moment, world_at}
 use Rattle.run_lines.proofs.Bounds.{full_exceeds, names_grow, names_within}
 use Rattle.run_lines.proofs.Grabs.{grab_bytes, grab_given, grab_length, grab_tiles, grab_unknown, grabbed, planned}
 use Rattle.run_lines.proofs.Writing.{Wants, file-carried, file-ended, file-written}
 use Rattle.run_lines.specs.Edited.{IsHeld}
 use Rattle.run_lines.specs.States.{Holds}
 use Rattle.run_lines.specs.Stops.{Did, IsDone, IsEnded, end_of, stop_of}
-use Rattle.run_texts.specs.Events.{events_alone}
-use Rattle.run_texts.specs.Texts.{grab_text}
-use Rattle.swap_store.specs.declared.refusal.SwapRefused.TheVariants as swap_refusals
+use Rattle.model_runs.specs.Events.{events_alone}
+use Rattle.model_runs.specs.Texts.{grab_text}
+use Rattle.chain_owners.specs.declared.swap_refused.SwapRefused.TheVariants as swap_refusals
 
 module _ (exposed : Bool) (capacity line : ℕ) (state : RunState) (files : Files) (parts later : Parts IntOp) (held after_held : Held) (name : List ℕ) (z : ℕ) (policy : Abyss) (r : Rectangle) (target : List ℕ) (before after : Moment)
     (holds : Holds exposed capacity state files parts held before.files) where

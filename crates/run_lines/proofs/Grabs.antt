@@ -25,8 +25,8 @@ use Rattle.pixel_formats.specs.declared.abyss.Abyss.{Abyss}
 use Rattle.plane_rect.specs.Rectangle.{Rectangle, area, empty}
 use Rattle.root_tiles.specs.Roots.{HasShape}
 use Rattle.run_lines.specs.States.{Holds}
-use Rattle.run_texts.specs.Texts.{grab_text}
-use Rattle.run_texts.specs.declared.cause.Cause.TheVariants as causes
+use Rattle.model_runs.specs.Texts.{grab_text}
+use Rattle.model_runs.specs.declared.cause.Cause.TheVariants as causes
 
 module _ (exposed : Bool) (capacity line : ℕ) (state : RunState) (files : Files) (parts : Parts IntOp) (held : Held) (shelf : Option Files) (name : List ℕ) (z : ℕ) (policy : Abyss) (r : Rectangle) (target : List ℕ)
     (holds : Holds exposed capacity state files parts held shelf) where

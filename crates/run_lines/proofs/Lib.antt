@@ -25,3 +25,10 @@ mod BandBytes
 mod BandWrites
 mod PictureWrites
 mod Seen
+pub mod Leaving
+pub mod Texts
+pub mod Carrying
+pub mod EventLines
+pub mod Endings
+pub mod Faults
+pub mod Appending

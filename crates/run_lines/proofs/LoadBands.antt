@@ -32,7 +32,7 @@ use Rattle.run_lines.proofs.PutBands.{put-cut}
 use Rattle.run_lines.specs.Bands.{BeginsBand, IsReached, bytes_of_rows, rows_between}
 use Rattle.run_lines.specs.Edited.{IsEdited, IsHeld, SessionOver, layout_in, stepped}
 use Rattle.run_lines.specs.Rasters.{IsPartRead}
-use Rattle.swap_store.proofs.Causes.{cause-before, cause-more}
+use Rattle.chain_owners.proofs.Causes.{cause-before, cause-more}
 
 -- ---- puts that aren't refused
 

@@ -24,8 +24,8 @@ use Rattle.model_runs.specs.declared.ending.End.TheVariants as ends
 use Rattle.outside_io.specs.Files.{Files, file}
 use Rattle.pixel_formats.specs.declared.format.Format.{Format}
 use Rattle.plane_rect.specs.Rectangle.{Rectangle, includes}
-use Rattle.run_events.proofs.Carrying.{nothing_carried}
-use Rattle.run_events.specs.Moments.{Moment}
+use Rattle.run_lines.proofs.Carrying.{nothing_carried}
+use Rattle.run_lines.specs.Moments.{Moment}
 use Rattle.run_lines.proofs.EditLines.{at_chain, edit_done, edit_stopped}
 use Rattle.run_lines.proofs.LoadBands.{IsLoad}
 use Rattle.run_lines.proofs.Puts.{put_alike}
@@ -35,8 +35,8 @@ use Rattle.run_lines.specs.States.{HaveSameLengths, Holds}
 use Rattle.run_lines.specs.Stops.{Did, IsDone, IsEnded, stop_of}
 use Rattle.run_lines.specs.declared.stop.Stop.{Stop}
 use Rattle.run_lines.specs.declared.stop.Stop.TheVariants as stops
-use Rattle.run_texts.specs.declared.cause.Cause.{Cause}
-use Rattle.run_texts.specs.declared.cause.Cause.TheVariants as causes
+use Rattle.model_runs.specs.declared.cause.Cause.{Cause}
+use Rattle.model_runs.specs.declared.cause.Cause.TheVariants as causes
 
 -- ---- how many bytes a raster has
 

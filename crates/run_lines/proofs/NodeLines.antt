@@ -11,9 +11,9 @@ use Rattle.model_runs.specs.State.{Effect, RunState, in_workspace, leaves, works
 use Rattle.model_sessions.specs.Steps.{EditNode}
 use Rattle.model_states.specs.Workspace.{with_pending}
 use Rattle.outside_io.specs.Files.{Files}
-use Rattle.run_events.proofs.Faults.{continues_same}
-use Rattle.run_events.proofs.Texts.{put_none}
-use Rattle.run_events.specs.Moments.{Moment}
+use Rattle.run_lines.proofs.Faults.{continues_same}
+use Rattle.run_lines.proofs.Texts.{put_none}
+use Rattle.run_lines.specs.Moments.{Moment}
 use Rattle.run_lines.proofs.Bounds.{names_grow}
 use Rattle.run_lines.proofs.EditLines.{step_valid}
 use Rattle.run_lines.specs.Edited.{IsHeld, stepped}

@@ -3,7 +3,7 @@ use Rattle.std.proofs.Common.{◌≡◌, ℕ, List, length, Option, Some, None, 
 use Rattle.model_images.specs.FromRaw.{byte_count}
 use Rattle.model_images.specs.Image.{Image}
 use Rattle.model_images.specs.Raw.{raw}
-use Rattle.model_states.specs.Need.{strip_rectangles}
+use Rattle.plane_rect.specs.Tile.{strip_rectangles}
 use Rattle.plane_rect.specs.Rectangle.{IsRectangle}
 use Rattle.run_lines.specs.PictureBytes.{AreBandsOf, AreBytesOf}
 use Rattle.run_lines.proofs.BandBytes.{bands-all}

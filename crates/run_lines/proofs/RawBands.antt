@@ -6,7 +6,7 @@ use Rattle.std.proofs.lemmas.Grind.{flat_map-append}
 use Rattle.std.proofs.lemmas.List.{append-nil}
 use Rattle.std.proofs.lemmas.List.FromFn.{map-range_with_len_more}
 use Rattle.plane_rect.specs.Rectangle.{IsRectangle, Rectangle, empty, end_column, end_row, meet, plane_side}
-use Rattle.plane_rect.specs.Tile.{tile_lines, tile_of, tile_side}
+use Rattle.plane_rect.specs.Tile.{tile_lines, tile_of, tile_side, strip_rectangles, tile_line}
 use Rattle.plane_rect.proofs.Rectangles.{rectangle-some, some_or_empty}
 use Rattle.pixel_formats.specs.declared.abyss.Abyss.TheVariants as policies
 use Rattle.model_images.specs.Abyss.{raw_with}
@@ -18,7 +18,6 @@ use Rattle.model_images.proofs.Agreeing.{at-cut}
 use Rattle.model_images.proofs.ByteLaws.{raw_with-none}
 use Rattle.model_images.proofs.RawLaws.{raw-over}
 use Rattle.model_images.proofs.RowLaws.{raw_with-no_row, raw_with-row}
-use Rattle.model_states.specs.Need.{strip_rectangles, tile_line}
 
 -- a rectangle that is cut out of an image has the image's bytes
 pub raw-cut : (image : Image) (r : Rectangle) → raw (cut image r) r ≡ raw image r

@@ -34,12 +34,12 @@ use Rattle.outside_io.specs.Files.{Files}
 use Rattle.pixel_formats.specs.declared.format.Format.{Format}
 use Rattle.plane_rect.specs.Rectangle.{Rectangle}
 use Rattle.render_workers.specs.Requests.{Request, pairs_requested, request, strips_needed}
-use Rattle.run_events.specs.Carried.{most_of_line}
+use Rattle.run_lines.specs.Carried.{most_of_line}
 use Rattle.run_lines.proofs.BandBytes.{length-raw}
 use Rattle.run_lines.proofs.CachedNames.{as-many-names}
 use Rattle.run_lines.proofs.LookingUp.{applied-alone}
 use Rattle.run_lines.specs.States.{Holds}
-use Rattle.run_texts.specs.declared.cause.Cause.TheVariants as causes
+use Rattle.model_runs.specs.declared.cause.Cause.TheVariants as causes
 
 module _ (exposed : Bool) (capacity line : ℕ) (state : RunState) (files : Files) (parts : Parts IntOp) (held : Held) (shelf : Option Files) (name : List ℕ) (z : ℕ) (r : Rectangle) (target : List ℕ)
     (holds : Holds exposed capacity state files parts held shelf) (stated_is : IsStated int_meanings parts.graph.latest) where

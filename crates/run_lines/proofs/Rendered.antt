@@ -2,7 +2,7 @@
 use Rattle.std.proofs.Common.{◌≡◌, ◌≢◌, ℕ, Bool, true, false, IsTrue, cond, List, length, Option, Some, None, Result, Ok, Err, IfSome, IsSome, is_some, is_none, refl, sym, ap, ◌∙◌, subst, arith}
 use Rattle.std.specs.Prelude.{◌&&◌}
 use Rattle.std.specs.Map.{values_of}
-use Rattle.chain_owners.specs.Counts.{Continues, Counts, IsFullOver}
+use Rattle.chain_owners.specs.Counts.{Continues, Counts, IsFullOver, Rose}
 use Rattle.chain_owners.specs.Held.{Held}
 use Rattle.commit_session.specs.Parts.{Parts}
 use Rattle.commit_session.specs.Refusals.{IsRefusedAs, by_render}
@@ -25,26 +25,24 @@ use Rattle.model_runs.specs.State.{Effect, RunState, number_in, scene_in}
 use Rattle.model_runs.specs.declared.ending.End.{End}
 use Rattle.model_runs.specs.declared.ending.End.TheVariants as ends
 use Rattle.model_sessions.proofs.Actions.{action_keeps}
-use Rattle.model_sessions.specs.Sessions.{IsSession, Render, Session, after_render, last_scene, with_render}
+use Rattle.model_sessions.specs.Sessions.{IsSession, Render, Session, after_render, last_scene, with_render, render_need}
 use Rattle.model_buffers.specs.Table.{Table}
 use Rattle.model_states.specs.Cache.{by_pair, needed_pairs, with_bytes}
-use Rattle.model_sessions.specs.Sessions.{render_need}
 use Rattle.model_states.specs.Damage.{IsStated}
 use Rattle.model_states.specs.Edits.{has_node}
 use Rattle.model_states.specs.Need.{wide}
 use Rattle.node_cache.specs.Stores.{AddsNoOther}
 use Rattle.node_tiles.specs.Stated.{shape_at}
-use Rattle.outside_io.specs.Faults.{Rose}
 use Rattle.outside_io.specs.Files.{Files}
 use Rattle.plane_rect.specs.Rectangle.{Rectangle, scaled}
 use Rattle.render_workers.specs.Refusals.{CanBeRendered, IsRefusedBy}
 use Rattle.render_workers.specs.Requests.{Request, request}
 use Rattle.render_workers.specs.declared.refused.RenderRefused.{RenderRefused}
 use Rattle.render_workers.specs.declared.refused.RenderRefused.TheVariants as render_refusals
-use Rattle.run_events.proofs.Carrying.{Exceeds-more, nothing_carried}
-use Rattle.run_events.proofs.Faults.{faults_of_swap, only_swap}
-use Rattle.run_events.specs.Carried.{CarriesOut, Exceeds, most_of_line, outcome_of_line}
-use Rattle.run_events.specs.Moments.{HasFaults, Moment, world_at}
+use Rattle.run_lines.proofs.Carrying.{Exceeds-more, nothing_carried}
+use Rattle.run_lines.proofs.Faults.{faults_of_swap, only_swap}
+use Rattle.run_lines.specs.Carried.{CarriesOut, Exceeds, most_of_line, outcome_of_line}
+use Rattle.run_lines.specs.Moments.{HasFaults, Moment, world_at}
 use Rattle.run_lines.proofs.Bounds.{full_exceeds}
 use Rattle.run_lines.proofs.CachedNames.{names-fall}
 use Rattle.run_lines.proofs.LookingUp.{all-grow}
@@ -53,12 +51,12 @@ use Rattle.run_lines.proofs.Writing.{Wants, file-carried, file-ended, file-writt
 use Rattle.run_lines.specs.PictureBytes.{LeavesBytes}
 use Rattle.run_lines.specs.States.{Holds}
 use Rattle.run_lines.specs.Stops.{Did, IsDone, IsEnded, end_of, stop_of}
-use Rattle.run_texts.specs.Events.{Outcome, events_alone}
-use Rattle.run_texts.specs.Texts.{render_text}
-use Rattle.run_texts.specs.World.{World}
+use Rattle.model_runs.specs.Events.{Outcome, events_alone}
+use Rattle.model_runs.specs.Texts.{render_text}
+use Rattle.model_runs.specs.World.{World}
 use Rattle.strip_patches.specs.Shown.{Shows, picture_box, picture_format}
 use Rattle.strip_patches.specs.declared.picture.Picture.{Picture}
-use Rattle.swap_store.specs.Cause.{HasSwapCause}
+use Rattle.chain_owners.specs.Cause.{HasSwapCause}
 
 none-there : (o : Option Rectangle) → IsSome o → o ≡ None → ⊥
 none-there None some none = absurd (cc)

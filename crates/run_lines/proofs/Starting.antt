@@ -2,13 +2,13 @@
 use Rattle.std.proofs.Common.{◌≡◌, ℕ, ◌≤◌, Bool, List, [], length, Option, Some, None, Result, Ok, Err, IfOk, IfSome, is_some, min, refl, ap, subst, arith}
 use Rattle.std.specs.List.{IsDistinct}
 use Rattle.std.specs.Result.{IsErrAnd}
-use Rattle.chain_handlers.specs.OwnedTiles.{counts_over, nothing_over}
+use Rattle.tile_chain.specs.OwnedTiles.{counts_over, nothing_over}
 use Rattle.chain_owners.specs.Counts.{Counts}
 use Rattle.chain_owners.specs.Held.{Held}
 use Rattle.commit_session.specs.Parts.{Parts, new_parts}
 use Rattle.commit_session.specs.Seen.{IsSessionOf}
-use Rattle.model_bounds.proofs.RunCounts.{last_true}
-use Rattle.model_bounds.specs.Counts.{HasTrueCounts}
+use Rattle.model_runs.proofs.RunCounts.{last_true}
+use Rattle.model_runs.specs.Counts.{HasTrueCounts}
 use Rattle.model_operations.specs.Meanings.{int_meanings, same_operation}
 use Rattle.model_operations.specs.declared.operation.IntOp.{IntOp}
 use Rattle.model_runs.specs.Ending.{ended}
@@ -21,10 +21,10 @@ use Rattle.model_sessions.specs.Sessions.{IsSession, new_session}
 use Rattle.outside_io.specs.Files.{Files}
 use Rattle.outside_io.specs.Swap.{Blocks}
 use Rattle.pixel_formats.specs.Limits.{max_lines}
-use Rattle.run_events.proofs.Carrying.{nothing_carried}
-use Rattle.run_events.proofs.Faults.{faults_same_end}
-use Rattle.run_events.specs.Carried.{CarriesOutLines}
-use Rattle.run_events.specs.Moments.{HasFaults, Moment}
+use Rattle.run_lines.proofs.Carrying.{nothing_carried}
+use Rattle.run_lines.proofs.Faults.{faults_same_end}
+use Rattle.run_lines.specs.Carried.{CarriesOutLines}
+use Rattle.run_lines.specs.Moments.{HasFaults, Moment}
 use Rattle.run_lines.proofs.Going.{lines_same_end}
 use Rattle.run_lines.specs.States.{Holds}
 use Rattle.script_read.specs.declared.command.Line.{Line}

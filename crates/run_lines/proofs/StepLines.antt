@@ -32,16 +32,16 @@ use Rattle.model_states.proofs.HistoryLaws.{commit_appends, redo_appends, undo_a
 use Rattle.model_states.specs.Cache.{Cached}
 use Rattle.model_states.specs.Damage.{damage}
 use Rattle.model_states.specs.History.{Appends, History, committed, number_of, redone, undone}
-use Rattle.model_states.specs.Regions.{meets}
+use Rattle.plane_rect.specs.Tile.{meets}
 use Rattle.model_states.specs.declared.refused.StateRefused.{StateRefused}
 use Rattle.node_cache.specs.Stores.{AddsNoOther}
 use Rattle.outside_io.specs.Files.{Files}
 use Rattle.root_tiles.specs.Chains.{ChainState}
-use Rattle.run_events.proofs.Carrying.{nothing_carried}
-use Rattle.run_events.proofs.Faults.{chain_faults, faults_of_swap, only_swap}
-use Rattle.run_events.proofs.Texts.{put_none}
-use Rattle.run_events.specs.Carried.{HasNames, most_of_line, outcome_of_line}
-use Rattle.run_events.specs.Moments.{HasFaults, Moment, world_at}
+use Rattle.run_lines.proofs.Carrying.{nothing_carried}
+use Rattle.run_lines.proofs.Faults.{chain_faults, faults_of_swap, only_swap}
+use Rattle.run_lines.proofs.Texts.{put_none}
+use Rattle.run_lines.specs.Carried.{HasNames, most_of_line, outcome_of_line}
+use Rattle.run_lines.specs.Moments.{HasFaults, Moment, world_at}
 use Rattle.run_lines.proofs.CachedNames.{names-fall}
 use Rattle.run_lines.proofs.LookingUp.{filter-fewer}
 use Rattle.run_lines.proofs.Stopping.{same_stop, same_stop_faults}

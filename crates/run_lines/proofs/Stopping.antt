@@ -7,11 +7,11 @@ use Rattle.model_operations.specs.declared.operation.IntOp.{IntOp}
 use Rattle.model_runs.specs.State.{Effect, RunState}
 use Rattle.model_runs.specs.declared.ending.End.{End}
 use Rattle.outside_io.specs.Files.{Files}
-use Rattle.run_events.specs.Moments.{HasFaults, Moment}
+use Rattle.run_lines.specs.Moments.{HasFaults, Moment}
 use Rattle.run_lines.specs.Stops.{Did, Does, IsDone, IsEnded, IsRefused, end_of}
 use Rattle.run_lines.specs.declared.stop.Stop.{Stop}
 use Rattle.run_lines.specs.declared.stop.Stop.TheVariants as stops
-use Rattle.run_texts.specs.declared.cause.Cause.{Cause}
+use Rattle.model_runs.specs.declared.cause.Cause.{Cause}
 
 -- one stop for another that is the same
 pub same_stop : (exposed : Bool) (capacity line : ℕ) (state : RunState) (files : Files) (done : Effect) (stop : Stop) (result : Result (Unit {0}) Stop) (old new : Moment) (parts : Parts IntOp) (held : Held) →

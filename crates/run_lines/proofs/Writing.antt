@@ -11,15 +11,15 @@ use Rattle.model_runs.specs.State.{Effect, RunState}
 use Rattle.model_runs.specs.declared.ending.End.{End}
 use Rattle.model_runs.specs.declared.ending.End.TheVariants as ends
 use Rattle.outside_io.specs.Files.{Files, file, filed}
-use Rattle.run_events.proofs.Carrying.{carried_alike, carried_by_leaves}
-use Rattle.run_events.proofs.Faults.{chain_faults, faults_by_cause, faults_then}
-use Rattle.run_events.specs.Carried.{CarriesOut, most_of_line, outcome_of_line}
-use Rattle.run_events.specs.Causes.{HasCause}
-use Rattle.run_events.specs.Moments.{HasFaults, Moment, world_at}
+use Rattle.run_lines.proofs.Carrying.{carried_alike, carried_by_leaves}
+use Rattle.run_lines.proofs.Faults.{chain_faults, faults_by_cause, faults_then}
+use Rattle.run_lines.specs.Carried.{CarriesOut, most_of_line, outcome_of_line}
+use Rattle.run_lines.specs.Causes.{HasCause}
+use Rattle.run_lines.specs.Moments.{HasFaults, Moment, world_at}
 use Rattle.run_lines.specs.States.{HaveSameLengths}
 use Rattle.run_lines.specs.Stops.{IsEnded}
-use Rattle.run_texts.specs.Events.{Event, Outcome, events_alone}
-use Rattle.run_texts.specs.World.{World}
+use Rattle.model_runs.specs.Events.{Event, Outcome, events_alone}
+use Rattle.model_runs.specs.World.{World}
 
 -- files of the same lengths, with one more file of the same length
 filed-same_lengths : (a b : Files) (name wanted bytes : List ℕ) → HaveSameLengths a b → length wanted ≡ length bytes → HaveSameLengths (filed a name wanted) (filed b name bytes)

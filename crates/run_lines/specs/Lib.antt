@@ -5,3 +5,7 @@ pub mod Edited
 pub mod Bands
 pub mod Rasters
 pub mod PictureBytes
+pub mod Causes
+pub mod Leaving
+pub mod Moments
+pub mod Carried

@@ -8,8 +8,8 @@ use Rattle.model_runs.specs.Ending.{Leaves}
 use Rattle.model_runs.specs.declared.ending.End.{End}
 use Rattle.pixel_formats.specs.declared.format.Format.{Format}
 use Rattle.plane_rect.specs.Rectangle.{Rectangle}
-use Rattle.run_texts.specs.Events.{Outcome}
-use Rattle.run_texts.specs.World.{World}
+use Rattle.model_runs.specs.Events.{Outcome}
+use Rattle.model_runs.specs.World.{World}
 
 -- Bytes of a rectangle of a picture: as many as it has, and those of the image that it shows, where one is known.
 pub record AreBytesOf (known : Option Image) (rect : Rectangle) (format : Format) (bytes : List ℕ) : Type 0 where

@@ -6,8 +6,8 @@ use Rattle.pixel_formats.specs.declared.format.Format.{Format}
 use Rattle.plane_rect.specs.Rectangle.{Rectangle, includes}
 use Rattle.run_lines.specs.declared.stop.Stop.{Stop}
 use Rattle.run_lines.specs.declared.stop.Stop.TheVariants as stops
-use Rattle.run_texts.specs.declared.cause.Cause.{Cause}
-use Rattle.run_texts.specs.declared.cause.Cause.TheVariants as causes
+use Rattle.model_runs.specs.declared.cause.Cause.{Cause}
+use Rattle.model_runs.specs.declared.cause.Cause.TheVariants as causes
 
 -- A buffer is known to have a rectangle, and a format.
 pub record IsTarget (r : Rectangle) (format : Format) (fact : BufferFact) : Type 0 where

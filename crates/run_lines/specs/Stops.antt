@@ -21,16 +21,16 @@ use Rattle.outside_io.specs.Files.{Files}
 use Rattle.render_workers.specs.declared.refused.RenderRefused.{RenderRefused}
 use Rattle.render_workers.specs.declared.refused.RenderRefused.TheVariants as render_refusals
 use Rattle.run_lines.specs.States.{Holds}
-use Rattle.run_events.specs.Carried.{CarriesOut, HasNames, most_of_line, outcome_of_line}
-use Rattle.run_events.specs.Moments.{HasFaults, Moment}
+use Rattle.run_lines.specs.Carried.{CarriesOut, HasNames, most_of_line, outcome_of_line}
+use Rattle.run_lines.specs.Moments.{HasFaults, Moment}
 use Rattle.run_lines.specs.declared.stop.Stop.{Stop}
 use Rattle.run_lines.specs.declared.stop.Stop.TheVariants as stops
-use Rattle.run_texts.specs.declared.cause.Cause.{Cause}
-use Rattle.run_texts.specs.declared.cause.Cause.TheVariants as causes
+use Rattle.model_runs.specs.declared.cause.Cause.{Cause}
+use Rattle.model_runs.specs.declared.cause.Cause.TheVariants as causes
 use Rattle.script_fields.specs.declared.cause.ScriptCause.TheVariants as script_causes
 use Rattle.script_read.specs.declared.command.Line.{Line}
-use Rattle.swap_store.specs.declared.refusal.SwapRefused.{SwapRefused}
-use Rattle.swap_store.specs.declared.refusal.SwapRefused.TheVariants as swap_refusals
+use Rattle.chain_owners.specs.declared.swap_refused.SwapRefused.{SwapRefused}
+use Rattle.chain_owners.specs.declared.swap_refused.SwapRefused.TheVariants as swap_refusals
 
 abbrev pub end_of_swap : SwapRefused → End
 end_of_swap swap_refusals.SwapFault = ends.SwapFault

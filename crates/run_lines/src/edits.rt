@@ -10,11 +10,11 @@ ghost use Rattle.run_lines.specs.{Commands.edit_of, Stops.CarriesOutCommand};
 ghost use Rattle.script_read.specs.Limits.{IsInLimits};
 
 use crate::stop::Stop;
+use alloc_basics::NoMemory;
 use chain_contracts::TileChain;
 use commit_session::SessionState;
 use model_buffers::BufferEdit;
 use model_operations::IntOp;
-use no_memory::NoMemory;
 use pixel_formats::Format;
 use plane_rect::{Name, Rect};
 use script_read::{Command, Line};

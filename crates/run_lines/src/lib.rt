@@ -2,6 +2,7 @@
 #![tactic(auto)]
 
 mod edits;
+mod events;
 mod files;
 mod lines;
 mod loads;
@@ -13,5 +14,6 @@ mod steps;
 mod stop;
 
 pub use commit_session::Counts;
+pub use events::{put_text, refuse};
 pub use lines::is_of_watch;
 pub use script::{RunLimits, carry_out};

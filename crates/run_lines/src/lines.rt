@@ -2,17 +2,18 @@
 
 ghost use Rattle.std.specs.Prelude.{◌≡◌, ℕ, All, Bool, IfOk};
 ghost use Rattle.commit_session.specs.Seen.{IsOver};
-ghost use Rattle.model_bounds.specs.Counts.{HasTrueCounts};
+ghost use Rattle.model_runs.specs.Counts.{HasTrueCounts};
 ghost use Rattle.model_operations.specs.Meanings.{int_meanings, same_operation};
 ghost use Rattle.model_runs.specs.Run.{effects, state_after};
 ghost use Rattle.model_runs.specs.{Built.is_of_watch as of_watch, State.RunState};
 ghost use Rattle.outside_io.specs.Files.{Files};
-ghost use Rattle.run_events.specs.Carried.{CarriesOutLines, IsCounted};
-ghost use Rattle.run_events.specs.Moments.{HasFaults};
+ghost use Rattle.run_lines.specs.Carried.{CarriesOutLines, IsCounted};
+ghost use Rattle.run_lines.specs.Moments.{HasFaults};
 ghost use Rattle.run_lines.specs.Stops.{CarriesOutCommand, CarriesOutLine};
 ghost use Rattle.run_lines.specs.{Commands.IsBuiltLine, States.Holds};
 
 use crate::edits::edit;
+use crate::events::refuse;
 use crate::files::grab;
 use crate::loads::load;
 use crate::nodes::add_pending;
@@ -24,7 +25,6 @@ use commit_session::SessionState;
 use model_operations::IntOp;
 use model_runs::End;
 use outside_io::{Shelf, Sink};
-use run_events::refuse;
 use script_read::{Command, Line};
 use std::alloc::Global;
 use std::thread::Threads;

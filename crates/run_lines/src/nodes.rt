@@ -6,15 +6,15 @@ ghost use Rattle.commit_session.specs.Seen.{IsOver};
 ghost use Rattle.model_operations.specs.Meanings.{int_meanings, same_operation};
 ghost use Rattle.model_runs.specs.{Commands.body_of, Effects.effect, State.RunState};
 ghost use Rattle.outside_io.specs.Files.{Files};
-ghost use Rattle.run_events.specs.Moments.{HasFaults, Moment};
+ghost use Rattle.run_lines.specs.Moments.{HasFaults, Moment};
 ghost use Rattle.run_lines.specs.Stops.{Did, end_of};
 ghost use Rattle.run_lines.specs.{Commands.node_edit_of, States.Holds};
 
 use crate::stop::Stop;
+use alloc_basics::NoMemory;
 use commit_session::SessionState;
 use model_graphs::{Body, NodeEdit, NodeSpec};
 use model_operations::IntOp;
-use no_memory::NoMemory;
 use plane_rect::NameList;
 use script_read::{Command, Line, OpWords};
 

@@ -4,18 +4,18 @@ ghost use Rattle.std.specs.Prelude.{◌≡◌, [], ◌∷◌, ◌++◌, ℕ, ◌
 ghost use Rattle.std.specs.Option.{option_map};
 ghost use Rattle.model_images.specs.{FromRaw.byte_count, Image.Image};
 ghost use Rattle.model_runs.specs.Ending.{Leaves, MayTear, ended};
-ghost use Rattle.model_states.specs.Need.{strip_rectangles};
+ghost use Rattle.plane_rect.specs.Tile.{strip_rectangles};
 ghost use Rattle.outside_io.specs.Files.{Files, filed};
 ghost use Rattle.plane_rect.specs.Rectangle.{Rectangle};
-ghost use Rattle.run_events.specs.Causes.{HasShelfCause};
+ghost use Rattle.run_lines.specs.Causes.{HasShelfCause};
 ghost use Rattle.run_lines.specs.PictureBytes.{AreBandsOf, LeavesBands, LeavesBytes};
-ghost use Rattle.run_texts.specs.Events.{Writes, events_alone};
+ghost use Rattle.model_runs.specs.Events.{Writes, events_alone};
 ghost use Rattle.strip_patches.specs.Shown.{Shows, picture_box, picture_format};
 ghost use Rattle.strip_patches.specs.Pictures.{HasRows};
 
+use crate::events::{append_file, write_file};
 use model_runs::End;
 use outside_io::Shelf;
-use run_events::{append_file, write_file};
 use script_read::FileName;
 use std::alloc::Global;
 use strip_patches::{Picture, TiledPatch};

@@ -1,22 +1,22 @@
 //! Lines over a swap.
 
 ghost use Rattle.std.specs.Prelude.{◌≤◌, ◌^◌, All, IfOk, IfSome, is_some, length, min, []};
-ghost use Rattle.chain_handlers.specs.OwnedTiles.{counts_over};
+ghost use Rattle.tile_chain.specs.OwnedTiles.{counts_over};
 ghost use Rattle.model_runs.specs.Run.{effects, state_after};
 ghost use Rattle.model_runs.specs.{Ending.ended, State.first_state};
 ghost use Rattle.pixel_formats.specs.Limits.{max_lines};
-ghost use Rattle.run_events.specs.Carried.{CarriesOutLines, IsCounted};
-ghost use Rattle.run_events.specs.Moments.{HasFaults};
+ghost use Rattle.run_lines.specs.Carried.{CarriesOutLines, IsCounted};
+ghost use Rattle.run_lines.specs.Moments.{HasFaults};
 ghost use Rattle.run_lines.specs.Commands.{IsBuiltLine};
 
 use crate::lines::carry_out_lines;
-use chain_handlers::{ChainMemory, OwnedTiles};
 use commit_session::{Counts, SessionState};
 use model_runs::End;
 use outside_io::{Lent, Shelf, Sink, SwapDisk};
 use script_read::Line;
 use std::alloc::Global;
 use std::thread::Threads;
+use tile_chain::{ChainMemory, OwnedTiles};
 use worker_pieces::Workers;
 
 /// How much of a swap a run uses, and of memory.

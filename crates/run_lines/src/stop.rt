@@ -6,17 +6,16 @@ ghost use Rattle.model_runs.specs.declared.ending.End.TheVariants as ends;
 ghost use Rattle.run_lines.specs.Stops.{end_of_swap as swap_end, stop_of, stop_of_buffers as buffers_stop, stop_of_graph as graph_stop, stop_of_render as render_stop};
 ghost use Rattle.run_lines.specs.declared.stop.Stop.TheVariants as stops;
 
+use alloc_basics::NoMemory;
 use buffer_view::BufferRefused;
+use chain_owners::SwapRefused;
 use commit_session::SessionRefused;
 use graph_edits::GraphRefused;
 use model_buffers::EditRefused;
-use model_runs::End;
+use model_runs::{Cause, End};
 use model_states::StateRefused;
-use no_memory::NoMemory;
 use render_workers::RenderRefused;
-use run_texts::Cause;
 use script_read::ScriptCause;
-use swap_store::SwapRefused;
 
 /// Why a line isn't carried out: it is refused, and its text is still to be put, or the run ends.
 #[derive(Clone, Copy, Debug, PartialEq, Eq)]

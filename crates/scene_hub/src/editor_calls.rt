@@ -9,7 +9,7 @@ use crate::numbered::Numbered;
 use crate::publisher::Publisher;
 use crate::receipt::Receipt;
 use crate::showing::Showing;
-use no_memory::NoMemory;
+use alloc_basics::NoMemory;
 use std::sync::{Arc, Wait};
 
 impl<S: Numbered> Editor<S> {

@@ -4,7 +4,7 @@ ghost use Rattle.std.specs.Prelude.{◌≡◌};
 ghost use Rattle.scene_hub.specs.declared.refusals.HubRefused.TheVariants as hub;
 ghost use Rattle.scene_hub.specs.declared.refusals.ViewRefused.TheVariants as view;
 
-use no_memory::OutOfMemory;
+use alloc_basics::OutOfMemory;
 use thiserror::Error;
 
 /// Why a hub was not started.

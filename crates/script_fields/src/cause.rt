@@ -4,7 +4,7 @@ ghost use Rattle.std.specs.Prelude.{◌≡◌};
 ghost use Rattle.script_fields.specs.declared.cause.LineAnswer.TheVariants as answers;
 ghost use Rattle.script_fields.specs.declared.cause.ScriptAnswer.TheVariants as script_answers;
 
-use no_memory::OutOfMemory;
+use alloc_basics::OutOfMemory;
 use std::fmt;
 use thiserror::Error;
 

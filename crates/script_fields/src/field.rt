@@ -6,7 +6,7 @@ ghost use Rattle.script_words.specs.Words.{spaced};
 ghost use Rattle.plane_rect.specs.Rectangle.{IsRectangle};
 ghost use Rattle.script_fields.specs.Spelling.{AreNames, PutsFields, field_words};
 
-use no_memory::NoMemory;
+use alloc_basics::NoMemory;
 use pixel_formats::{Abyss, Format};
 use plane_rect::{Name, Rect};
 use script_words::{FileName, push_integer, push_natural, push_word};

@@ -7,8 +7,8 @@ ghost use Rattle.script_read.specs.Spelling.{HasValidFields, arguments, fields_o
 ghost use Rattle.script_read.specs.{IsScript.IsScript, Script.script_of};
 
 use crate::command::{Command, Line, OpWords};
+use alloc_basics::NoMemory;
 use model_operations::IntOp;
-use no_memory::NoMemory;
 use script_fields::Field::{File, Format, Integer, Name, Natural, Policy, Rect, Sideways};
 use script_fields::{put_fields, put_names, put_samples};
 use script_words::push_word;

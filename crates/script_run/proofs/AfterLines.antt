@@ -11,12 +11,12 @@ use Rattle.model_runs.specs.State.{RunState, first_state}
 use Rattle.model_runs.specs.Words.{Options}
 use Rattle.model_runs.specs.declared.ending.End.{End}
 use Rattle.model_runs.specs.declared.ending.End.TheVariants as ends
-use Rattle.run_events.proofs.Endings.{ended_with, events_all, files_of_world, then_ending}
-use Rattle.run_events.specs.Carried.{CarriesOut, IsCounted}
-use Rattle.run_events.specs.Moments.{Moment, world_at}
-use Rattle.run_texts.specs.Events.{Event, Puts, Refusal, events_alone}
-use Rattle.run_texts.specs.Texts.{report_text}
-use Rattle.run_texts.specs.World.{World, after_all}
+use Rattle.run_lines.proofs.Endings.{ended_with, events_all, files_of_world, then_ending}
+use Rattle.run_lines.specs.Carried.{CarriesOut, IsCounted}
+use Rattle.run_lines.specs.Moments.{Moment, world_at}
+use Rattle.model_runs.specs.Events.{Event, Puts, Refusal, events_alone}
+use Rattle.model_runs.specs.Texts.{report_text}
+use Rattle.model_runs.specs.World.{World, after_all}
 use Rattle.script_read.specs.declared.command.Line.{Line}
 use Rattle.script_run.proofs.Reading.{last_of_built}
 use Rattle.script_run.specs.Carried.{CarriesOutRead, EndsWithoutSwap, last_state}

@@ -3,7 +3,7 @@ use Rattle.std.proofs.Common.{◌≡◌, ◌≢◌, ℕ, true, length, min, List
 use Rattle.std.specs.Prelude.{⊤}
 use Rattle.std.specs.Result.{IsErrAnd}
 use Rattle.std.proofs.lemmas.List.{length-replicate}
-use Rattle.chain_handlers.specs.OwnedTiles.{counts_over}
+use Rattle.tile_chain.specs.OwnedTiles.{counts_over}
 use Rattle.chain_owners.proofs.Growing.{continues-same}
 use Rattle.outside_io.specs.Files.{Files, file}
 use Rattle.outside_io.specs.StoredBlocks.{zero_block, zero_blocks}
@@ -17,13 +17,13 @@ use Rattle.model_runs.specs.State.{Numbers}
 use Rattle.model_runs.specs.Words.{Options, default_options}
 use Rattle.model_runs.specs.declared.ending.End.{End}
 use Rattle.model_runs.specs.declared.ending.End.TheVariants as ends
-use Rattle.run_events.proofs.Carrying.{nothing_carried}
-use Rattle.run_events.proofs.Faults.{continues_same, faults_of_swap}
-use Rattle.run_events.specs.Carried.{IsCounted}
-use Rattle.run_events.specs.Moments.{HasFaults, Moment}
-use Rattle.run_texts.specs.Events.{Puts, Refusal, events_alone}
-use Rattle.run_texts.specs.Texts.{report_text, sum_text}
-use Rattle.run_texts.specs.World.{World}
+use Rattle.run_lines.proofs.Carrying.{nothing_carried}
+use Rattle.run_lines.proofs.Faults.{continues_same, faults_of_swap}
+use Rattle.run_lines.specs.Carried.{IsCounted}
+use Rattle.run_lines.specs.Moments.{HasFaults, Moment}
+use Rattle.model_runs.specs.Events.{Puts, Refusal, events_alone}
+use Rattle.model_runs.specs.Texts.{report_text, sum_text}
+use Rattle.model_runs.specs.World.{World}
 use Rattle.script_read.specs.declared.command.Line.{Line}
 use Rattle.script_run.proofs.AfterLines.{files_after_read, files_by, read_ended, read_then}
 use Rattle.script_run.proofs.Promises.{options_of, ran_by, read_at, swap_at, write_at}

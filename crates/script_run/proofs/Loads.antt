@@ -6,8 +6,8 @@ use Rattle.outside_io.specs.Files.{Files}
 use Rattle.model_runs.specs.Built.{plan_of_read}
 use Rattle.model_runs.specs.Run.{lines_of_file, no_ending}
 use Rattle.model_runs.specs.Words.{Options}
-use Rattle.run_texts.specs.Events.{refusal}
-use Rattle.run_texts.specs.declared.cause.Cause.TheVariants as causes
+use Rattle.model_runs.specs.Events.{refusal}
+use Rattle.model_runs.specs.declared.cause.Cause.TheVariants as causes
 
 pub script_too_long : (files : Files) (options : Options) (found : Option (List ℕ)) → (text : List ℕ) × (found ≡ Some text) × (max_script_bytes < length text) →
     (plan_of_read no_ending [] files options (lines_of_file found)).outcome ≡ refusal 0 causes.TooLong

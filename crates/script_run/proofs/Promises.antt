@@ -1,8 +1,7 @@
 -- What a run promises, by what it leaves and why it ends.
 use Rattle.std.proofs.Common.{◌≡◌, ℕ, ◌⊎◌, Bool, IsTrue, ◌||◌, List, [], min, Option, Some, None, Result, Ok, Err, IfSome, inl, inr, refl, sym, ap, subst, arith}
-use Rattle.chain_owners.specs.Counts.{Counts}
-use Rattle.chain_handlers.specs.OwnedTiles.{counts_over}
-use Rattle.outside_io.specs.Faults.{Rose}
+use Rattle.chain_owners.specs.Counts.{Counts, Rose}
+use Rattle.tile_chain.specs.OwnedTiles.{counts_over}
 use Rattle.outside_io.specs.Files.{Files, file}
 use Rattle.model_runs.specs.Built.{built_lines, built_plan, needs_no_swap, plan_of_read}
 use Rattle.model_runs.specs.Ending.{IsRefusal, IsWhole, MayTear, SaysRefused, end_status, status_of}
@@ -14,11 +13,11 @@ use Rattle.model_runs.specs.Watching.{AreNumbers}
 use Rattle.model_runs.specs.Words.{MakeJob, Options, Request, RunScript, ScriptRun, asked_job, asked_script, job_of, request_of, script_run_of}
 use Rattle.model_runs.specs.declared.ending.End.{End}
 use Rattle.model_runs.specs.declared.ending.End.TheVariants as ends
-use Rattle.run_events.specs.Carried.{CarriesOut, Exceeds}
-use Rattle.run_events.specs.Moments.{HasFaults, Moment, world_at}
-use Rattle.run_texts.proofs.Leaving.{some_weaker}
-use Rattle.run_texts.specs.Events.{Refusal}
-use Rattle.run_texts.specs.World.{World}
+use Rattle.run_lines.specs.Carried.{CarriesOut, Exceeds}
+use Rattle.run_lines.specs.Moments.{HasFaults, Moment, world_at}
+use Rattle.model_runs.proofs.Leaving.{some_weaker}
+use Rattle.model_runs.specs.Events.{Refusal}
+use Rattle.model_runs.specs.World.{World}
 use Rattle.script_read.specs.declared.command.Line.{Line}
 use Rattle.std.specs.Prelude.{option_and_then}
 use Rattle.script_run.proofs.Statuses.{may_tear_at}

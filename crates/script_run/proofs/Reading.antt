@@ -14,11 +14,11 @@ use Rattle.model_runs.specs.Swap.{effects_to_stop, tiles_in}
 use Rattle.model_runs.specs.Words.{Options}
 use Rattle.model_runs.specs.declared.ending.End.{End}
 use Rattle.model_runs.specs.declared.ending.End.TheVariants as ends
-use Rattle.run_events.proofs.Carrying.{carried_by_leaves, more_carried}
-use Rattle.run_events.specs.Carried.{CarriesOut, CarriesOutLines, most_to_stop}
-use Rattle.run_events.specs.Moments.{Moment, world_at}
-use Rattle.run_texts.specs.Events.{Outcome, Refusal, refusal}
-use Rattle.run_texts.specs.declared.cause.Cause.TheVariants.{Grammar, TooLong}
+use Rattle.run_lines.proofs.Carrying.{carried_by_leaves, more_carried}
+use Rattle.run_lines.specs.Carried.{CarriesOut, CarriesOutLines, most_to_stop}
+use Rattle.run_lines.specs.Moments.{Moment, world_at}
+use Rattle.model_runs.specs.Events.{Outcome, Refusal, refusal}
+use Rattle.model_runs.specs.declared.cause.Cause.TheVariants.{Grammar, TooLong}
 use Rattle.script_fields.specs.declared.cause.ScriptCause.{ScriptCause}
 use Rattle.script_fields.specs.declared.cause.ScriptCause.TheVariants.{UnknownCommand}
 use Rattle.script_read.specs.Script as grammar

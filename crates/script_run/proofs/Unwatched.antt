@@ -23,8 +23,8 @@ use Rattle.model_runs.specs.Run.{Ending, and_on, effects, files_after_all, plan_
 use Rattle.model_runs.specs.Words.{Options}
 use Rattle.model_runs.specs.State.{Effect, RunState, first_state, leaves, refuses, scene_in, workspace_of}
 use Rattle.pixel_formats.specs.declared.abyss.Abyss.{Abyss}
-use Rattle.run_texts.specs.Events.{Refusal}
-use Rattle.run_texts.specs.declared.cause.Cause.TheVariants.{Strip, UnknownNode}
+use Rattle.model_runs.specs.Events.{Refusal}
+use Rattle.model_runs.specs.declared.cause.Cause.TheVariants.{Strip, UnknownNode}
 use Rattle.script_read.specs.declared.command.Command.{Command}
 use Rattle.script_read.specs.declared.command.Command.TheVariants as commands
 use Rattle.script_read.specs.declared.command.Line.{Line}

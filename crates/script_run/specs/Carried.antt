@@ -1,6 +1,6 @@
 -- What a run of a script that was read leaves.
 use Rattle.std.specs.Prelude.{◌≢◌, Bool, true, ◌||◌, List, [], min, ℕ, Option, Result, Err}
-use Rattle.chain_handlers.specs.OwnedTiles.{counts_over}
+use Rattle.tile_chain.specs.OwnedTiles.{counts_over}
 use Rattle.outside_io.specs.Files.{Files}
 use Rattle.model_runs.specs.Built.{built_job, needs_no_swap, plan_of_read}
 use Rattle.model_runs.specs.Ran.{bytes_put, tiles_of_run}
@@ -9,9 +9,9 @@ use Rattle.model_runs.specs.State.{RunState, first_state}
 use Rattle.model_runs.specs.Words.{Options, default_options}
 use Rattle.model_runs.specs.declared.ending.End.{End}
 use Rattle.model_runs.specs.declared.ending.End.TheVariants as ends
-use Rattle.run_events.specs.Carried.{CarriesOut}
-use Rattle.run_events.specs.Moments.{Moment}
-use Rattle.run_texts.specs.Events.{Refusal}
+use Rattle.run_lines.specs.Carried.{CarriesOut}
+use Rattle.run_lines.specs.Moments.{Moment}
+use Rattle.model_runs.specs.Events.{Refusal}
 use Rattle.script_read.specs.declared.command.Line.{Line}
 
 -- What was read of a script is carried out, with what is done at its end, over a swap that exposes its blocks or

@@ -1,7 +1,7 @@
 pub mod Carried
 pub use Rattle.outside_io.specs.Files
 pub use Rattle.outside_io.specs.Faults
-pub use Rattle.run_texts.specs.World
+pub use Rattle.model_runs.specs.World
 pub use Rattle.model_runs.specs.Built
 pub use Rattle.model_runs.specs.Ending
 pub use Rattle.model_runs.specs.Ran

@@ -2,16 +2,14 @@
 
 ghost use Rattle.std.specs.Prelude.{[], ◌∷◌, IfOk};
 ghost use Rattle.model_runs.specs.{Ending.ended, MadeJob.render_sum};
-ghost use Rattle.run_events.specs.{Causes.HasSinkCause, Leaving.SinkLeaves};
-ghost use Rattle.run_texts.specs.Events.{Puts, events_alone, refusal};
-ghost use Rattle.run_texts.specs.Texts.{report_text as text_of_report, sum_text as text_of_sum};
+ghost use Rattle.run_lines.specs.{Causes.HasSinkCause, Leaving.SinkLeaves};
+ghost use Rattle.model_runs.specs.Events.{Puts, events_alone, refusal};
+ghost use Rattle.model_runs.specs.Texts.{report_text as text_of_report, sum_text as text_of_sum};
 
 use crate::sums::sum_of_renders;
-use model_runs::End;
+use model_runs::{Cause, End, report_text, sum_text};
 use outside_io::{Sink, SureShelf};
-use run_events::{put_text, refuse};
-use run_lines::Counts;
-use run_texts::{Cause, report_text, sum_text};
+use run_lines::{Counts, put_text, refuse};
 use std::alloc::Global;
 
 /// Ends a run at a line that is refused, and puts its text.

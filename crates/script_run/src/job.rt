@@ -3,14 +3,14 @@
 ghost use Rattle.std.specs.Prelude.{◌≡◌, IfOk, Option, Some};
 ghost use Rattle.outside_io.specs.Files.{Files};
 ghost use Rattle.model_runs.specs.MadeJob.{made_files};
-ghost use Rattle.run_events.specs.Moments.{HasFaults};
+ghost use Rattle.run_lines.specs.Moments.{HasFaults};
 ghost use Rattle.script_run.specs.Carried.{CarriesOutJob, job_moment};
 
 use crate::endings::put_job_end;
 use crate::script::carry_out_script;
+use alloc_basics::NoMemory;
 use made_jobs::make_script;
 use model_runs::End;
-use no_memory::NoMemory;
 use outside_io::{Sink, SureShelf, SureSwap};
 use run_words::Options;
 use std::alloc::Global;

@@ -2,7 +2,7 @@
 
 ghost use Rattle.std.specs.Prelude.{◌≡◌, ◌≢◌, ◌↔◌, ◌≤◌, ◌⊎◌, ◌||◌, [], is_some, map, string_bytes, None, Option, Some, IfSome, IsTrue, ⊤};
 ghost use Rattle.outside_io.specs.Files.{Files, file};
-ghost use Rattle.outside_io.specs.Faults.{Rose};
+ghost use Rattle.chain_owners.specs.Counts.{Rose};
 ghost use Rattle.model_runs.specs.Built.{built_job, built_plan, needs_no_swap};
 ghost use Rattle.model_runs.specs.Ran.{NoneFalls, Ran};
 ghost use Rattle.model_runs.specs.Words.{asked_job, asked_script, request_of as asked_by};

@@ -1,22 +1,21 @@
 //! Scripts of a shelf.
 
 ghost use Rattle.std.specs.Prelude.{◌≡◌, is_some, min, Ok, IfOk, IfSome, IsTrue};
-ghost use Rattle.chain_handlers.specs.OwnedTiles.{counts_over};
+ghost use Rattle.tile_chain.specs.OwnedTiles.{counts_over};
 ghost use Rattle.outside_io.specs.{FileName.is_file_name, Files.file};
 ghost use Rattle.script_read.specs.{IsScript.IsScript, Script.script_of};
 ghost use Rattle.model_runs.specs.Run.{by_grammar, lines_of_file, no_ending, report};
 ghost use Rattle.model_runs.specs.{Built.needs_no_swap, Ending.ended, Laws.AreInRange};
-ghost use Rattle.run_events.specs.{Carried.IsCounted, Moments.HasFaults};
+ghost use Rattle.run_lines.specs.{Carried.IsCounted, Moments.HasFaults};
 ghost use Rattle.run_words.specs.Meant.{options_meant};
 ghost use Rattle.script_run.specs.Carried.{CarriesOutRead, EndsWithoutSwap, last_state};
 
 use crate::built::first_unbuilt;
 use crate::endings::{put_report, refuse_script};
-use model_runs::End;
+use model_runs::{Cause, End};
 use outside_io::{Shelf, ShelfAnswer, Sink, SwapDisk};
 use pixel_formats::limits::MAX_SCRIPT_BYTES;
 use run_lines::{Counts, RunLimits, carry_out};
-use run_texts::Cause;
 use run_words::Options;
 use script_read::{Line, ScriptAnswer, ScriptCause, read_script};
 use std::alloc::Global;

@@ -4,7 +4,7 @@ ghost use Rattle.std.specs.Prelude.{◌≡◌, ◌*◌, ◌≤◌, ◌^◌, [], 
 ghost use Rattle.outside_io.specs.Files.{file};
 ghost use Rattle.model_runs.specs.MadeJob.{render_file, render_sum};
 
-use no_memory::NoMemory;
+use alloc_basics::NoMemory;
 use outside_io::SureShelf;
 use std::alloc::{AllocError, Global};
 

@@ -3,8 +3,8 @@
 ghost use Rattle.std.specs.Prelude.{◌≡◌, ◌∷◌, ◌++◌, decimal, OnErr, OnOk};
 ghost use Rattle.std.specs.Fmt.{signed_decimal};
 
+use alloc_basics::NoMemory;
 use itoa::Buffer;
-use no_memory::NoMemory;
 
 /// Appends a space and a word to a text. Takes time in proportion to the word, amortized over the
 /// appends to the text.

@@ -3,7 +3,7 @@
 ghost use Rattle.std.specs.Prelude.{◌≡◌, map, OnOk};
 ghost use Rattle.script_words.specs.Words.{is_blank, words_of};
 
-use no_memory::NoMemory;
+use alloc_basics::NoMemory;
 
 /// Replaces `words` by the words of a line, in their order. Spaces and tabs separate them, and none
 /// is empty. The vector keeps its memory, so that one serves for many lines. Takes time in

@@ -1,8 +1,8 @@
 -- What is edited and what was committed, of whatever type: one value as it is edited, and those of the retained states.
 use Rattle.std.specs.Prelude.{◌≡◌, List, [], ◌∷◌, ◌++◌, map, take}
 use Rattle.pixel_formats.specs.Limits.{max_undoable}
-use Rattle.graph_commits.specs.declared.direction.Direction.{Direction}
-use Rattle.graph_commits.specs.Directions.{by_direction}
+use Rattle.model_states.specs.declared.direction.Direction.{Direction}
+use Rattle.model_states.specs.Directions.{by_direction}
 
 -- The value as it is edited, that of the last state, and those of the states that can be undone and redone to, the next
 -- one first.

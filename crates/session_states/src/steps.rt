@@ -9,10 +9,10 @@ ghost use Rattle.session_states.specs.OverChains.{AreAllOver, AreAllSame, AreSha
 ghost use Rattle.session_states.specs.Versions.{IsMoved, IsOneOf, after_commit, all_versions, versions_after, versions_ahead};
 
 use crate::versions::BufferVersions;
+use alloc_basics::NoMemory;
 use buffer_view::Buffers;
 use chain_contracts::TileChain;
-use graph_commits::{Direction, MAX_UNDOABLE};
-use no_memory::NoMemory;
+use model_states::{Direction, MAX_UNDOABLE};
 use std::collections::VecDeque;
 use std::mem;
 

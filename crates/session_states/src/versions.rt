@@ -6,9 +6,9 @@ ghost use Rattle.buffer_view.specs.BufferTables.{empty_table};
 ghost use Rattle.session_states.specs.Versions.{new_versions, versions_ahead};
 ghost use Rattle.session_states.specs.OverChains.{AreVersionsOver};
 
+use alloc_basics::NoMemory;
 use buffer_view::{Buffers, no_buffers_ask_nothing};
-use graph_commits::{Direction, MAX_UNDOABLE};
-use no_memory::NoMemory;
+use model_states::{Direction, MAX_UNDOABLE};
 use std::alloc::Global;
 use std::collections::VecDeque;
 use std::marker::Model;

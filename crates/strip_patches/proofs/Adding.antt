@@ -7,7 +7,7 @@ use Rattle.std.proofs.lemmas.Option.{same_Some, slice_get_within}
 use Rattle.std.proofs.lemmas.List.{length-map}
 use Rattle.std.proofs.lemmas.List.FromFn.{length-range_with_len}
 use Rattle.plane_rect.specs.Rectangle.{InLimits, Inside, IsRectangle, Rectangle, empty, halved, meet, scaled}
-use Rattle.plane_rect.specs.Tile.{tile_lines, tile_of}
+use Rattle.plane_rect.specs.Tile.{tile_lines, tile_of, strip_rectangles, tile_line}
 use Rattle.plane_rect.proofs.RectangleLaws.{IsRectangle-meet}
 use Rattle.plane_rect.proofs.Rectangles.{Inside-meet}
 use Rattle.pixel_formats.specs.Format.{channels}
@@ -22,7 +22,6 @@ use Rattle.model_images.proofs.Laws.{IsImage-image_from_fn, at-image_from_fn, ge
 use Rattle.model_images.proofs.LevelLaws.{IsImage-level, InLimits-level, level-format}
 use Rattle.model_images.proofs.Positions.{by_positions, not_inside}
 use Rattle.model_images.proofs.Samples.{inside_where}
-use Rattle.model_states.specs.Need.{strip_rectangles, tile_line}
 use Rattle.strip_patches.specs.LevelStrips.{AreOfOne, HasStrips, IsRequest, LevelStrips, halves, source_of, strip_level}
 use Rattle.strip_patches.specs.Nodes.{HasPart}
 use Rattle.strip_patches.proofs.Halves.{box-more, box-positions, halves-more, level-more, same-line, source-positions}

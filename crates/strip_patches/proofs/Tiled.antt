@@ -5,14 +5,13 @@ use Rattle.std.proofs.Math.Nat.{mul-le-mul}
 use Rattle.std.proofs.lemmas.List.Elements.{All-push}
 use Rattle.std.proofs.lemmas.Option.{get_or_from_slice_get, same_Some, slice_get-get_or, slice_get_within}
 use Rattle.plane_rect.specs.Rectangle.{Includes, InLimits, Inside, IsRectangle, Rectangle, empty, end_column, end_row, meet, plane_side, spanning}
-use Rattle.plane_rect.specs.Tile.{IsWhole, Tile, tile_at, tile_of}
+use Rattle.plane_rect.specs.Tile.{IsWhole, Tile, tile_at, tile_of, strip_rectangles, tile_line}
 use Rattle.plane_rect.proofs.Rectangles.{Inside-meet}
 use Rattle.pixel_formats.specs.Format.{pixel_bytes}
 use Rattle.pixel_formats.specs.declared.format.Format.{Format}
 use Rattle.model_images.specs.Image.{Image, IsImage, at, image_from_fn}
 use Rattle.model_images.specs.Paint.{cut}
 use Rattle.model_images.proofs.Laws.{generated_equal, image_from_fn-at}
-use Rattle.model_states.specs.Need.{strip_rectangles, tile_line}
 use Rattle.op_contracts.specs.TileList.{HasLength}
 use Rattle.strip_patches.specs.Bands.{HasBands}
 use Rattle.strip_patches.specs.Pictures.{AreTilesOver, HasRows, IsTiled, TiledRect}

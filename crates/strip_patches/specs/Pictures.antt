@@ -1,11 +1,10 @@
 -- Tiles that make a rectangle of an image, by rows of tiles.
 use Rattle.std.specs.Prelude.{◌≡◌, ℕ, ◌*◌, All, Contains, List, Some, length, slice_get}
 use Rattle.plane_rect.specs.Rectangle.{Includes, InLimits, IsRectangle, Rectangle}
-use Rattle.plane_rect.specs.Tile.{IsWhole, Meets, Tile}
+use Rattle.plane_rect.specs.Tile.{IsWhole, Meets, Tile, strip_rectangles}
 use Rattle.pixel_formats.specs.Format.{pixel_bytes}
 use Rattle.pixel_formats.specs.declared.format.Format.{Format}
 use Rattle.model_images.specs.Image.{Image}
-use Rattle.model_states.specs.Need.{strip_rectangles}
 use Rattle.op_contracts.specs.TileList.{HasLength, tiles_in}
 use Rattle.strip_patches.specs.Bands.{AreOfImage}
 

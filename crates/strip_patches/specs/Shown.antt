@@ -4,7 +4,7 @@ use Rattle.plane_rect.specs.Rectangle.{Rectangle}
 use Rattle.pixel_formats.specs.declared.format.Format.{Format}
 use Rattle.model_images.specs.Image.{Image}
 use Rattle.model_images.specs.Paint.{cut}
-use Rattle.model_states.specs.Need.{strip_rectangles}
+use Rattle.plane_rect.specs.Tile.{strip_rectangles}
 use Rattle.strip_patches.specs.LevelStrips.{HasStrips, source_of}
 use Rattle.strip_patches.specs.Pictures.{HasRows}
 use Rattle.strip_patches.specs.declared.picture.Picture.{Picture}

@@ -2,12 +2,12 @@
 
 ghost use Rattle.std.specs.Prelude.{◌≡◌, ℕ, ◌+◌, ◌<◌, ◌≤◌, ◌↔◌, List, Some, length, slice_get};
 ghost use Rattle.plane_rect.specs.Rectangle.{Inside, IsRectangle, Rectangle, scaled};
-ghost use Rattle.plane_rect.specs.Tile.{tile_of};
+ghost use Rattle.plane_rect.specs.Tile.{tile_of, strip_rectangles};
 ghost use Rattle.model_graphs.specs.Facts.{AreImagesOf, Facts, shapes_of_facts};
 ghost use Rattle.model_graphs.specs.{Evaluation.Buffers, Meanings.Meanings, Shapes.shape_of_image, declared.node.NodeFact.NodeFact};
 ghost use Rattle.model_images.specs.Level.{level, level_box};
 ghost use Rattle.model_images.specs.{Image.Image, Paint.cut};
-ghost use Rattle.model_states.specs.{Need.strip_rectangles, Valid.AreStated};
+ghost use Rattle.model_states.specs.Valid.{AreStated};
 ghost use Rattle.node_tiles.specs.Stated.{shape_at};
 ghost use Rattle.strip_patches.specs.{LevelStrips.halves, Nodes.image_at};
 

@@ -2,19 +2,18 @@
 
 ghost use Rattle.std.specs.Prelude.{◌≡◌, ℕ, ◌+◌, ◌*◌, ◌≤◌, All, IfOk, IsSome, OnErr, OnOk, Some, length, min, slice_get};
 ghost use Rattle.plane_rect.specs.Rectangle.{InLimits, IsRectangle, Rectangle, meet, scaled};
-ghost use Rattle.plane_rect.specs.Tile.{IsWhole};
+ghost use Rattle.plane_rect.specs.Tile.{IsWhole, strip_rectangles};
 ghost use Rattle.pixel_formats.specs.Format.{pixel_bytes};
 ghost use Rattle.model_images.specs.Image.{Image, at};
 ghost use Rattle.model_images.specs.Level.{level as image_level, level_box};
 ghost use Rattle.model_images.specs.Paint.{cut, painted};
-ghost use Rattle.model_states.specs.Need.{strip_rectangles};
 ghost use Rattle.op_contracts.specs.TileList.{HasLength};
 ghost use Rattle.strip_patches.specs.LevelStrips.{AreOfOne, HasStrips, LevelStrips, source_of};
 ghost use Rattle.strip_patches.specs.Pictures.{AreTilesOver};
 
 use crate::bands::put_by_bands;
 use crate::patching::patch_of_tiles;
-use no_memory::NoMemory;
+use alloc_basics::NoMemory;
 use patch_abyss::{Patch, halve};
 use pixel_formats::Format;
 use plane_rect::{Rect, TileAt};

@@ -8,7 +8,7 @@ ghost use Rattle.model_states.specs.Valid.{AreStated};
 ghost use Rattle.plane_rect.specs.Rectangle.{InLimits, meet};
 ghost use Rattle.plane_rect.specs.Tile.{IsWhole};
 ghost use Rattle.pixel_formats.specs.Format.{pixel_bytes};
-ghost use Rattle.swap_store.specs.Cause.{HasSwapCause};
+ghost use Rattle.chain_owners.specs.Cause.{HasSwapCause};
 ghost use Rattle.op_contracts.specs.TileList.{HasLength};
 ghost use Rattle.node_tiles.specs.Reads.{Reads, seen};
 ghost use Rattle.node_tiles.specs.Stated.{AreTilesOf, HaveLengths, shape_at};
@@ -16,16 +16,15 @@ ghost use Rattle.strip_patches.specs.Nodes.{HoldsPart, image_at};
 ghost use Rattle.strip_patches.specs.Pictures.{AreTilesOver};
 
 use crate::bands::put_by_bands;
-use chain_owners::ChainMeaning;
+use alloc_basics::NoMemory;
+use chain_owners::{ChainMeaning, SwapRefused};
 use model_graphs::NodeFact;
-use no_memory::NoMemory;
 use node_tiles::{StripTiles, input_tiles};
 use op_contracts::{OpMeaning, SourceTiles, WindowTiles};
 use patch_abyss::Patch;
 use pixel_formats::Format;
 use plane_rect::{Rect, TileAt};
 use std::alloc::Global;
-use swap_store::SwapRefused;
 use tile_cow::Tile;
 
 /// Returns the tiles of the node at a position that meet a rectangle within the node's box, in their order: of an

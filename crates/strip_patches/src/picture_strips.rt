@@ -4,8 +4,9 @@ ghost use Rattle.std.specs.Prelude.{◌≡◌, ℕ, ◌+◌, ◌<◌, ◌≤◌,
 ghost use Rattle.plane_rect.specs.Rectangle.{InLimits, IsRectangle, scaled};
 ghost use Rattle.model_graphs.specs.{Evaluation.Buffers, Facts.shapes_of_facts};
 ghost use Rattle.model_images.specs.{Image.Image, Level.level as image_level};
-ghost use Rattle.model_states.specs.{Need.strip_rectangles, Valid.AreStated};
-ghost use Rattle.swap_store.specs.Cause.{HasSwapCause};
+ghost use Rattle.model_states.specs.Valid.{AreStated};
+ghost use Rattle.plane_rect.specs.Tile.{strip_rectangles};
+ghost use Rattle.chain_owners.specs.Cause.{HasSwapCause};
 ghost use Rattle.node_tiles.specs.Reads.{Reads, seen};
 ghost use Rattle.node_tiles.specs.Stated.{AreTilesOf, HaveLengths, shape_at};
 ghost use Rattle.strip_patches.specs.Nodes.{HoldsPart, image_at};
@@ -15,15 +16,14 @@ use crate::level_patch::LevelPatch;
 use crate::patching::part_tiles;
 use crate::picture::{Picture, PictureForm};
 use crate::tiled_patch::TiledPatch;
-use chain_owners::ChainMeaning;
+use alloc_basics::NoMemory;
+use chain_owners::{ChainMeaning, SwapRefused};
 use model_graphs::NodeFact;
-use no_memory::NoMemory;
 use node_tiles::StripTiles;
 use op_contracts::{OpMeaning, SourceTiles};
 use pixel_formats::Format;
 use plane_rect::Rect;
 use std::alloc::Global;
-use swap_store::SwapRefused;
 
 /// How many columns a rectangle has at least whose tiles are kept. A file takes the bytes of one row of tiles in each call,
 /// and of narrower ones these would be few.

@@ -2,16 +2,15 @@
 
 ghost use Rattle.std.specs.Prelude.{◌≡◌, [], ◌∷◌, ◌++◌, ℕ, ◌+◌, ◌*◌, ◌<◌, All, IfOk, OnErr, OnOk, Some, length, slice_get};
 ghost use Rattle.model_images.specs.{Image.Image, Paint.cut};
-ghost use Rattle.model_states.specs.Need.{strip_rectangles};
+ghost use Rattle.plane_rect.specs.Tile.{strip_rectangles, IsWhole};
 ghost use Rattle.plane_rect.specs.Rectangle.{InLimits, IsRectangle};
-ghost use Rattle.plane_rect.specs.Tile.{IsWhole};
 ghost use Rattle.pixel_formats.specs.Format.{pixel_bytes};
 ghost use Rattle.op_contracts.specs.TileList.{HasLength};
 ghost use Rattle.strip_patches.specs.Pictures.{HasRows};
 
 use crate::bands::put_by_bands;
 use crate::used_memory::patch_in;
-use no_memory::NoMemory;
+use alloc_basics::NoMemory;
 use op_contracts::WindowTiles;
 use patch_abyss::Patch;
 use pixel_formats::Format;

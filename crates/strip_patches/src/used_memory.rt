@@ -4,7 +4,7 @@ ghost use Rattle.std.specs.Prelude.{◌≡◌, IfOk, length};
 ghost use Rattle.plane_rect.specs.Rectangle.{InLimits};
 ghost use Rattle.model_images.specs.Image.{IsImage};
 
-use no_memory::NoMemory;
+use alloc_basics::NoMemory;
 use patch_abyss::Patch;
 use pixel_formats::Format;
 use plane_rect::Rect;

@@ -8,9 +8,9 @@ use Rattle.chain_owners.specs.Owners.{Owns, Respects, times}
 use Rattle.chain_owners.specs.declared.chain_meaning.ChainMeaning.{Ghosts as Chains}
 use Rattle.chain_owners.proofs.Growing.{grows-both, grows-more}
 use Rattle.chain_owners.proofs.Ownership.{others-own, others-unchanged, owns-fewer, respects-beside, respects-both, times-append}
-use Rattle.swap_store.specs.Cause.{HasSwapCause}
-use Rattle.swap_store.specs.declared.refusal.SwapRefused.{SwapRefused}
-use Rattle.swap_store.proofs.Causes.{cause-before, cause-more}
+use Rattle.chain_owners.specs.Cause.{HasSwapCause}
+use Rattle.chain_owners.specs.declared.swap_refused.SwapRefused.{SwapRefused}
+use Rattle.chain_owners.proofs.Causes.{cause-before, cause-more}
 use Rattle.op_contracts.specs.declared.source_tiles.SourceTiles.{Ghosts as Sources}
 use Rattle.node_cache.specs.Stores.{AddsNoOther, HaveOneOwner, IsFramedCondition}
 use Rattle.node_cache.specs.declared.pair_store.PairStore.{Ghosts as Stores}

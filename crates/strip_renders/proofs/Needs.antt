@@ -8,7 +8,7 @@ use Rattle.std.proofs.lemmas.List.{length-append}
 use Rattle.std.proofs.lemmas.List.Elements.{All-contains, All-from_recursion}
 use Rattle.std.proofs.lemmas.Option.{same_Some}
 use Rattle.plane_rect.specs.Rectangle.{Rectangle, meet}
-use Rattle.plane_rect.specs.Tile.{Tile}
+use Rattle.plane_rect.specs.Tile.{Tile, strip_rectangles}
 use Rattle.model_graphs.specs.declared.node.NodeFact.{NodeFact}
 use Rattle.model_graphs.specs.Facts.{specs_of, stated_shapes}
 use Rattle.model_graphs.specs.Laws.{IsBoxed}
@@ -17,7 +17,7 @@ use Rattle.model_graphs.specs.Node.{Apply, FromBuffer, Step}
 use Rattle.model_graphs.specs.Shapes.{Shape, Shapes, no_shape}
 use Rattle.model_states.specs.Cache.{IsPairOf, pair_of, same_pair}
 use Rattle.model_states.specs.declared.strip.Strip.{Strip}
-use Rattle.model_states.specs.Need.{Asked, Needed, asked_by, asked_of, need, needed, needed_of, strip_of, strip_rectangles}
+use Rattle.model_states.specs.Need.{Asked, Needed, asked_by, asked_of, need, needed, needed_of, strip_of}
 use Rattle.model_states.specs.Regions.{tiles_of_any}
 use Rattle.model_states.specs.Serving.{ServesItself}
 use Rattle.model_states.specs.Valid.{AreStated, AreValidSteps, IsValidStep, node_names, step_shape, steps_of}

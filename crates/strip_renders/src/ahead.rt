@@ -3,7 +3,7 @@
 ghost use Rattle.std.specs.Prelude.{◌≡◌, ℕ, ◌+◌, ◌<◌, ◌≤◌, [], IfErr, IfOk, IsTrue, MatchResult, Some, length, take};
 ghost use Rattle.std.specs.List.{AllByRecursion};
 ghost use Rattle.model_graphs.specs.Evaluation.{Buffers};
-ghost use Rattle.swap_store.specs.Cause.{HasSwapCause};
+ghost use Rattle.chain_owners.specs.Cause.{HasSwapCause};
 ghost use Rattle.node_tiles.specs.Reads.{Reads, seen};
 ghost use Rattle.node_tiles.specs.Stated.{AreTilesOf};
 ghost use Rattle.strip_renders.specs.Ahead.{AreMadeOf, AreNext, IsTaken};
@@ -12,7 +12,7 @@ ghost use Rattle.strip_renders.specs.Strips.{AreStatedWith, HoldsNeed, IsStripOf
 use crate::batch::batch_of;
 use crate::evaluator::Evaluator;
 use crate::jobs::{apply_jobs, tile_jobs};
-use chain_owners::ChainMeaning;
+use chain_owners::{ChainMeaning, SwapRefused};
 use node_cache::PairStore;
 use node_tiles::StripTiles;
 use op_contracts::{OpKit, SourceTiles};
@@ -22,7 +22,6 @@ use std::alloc::Global;
 use std::collections::VecDeque;
 use std::marker::Model;
 use std::thread::Threads;
-use swap_store::SwapRefused;
 use tile_cow::Tile;
 use worker_pieces::Workers;
 

@@ -8,7 +8,7 @@ ghost use Rattle.strip_renders.specs.Batches.{AddsRows, AreOfOneNode, IsBatch, I
 ghost use Rattle.strip_renders.specs.Strips.{IsStripOf};
 
 use crate::evaluator::Evaluator;
-use no_memory::NoMemory;
+use alloc_basics::NoMemory;
 use op_contracts::OpKit;
 use plane_rect::TileAt;
 use roi_planner::Strip;

@@ -3,7 +3,7 @@
 ghost use Rattle.std.specs.Prelude.{◌≡◌, ℕ, ◌+◌, ◌<◌, ◌≤◌, IfErr, IfOk, IfSome, MatchResult, None, Some, length};
 ghost use Rattle.model_graphs.specs.{Evaluation.Buffers, Facts.specs_of, Permits.Spent};
 ghost use Rattle.model_states.specs.Cache.{find_pair, itself, pair_of};
-ghost use Rattle.swap_store.specs.Cause.{HasSwapCause};
+ghost use Rattle.chain_owners.specs.Cause.{HasSwapCause};
 ghost use Rattle.node_tiles.specs.Reads.{Reads, seen};
 ghost use Rattle.node_tiles.specs.Stated.{AreTilesOf, HaveLengths, IsReady, bytes_at, length_at};
 ghost use Rattle.strip_renders.specs.Ahead.{IsMade, IsMadeOf, IsRefusedAt, permits_of};
@@ -12,12 +12,11 @@ ghost use Rattle.strip_renders.specs.Moments.{AreOver, Keeps, moment};
 ghost use Rattle.strip_renders.specs.Strips.{AreStatedWith};
 
 use crate::evaluator::Evaluator;
-use chain_owners::ChainMeaning;
+use chain_owners::{ChainMeaning, SwapRefused};
 use node_cache::PairStore;
 use node_tiles::{StripTiles, apply_job, tile_job};
 use op_contracts::{OpKit, SourceTiles};
 use plane_rect::TileAt;
-use swap_store::SwapRefused;
 use tile_cow::Tile;
 
 /// Returns a tile of the node at a position: the one that was made ahead, with its permit, or else carries out its job,

@@ -4,7 +4,7 @@ ghost use Rattle.std.specs.Prelude.{◌≡◌, ℕ, ◌+◌, ◌<◌, ◌≤◌,
 ghost use Rattle.std.specs.List.{AllByRecursion};
 ghost use Rattle.model_graphs.specs.{Evaluation.Buffers, Permits.Spent};
 ghost use Rattle.model_states.specs.Need.{Needed};
-ghost use Rattle.swap_store.specs.Cause.{HasSwapCause};
+ghost use Rattle.chain_owners.specs.Cause.{HasSwapCause};
 ghost use Rattle.roi_planner.specs.Inputs.{all_inputs};
 ghost use Rattle.node_tiles.specs.Reads.{Reads, seen};
 ghost use Rattle.node_tiles.specs.Stated.{AreTilesOf, HaveLengths, IsReady};
@@ -13,9 +13,9 @@ ghost use Rattle.strip_renders.specs.Ahead.{AreJobs, AreJobsOf, AreReady, made_o
 ghost use Rattle.strip_renders.specs.Strips.{AreStatedWith};
 
 use crate::evaluator::Evaluator;
-use chain_owners::ChainMeaning;
+use alloc_basics::NoMemory;
+use chain_owners::{ChainMeaning, SwapRefused};
 use model_graphs::NodeFact;
-use no_memory::NoMemory;
 use node_cache::PairStore;
 use node_tiles::{StripTiles, TileJob, apply_job, tile_job};
 use op_contracts::{OpKit, SourceTiles};
@@ -23,7 +23,6 @@ use plane_rect::TileAt;
 use roi_planner::NodeInputs;
 use std::alloc::Global;
 use std::thread::Threads;
-use swap_store::SwapRefused;
 use tile_cow::Tile;
 use worker_pieces::Workers;
 

@@ -4,7 +4,7 @@ ghost use Rattle.std.specs.Prelude.{◌≡◌, ℕ, ◌+◌, ◌<◌, ◌≤◌,
 ghost use Rattle.model_graphs.specs.Facts.{specs_of, stated_shapes};
 ghost use Rattle.model_graphs.specs.Evaluation.{Buffers};
 ghost use Rattle.model_states.specs.Cache.{IsPairOf, pair_of};
-ghost use Rattle.swap_store.specs.Cause.{HasSwapCause};
+ghost use Rattle.chain_owners.specs.Cause.{HasSwapCause};
 ghost use Rattle.node_tiles.specs.Stated.{AreTilesOf, HaveLengths, IsReady, bytes_at, length_at};
 ghost use Rattle.strip_renders.specs.Ahead.{IsMade, IsMadeOf, IsPermitted, IsRefusedAt, permits_of};
 ghost use Rattle.strip_renders.specs.Looks.{HasSameCache, IsLookedUp};
@@ -13,12 +13,11 @@ ghost use Rattle.strip_renders.specs.Strips.{AreKnownRight, AreSizedPairs, AreSt
 
 use crate::evaluator::Evaluator;
 use crate::fresh::fresh_tile;
-use chain_owners::ChainMeaning;
+use chain_owners::{ChainMeaning, SwapRefused};
 use node_cache::PairStore;
 use node_tiles::StripTiles;
 use op_contracts::{OpKit, SourceTiles};
 use plane_rect::TileAt;
-use swap_store::SwapRefused;
 use tile_cow::Tile;
 
 /// How many pixels a tile has.

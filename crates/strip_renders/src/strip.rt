@@ -4,7 +4,7 @@ ghost use Rattle.std.specs.Prelude.{◌≡◌, ℕ, ◌+◌, ◌≤◌, IfErr, I
 ghost use Rattle.std.specs.List.{AllByRecursion};
 ghost use Rattle.model_graphs.specs.{Evaluation.Buffers, Permits.Spent};
 ghost use Rattle.model_states.specs.Cache.{AreRight, Cached, all_looked_up, itself, uncounted};
-ghost use Rattle.swap_store.specs.Cause.{HasSwapCause};
+ghost use Rattle.chain_owners.specs.Cause.{HasSwapCause};
 ghost use Rattle.node_cache.specs.Stores.{HaveOneOwner};
 ghost use Rattle.node_tiles.specs.Stated.{scene_of};
 ghost use Rattle.strip_renders.specs.Ahead.{AreMadeOf, AreNext};
@@ -14,13 +14,12 @@ ghost use Rattle.strip_renders.specs.Strips.{AreKnownRight, AreSizedPairs, AreSt
 use crate::ahead::AheadTiles;
 use crate::evaluator::Evaluator;
 use crate::turns::hold_next;
-use chain_owners::ChainMeaning;
+use chain_owners::{ChainMeaning, SwapRefused};
 use node_cache::PairStore;
 use node_tiles::StripTiles;
 use op_contracts::{OpKit, SourceTiles};
 use roi_planner::Strip;
 use std::thread::Threads;
-use swap_store::SwapRefused;
 use worker_pieces::Workers;
 
 /// What a strip has done: the tiles that it needs, how many of them were evaluated and how many the

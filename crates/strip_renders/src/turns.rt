@@ -4,7 +4,7 @@ ghost use Rattle.std.specs.Prelude.{◌≡◌, [], ℕ, ◌∷◌, ◌+◌, ◌�
 ghost use Rattle.std.specs.List.{AllByRecursion};
 ghost use Rattle.model_graphs.specs.{Evaluation.Buffers, Facts.specs_of};
 ghost use Rattle.model_states.specs.Cache.{AreRight, Cached, pair_of};
-ghost use Rattle.swap_store.specs.Cause.{HasSwapCause};
+ghost use Rattle.chain_owners.specs.Cause.{HasSwapCause};
 ghost use Rattle.node_tiles.specs.Stated.{AreTilesOf, scene_of};
 ghost use Rattle.strip_renders.specs.Ahead.{AreMadeOf, AreNext, IsSpentFor};
 ghost use Rattle.strip_renders.specs.Moments.{AreOver, Keeps, moment};
@@ -14,14 +14,13 @@ ghost use Rattle.strip_renders.specs.Looks.{IsRecent};
 use crate::ahead::{AheadTiles, look_ahead};
 use crate::evaluator::Evaluator;
 use crate::holding::hold_needed;
-use chain_owners::ChainMeaning;
+use chain_owners::{ChainMeaning, SwapRefused};
 use node_cache::PairStore;
 use node_tiles::StripTiles;
 use op_contracts::{OpKit, SourceTiles};
 use plane_rect::TileAt;
 use roi_planner::Strip;
 use std::thread::Threads;
-use swap_store::SwapRefused;
 use worker_pieces::Workers;
 
 /// Holds a needed tile, which is that at an index of a strip, and returns whether the cache had it: looks its pair up, and where it

@@ -6,7 +6,7 @@ use Rattle.std.specs.List.{concat, slice_get}
 use Rattle.std.proofs.lemmas.List.{drop-take, length-drop, length-take-le}
 use Rattle.outside_io.specs.Swap.{Blocks, UnchangedOutside, WritesBlock, bytes_of_blocks}
 use Rattle.outside_io.specs.declared.swap.SwapAnswer.{SwapAnswer}
-use Rattle.swap_store.specs.declared.refusal.SwapRefused.{SwapRefused}
+use Rattle.chain_owners.specs.declared.swap_refused.SwapRefused.{SwapRefused}
 use Rattle.outside_io.proofs.BlockRanges.{take_shorter, drop_further, bytes-more}
 use Rattle.swap_store.specs.Content.{BeginsAt}
 

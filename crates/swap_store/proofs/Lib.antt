@@ -7,4 +7,3 @@ pub mod Contents
 pub mod Windows
 pub mod FoundRoom
 pub mod Putting
-pub mod Causes

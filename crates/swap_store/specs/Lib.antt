@@ -3,4 +3,3 @@ pub mod Placement
 pub mod Content
 pub mod Refusal
 pub mod Store
-pub mod Cause

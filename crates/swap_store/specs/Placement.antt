@@ -2,7 +2,7 @@
 use Rattle.std.specs.Prelude.{◌≡◌, ◌≢◌, ℕ, ◌+◌, ◌<◌, ◌≤◌, ◌^◌, ◌↔◌, List, OnErr, OnOk, Result, Some, length, refl, slice_index_or}
 use Rattle.std.specs.Coded.{Coded, code_by, coded×, coded_list, coded_ℕ}
 use Rattle.std.specs.FinMap as map
-use Rattle.no_memory.specs.declared.NoMemory.{NoMemory}
+use Rattle.alloc_basics.specs.declared.memory.NoMemory.{NoMemory}
 use Rattle.tile_cow.specs.Tile.{IsTileLength}
 use Rattle.chain_owners.specs.declared.run.Run.{Run}
 use Rattle.swap_store.specs.declared.block_map.Extent.{Extent}

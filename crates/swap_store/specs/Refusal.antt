@@ -1,8 +1,8 @@
 -- What a store makes of the answers of its disk.
 use Rattle.outside_io.specs.declared.swap.SwapAnswer.{SwapAnswer}
 use Rattle.outside_io.specs.declared.swap.SwapAnswer.TheVariants as answers
-use Rattle.swap_store.specs.declared.refusal.SwapRefused.{SwapRefused}
-use Rattle.swap_store.specs.declared.refusal.SwapRefused.TheVariants as refusals
+use Rattle.chain_owners.specs.declared.swap_refused.SwapRefused.{SwapRefused}
+use Rattle.chain_owners.specs.declared.swap_refused.SwapRefused.TheVariants as refusals
 
 -- an I/O error of the disk is an I/O error, and running out of memory is running out of memory
 abbrev pub refusal_of : SwapAnswer → SwapRefused

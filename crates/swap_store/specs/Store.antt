@@ -4,10 +4,10 @@ use Rattle.std.specs.Borrow.{GName}
 use Rattle.std.specs.Coded.{Coded, code_by, coded×}
 use Rattle.std.specs.FinMap as map
 use Rattle.std.specs.Option.{option_map}
-use Rattle.outside_io.specs.Faults.{Rose}
+use Rattle.chain_owners.specs.Counts.{Rose}
 use Rattle.outside_io.specs.Swap.{Blocks}
-use Rattle.swap_store.specs.declared.refusal.SwapRefused.{SwapRefused}
-use Rattle.swap_store.specs.declared.refusal.SwapRefused.TheVariants as refusals
+use Rattle.chain_owners.specs.declared.swap_refused.SwapRefused.{SwapRefused}
+use Rattle.chain_owners.specs.declared.swap_refused.SwapRefused.TheVariants as refusals
 use Rattle.chain_owners.specs.declared.run.Run.{Run}
 use Rattle.swap_store.specs.Run.{IsFirstFit, blocks_for, longest}
 use Rattle.swap_store.specs.Content.{bytes_in, content_of, lengths_of}

@@ -6,11 +6,10 @@ ghost use Rattle.tile_cow.specs.Tile.{IsTileLength};
 ghost use Rattle.swap_store.specs.Run.{IsFirstFit, blocks_for, longest};
 ghost use Rattle.swap_store.specs.Placement.{HasRoomAt, IsPlacement, TakesBlocks};
 
-use crate::refusal::SwapRefused;
 use crate::runs;
-use chain_owners::Run;
+use alloc_basics::NoMemory;
+use chain_owners::{Run, SwapRefused};
 use name_maps::NameMap;
-use no_memory::NoMemory;
 use std::alloc::{AllocError, Global};
 use std::marker::Model;
 

@@ -7,7 +7,8 @@ ghost use Rattle.swap_store.specs.{Run.blocks_for, Store.HasDiskCause};
 ghost use Rattle.outside_io.specs.Swap.{UnchangedOutside, bytes_of_blocks};
 
 use crate::block_map::{BLOCK_BYTES, blocks_for};
-use crate::refusal::{SwapRefused, refused_by_disk};
+use crate::disk_answers::refused_by_disk;
+use chain_owners::SwapRefused;
 use outside_io::SwapDisk;
 
 /// Writes the whole blocks of these bytes to the disk, from block `first` on.

@@ -2,13 +2,12 @@
 #![tactic(auto)]
 
 mod block_map;
+mod disk_answers;
 mod extents;
 mod laws;
-mod refusal;
 mod runs;
 mod store;
 
-pub use chain_owners::{ChainMeaning, Run};
-pub use laws::{causes_add_up, few_names_leave_room, free_runs_are_used};
-pub use refusal::SwapRefused;
+pub use chain_owners::{ChainMeaning, Run, SwapRefused};
+pub use laws::{few_names_leave_room, free_runs_are_used};
 pub use store::{Store, StoreMemory, SwapStore};

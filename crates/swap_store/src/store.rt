@@ -9,9 +9,8 @@ ghost use Rattle.swap_store.specs.Placement.{IsPlacement};
 
 use crate::block_map::BlockMap;
 use crate::extents;
-use crate::refusal::SwapRefused;
-use chain_owners::Run;
-use no_memory::NoMemory;
+use alloc_basics::NoMemory;
+use chain_owners::{Run, SwapRefused};
 use outside_io::{Lent, SwapDisk};
 use std::alloc::Global;
 use std::marker::Model;

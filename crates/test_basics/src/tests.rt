@@ -3,7 +3,6 @@
 mod check;
 mod jobs;
 mod layouts;
-mod lone_scene;
 mod options;
 mod rectangles;
 mod script_cases;

@@ -6,13 +6,13 @@ ghost use Rattle.buffer_view.specs.BufferTables.{AreBuffersOver};
 
 use crate::check::check as check_value;
 use buffer_view::{BufferRefused, Buffers, no_buffers_ask_nothing};
-use chain_handlers::TileChain;
 use op_contracts::SourceTiles;
 use pixel_formats::{Abyss, Format};
 use plane_rect::{Name, TileAt};
 use std::alloc::Global;
 use std::process::Abort;
-use test_rects::rect;
+use test_nodes::rect;
+use tile_chain::TileChain;
 
 /// A buffer, a level of it, a policy, and a rectangle of the level, which are read.
 pub type Read = (&'static str, u32, Abyss, [i64; 4]);

@@ -7,13 +7,13 @@ use crate::calls::{check_level, name, one_buffer};
 use crate::check::check;
 use crate::plain::Plain;
 use buffer_view::Buffers;
-use chain_handlers::TileChain;
 use pixel_formats::Abyss;
 use plane_rect::Name;
 use std::alloc::Global;
 use std::process::Abort;
 use std::thread::Threads;
-use test_rects::rect;
+use test_nodes::rect;
+use tile_chain::TileChain;
 use worker_pieces::Workers;
 
 /// All policies.

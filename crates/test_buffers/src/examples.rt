@@ -3,13 +3,13 @@
 use crate::calls::{check, check_level, fill, fill_refused, name, one_buffer, part};
 use crate::check::check as check_value;
 use buffer_view::BufferRefused;
-use chain_handlers::{SwapRefused, TileChain};
 use pixel_formats::Abyss;
 use plane_rect::TileAt;
 use std::alloc::Global;
 use std::process::Abort;
 use std::thread::Threads;
-use test_rects::rect;
+use test_nodes::rect;
+use tile_chain::{SwapRefused, TileChain};
 use worker_pieces::Workers;
 
 /// Duplicates a buffer, and writes to either one: the other is as it was.

@@ -4,13 +4,13 @@ use crate::calls::{fill_refused, name, one_buffer};
 use crate::check::check;
 use buffer_layouts::EditRefused;
 use buffer_view::{BufferRefused, Buffers};
-use chain_handlers::TileChain;
 use pixel_formats::Format;
 use plane_rect::Name;
 use std::alloc::Global;
 use std::process::Abort;
 use std::thread::Threads;
-use test_rects::rect;
+use test_nodes::rect;
+use tile_chain::TileChain;
 use worker_pieces::Workers;
 
 /// The words of as many buffers as a table may have are made of a letter and of these.

@@ -3,11 +3,11 @@
 use crate::comparisons::{compare_duplicates, compare_levels, compare_moves};
 use crate::examples::{fill_again, freeze_parts, read_levels, write_to_duplicates, write_to_parts};
 use crate::refusals::{add_too_many, write_refused};
-use chain_handlers::{Chain, TileChain};
 use outside_io::{MemSwap, SureSwap, SwapDisk};
 use std::alloc::Global;
 use std::process::Abort;
 use std::thread::Threads;
+use tile_chain::{Chain, TileChain};
 
 /// Calls on buffers.
 #[derive(Clone, Copy)]

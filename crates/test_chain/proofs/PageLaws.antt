@@ -9,8 +9,8 @@ use Rattle.chain_owners.proofs.HeldLaws.{after-disowned, after-owned}
 use Rattle.chain_owners.proofs.Names.{get_elsewhere, get_gone, get_here, get_left}
 use Rattle.chain_owners.proofs.MapValues.{map_values-empty}
 use Rattle.chain_owners.specs.Values.{Named}
-use Rattle.chain_handlers.specs.DiskTiles.{disk_held}
-use Rattle.chain_handlers.specs.OwnedTiles.{nothing_over}
+use Rattle.tile_chain.specs.DiskTiles.{disk_held}
+use Rattle.tile_chain.specs.OwnedTiles.{nothing_over}
 use Rattle.swap_store.specs.Content.{lengths_of}
 use Rattle.swap_store.specs.Placement.{Placement}
 use Rattle.swap_store.specs.declared.block_map.Extent.{Extent}

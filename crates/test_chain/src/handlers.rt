@@ -5,13 +5,13 @@ ghost use Rattle.test_chain.specs.Pages.{ArePages};
 
 use crate::check::check;
 use crate::pages::{byte_of, page};
-use chain_handlers::{CacheHandler, EmptyHandler, SwapHandler, SwapRefused, TileHandler};
+use alloc_basics::NoMemory;
 use chain_owners::ChainMeaning;
-use no_memory::NoMemory;
 use outside_io::{Lent, SwapDisk};
 use std::alloc::Global;
 use std::process::Abort;
 use swap_store::SwapStore;
+use tile_chain::{CacheHandler, EmptyHandler, SwapHandler, SwapRefused, TileHandler};
 
 /// Returns a handler without names over all blocks of a disk.
 fn on_disk<'s, D: SwapDisk>(alloc: Global, disk: &'s mut D) -> Result<SwapHandler<'s, D>, NoMemory>

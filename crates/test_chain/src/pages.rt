@@ -3,12 +3,12 @@
 ghost use Rattle.std.specs.Prelude.{◌≡◌, ◌≤◌, IfOk, length};
 ghost use Rattle.test_chain.specs.Pages.{HasPages};
 
-use chain_handlers::{Chain, SwapRefused, TileChain};
+use alloc_basics::NoMemory;
 use chain_owners::ChainMeaning;
-use no_memory::NoMemory;
 use outside_io::SwapDisk;
 use std::alloc::Global;
 use std::process::Abort;
+use tile_chain::{Chain, SwapRefused, TileChain};
 use tile_cow::Tile;
 
 /// Returns a tile of 4,096 times this byte.

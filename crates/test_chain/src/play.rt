@@ -6,9 +6,9 @@ ghost use Rattle.test_chain.specs.Pages.{HasPages};
 use crate::check::check;
 use crate::pages::{add, disown, own, read, replace};
 use crate::plain::{PlainName, PlainNames};
-use chain_handlers::{SwapRefused, TileChain};
 use std::alloc::Global;
 use std::process::Abort;
+use tile_chain::{SwapRefused, TileChain};
 
 /// How many names there are at most.
 const MANY: usize = 12;

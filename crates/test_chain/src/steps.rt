@@ -4,9 +4,9 @@ ghost use Rattle.test_chain.specs.Pages.{HasPages};
 
 use crate::check::check;
 use crate::pages::{add, disown, own, read, replace};
-use chain_handlers::{SwapRefused, TileChain};
 use std::alloc::Global;
 use std::process::Abort;
+use tile_chain::{SwapRefused, TileChain};
 
 /// A call on a chain. Its names are numbered from 0 on, in the order in which they were added.
 #[derive(Clone, Copy)]

@@ -10,10 +10,10 @@ use crate::pages::chain_over;
 use crate::play::play;
 use crate::steps::{Step, make};
 use crate::tests::examples::{BLOCK_GIVEN_UP, BY_TURNS, TWO_NAMES, UNTIL_FULL};
-use chain_handlers::TileChain;
 use outside_io::{MemSwap, SureSwap, SwapDisk};
 use std::alloc::Global;
 use std::process::Abort;
+use tile_chain::TileChain;
 
 /// Makes steps on a chain over so many blocks of a disk, of which so many pages are in memory, and reads zeros.
 fn make_over<D: SwapDisk>(

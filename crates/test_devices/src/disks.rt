@@ -1,7 +1,8 @@
 //! Swap disks in memory, lent, and in a file.
 
 ghost use Rattle.std.specs.Prelude.{◌≡◌, ◌<◌, length, IsErrOf};
-ghost use Rattle.outside_io.specs.{Faults.Rose, Swap.WritesBlock};
+ghost use Rattle.outside_io.specs.Swap.{WritesBlock};
+ghost use Rattle.chain_owners.specs.Counts.{Rose};
 
 use crate::disk_steps::Step::{self, Read, ReadTwo, Write, WriteTwo};
 use crate::disk_steps::{make, read};

@@ -3,17 +3,17 @@
 
 use crate::briefs::{Brief, Kind, edits_of};
 use crate::values::{Fields, check_row, name};
-use graph_commits::{Damage, Graph, GraphRefused};
+use graph_commits::{Graph, GraphRefused};
 use int_ops::{IntKit, IntOp};
 use model_graphs::{Body, BufferFact, Edited, NodeEdit, NodeFact, NodeSpec};
-use model_states::StateRefused;
+use model_states::{Damage, StateRefused};
 use op_contracts::OpKit;
 use pixel_formats::Format;
 use plain_graphs::{Change, Graph as PlainGraph, walk_refused, with_edits};
 use plane_rect::{Name, Rect};
 use std::alloc::{AllocError, Global};
 use std::process::Abort;
-use test_rects::rect;
+use test_nodes::rect;
 
 /// Rectangles of roots that are written before a commit, the commit's edits, and why it is refused where it is.
 type Row = (

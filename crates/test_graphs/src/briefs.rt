@@ -7,8 +7,7 @@ use model_graphs::{Edited, NodeEdit};
 use pixel_formats::{Abyss, Format, PixelSamples};
 use std::alloc::{AllocError, Global};
 use std::process::Abort;
-use test_nodes::{buffer, node, source};
-use test_rects::rect;
+use test_nodes::{buffer, node, rect, source};
 
 /// An edit.
 #[derive(Clone, Copy)]

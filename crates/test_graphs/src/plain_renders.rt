@@ -8,7 +8,7 @@ use plain_graphs::{Change, Graph, Lookups, Strip, need, needed_pairs};
 use plane_rect::{Name, Rect};
 use std::alloc::Global;
 use std::process::Abort;
-use test_rects::rect;
+use test_nodes::rect;
 
 /// The capacity of the list of cached pairs.
 const CAPACITY: usize = 16_384;

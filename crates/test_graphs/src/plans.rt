@@ -5,13 +5,11 @@ use graph_commits::Graph;
 use int_ops::{IntKit, IntOp};
 use model_states::Strip;
 use op_contracts::OpKit;
-use plane_rect::{Rect, TileAt};
+use plane_rect::{Rect, TileAt, strip_rects};
 use roi_planner::{PlanRefused, StripList, plan, strip_need};
 use std::alloc::Global;
 use std::process::Abort;
-use test_nodes::sketched;
-use test_rects::rect;
-use tile_parts::strip_rects;
+use test_nodes::{rect, sketched};
 
 /// A needed tile: the position of its node, and the x and y of one of its pixels.
 type Needed = (u32, i64, i64);

@@ -9,8 +9,7 @@ use plain_images::{
 };
 use std::alloc::{AllocError, Global};
 use std::process::Abort;
-use test_nodes::operation;
-use test_rects::rect;
+use test_nodes::{operation, rect};
 
 /// An image: its rectangle, its format and its raw bytes.
 type Image<'a> = (Fields, Format, &'a [u8]);

@@ -1,13 +1,13 @@
 //! A graph under test.
 
 use crate::values::{Fields, check_row, name};
-use graph_commits::{Damage, Graph, GraphRefused};
+use graph_commits::{Graph, GraphRefused};
 use model_graphs::{BufferFact, Edited, NodeEdit};
-use model_states::StateRefused;
+use model_states::{Damage, StateRefused};
 use op_contracts::OpKit;
 use std::alloc::Global;
 use std::process::Abort;
-use test_rects::rect;
+use test_nodes::rect;
 
 /// A graph, its kit, the buffers that its next commit is over, and what the last step damaged.
 #[derive(Drop)]

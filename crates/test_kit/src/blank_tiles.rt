@@ -3,16 +3,15 @@
 ghost use Rattle.std.specs.Prelude.{◌≡◌, ◌∷◌, [], ⊤, IfErr, IfOk, IsSome, Some, refl};
 ghost use Rattle.chain_owners.specs.{Counts.Grows, Owners.Respects};
 ghost use Rattle.model_graphs.specs.Facts.{fact_of};
-ghost use Rattle.swap_store.specs.Cause.{HasSwapCause};
+ghost use Rattle.chain_owners.specs.Cause.{HasSwapCause};
 ghost use Rattle.op_contracts.specs.Sources.{HasBufferLength, IsTileOf};
 ghost use Rattle.test_kit.specs.BlankBuffers.{blank-exposed, blank_images, owns-none};
 
-use chain_owners::ChainMeaning;
+use chain_owners::{ChainMeaning, SwapRefused};
 use model_graphs::BufferFact;
 use op_contracts::SourceTiles;
 use plane_rect::{Name, TileAt};
 use std::alloc::Global;
-use swap_store::SwapRefused;
 use tile_cow::Tile;
 
 /// Gives the tiles of one buffer of zeros, over whatever chain, of which it holds no name.

@@ -8,7 +8,7 @@ ghost use Rattle.op_contracts.specs.Applying.{HaveRequired, IsInOneTile, bounds_
 ghost use Rattle.test_kit.specs.Cutting.{cut_format, cut_invalidated, cut_required, cutting, same_cut};
 
 use crate::cutting::CutTo;
-use no_memory::NoMemory;
+use alloc_basics::NoMemory;
 use op_contracts::{OpKit, Window};
 use patch_abyss::Patch;
 use pixel_formats::Format;

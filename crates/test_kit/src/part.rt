@@ -8,7 +8,7 @@ ghost use Rattle.model_graphs.specs.{Meanings.result_box, Windows.IsWholeWindow}
 ghost use Rattle.op_contracts.specs.Applying.{HaveRequired, bounds_of, result_of_windows, window_bounds, window_formats};
 ghost use Rattle.test_kit.specs.Applicable.{IsApplicable};
 
-use no_memory::NoMemory;
+use alloc_basics::NoMemory;
 use op_contracts::{OpKit, Window};
 use patch_abyss::Patch;
 use pixel_formats::Format;

@@ -6,7 +6,7 @@ ghost use Rattle.model_images.specs.Paint.{cut};
 ghost use Rattle.model_graphs.specs.Meanings.{result_box};
 ghost use Rattle.op_contracts.specs.Applying.{result_of_windows, window_bounds};
 
-use no_memory::NoMemory;
+use alloc_basics::NoMemory;
 use op_contracts::{OpKit, Window};
 use patch_abyss::Patch;
 use plane_rect::TileAt;

@@ -5,8 +5,8 @@ ghost use Rattle.plane_rect.specs.Rectangle.{InLimits};
 ghost use Rattle.pixel_formats.specs.declared.format.Format.TheVariants.{Y8};
 
 use crate::{BlankTiles, CutKit, CutPurse, CutTo, applied_part, applied_tile};
+use alloc_basics::NoMemory;
 use model_graphs::BufferFact;
-use no_memory::NoMemory;
 use op_contracts::{OpKit, SourceTiles, Window, WindowTiles};
 use pixel_formats::Format;
 use plane_rect::{Name, Rect, TileAt};

@@ -1,13 +1,15 @@
-//! Buffers and nodes in few words, for tests and benchmarks.
+//! Rectangles, buffers and nodes in few words, for tests and benchmarks.
 #![tactic(auto)]
+
+mod rectangles;
 
 use model_graphs::{Body, BufferFact, NodeEdit, NodeSpec};
 use model_operations::IntOp;
 use pixel_formats::Format;
 use plane_rect::{Name, NameList, Rect};
+pub use rectangles::rect;
 use script_read::{Command, OpWords, read_script};
 use std::alloc::Global;
-use test_rects::rect;
 
 /// Returns the name that a word is. None where it is none.
 pub fn name(word: &str) -> Option<Name> {

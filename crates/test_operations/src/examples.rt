@@ -10,7 +10,7 @@ use op_contracts::{OpKit, Window};
 use pixel_formats::{Format, PixelSamples};
 use std::alloc::Global;
 use std::process::Abort;
-use test_rects::rect;
+use test_nodes::rect;
 
 /// Where the two pixels are.
 const PAIR: Fields = [0, 0, 2, 1];

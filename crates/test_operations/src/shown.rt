@@ -8,7 +8,7 @@ use plane_rect::TileAt;
 use std::alloc::Global;
 use std::process::Abort;
 use test_kit::applied_part;
-use test_rects::rect;
+use test_nodes::rect;
 
 /// A rectangle by x, y, width and height.
 pub type Fields = [i64; 4];

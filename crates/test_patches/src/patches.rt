@@ -10,7 +10,7 @@ use pixel_formats::Format;
 use plane_rect::TileAt;
 use std::alloc::Global;
 use std::process::Abort;
-use test_rects::rect;
+use test_nodes::rect;
 use tile_cow::Tile;
 
 /// Returns the patch of a rectangle, which has these raw bytes.

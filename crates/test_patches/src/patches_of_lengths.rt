@@ -7,7 +7,7 @@ use patch_abyss::{Abyss, Patch, fetch};
 use pixel_formats::Format;
 use std::alloc::Global;
 use std::process::Abort;
-use test_rects::rect;
+use test_nodes::rect;
 
 /// How many bytes a row has: one block of each size by which rows are copied, one byte less and one
 /// more, and rows that are long.

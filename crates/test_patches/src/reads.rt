@@ -8,7 +8,7 @@ use crate::read_cases::{AROUND_TWO, Drawn, Image, READ, TWO};
 use patch_abyss::{Abyss, Patch, fetch};
 use std::alloc::Global;
 use std::process::Abort;
-use test_rects::rect;
+use test_nodes::rect;
 
 /// The policies.
 pub const POLICIES: [Abyss; 5] = [

@@ -11,12 +11,12 @@ ghost use Rattle.node_cache.specs.NodeNames.{IsNodeCache, sizes_in};
 ghost use Rattle.buffer_view.specs.BufferTables.{AreBuffersOver, buffers_names};
 ghost use Rattle.test_renders.specs.Ready.{AreOver, AreReady};
 
+use alloc_basics::NoMemory;
 use buffer_view::Buffers;
 use chain_contracts::TileChain;
 use graph_commits::{Graph, GraphRefused};
 use model_graphs::{BufferFact, NodeEdit};
 use model_states::StateRefused;
-use no_memory::NoMemory;
 use node_cache::{HandCache, NodeCache};
 use op_contracts::{OpKit, OpMeaning};
 use std::alloc::Global;

@@ -5,7 +5,6 @@ mod examples;
 mod steps;
 
 use calls::{check_order, hand_cache, node_cache};
-use chain_handlers::Chain;
 use chain_owners::ChainMeaning;
 use examples::{FAULTS, FOUR_OF_ONE, LOOKS, THREE_OF_TWO, TWO_KEPT, UNTIL_FULL, VOIDS};
 use node_cache::PairStore;
@@ -13,6 +12,7 @@ use outside_io::{MemSwap, SwapDisk};
 use std::alloc::Global;
 use std::process::Abort;
 use steps::{Step, make};
+use tile_chain::Chain;
 
 /// Returns how many pairs a keep leaves at most.
 fn bound_of<H: ChainMeaning, C: PairStore<H>>(cache: &C, _chain: &H) -> Option<u32> {

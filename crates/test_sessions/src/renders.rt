@@ -10,7 +10,6 @@ mod steps;
 
 use crate::values::disk_of;
 use canvases::run_example;
-use chain_handlers::Chain;
 use examples::{
     COLORS, CORNER, DILATED, Example, FOUR, GROWN, INVERTED_TWICE, LISTS, MIDDLE, PHOTOGRAPH,
     REFUSED, ROW, TOO_WIDE, USUAL_PHOTOGRAPH,
@@ -23,6 +22,7 @@ use std::alloc::Global;
 use std::process::Abort;
 use std::thread::Threads;
 use steps::Step;
+use tile_chain::Chain;
 
 /// Runs an example over a chain over a disk. Returns whether the disk refused a call.
 fn run_over<D: SwapDisk>(

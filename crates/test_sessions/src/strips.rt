@@ -1,6 +1,7 @@
-//! Patches of levels, pictures that keep tiles, and frozen images. The expected samples were worked out by hand.
+//! Patches of levels, pictures that keep tiles, frozen images and scenes. The expected samples were worked out by hand.
 
 mod frozen_tiles;
 mod levels;
+mod lone_scene;
 mod patches;
 mod pictures;

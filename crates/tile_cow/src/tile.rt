@@ -6,8 +6,8 @@ ghost use Rattle.tile_cow.specs.Block.{IsWritten};
 
 use crate::block::Block;
 use crate::owner::Owner;
+use alloc_basics::NoMemory;
 use core::mem;
-use no_memory::NoMemory;
 use std::alloc::Global;
 use std::marker::Model;
 

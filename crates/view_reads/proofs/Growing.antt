@@ -6,9 +6,9 @@ use Rattle.std.proofs.lemmas.Result.{IfErr-weaker}
 use Rattle.model_images.specs.Image.{Image}
 use Rattle.model_images.specs.Paint.{cut}
 use Rattle.plane_rect.specs.Rectangle.{Includes, Rectangle}
-use Rattle.swap_store.specs.Cause.{HasSwapCause}
-use Rattle.swap_store.specs.declared.refusal.SwapRefused.{SwapRefused}
-use Rattle.swap_store.proofs.Causes.{cause-more}
+use Rattle.chain_owners.specs.Cause.{HasSwapCause}
+use Rattle.chain_owners.specs.declared.swap_refused.SwapRefused.{SwapRefused}
+use Rattle.chain_owners.proofs.Causes.{cause-more}
 use Rattle.root_tiles.specs.Chains.{ChainState, IsRead}
 use Rattle.root_tiles.specs.Growth.{HoldsMoreTiles, RootState, names_with_root_levels, root_state}
 use Rattle.root_tiles.specs.Roots.{IsRootOver, RootTiles}

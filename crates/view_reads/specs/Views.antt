@@ -14,8 +14,8 @@ use Rattle.plane_rect.specs.Tile.{Tile}
 use Rattle.root_tiles.specs.Chains.{ChainState, IsRead}
 use Rattle.root_tiles.specs.Growth.{HoldsMoreTiles, names_with_root_levels, root_state}
 use Rattle.root_tiles.specs.Roots.{IsRootOver, RootTiles, root_image}
-use Rattle.swap_store.specs.Cause.{HasSwapCause}
-use Rattle.swap_store.specs.declared.refusal.SwapRefused.{SwapRefused}
+use Rattle.chain_owners.specs.Cause.{HasSwapCause}
+use Rattle.chain_owners.specs.declared.swap_refused.SwapRefused.{SwapRefused}
 
 -- The image of a view: that of its root over the view's extent, where the chain exposes its bytes.
 abbrev pub view_image : RootTiles → Rectangle → Held → Option Image

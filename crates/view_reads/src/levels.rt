@@ -5,7 +5,7 @@ ghost use Rattle.pixel_formats.specs.Limits.{max_level};
 ghost use Rattle.level_tables.specs.Over.{IsTileOfLevel, tile_length};
 ghost use Rattle.model_images.specs.{Level.halved_image, Raw.tile_bytes};
 ghost use Rattle.plane_rect.specs.Rectangle.{InLimits};
-ghost use Rattle.swap_store.specs.Cause.{HasSwapCause};
+ghost use Rattle.chain_owners.specs.Cause.{HasSwapCause};
 ghost use Rattle.root_tiles.specs.Roots.{HasShape, IsPartOf, IsRootOver, part_shape};
 ghost use Rattle.root_tiles.specs.Chains.{IsRead};
 ghost use Rattle.view_reads.specs.Views.{IsPartOfLevel, IsViewOver, ReadsLevels, view_image};
@@ -13,13 +13,13 @@ ghost use Rattle.view_reads.specs.Reaches.{IsReach};
 
 use crate::positions::{level_box, source_of, square_below};
 use crate::views::view_tile;
+use alloc_basics::NoMemory;
 use chain_contracts::TileChain;
-use no_memory::NoMemory;
+use chain_owners::SwapRefused;
 use patch_abyss::{Patch, halve};
 use plane_rect::{Rect, TileAt};
 use root_tiles::Root;
 use std::alloc::Global;
-use swap_store::SwapRefused;
 use tile_cow::Tile;
 
 /// How many pixels a tile has.

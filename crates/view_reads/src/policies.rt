@@ -5,7 +5,7 @@ ghost use Rattle.pixel_formats.specs.Limits.{max_level};
 ghost use Rattle.model_images.specs.Abyss.{abyss_at, wrapped};
 ghost use Rattle.model_images.specs.{Image.image_from_fn, TileCounts.level_tiles};
 ghost use Rattle.plane_rect.specs.Rectangle.{InLimits, Within, empty, is_empty, plane_side};
-ghost use Rattle.swap_store.specs.Cause.{HasSwapCause};
+ghost use Rattle.chain_owners.specs.Cause.{HasSwapCause};
 ghost use Rattle.root_tiles.specs.Growth.{HoldsMoreTiles, root_state};
 ghost use Rattle.root_tiles.specs.Roots.{HasShape, part_shape};
 ghost use Rattle.view_reads.specs.Needed.{IsEnough, IsLoopSide, moved};
@@ -13,13 +13,13 @@ ghost use Rattle.view_reads.specs.Views.{IsReadOfLevel, IsViewOver, view_image};
 
 use crate::levels::level_part;
 use crate::positions::level_box;
+use alloc_basics::NoMemory;
 use chain_contracts::TileChain;
-use no_memory::NoMemory;
+use chain_owners::SwapRefused;
 use patch_abyss::{Abyss, Patch, fetch};
 use plane_rect::Rect;
 use root_tiles::Root;
 use std::alloc::Global;
-use swap_store::SwapRefused;
 
 /// Returns a rectangle of a level of a view's own image, under a policy outside the level. It reads only the
 /// part of the level that the policy gives there; under `Loop` that is all of the columns, unless those of the

@@ -3,9 +3,9 @@
 ghost use Rattle.view_reads.specs.Views.{IsViewOver, ReadsViewTile};
 
 use chain_contracts::TileChain;
+use chain_owners::SwapRefused;
 use plane_rect::{Rect, TileAt};
 use root_tiles::Root;
-use swap_store::SwapRefused;
 use tile_cow::Tile;
 
 /// Returns a tile of the image of a view: the root's own tile, without a copy, where the view contains all that

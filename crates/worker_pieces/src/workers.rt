@@ -3,7 +3,7 @@
 ghost use Rattle.std.specs.Prelude.{◌≡◌, ◌<◌, All, IfOk, Ok, length};
 ghost use Rattle.std.specs.List.{AllZip};
 
-use no_memory::NoMemory;
+use alloc_basics::NoMemory;
 use std::alloc::{AllocError, Global};
 use std::thread::{Threads, join, join_mut};
 

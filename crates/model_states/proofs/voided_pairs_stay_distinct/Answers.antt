@@ -1,5 +1,5 @@
 use Rattle.std.proofs.Common.{not}
-use Rattle.model_states.specs.Regions.{meets}
+use Rattle.plane_rect.specs.Tile.{meets}
 use Rattle.model_states.proofs.CacheLaws as laws
 use Rattle.model_states.proofs.voided_pairs_stay_distinct.Goals as goal
 

@@ -9,7 +9,7 @@ use pixel_formats::Format;
 use plane_rect::{Name, Rect};
 use std::alloc::Global;
 use std::process::Abort;
-use test_rects::rect;
+use test_nodes::rect;
 
 /// Returns the name that a word is.
 fn name(rt: &impl Abort, word: &str) -> Name {

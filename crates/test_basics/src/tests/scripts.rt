@@ -8,7 +8,7 @@ use plane_rect::{Name, Rect};
 use script_read::{Command, Line, OpWords, ScriptAnswer, is_script, print_script, read_script};
 use std::alloc::Global;
 use std::process::Abort;
-use test_rects::rect;
+use test_nodes::rect;
 
 /// Returns the script of a case, with line feeds for `/`.
 fn script_of(rt: &impl Abort, alloc: Global, case: &str) -> Vec<u8> {

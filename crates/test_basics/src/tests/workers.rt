@@ -1,7 +1,7 @@
 //! Expected values are worked out by hand.
 
 use crate::tests::check::check;
-use no_memory::NoMemory;
+use alloc_basics::NoMemory;
 use std::alloc::Global;
 use std::process::Abort;
 use std::thread::Threads;

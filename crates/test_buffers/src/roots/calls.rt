@@ -5,16 +5,16 @@ ghost use Rattle.plane_rect.specs.Rectangle.{InLimits, Includes};
 ghost use Rattle.test_buffers.specs.Gray.{IsGray};
 
 use crate::check::check;
-use chain_handlers::TileChain;
-use no_memory::NoMemory;
+use alloc_basics::NoMemory;
+use chain_owners::SwapRefused;
 use patch_abyss::Patch;
 use pixel_formats::Format;
 use plane_rect::Rect;
 use root_tiles::{Root, new_roots_are_blank, other_roots_are_unchanged};
 use std::alloc::Global;
 use std::process::Abort;
-use swap_store::SwapRefused;
-use test_rects::rect;
+use test_nodes::rect;
+use tile_chain::TileChain;
 
 /// Returns the rectangle of four fields, which is to be in the root's box.
 pub fn rect_inside(rt: &impl Abort, root: &Root, fields: [i64; 4]) -> Rect

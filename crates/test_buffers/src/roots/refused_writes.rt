@@ -4,10 +4,10 @@ ghost use Rattle.test_buffers.specs.Gray.{IsGray};
 
 use crate::check::check;
 use crate::roots::calls::{fill, new_root, part, put};
-use chain_handlers::TileChain;
 use root_tiles::Root;
 use std::alloc::Global;
 use std::process::Abort;
+use tile_chain::TileChain;
 
 /// Returns so many bytes, which are all 7.
 fn sevens(rt: &impl Abort, alloc: Global, count: usize) -> Vec<u8> {

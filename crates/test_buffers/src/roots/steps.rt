@@ -5,10 +5,10 @@ ghost use Rattle.test_buffers.specs.Gray.{IsGray};
 use crate::check::check;
 use crate::roots::calls::{check_rows, fill, new_root, put, share_and_release};
 use crate::roots::views::{Fields, First, Part, first_tile, read_part};
-use chain_handlers::TileChain;
 use root_tiles::Root;
 use std::alloc::Global;
 use std::process::Abort;
+use tile_chain::TileChain;
 
 /// A call on a root of gray pixels.
 #[derive(Clone, Copy)]

@@ -4,10 +4,10 @@ use crate::check::check;
 use crate::roots::examples::{BORDERS, LARGE_PARTS, LEVELS, POLICIES, SHARED, VIEWS};
 use crate::roots::refused_writes::write_or_refuse;
 use crate::roots::steps::{Example, make};
-use chain_handlers::Chain;
 use outside_io::{MemSwap, SureSwap, SwapDisk};
 use std::alloc::Global;
 use std::process::Abort;
+use tile_chain::Chain;
 
 /// Makes examples one after another over a chain of so many blocks, of one tile in memory.
 fn make_over<D: SwapDisk>(

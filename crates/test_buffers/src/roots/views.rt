@@ -4,14 +4,14 @@ ghost use Rattle.plane_rect.specs.Rectangle.{Includes, IsRectangle};
 ghost use Rattle.test_buffers.specs.Gray.{IsGray};
 
 use crate::roots::calls::part;
-use chain_handlers::TileChain;
+use chain_owners::SwapRefused;
 use patch_abyss::Patch;
 use pixel_formats::Abyss;
 use plane_rect::{Rect, TileAt};
 use root_tiles::Root;
 use std::process::Abort;
-use swap_store::SwapRefused;
-use test_rects::rect;
+use test_nodes::rect;
+use tile_chain::TileChain;
 use tile_cow::Tile;
 use view_reads::{get, level_part, level_tile, view_tile};
 

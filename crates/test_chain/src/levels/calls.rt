@@ -8,14 +8,14 @@ ghost use Rattle.test_chain.specs.Tables.{AreTwo, HasBeside, IsGray};
 
 use crate::check::check as check_value;
 use crate::pages::page;
-use chain_handlers::TileChain;
+use alloc_basics::NoMemory;
+use chain_owners::SwapRefused;
 use level_tables::{LevelTable, NewTiles, new_tables_ask_nothing, no_new_tiles_ask_nothing};
-use no_memory::NoMemory;
 use pixel_formats::Format;
 use plane_rect::TileAt;
 use std::alloc::Global;
 use std::process::Abort;
-use swap_store::SwapRefused;
+use tile_chain::TileChain;
 
 /// Returns the tile so many columns and rows after that of the origin.
 pub fn tile_at(column: u8, row: u8) -> TileAt

@@ -8,10 +8,10 @@ use crate::levels::calls::{
     tile_at,
 };
 use crate::levels::steps::{Step, count_names, make};
-use chain_handlers::{SwapRefused, TileChain};
 use level_tables::{LevelTable, NewTiles};
 use std::alloc::Global;
 use std::process::Abort;
+use tile_chain::{SwapRefused, TileChain};
 
 /// A tile put twice, and what is averaged from it. A tile of a level is held, under a name, once it was asked
 /// for, until a tile below it is put; it is never held where nothing was put.

@@ -4,10 +4,10 @@ ghost use Rattle.test_chain.specs.Tables.{IsGray};
 
 use crate::check::check as check_value;
 use crate::levels::calls::{check, put, tile_at};
-use chain_handlers::TileChain;
 use level_tables::LevelTable;
 use std::alloc::Global;
 use std::process::Abort;
+use tile_chain::TileChain;
 
 /// How many names are looked at, from 1 on. A chain without names gives them in this order.
 const MANY: u64 = 40;

@@ -1,10 +1,10 @@
 //! Expected values are worked out by hand from the doc comments.
 
 use crate::levels::examples::{add_in_vain, put_again, put_three, share_one, switch_three};
-use chain_handlers::Chain;
 use outside_io::{MemSwap, SureSwap, SwapDisk};
 use std::alloc::Global;
 use std::process::Abort;
+use tile_chain::Chain;
 
 /// Makes the examples of whole disks over a chain of one tile in memory.
 fn put_over<D: SwapDisk>(rt: &impl Abort, alloc: Global, disk: &mut D) {

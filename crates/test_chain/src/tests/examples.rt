@@ -1,7 +1,7 @@
 //! Small examples, whose results are worked out by hand.
 
 use crate::steps::Step::{self, Add, Disown, Flush, Own, Read, Replace};
-use chain_handlers::SwapRefused;
+use tile_chain::SwapRefused;
 
 /// The refusal of a page by a disk without free blocks.
 const FULL: SwapRefused = SwapRefused::SwapFull {

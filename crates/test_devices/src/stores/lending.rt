@@ -1,11 +1,12 @@
 //! A disk that is lent to a store, and what its owner knows of it afterwards.
 
 ghost use Rattle.std.specs.Prelude.{◌≡◌, ◌≤◌, IsErrOf};
-ghost use Rattle.outside_io.specs.Faults.{Rose};
+ghost use Rattle.chain_owners.specs.Counts.{Rose};
 
+use chain_owners::SwapRefused;
 use outside_io::{Lent, SwapDisk};
 use std::alloc::Global;
-use swap_store::{Store, StoreMemory, SwapRefused};
+use swap_store::{Store, StoreMemory};
 use tile_cow::Tile;
 
 /// Keeps a tile on a disk by a store of its own. It is refused for an I/O error only where the disk's count

@@ -1,8 +1,9 @@
 //! A store that keeps its names in a list, and an owner for each block.
 
+use chain_owners::SwapRefused;
 use std::alloc::Global;
 use std::process::Abort;
-use swap_store::{Run, SwapRefused};
+use swap_store::Run;
 
 /// The bytes of a block.
 const BLOCK_BYTES: usize = 4096;

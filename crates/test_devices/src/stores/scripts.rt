@@ -2,10 +2,11 @@
 
 use crate::check::check;
 use crate::stores::naive::NaiveStore;
+use chain_owners::SwapRefused;
 use outside_io::SwapDisk;
 use std::alloc::Global;
 use std::process::Abort;
-use swap_store::{Store, SwapRefused, SwapStore};
+use swap_store::{Store, SwapStore};
 use tile_cow::Tile;
 
 /// Returns a tile of so many bytes, which differ by their positions and by `seed`.

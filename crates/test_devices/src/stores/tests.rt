@@ -2,10 +2,11 @@
 
 use crate::check::check;
 use crate::stores::scripts::{forget, get, play, put, replace, tile_of};
+use chain_owners::SwapRefused;
 use outside_io::{FileSwap, Lent, MemSwap, SureSwap, SwapDisk};
 use std::alloc::Global;
 use std::process::Abort;
-use swap_store::{Run, Store, SwapRefused, SwapStore};
+use swap_store::{Run, Store, SwapStore};
 use tile_cow::Tile;
 
 /// A kind of call of a disk.

@@ -6,14 +6,14 @@ ghost use Rattle.node_cache.specs.NodeNames.{IsNodeCache, sizes_in};
 ghost use Rattle.test_sessions.specs.Lengths.{HaveLength};
 
 use crate::values::{Fields, check_row, name};
-use chain_handlers::{SwapRefused, TileChain};
+use alloc_basics::NoMemory;
 use chain_owners::ChainMeaning;
-use no_memory::NoMemory;
 use node_cache::{HandCache, NodeCache, PairStore};
 use plane_rect::{Name, TileAt};
 use std::alloc::Global;
 use std::process::Abort;
-use test_rects::rect;
+use test_nodes::rect;
+use tile_chain::{SwapRefused, TileChain};
 use tile_cow::Tile;
 
 /// A node by its word, and one of its tiles by the column and the row from the origin.

@@ -1,7 +1,7 @@
 //! Small examples of either cache, whose lists are worked out by hand.
 
 use crate::caches::steps::Step::{self, Keep, Look, Order, Void};
-use chain_handlers::SwapRefused;
+use tile_chain::SwapRefused;
 
 /// Keeps two pairs, looks for the older one, and keeps a third: of at most two the one that wasn't looked
 /// for falls off. A void of a tile leaves the pairs of the others.

@@ -4,11 +4,11 @@ ghost use Rattle.test_sessions.specs.Lengths.{HaveLength};
 
 use crate::caches::calls::{Spot, check_order, keep, look, void};
 use crate::values::{Fields, check_row};
-use chain_handlers::SwapRefused;
 use chain_owners::ChainMeaning;
 use node_cache::PairStore;
 use std::alloc::Global;
 use std::process::Abort;
+use tile_chain::SwapRefused;
 
 /// A call on a cache, or a look at its order.
 #[derive(Clone, Copy)]

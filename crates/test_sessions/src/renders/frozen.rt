@@ -13,8 +13,7 @@ use pixel_formats::Format;
 use std::alloc::Global;
 use std::process::Abort;
 use std::thread::Threads;
-use test_nodes::sketched;
-use test_rects::rect;
+use test_nodes::{rect, sketched};
 use test_renders::{Request, over_frozen};
 
 /// The box of the buffer.

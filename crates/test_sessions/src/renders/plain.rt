@@ -9,8 +9,7 @@ use plain_images::{Buffer, Picture, Step, evaluate, from_raw, level, raw_with};
 use plane_rect::{Name, NameList};
 use std::alloc::{AllocError, Global};
 use std::process::Abort;
-use test_nodes::sketched;
-use test_rects::rect;
+use test_nodes::{rect, sketched};
 
 /// Returns so many bytes that look random.
 pub fn bytes(rt: &impl Abort, alloc: Global, seed: u32, count: u64) -> Vec<u8> {

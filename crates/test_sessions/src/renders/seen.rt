@@ -14,7 +14,7 @@ use plane_rect::{Name, TileAt};
 use render_workers::RenderRefused;
 use std::alloc::Global;
 use std::process::Abort;
-use test_rects::rect;
+use test_nodes::rect;
 use test_renders::Request;
 
 /// What a render answered: the patch, with how many tiles were evaluated and how many the cache had, or why it was

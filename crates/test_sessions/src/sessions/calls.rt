@@ -8,6 +8,7 @@ ghost use Rattle.commit_session.specs.{Edits.step_of, Seen.IsOver};
 use crate::values::{Fields, name};
 use buffer_view::BufferRefused;
 use chain_contracts::TileChain;
+use chain_owners::SwapRefused;
 use commit_session::{Edit, OwnedSession, SessionRefused};
 use int_ops::{IntKit, IntOp, IntPurse};
 use model_buffers::RawBytes;
@@ -18,8 +19,7 @@ use render_workers::RenderRefused;
 use std::alloc::Global;
 use std::process::Abort;
 use std::thread::Threads;
-use swap_store::SwapRefused;
-use test_rects::rect;
+use test_nodes::rect;
 
 /// A node, a level of it, and a rectangle of the level, which are rendered.
 pub type Asked = (&'static str, u32, Fields);

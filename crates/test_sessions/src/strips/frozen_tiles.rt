@@ -4,15 +4,15 @@ ghost use Rattle.std.specs.Prelude.{◌≡◌, IfOk};
 
 use crate::strips::patches::{even, gray};
 use crate::values::{check_row, name};
+use alloc_basics::NoMemory;
 use frozen_images::{Frozen, FrozenBuffer, SceneTiles};
 use model_graphs::BufferFact;
-use no_memory::NoMemory;
 use op_contracts::SourceTiles;
 use patch_abyss::Patch;
 use pixel_formats::Format;
 use plane_rect::TileAt;
 use std::alloc::Global;
-use test_rects::rect;
+use test_nodes::rect;
 
 /// Returns the image that the tiles of a patch hold.
 fn frozen(alloc: Global, patch: &Patch) -> Result<Frozen, NoMemory>

@@ -9,7 +9,7 @@ use pixel_formats::Format;
 use std::alloc::Global;
 use std::process::Abort;
 use strip_patches::LevelPatch;
-use test_rects::rect;
+use test_nodes::rect;
 
 /// Gray pixels of a rectangle, one after another or of one gray everywhere.
 #[derive(Clone, Copy)]

@@ -8,7 +8,7 @@ use patch_abyss::Patch;
 use pixel_formats::Format;
 use std::alloc::Global;
 use std::process::Abort;
-use test_rects::rect;
+use test_nodes::rect;
 
 /// Returns the patch of these gray pixels.
 pub fn gray(rt: &impl Abort, alloc: Global, fields: Fields, pixels: &[u8]) -> Patch

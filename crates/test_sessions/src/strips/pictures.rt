@@ -7,7 +7,7 @@ ghost use Rattle.op_contracts.specs.TileList.{HasLength};
 
 use crate::strips::patches::gray;
 use crate::values::{Fields, check_row};
-use no_memory::NoMemory;
+use alloc_basics::NoMemory;
 use op_contracts::WindowTiles;
 use patch_abyss::Patch;
 use pixel_formats::Format;
@@ -15,7 +15,7 @@ use plane_rect::Rect;
 use std::alloc::Global;
 use std::process::Abort;
 use strip_patches::{Picture, PictureForm, PictureStrips, TiledPatch};
-use test_rects::rect;
+use test_nodes::rect;
 
 /// The image, of 165,000 pixels.
 const IMAGE: Fields = [-40, -10, 1100, 150];

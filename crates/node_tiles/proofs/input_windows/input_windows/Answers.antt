@@ -9,7 +9,7 @@ use Rattle.node_tiles.proofs.Entries.{all-there-still, window-from}
 use Rattle.node_tiles.proofs.Reading.{cause-then, reads-both, reads-none}
 use Rattle.node_tiles.proofs.Collected.{windows-more}
 use Rattle.roi_planner.proofs.Widths.{handed-on}
-use Rattle.swap_store.specs.Cause.{HasSwapCause}
+use Rattle.chain_owners.specs.Cause.{HasSwapCause}
 use Rattle.node_tiles.proofs.input_windows.input_windows.Goals as goal
 
 pub loop-input-init : goal.loop-input-init

@@ -2,9 +2,9 @@ use Rattle.std.proofs.Common.{◌≡◌, ◌<◌, ◌≤◌, map, sym, ap, subst
 use Rattle.plane_rect.specs.Rectangle.{end_row, offset}
 use Rattle.plane_rect.specs.Tile.{tile_end, tile_of}
 use Rattle.model_graphs.specs.Windows.{Window, window_image}
-use Rattle.tile_lines.specs.Lines.{HasFirstPixels, HasLine}
-use Rattle.tile_lines.proofs.FirstPixels.{has_rows}
-use Rattle.tile_lines.proofs.LineRows.{all_pixels, reached_all, reached_line, reached_next, reached_row}
+use Rattle.patch_abyss.specs.Lines.{HasFirstPixels, HasLine}
+use Rattle.patch_abyss.proofs.FirstPixels.{has_rows}
+use Rattle.patch_abyss.proofs.LineRows.{all_pixels, reached_all, reached_line, reached_next, reached_row}
 use Rattle.op_contracts.specs.HeldBytes.{HasTiles}
 use Rattle.op_contracts.proofs.HeldLines.{HasTiles-line, HasTiles-long}
 use Rattle.op_contracts.proofs.held_bytes.held_bytes.Goals as goal

@@ -1,7 +1,7 @@
 use Rattle.plane_rect.specs.Rectangle.{offset}
 use Rattle.model_graphs.specs.Windows.{window_image}
-use Rattle.tile_lines.specs.Lines.{HasFirstPixels}
-use Rattle.tile_lines.proofs.LineRows.{reached_row}
+use Rattle.patch_abyss.specs.Lines.{HasFirstPixels}
+use Rattle.patch_abyss.proofs.LineRows.{reached_row}
 use Rattle.op_contracts.proofs.held_bytes.held_bytes.Given as goal
 
 abbrev pub invariant-loop-line : goal.invariant-loop-line

@@ -3,7 +3,7 @@ use Rattle.std.specs.List.{range_with_len}
 use Rattle.std.proofs.lemmas.List.Elements.{All-push}
 use Rattle.std.proofs.lemmas.List.FromFn.{map-range_with_len_more}
 use Rattle.point_ops.specs.Generated.{opaque_pixel}
-use Rattle.solid_patches.specs.Samples.{IsSampleOf}
+use Rattle.patch_abyss.specs.Samples.{IsSampleOf}
 use Rattle.point_ops.proofs.checker.opaque_samples.Goals as goal
 
 pub loop-channel-preserved : goal.loop-channel-preserved

@@ -1,7 +1,7 @@
 use Rattle.std.proofs.Common.{◌≡◌, All, map}
 use Rattle.std.specs.List.{range_with_len}
 use Rattle.point_ops.specs.Generated.{opaque_pixel}
-use Rattle.solid_patches.specs.Samples.{IsSampleOf}
+use Rattle.patch_abyss.specs.Samples.{IsSampleOf}
 use Rattle.point_ops.proofs.checker.opaque_samples.Given as goal
 
 abbrev pub invariant-loop-channel : goal.invariant-loop-channel

@@ -2,7 +2,7 @@ use Rattle.std.proofs.Common.{◌≡◌, ◌∙◌, map}
 use Rattle.std.specs.List.{range_with_len}
 use Rattle.pixel_formats.specs.Format.{channels}
 use Rattle.point_ops.specs.Generated.{opaque_pixel}
-use Rattle.solid_patches.proofs.Encoded.{all-encoded}
+use Rattle.patch_abyss.proofs.Encoded.{all-encoded}
 use Rattle.point_ops.proofs.checker.raw_opaque.Goals as goal
 
 pub returns-clause-pixel : goal.returns-clause-pixel

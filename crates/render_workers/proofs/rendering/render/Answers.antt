@@ -6,8 +6,8 @@ use Rattle.model_graphs.specs.Meanings.{Meanings}
 use Rattle.model_states.specs.Cache.{needed_pairs}
 use Rattle.model_states.specs.declared.strip.Strip.{Strip}
 use Rattle.model_states.specs.State.{image_of}
-use Rattle.swap_store.specs.Cause.{HasSwapCause}
-use Rattle.swap_store.specs.declared.refusal.SwapRefused.{SwapRefused}
+use Rattle.chain_owners.specs.Cause.{HasSwapCause}
+use Rattle.chain_owners.specs.declared.swap_refused.SwapRefused.{SwapRefused}
 use Rattle.roi_planner.proofs.Widths.{handed-on}
 use Rattle.node_tiles.specs.Stated.{scene_of}
 use Rattle.strip_renders.specs.Moments.{Moment, moment}

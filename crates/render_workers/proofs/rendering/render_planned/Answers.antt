@@ -8,7 +8,8 @@ use Rattle.model_images.specs.Level.{level}
 use Rattle.model_graphs.specs.Facts.{AreImagesOf, shapes_of_facts, specs_of}
 use Rattle.model_graphs.specs.Shapes.{shape_of_image}
 use Rattle.model_states.specs.Cache.{needed_pairs, pair_of}
-use Rattle.model_states.specs.Need.{need, strip_rectangles}
+use Rattle.model_states.specs.Need.{need}
+use Rattle.plane_rect.specs.Tile.{strip_rectangles}
 use Rattle.model_states.specs.declared.strip.Strip.{Strip}
 use Rattle.model_states.proofs.NeedCounts.{request_few}
 use Rattle.node_tiles.specs.Stated.{shape_at}

@@ -5,7 +5,8 @@ use Rattle.model_graphs.specs.declared.node.NodeFact.{NodeFact}
 use Rattle.model_graphs.specs.Meanings.{Meanings}
 use Rattle.model_states.specs.declared.strip.Strip.{Strip}
 use Rattle.model_states.specs.Cache.{Pair}
-use Rattle.model_states.specs.Need.{strip_of, strip_rectangles}
+use Rattle.model_states.specs.Need.{strip_of}
+use Rattle.plane_rect.specs.Tile.{strip_rectangles}
 use Rattle.plane_rect.specs.Rectangle.{Rectangle}
 use Rattle.roi_planner.proofs.Widths.{handed-on}
 use Rattle.strip_renders.specs.Ahead.{AreNext, MadeTiles}

@@ -1,8 +1,8 @@
 use Rattle.std.proofs.Common.{Result, Ok, Err, refl, subst}
 use Rattle.model_runs.specs.State.{Effect}
 use Rattle.model_runs.specs.declared.ending.End.TheVariants as ends
-use Rattle.run_events.proofs.Faults.{chain_faults}
-use Rattle.run_events.specs.Moments.{Moment}
+use Rattle.run_lines.proofs.Faults.{chain_faults}
+use Rattle.run_lines.specs.Moments.{Moment}
 use Rattle.run_lines.proofs.EditLines.{at_chain, carried_edit, edit_done, edit_effect, edit_stopped, out_of_memory, out_of_memory_faults, refused_edit, stopped_faults}
 use Rattle.run_lines.proofs.Stopping.{same_stop, same_stop_faults}
 use Rattle.run_lines.specs.Edited.{IsEdited, SessionOver}

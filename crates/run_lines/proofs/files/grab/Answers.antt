@@ -1,5 +1,5 @@
 use Rattle.std.proofs.Common.{Result, Ok, Err, refl}
-use Rattle.run_events.specs.Moments.{Moment}
+use Rattle.run_lines.specs.Moments.{Moment}
 use Rattle.run_lines.proofs.Grabbing.{grab-faults, grab_done, grab_ended, grab_stopped}
 use Rattle.run_lines.proofs.Seen.{moment}
 use Rattle.run_lines.proofs.Stopping.{same_stop, same_stop_faults}

@@ -1,7 +1,7 @@
 use Rattle.std.proofs.Common.{[], ◌∷◌, length}
-use Rattle.run_events.proofs.Leaving.{HasCause-same_end, HasCause-then, Leaves-first, Leaves-same_end, Leaves-then, none_falls}
-use Rattle.run_texts.specs.Events.{Puts, Writes, events_alone}
-use Rattle.run_texts.specs.Texts.{grab_text}
+use Rattle.run_lines.proofs.Leaving.{HasCause-same_end, HasCause-then, Leaves-first, Leaves-same_end, Leaves-then, none_falls}
+use Rattle.model_runs.specs.Events.{Puts, Writes, events_alone}
+use Rattle.model_runs.specs.Texts.{grab_text}
 use Rattle.run_lines.proofs.files.write_grab.Goals as goal
 
 pub returns-in_err-write_file-clause-leaves : goal.returns-in_err-write_file-clause-leaves

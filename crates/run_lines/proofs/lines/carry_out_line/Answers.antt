@@ -1,6 +1,6 @@
 use Rattle.std.proofs.Common.{refl}
-use Rattle.run_events.proofs.Faults.{faults_by_cause, faults_then}
-use Rattle.run_events.specs.Moments.{Moment}
+use Rattle.run_lines.proofs.Faults.{faults_by_cause, faults_then}
+use Rattle.run_lines.specs.Moments.{Moment}
 use Rattle.run_lines.proofs.Going.{refusal_does}
 use Rattle.run_lines.proofs.Stopping.{done_does, ended_does, refused_at}
 use Rattle.run_lines.proofs.lines.carry_out_line.Goals as goal

@@ -1,6 +1,6 @@
 use Rattle.std.proofs.Common.{◌≡◌, ◌<◌, ◌+◌, [], ◌∷◌, drop, length, refl, sym, ap, ◌∙◌, arith}
 use Rattle.std.proofs.lemmas.List.{drop_all, drop_more}
-use Rattle.run_events.proofs.Faults.{faults_then, no_faults}
+use Rattle.run_lines.proofs.Faults.{faults_then, no_faults}
 use Rattle.run_lines.proofs.Going.{lines_same_end, reached_all, reached_counts, reached_end, reached_first, reached_next}
 use Rattle.script_read.specs.declared.command.Line.{Line}
 use Rattle.run_lines.proofs.lines.carry_out_lines.Goals as goal

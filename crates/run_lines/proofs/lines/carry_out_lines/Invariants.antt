@@ -1,11 +1,11 @@
 use Rattle.std.proofs.Common.{◌≡◌, ℕ, Bool, drop, Ok}
 use Rattle.commit_session.specs.Seen.{IsOver}
-use Rattle.model_bounds.specs.Counts.{HasTrueCounts}
+use Rattle.model_runs.specs.Counts.{HasTrueCounts}
 use Rattle.model_operations.specs.Meanings.{int_meanings, same_operation}
 use Rattle.model_runs.specs.Run.{effects, state_after}
 use Rattle.model_runs.specs.State.{RunState}
 use Rattle.outside_io.specs.Files.{Files}
-use Rattle.run_events.specs.Moments.{HasFaults}
+use Rattle.run_lines.specs.Moments.{HasFaults}
 use Rattle.run_lines.specs.States.{Holds}
 use Rattle.run_lines.proofs.Going.{Reached}
 use Rattle.run_lines.proofs.lines.carry_out_lines.Given as goal

@@ -1,7 +1,7 @@
 use Rattle.std.proofs.Common.{Err, refl, sym, ◌∙◌, arith}
 use Rattle.model_runs.specs.declared.ending.End.TheVariants as ends
-use Rattle.run_events.proofs.Faults.{continues_same, faults_of_swap}
-use Rattle.run_events.specs.Moments.{HasFaults, Moment}
+use Rattle.run_lines.proofs.Faults.{continues_same, faults_of_swap}
+use Rattle.run_lines.specs.Moments.{HasFaults, Moment}
 use Rattle.run_lines.proofs.Loading.{load_out_of_bounds, load_unknown}
 use Rattle.run_lines.specs.Rasters.{IsTarget}
 use Rattle.run_lines.proofs.loads.load.Goals as goal

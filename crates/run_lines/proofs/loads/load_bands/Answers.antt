@@ -8,8 +8,8 @@ use Rattle.pixel_formats.specs.declared.format.Format.{Format}
 use Rattle.plane_rect.specs.Rectangle.{Rectangle, end_row}
 use Rattle.commit_session.specs.declared.refused.SessionRefused.{SessionRefused}
 use Rattle.model_graphs.specs.declared.buffer.BufferFact.{BufferFact}
-use Rattle.run_events.specs.Moments.{HasFaults}
-use Rattle.run_events.proofs.Faults.{chain_faults, continues_same, faults_then}
+use Rattle.run_lines.specs.Moments.{HasFaults}
+use Rattle.run_lines.proofs.Faults.{chain_faults, continues_same, faults_then}
 use Rattle.run_lines.proofs.EditLines.{at_chain, stopped_faults}
 use Rattle.run_lines.proofs.BandParts.{next-reached}
 use Rattle.run_lines.proofs.LoadBands.{IsLoad, IsLoaded}

@@ -2,7 +2,7 @@ use Rattle.std.proofs.Common.{◌≡◌, ℕ, List, Option, IfSome, Ok}
 use Rattle.commit_session.specs.Seen.{IsOver}
 use Rattle.model_operations.specs.Meanings.{int_meanings, same_operation}
 use Rattle.outside_io.specs.Files.{Files, file}
-use Rattle.run_events.specs.Moments.{HasFaults}
+use Rattle.run_lines.specs.Moments.{HasFaults}
 use Rattle.run_lines.specs.Bands.{IsReached}
 use Rattle.run_lines.proofs.LoadBands.{IsLoaded}
 use Rattle.run_lines.proofs.loads.load_bands.Given as goal

@@ -1,7 +1,7 @@
 use Rattle.std.proofs.Common.{◌≡◌, ◌++◌, length}
 use Rattle.model_images.specs.Paint.{cut}
 use Rattle.model_runs.specs.declared.ending.End.TheVariants as ends
-use Rattle.model_states.specs.Need.{strip_rectangles}
+use Rattle.plane_rect.specs.Tile.{strip_rectangles}
 use Rattle.run_lines.proofs.BandWrites.{band-bytes, band-unmade, cause-ended, known-then, left-ended, rows-format, same_band, with_files, writes_alone}
 use Rattle.strip_patches.specs.Pictures.{HasRows}
 use Rattle.run_lines.proofs.rasters.append_band.Goals as goal

@@ -1,9 +1,9 @@
 use Rattle.std.proofs.Common.{◌≡◌, ◌<◌, List, None, Some, get_or, length, arith}
 use Rattle.std.specs.List.{slice_get}
 use Rattle.std.proofs.lemmas.Option.{slice_get-get_or}
-use Rattle.model_states.specs.Need.{strip_rectangles}
+use Rattle.plane_rect.specs.Tile.{strip_rectangles}
 use Rattle.plane_rect.specs.Rectangle.{Rectangle, empty}
-use Rattle.run_events.proofs.Leaving.{HasCause-same_end, HasCause-then, done_cause, falls_then, none_falls}
+use Rattle.run_lines.proofs.Leaving.{HasCause-same_end, HasCause-then, done_cause, falls_then, none_falls}
 use Rattle.run_lines.proofs.BandWrites.{all-written, left-same, more-ended, more-written, rows-format, with_files, writes_alone}
 use Rattle.run_lines.proofs.rasters.append_bands.Goals as goal
 

@@ -1,9 +1,9 @@
 use Rattle.std.proofs.Common.{◌≡◌, ℕ, IfSome, List, Option, length, take}
 use Rattle.std.specs.Option.{option_map}
 use Rattle.model_images.specs.Image.{Image}
-use Rattle.model_states.specs.Need.{strip_rectangles}
+use Rattle.plane_rect.specs.Tile.{strip_rectangles}
 use Rattle.outside_io.specs.Files.{Files, filed}
-use Rattle.run_events.specs.Causes.{NoneFell}
+use Rattle.run_lines.specs.Causes.{NoneFell}
 use Rattle.run_lines.specs.PictureBytes.{AreBandsOf}
 use Rattle.run_lines.proofs.BandWrites.{AreWritten}
 use Rattle.strip_patches.specs.Pictures.{HasRows}

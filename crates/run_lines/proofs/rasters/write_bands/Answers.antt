@@ -1,9 +1,9 @@
 use Rattle.std.proofs.Common.{◌≡◌, [], List, length, refl, sym, subst, arith}
 use Rattle.model_images.specs.Paint.{cut}
 use Rattle.model_runs.specs.declared.ending.End.TheVariants as ends
-use Rattle.model_states.specs.Need.{strip_rectangles}
+use Rattle.plane_rect.specs.Tile.{strip_rectangles}
 use Rattle.plane_rect.specs.Rectangle.{Rectangle}
-use Rattle.run_events.proofs.Leaving.{HasCause-same_end, HasCause-then, none_falls, nothing_done}
+use Rattle.run_lines.proofs.Leaving.{HasCause-same_end, HasCause-then, none_falls, nothing_done}
 use Rattle.run_lines.specs.PictureBytes.{AreBandsOf}
 use Rattle.run_lines.proofs.BandBytes.{bands-some, no_bands}
 use Rattle.run_lines.proofs.BandWrites.{band-bytes, first-ended, first-written, known-then, left-same, none-left, rows-format, with_files, writes_alone}

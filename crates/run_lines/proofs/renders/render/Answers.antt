@@ -1,6 +1,6 @@
 use Rattle.std.proofs.Common.{length, Result, Ok, Err, refl, sym, ap, ◌∙◌}
 use Rattle.model_runs.specs.Effects.{writes}
-use Rattle.run_events.specs.Moments.{Moment}
+use Rattle.run_lines.specs.Moments.{Moment}
 use Rattle.run_lines.proofs.Rendered.{IsLeft, render-done, render-ended, render-faults, render-stopped, shown-by}
 use Rattle.run_lines.proofs.Seen.{moment}
 use Rattle.run_lines.proofs.Stopping.{same_stop, same_stop_faults}
@@ -8,8 +8,8 @@ use Rattle.run_lines.proofs.Writing.{file-faults}
 use Rattle.run_lines.specs.Stops.{stop_of}
 use Rattle.run_lines.specs.declared.stop.Stop.{Stop}
 use Rattle.run_lines.specs.declared.stop.Stop.TheVariants as stops
-use Rattle.run_texts.specs.Events.{events_alone}
-use Rattle.run_texts.specs.Texts.{render_text}
+use Rattle.model_runs.specs.Events.{events_alone}
+use Rattle.model_runs.specs.Texts.{render_text}
 use Rattle.script_fields.specs.Limits.{IsLevelRect}
 use Rattle.run_lines.proofs.renders.render.Goals as goal
 

@@ -1,10 +1,10 @@
 use Rattle.std.proofs.Common.{◌≡◌, [], ◌∷◌, length, sym, ap, ◌∙◌}
 use Rattle.model_runs.specs.declared.ending.End.TheVariants as ends
-use Rattle.run_events.proofs.Leaving.{HasCause-same_end, HasCause-then, Leaves-first, Leaves-same_end, Leaves-same_text, Leaves-then, none_falls, nothing_done}
+use Rattle.run_lines.proofs.Leaving.{HasCause-same_end, HasCause-then, Leaves-first, Leaves-same_end, Leaves-same_text, Leaves-then, none_falls, nothing_done}
 use Rattle.run_lines.proofs.BandBytes.{bytes-some}
 use Rattle.run_lines.proofs.PictureWrites.{shown-format}
-use Rattle.run_texts.specs.Events.{Puts, Writes, events_alone}
-use Rattle.run_texts.specs.Texts.{render_text}
+use Rattle.model_runs.specs.Events.{Puts, Writes, events_alone}
+use Rattle.model_runs.specs.Texts.{render_text}
 use Rattle.strip_patches.specs.Shown.{picture_box, picture_format}
 use Rattle.run_lines.proofs.renders.write_render.Goals as goal
 

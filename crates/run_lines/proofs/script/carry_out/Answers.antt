@@ -1,8 +1,8 @@
 use Rattle.std.proofs.Common.{[], min, is_some, refl, ap, ◌∙◌, rules}
-use Rattle.chain_handlers.specs.OwnedTiles.{counts_over}
+use Rattle.tile_chain.specs.OwnedTiles.{counts_over}
 use Rattle.model_runs.specs.Ending.{ended}
 use Rattle.model_runs.specs.State.{first_state}
-use Rattle.run_events.specs.Moments.{Moment}
+use Rattle.run_lines.specs.Moments.{Moment}
 use Rattle.run_lines.proofs.Going.{lines_same_end}
 use Rattle.run_lines.proofs.Starting.{ended_same, faults_ended, faults_rechained, lines_from, memory_begins, none_counted, over_counts, run_begins, true_at_end, where_exposed}
 use Rattle.run_lines.proofs.script.carry_out.Goals as goal

@@ -1,8 +1,8 @@
 use Rattle.std.proofs.Common.{[], ◌∷◌}
 use Rattle.model_runs.specs.MadeJob.{render_sum}
-use Rattle.run_events.proofs.Leaving.{HasCause-same_end, HasCause-then, Leaves-first, Leaves-same_end, Leaves-then, none_falls}
-use Rattle.run_texts.specs.Events.{Puts, events_alone}
-use Rattle.run_texts.specs.Texts.{report_text, sum_text}
+use Rattle.run_lines.proofs.Leaving.{HasCause-same_end, HasCause-then, Leaves-first, Leaves-same_end, Leaves-then, none_falls}
+use Rattle.model_runs.specs.Events.{Puts, events_alone}
+use Rattle.model_runs.specs.Texts.{report_text, sum_text}
 use Rattle.script_run.proofs.endings.put_job_end.Goals as goal
 
 pub returns-in_err-put_sum-clause-leaves : goal.returns-in_err-put_sum-clause-leaves

@@ -1,6 +1,6 @@
 use Rattle.std.proofs.Common.{◌≡◌, ◌∙◌}
-use Rattle.run_events.proofs.Leaving.{Leaves-same_text}
-use Rattle.run_texts.specs.Texts.{report_text}
+use Rattle.run_lines.proofs.Leaving.{Leaves-same_text}
+use Rattle.model_runs.specs.Texts.{report_text}
 use Rattle.script_run.proofs.endings.put_report.Goals as goal
 
 pub returns-clause-leaves : goal.returns-clause-leaves

@@ -1,7 +1,7 @@
 use Rattle.std.proofs.Common.{◌≡◌, ap, ◌∙◌}
 use Rattle.model_runs.specs.MadeJob.{render_sum}
-use Rattle.run_events.proofs.Leaving.{Leaves-same_text}
-use Rattle.run_texts.specs.Texts.{sum_text}
+use Rattle.run_lines.proofs.Leaving.{Leaves-same_text}
+use Rattle.model_runs.specs.Texts.{sum_text}
 use Rattle.script_run.proofs.endings.put_sum.Goals as goal
 
 pub returns-clause-leaves : goal.returns-clause-leaves

@@ -1,6 +1,6 @@
 use Rattle.std.proofs.Common.{Some, length, min, refl}
 use Rattle.model_runs.specs.MadeJob.{made_files}
-use Rattle.run_events.proofs.Faults.{faults_by_cause, faults_then}
+use Rattle.run_lines.proofs.Faults.{faults_by_cause, faults_then}
 use Rattle.run_words.specs.Meant.{options_meant}
 use Rattle.script_run.proofs.Jobs.{err_faults, job_carried, job_counted, job_ended, job_faults, job_memory, job_then, memory_faults, zeros_count}
 use Rattle.script_run.specs.Carried.{job_moment}

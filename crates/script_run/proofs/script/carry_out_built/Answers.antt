@@ -1,11 +1,11 @@
 use Rattle.std.proofs.Common.{◌≡◌, Some, None, Ok, is_some, min, refl}
-use Rattle.chain_handlers.specs.OwnedTiles.{counts_over}
-use Rattle.model_bounds.proofs.RunCounts.{script_few}
+use Rattle.tile_chain.specs.OwnedTiles.{counts_over}
+use Rattle.model_runs.proofs.RunCounts.{script_few}
 use Rattle.model_runs.specs.Built.{first_unbuilt}
 use Rattle.model_runs.specs.Ending.{ended}
-use Rattle.run_events.proofs.Faults.{faults_by_cause}
-use Rattle.run_events.proofs.Leaving.{Leaves-same_outcome, exposed_any}
-use Rattle.run_events.specs.Carried.{IsCounted}
+use Rattle.run_lines.proofs.Faults.{faults_by_cause}
+use Rattle.run_lines.proofs.Leaving.{Leaves-same_outcome, exposed_any}
+use Rattle.run_lines.specs.Carried.{IsCounted}
 use Rattle.run_words.specs.Meant.{options_meant}
 use Rattle.script_run.proofs.AfterLines.{counted_read, none_counted}
 use Rattle.script_run.proofs.Lines.{are_built}

@@ -1,11 +1,11 @@
 use Rattle.std.proofs.Common.{[], min, IfOk, refl}
-use Rattle.chain_handlers.specs.OwnedTiles.{counts_over}
+use Rattle.tile_chain.specs.OwnedTiles.{counts_over}
 use Rattle.outside_io.specs.Files.{file}
 use Rattle.model_runs.specs.Built.{plan_of_read}
 use Rattle.model_runs.specs.Ending.{ended}
 use Rattle.model_runs.specs.Run.{lines_of_file, no_ending}
-use Rattle.run_events.proofs.Leaving.{Leaves-same_files, nothing_done, nothing_read, exposed_outcome, exposed_any}
-use Rattle.run_events.specs.Carried.{IsCounted}
+use Rattle.run_lines.proofs.Leaving.{Leaves-same_files, nothing_done, nothing_read, exposed_outcome, exposed_any}
+use Rattle.run_lines.specs.Carried.{IsCounted}
 use Rattle.script_run.proofs.AfterLines.{none_counted}
 use Rattle.script_run.proofs.Loads.{script_too_long, script_absent}
 use Rattle.script_run.proofs.Reading.{any_known, moment, read_carried, text_carried, text_read, text_unswapped}

@@ -1,13 +1,13 @@
 use Rattle.std.proofs.Common.{min, IsTrue, List, Result, refl, subst}
-use Rattle.chain_handlers.specs.OwnedTiles.{counts_over}
+use Rattle.tile_chain.specs.OwnedTiles.{counts_over}
 use Rattle.model_runs.specs.Built.{needs_no_swap}
 use Rattle.model_runs.specs.Ending.{ended}
 use Rattle.model_runs.specs.Run.{by_grammar}
 use Rattle.script_read.specs.Script as grammar
 use Rattle.script_read.specs.Script.{script_of}
 use Rattle.script_read.specs.declared.command.Line.{Line}
-use Rattle.run_events.proofs.Faults.{faults_by_cause}
-use Rattle.run_events.proofs.Leaving.{Leaves-same_outcome, nothing_done, exposed_any}
+use Rattle.run_lines.proofs.Faults.{faults_by_cause}
+use Rattle.run_lines.proofs.Leaving.{Leaves-same_outcome, nothing_done, exposed_any}
 use Rattle.script_run.proofs.AfterLines.{none_counted}
 use Rattle.script_run.proofs.Reading.{any_known, moment, read_carried, refused_outcome}
 use Rattle.run_words.specs.Meant.{options_meant}

@@ -1,9 +1,9 @@
 use Rattle.std.proofs.Common.{is_some, min, refl}
-use Rattle.chain_handlers.specs.OwnedTiles.{counts_over}
+use Rattle.tile_chain.specs.OwnedTiles.{counts_over}
 use Rattle.outside_io.specs.Files.{file}
 use Rattle.model_runs.specs.Built.{needs_no_swap}
 use Rattle.model_runs.specs.Run.{lines_of_file}
-use Rattle.run_events.proofs.Faults.{faults_by_cause, faults_then}
+use Rattle.run_lines.proofs.Faults.{faults_by_cause, faults_then}
 use Rattle.run_words.specs.Meant.{options_meant}
 use Rattle.script_run.proofs.AfterLines.{report_ended, report_read, unswapped_ended, unswapped_then}
 use Rattle.script_run.proofs.Reading.{moment}

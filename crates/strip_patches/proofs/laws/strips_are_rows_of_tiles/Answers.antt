@@ -1,8 +1,7 @@
 use Rattle.std.proofs.Common.{◌+◌, sym, subst, arith}
 use Rattle.plane_rect.specs.Rectangle.{Inside, Rectangle}
-use Rattle.plane_rect.specs.Tile.{tile_of}
+use Rattle.plane_rect.specs.Tile.{tile_of, tile_line}
 use Rattle.plane_rect.proofs.Rectangles.{Inside-meet}
-use Rattle.model_states.specs.Need.{tile_line}
 use Rattle.strip_patches.proofs.Adding.{in-lines, length-strips, strip-is, strip-line, strip-positions}
 use Rattle.strip_patches.proofs.Halves.{same-line}
 use Rattle.strip_patches.proofs.laws.strips_are_rows_of_tiles.Goals as goal

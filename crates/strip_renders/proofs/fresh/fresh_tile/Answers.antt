@@ -4,7 +4,7 @@ use Rattle.chain_owners.proofs.Ownership.{seen-unchanged}
 use Rattle.model_graphs.specs.declared.node.NodeFact.{NodeFact}
 use Rattle.model_graphs.specs.Facts.{specs_of}
 use Rattle.model_states.specs.Cache.{Pair, find_pair, itself, pair_of}
-use Rattle.swap_store.specs.Cause.{HasSwapCause}
+use Rattle.chain_owners.specs.Cause.{HasSwapCause}
 use Rattle.node_cache.specs.Stores.{pair_at}
 use Rattle.node_tiles.proofs.Places.{ready-inside}
 use Rattle.node_tiles.proofs.Reading.{reads-others}

@@ -2,7 +2,7 @@ use Rattle.std.proofs.Common.{◌≡◌, ◌≤◌, List, Some, length, take, re
 use Rattle.std.specs.Prelude.{slice_get}
 use Rattle.std.proofs.lemmas.List.{length-take}
 use Rattle.model_states.specs.Need.{Needed}
-use Rattle.swap_store.specs.Cause.{HasSwapCause}
+use Rattle.chain_owners.specs.Cause.{HasSwapCause}
 use Rattle.roi_planner.proofs.Widths.{handed-on}
 use Rattle.node_tiles.specs.Reads.{seen}
 use Rattle.node_tiles.specs.Stated.{IsReady}

@@ -20,8 +20,8 @@ use Rattle.strip_renders.proofs.Looking.{absent-same, kept-through, looked-all, 
 use Rattle.strip_renders.proofs.Pairs.{named}
 use Rattle.chain_owners.specs.Owners.{Owns}
 use Rattle.chain_owners.proofs.Ownership.{seen-unchanged}
-use Rattle.swap_store.specs.Cause.{HasSwapCause}
-use Rattle.swap_store.proofs.Causes.{cause-more}
+use Rattle.chain_owners.specs.Cause.{HasSwapCause}
+use Rattle.chain_owners.proofs.Causes.{cause-more}
 use Rattle.roi_planner.proofs.Widths.{handed-on}
 use Rattle.strip_renders.specs.Moments.{AreOver, Keeps, Moment, moment}
 use Rattle.strip_renders.proofs.Moments.{Turns, cause-kept, keeps-both, keeps-most, keeps-turns, matched-err, over-turns, owns-turned}

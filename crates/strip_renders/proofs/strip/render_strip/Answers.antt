@@ -6,7 +6,7 @@ use Rattle.strip_renders.proofs.Names.{few-names}
 use Rattle.model_graphs.specs.Facts.{specs_of}
 use Rattle.model_states.specs.Cache.{Pair, all_looked_up, itself, pair_of, recent, uncounted}
 use Rattle.model_states.specs.Need.{Needed}
-use Rattle.swap_store.specs.Cause.{HasSwapCause}
+use Rattle.chain_owners.specs.Cause.{HasSwapCause}
 use Rattle.roi_planner.proofs.Widths.{handed-on}
 use Rattle.strip_renders.specs.Moments.{Keeps, moment}
 use Rattle.strip_renders.specs.Strips.{HoldsNeed, IsRendered, list_after, most_names, needed_from, pairs_needed}

@@ -5,7 +5,7 @@ use Rattle.model_graphs.specs.Evaluation.{Buffers}
 use Rattle.model_graphs.specs.Facts.{shapes_of_facts, specs_of}
 use Rattle.model_states.specs.Cache.{Pair, pair_of}
 use Rattle.model_states.specs.Need.{Needed}
-use Rattle.swap_store.specs.Cause.{HasSwapCause}
+use Rattle.chain_owners.specs.Cause.{HasSwapCause}
 use Rattle.node_cache.specs.Stores.{Sized}
 use Rattle.node_tiles.specs.Stated.{AreTilesOf, bytes_at}
 use Rattle.node_tiles.proofs.Reading.{reads-others}

@@ -1,7 +1,7 @@
 use Rattle.std.proofs.Common.{sym, subst, rules, tests, Err}
 use Rattle.session_states.specs.OverChains.{AreVersionsOver}
 use Rattle.graph_edits.specs.Refusals.{IsRefusalOf}
-use Rattle.graph_commits.specs.Directions.{stepped}
+use Rattle.model_states.specs.Directions.{stepped}
 use Rattle.commit_session.specs.Parts.{Parts}
 use Rattle.commit_session.specs.Refusals.{IsRefusedAs, by_graph}
 use Rattle.commit_session.specs.Steps.{history_step}

@@ -3,7 +3,7 @@ use Rattle.std.specs.Prelude.{IsOkAnd}
 use Rattle.model_graphs.specs.Laws.{KeepsLaws}
 use Rattle.model_states.specs.Commits.{Graph}
 use Rattle.model_states.specs.Retained.{last_number}
-use Rattle.graph_commits.specs.Directions.{ahead, step_to}
+use Rattle.model_states.specs.Directions.{ahead, step_to}
 use Rattle.graph_commits.specs.Graphs.{IsGraph}
 use Rattle.graph_commits.specs.Histories.{first_delta}
 use Rattle.graph_commits.proofs.GraphLaws.{answered, step_is}

@@ -3,8 +3,8 @@ use Rattle.std.proofs.lemmas.Bool.{not-true}
 use Rattle.std.proofs.lemmas.Grind.{common_steps}
 use Rattle.std.proofs.lemmas.Result.{IfErr-weaker, IfOk-weaker, err_from_is_err_and}
 use Rattle.plane_rect.specs.Tile.{Tile}
-use Rattle.swap_store.specs.Cause.{HasSwapCause}
-use Rattle.swap_store.specs.declared.refusal.SwapRefused.{SwapRefused}
+use Rattle.chain_owners.specs.Cause.{HasSwapCause}
+use Rattle.chain_owners.specs.declared.swap_refused.SwapRefused.{SwapRefused}
 use Rattle.level_tables.specs.LevelTiles.{LevelTiles, image_of, positions}
 use Rattle.level_tables.specs.Steps.{HoldsMore, State, names_with_levels, state}
 use Rattle.level_tables.specs.Found.{Finds, IsFound, IsInHalf, name_in, tile_below}

@@ -4,7 +4,7 @@ use Rattle.std.specs.Map.{keys_of}
 use Rattle.std.proofs.lemmas.Result.{err_from_is_err_and}
 use Rattle.plane_rect.specs.Tile.{Tile}
 use Rattle.model_images.specs.Level.{tile_at_level}
-use Rattle.swap_store.proofs.Causes.{cause-more}
+use Rattle.chain_owners.proofs.Causes.{cause-more}
 use Rattle.level_tables.specs.LevelTiles.{LevelTiles, image_of, positions, same_level_tile}
 use Rattle.level_tables.specs.Over.{IsAbove, IsTileOfLevel}
 use Rattle.level_tables.specs.Steps.{HoldsMore, names_with_levels, state}

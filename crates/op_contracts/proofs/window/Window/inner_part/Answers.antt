@@ -2,7 +2,7 @@ use Rattle.std.proofs.Common.{◌≡◌, ap, ◌∙◌}
 use Rattle.pixel_formats.specs.declared.format.Format.{Format}
 use Rattle.model_images.specs.FromRaw.{image_from_raw}
 use Rattle.model_graphs.specs.Windows.{Window, window_image}
-use Rattle.tile_lines.proofs.FirstPixels.{HasFirstPixels-all}
+use Rattle.patch_abyss.proofs.FirstPixels.{HasFirstPixels-all}
 use Rattle.op_contracts.proofs.window.Window.inner_part.Goals as goal
 
 pub returns-in-Some : goal.returns-in-Some

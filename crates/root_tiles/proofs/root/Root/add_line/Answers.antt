@@ -2,7 +2,7 @@ use Rattle.std.proofs.Common.{◌+◌, ◌*◌, max, min, sym}
 use Rattle.level_tables.specs.LevelTiles.{bytes_in}
 use Rattle.model_images.specs.Tiles.{held_image}
 use Rattle.plane_rect.specs.Rectangle.{end_row, offset}
-use Rattle.tile_lines.specs.Lines.{HasFirstPixels, HasLine}
+use Rattle.patch_abyss.specs.Lines.{HasFirstPixels, HasLine}
 use Rattle.root_tiles.proofs.LineTiles.{if-known}
 use Rattle.root_tiles.proofs.root.Root.add_line.Goals as goal
 

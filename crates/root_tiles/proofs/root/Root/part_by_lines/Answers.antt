@@ -9,10 +9,10 @@ use Rattle.pixel_formats.specs.Format.{pixel_bytes}
 use Rattle.pixel_formats.specs.declared.format.Format.{Format}
 use Rattle.plane_rect.specs.Rectangle.{area, end_row, offset}
 use Rattle.plane_rect.specs.Tile.{tile_end, tile_of}
-use Rattle.tile_lines.specs.Lines.{HasFirstPixels}
-use Rattle.tile_lines.proofs.FirstPixels.{HasFirstPixels-all, HasFirstPixels-none, has_rows}
+use Rattle.patch_abyss.specs.Lines.{HasFirstPixels}
+use Rattle.patch_abyss.proofs.FirstPixels.{HasFirstPixels-all, HasFirstPixels-none, has_rows}
 use Rattle.root_tiles.proofs.ChainReads.{read-both, read-none, refused-later}
-use Rattle.tile_lines.proofs.LineRows.{all_pixels, all_rows, bytes_more, no_pixels, no_rows, reached_all, reached_first, reached_line, reached_next, reached_row}
+use Rattle.patch_abyss.proofs.LineRows.{all_pixels, all_rows, bytes_more, no_pixels, no_rows, reached_all, reached_first, reached_line, reached_next, reached_row}
 use Rattle.root_tiles.proofs.LineTiles.{always-known, both-known, if-known}
 use Rattle.root_tiles.proofs.root.Root.part_by_lines.Goals as goal
 

@@ -2,10 +2,10 @@ use Rattle.std.proofs.Common.{◌≡◌, ◌-◌, ◌*◌, length}
 use Rattle.std.specs.Prelude.{IfSome}
 use Rattle.pixel_formats.specs.Format.{pixel_bytes}
 use Rattle.plane_rect.specs.Rectangle.{offset}
-use Rattle.tile_lines.specs.Lines.{HasFirstPixels}
+use Rattle.patch_abyss.specs.Lines.{HasFirstPixels}
 use Rattle.root_tiles.specs.Chains.{IsRead}
 use Rattle.root_tiles.specs.Roots.{root_image}
-use Rattle.tile_lines.proofs.LineRows.{reached_row}
+use Rattle.patch_abyss.proofs.LineRows.{reached_row}
 use Rattle.root_tiles.proofs.root.Root.part_by_lines.Given as goal
 
 abbrev pub invariant-loop-line : goal.invariant-loop-line

@@ -6,8 +6,8 @@ use Rattle.level_tables.specs.LevelTiles.{image_of}
 use Rattle.level_tables.specs.Over.{IsTileOfLevel}
 use Rattle.level_tables.specs.Steps.{names_with_levels, state}
 use Rattle.model_images.specs.TileCounts.{level_tiles}
-use Rattle.swap_store.specs.Cause.{HasSwapCause}
-use Rattle.swap_store.specs.declared.refusal.SwapRefused.{SwapRefused}
+use Rattle.chain_owners.specs.Cause.{HasSwapCause}
+use Rattle.chain_owners.specs.declared.swap_refused.SwapRefused.{SwapRefused}
 use Rattle.root_tiles.specs.Growth.{HoldsMoreTiles, RootState, names_with_root_levels, root_state}
 use Rattle.root_tiles.specs.Roots.{IsRootOver, RootTiles, root_image}
 use Rattle.root_tiles.proofs.MoreTiles.{box-cause, box-cause-plain, root-holds, root-level, tiles-names}

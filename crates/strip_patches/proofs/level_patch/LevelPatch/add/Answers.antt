@@ -4,7 +4,7 @@ use Rattle.model_images.specs.Image.{Image}
 use Rattle.model_images.specs.Level.{level}
 use Rattle.model_images.specs.Paint.{cut}
 use Rattle.model_images.proofs.LevelLaws.{level-format}
-use Rattle.model_states.specs.Need.{strip_rectangles}
+use Rattle.plane_rect.specs.Tile.{strip_rectangles}
 use Rattle.strip_patches.specs.LevelStrips.{AreOfOne, HasStrips, LevelStrips, source_of, strip_level}
 use Rattle.strip_patches.proofs.Adding.{request-still, strip-added}
 use Rattle.strip_patches.proofs.level_patch.LevelPatch.add.Goals as goal

@@ -3,7 +3,7 @@ use Rattle.std.specs.Prelude.{OnOk, slice_get}
 use Rattle.plane_rect.specs.Rectangle.{Includes, Rectangle}
 use Rattle.pixel_formats.specs.Format.{pixel_bytes}
 use Rattle.pixel_formats.specs.declared.format.Format.{Format}
-use Rattle.model_states.specs.Need.{strip_rectangles}
+use Rattle.plane_rect.specs.Tile.{strip_rectangles}
 use Rattle.op_contracts.specs.TileList.{HasLength}
 use Rattle.strip_patches.specs.LevelStrips.{HasStrips, LevelStrips, source_of}
 use Rattle.strip_patches.proofs.Adding.{request-whole, strip-put}

@@ -5,7 +5,7 @@ use Rattle.plane_rect.specs.Rectangle.{meet}
 use Rattle.model_graphs.specs.Evaluation.{Buffers}
 use Rattle.model_graphs.specs.Facts.{AreImagesOf}
 use Rattle.model_images.specs.Image.{Image}
-use Rattle.model_states.specs.Need.{strip_rectangles}
+use Rattle.plane_rect.specs.Tile.{strip_rectangles}
 use Rattle.strip_patches.specs.LevelStrips.{HasStrips}
 use Rattle.strip_patches.specs.Nodes.{image_at}
 use Rattle.strip_patches.specs.Pictures.{AreTilesOver, HasRows}

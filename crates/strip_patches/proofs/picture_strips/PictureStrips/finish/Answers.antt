@@ -2,7 +2,7 @@ use Rattle.std.proofs.Common.{length, refl, sym, subst}
 use Rattle.model_images.specs.Image.{Image}
 use Rattle.model_images.specs.Level.{level}
 use Rattle.model_images.proofs.LevelLaws.{level-zero}
-use Rattle.model_states.specs.Need.{strip_rectangles}
+use Rattle.plane_rect.specs.Tile.{strip_rectangles}
 use Rattle.strip_patches.specs.Pictures.{HasRows}
 use Rattle.strip_patches.specs.Shown.{HasStripsOf, Shows, level_in, rect_in, source_in}
 use Rattle.strip_patches.specs.declared.picture.Picture.TheVariants.{Tiles}

@@ -1,10 +1,9 @@
 use Rattle.std.proofs.Common.{◌≡◌, ℕ, ◌*◌, All, List, Some, length, refl, sym, ◌∙◌, subst}
 use Rattle.std.specs.Prelude.{slice_get}
 use Rattle.std.proofs.lemmas.Option.{slice_get_read}
-use Rattle.plane_rect.specs.Tile.{IsWhole, Tile}
+use Rattle.plane_rect.specs.Tile.{IsWhole, Tile, strip_rectangles}
 use Rattle.pixel_formats.specs.Format.{pixel_bytes}
 use Rattle.pixel_formats.specs.declared.format.Format.{Format}
-use Rattle.model_states.specs.Need.{strip_rectangles}
 use Rattle.op_contracts.specs.TileList.{HasLength}
 use Rattle.strip_patches.specs.Pictures.{AreTilesOver, HasRows, TiledRect}
 use Rattle.strip_patches.proofs.Tiled.{band-shown, row-has}

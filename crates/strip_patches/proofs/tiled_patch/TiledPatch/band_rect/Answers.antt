@@ -1,8 +1,7 @@
 use Rattle.std.proofs.Common.{◌≡◌, ℕ, ◌+◌, ◌*◌, ◌/◌, ◌<◌, ◌≤◌, Some, length, sym, ap, ◌∙◌, subst, arith}
 use Rattle.std.specs.Prelude.{slice_get}
 use Rattle.plane_rect.specs.Rectangle.{InLimits, meet, plane_side}
-use Rattle.plane_rect.specs.Tile.{tile_of}
-use Rattle.model_states.specs.Need.{strip_rectangles, tile_line}
+use Rattle.plane_rect.specs.Tile.{tile_of, strip_rectangles, tile_line}
 use Rattle.strip_patches.specs.Pictures.{TiledRect}
 use Rattle.strip_patches.proofs.Tiled.{band-in_plane, limits-meet, line-spanned, strip-at}
 use Rattle.strip_patches.proofs.tiled_patch.TiledPatch.band_rect.Goals.{After-first_row}

@@ -1,5 +1,5 @@
 use Rattle.std.proofs.Common.{◌≡◌, length, sym, ap, arith}
-use Rattle.model_states.specs.Need.{strip_rectangles}
+use Rattle.plane_rect.specs.Tile.{strip_rectangles}
 use Rattle.strip_patches.specs.Pictures.{TiledRect}
 use Rattle.strip_patches.proofs.Adding.{length-strips}
 use Rattle.strip_patches.proofs.tiled_patch.TiledPatch.bands.Goals as goal

@@ -2,8 +2,8 @@ use Rattle.std.proofs.Common.{◌≡◌, ◌<◌, ℕ, Option, Some, None, Match
 use Rattle.std.specs.Option.{ok_or}
 use Rattle.std.specs.List.{position}
 use Rattle.chain_owners.specs.declared.run.Run.{Run}
-use Rattle.swap_store.specs.declared.refusal.SwapRefused.{SwapRefused}
-use Rattle.swap_store.specs.declared.refusal.SwapRefused.TheVariants.{SwapFull}
+use Rattle.chain_owners.specs.declared.swap_refused.SwapRefused.{SwapRefused}
+use Rattle.chain_owners.specs.declared.swap_refused.SwapRefused.TheVariants.{SwapFull}
 use Rattle.swap_store.specs.Run.{IsFirstFit, blocks_for, longest}
 use Rattle.swap_store.proofs.Fits.{fits, has_room}
 use Rattle.swap_store.proofs.PlacementLaws.{blocks_for-some}

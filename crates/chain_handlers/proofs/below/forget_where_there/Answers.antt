@@ -1,9 +1,0 @@
-use Rattle.std.proofs.Common.{sym, ◌∙◌}
-use Rattle.chain_handlers.proofs.Moves.{is-none}
-use Rattle.chain_handlers.proofs.Tiles.{out-absent}
-use Rattle.chain_handlers.proofs.below.forget_where_there.Goals as goal
-
-pub returns-else-has-clause-held : goal.returns-else-has-clause-held
-returns-else-has-clause-held g c =
-    sym (out-absent (g.H.ChainMeaning.held c.args.below.now) c.args.name (g.H.ChainMeaning.same_names c.args.below.now)
-    (is-none _ (sym c.has.ensures ∙ c.if-has.false)))

@@ -1,2 +1,0 @@
-mod ValidNodes
-pub mod RunCounts

@@ -1,5 +1,0 @@
-use Rattle.model_bounds.proofs.RunCounts.{script_few}
-use Rattle.model_bounds.proofs.scripts_have_few_lines.Goals as goal
-
-pub returns : goal.returns
-returns c = script_few

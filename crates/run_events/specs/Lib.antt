@@ -1,4 +1,0 @@
-pub mod Causes
-pub mod Leaving
-pub mod Moments
-pub mod Carried

@@ -1,2 +1,0 @@
-pub mod FirstPixels
-pub mod LineRows
