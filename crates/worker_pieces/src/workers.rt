@@ -1,6 +1,6 @@
 //! How many threads work is split among.
 
-ghost use Rattle.std.specs.Prelude.{◌≡◌, ◌<◌, All, IfOk, Ok, length};
+ghost use Rattle.std.specs.Prelude.{◌≡◌, ◌<◌, ◌≤◌, All, IfOk, Ok, length, nat_lt};
 ghost use Rattle.std.specs.List.{AllZip};
 
 use alloc_basics::NoMemory;
@@ -29,7 +29,9 @@ impl<'r, R: Threads + Sync> Copy for Workers<'r, R> {}
 
 impl<'r, R: Threads + Sync> Workers<'r, R> {
     /// Makes the leave to split work into at most so many pieces; none and one both leave it whole.
-    pub fn new(threads: &'r R, count: u32) -> Workers<'r, R> {
+    pub fn new(threads: &'r R, count: u32) -> Workers<'r, R>
+        ensures { result.count ≡ count }
+    {
         Workers { threads, count }
     }
 
@@ -41,13 +43,17 @@ impl<'r, R: Threads + Sync> Workers<'r, R> {
     }
 
     /// Returns whether there is more than one.
-    pub fn are_several(self) -> bool {
+    pub fn are_several(self) -> bool
+        ensures { result ≡ nat_lt 1 self.entry.count }
+    {
         self.count > 1
     }
 
     /// Returns as many of these workers as work of about so many nanoseconds is worth, each of a piece of it that is
     /// longer than it takes to start its thread. Work of less than two such pieces is left whole.
-    pub fn for_work(self, nanoseconds: u64) -> Workers<'r, R> {
+    pub fn for_work(self, nanoseconds: u64) -> Workers<'r, R>
+        ensures { result.count ≤ self.entry.count }
+    {
         let pieces = nanoseconds / MIN_PIECE_NANOSECONDS;
         let count = pieces.min(self.count as u64) as u32;
         Workers {
