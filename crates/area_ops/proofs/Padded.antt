@@ -11,13 +11,14 @@ use Rattle.pixel_formats.specs.Row.{pixel_at}
 use Rattle.pixel_formats.specs.declared.abyss.Abyss.{Abyss}
 use Rattle.pixel_formats.specs.declared.abyss.Abyss.TheVariants.{None}
 use Rattle.pixel_formats.specs.declared.format.Format.{Format}
+use Rattle.pixel_formats.proofs.FormatLaws.{by_depth}
 use Rattle.model_images.specs.Abyss.{abyss_at}
 use Rattle.model_images.specs.FromRaw.{byte_count, image_from_raw}
 use Rattle.model_images.specs.Image.{Image, at, image_from_fn}
 use Rattle.model_images.specs.Paint.{cut}
 use Rattle.model_images.specs.Raw.{raw}
 use Rattle.model_images.proofs.ByteLaws.{length-raw_with, raw_with-none}
-use Rattle.model_images.proofs.FromRawLaws.{by_depth, sample_equal}
+use Rattle.model_images.proofs.FromRawLaws.{sample_equal}
 use Rattle.model_images.proofs.Laws.{at-image_from_fn}
 use Rattle.model_images.proofs.RawLaws.{raw-samples}
 use Rattle.patch_abyss.proofs.Parts.{byte_index, byte_within}

@@ -10,10 +10,10 @@ use Rattle.pixel_formats.specs.Over.{composited, over_pixel}
 use Rattle.pixel_formats.specs.Row.{Pixel}
 use Rattle.pixel_formats.specs.declared.format.Format.{Format}
 use Rattle.pixel_formats.specs.declared.format.Format.TheVariants.{Y8}
+use Rattle.pixel_formats.proofs.FormatLaws.{Decides-same_format, by_depth}
 use Rattle.model_images.specs.Image.{Image, at}
-use Rattle.model_images.proofs.FromRawLaws.{by_depth}
 use Rattle.model_images.proofs.Laws.{at_outside}
-use Rattle.model_images.proofs.Tests.{both, Decides-same_format}
+use Rattle.model_images.proofs.Tests.{both}
 use Rattle.model_graphs.specs.Meanings.{boxes_of, formats_of, result_box}
 use Rattle.model_operations.specs.Formats.{format_of}
 use Rattle.model_operations.specs.Inputs.{input_count}

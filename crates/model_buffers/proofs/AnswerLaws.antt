@@ -11,7 +11,8 @@ use Rattle.plane_rect.proofs.Differences.{reaches}
 use Rattle.pixel_formats.specs.Limits.{max_buffers}
 use Rattle.pixel_formats.specs.declared.format.Format.{Format}
 use Rattle.pixel_formats.specs.Format.{channels, max_sample, same_format}
-use Rattle.model_images.proofs.Tests.{Decides-same_format, both}
+use Rattle.pixel_formats.proofs.FormatLaws.{Decides-same_format}
+use Rattle.model_images.proofs.Tests.{both}
 use Rattle.model_graphs.specs.Shapes.{Shape}
 use Rattle.model_images.specs.FromRaw.{byte_count}
 use Rattle.model_buffers.specs.declared.refused.EditRefused.{EditRefused}

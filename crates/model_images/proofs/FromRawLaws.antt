@@ -5,7 +5,7 @@ use Rattle.plane_rect.specs.Rectangle.{Rectangle, Inside}
 use Rattle.pixel_formats.specs.Format.{channels, depth}
 use Rattle.pixel_formats.specs.Row.{sample_at}
 use Rattle.pixel_formats.specs.declared.format.Format.{Format}
-use Rattle.pixel_formats.specs.declared.format.Format.TheVariants.{Y8, YA8, RGB8, RGBA8, Y16, YA16, RGB16, RGBA16}
+use Rattle.pixel_formats.proofs.FormatLaws.{by_depth}
 use Rattle.pixel_formats.proofs.Zeros.{get_or-zeros}
 use Rattle.model_images.specs.Image.{Image, at, sampled, sample_index, sample_count}
 use Rattle.model_images.specs.Paint.{blank}
@@ -48,16 +48,6 @@ image_from_raw-zeros box format n =
     (λ u v c there known. sample_zero (depth format) (replicate n 0) (sample_index box (channels format) u v c) (λ k below. get_or-zeros n _))
 
 -- ---- raw bytes
-
-pub by_depth : (P : ℕ → Type 0) → P 1 → P 2 → (format : Format) → P (depth format)
-by_depth P one two Y8 = one
-by_depth P one two YA8 = one
-by_depth P one two RGB8 = one
-by_depth P one two RGBA8 = one
-by_depth P one two Y16 = two
-by_depth P one two YA16 = two
-by_depth P one two RGB16 = two
-by_depth P one two RGBA16 = two
 
 -- the bytes spell these samples, of so many bytes each
 abbrev pub AreRawSamples : List ℕ → List ℕ → ℕ → Type 0

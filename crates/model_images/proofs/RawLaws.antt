@@ -7,13 +7,14 @@ use Rattle.plane_rect.specs.Tile.{Tile, tile_square}
 use Rattle.pixel_formats.specs.Format.{channels, depth}
 use Rattle.pixel_formats.specs.Row.{sample_at}
 use Rattle.pixel_formats.specs.declared.format.Format.{Format}
+use Rattle.pixel_formats.proofs.FormatLaws.{by_depth}
 use Rattle.pixel_formats.proofs.Zeros.{get_or-zeros}
 use Rattle.model_images.specs.Agreement.{AgreeOver}
 use Rattle.model_images.specs.FromRaw.{byte_count, pixels_from_raw}
 use Rattle.model_images.specs.Image.{Image, at, sampled, sample_index}
 use Rattle.model_images.specs.Raw.{raw, sample_bytes, tile_bytes}
 use Rattle.model_images.specs.Tiles.{AreZeroOutside}
-use Rattle.model_images.proofs.FromRawLaws.{by_depth, raw-is, sample_zero, zeros_are_bytes}
+use Rattle.model_images.proofs.FromRawLaws.{raw-is, sample_zero, zeros_are_bytes}
 use Rattle.model_images.proofs.Laws.{at_outside, get_or-sampled, sampled_equal}
 use Rattle.model_images.proofs.Samples.{position_of_index, sample_index_below}
 

@@ -1,5 +1,5 @@
 -- No operation gives a sample above the largest of its format.
-use Rattle.std.proofs.Common.{◌≡◌, ℕ, zero, suc, ◌+◌, ◌-◌, ◌*◌, ◌/◌, ◌<◌, ◌≤◌, ◌⊎◌, inl, inr, Bool, true, false, ◌&&◌, cond, leb, eqb, List, [], ◌∷◌, length, get_or, Option, Some, None, min, refl, sym, subst, ap, ◌∙◌, arith}
+use Rattle.std.proofs.Common.{◌≡◌, ℕ, zero, suc, ◌+◌, ◌-◌, ◌*◌, ◌/◌, ◌<◌, ◌≤◌, inl, inr, Bool, true, false, ◌&&◌, cond, leb, eqb, List, [], ◌∷◌, length, get_or, Option, Some, None, min, refl, sym, subst, ap, ◌∙◌, arith}
 use Rattle.std.specs.List.{fold, list_all, sum}
 use Rattle.std.proofs.Math.Nat.{mul-le-mul}
 use Rattle.std.proofs.lemmas.Bool.Decides.{nat_tests}
@@ -13,7 +13,7 @@ use Rattle.pixel_formats.specs.Mask.{scaled_by}
 use Rattle.pixel_formats.specs.Recolor.{cap, is_alpha, recolored}
 use Rattle.pixel_formats.specs.Row.{Pixel}
 use Rattle.pixel_formats.specs.declared.format.Format.{Format}
-use Rattle.pixel_formats.specs.declared.format.Format.TheVariants.{Y8, YA8, RGB8, RGBA8, Y16, YA16, RGB16, RGBA16}
+use Rattle.pixel_formats.proofs.FormatLaws.{by_depth, by_max}
 use Rattle.model_images.proofs.Laws.{at-image_from_fn, at_no_channel, at_outside}
 use Rattle.model_images.proofs.Positions.{by_positions}
 use Rattle.model_images.proofs.Tests.{both}
@@ -37,23 +37,6 @@ use Rattle.model_operations.specs.Lawful.Inputs.{input_format-image}
 use Rattle.model_operations.proofs.WindowLaws.{max_sample-among, minimum-among, length-window}
 
 -- ---- formats
-
-depth-cases : (f : Format) → (depth f ≡ 1) ⊎ (depth f ≡ 2)
-depth-cases Y8 = inl refl
-depth-cases YA8 = inl refl
-depth-cases RGB8 = inl refl
-depth-cases RGBA8 = inl refl
-depth-cases Y16 = inr refl
-depth-cases YA16 = inr refl
-depth-cases RGB16 = inr refl
-depth-cases RGBA16 = inr refl
-
--- what holds with the largest samples of one byte and of two holds with each format's
-by_max : (P : ℕ → Type 0) (f : Format) → P 255 → P 65535 → P (max_sample f)
-by_max P f one two = elim (depth-cases f) [
-  | inl e ↦ subst (λ (d : ℕ). P (max_sample_of d)) (sym e) one
-  | inr e ↦ subst (λ (d : ℕ). P (max_sample_of d)) (sym e) two
-]
 
 format_if-holds : (b : Bool) (f g : Format) → format_if b f ≡ Some g → (b ≡ true) × (f ≡ g)
 format_if-holds true f g e = (refl, cc)
@@ -82,15 +65,16 @@ scaled_by-most s w h k = let product : s * w ≤ 65535 * 65535 = mul-le-mul h k 
 
 scaled_by-below : (f : Format) (s w : ℕ) → s ≤ max_sample f → w ≤ max_sample f → scaled_by (max_sample f) s w ≤ max_sample f
 scaled_by-below f s w =
-    by_max (λ (m : ℕ). s ≤ m → w ≤ m → scaled_by m s w ≤ m) f (scaled_by-minimum s w) (scaled_by-most s w)
+    by_max (λ (m : ℕ). s ≤ m → w ≤ m → scaled_by m s w ≤ m) (scaled_by-minimum s w) (scaled_by-most s w) f
 
 -- ---- conversion
 
-deeper : (d e s : ℕ) → (d ≡ 1) ⊎ (d ≡ 2) → (e ≡ 1) ⊎ (e ≡ 2) → s ≤ max_sample_of d → rescaled d e s ≤ max_sample_of e
-deeper d e s (inl a) (inl b) h = let k : s ≤ 255 = rw a at h in rw (a, b) k
-deeper d e s (inl a) (inr b) h = let k : s ≤ 255 = rw a at h in rw (a, b) (omega arith)
-deeper d e s (inr a) (inl b) h = let k : s ≤ 65535 = rw a at h in rw (a, b) (omega arith)
-deeper d e s (inr a) (inr b) h = let k : s ≤ 65535 = rw a at h in rw (a, b) k
+rescaled-most : (from to : Format) (s : ℕ) → s ≤ max_sample from → rescaled (depth from) (depth to) s ≤ max_sample to
+rescaled-most from to s =
+    by_depth (λ d. s ≤ max_sample_of d → rescaled d (depth to) s ≤ max_sample to)
+    (by_depth (λ e. s ≤ 255 → rescaled 1 e s ≤ max_sample_of e) (λ most. most) (λ most. omega (arith, most)) to)
+    (by_depth (λ e. s ≤ 65535 → rescaled 2 e s ≤ max_sample_of e) (λ most. omega (arith, most)) (λ most. most) to)
+    from
 
 gray-most : (from : Format) (p : Pixel) (most : ℕ) → ((c : ℕ) → p c ≤ most) → gray_of from p ≤ most
 gray-most from p most below =
@@ -103,7 +87,7 @@ color-most from to p c most below =
 
 converted-most : (from to : Format) (p : Pixel) (c : ℕ) → ((c : ℕ) → p c ≤ max_sample from) → converted_pixel from to p c ≤ max_sample to
 converted-most from to p c below =
-    deeper (depth from) (depth to) (rechannelled from to p c) (depth-cases from) (depth-cases to)
+    rescaled-most from to (rechannelled from to p c)
     (choice-most (is_alpha to c) (cap from p) (cond (is_gray to) (gray_of from p) (color_of from p c)) (max_sample from)
     (cap-most from p (max_sample from) (omega arith) below)
     (color-most from to p c (max_sample from) below))

@@ -6,7 +6,8 @@ use Rattle.std.proofs.lemmas.Slice.Eq.{bytes_eq-Decides}
 use Rattle.plane_rect.specs.Rectangle.{Rectangle, same_rectangle}
 use Rattle.plane_rect.specs.SameRectangle.{same_rectangle-true}
 use Rattle.pixel_formats.specs.Format.{same_format}
-use Rattle.model_images.proofs.Tests.{both, Decides-same_format}
+use Rattle.pixel_formats.proofs.FormatLaws.{Decides-same_format}
+use Rattle.model_images.proofs.Tests.{both}
 use Rattle.pixel_formats.specs.declared.format.Format.{Format}
 use Rattle.model_graphs.specs.Node.{Node}
 use Rattle.model_graphs.specs.declared.node.Body.{Body}

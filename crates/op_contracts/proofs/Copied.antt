@@ -8,12 +8,13 @@ use Rattle.pixel_formats.specs.Format.{channels, depth, max_sample, max_sample_o
 use Rattle.pixel_formats.specs.Row.{sample_at}
 use Rattle.pixel_formats.specs.declared.format.Format.{Format}
 use Rattle.pixel_formats.specs.declared.format.Format.TheVariants.{Y8}
+use Rattle.pixel_formats.proofs.FormatLaws.{by_depth}
 use Rattle.model_images.specs.FromRaw.{AreBytes, pixels_from_raw}
 use Rattle.model_images.specs.Image.{Image, at, sample_index}
 use Rattle.model_images.specs.Paint.{cut}
 use Rattle.model_images.specs.Raw.{tile_bytes}
 use Rattle.model_images.specs.Tiles.{held_pixels}
-use Rattle.model_images.proofs.FromRawLaws.{by_depth, raw-is}
+use Rattle.model_images.proofs.FromRawLaws.{raw-is}
 use Rattle.model_images.proofs.HeldTiles.{pixel-held}
 use Rattle.model_images.proofs.Laws.{at-image_from_fn}
 use Rattle.model_graphs.specs.Meanings.{Meanings, result_box, result_format}

@@ -8,7 +8,7 @@ ghost use Rattle.model_operations.specs.Arguments.{in_range};
 ghost use Rattle.pixel_formats.specs.Limits.{is_area, is_in, is_move};
 
 use model_operations::IntOp;
-use pixel_formats::limits::{MAX_CHECKER_SIZE, MAX_SAMPLE, is_area, is_in, is_move};
+use pixel_formats::limits::{MAX_CHECKER_SIZE, MAX_FACTOR, is_area, is_in, is_move};
 use pixel_formats::{Format, PixelSamples};
 
 /// Returns how many images an operation takes.
@@ -121,7 +121,7 @@ fn in_range(op: &IntOp) -> bool
 {
     match op {
         IntOp::Checker { size, .. } => is_in(1, MAX_CHECKER_SIZE, *size),
-        IntOp::Gain { num, den } => *num <= MAX_SAMPLE && is_in(1, MAX_SAMPLE, *den),
+        IntOp::Gain { num, den } => *num <= MAX_FACTOR && is_in(1, MAX_FACTOR, *den),
         IntOp::Translate { dx, dy } => is_move(*dx) && is_move(*dy),
         IntOp::BoxMean { radius, abyss }
         | IntOp::Dilate { radius, abyss }

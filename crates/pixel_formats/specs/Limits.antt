@@ -10,6 +10,10 @@ use Rattle.pixel_formats.specs.declared.abyss.Abyss.TheVariants.{None, Clamp, Lo
 abbrev pub max_sample : ℕ
 max_sample = 2 ^ 16 - 1
 
+-- the largest number that a gain multiplies by, and the largest that it divides by
+abbrev pub max_factor : ℕ
+max_factor = 2 ^ 16 - 1
+
 -- the largest level: how many times an image is halved
 abbrev pub max_level : ℕ
 max_level = 8

@@ -49,9 +49,9 @@ impl Format {
     pub fn max(self) -> u32
         ensures { result ≡ max_sample self }
     {
-        match self.depth() {
-            1 => 255,
-            _ => 65_535,
+        match self {
+            Format::Y8 | Format::YA8 | Format::RGB8 | Format::RGBA8 => 255,
+            Format::Y16 | Format::YA16 | Format::RGB16 | Format::RGBA16 => 65_535,
         }
     }
 

@@ -8,6 +8,9 @@ use crate::abyss::Abyss;
 /// The largest sample of all formats.
 pub const MAX_SAMPLE: u32 = 65_535;
 
+/// The largest number that a gain multiplies by, and the largest that it divides by.
+pub const MAX_FACTOR: u32 = 65_535;
+
 /// The largest level: how many times an image is halved.
 pub const MAX_LEVEL: u32 = 8;
 

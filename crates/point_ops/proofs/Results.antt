@@ -9,10 +9,11 @@ use Rattle.plane_rect.specs.Rectangle.{InLimits, Includes, IsRectangle, Rectangl
 use Rattle.pixel_formats.specs.Format.{channels, depth, has_alpha, max_sample, same_format}
 use Rattle.pixel_formats.specs.declared.format.Format.{Format}
 use Rattle.pixel_formats.specs.declared.format.Format.TheVariants.{Y8}
+use Rattle.pixel_formats.proofs.FormatLaws.{Decides-same_format}
 use Rattle.model_images.specs.Image.{at, image_from_fn}
 use Rattle.model_images.specs.Paint.{cut}
 use Rattle.model_images.proofs.Laws.{at-image_from_fn, generated_equal}
-use Rattle.model_images.proofs.Tests.{both, Decides-same_format}
+use Rattle.model_images.proofs.Tests.{both}
 use Rattle.model_graphs.specs.Meanings.{boxes_of, formats_of, result_box, result_format}
 use Rattle.model_graphs.specs.Windows.{Window}
 use Rattle.model_operations.specs.Arguments.{in_range}

@@ -10,12 +10,12 @@ use Rattle.pixel_formats.specs.Format.{channels, depth, pixel_bytes}
 use Rattle.pixel_formats.specs.Row.{Pixel, sample_at}
 use Rattle.pixel_formats.specs.declared.format.Format.{Format}
 use Rattle.pixel_formats.specs.declared.format.Format.TheVariants.{Y8, YA8, RGB8, RGBA8, Y16, YA16, RGB16, RGBA16}
+use Rattle.pixel_formats.proofs.FormatLaws.{by_depth}
 use Rattle.model_images.specs.FromRaw.{byte_count, pixels_from_raw}
 use Rattle.model_images.specs.Image.{Image, at, image_from_fn, is_inside}
 use Rattle.model_images.specs.Paint.{painted}
 use Rattle.model_images.specs.Raw.{raw}
 use Rattle.model_images.specs.Tiles.{held_image}
-use Rattle.model_images.proofs.FromRawLaws.{by_depth}
 use Rattle.model_images.proofs.Laws.{at-image_from_fn, generated_equal}
 use Rattle.model_images.proofs.RawLaws.{raw-samples}
 use Rattle.chain_owners.specs.declared.swap_refused.SwapRefused.{SwapRefused}

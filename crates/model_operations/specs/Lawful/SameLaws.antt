@@ -9,7 +9,8 @@ use Rattle.plane_rect.specs.SameRectangle.{same_rectangle-itself, same_rectangle
 use Rattle.pixel_formats.specs.Format.{same_format}
 use Rattle.pixel_formats.specs.declared.abyss.Abyss.{Abyss}
 use Rattle.pixel_formats.specs.declared.abyss.Abyss.TheVariants as policies
-use Rattle.model_images.proofs.Tests.{both, Decides-same_format}
+use Rattle.pixel_formats.proofs.FormatLaws.{Decides-same_format}
+use Rattle.model_images.proofs.Tests.{both}
 use Rattle.model_operations.specs.declared.operation.IntOp.{IntOp}
 use Rattle.model_operations.specs.declared.operation.IntOp.TheVariants.{Color, Checker, Convert, Invert, Threshold, Gain, Translate, Crop, Flip, BoxMean, Dilate, Erode, Add, Over, Mask}
 use Rattle.model_graphs.specs.Laws.{IsEquality}
