@@ -1,6 +1,6 @@
 -- Refusals of a request that are handed on.
-use Rattle.std.proofs.Common.{ℕ, List, Result, Ok, Err}
-use Rattle.std.specs.Prelude.{IfErr}
+use Rattle.std.proofs.Common.{◌≡◌, ℕ, Bool, true, false, List, Option, Some, None, Result, Err, refl, ap, ◌∙◌}
+use Rattle.std.specs.Prelude.{IsSome}
 use Rattle.model_graphs.specs.declared.node.NodeFact.{NodeFact}
 use Rattle.model_graphs.specs.Meanings.{Meanings}
 use Rattle.chain_owners.specs.declared.swap_refused.SwapRefused.{SwapRefused}
@@ -11,10 +11,27 @@ use Rattle.render_workers.specs.declared.refused.RenderRefused.TheVariants.{Unkn
 use Rattle.render_workers.specs.Refusals.{CanBeRendered, ChangesNothing, IsRefusedBy, by_swap}
 use Rattle.render_workers.specs.Requests.{Request}
 
--- whatever holds of each error holds of one that is handed on
-pub any-error : {T E : Type 0} (r : Result T E) (P : E → Type 0) → ((e : E) → P e) → IfErr r P
-any-error (Ok t) P each = tt
-any-error (Err e) P each = each e
+-- what is some isn't none
+pub some-not-none : {X : Type 0} (o : Option X) → IsSome o → o ≡ None → ⊥
+some-not-none None some none = absurd (cc some)
+some-not-none (Some x) some none = absurd (cc none)
+
+pub true-not-false : (b : Bool) → b ≡ true → b ≡ false → ⊥
+true-not-false true is not = absurd (cc not)
+true-not-false false is not = absurd (cc is)
+
+-- one error is the same of another answer
+pub err-again : {T U E : Type 0} (one : Result T E) (other : Result U E) (e f : E) → one ≡ Err e → one ≡ Err f → other ≡ Err e → other ≡ Err f
+err-again one other e f was is again = let same : e ≡ f = cc in again ∙ ap Err same
+
+-- nothing has changed where the state is the same
+pub unchanged-plan : (now : Moment) (permits : ℕ) (refused : RenderRefused) → ChangesNothing now now permits permits refused
+unchanged-plan now permits UnknownNode = (refl, refl)
+unchanged-plan now permits Rect = (refl, refl)
+unchanged-plan now permits (Strip needed capacity) = (refl, refl)
+unchanged-plan now permits SwapFault = tt
+unchanged-plan now permits (SwapFull needed longest) = tt
+unchanged-plan now permits NoMemory = tt
 
 -- of a swap's refusal nothing is said there
 pub unchanged-swap : (old new : Moment) (before after : ℕ) (refused : SwapRefused) → ChangesNothing old new before after (by_swap refused)

@@ -16,7 +16,7 @@ use Rattle.model_states.specs.Cache.{Pair, pair_of}
 use Rattle.model_states.specs.Need.{need, strip_of}
 use Rattle.op_contracts.proofs.Limits.{InLimits-meet}
 use Rattle.strip_renders.specs.Ahead.{AreNext, MadeTiles}
-use Rattle.strip_renders.specs.Moments.{Moment}
+use Rattle.strip_renders.specs.Moments.{RenderState}
 use Rattle.strip_renders.specs.Strips.{IsStripOf, needed_from, pairs_needed}
 use Rattle.strip_renders.proofs.Nexts.{next-few}
 use Rattle.strip_patches.specs.Shown.{AreOfOneRequest}
@@ -102,20 +102,20 @@ module _ {Op : Type 0} (meanings : Meanings Op) (nodes : List (NodeFact Op)) (pl
   lengths : length before + (length mine + length rest) ≡ length all
   lengths = omega (arith, ap length (pairs-parted nodes plan i strip later inside is after), length-append before (mine ++ rest), length-append mine rest)
 
-  module _ (first now : Moment) (made : MadeTiles) (x y applied reused : ℕ) (looks : LooksUp meanings nodes before applied reused first now [] made x y) where
+  module _ (first now : RenderState) (made : MadeTiles) (applied reused : ℕ) (looks : LooksUp meanings nodes before applied reused first now [] made) where
     count : applied + reused ≡ length before
-    count = looks-count meanings nodes before applied reused first now [] made x y looks
+    count = looks-count meanings nodes before applied reused first now [] made looks
 
     -- permits are left for the strip and those after it
-    pub item-permits : length all < 2 ^ 32 → 2 ^ 32 ≤ x → length (needed_from strip later 0) ≤ y + length made
+    pub item-permits : length all < 2 ^ 32 → 2 ^ 32 ≤ first.permits → length (needed_from strip later 0) ≤ now.permits + length made
     item-permits few many =
         let needed = needed_from strip later 0 in
         let own : length (pairs_needed nodes needed) ≡ length needed = length-map needed (pair_of (specs_of nodes)) in
         omega (arith, few, many, count, lengths, own, ap length (pairs-from nodes strip later), length-append mine rest, looks.permits)
 
     -- the counts stay small
-    pub sums-small : (next : Moment) (made' : MadeTiles) (y' applied' reused' : ℕ) → LooksUp meanings nodes mine applied' reused' now next made made' y y' → length all < 2 ^ 32
+    pub sums-small : (next : RenderState) (made' : MadeTiles) (applied' reused' : ℕ) → LooksUp meanings nodes mine applied' reused' now next made made' → length all < 2 ^ 32
         → applied + reused + (applied' + reused') < 2 ^ 32
-    sums-small next made' y' applied' reused' more few =
-        let own : applied' + reused' ≡ length mine = looks-count meanings nodes mine applied' reused' now next made made' y y' more in
+    sums-small next made' applied' reused' more few =
+        let own : applied' + reused' ≡ length mine = looks-count meanings nodes mine applied' reused' now next made made' more in
         omega (arith, few, count, lengths, own)

@@ -1,4 +1,5 @@
 pub mod Parts
 pub mod Requests
 pub mod Refusals
+pub mod Renders
 pub mod Scenes

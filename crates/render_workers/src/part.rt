@@ -1,18 +1,15 @@
 //! One strip of a request, rendered.
 
-ghost use Rattle.std.specs.Prelude.{◌≡◌, [], ℕ, ◌+◌, ◌<◌, ◌≤◌, IfErr, IfOk, OnOk, Some, length, slice_get};
+ghost use Rattle.std.specs.Prelude.{◌≡◌, ◌+◌, ◌<◌, ◌≤◌, length};
 ghost use Rattle.std.specs.List.{AllByRecursion};
 ghost use Rattle.plane_rect.specs.Rectangle.{InLimits};
-ghost use Rattle.model_graphs.specs.Evaluation.{Buffers};
 ghost use Rattle.model_states.specs.Need.{strip_of};
-ghost use Rattle.plane_rect.specs.Tile.{strip_rectangles};
-ghost use Rattle.node_tiles.specs.Stated.{AreTilesOf, shape_at};
-ghost use Rattle.strip_renders.specs.Ahead.{AreMadeOf, AreNext};
-ghost use Rattle.strip_renders.specs.Moments.{AreOver, moment};
-ghost use Rattle.strip_renders.specs.Strips.{AreKnownRight, AreSizedPairs, AreStatedWith, HoldsNeed, IsStripOf, needed_from, needs_of, pairs_needed};
-ghost use Rattle.strip_patches.specs.Shown.{AreOfOneRequest, HasStripsOf, format_in, source_in};
-ghost use Rattle.strip_patches.specs.Nodes.{image_at};
-ghost use Rattle.render_workers.specs.Parts.{IsExcused, Leaves, LooksUp};
+ghost use Rattle.node_tiles.specs.Stated.{shape_at};
+ghost use Rattle.strip_renders.specs.Ahead.{AreNext};
+ghost use Rattle.strip_renders.specs.Moments.{AreOver, render_state};
+ghost use Rattle.strip_renders.specs.Strips.{AreSizedPairs, AreStatedWith, IsStripOf, needed_from};
+ghost use Rattle.strip_patches.specs.Shown.{format_in};
+ghost use Rattle.render_workers.specs.Renders.{RendersPart};
 
 use chain_owners::{ChainMeaning, SwapRefused};
 use node_cache::PairStore;
@@ -62,34 +59,12 @@ where
     requires strip { IsStripOf K.Op.meanings by.now.nodes.now strip.now }
     requires later { AllByRecursion (IsStripOf K.Op.meanings by.now.nodes.now) later.now }
     requires ahead { AreNext by.now.nodes.now (C.pairs cache.old) (needed_from strip.now later.now 0) ahead.old }
-    requires over { AreOver H.ChainMeaning S.SourceTiles C.PairStore sources.old cache.old chain.old }
+    requires over { AreOver (render_state H.ChainMeaning S.SourceTiles C.PairStore sources.old cache.old chain.old (K.permits purse.old)) }
     requires sized { AreSizedPairs by.now.nodes.now (C.sizes cache.old (H.held chain.old)) }
     requires permits { length (needed_from strip.now later.now 0) ≤ K.permits purse.old + length ahead.old }
-    ensures looks { IfOk result (λ counts. LooksUp K.Op.meanings by.now.nodes.now (pairs_needed by.now.nodes.now strip.now.need) counts.applied counts.reused
-        (moment H.ChainMeaning S.SourceTiles C.PairStore sources.old cache.old chain.old)
-        (moment H.ChainMeaning S.SourceTiles C.PairStore sources.new cache.new chain.new)
-        ahead.old ahead.new (K.permits purse.old) (K.permits purse.new)) }
-    ensures request { AreOfOneRequest strips.old strips.new }
-    ensures image { (images : Buffers) → S.images sources.old (H.held chain.old) ≡ Some images →
-        AreKnownRight K.Op.meanings by.now.nodes.now images (C.cached cache.old (H.held chain.old)) →
-        AreMadeOf K.Op.meanings by.now.nodes.now images ahead.old →
-        (k : ℕ) → HasStripsOf (image_at K.Op.meanings by.now.nodes.now images node) k strips.old →
-        slice_get (strip_rectangles (source_in strips.old)) k ≡ Some strip.now.rect →
-        OnOk result (HasStripsOf (image_at K.Op.meanings by.now.nodes.now images node) (k + 1) strips.new) }
-    ensures leaves { IfOk result (λ _. Leaves K.Op.meanings by.now.nodes.now (pairs_needed by.now.nodes.now strip.now.need)
-        (moment H.ChainMeaning S.SourceTiles C.PairStore sources.old cache.old chain.old)
-        (moment H.ChainMeaning S.SourceTiles C.PairStore sources.new cache.new chain.new)
-        ahead.old ahead.new (K.permits purse.old) (K.permits purse.new)) }
-    ensures left { IfErr result (λ _. Leaves K.Op.meanings by.now.nodes.now (pairs_needed by.now.nodes.now (needed_from strip.now later.now 0))
-        (moment H.ChainMeaning S.SourceTiles C.PairStore sources.old cache.old chain.old)
-        (moment H.ChainMeaning S.SourceTiles C.PairStore sources.new cache.new chain.new)
-        ahead.old [] (K.permits purse.old) (K.permits purse.new)) }
-    ensures ahead { IfOk result (λ _. AreNext by.now.nodes.now (C.pairs cache.new) (needs_of later.now) ahead.new) }
-    ensures over { AreOver H.ChainMeaning S.SourceTiles C.PairStore sources.new cache.new chain.new }
-    ensures valid { H.is_valid chain.old → H.is_valid chain.new }
-    ensures excused { IfErr result (IsExcused (pairs_needed by.now.nodes.now strip.now.need)
-        (moment H.ChainMeaning S.SourceTiles C.PairStore sources.old cache.old chain.old)
-        (moment H.ChainMeaning S.SourceTiles C.PairStore sources.new cache.new chain.new)) }
+    ensures { RendersPart K.Op.meanings by.now.nodes.now node strip.now later.now strips.old strips.new ahead.old ahead.new
+        (render_state H.ChainMeaning S.SourceTiles C.PairStore sources.old cache.old chain.old (K.permits purse.old))
+        (render_state H.ChainMeaning S.SourceTiles C.PairStore sources.new cache.new chain.new (K.permits purse.new)) result }
 {
     let done = render_strip(
         by, sources, cache, chain, purse, strip, later, workers, ahead,

@@ -1,25 +1,17 @@
 //! Renders of requests.
 
-ghost use Rattle.std.specs.Prelude.{◌≡◌, [], ℕ, ◌<◌, ◌+◌, ◌≤◌, ◌^◌, ◌++◌, Bool, false, true, IfErr, IfOk, IsErrOf, IsSome, List, MatchResult, None, OnOk, Some, length};
+ghost use Rattle.std.specs.Prelude.{◌≡◌, ◌<◌, ◌≤◌, ◌^◌, ◌++◌, IfOk, IsSome, Some, length, true};
 ghost use Rattle.plane_rect.specs.Rectangle.{scaled};
 ghost use Rattle.chain_owners.specs.Owners.{Owns};
-ghost use Rattle.model_images.specs.{Image.Image, Level.level as level_of};
-ghost use Rattle.model_graphs.specs.Facts.{shapes_of_facts, specs_of};
-ghost use Rattle.model_graphs.specs.{Evaluation.Buffers, Node.index_of, Shapes.shape_of_image, Permits.Spent};
-ghost use Rattle.model_states.specs.Cache.{AreRight, Cached, all_looked_up, itself, needed_pairs, uncounted};
-ghost use Rattle.model_states.specs.Need.{need, wide};
-ghost use Rattle.model_states.specs.{Edits.has_node, Valid.AreStated};
+ghost use Rattle.model_images.specs.Image.{Image};
+ghost use Rattle.model_graphs.specs.{Facts.shapes_of_facts, Shapes.shape_of_image};
+ghost use Rattle.model_states.specs.{Need.need, Valid.AreStated};
 ghost use Rattle.model_sessions.specs.Sessions.{at_level_zero};
-ghost use Rattle.chain_owners.specs.Cause.{HasSwapCause};
-ghost use Rattle.node_cache.specs.Stores.{HaveOneOwner};
-ghost use Rattle.node_tiles.specs.Stated.{scene_of, shape_at};
-ghost use Rattle.strip_renders.specs.Moments.{AreOver, Keeps, moment};
-ghost use Rattle.strip_renders.specs.Strips.{AreKnownRight, AreSizedPairs, counted, most_names};
-ghost use Rattle.strip_patches.specs.Shown.{HasStripsOf, Shows, format_in, is_patch, level_in, makes_patch, picture_box, picture_format, rect_in, source_in};
-ghost use Rattle.strip_patches.specs.Nodes.{image_at};
-ghost use Rattle.render_workers.specs.Parts.{IsExcused, Leaves, LooksUp};
-ghost use Rattle.render_workers.specs.Refusals.{ChangesNothing, IsRefusedBy};
-ghost use Rattle.render_workers.specs.Requests.{IsShown, pairs_requested, request, strips_needed};
+ghost use Rattle.node_tiles.specs.Stated.{shape_at};
+ghost use Rattle.strip_renders.specs.{Moments.AreOver, Moments.render_state, Strips.AreSizedPairs};
+ghost use Rattle.strip_patches.specs.Shown.{HasStripsOf, format_in, level_in, makes_patch, rect_in, source_in};
+ghost use Rattle.render_workers.specs.Renders.{Renders, RendersPlanned};
+ghost use Rattle.render_workers.specs.Requests.{request};
 
 use crate::plan::{RequestPlan, plan_of};
 use crate::refused::RenderRefused;
@@ -102,28 +94,12 @@ where
     requires stated { AreStated K.Op.meanings (shapes_of_facts (S.facts sources.old)) nodes.now }
     requires node { plan.now.node < length nodes.now }
     requires plan { plan.now.strips ≡ need K.Op.meanings nodes.now plan.now.node (at_level_zero level rect) }
-    requires over { AreOver H.ChainMeaning S.SourceTiles C.PairStore sources.old cache.old chain.old }
+    requires over { AreOver (render_state H.ChainMeaning S.SourceTiles C.PairStore sources.old cache.old chain.old (K.permits purse.old)) }
     requires sized { AreSizedPairs nodes.now (C.sizes cache.old (H.held chain.old)) }
     requires permits { 2 ^ 32 ≤ K.permits purse.old }
-    ensures looks { IfOk result (λ done. LooksUp K.Op.meanings nodes.now (needed_pairs (specs_of nodes.now) plan.now.strips) done.applied done.reused
-        (moment H.ChainMeaning S.SourceTiles C.PairStore sources.old cache.old chain.old)
-        (moment H.ChainMeaning S.SourceTiles C.PairStore sources.new cache.new chain.new)
-        [] [] (K.permits purse.old) (K.permits purse.new)) }
-    ensures rect { IfOk result (λ done. picture_box done.picture ≡ rect) }
-    ensures format { IfOk result (λ done. picture_format done.picture ≡ (shape_at nodes.now plan.now.node).format) }
-    ensures image { (images : Buffers) → S.images sources.old (H.held chain.old) ≡ Some images →
-        AreKnownRight K.Op.meanings nodes.now images (C.cached cache.old (H.held chain.old)) →
-        IfOk result (λ done. Shows (level_of (image_at K.Op.meanings nodes.now images plan.now.node) level) rect done.picture) }
-    ensures patch { form ≡ PictureForm.Patch → IfOk result (λ done. is_patch done.picture ≡ true) }
-    ensures leaves { Leaves K.Op.meanings nodes.now (needed_pairs (specs_of nodes.now) plan.now.strips)
-        (moment H.ChainMeaning S.SourceTiles C.PairStore sources.old cache.old chain.old)
-        (moment H.ChainMeaning S.SourceTiles C.PairStore sources.new cache.new chain.new)
-        [] [] (K.permits purse.old) (K.permits purse.new) }
-    ensures over { AreOver H.ChainMeaning S.SourceTiles C.PairStore sources.new cache.new chain.new }
-    ensures valid { H.is_valid chain.old → H.is_valid chain.new }
-    ensures excused { IfErr result (IsExcused (needed_pairs (specs_of nodes.now) plan.now.strips)
-        (moment H.ChainMeaning S.SourceTiles C.PairStore sources.old cache.old chain.old)
-        (moment H.ChainMeaning S.SourceTiles C.PairStore sources.new cache.new chain.new)) }
+    ensures { RendersPlanned K.Op.meanings nodes.now plan.now.node plan.now.strips level rect form
+        (render_state H.ChainMeaning S.SourceTiles C.PairStore sources.old cache.old chain.old (K.permits purse.old))
+        (render_state H.ChainMeaning S.SourceTiles C.PairStore sources.new cache.new chain.new (K.permits purse.new)) result }
 {
     let mut strips = no_strips(alloc, nodes, plan.node, level, rect, form)?;
     let counts = render_strips(
@@ -191,47 +167,9 @@ where
     requires owned { Owns (H.held chain.old) (S.names sources.old ++ C.names cache.old) }
     requires sized { AreSizedPairs nodes.now (C.sizes cache.old (H.held chain.old)) }
     requires permits { 2 ^ 32 ≤ K.permits purse.old }
-    ensures unknown { has_node (specs_of nodes.now) node ≡ false → IsErrOf result RenderRefused.UnknownNode }
-    ensures outside { has_node (specs_of nodes.now) node ≡ true → scaled level rect ≡ None →
-        IsErrOf result RenderRefused.Rect }
-    ensures narrow { OnOk result (wide capacity (strips_needed K.Op.meanings nodes.now (request node level rect)) ≡ None) }
-    ensures unchanged { IfErr result (ChangesNothing
-        (moment H.ChainMeaning S.SourceTiles C.PairStore sources.old cache.old chain.old)
-        (moment H.ChainMeaning S.SourceTiles C.PairStore sources.new cache.new chain.new)
-        (K.permits purse.old) (K.permits purse.new)) }
-    ensures pairs { IfOk result (λ done. counted (C.pairs cache.new) done.applied done.reused
-        ≡ all_looked_up itself itself (C.capacity cache.old) (uncounted (C.pairs cache.old))
-        (pairs_requested K.Op.meanings nodes.now (request node level rect))) }
-    ensures rect { IfOk result (λ done. picture_box done.picture ≡ rect) }
-    ensures format { IfOk result (λ done. picture_format done.picture ≡ (shape_at nodes.now (index_of (specs_of nodes.now) node)).format) }
-    ensures shown { (images : Buffers) (list : List Cached) → S.images sources.old (H.held chain.old) ≡ Some images →
-        C.cached cache.old (H.held chain.old) ≡ Some list → AreRight K.Op.meanings (scene_of nodes.now images) list →
-        IfOk result (λ done. IsShown K.Op.meanings nodes.now images (request node level rect)
-        (moment H.ChainMeaning S.SourceTiles C.PairStore sources.old cache.old chain.old)
-        (moment H.ChainMeaning S.SourceTiles C.PairStore sources.new cache.new chain.new)
-        list done.picture) }
-    ensures patch { form ≡ PictureForm.Patch → IfOk result (λ done. is_patch done.picture ≡ true) }
-    ensures right { (images : Buffers) → S.images sources.old (H.held chain.old) ≡ Some images →
-        AreKnownRight K.Op.meanings nodes.now images (C.cached cache.old (H.held chain.old)) →
-        AreKnownRight K.Op.meanings nodes.now images (C.cached cache.new (H.held chain.new)) }
-    ensures sized { AreSizedPairs nodes.now (C.sizes cache.new (H.held chain.new)) }
-    ensures permits { MatchResult result (λ done. Spent (K.permits purse.old) (K.permits purse.new) done.applied)
-        (λ _. (K.permits purse.new ≤ K.permits purse.old)
-        × (K.permits purse.old ≤ K.permits purse.new + length (pairs_requested K.Op.meanings nodes.now (request node level rect)))) }
-    ensures keeps { Keeps (length (pairs_requested K.Op.meanings nodes.now (request node level rect)))
-        (moment H.ChainMeaning S.SourceTiles C.PairStore sources.old cache.old chain.old)
-        (moment H.ChainMeaning S.SourceTiles C.PairStore sources.new cache.new chain.new) }
-    ensures sources_over { S.is_over sources.new (H.held chain.new) }
-    ensures cache_over { C.is_over cache.new (H.held chain.new) }
-    ensures valid { H.is_valid chain.old → H.is_valid chain.new }
-    ensures cause { IfErr result (IsRefusedBy K.Op.meanings nodes.now (request node level rect) capacity
-        (HasSwapCause (H.counts chain.old) (H.counts chain.new)
-        ((H.counts chain.old).names + length (pairs_requested K.Op.meanings nodes.now (request node level rect))))) }
-    ensures few_names { HaveOneOwner (H.held chain.old) (C.names cache.old) →
-        IfErr result (IsRefusedBy K.Op.meanings nodes.now (request node level rect) capacity
-        (HasSwapCause (H.counts chain.old) (H.counts chain.new) (most_names
-        (moment H.ChainMeaning S.SourceTiles C.PairStore sources.old cache.old chain.old)
-        (pairs_requested K.Op.meanings nodes.now (request node level rect))))) }
+    ensures { Renders K.Op.meanings nodes.now (request node level rect) capacity form
+        (render_state H.ChainMeaning S.SourceTiles C.PairStore sources.old cache.old chain.old (K.permits purse.old))
+        (render_state H.ChainMeaning S.SourceTiles C.PairStore sources.new cache.new chain.new (K.permits purse.new)) result }
 {
     let plan = plan_of(kit, alloc, nodes, node, level, rect, capacity)?;
     let done = render_planned(

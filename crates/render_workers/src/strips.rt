@@ -1,18 +1,14 @@
 //! The strips of a request, one after another.
 
-ghost use Rattle.std.specs.Prelude.{◌≡◌, [], ℕ, ◌<◌, ◌≤◌, ◌^◌, IfErr, IfOk, OnOk, Some, length};
+ghost use Rattle.std.specs.Prelude.{◌≡◌, ◌<◌, ◌≤◌, ◌^◌, length};
 ghost use Rattle.plane_rect.specs.Rectangle.{InLimits};
 ghost use Rattle.model_graphs.specs.Facts.{shapes_of_facts, specs_of};
-ghost use Rattle.model_graphs.specs.Evaluation.{Buffers};
-ghost use Rattle.model_states.specs.Need.{need};
-ghost use Rattle.plane_rect.specs.Tile.{strip_rectangles};
-ghost use Rattle.model_states.specs.{Cache.needed_pairs, Valid.AreStated};
+ghost use Rattle.model_states.specs.{Cache.needed_pairs, Need.need, Valid.AreStated};
 ghost use Rattle.node_tiles.specs.Stated.{shape_at};
-ghost use Rattle.strip_renders.specs.Moments.{AreOver, moment};
-ghost use Rattle.strip_renders.specs.Strips.{AreKnownRight, AreSizedPairs};
-ghost use Rattle.strip_patches.specs.Shown.{AreOfOneRequest, HasStripsOf, format_in, source_in};
-ghost use Rattle.strip_patches.specs.Nodes.{image_at};
-ghost use Rattle.render_workers.specs.Parts.{IsExcused, Leaves, LooksUp};
+ghost use Rattle.strip_renders.specs.Moments.{AreOver, render_state};
+ghost use Rattle.strip_renders.specs.Strips.{AreSizedPairs};
+ghost use Rattle.strip_patches.specs.Shown.{format_in, source_in};
+ghost use Rattle.render_workers.specs.Renders.{RendersStrips};
 
 use crate::part::{LookCounts, add_part};
 use chain_owners::{ChainMeaning, SwapRefused};
@@ -60,28 +56,13 @@ where
     requires plan { plan.now ≡ need K.Op.meanings nodes.now node (source_in strips.old) }
     requires limits { InLimits (source_in strips.old) }
     requires format { format_in strips.old ≡ (shape_at nodes.now node).format }
-    requires over { AreOver H.ChainMeaning S.SourceTiles C.PairStore sources.old cache.old chain.old }
+    requires over { AreOver (render_state H.ChainMeaning S.SourceTiles C.PairStore sources.old cache.old chain.old (K.permits purse.old)) }
     requires sized { AreSizedPairs nodes.now (C.sizes cache.old (H.held chain.old)) }
     requires few { length (needed_pairs (specs_of nodes.now) plan.now) < 2 ^ 32 }
     requires permits { 2 ^ 32 ≤ K.permits purse.old }
-    ensures looks { IfOk result (λ counts. LooksUp K.Op.meanings nodes.now (needed_pairs (specs_of nodes.now) plan.now) counts.applied counts.reused
-        (moment H.ChainMeaning S.SourceTiles C.PairStore sources.old cache.old chain.old)
-        (moment H.ChainMeaning S.SourceTiles C.PairStore sources.new cache.new chain.new)
-        [] [] (K.permits purse.old) (K.permits purse.new)) }
-    ensures request { AreOfOneRequest strips.old strips.new }
-    ensures image { (images : Buffers) → S.images sources.old (H.held chain.old) ≡ Some images →
-        AreKnownRight K.Op.meanings nodes.now images (C.cached cache.old (H.held chain.old)) →
-        HasStripsOf (image_at K.Op.meanings nodes.now images node) 0 strips.old →
-        OnOk result (HasStripsOf (image_at K.Op.meanings nodes.now images node) (length (strip_rectangles (source_in strips.old))) strips.new) }
-    ensures leaves { Leaves K.Op.meanings nodes.now (needed_pairs (specs_of nodes.now) plan.now)
-        (moment H.ChainMeaning S.SourceTiles C.PairStore sources.old cache.old chain.old)
-        (moment H.ChainMeaning S.SourceTiles C.PairStore sources.new cache.new chain.new)
-        [] [] (K.permits purse.old) (K.permits purse.new) }
-    ensures over { AreOver H.ChainMeaning S.SourceTiles C.PairStore sources.new cache.new chain.new }
-    ensures valid { H.is_valid chain.old → H.is_valid chain.new }
-    ensures excused { IfErr result (IsExcused (needed_pairs (specs_of nodes.now) plan.now)
-        (moment H.ChainMeaning S.SourceTiles C.PairStore sources.old cache.old chain.old)
-        (moment H.ChainMeaning S.SourceTiles C.PairStore sources.new cache.new chain.new)) }
+    ensures { RendersStrips K.Op.meanings nodes.now node plan.now strips.old strips.new
+        (render_state H.ChainMeaning S.SourceTiles C.PairStore sources.old cache.old chain.old (K.permits purse.old))
+        (render_state H.ChainMeaning S.SourceTiles C.PairStore sources.new cache.new chain.new (K.permits purse.new)) result }
 {
     let inputs = all_inputs(alloc, nodes)?;
     let by = Evaluator {

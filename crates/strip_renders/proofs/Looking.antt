@@ -14,8 +14,6 @@ use Rattle.std.proofs.lemmas.Option.{same_Some}
 use Rattle.model_graphs.specs.Meanings.{Meanings}
 use Rattle.model_states.specs.State.{Scene}
 use Rattle.model_states.specs.Cache.{AreRight, Cached, IsRight, Pair, after_look, by_pair, find_pair, itself, pair_bytes, pairs_of, same_pair, to_prefix}
-use Rattle.strip_renders.specs.Looks.{IsKept}
-use Rattle.strip_renders.specs.Moments.{Moment}
 use Rattle.model_states.specs.Valid.{node_names}
 use Rattle.model_states.proofs.CacheLaws.{all-filter, found_has, found_is}
 use Rattle.model_states.proofs.Indices.{index_of_name}
@@ -86,13 +84,3 @@ right-bytes meanings scene list pair tile right is = by (find_pair by_pair list 
     by (Some c) found e =
         same_Some tile c.bytes e ∙ (found_has by_pair (IsRight meanings scene) list pair c right found).bytes
         ∙ ap (pair_bytes meanings scene) (found_is by_pair list pair c found)
-
--- a pair was kept after a look that changed nothing
-pub kept-through : (old mid new : Moment) (pair : Pair) (tile : List ℕ) → find_pair itself old.pairs pair ≡ None → mid.pairs ≡ old.pairs → mid.sizes ≡ old.sizes
-    → mid.cached ≡ old.cached → mid.capacity ≡ old.capacity → IsKept mid new pair tile → IsKept old new pair tile
-kept-through old mid new pair tile absent pairs sizes cached capacity kept = record {
-  absent = absent;
-  pairs = rw (← pairs, ← capacity) kept.pairs;
-  sizes = rw (← sizes, ← capacity) kept.sizes;
-  cached = rw (← cached, ← capacity) kept.cached;
-}

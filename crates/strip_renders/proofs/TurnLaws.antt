@@ -1,6 +1,6 @@
 -- What the turn of one needed tile leaves of what is spent and held ahead.
 use Rattle.std.proofs.Common.{◌≡◌, ℕ, ◌+◌, ◌<◌, ◌≤◌, Bool, true, false, List, [], ◌∷◌, length, Option, sym, subst, arith}
-use Rattle.std.specs.Prelude.{Err, IfErr, IfOk, MatchResult, Ok, Result}
+use Rattle.std.specs.Prelude.{Err, IfOk, Ok, Result}
 use Rattle.model_graphs.specs.declared.node.NodeFact.{NodeFact}
 use Rattle.model_graphs.specs.Evaluation.{Buffers}
 use Rattle.model_graphs.specs.Meanings.{Meanings}
@@ -12,21 +12,9 @@ use Rattle.strip_renders.proofs.Nexts.{next-fewer}
 
 -- ---- by what a call answers
 
-pub ok-any : {T E : Type 0} (A : Type 0) (r : Result T E) → A → IfOk r (λ _. A)
-ok-any A (Ok x) a = a
-ok-any A (Err e) a = tt
-
 pub ok-then : {T E : Type 0} (P Q : T → Type 0) (r : Result T E) → IfOk r P → ((x : T) → P x → Q x) → IfOk r Q
 ok-then P Q (Ok x) is to = to x is
 ok-then P Q (Err e) is to = tt
-
-pub err-then : {T E : Type 0} (P Q : E → Type 0) (r : Result T E) → IfErr r P → ((e : E) → P e → Q e) → IfErr r Q
-err-then P Q (Ok x) is to = tt
-err-then P Q (Err e) is to = to e is
-
-pub match-then : {T E : Type 0} (P Q : T → Type 0) (A B : Type 0) (r : Result T E) → MatchResult r P (λ _. A) → ((x : T) → P x → Q x) → (A → B) → MatchResult r Q (λ _. B)
-match-then P Q A B (Ok x) is ok err = ok x is
-match-then P Q A B (Err e) is ok err = err is
 
 -- ---- permits
 

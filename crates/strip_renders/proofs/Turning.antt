@@ -15,7 +15,7 @@ use Rattle.node_tiles.specs.Held.{HeldTiles}
 use Rattle.node_tiles.specs.Stated.{AreTilesOf, HaveLengths, scene_of}
 use Rattle.node_tiles.proofs.Reading.{reads-none}
 use Rattle.strip_renders.specs.Ahead.{IsSpentFor}
-use Rattle.strip_renders.specs.Moments.{Keeps, Moment}
+use Rattle.strip_renders.specs.Moments.{AreOver, IsLeft, Keeps, Moment, RenderState}
 use Rattle.strip_renders.specs.Strips.{AreKnownRight, HoldsNeed, IsRendered, counted, list_after, pairs_needed}
 use Rattle.strip_renders.proofs.Moments.{keeps-reads, source_of}
 
@@ -104,6 +104,9 @@ module _ {Op : Type 0} (meanings : Meanings Op) (nodes : List (NodeFact Op)) (im
 
 pub keeps-none : (now : Moment) → Keeps 0 now now
 keeps-none now = keeps-reads now now (reads-none (source_of now)) refl refl
+
+pub left-none : (now : RenderState) → AreOver now → IsLeft 0 now now
+left-none now over = record { keeps = keeps-none now.seen; over = over; valid = λ valid. valid }
 
 -- no tile is needed yet
 pub need-none : {Op : Type 0} (nodes : List (NodeFact Op)) (held : HeldTiles) → held ≡ [] → HoldsNeed nodes [] held

@@ -3,3 +3,4 @@ pub mod Strips
 pub mod Looks
 pub mod Ahead
 pub mod Batches
+pub mod Steps

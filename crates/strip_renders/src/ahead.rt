@@ -1,12 +1,11 @@
 //! Tiles of nodes that are made ahead of their turn, by several workers.
 
-ghost use Rattle.std.specs.Prelude.{◌≡◌, ℕ, ◌+◌, ◌<◌, ◌≤◌, [], IfErr, IfOk, IsTrue, MatchResult, Some, length, take};
+ghost use Rattle.std.specs.Prelude.{◌≡◌, ℕ, ◌+◌, ◌<◌, ◌≤◌, [], IfOk, IsTrue, MatchResult, Some, length, take};
 ghost use Rattle.std.specs.List.{AllByRecursion};
 ghost use Rattle.model_graphs.specs.Evaluation.{Buffers};
-ghost use Rattle.chain_owners.specs.Cause.{HasSwapCause};
-ghost use Rattle.node_tiles.specs.Reads.{Reads, seen};
 ghost use Rattle.node_tiles.specs.Stated.{AreTilesOf};
 ghost use Rattle.strip_renders.specs.Ahead.{AreMadeOf, AreNext, IsTaken};
+ghost use Rattle.strip_renders.specs.Moments.{ReadsTiles, source_state};
 ghost use Rattle.strip_renders.specs.Strips.{AreStatedWith, HoldsNeed, IsStripOf, needed_from};
 
 use crate::batch::batch_of;
@@ -117,12 +116,8 @@ where
         × (K.permits purse.new + length ahead.new ≡ K.permits purse.old + length ahead.old))
         (λ _. (K.permits purse.new ≤ K.permits purse.old)
         × (K.permits purse.old + length ahead.old ≤ K.permits purse.new + length (needed_from strip.now later.now index))) }
-    ensures over { S.is_over sources.new (H.held chain.new) }
-    ensures reads { Reads
-        (seen (S.facts sources.old) (S.images sources.old (H.held chain.old)) (S.names sources.old) (H.held chain.old) (H.counts chain.old) (H.loans chain.old))
-        (seen (S.facts sources.new) (S.images sources.new (H.held chain.new)) (S.names sources.new) (H.held chain.new) (H.counts chain.new) (H.loans chain.new)) }
-    ensures cause { IfErr result (HasSwapCause (H.counts chain.old) (H.counts chain.new) (H.counts chain.old).names) }
-    ensures valid { H.is_valid chain.old → H.is_valid chain.new }
+    ensures read { ReadsTiles (source_state H.ChainMeaning S.SourceTiles sources.old chain.old)
+        (source_state H.ChainMeaning S.SourceTiles sources.new chain.new) result }
 {
     if !workers.are_several() || !ahead.is_past() {
         return Ok(());

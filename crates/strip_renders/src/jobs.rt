@@ -1,15 +1,14 @@
 //! Jobs of needed tiles that the cache hasn't, and what they make.
 
-ghost use Rattle.std.specs.Prelude.{◌≡◌, ℕ, ◌+◌, ◌<◌, ◌≤◌, ◌++◌, [], ◌∷◌, IfErr, IfOk, List, MatchResult, Some, length, map};
+ghost use Rattle.std.specs.Prelude.{◌≡◌, ℕ, ◌+◌, ◌<◌, ◌≤◌, ◌++◌, [], ◌∷◌, IfOk, List, MatchResult, Some, length, map};
 ghost use Rattle.std.specs.List.{AllByRecursion};
 ghost use Rattle.model_graphs.specs.{Evaluation.Buffers, Permits.Spent};
 ghost use Rattle.model_states.specs.Need.{Needed};
-ghost use Rattle.chain_owners.specs.Cause.{HasSwapCause};
 ghost use Rattle.roi_planner.specs.Inputs.{all_inputs};
-ghost use Rattle.node_tiles.specs.Reads.{Reads, seen};
 ghost use Rattle.node_tiles.specs.Stated.{AreTilesOf, HaveLengths, IsReady};
 ghost use Rattle.node_tiles.specs.Jobs.{IsTileJob};
 ghost use Rattle.strip_renders.specs.Ahead.{AreJobs, AreJobsOf, AreReady, made_of};
+ghost use Rattle.strip_renders.specs.Moments.{ReadsTiles, source_state};
 ghost use Rattle.strip_renders.specs.Strips.{AreStatedWith};
 
 use crate::evaluator::Evaluator;
@@ -56,12 +55,8 @@ fn add_job<H: ChainMeaning, S: SourceTiles<H>, C: PairStore<H>, K: OpKit>(
     ensures permits { MatchResult result
         (λ _. K.permits purse.new + length jobs.new.items ≡ K.permits purse.old + length jobs.old.items)
         (λ _. (K.permits purse.new ≤ K.permits purse.old) × (K.permits purse.old ≤ K.permits purse.new + 1)) }
-    ensures over { S.is_over sources.new (H.held chain.new) }
-    ensures reads { Reads
-        (seen (S.facts sources.old) (S.images sources.old (H.held chain.old)) (S.names sources.old) (H.held chain.old) (H.counts chain.old) (H.loans chain.old))
-        (seen (S.facts sources.new) (S.images sources.new (H.held chain.new)) (S.names sources.new) (H.held chain.new) (H.counts chain.new) (H.loans chain.new)) }
-    ensures cause { IfErr result (HasSwapCause (H.counts chain.old) (H.counts chain.new) (H.counts chain.old).names) }
-    ensures valid { H.is_valid chain.old → H.is_valid chain.new }
+    ensures read { ReadsTiles (source_state H.ChainMeaning S.SourceTiles sources.old chain.old)
+        (source_state H.ChainMeaning S.SourceTiles sources.new chain.new) result }
 {
     let nodes = by.nodes;
     let fact = &nodes[node as usize];
@@ -102,12 +97,8 @@ pub(crate) fn tile_jobs<H: ChainMeaning, S: SourceTiles<H>, C: PairStore<H>, K: 
         IfOk result (λ jobs. AreJobsOf K.Op.meanings by.now.nodes.now images jobs.items) }
     ensures permits { MatchResult result (λ jobs. Spent (K.permits purse.old) (K.permits purse.new) (length jobs.items))
         (λ _. (K.permits purse.new ≤ K.permits purse.old) × (K.permits purse.old ≤ K.permits purse.new + length batch.now)) }
-    ensures over { S.is_over sources.new (H.held chain.new) }
-    ensures reads { Reads
-        (seen (S.facts sources.old) (S.images sources.old (H.held chain.old)) (S.names sources.old) (H.held chain.old) (H.counts chain.old) (H.loans chain.old))
-        (seen (S.facts sources.new) (S.images sources.new (H.held chain.new)) (S.names sources.new) (H.held chain.new) (H.counts chain.new) (H.loans chain.new)) }
-    ensures cause { IfErr result (HasSwapCause (H.counts chain.old) (H.counts chain.new) (H.counts chain.old).names) }
-    ensures valid { H.is_valid chain.old → H.is_valid chain.new }
+    ensures read { ReadsTiles (source_state H.ChainMeaning S.SourceTiles sources.old chain.old)
+        (source_state H.ChainMeaning S.SourceTiles sources.new chain.new) result }
 {
     let mut jobs = Vec::new(by.alloc);
     for entry in batch {

@@ -6,7 +6,6 @@ mod ahead;
 mod batch;
 mod evaluator;
 mod fresh;
-mod holding;
 mod jobs;
 mod needed;
 mod strip;

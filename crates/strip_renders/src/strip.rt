@@ -1,15 +1,11 @@
 //! One strip of a render.
 
-ghost use Rattle.std.specs.Prelude.{◌≡◌, ℕ, ◌+◌, ◌≤◌, IfErr, IfOk, List, MatchResult, Some, length};
+ghost use Rattle.std.specs.Prelude.{◌+◌, ◌≤◌, length};
 ghost use Rattle.std.specs.List.{AllByRecursion};
-ghost use Rattle.model_graphs.specs.{Evaluation.Buffers, Permits.Spent};
-ghost use Rattle.model_states.specs.Cache.{AreRight, Cached, all_looked_up, itself, uncounted};
-ghost use Rattle.chain_owners.specs.Cause.{HasSwapCause};
-ghost use Rattle.node_cache.specs.Stores.{HaveOneOwner};
-ghost use Rattle.node_tiles.specs.Stated.{scene_of};
-ghost use Rattle.strip_renders.specs.Ahead.{AreMadeOf, AreNext};
-ghost use Rattle.strip_renders.specs.Moments.{AreOver, Keeps, moment};
-ghost use Rattle.strip_renders.specs.Strips.{AreKnownRight, AreSizedPairs, AreStatedWith, HoldsNeed, IsRendered, IsStripOf, counted, most_names, needed_from, needs_of, pairs_needed};
+ghost use Rattle.strip_renders.specs.Ahead.{AreNext};
+ghost use Rattle.strip_renders.specs.Moments.{AreOver, render_state};
+ghost use Rattle.strip_renders.specs.Steps.{RendersStrip};
+ghost use Rattle.strip_renders.specs.Strips.{AreSizedPairs, AreStatedWith, IsStripOf, needed_from};
 
 use crate::ahead::AheadTiles;
 use crate::evaluator::Evaluator;
@@ -63,48 +59,16 @@ where
     K::Op: Sync,
     K::Permit: Send,
     R: Threads + Sync,
-    requires over { AreOver H.ChainMeaning S.SourceTiles C.PairStore sources.old cache.old chain.old }
+    requires over { AreOver (render_state H.ChainMeaning S.SourceTiles C.PairStore sources.old cache.old chain.old (K.permits purse.old)) }
     requires sized { AreSizedPairs by.now.nodes.now (C.sizes cache.old (H.held chain.old)) }
     requires stated { AreStatedWith K.Op.meanings (S.facts sources.old) by.now.nodes.now by.now.inputs.now }
     requires strip { IsStripOf K.Op.meanings by.now.nodes.now strip.now }
     requires later { AllByRecursion (IsStripOf K.Op.meanings by.now.nodes.now) later.now }
     requires ahead { AreNext by.now.nodes.now (C.pairs cache.old) (needed_from strip.now later.now 0) ahead.old }
     requires permits { length (needed_from strip.now later.now 0) ≤ K.permits purse.old + length ahead.old }
-    ensures pairs { IfOk result (λ done. counted (C.pairs cache.new) done.applied done.reused
-        ≡ all_looked_up itself itself (C.capacity cache.old) (uncounted (C.pairs cache.old)) (pairs_needed by.now.nodes.now strip.now.need)) }
-    ensures held { IfOk result (λ done. HoldsNeed by.now.nodes.now strip.now.need done.tiles) }
-    ensures bytes { (images : Buffers) (list : List Cached) → S.images sources.old (H.held chain.old) ≡ Some images →
-        C.cached cache.old (H.held chain.old) ≡ Some list → AreRight K.Op.meanings (scene_of by.now.nodes.now images) list →
-        AreMadeOf K.Op.meanings by.now.nodes.now images ahead.old →
-        IfOk result (λ done. IsRendered K.Op.meanings by.now.nodes.now images
-        (moment H.ChainMeaning S.SourceTiles C.PairStore sources.old cache.old chain.old)
-        (moment H.ChainMeaning S.SourceTiles C.PairStore sources.new cache.new chain.new)
-        list (pairs_needed by.now.nodes.now strip.now.need) done.tiles) }
-    ensures right { (images : Buffers) → S.images sources.old (H.held chain.old) ≡ Some images →
-        AreKnownRight K.Op.meanings by.now.nodes.now images (C.cached cache.old (H.held chain.old)) →
-        AreMadeOf K.Op.meanings by.now.nodes.now images ahead.old →
-        AreKnownRight K.Op.meanings by.now.nodes.now images (C.cached cache.new (H.held chain.new)) }
-    ensures sized { AreSizedPairs by.now.nodes.now (C.sizes cache.new (H.held chain.new)) }
-    ensures ahead { IfOk result (λ _. AreNext by.now.nodes.now (C.pairs cache.new) (needs_of later.now) ahead.new) }
-    ensures made { (images : Buffers) → S.images sources.old (H.held chain.old) ≡ Some images →
-        AreKnownRight K.Op.meanings by.now.nodes.now images (C.cached cache.old (H.held chain.old)) →
-        AreMadeOf K.Op.meanings by.now.nodes.now images ahead.old →
-        IfOk result (λ _. AreMadeOf K.Op.meanings by.now.nodes.now images ahead.new) }
-    ensures permits { MatchResult result
-        (λ done. Spent (K.permits purse.old + length ahead.old) (K.permits purse.new + length ahead.new) done.applied)
-        (λ _. (K.permits purse.new ≤ K.permits purse.old)
-        × (K.permits purse.old + length ahead.old ≤ K.permits purse.new + length (needed_from strip.now later.now 0))) }
-    ensures keeps { Keeps (length strip.now.need)
-        (moment H.ChainMeaning S.SourceTiles C.PairStore sources.old cache.old chain.old)
-        (moment H.ChainMeaning S.SourceTiles C.PairStore sources.new cache.new chain.new) }
-    ensures over { AreOver H.ChainMeaning S.SourceTiles C.PairStore sources.new cache.new chain.new }
-    ensures valid { H.is_valid chain.old → H.is_valid chain.new }
-    ensures cause { IfErr result (HasSwapCause (H.counts chain.old) (H.counts chain.new)
-        ((H.counts chain.old).names + length strip.now.need)) }
-    ensures few_names { HaveOneOwner (H.held chain.old) (C.names cache.old) →
-        IfErr result (HasSwapCause (H.counts chain.old) (H.counts chain.new) (most_names
-        (moment H.ChainMeaning S.SourceTiles C.PairStore sources.old cache.old chain.old)
-        (pairs_needed by.now.nodes.now strip.now.need))) }
+    ensures { RendersStrip K.Op.meanings by.now.nodes.now strip.now later.now ahead.old ahead.new
+        (render_state H.ChainMeaning S.SourceTiles C.PairStore sources.old cache.old chain.old (K.permits purse.old))
+        (render_state H.ChainMeaning S.SourceTiles C.PairStore sources.new cache.new chain.new (K.permits purse.new)) result }
 {
     let mut tiles = StripTiles::new(by.alloc);
     tiles.reserve(strip.need.as_slice().len())?;

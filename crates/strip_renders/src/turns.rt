@@ -1,19 +1,15 @@
 //! The next needed tile of a strip, held.
 
-ghost use Rattle.std.specs.Prelude.{◌≡◌, [], ℕ, ◌∷◌, ◌+◌, ◌≤◌, IfErr, IfOk, List, MatchResult, Some, length, slice_get, take};
+ghost use Rattle.std.specs.Prelude.{◌≡◌, ◌+◌, ◌≤◌, Some, length, slice_get, take};
 ghost use Rattle.std.specs.List.{AllByRecursion};
-ghost use Rattle.model_graphs.specs.{Evaluation.Buffers, Facts.specs_of};
-ghost use Rattle.model_states.specs.Cache.{AreRight, Cached, pair_of};
-ghost use Rattle.chain_owners.specs.Cause.{HasSwapCause};
-ghost use Rattle.node_tiles.specs.Stated.{AreTilesOf, scene_of};
-ghost use Rattle.strip_renders.specs.Ahead.{AreMadeOf, AreNext, IsSpentFor};
-ghost use Rattle.strip_renders.specs.Moments.{AreOver, Keeps, moment};
-ghost use Rattle.strip_renders.specs.Strips.{AreKnownRight, AreSizedPairs, AreStatedWith, HoldsNeed, IsRendered, IsStripOf, needed_from};
-ghost use Rattle.strip_renders.specs.Looks.{IsRecent};
+ghost use Rattle.strip_renders.specs.Ahead.{AreNext};
+ghost use Rattle.strip_renders.specs.Moments.{AreOver, render_state};
+ghost use Rattle.strip_renders.specs.Steps.{HoldsNext};
+ghost use Rattle.strip_renders.specs.Strips.{AreSizedPairs, AreStatedWith, HoldsNeed, IsStripOf, needed_from};
 
 use crate::ahead::{AheadTiles, look_ahead};
 use crate::evaluator::Evaluator;
-use crate::holding::hold_needed;
+use crate::needed::needed_tile;
 use chain_owners::{ChainMeaning, SwapRefused};
 use node_cache::PairStore;
 use node_tiles::StripTiles;
@@ -57,46 +53,19 @@ where
     requires later { AllByRecursion (IsStripOf K.Op.meanings by.now.nodes.now) later.now }
     requires entry { slice_get strip.now.need index ≡ Some (node, at) }
     requires held { HoldsNeed by.now.nodes.now (take index strip.now.need) tiles.old }
-    requires over { AreOver H.ChainMeaning S.SourceTiles C.PairStore sources.old cache.old chain.old }
+    requires over { AreOver (render_state H.ChainMeaning S.SourceTiles C.PairStore sources.old cache.old chain.old (K.permits purse.old)) }
     requires sized { AreSizedPairs by.now.nodes.now (C.sizes cache.old (H.held chain.old)) }
     requires ahead { AreNext by.now.nodes.now (C.pairs cache.old) (needed_from strip.now later.now index) ahead.old }
     requires permits { length (needed_from strip.now later.now index) ≤ K.permits purse.old + length ahead.old }
-    ensures held { IfOk result (λ _. HoldsNeed by.now.nodes.now (take (index + 1) strip.now.need) tiles.new) }
-    ensures recent { IfOk result (λ found. IsRecent
-        (moment H.ChainMeaning S.SourceTiles C.PairStore sources.old cache.old chain.old)
-        (moment H.ChainMeaning S.SourceTiles C.PairStore sources.new cache.new chain.new)
-        (pair_of (specs_of by.now.nodes.now) (node, at)) found) }
-    ensures bytes { (images : Buffers) (list : List Cached) → S.images sources.old (H.held chain.old) ≡ Some images →
-        AreTilesOf K.Op.meanings by.now.nodes.now images tiles.old → AreMadeOf K.Op.meanings by.now.nodes.now images ahead.old →
-        C.cached cache.old (H.held chain.old) ≡ Some list → AreRight K.Op.meanings (scene_of by.now.nodes.now images) list →
-        IfOk result (λ _. IsRendered K.Op.meanings by.now.nodes.now images
-        (moment H.ChainMeaning S.SourceTiles C.PairStore sources.old cache.old chain.old)
-        (moment H.ChainMeaning S.SourceTiles C.PairStore sources.new cache.new chain.new)
-        list (pair_of (specs_of by.now.nodes.now) (node, at) ∷ []) tiles.new) }
-    ensures right { (images : Buffers) → S.images sources.old (H.held chain.old) ≡ Some images →
-        AreTilesOf K.Op.meanings by.now.nodes.now images tiles.old → AreMadeOf K.Op.meanings by.now.nodes.now images ahead.old →
-        AreKnownRight K.Op.meanings by.now.nodes.now images (C.cached cache.old (H.held chain.old)) →
-        AreKnownRight K.Op.meanings by.now.nodes.now images (C.cached cache.new (H.held chain.new)) }
-    ensures sized { AreSizedPairs by.now.nodes.now (C.sizes cache.new (H.held chain.new)) }
-    ensures ahead { IfOk result (λ _. AreNext by.now.nodes.now (C.pairs cache.new) (needed_from strip.now later.now (index + 1)) ahead.new) }
-    ensures made { (images : Buffers) → S.images sources.old (H.held chain.old) ≡ Some images →
-        AreTilesOf K.Op.meanings by.now.nodes.now images tiles.old → AreMadeOf K.Op.meanings by.now.nodes.now images ahead.old →
-        IfOk result (λ _. AreMadeOf K.Op.meanings by.now.nodes.now images ahead.new) }
-    ensures permits { MatchResult result
-        (λ found. (K.permits purse.new ≤ K.permits purse.old)
-        × IsSpentFor (K.permits purse.old + length ahead.old) (K.permits purse.new + length ahead.new) found)
-        (λ _. (K.permits purse.new ≤ K.permits purse.old)
-        × (K.permits purse.old + length ahead.old ≤ K.permits purse.new + length (needed_from strip.now later.now index))) }
-    ensures keeps { Keeps 1
-        (moment H.ChainMeaning S.SourceTiles C.PairStore sources.old cache.old chain.old)
-        (moment H.ChainMeaning S.SourceTiles C.PairStore sources.new cache.new chain.new) }
-    ensures over { AreOver H.ChainMeaning S.SourceTiles C.PairStore sources.new cache.new chain.new }
-    ensures valid { H.is_valid chain.old → H.is_valid chain.new }
-    ensures cause { IfErr result (HasSwapCause (H.counts chain.old) (H.counts chain.new) ((H.counts chain.old).names + 1)) }
+    ensures { HoldsNext K.Op.meanings by.now.nodes.now strip.now later.now index (node, at) tiles.old tiles.new ahead.old ahead.new
+        (render_state H.ChainMeaning S.SourceTiles C.PairStore sources.old cache.old chain.old (K.permits purse.old))
+        (render_state H.ChainMeaning S.SourceTiles C.PairStore sources.new cache.new chain.new (K.permits purse.new)) result }
 {
     look_ahead(
         by, tiles, sources, cache, chain, purse, strip, later, index, workers, ahead,
     )?;
     let made = ahead.take(node, at);
-    hold_needed(by, tiles, sources, cache, chain, purse, node, at, made)
+    let (tile, found) = needed_tile(by, tiles, sources, cache, chain, purse, node, at, made)?;
+    tiles.hold(node, at, tile)?;
+    Ok(found)
 }

@@ -4,7 +4,18 @@ use Rattle.node_cache.specs.Stores.{pair_at}
 use Rattle.node_tiles.proofs.Places.{ready-inside}
 use Rattle.strip_renders.proofs.JobLists.{jobs-more, jobs-past, jobs_of-more, not-there}
 use Rattle.strip_renders.proofs.Pairs.{named}
+use Rattle.strip_renders.specs.Moments.{ReadsTiles, source_state}
+use Rattle.strip_renders.proofs.Moments.{refused-as}
+use Rattle.chain_owners.specs.declared.swap_refused.SwapRefused.TheVariants as swaps
 use Rattle.strip_renders.proofs.jobs.add_job.Goals as goal
+
+pub returns-in_err-push-clause-read : goal.returns-in_err-push-clause-read
+returns-in_err-push-clause-read g c =
+    let start = source_state g.H.ChainMeaning g.S.SourceTiles c.args.sources.now c.args.chain.now in
+    let next = source_state g.H.ChainMeaning g.S.SourceTiles c.tile_job.new.sources c.tile_job.new.chain in
+    let does = c.in_ok-job.ensures in
+    refused-as c.from_residual-in_err-push.result swaps.NoMemory (ReadsTiles start next) c.from_residual-in_err-push.ensures.1
+    (record { reads = does.reads; over = does.over; valid = does.valid; cause = tt })
 
 pub returns-then-has-clause-jobs : goal.returns-then-has-clause-jobs
 returns-then-has-clause-jobs g c = λ needed are.

@@ -2,14 +2,11 @@ use Rattle.std.proofs.Common.{◌≡◌, ◌≤◌, List, Some, length, take, re
 use Rattle.std.specs.Prelude.{slice_get}
 use Rattle.std.proofs.lemmas.List.{length-take}
 use Rattle.model_states.specs.Need.{Needed}
-use Rattle.chain_owners.specs.Cause.{HasSwapCause}
-use Rattle.roi_planner.proofs.Widths.{handed-on}
-use Rattle.node_tiles.specs.Reads.{seen}
 use Rattle.node_tiles.specs.Stated.{IsReady}
-use Rattle.node_tiles.proofs.Reading.{cause-then, reads-both}
 use Rattle.strip_renders.specs.Ahead.{AreJobs}
+use Rattle.strip_renders.specs.Moments.{ReadsTiles, source_state}
 use Rattle.strip_renders.proofs.JobLists.{jobs-few}
-use Rattle.strip_renders.proofs.Moments.{matched-err}
+use Rattle.strip_renders.proofs.Moments.{matched-err, read-as, read-both, read-refused, refused-as}
 use Rattle.strip_renders.proofs.Needs.{get-here}
 use Rattle.strip_renders.proofs.Turning.{needed-at, take-more}
 use Rattle.strip_renders.proofs.jobs.tile_jobs.Given
@@ -44,21 +41,17 @@ returns-in_err-add_job-clause-permits g c =
       omega (arith, c.in_err-add_job.ensures.permits.1, c.loop-entry.invariant.permits, count, c.loop-entry-test.true),
     )
 
-pub returns-in_err-add_job-clause-reads : goal.returns-in_err-add_job-clause-reads
-returns-in_err-add_job-clause-reads g c = reads-both _ _ _ c.loop-entry.invariant.reads c.in_err-add_job.ensures.reads
+pub returns-in_err-add_job-clause-read : goal.returns-in_err-add_job-clause-read
+returns-in_err-add_job-clause-read g c =
+    let start = source_state g.H.ChainMeaning g.S.SourceTiles c.args.sources.now c.args.chain.now in
+    let now = source_state g.H.ChainMeaning g.S.SourceTiles c.loop-entry.sources c.loop-entry.chain in
+    let next = source_state g.H.ChainMeaning g.S.SourceTiles c.add_job.new.sources c.add_job.new.chain in
+    let refused = c.in_err-add_job.field-0.0 in
+    refused-as c.from_residual.result refused (ReadsTiles start next) c.from_residual.ensures.1
+    (read-refused start now next tt refused c.loop-entry.invariant.read c.in_err-add_job.ensures.read)
 
-pub returns-in_err-add_job-clause-cause : goal.returns-in_err-add_job-clause-cause
-returns-in_err-add_job-clause-cause g c =
-    let start = (seen (g.S.SourceTiles.facts c.args.sources.now) (g.S.SourceTiles.images c.args.sources.now (g.H.ChainMeaning.held c.args.chain.now)) (g.S.SourceTiles.names c.args.sources.now) (g.H.ChainMeaning.held c.args.chain.now) (g.H.ChainMeaning.counts c.args.chain.now) (g.H.ChainMeaning.loans c.args.chain.now)) in
-    let now = (seen (g.S.SourceTiles.facts c.loop-entry.sources) (g.S.SourceTiles.images c.loop-entry.sources (g.H.ChainMeaning.held c.loop-entry.chain)) (g.S.SourceTiles.names c.loop-entry.sources) (g.H.ChainMeaning.held c.loop-entry.chain) (g.H.ChainMeaning.counts c.loop-entry.chain) (g.H.ChainMeaning.loans c.loop-entry.chain)) in
-    let next = (seen (g.S.SourceTiles.facts c.add_job.new.sources) (g.S.SourceTiles.images c.add_job.new.sources (g.H.ChainMeaning.held c.add_job.new.chain)) (g.S.SourceTiles.names c.add_job.new.sources) (g.H.ChainMeaning.held c.add_job.new.chain) (g.H.ChainMeaning.counts c.add_job.new.chain) (g.H.ChainMeaning.loans c.add_job.new.chain)) in
-    handed-on c.from_residual.result c.in_err-add_job.field-0.0
-    (HasSwapCause (g.H.ChainMeaning.counts c.args.chain.now) (g.H.ChainMeaning.counts c.add_job.new.chain) (g.H.ChainMeaning.counts c.args.chain.now).names)
-    c.from_residual.ensures.1
-    (cause-then start now next c.in_err-add_job.field-0.0 c.loop-entry.invariant.reads c.in_err-add_job.ensures.cause)
-
-pub returns-in_err-add_job-clause-valid : goal.returns-in_err-add_job-clause-valid
-returns-in_err-add_job-clause-valid g c = λ valid. c.in_err-add_job.ensures.valid (c.loop-entry.invariant.valid valid)
+pub returns-clause-read : goal.returns-clause-read
+returns-clause-read g c = read-as _ _ tt c.loop-entry.jobs c.loop-entry.invariant.read
 
 pub loop-entry-preserved : goal.loop-entry-preserved
 loop-entry-preserved g c =
@@ -71,9 +64,7 @@ loop-entry-preserved g c =
       jobs = subst (λ (list : List Needed). AreJobs g.K.Op.OpMeaning.meanings c.args.by.now.nodes.now (g.C.PairStore.pairs c.args.cache.now) list c.add_job.new.jobs.items)
           (sym (take-more batch i n (found g (goal.at.loop-entry-preserved g c).After-entry-item)))
           (does.jobs (take i batch) invariant.jobs);
-      bytes = λ images known tiles. does.bytes images (invariant.reads.images ∙ known) tiles (invariant.bytes images known tiles);
+      bytes = λ images known tiles. does.bytes images (invariant.read.reads.images ∙ known) tiles (invariant.bytes images known tiles);
       permits = does.permits ∙ invariant.permits;
-      over = does.over;
-      reads = reads-both _ _ _ invariant.reads does.reads;
-      valid = λ valid. does.valid (invariant.valid valid);
+      read = read-both _ _ _ tt tt invariant.read does.read;
     }
