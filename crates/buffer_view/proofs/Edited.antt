@@ -3,7 +3,6 @@ use Rattle.std.proofs.Common.{◌≡◌, ℕ, ◌+◌, None, Some, Ok, Err, Resu
 use Rattle.std.specs.Prelude.{OnErr, OnOk}
 use Rattle.std.specs.Option.{option_map}
 use Rattle.std.proofs.lemmas.Result.{IfErr-weaker}
-use Rattle.chain_owners.specs.Counts.{Grows}
 use Rattle.chain_owners.specs.Held.{Held}
 use Rattle.chain_owners.specs.Owners.{Respects}
 use Rattle.chain_owners.proofs.Growing.{continues-same, grows-more}
@@ -17,14 +16,14 @@ use Rattle.model_images.specs.TileCounts.{tile_count}
 use Rattle.pixel_formats.specs.Row.{Pixel}
 use Rattle.pixel_formats.specs.declared.format.Format.{Format}
 use Rattle.plane_rect.specs.Rectangle.{Rectangle}
-use Rattle.root_tiles.specs.Chains.{ChainState, IsRead}
+use Rattle.root_tiles.specs.Chains.{ChainState, IsRead, Leaves}
 use Rattle.root_tiles.proofs.ChainReads.{refused-after}
 use Rattle.chain_owners.specs.Cause.{HasSwapCause}
 use Rattle.chain_owners.specs.declared.swap_refused.SwapRefused.{SwapRefused}
 use Rattle.chain_owners.proofs.Causes.{cause-more}
 use Rattle.buffer_view.specs.BufferTables.{AreBuffersOver, BufferTable, buffers_names, table_of}
 use Rattle.buffer_view.specs.Causes.{refusal_of}
-use Rattle.buffer_view.specs.Edits.{AddsBuffer, WritesBuffers, WritesRoot}
+use Rattle.buffer_view.specs.Edits.{AddsBuffer, EditsBuffers, WritesRoot}
 use Rattle.buffer_view.specs.declared.refused.BufferRefused.TheVariants.{Edit, NoMemory}
 use Rattle.buffer_view.proofs.Refusals.{exact-none, exact-some, grows-after, swap-cause}
 
@@ -39,11 +38,13 @@ module _ {X : Type 0} (number : ℕ) (r : Rectangle) (f : Format → ℕ → ℕ
     table = λ root shape there. tt;
     same = ap (table_of old) read.held;
     over = subst (AreBuffersOver old) (sym read.held) over;
-    others = subst (λ (h : Held). Respects before.held h (buffers_names old) (buffers_names old)) (sym read.held) (respects-same before.held (buffers_names old));
-    counts = grows-more 0 (tile_count r) before.counts after.counts (omega arith) read.counts;
     cause = cause-more before.counts after.counts before.counts.names (before.counts.names + tile_count r) swap (omega arith) cause;
-    loans = read.loans;
-    valid = read.valid;
+    left = record {
+      others = subst (λ (h : Held). Respects before.held h (buffers_names old) (buffers_names old)) (sym read.held) (respects-same before.held (buffers_names old));
+      counts = grows-more 0 (tile_count r) before.counts after.counts (omega arith) read.counts;
+      loans = read.loans;
+      valid = read.valid;
+    };
   }
 
   -- it is, after a read
@@ -55,13 +56,15 @@ module _ {X : Type 0} (number : ℕ) (r : Rectangle) (f : Format → ℕ → ℕ
         (is.table root shape there);
     same = subst (λ (h : Held). OnErr result (table_of new last.held ≡ table_of old h)) read.held is.same;
     over = is.over;
-    others = subst (λ (h : Held). Respects h last.held (buffers_names old) (buffers_names new)) read.held is.others;
-    counts = grows-after (tile_count r) (tile_count r) first.counts middle.counts last.counts refl read.counts is.counts;
     cause = IfErr-weaker result (HasSwapCause middle.counts last.counts (middle.counts.names + tile_count r)) (HasSwapCause first.counts last.counts (first.counts.names + tile_count r))
         (λ refused cause. refused-after 0 (tile_count r) (tile_count r) (middle.counts.names + tile_count r) first.counts middle.counts last.counts refused (omega arith) (omega arith) read.counts cause)
         is.cause;
-    loans = is.loans ∙ read.loans;
-    valid = λ valid. is.valid (read.valid valid);
+    left = record {
+      others = subst (λ (h : Held). Respects h last.held (buffers_names old) (buffers_names new)) read.held is.left.others;
+      counts = grows-after (tile_count r) (tile_count r) first.counts middle.counts last.counts refl read.counts is.left.counts;
+      loans = is.left.loans ∙ read.loans;
+      valid = λ valid. is.left.valid (read.valid valid);
+    };
   }
 
 module _ {X : Type 0} (edit : BufferEdit) (old new : BufferTable) where
@@ -69,7 +72,7 @@ module _ {X : Type 0} (edit : BufferEdit) (old new : BufferTable) where
 
   -- the layout refuses it
   pub write-refused : (refused : EditRefused) (state : ChainState) → new ≡ old → edit_refused old.layout edit ≡ Some refused → AreBuffersOver old state.held
-      → WritesBuffers {X = X} edit (Err (Edit refused)) old new state state
+      → EditsBuffers {X = X} edit (Err (Edit refused)) old new state state
   write-refused refused state same is over = record {
     layout = ap (λ (b : BufferTable). b.layout) same;
     table = ap (λ (b : BufferTable). table_of b state.held) same;
@@ -77,16 +80,18 @@ module _ {X : Type 0} (edit : BufferEdit) (old new : BufferTable) where
     cause = is;
     carried_out = tt;
     over = subst (λ (b : BufferTable). AreBuffersOver b state.held) (sym same) over;
-    others = subst (λ (b : BufferTable). Respects state.held state.held (buffers_names old) (buffers_names b)) (sym same) (respects-same state.held (buffers_names old));
-    counts = record { continues = continues-same state.counts; names = omega arith };
-    loans = refl;
-    valid = λ valid. valid;
+    left = record {
+      others = subst (λ (b : BufferTable). Respects state.held state.held (buffers_names old) (buffers_names b)) (sym same) (respects-same state.held (buffers_names old));
+      counts = record { continues = continues-same state.counts; names = omega arith };
+      loans = refl;
+      valid = λ valid. valid;
+    };
   }
 
   -- what it writes to a root is written, or the swap refuses that
   module _ {Y : Type 0} (number : ℕ) (r : Rectangle) (f : Format → ℕ → ℕ → Pixel) (before after : ChainState) (none : edit_refused old.layout edit ≡ None)
       (tiles : tile_count r ≡ tiles_added edit) where
-    pub write-failed : (swap : SwapRefused) → WritesRoot {X = Y} number r f (Err swap) old new before after → WritesBuffers {X = X} edit (Err (refusal_of swap)) old new before after
+    pub write-failed : (swap : SwapRefused) → WritesRoot {X = Y} number r f (Err swap) old new before after → EditsBuffers {X = X} edit (Err (refusal_of swap)) old new before after
     write-failed swap is = record {
       layout = is.layout;
       table = is.same;
@@ -94,15 +99,12 @@ module _ {X : Type 0} (edit : BufferEdit) (old new : BufferTable) where
       cause = swap-cause old.layout edit before.counts after.counts (before.counts.names + tile_count r) swap (ap (λ (n : ℕ). before.counts.names + n) tiles) is.cause;
       carried_out = tt;
       over = is.over;
-      others = is.others;
-      counts = subst (λ (n : ℕ). Grows n before.counts after.counts) tiles is.counts;
-      loans = is.loans;
-      valid = is.valid;
+      left = subst (λ (n : ℕ). Leaves n (buffers_names old) (buffers_names new) before after) tiles is.left;
     }
 
     pub write-done : (value : X) (unit : Y) → layout_with old.layout edit ≡ old.layout
         → table_of new after.held ≡ option_map (λ table. table_with table edit) (table_of old before.held)
-        → WritesRoot number r f (Ok unit) old new before after → WritesBuffers edit (Ok value) old new before after
+        → WritesRoot number r f (Ok unit) old new before after → EditsBuffers edit (Ok value) old new before after
     write-done value unit kept shown is = record {
       layout = is.layout ∙ sym kept;
       table = shown;
@@ -110,10 +112,7 @@ module _ {X : Type 0} (edit : BufferEdit) (old new : BufferTable) where
       cause = tt;
       carried_out = none;
       over = is.over;
-      others = is.others;
-      counts = subst (λ (n : ℕ). Grows n before.counts after.counts) tiles is.counts;
-      loans = is.loans;
-      valid = is.valid;
+      left = subst (λ (n : ℕ). Leaves n (buffers_names old) (buffers_names new) before after) tiles is.left;
     }
 
   -- ---- edits that add a buffer

@@ -15,3 +15,4 @@ pub mod Reading
 pub mod RootReads
 pub mod FrozenParts
 pub mod RecentTiles
+pub mod Grabbed

@@ -3,11 +3,10 @@ use Rattle.std.proofs.Common.{◌≡◌, ℕ, ◌+◌, ◌<◌, List, [], ◌∷
 use Rattle.std.proofs.Math.ListN.{set}
 use Rattle.std.proofs.lemmas.List.Elements.{All-nil, All-push}
 use Rattle.std.proofs.lemmas.List.{take_more}
-use Rattle.chain_owners.specs.Counts.{Grows}
 use Rattle.chain_owners.specs.Held.{Held}
 use Rattle.chain_owners.specs.Owners.{Owns, Respects, times}
 use Rattle.chain_owners.proofs.Ownership.{others-own, owns-fewer, respects-beside, respects-both, respects-same, times-append}
-use Rattle.root_tiles.specs.Chains.{ChainState}
+use Rattle.root_tiles.specs.Chains.{ChainState, Leaves}
 use Rattle.root_tiles.specs.Roots.{IsRootOver, RootTiles, root_names}
 use Rattle.chain_owners.proofs.Growing.{grows-both, grows-same}
 use Rattle.buffer_view.specs.BufferLaws.{All-first, All-rest}
@@ -122,46 +121,11 @@ module _ (roots shared : List RootTiles) (s0 s1 s2 : ChainState) (shares : Share
     valid = λ is. valid (shares.valid is);
   }
 
--- a call that changes nothing leaves what was shared
-pub shares-same : (roots shared : List RootTiles) (s0 s1 s2 : ChainState) → Shares roots shared s0 s1 → s2.held ≡ s1.held → s2.counts ≡ s1.counts → s2.loans ≡ s1.loans
-    → (s1.valid → s2.valid) → Shares roots shared s0 s2
-shares-same roots shared s0 s1 s2 shares held counts loans valid =
-    let same : s1.held ≡ s2.held = sym held in record {
-      lengths = ap (λ (h : Held). h.lengths) held ∙ shares.lengths;
-      content = ap (λ (h : Held). h.content) held ∙ shares.content;
-      over = subst (λ (h : Held). All (λ (r : RootTiles). IsRootOver r h) roots) same shares.over;
-      shared_over = subst (λ (h : Held). All (λ (r : RootTiles). IsRootOver r h) shared) same shares.shared_over;
-      owned = subst (λ (h : Held). Owns h (names_of_roots roots ++ names_of_roots shared)) same shares.owned;
-      others = subst (λ (h : Held). Respects s0.held h (names_of_roots roots) (names_of_roots roots ++ names_of_roots shared)) same shares.others;
-      counts = counts ∙ shares.counts;
-      loans = loans ∙ shares.loans;
-      valid = λ is. valid (shares.valid is);
-    }
-
 -- the first roots, and one more
 pub taken-next : (roots shared longer : List RootTiles) (i : ℕ) (root : RootTiles) → i < length roots → root ≡ get_or roots i root → shared ≡ take i roots
     → longer ≡ shared ++ root ∷ [] → longer ≡ take (i + 1) roots
 taken-next roots shared longer i root below is taken added =
     added ∙ ap (λ (rs : List RootTiles). rs ++ root ∷ []) taken ∙ ap (λ (r : RootTiles). take i roots ++ r ∷ []) is ∙ sym (take_more roots i root below)
-
--- what was shared is owned
-module _ (roots shared : List RootTiles) (s0 s1 : ChainState) (shares : Shares roots shared s0 s1) where
-  pub shared-owned : Owns s1.held (names_of_roots shared)
-  shared-owned =
-      owns-fewer s1.held (names_of_roots roots ++ names_of_roots shared) (names_of_roots shared)
-      (λ q. omega (arith, times-append (names_of_roots roots) (names_of_roots shared) q)) shares.owned
-
-  pub owns-beside : Owns s1.held (names_of_roots shared ++ names_of_roots roots)
-  owns-beside =
-      owns-fewer s1.held (names_of_roots roots ++ names_of_roots shared) (names_of_roots shared ++ names_of_roots roots)
-      (λ q. omega (arith, times-append (names_of_roots roots) (names_of_roots shared) q, times-append (names_of_roots shared) (names_of_roots roots) q)) shares.owned
-
-  -- and given up
-  pub given-up-others : (new : Held) → Respects s1.held new (names_of_roots shared) [] → Respects s0.held new (names_of_roots roots) (names_of_roots roots)
-  given-up-others new respects =
-      respects-both s0.held s1.held (names_of_roots roots) (names_of_roots roots ++ names_of_roots shared) shares.others new (names_of_roots roots)
-      (respects-beside s1.held new (names_of_roots shared) [] respects (names_of_roots roots ++ names_of_roots shared) (names_of_roots roots) (names_of_roots roots)
-      (λ q. omega (arith, times-append (names_of_roots roots) (names_of_roots shared) q)) (λ q. omega arith))
 
 pub shares-over : (buffers : BufferTable) (shared : List RootTiles) (s0 s1 : ChainState) → AreBuffersOver buffers s0.held → Shares buffers.roots shared s0 s1
     → AreBuffersOver buffers s1.held
@@ -179,10 +143,7 @@ shares-over buffers shared s0 s1 over shares = record {
 pub record Releases (all left : List RootTiles) (old new : ChainState) : Type 0 where
   pub over : All (λ (r : RootTiles). IsRootOver r new.held) left
   pub owned : Owns new.held (names_of_roots left)
-  pub others : Respects old.held new.held (names_of_roots all) (names_of_roots left)
-  pub counts : Grows 0 old.counts new.counts
-  pub loans : new.loans ≡ old.loans
-  pub valid : old.valid → new.valid
+  pub leaves : Leaves 0 (names_of_roots all) (names_of_roots left) old new
 
 pub releases-none : (all left : List RootTiles) (state : ChainState) → left ≡ all → All (λ (r : RootTiles). IsRootOver r state.held) all → Owns state.held (names_of_roots all)
     → Releases all left state state
@@ -191,25 +152,24 @@ releases-none all left state is over owns =
     subst P (sym is) (record {
       over = over;
       owned = owns;
-      others = respects-same state.held (names_of_roots all);
-      counts = grows-same state.counts;
-      loans = refl;
-      valid = λ is. is;
+      leaves = record { others = respects-same state.held (names_of_roots all); counts = grows-same state.counts; loans = refl; valid = λ is. is };
     })
 
 pub releases-next : (all left rest : List RootTiles) (root : RootTiles) (s0 s1 s2 : ChainState) → left ≡ root ∷ rest → Releases all left s0 s1
-    → Respects s1.held s2.held (root_names root) [] → Grows 0 s1.counts s2.counts → s2.loans ≡ s1.loans → (s1.valid → s2.valid) → Releases all rest s0 s2
-releases-next all left rest root s0 s1 s2 is before respects counts loans valid =
+    → Leaves 0 (root_names root) [] s1 s2 → Releases all rest s0 s2
+releases-next all left rest root s0 s1 s2 is before released =
     let now : Releases all (root ∷ rest) s0 s1 = subst (λ (rs : List RootTiles). Releases all rs s0 s1) is before in record {
-      over = roots-beside s1.held s2.held (root_names root) [] respects rest now.owned (All-rest (λ (r : RootTiles). IsRootOver r s1.held) root rest now.over);
-      owned = others-own s1.held s2.held (root_names root) [] respects (names_of_roots rest) now.owned;
-      others =
-          respects-both s0.held s1.held (names_of_roots all) (names_of_roots (root ∷ rest)) now.others s2.held (names_of_roots rest)
-          (respects-beside s1.held s2.held (root_names root) [] respects (names_of_roots (root ∷ rest)) (names_of_roots rest) (names_of_roots rest)
-          (times-append (root_names root) (names_of_roots rest)) (λ q. omega arith));
-      counts = grows-both 0 0 s0.counts s1.counts s2.counts now.counts counts;
-      loans = loans ∙ now.loans;
-      valid = λ is. valid (now.valid is);
+      over = roots-beside s1.held s2.held (root_names root) [] released.others rest now.owned (All-rest (λ (r : RootTiles). IsRootOver r s1.held) root rest now.over);
+      owned = others-own s1.held s2.held (root_names root) [] released.others (names_of_roots rest) now.owned;
+      leaves = record {
+        others =
+            respects-both s0.held s1.held (names_of_roots all) (names_of_roots (root ∷ rest)) now.leaves.others s2.held (names_of_roots rest)
+            (respects-beside s1.held s2.held (root_names root) [] released.others (names_of_roots (root ∷ rest)) (names_of_roots rest) (names_of_roots rest)
+            (times-append (root_names root) (names_of_roots rest)) (λ q. omega arith));
+        counts = grows-both 0 0 s0.counts s1.counts s2.counts now.leaves.counts released.counts;
+        loans = released.loans ∙ now.leaves.loans;
+        valid = λ is. released.valid (now.leaves.valid is);
+      };
     }
 
 pub released-first : (all left rest : List RootTiles) (root : RootTiles) (s0 s1 : ChainState) → left ≡ root ∷ rest → Releases all left s0 s1 → IsRootOver root s1.held
@@ -217,6 +177,6 @@ released-first all left rest root s0 s1 is before =
     let now : Releases all (root ∷ rest) s0 s1 = subst (λ (rs : List RootTiles). Releases all rs s0 s1) is before in
     All-first (λ (r : RootTiles). IsRootOver r s1.held) root rest now.over
 
-pub released-all : (all left : List RootTiles) (s0 s1 : ChainState) → length left ≡ 0 → Releases all left s0 s1 → Respects s0.held s1.held (names_of_roots all) []
-released-all all [] s0 s1 none releases = releases.others
+pub released-all : (all left : List RootTiles) (s0 s1 : ChainState) → length left ≡ 0 → Releases all left s0 s1 → Leaves 0 (names_of_roots all) [] s0 s1
+released-all all [] s0 s1 none releases = releases.leaves
 released-all all (root ∷ left) s0 s1 none releases = absurd (omega (arith, none))

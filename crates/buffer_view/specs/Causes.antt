@@ -21,6 +21,7 @@ refusal_of swap_refusals.NoMemory = refusals.NoMemory
 -- memory at any time.
 abbrev pub HasEditCause : TableLayout → BufferEdit → Counts → Counts → BufferRefused → Type 0
 HasEditCause layout edit old new (refusals.Edit refused) = edit_refused layout edit ≡ Some refused
+HasEditCause layout edit old new (refusals.Swap swap_refusals.NoMemory) = ⊥
 HasEditCause layout edit old new (refusals.Swap refused) = HasSwapCause old new (names_after_edit old.names edit) refused
 HasEditCause layout edit old new refusals.NoMemory = ⊤
 

@@ -5,10 +5,10 @@ ghost use Rattle.model_buffers.specs.{Table.root_image, declared.edit.BufferEdit
 ghost use Rattle.model_graphs.specs.Shapes.{Shape};
 ghost use Rattle.model_images.specs.{FromRaw.byte_count, Paint.cut, Raw.raw};
 ghost use Rattle.plane_rect.specs.Rectangle.{Includes};
-ghost use Rattle.root_tiles.specs.Chains.{IsRead};
+ghost use Rattle.root_tiles.specs.Chains.{IsRead, chain_state};
 ghost use Rattle.chain_owners.specs.Cause.{HasSwapCause};
 ghost use Rattle.buffer_view.specs.BufferTables.{AreBuffersOver, table_of};
-ghost use Rattle.buffer_view.specs.Edits.{WritesBuffers};
+ghost use Rattle.buffer_view.specs.Edits.{EditsBuffers};
 
 use crate::buffers::Buffers;
 use crate::refused::BufferRefused;
@@ -37,9 +37,8 @@ impl Buffers {
         dy: i64,
     ) -> Result<(), BufferRefused>
         requires { AreBuffersOver self.old (C.held chain.old) }
-        ensures { WritesBuffers (Copy from to rect dx dy) result self.old self.new
-            (record { held = C.held chain.old; counts = C.counts chain.old; loans = C.loans chain.old; valid = C.is_valid chain.old })
-            (record { held = C.held chain.new; counts = C.counts chain.new; loans = C.loans chain.new; valid = C.is_valid chain.new }) }
+        ensures { EditsBuffers (Copy from to rect dx dy) result self.old self.new
+            (chain_state C.ChainMeaning chain.old) (chain_state C.ChainMeaning chain.new) }
     {
         let parts = self.layout.copy_parts(from, to, rect, dx, dy)?;
         // `first_column` is called for its clause that the rectangle is one of the plane.
@@ -66,8 +65,7 @@ impl Buffers {
             IfOk result (λ bytes. length bytes.items ≡ byte_count rect shape.format) }
         ensures cause { IfErr result (HasSwapCause (C.counts chain.old) (C.counts chain.new) (C.counts chain.old).names) }
         ensures read { IsRead
-            (record { held = C.held chain.old; counts = C.counts chain.old; loans = C.loans chain.old; valid = C.is_valid chain.old })
-            (record { held = C.held chain.new; counts = C.counts chain.new; loans = C.loans chain.new; valid = C.is_valid chain.new }) }
+            (chain_state C.ChainMeaning chain.old) (chain_state C.ChainMeaning chain.new) }
     {
         // `first_column` is called for its clause that the rectangle is one of the plane.
         let _ = rect.first_column();

@@ -1,7 +1,8 @@
 //! Edits of buffers that write samples.
 
 ghost use Rattle.model_buffers.specs.declared.edit.BufferEdit.TheVariants.{Fill, Put};
-ghost use Rattle.buffer_view.specs.{BufferTables.AreBuffersOver, Edits.WritesBuffers};
+ghost use Rattle.root_tiles.specs.Chains.{chain_state};
+ghost use Rattle.buffer_view.specs.{BufferTables.AreBuffersOver, Edits.EditsBuffers};
 
 use crate::buffers::Buffers;
 use crate::refused::BufferRefused;
@@ -30,9 +31,8 @@ impl Buffers {
         samples: &[u32],
     ) -> Result<(), BufferRefused>
         requires { AreBuffersOver self.old (C.held chain.old) }
-        ensures { WritesBuffers (Fill name rect samples.now) result self.old self.new
-            (record { held = C.held chain.old; counts = C.counts chain.old; loans = C.loans chain.old; valid = C.is_valid chain.old })
-            (record { held = C.held chain.new; counts = C.counts chain.new; loans = C.loans chain.new; valid = C.is_valid chain.new }) }
+        ensures { EditsBuffers (Fill name rect samples.now) result self.old self.new
+            (chain_state C.ChainMeaning chain.old) (chain_state C.ChainMeaning chain.new) }
     {
         let view = self.layout.fill_target(name, rect, samples)?;
         self.write(chain, view.root, rect, &mut Even { samples })?;
@@ -56,9 +56,8 @@ impl Buffers {
         workers: Workers<'_, R>,
     ) -> Result<(), BufferRefused>
         requires { AreBuffersOver self.old (C.held chain.old) }
-        ensures { WritesBuffers (Put name rect bytes.now) result self.old self.new
-            (record { held = C.held chain.old; counts = C.counts chain.old; loans = C.loans chain.old; valid = C.is_valid chain.old })
-            (record { held = C.held chain.new; counts = C.counts chain.new; loans = C.loans chain.new; valid = C.is_valid chain.new }) }
+        ensures { EditsBuffers (Put name rect bytes.now) result self.old self.new
+            (chain_state C.ChainMeaning chain.old) (chain_state C.ChainMeaning chain.new) }
     {
         let view = self.layout.put_target(name, rect, bytes)?;
         self.write(chain, view.root, rect, &mut SplitRaw { bytes, workers })?;

@@ -5,7 +5,7 @@ ghost use Rattle.model_buffers.specs.Layout.{buffer_shape, find};
 ghost use Rattle.model_buffers.specs.declared.refused.EditRefused.TheVariants.{UnknownBuffer};
 ghost use Rattle.model_images.specs.{Raw.tile_bytes, Tiles.AreZeroOutside};
 ghost use Rattle.plane_rect.specs.Tile.{IsWhole};
-ghost use Rattle.root_tiles.specs.Chains.{IsRead};
+ghost use Rattle.root_tiles.specs.Chains.{IsRead, chain_state};
 ghost use Rattle.chain_owners.specs.Cause.{HasSwapCause};
 ghost use Rattle.view_reads.specs.Views.{IsViewOver, ReadsViewTile, view_image};
 ghost use Rattle.buffer_view.specs.BufferTables.{AreBuffersOver, table_of};
@@ -41,8 +41,7 @@ impl Buffers {
         ensures unknown { find self.now.layout.buffers name ≡ None → result ≡ Err (Edit UnknownBuffer) }
         ensures cause { IfErr result (HasReadCause self.now.layout name 0 (C.counts chain.old) (C.counts chain.new)) }
         ensures read { IsRead
-            (record { held = C.held chain.old; counts = C.counts chain.old; loans = C.loans chain.old; valid = C.is_valid chain.old })
-            (record { held = C.held chain.new; counts = C.counts chain.new; loans = C.loans chain.new; valid = C.is_valid chain.new }) }
+            (chain_state C.ChainMeaning chain.old) (chain_state C.ChainMeaning chain.new) }
     {
         let Some(view) = self.layout.view(name) else {
             return Err(BufferRefused::Edit(EditRefused::UnknownBuffer));
@@ -65,8 +64,7 @@ fn frozen_view<C: TileChain>(
     ensures image { IfOk result (IsFrozenImage (view_image root.now extent (C.held chain.old))) }
     ensures cause { IfErr result (HasSwapCause (C.counts chain.old) (C.counts chain.new) (C.counts chain.old).names) }
     ensures read { IsRead
-        (record { held = C.held chain.old; counts = C.counts chain.old; loans = C.loans chain.old; valid = C.is_valid chain.old })
-        (record { held = C.held chain.new; counts = C.counts chain.new; loans = C.loans chain.new; valid = C.is_valid chain.new }) }
+        (chain_state C.ChainMeaning chain.old) (chain_state C.ChainMeaning chain.new) }
 {
     let mut frozen = Frozen::new(root.allocator(), root.format(), extent)?;
     for at in extent.tiles() {
@@ -91,8 +89,7 @@ fn hold<C: TileChain>(
         (λ image. frozen.new ≡ with_held frozen.old at (tile_bytes image at))) }
     ensures cause { IfErr result (HasSwapCause (C.counts chain.old) (C.counts chain.new) (C.counts chain.old).names) }
     ensures read { IsRead
-        (record { held = C.held chain.old; counts = C.counts chain.old; loans = C.loans chain.old; valid = C.is_valid chain.old })
-        (record { held = C.held chain.new; counts = C.counts chain.new; loans = C.loans chain.new; valid = C.is_valid chain.new }) }
+        (chain_state C.ChainMeaning chain.old) (chain_state C.ChainMeaning chain.new) }
 {
     let tile = zero_outside(root, chain, extent, at)?;
     frozen.hold(at, tile)?;
@@ -111,8 +108,7 @@ fn zero_outside<C: TileChain>(
     requires whole { IsWhole at }
     ensures zero { IfOk result (AreZeroOutside extent root.now.tiles.format at) }
     ensures tile { ReadsViewTile root.now extent at result
-        (record { held = C.held chain.old; counts = C.counts chain.old; loans = C.loans chain.old; valid = C.is_valid chain.old })
-        (record { held = C.held chain.new; counts = C.counts chain.new; loans = C.loans chain.new; valid = C.is_valid chain.new }) }
+        (chain_state C.ChainMeaning chain.old) (chain_state C.ChainMeaning chain.new) }
 {
     let square = at.rect();
     if extent.contains(&square) {

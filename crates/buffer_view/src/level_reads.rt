@@ -1,18 +1,16 @@
 //! Levels of buffers, read under a policy.
 
-ghost use Rattle.std.specs.Prelude.{◌≡◌, ◌≤◌, ℕ, List, IfErr, IfOk, IsSomeAnd, Err, None, Some, slice_get};
+ghost use Rattle.std.specs.Prelude.{◌≡◌, ◌≤◌, ℕ, List, IfErr, IfOk, IsSomeAnd, Err, Some, slice_get};
 ghost use Rattle.buffer_layouts.specs.Views.{root_view};
 ghost use Rattle.chain_owners.specs.{Counts.Grows, Owners.Respects};
 ghost use Rattle.pixel_formats.specs.Limits.{max_level};
-ghost use Rattle.model_buffers.specs.{Layout.find, declared.refused.EditRefused.TheVariants.UnknownBuffer};
 ghost use Rattle.model_graphs.specs.Shapes.{Shape};
 ghost use Rattle.model_images.specs.TileCounts.{level_tiles, names_after_read};
 ghost use Rattle.plane_rect.specs.Rectangle.{InLimits, Includes};
-ghost use Rattle.root_tiles.specs.Roots.{HasShape};
+ghost use Rattle.root_tiles.specs.{Chains.chain_state, Roots.HasShape};
 ghost use Rattle.chain_owners.specs.Cause.{HasSwapCause};
 ghost use Rattle.buffer_view.specs.BufferTables.{AreBuffersOver, buffers_names, table_of};
-ghost use Rattle.buffer_view.specs.Reads.{HasReadCause, IsReadOfBuffer, box_of_root, part_of_buffer};
-ghost use Rattle.buffer_view.specs.declared.refused.BufferRefused.TheVariants.{Edit};
+ghost use Rattle.buffer_view.specs.Reads.{GrabsBuffer, IsReadOfBuffer, box_of_root, part_of_buffer};
 
 use crate::buffers::Buffers;
 use crate::refused::BufferRefused;
@@ -45,17 +43,8 @@ impl Buffers {
         requires over { AreBuffersOver self.old (C.held chain.old) }
         requires level { level ≤ max_level }
         requires limits { InLimits rect }
-        ensures shape { IfOk result (HasShape (part_of_buffer self.old.layout name rect)) }
-        ensures image { IfOk result (IsReadOfBuffer (table_of self.old (C.held chain.old)) name level abyss rect) }
-        ensures unknown { find self.old.layout.buffers name ≡ None → result ≡ Err (Edit UnknownBuffer) }
-        ensures cause { IfErr result (HasReadCause self.old.layout name level (C.counts chain.old) (C.counts chain.new)) }
-        ensures layout { self.new.layout ≡ self.old.layout }
-        ensures table { table_of self.new (C.held chain.new) ≡ table_of self.old (C.held chain.old) }
-        ensures over { AreBuffersOver self.new (C.held chain.new) }
-        ensures others { Respects (C.held chain.old) (C.held chain.new) (buffers_names self.old) (buffers_names self.new) }
-        ensures counts { Grows (level_tiles (box_of_root self.old.layout name) level) (C.counts chain.old) (C.counts chain.new) }
-        ensures loans { C.loans chain.new ≡ C.loans chain.old }
-        ensures valid { C.is_valid chain.old → C.is_valid chain.new }
+        ensures { GrabsBuffer name level abyss rect result self.old self.new
+            (chain_state C.ChainMeaning chain.old) (chain_state C.ChainMeaning chain.new) }
     {
         let Some(view) = self.layout.view(name) else {
             return Err(BufferRefused::Edit(EditRefused::UnknownBuffer));

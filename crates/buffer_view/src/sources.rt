@@ -5,7 +5,7 @@ ghost use Rattle.chain_owners.specs.Held.{Held};
 ghost use Rattle.model_buffers.specs.Layout.{facts_of};
 ghost use Rattle.model_graphs.specs.Facts.{fact_of};
 ghost use Rattle.op_contracts.specs.Sources.{HasBufferLength, IsTileOf};
-ghost use Rattle.root_tiles.specs.Chains.{IsRead};
+ghost use Rattle.root_tiles.specs.Chains.{IsRead, chain_state};
 ghost use Rattle.chain_owners.specs.Cause.{HasSwapCause};
 ghost use Rattle.buffer_view.specs.BufferLaws.{buffers_exposed, buffers_framed, buffers_framed_condition};
 ghost use Rattle.buffer_view.specs.BufferTables.{AreBuffersOver, buffer_images, buffers_names};
@@ -34,8 +34,7 @@ impl Buffers {
         ensures length { IfOk result (HasBufferLength (facts_of self.now.layout) buffer) }
         ensures cause { IfErr result (HasSwapCause (C.counts chain.old) (C.counts chain.new) (C.counts chain.old).names) }
         ensures read { IsRead
-            (record { held = C.held chain.old; counts = C.counts chain.old; loans = C.loans chain.old; valid = C.is_valid chain.old })
-            (record { held = C.held chain.new; counts = C.counts chain.new; loans = C.loans chain.new; valid = C.is_valid chain.new }) }
+            (chain_state C.ChainMeaning chain.old) (chain_state C.ChainMeaning chain.new) }
     {
         let view = self.layout.view(buffer).unwrap();
         // `first_column` is called for its clause that the extent is a rectangle of the plane.

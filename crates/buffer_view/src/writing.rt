@@ -3,6 +3,7 @@
 ghost use Rattle.std.specs.Prelude.{ℕ, List, IsSomeAnd, slice_get};
 ghost use Rattle.model_graphs.specs.Shapes.{Shape};
 ghost use Rattle.plane_rect.specs.Rectangle.{Includes};
+ghost use Rattle.root_tiles.specs.Chains.{chain_state};
 ghost use Rattle.buffer_view.specs.{BufferTables.AreBuffersOver, Edits.WritesRoot};
 
 use crate::buffers::Buffers;
@@ -24,8 +25,7 @@ impl Buffers {
         requires inside { IsSomeAnd (slice_get self.old.layout.roots number) (λ (entry : List ℕ × Shape). Includes entry.1.box rect) }
         requires samples { IsSomeAnd (slice_get self.old.layout.roots number) (λ (entry : List ℕ × Shape). W.fits samples.old entry.1.format rect) }
         ensures { WritesRoot number rect (λ format. W.pixels samples.old format rect) result self.old self.new
-            (record { held = C.held chain.old; counts = C.counts chain.old; loans = C.loans chain.old; valid = C.is_valid chain.old })
-            (record { held = C.held chain.new; counts = C.counts chain.new; loans = C.loans chain.new; valid = C.is_valid chain.new }) }
+            (chain_state C.ChainMeaning chain.old) (chain_state C.ChainMeaning chain.new) }
     {
         samples.write(&mut self.roots[number], chain, rect)
     }

@@ -6,6 +6,7 @@ ghost use Rattle.model_buffers.specs.{BufferEdit.IsPixel, Edits.evenly};
 ghost use Rattle.model_images.specs.FromRaw.{byte_count, pixels_from_raw};
 ghost use Rattle.pixel_formats.specs.{Row.Pixel, declared.format.Format.Format};
 ghost use Rattle.plane_rect.specs.Rectangle.{Includes, Rectangle};
+ghost use Rattle.root_tiles.specs.Chains.{chain_state};
 ghost use Rattle.root_tiles.specs.{Roots.IsRootOver, Writes.IsWritten};
 
 use chain_contracts::TileChain;
@@ -34,8 +35,7 @@ pub(crate) trait Written {
         requires inside { Includes root.old.box rect }
         requires written { fits self.old root.old.tiles.format rect }
         ensures { IsWritten rect (pixels self.old root.old.tiles.format rect) result root.old root.new
-            (record { held = C.held chain.old; counts = C.counts chain.old; loans = C.loans chain.old; valid = C.is_valid chain.old })
-            (record { held = C.held chain.new; counts = C.counts chain.new; loans = C.loans chain.new; valid = C.is_valid chain.new }) };
+            (chain_state C.ChainMeaning chain.old) (chain_state C.ChainMeaning chain.new) };
 }
 
 /// One pixel everywhere: a sample for each channel.

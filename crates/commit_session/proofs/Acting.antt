@@ -5,7 +5,7 @@ use Rattle.std.specs.Result.{OnErr, OnOk, result_unwrap_or}
 use Rattle.std.proofs.lemmas.Bool.{eq-eqb}
 use Rattle.std.proofs.lemmas.Bool.Decides.{nat_tests}
 use Rattle.chain_owners.specs.Held.{Held}
-use Rattle.root_tiles.specs.Chains.{ChainState}
+use Rattle.root_tiles.specs.Chains.{ChainState, Leaves}
 use Rattle.model_graphs.specs.declared.node.NodeEdit.{NodeEdit}
 use Rattle.model_buffers.specs.declared.edit.BufferEdit.{BufferEdit}
 use Rattle.model_buffers.specs.BufferEdit.{edit_refused}
@@ -22,7 +22,6 @@ use Rattle.model_sessions.specs.Steps.{Commit, EditBuffer, HistoryEdit, after_st
 use Rattle.model_sessions.specs.Tables.{table_shapes}
 use Rattle.model_states.specs.declared.direction.Direction.{Direction}
 use Rattle.model_states.specs.declared.direction.Direction.TheVariants.{Redo, Undo}
-use Rattle.session_states.specs.OverChains.{Leaves}
 use Rattle.commit_session.specs.Parts.{Parts, session_names}
 use Rattle.commit_session.specs.Seen.{IsSessionOf}
 use Rattle.commit_session.specs.Steps.{HasSameStates, IsEditedBy, LeadsTo, history_step, step_action}
@@ -33,10 +32,6 @@ use Rattle.commit_session.proofs.Working.{edit-number}
 pub on-ok : {T E : Type 0} (r : Result T E) (P Q : Type 0) → (P → Q) → OnOk r P → OnOk r Q
 on-ok (Ok x) P Q to p = to p
 on-ok (Err e) P Q to p = tt
-
-pub on-both : {T E : Type 0} (r : Result T E) (P Q R : Type 0) → (P → Q → R) → OnOk r P → OnOk r Q → OnOk r R
-on-both (Ok x) P Q R to p q = to p q
-on-both (Err e) P Q R to p q = tt
 
 pub on-error : {T E : Type 0} (r : Result T E) (P Q : Type 0) → (P → Q) → OnErr r P → OnErr r Q
 on-error (Ok x) P Q to p = tt

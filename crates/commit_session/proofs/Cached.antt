@@ -3,11 +3,10 @@ use Rattle.std.proofs.Common.{◌≡◌, ℕ, List, ◌++◌, arith}
 use Rattle.std.specs.Map.{values_of}
 use Rattle.chain_owners.specs.Owners.{Owns}
 use Rattle.chain_owners.proofs.Ownership.{alone-stays, others-own, others-unchanged, owns-fewer, times-append}
-use Rattle.root_tiles.specs.Chains.{ChainState}
+use Rattle.root_tiles.specs.Chains.{ChainState, Leaves}
 use Rattle.node_cache.specs.NodeLaws.{node_framed, node_framed_condition, node_framed_sizes}
 use Rattle.node_cache.specs.NodeNames.{Entries, IsNodeCache, cached_in, sizes_in}
 use Rattle.node_cache.specs.Stores.{HaveOneOwner}
-use Rattle.session_states.specs.OverChains.{Leaves}
 use Rattle.session_states.proofs.Names.{leaves-beside}
 
 module _ (added : ℕ) (before after : List ℕ) (s0 s1 : ChainState) (leaves : Leaves added before after s0 s1) (es : Entries)

@@ -1,13 +1,12 @@
 -- Sessions of which the buffers that are edited were handed to a call.
-use Rattle.std.proofs.Common.{◌≡◌, ℕ, Bool, List, [], ◌∷◌, ◌++◌, refl, sym, ap, subst, ◌∙◌, Option, Some, None, Result, Ok, Err, arith}
-use Rattle.std.specs.Result.{OnErr}
+use Rattle.std.proofs.Common.{◌≡◌, ℕ, Bool, List, [], ◌∷◌, ◌++◌, refl, sym, ap, subst, ◌∙◌, Option, Some, None, arith}
 use Rattle.std.specs.Map.{values_of}
 use Rattle.std.specs.Prelude.{IfSome}
 use Rattle.std.specs.Option.{option_map}
 use Rattle.chain_owners.specs.Held.{Held}
 use Rattle.chain_owners.specs.Owners.{Owns}
 use Rattle.chain_owners.proofs.Ownership.{owns-fewer, respects-same, times-append}
-use Rattle.root_tiles.specs.Chains.{ChainState}
+use Rattle.root_tiles.specs.Chains.{ChainState, Leaves}
 use Rattle.chain_owners.proofs.Growing.{grows-same}
 use Rattle.model_buffers.specs.declared.edit.BufferEdit.{BufferEdit}
 use Rattle.model_buffers.specs.BufferEdit.{IsProperEdit, edit_refused, layout_with, written_by}
@@ -23,13 +22,13 @@ use Rattle.model_sessions.specs.Sessions.{IsSession, Session}
 use Rattle.model_sessions.specs.Steps.{EditBuffer, EditNode, after_step}
 use Rattle.node_cache.specs.NodeNames.{IsNodeCache, cached_in}
 use Rattle.buffer_view.specs.BufferTables.{BufferTable, empty_table, table_of}
-use Rattle.session_states.specs.OverChains.{AreShownAgain, AreVersionsOver, IsEdited, Leaves, tables_of, versions_names}
+use Rattle.session_states.specs.OverChains.{AreVersionsOver, tables_of, versions_names}
 use Rattle.session_states.specs.Versions.{Versions, new_versions}
 use Rattle.commit_session.specs.Parts.{Parts, new_parts, session_names}
 use Rattle.commit_session.specs.Seen.{IsOver, IsSessionOf}
 use Rattle.commit_session.specs.Steps.{after_writing}
 use Rattle.commit_session.proofs.Cached.{alone-again, cache-again, cached-again, session-left, session-owned, sizes-again}
-use Rattle.commit_session.proofs.Working.{edit-number, session-edited, session-pending, session-shown, valid-edited, with_edited}
+use Rattle.commit_session.proofs.Working.{AreShownAgain, IsEdited, edit-number, session-edited, session-pending, session-shown, valid-edited, with_edited}
 use Rattle.model_sessions.proofs.Actions.{first_session}
 use Rattle.model_sessions.specs.Sessions.{new_session}
 
@@ -195,7 +194,3 @@ recorded-is edit before after shown old new written recorded made same is =
     ∙ ap (after_writing written) (written-still before.layout edit)
 
 -- ---- answers by their cases
-
-pub on-err : {T E : Type 0} (r : Result T E) (P : Type 0) → P → OnErr r P
-on-err (Ok x) P p = tt
-on-err (Err e) P p = p

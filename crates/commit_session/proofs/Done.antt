@@ -19,7 +19,7 @@ use Rattle.model_sessions.specs.Sessions.{IsSession, Session, with_state}
 use Rattle.model_sessions.specs.Steps.{Commit, HistoryEdit, IsProper, after_step}
 use Rattle.model_sessions.specs.Tables.{table_shapes}
 use Rattle.chain_owners.specs.Owners.{Owns}
-use Rattle.root_tiles.specs.Chains.{ChainState}
+use Rattle.root_tiles.specs.Chains.{ChainState, Leaves}
 use Rattle.node_cache.specs.NodeNames.{IsNodeCache, cached_in, sizes_in}
 use Rattle.node_cache.specs.Stores.{AddsNoOther, HaveOneOwner, by_sized}
 use Rattle.model_states.specs.declared.direction.Direction.{Direction}
@@ -27,7 +27,7 @@ use Rattle.model_states.specs.declared.direction.Direction.TheVariants.{Undo, Re
 use Rattle.model_states.specs.Directions.{stepped}
 use Rattle.graph_commits.specs.Graphs.{AreDamagesOf}
 use Rattle.buffer_view.specs.BufferTables.{BufferTable}
-use Rattle.session_states.specs.OverChains.{AreAllOver, IsReleased, IsShared, Leaves, versions_names}
+use Rattle.session_states.specs.OverChains.{AreAllOver, IsReleased, IsShared, versions_names}
 use Rattle.session_states.specs.Versions.{Versions, after_commit, all_versions, versions_after, versions_ahead}
 use Rattle.session_states.proofs.Returned.{first-is}
 use Rattle.commit_session.specs.Parts.{Parts, cached_pairs, session_names, working_facts}

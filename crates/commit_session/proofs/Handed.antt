@@ -1,13 +1,12 @@
 -- Renders of sessions, by what the lower call is handed and answers.
 use Rattle.std.proofs.Common.{◌≡◌, ℕ, ◌+◌, ◌-◌, Bool, true, false, cond, List, length, ◌++◌, Option, None, Some, Result, Ok, Err, refl, sym, ap, ◌∙◌, subst, arith}
-use Rattle.std.specs.Prelude.{◌&&◌, IfErr, IsSome, is_none, min}
+use Rattle.std.specs.Prelude.{◌&&◌, IsSome, is_none, min}
 use Rattle.std.specs.Map.{values_of}
-use Rattle.std.specs.Result.{IsErrAnd}
 use Rattle.std.proofs.lemmas.Option.{same_Some}
 use Rattle.chain_owners.specs.Counts.{Grows}
 use Rattle.chain_owners.specs.Owners.{Owns, Respects}
 use Rattle.chain_owners.proofs.Ownership.{owns-fewer, times-append}
-use Rattle.root_tiles.specs.Chains.{ChainState}
+use Rattle.root_tiles.specs.Chains.{ChainState, Leaves}
 use Rattle.model_buffers.specs.Counts.{names_after_render}
 use Rattle.model_buffers.specs.Layout.{facts_of}
 use Rattle.model_buffers.specs.Table.{Table}
@@ -37,7 +36,7 @@ use Rattle.render_workers.specs.Requests.{Request, level_requested, pairs_reques
 use Rattle.strip_patches.specs.Shown.{Shows}
 use Rattle.strip_patches.specs.declared.picture.Picture.{Picture}
 use Rattle.buffer_view.specs.BufferTables.{AreBuffersOver, BufferTable, buffer_images, buffers_names}
-use Rattle.session_states.specs.OverChains.{Leaves, names_of_all, versions_names}
+use Rattle.session_states.specs.OverChains.{names_of_all, versions_names}
 use Rattle.session_states.proofs.Names.{leaves-beside}
 use Rattle.commit_session.specs.Parts.{Parts, session_names}
 use Rattle.commit_session.specs.Refusals.{by_render}
@@ -54,16 +53,6 @@ holds-unless false never = absurd (never refl)
 pub some-unless : {X : Type 0} (o : Option X) → (o ≡ None → ⊥) → IsSome o
 some-unless None never = absurd (never refl)
 some-unless (Some x) never = refl
-
--- what holds of a refusal holds of the one that it is handed on as
-pub handed-on : {T E : Type 0} (r : Result T E) (e : E) (P : E → Type 0) → IsErrAnd r (λ handed. handed ≡ e) → P e → IfErr r P
-handed-on (Ok x) e P is holds = tt
-handed-on (Err f) e P is holds = subst P (sym is) holds
-
--- a refusal that is handed on is this one
-pub err-as : {T E : Type 0} (r : Result T E) (e f : E) → IsErrAnd r (λ handed. handed ≡ e) → e ≡ f → r ≡ Err f
-err-as (Ok x) e f is same = absurd is
-err-as (Err y) e f is same = ap Err (is ∙ same)
 
 -- one answer is not two
 pub err-same : {T E : Type 0} (r : Result T E) (x y : E) → r ≡ Err x → r ≡ Err y → x ≡ y

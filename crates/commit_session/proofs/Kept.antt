@@ -7,12 +7,12 @@ use Rattle.model_graphs.specs.Meanings.{Meanings}
 use Rattle.model_states.specs.Commits.{Graph}
 use Rattle.model_states.specs.declared.refused.StateRefused.{StateRefused}
 use Rattle.model_sessions.specs.Sessions.{Session}
-use Rattle.root_tiles.specs.Chains.{ChainState}
+use Rattle.root_tiles.specs.Chains.{ChainState, Leaves}
 use Rattle.graph_edits.specs.declared.refused.GraphRefused.{GraphRefused}
 use Rattle.graph_edits.specs.declared.refused.GraphRefused.TheVariants as graphs
 use Rattle.graph_edits.specs.Refusals.{IsRefusalOf}
 use Rattle.buffer_view.specs.BufferTables.{BufferTable, buffers_names, table_of}
-use Rattle.session_states.specs.OverChains.{AreShownAgain, AreVersionsOver, IsReleased, IsShared, Leaves, tables_of, versions_names}
+use Rattle.session_states.specs.OverChains.{AreVersionsOver, IsReleased, IsShared, tables_of, versions_names}
 use Rattle.session_states.specs.Versions.{Versions}
 use Rattle.session_states.proofs.Names.{leaves-both}
 use Rattle.session_states.proofs.Released.{one-released}
@@ -21,6 +21,7 @@ use Rattle.commit_session.specs.Parts.{Parts, session_names}
 use Rattle.commit_session.specs.Refusals.{IsRefusedAs, by_graph}
 use Rattle.commit_session.specs.Seen.{IsOver, IsSessionOf}
 use Rattle.commit_session.proofs.Changed.{final-left, over-shown, shown-again}
+use Rattle.commit_session.proofs.Working.{AreShownAgain}
 
 -- ---- buffers that were shared for a step, and released again
 
@@ -47,14 +48,9 @@ module _ {Op : Type 0} (same : Op → Op → Bool) (meanings : Meanings Op) wher
     pub over-here : (held : Held) → IsOver same meanings now held → IsOver same meanings v held
     over-here held requires = subst (λ (p : Parts Op). IsOver same meanings p held) (sym is) requires
 
-    -- what is kept with other versions is kept in a session that is this one
-    pub reversioned : (added : ℕ) (versions : Versions BufferTable) (s0 s1 : ChainState) → IsKept added now (record now { versions = versions }) s0 s1
-        → IsKept added now (record v { versions = versions }) s0 s1
-    reversioned added versions s0 s1 kept = subst (λ (p : Parts Op). IsKept added now (record p { versions = versions }) s0 s1) (sym is) kept
-
     module _ (s0 s1 : ChainState) (requires : IsOver same meanings now s0.held) where
       -- the buffers show what they showed
-      read-parts : (added : ℕ) (edited : Versions BufferTable) → edited ≡ record v.versions { working = edited.working }
+      pub read-parts : (added : ℕ) (edited : Versions BufferTable) → edited ≡ record v.versions { working = edited.working }
           → Leaves added (versions_names v.versions) (versions_names edited) s0 s1 → edited.working.layout ≡ v.versions.working.layout
           → tables_of edited s1.held ≡ tables_of v.versions s0.held → AreVersionsOver edited s1.held → IsKept added now (record v { versions = edited }) s0 s1
       read-parts added edited states leaves layout shown versions =
@@ -67,13 +63,6 @@ module _ {Op : Type 0} (same : Op → Op → Bool) (meanings : Meanings Op) wher
             over = over-shown same meanings v now is s0 s1 requires added edited states leaves tables versions again;
             left = final-left same meanings v now is s0 s1 requires added edited states leaves tables versions v.written;
           }
-
-      -- buffers were read
-      pub read : (added : Parts Op → ℕ) (edited : Versions BufferTable) → edited ≡ record v.versions { working = edited.working }
-          → Leaves (added v) (versions_names v.versions) (versions_names edited) s0 s1 → edited.working.layout ≡ v.versions.working.layout
-          → tables_of edited s1.held ≡ tables_of v.versions s0.held → AreVersionsOver edited s1.held → IsKept (added now) now (record now { versions = edited }) s0 s1
-      read added edited states leaves layout tables versions =
-          subst (λ (p : Parts Op). IsKept (added p) now (record p { versions = edited }) s0 s1) is (read-parts (added v) edited states leaves layout tables versions)
 
       -- they couldn't be shared
       pub kept : IsShared v.versions [] s0 s1 → IsKept 0 now now s0 s1

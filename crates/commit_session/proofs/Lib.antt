@@ -17,7 +17,8 @@ pub mod Led
 pub mod CommitStep
 pub mod Through
 pub mod Kept
+pub mod Passed
+pub mod Grabbed
 pub mod Edited
 pub mod Done
 pub mod Nothing
-pub mod Chain

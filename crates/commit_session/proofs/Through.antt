@@ -3,11 +3,11 @@ use Rattle.std.proofs.Common.{◌≡◌, ℕ, List, ◌++◌, arith}
 use Rattle.std.specs.Map.{values_of}
 use Rattle.chain_owners.specs.Owners.{Owns}
 use Rattle.chain_owners.proofs.Ownership.{others-own, owns-fewer, times-append}
-use Rattle.root_tiles.specs.Chains.{ChainState}
+use Rattle.root_tiles.specs.Chains.{ChainState, Leaves}
 use Rattle.node_cache.specs.NodeNames.{Entries, IsNodeCache, cached_in, sizes_in}
 use Rattle.node_cache.specs.Stores.{HaveOneOwner}
 use Rattle.buffer_view.specs.BufferTables.{BufferTable}
-use Rattle.session_states.specs.OverChains.{AreAllOver, AreVersionsOver, Leaves, tables_of, versions_names}
+use Rattle.session_states.specs.OverChains.{AreAllOver, AreVersionsOver, tables_of, versions_names}
 use Rattle.session_states.specs.Versions.{Versions, all_versions}
 use Rattle.session_states.proofs.Beside.{over-again, same-again}
 use Rattle.session_states.proofs.Names.{leaves-beside, leaves-both}

@@ -27,12 +27,23 @@ use Rattle.model_sessions.proofs.Actions.{action_keeps}
 use Rattle.node_cache.specs.NodeNames.{Entries, cached_in, sizes_in}
 use Rattle.model_states.specs.declared.direction.Direction.TheVariants.{Undo, Redo}
 use Rattle.buffer_view.specs.BufferTables.{BufferTable, table_of}
-use Rattle.session_states.specs.OverChains.{AreShownAgain, IsEdited, tables_of}
+use Rattle.session_states.specs.OverChains.{tables_of}
 use Rattle.session_states.specs.Versions.{Versions}
 use Rattle.commit_session.specs.Parts.{Parts}
 use Rattle.commit_session.specs.Seen.{AreCached, AreOfTable, AreRetained, IsSessionOf}
 use Rattle.commit_session.specs.Steps.{after_writing}
 use Rattle.commit_session.proofs.Held.{IsSame, ahead-again, state-again}
+
+-- An edit was carried out on buffers.
+pub record IsEdited (edit : BufferEdit) (before after : BufferTable) (old new : Held) : Type 0 where
+  pub carried_out : edit_refused before.layout edit ≡ None
+  pub layout : after.layout ≡ layout_with before.layout edit
+  pub table : table_of after new ≡ option_map (λ table. table_with table edit) (table_of before old)
+
+-- Buffers show what they showed.
+pub record AreShownAgain (before after : BufferTable) (old new : Held) : Type 0 where
+  pub layout : after.layout ≡ before.layout
+  pub table : table_of after new ≡ table_of before old
 
 -- ---- tables
 

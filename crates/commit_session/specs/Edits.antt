@@ -1,20 +1,28 @@
 -- Edits of sessions, as steps of a history.
-use Rattle.std.specs.Prelude.{◌≡◌, ℕ, None, Option}
+use Rattle.std.specs.Prelude.{◌≡◌, ◌≢◌, ℕ, ◌++◌, ◌∷◌, [], Bool, Err, IfErr, None, OnErr, OnOk, Option, Result, Some}
 use Rattle.chain_owners.specs.Counts.{Counts}
 use Rattle.model_buffers.specs.declared.edit.BufferEdit.TheVariants as buffers
 use Rattle.model_buffers.specs.declared.refused.EditRefused.{EditRefused}
 use Rattle.model_buffers.specs.BufferEdit.{edit_refused}
 use Rattle.model_buffers.specs.Counts.{tiles_added}
 use Rattle.model_buffers.specs.Layout.{TableLayout}
-use Rattle.model_sessions.specs.Steps.{Commit, EditBuffer, EditNode, HistoryEdit, Redo, Undo}
+use Rattle.model_buffers.specs.Table.{Table}
+use Rattle.model_graphs.specs.Meanings.{Meanings}
+use Rattle.model_sessions.specs.Sessions.{Make, Session, after_action}
+use Rattle.model_sessions.specs.Steps.{Commit, EditBuffer, EditNode, HistoryEdit, Redo, Undo, after_step}
+use Rattle.root_tiles.specs.Chains.{ChainState, Leaves}
 use Rattle.buffer_view.specs.Causes.{HasEditCause}
+use Rattle.buffer_view.specs.declared.refused.BufferRefused.TheVariants as buffer_refusals
 use Rattle.commit_session.specs.declared.edit.Edit.{Edit}
 use Rattle.commit_session.specs.declared.edit.Edit.TheVariants.{Copy, Create, Dup, Fill, Load, Node, Sub}
 use Rattle.commit_session.specs.declared.edit.EditPart.{EditPart}
 use Rattle.commit_session.specs.declared.edit.EditPart.TheVariants as parts
 use Rattle.commit_session.specs.declared.refused.SessionRefused.{SessionRefused}
-use Rattle.commit_session.specs.declared.refused.SessionRefused.TheVariants.{NoMemory}
+use Rattle.commit_session.specs.declared.refused.SessionRefused.TheVariants.{Buffer, NoMemory}
+use Rattle.commit_session.specs.Parts.{Parts, session_names}
 use Rattle.commit_session.specs.Refusals.{IsRefusedAs, by_buffers}
+use Rattle.commit_session.specs.Seen.{IsOver, IsSessionOf}
+use Rattle.commit_session.specs.Steps.{HasSameStates, IsEditedBy}
 
 -- the step of a history that an edit makes
 abbrev pub step_of : {Op : Type 0} → Edit Op → HistoryEdit Op
@@ -55,3 +63,40 @@ tiles_by (EditNode edit) = 0
 tiles_by Commit = 0
 tiles_by Undo = 0
 tiles_by Redo = 0
+
+-- ---- what an edit leaves
+
+-- a step of edits was made of what a session holds
+abbrev pub IsMadeBy : {Op : Type 0} → HistoryEdit Op → Parts Op → Parts Op → Type 0
+IsMadeBy (EditBuffer edit) old new = IsEditedBy edit old new
+IsMadeBy (EditNode edit) old new = new ≡ record old { pending = old.pending ++ edit ∷ [] }
+IsMadeBy Commit old new = ⊥
+IsMadeBy Undo old new = ⊥
+IsMadeBy Redo old new = ⊥
+
+-- What an edit makes of what a session holds, and of its chain: it is carried out, or the session is unchanged.
+pub record Edits {Op X : Type 0} (equal : Op → Op → Bool) (meanings : Meanings Op) (step : HistoryEdit Op) (result : Result X SessionRefused) (old new : Parts Op) (before after : ChainState) : Type 0 where
+  -- the edit was made, and what it writes was recorded
+  pub edited : OnOk result (IsMadeBy step old new)
+  -- else the layout is as before, and so are the written rectangles and the pending edits
+  pub unchanged : OnErr result (new.versions.working.layout ≡ old.versions.working.layout)
+  pub unwritten : OnErr result (new.written ≡ old.written)
+  pub pending : OnErr result (new.pending ≡ old.pending)
+  -- the states and the cached pairs are as before, whatever it answers
+  pub states : HasSameStates old new
+  -- the session of the definitions that is held makes the step
+  pub session : (held : Session Table Op) → IsSessionOf equal meanings old before.held held →
+      OnOk result (IsSessionOf equal meanings new after.held (record held { history = after_step meanings held.history step }))
+  -- which is an action of it
+  pub action : (held : Session Table Op) → IsSessionOf equal meanings old before.held held →
+      OnOk result (IsSessionOf equal meanings new after.held (after_action equal meanings old.capacity held (Make step)))
+  -- or it is unchanged
+  pub same : (held : Session Table Op) → IsSessionOf equal meanings old before.held held → OnErr result (IsSessionOf equal meanings new after.held held)
+  -- what the layout refuses is refused by this cause, or since memory ran out
+  pub exact : (cause : EditRefused) → step_refused old.versions.working.layout step ≡ Some cause → result ≢ Err NoMemory →
+      result ≡ Err (Buffer (buffer_refusals.Edit cause))
+  -- it is refused by the layout, by the swap, or where memory runs out
+  pub cause : IfErr result (HasStepCause old.versions.working.layout step before.counts after.counts)
+  -- the session is over its chain, which has at most a name more for each tile that the edit adds
+  pub over : IsOver equal meanings new after.held
+  pub left : Leaves (tiles_by step) (session_names old) (session_names new) before after

@@ -1,7 +1,9 @@
 pub mod Parts
 pub mod Seen
 pub mod Steps
-pub mod HistorySteps
+pub mod Commits
 pub mod Refusals
 pub mod Rendering
 pub mod Edits
+pub mod Grabs
+pub mod Renders

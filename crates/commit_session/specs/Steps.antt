@@ -67,6 +67,7 @@ pub record IsEditedBy {Op : Type 0} (edit : BufferEdit) (old new : Parts Op) : T
   pub carried_out : edit_refused old.versions.working.layout edit ≡ None
   pub layout : new.versions.working.layout ≡ layout_with old.versions.working.layout edit
   pub written : new.written ≡ after_writing old.written (written_by old.versions.working.layout edit)
+  pub pending : new.pending ≡ old.pending
 
 -- All of it but the buffers that are edited is as before.
 pub record HasSameStates {Op : Type 0} (old new : Parts Op) : Type 0 where

@@ -1,24 +1,17 @@
 //! Edits and reads of what is edited.
 
-ghost use Rattle.std.specs.Prelude.{◌≡◌, ◌≢◌, ◌≤◌, ◌++◌, ◌∷◌, [], Err, IfErr, IfOk, List, None, OnErr, OnOk, Option, Some};
+ghost use Rattle.std.specs.Prelude.{◌≡◌, ◌≤◌, ◌++◌, ◌∷◌, [], IfErr, OnErr, OnOk};
 ghost use Rattle.chain_owners.specs.Held.{Held};
 ghost use Rattle.pixel_formats.specs.Limits.{max_level};
-ghost use Rattle.model_buffers.specs.BufferEdit.{IsProperEdit, edit_refused};
-ghost use Rattle.model_buffers.specs.{Counts.tiles_added, Layout.find, Table.Table, declared.refused.EditRefused.EditRefused as Cause};
-ghost use Rattle.model_buffers.specs.declared.refused.EditRefused.TheVariants.{UnknownBuffer};
-ghost use Rattle.model_images.specs.TileCounts.{level_tiles};
+ghost use Rattle.model_buffers.specs.BufferEdit.{IsProperEdit};
+ghost use Rattle.model_buffers.specs.{Table.Table};
 ghost use Rattle.model_sessions.specs.Steps.{EditBuffer, EditNode, after_step};
 ghost use Rattle.model_sessions.specs.Sessions.{Session};
 ghost use Rattle.plane_rect.specs.Rectangle.{InLimits};
-ghost use Rattle.root_tiles.specs.Roots.{HasShape};
-ghost use Rattle.buffer_view.specs.Reads.{HasReadCause, IsReadOfBuffer, box_of_root, part_of_buffer};
-ghost use Rattle.buffer_view.specs.{BufferTables.table_of, Causes.HasEditCause, declared.refused.BufferRefused.TheVariants.Edit};
-ghost use Rattle.session_states.specs.OverChains.{Leaves};
-ghost use Rattle.commit_session.specs.Refusals.{IsRefusedAs, by_buffers};
+ghost use Rattle.root_tiles.specs.Chains.{chain_state};
+ghost use Rattle.commit_session.specs.{Edits.Edits, Grabs.Grabs};
 ghost use Rattle.commit_session.specs.Seen.{IsOver, IsSessionOf};
-ghost use Rattle.commit_session.specs.Steps.{HasSameStates, IsEditedBy};
-ghost use Rattle.commit_session.specs.declared.refused.SessionRefused.TheVariants.{Buffer, NoMemory};
-ghost use Rattle.commit_session.specs.Parts.{session_names};
+ghost use Rattle.commit_session.specs.declared.refused.SessionRefused.TheVariants.{NoMemory};
 
 use crate::refused::SessionRefused;
 use crate::state::SessionState;
@@ -47,24 +40,8 @@ impl<Op: OpMeaning + Drop> SessionState<Op> {
     ) -> Result<(), SessionRefused>
         requires over { IsOver Op.same Op.meanings self.old (C.held chain.old) }
         requires proper { IsProperEdit edit.now }
-        ensures edited { OnOk result (IsEditedBy edit.now self.old self.new) }
-        ensures unchanged { OnErr result (self.new.versions.working.layout ≡ self.old.versions.working.layout) }
-        ensures unwritten { OnErr result (self.new.written ≡ self.old.written) }
-        ensures states { HasSameStates self.old self.new }
-        ensures pending { self.new.pending ≡ self.old.pending }
-        ensures session { (session : Session Table Op) → IsSessionOf Op.same Op.meanings self.old (C.held chain.old) session →
-            OnOk result (IsSessionOf Op.same Op.meanings self.new (C.held chain.new)
-            (record session { history = after_step Op.meanings session.history (EditBuffer edit.now) })) }
-        ensures same { (session : Session Table Op) → IsSessionOf Op.same Op.meanings self.old (C.held chain.old) session →
-            OnErr result (IsSessionOf Op.same Op.meanings self.new (C.held chain.new) session) }
-        ensures exact { (cause : Cause) → edit_refused self.old.versions.working.layout edit.now ≡ Some cause →
-            result ≢ Err NoMemory → result ≡ Err (Buffer (Edit cause)) }
-        ensures cause { IfErr result (IsRefusedAs by_buffers
-            (HasEditCause self.old.versions.working.layout edit.now (C.counts chain.old) (C.counts chain.new))) }
-        ensures over { IsOver Op.same Op.meanings self.new (C.held chain.new) }
-        ensures left { Leaves (tiles_added edit.now) (session_names self.old) (session_names self.new)
-            (record { held = C.held chain.old; counts = C.counts chain.old; loans = C.loans chain.old; valid = C.is_valid chain.old })
-            (record { held = C.held chain.new; counts = C.counts chain.new; loans = C.loans chain.new; valid = C.is_valid chain.new }) }
+        ensures { Edits Op.same Op.meanings (EditBuffer edit.now) result self.old self.new
+            (chain_state C.ChainMeaning chain.old) (chain_state C.ChainMeaning chain.new) }
     {
         self.written.reserve(1)?;
         self.versions.edit(chain, edit, workers)?;
@@ -109,24 +86,8 @@ impl<Op: OpMeaning + Drop> SessionState<Op> {
         requires over { IsOver Op.same Op.meanings self.old (C.held chain.old) }
         requires level { level ≤ max_level }
         requires limits { InLimits rect }
-        ensures shape { IfOk result (HasShape (part_of_buffer self.old.versions.working.layout name rect)) }
-        ensures image { IfOk result
-            (IsReadOfBuffer (table_of self.old.versions.working (C.held chain.old)) name level abyss rect) }
-        ensures unknown { find self.old.versions.working.layout.buffers name ≡ None →
-            result ≡ Err (Buffer (Edit UnknownBuffer)) }
-        ensures cause { IfErr result (IsRefusedAs by_buffers
-            (HasReadCause self.old.versions.working.layout name level (C.counts chain.old) (C.counts chain.new))) }
-        ensures layout { self.new.versions.working.layout ≡ self.old.versions.working.layout }
-        ensures states { HasSameStates self.old self.new }
-        ensures pending { self.new.pending ≡ self.old.pending }
-        ensures written { self.new.written ≡ self.old.written }
-        ensures same { (session : Session Table Op) → IsSessionOf Op.same Op.meanings self.old (C.held chain.old) session →
-            IsSessionOf Op.same Op.meanings self.new (C.held chain.new) session }
-        ensures over { IsOver Op.same Op.meanings self.new (C.held chain.new) }
-        ensures left { Leaves (level_tiles (box_of_root self.old.versions.working.layout name) level)
-            (session_names self.old) (session_names self.new)
-            (record { held = C.held chain.old; counts = C.counts chain.old; loans = C.loans chain.old; valid = C.is_valid chain.old })
-            (record { held = C.held chain.new; counts = C.counts chain.new; loans = C.loans chain.new; valid = C.is_valid chain.new }) }
+        ensures { Grabs Op.same Op.meanings name level abyss rect result self.old self.new
+            (chain_state C.ChainMeaning chain.old) (chain_state C.ChainMeaning chain.new) }
     {
         Ok(self.versions.get(chain, name, level, abyss, rect)?)
     }

@@ -37,6 +37,8 @@ impl<'s, K: OpKit + Drop, D: SwapDisk> OwnedSession<K, OwnedTiles<Lent<'s, D>>> 
     /// Returns a session without buffers and nodes, whose tiles take at most `blocks` blocks of a disk, or all where
     /// it has fewer, of which at most `resident` are in memory, which caches at most `cache` tiles of nodes,
     /// and whose work is split into at most `workers` pieces.
+    /// It takes all its memory first, and lends the disk then. A caller that must still know the disk where memory runs
+    /// out makes the state and a `ChainMemory` first, and then the session by [`OwnedSession::over`].
     ///
     /// # Errors
     ///
@@ -77,8 +79,10 @@ impl<'s, K: OpKit + Drop, D: SwapDisk> OwnedSession<K, OwnedTiles<Lent<'s, D>>> 
 }
 
 impl<K: OpKit + Drop, D: SwapDisk + Drop> OwnedSession<K, OwnedTiles<D>> {
-    /// Gives the disk back, as the last call left it. All else is lost. Takes no memory.
+    /// Gives the disk back, as the last call left it: with its content and its count of I/O errors. All else is
+    /// lost. Takes no memory.
     pub fn end(self) -> D
+        ensures disk { result ≡ self.chain.tiles.below.below.store.disk }
         ensures faults { D.faults result ≡ (⟦<OwnedTiles<D> as ChainMeaning>⟧.counts self.chain).faults }
         ensures loans { D.loans result ≡ ⟦<OwnedTiles<D> as ChainMeaning>⟧.loans self.chain }
     {
@@ -93,6 +97,22 @@ impl<K: OpKit + Drop, D: SwapDisk + Drop> OwnedSession<K, OwnedTiles<D>> {
 }
 
 impl<K: OpKit, C: TileChain> OwnedSession<K, C> {
+    /// Returns a session that holds what a state holds of a chain, which the session owns from then on, and whose work
+    /// is split into at most `workers` pieces. A new state is over each chain. Takes no memory: whoever makes the
+    /// state, and then the chain's memory, lends or gives a disk only once all memory is there.
+    pub fn over(kit: K, chain: C, state: SessionState<K::Op>, workers: u32) -> OwnedSession<K, C>
+        requires { IsOver K.Op.same K.Op.meanings state (C.held chain) }
+        ensures state { result.state ≡ state }
+        ensures chain { result.chain ≡ chain }
+    {
+        OwnedSession {
+            kit,
+            chain,
+            state,
+            workers,
+        }
+    }
+
     /// Returns what is known of a buffer that is edited; None exactly where none has the name. Its cost is
     /// proportional to the number of buffers.
     pub fn extent(&self, name: Name) -> Option<BufferFact>

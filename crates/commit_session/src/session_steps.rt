@@ -1,18 +1,8 @@
 //! Commits, undos and redos of a session.
 
-ghost use Rattle.std.specs.Prelude.{◌≡◌, IfErr, IfOk, OnErr, OnOk};
-ghost use Rattle.std.specs.Map.{values_of};
-ghost use Rattle.model_buffers.specs.Table.{Table};
-ghost use Rattle.model_sessions.specs.Sessions.{Make, Session as SessionOf, after_action};
-ghost use Rattle.model_sessions.specs.{Steps.Commit, Tables.table_shapes};
-ghost use Rattle.model_states.specs.{Commits.committed as commit_of, History.committed as committed_history};
-ghost use Rattle.node_cache.specs.Stores.{AddsNoOther};
-ghost use Rattle.graph_edits.specs.Refusals.{IsRefusalOf};
-ghost use Rattle.session_states.specs.OverChains.{Leaves};
-ghost use Rattle.commit_session.specs.Parts.{session_names, working_facts};
-ghost use Rattle.commit_session.specs.Refusals.{IsRefusedAs, by_graph};
-ghost use Rattle.commit_session.specs.Seen.{IsOver, IsSessionOf};
-ghost use Rattle.commit_session.specs.{HistorySteps.MakesStep, Steps.IsCommitted};
+ghost use Rattle.root_tiles.specs.Chains.{chain_state};
+ghost use Rattle.commit_session.specs.Commits.{Commits, commit_step, step_in};
+ghost use Rattle.commit_session.specs.Seen.{IsOver};
 ghost use Rattle.model_states.specs.declared.direction.Direction.TheVariants.{Redo, Undo};
 
 use crate::refused::SessionRefused;
@@ -34,23 +24,8 @@ impl<K: OpKit, C: TileChain> OwnedSession<K, C> {
     /// are still pending.
     pub fn commit(&mut self) -> Result<u64, SessionRefused>
         requires { IsOver K.Op.same K.Op.meanings self.old.state (C.held self.old.chain) }
-        ensures session { (session : SessionOf Table K.Op) → IsSessionOf K.Op.same K.Op.meanings self.old.state (C.held self.old.chain) session →
-            OnOk result (IsSessionOf K.Op.same K.Op.meanings self.new.state (C.held self.new.chain)
-            (after_action K.Op.same K.Op.meanings self.old.state.capacity session (Make Commit))) }
-        ensures same { (session : SessionOf Table K.Op) → IsSessionOf K.Op.same K.Op.meanings self.old.state (C.held self.old.chain) session →
-            OnErr result (IsSessionOf K.Op.same K.Op.meanings self.new.state (C.held self.new.chain) session) }
-        ensures committed { OnOk result (IsCommitted K.Op.same K.Op.meanings self.old.state self.new.state) }
-        ensures number { IfOk result (λ number. number ≡ self.new.state.graph.number) }
-        ensures unchanged { OnErr result (self.new.state ≡ self.old.state) }
-        ensures refused { IfErr result (IsRefusedAs by_graph (IsRefusalOf (commit_of K.Op.same K.Op.meanings
-            self.old.state.graph self.old.state.pending (working_facts self.old.state) self.old.state.written))) }
-        ensures refused_session { (session : SessionOf Table K.Op) → IsSessionOf K.Op.same K.Op.meanings self.old.state (C.held self.old.chain) session →
-            IfErr result (IsRefusedAs by_graph (IsRefusalOf (committed_history K.Op.meanings table_shapes session.history))) }
-        ensures over { IsOver K.Op.same K.Op.meanings self.new.state (C.held self.new.chain) }
-        ensures other_names { AddsNoOther (C.counts self.old.chain) (C.counts self.new.chain) (values_of self.old.state.entries) (values_of self.new.state.entries) }
-        ensures left { Leaves 0 (session_names self.old.state) (session_names self.new.state)
-            (record { held = C.held self.old.chain; counts = C.counts self.old.chain; loans = C.loans self.old.chain; valid = C.is_valid self.old.chain })
-            (record { held = C.held self.new.chain; counts = C.counts self.new.chain; loans = C.loans self.new.chain; valid = C.is_valid self.new.chain }) }
+        ensures { Commits K.Op.same K.Op.meanings (commit_step K.Op.same K.Op.meanings) result self.old.state self.new.state
+            (chain_state C.ChainMeaning self.old.chain) (chain_state C.ChainMeaning self.new.chain) }
     {
         self.state.commit(&self.kit, &mut self.chain)
     }
@@ -66,9 +41,8 @@ impl<K: OpKit, C: TileChain> OwnedSession<K, C> {
     /// is unchanged.
     pub fn undo(&mut self) -> Result<u64, SessionRefused>
         requires { IsOver K.Op.same K.Op.meanings self.old.state (C.held self.old.chain) }
-        ensures { MakesStep Undo K.Op.same K.Op.meanings result self.old.state self.new.state
-            (record { held = C.held self.old.chain; counts = C.counts self.old.chain; loans = C.loans self.old.chain; valid = C.is_valid self.old.chain })
-            (record { held = C.held self.new.chain; counts = C.counts self.new.chain; loans = C.loans self.new.chain; valid = C.is_valid self.new.chain }) }
+        ensures { Commits K.Op.same K.Op.meanings (step_in Undo) result self.old.state self.new.state
+            (chain_state C.ChainMeaning self.old.chain) (chain_state C.ChainMeaning self.new.chain) }
     {
         self.step(Direction::Undo)
     }
@@ -81,9 +55,8 @@ impl<K: OpKit, C: TileChain> OwnedSession<K, C> {
     /// is unchanged.
     pub fn redo(&mut self) -> Result<u64, SessionRefused>
         requires { IsOver K.Op.same K.Op.meanings self.old.state (C.held self.old.chain) }
-        ensures { MakesStep Redo K.Op.same K.Op.meanings result self.old.state self.new.state
-            (record { held = C.held self.old.chain; counts = C.counts self.old.chain; loans = C.loans self.old.chain; valid = C.is_valid self.old.chain })
-            (record { held = C.held self.new.chain; counts = C.counts self.new.chain; loans = C.loans self.new.chain; valid = C.is_valid self.new.chain }) }
+        ensures { Commits K.Op.same K.Op.meanings (step_in Redo) result self.old.state self.new.state
+            (chain_state C.ChainMeaning self.old.chain) (chain_state C.ChainMeaning self.new.chain) }
     {
         self.step(Direction::Redo)
     }
@@ -96,9 +69,8 @@ impl<K: OpKit, C: TileChain> OwnedSession<K, C> {
     /// out. The session is unchanged.
     fn step(&mut self, direction: Direction) -> Result<u64, SessionRefused>
         requires { IsOver K.Op.same K.Op.meanings self.old.state (C.held self.old.chain) }
-        ensures { MakesStep direction K.Op.same K.Op.meanings result self.old.state self.new.state
-            (record { held = C.held self.old.chain; counts = C.counts self.old.chain; loans = C.loans self.old.chain; valid = C.is_valid self.old.chain })
-            (record { held = C.held self.new.chain; counts = C.counts self.new.chain; loans = C.loans self.new.chain; valid = C.is_valid self.new.chain }) }
+        ensures { Commits K.Op.same K.Op.meanings (step_in direction) result self.old.state self.new.state
+            (chain_state C.ChainMeaning self.old.chain) (chain_state C.ChainMeaning self.new.chain) }
     {
         self.state.step(&mut self.chain, direction)
     }

@@ -1,22 +1,18 @@
 //! Commits, undos and redos.
 
-ghost use Rattle.std.specs.Prelude.{◌≡◌, [], IfErr, IfOk, OnErr, OnOk};
+ghost use Rattle.std.specs.Prelude.{◌≡◌, []};
 ghost use Rattle.std.specs.Map.{values_of};
 ghost use Rattle.std.specs.Option.{option_map};
-ghost use Rattle.model_buffers.specs.Table.{Table};
-ghost use Rattle.model_sessions.specs.Sessions.{Session, with_state};
-ghost use Rattle.model_sessions.specs.Tables.{table_shapes};
 ghost use Rattle.model_states.specs.Cache.{all_voided, by_pair};
-ghost use Rattle.model_states.specs.{Commits.committed as commit_of, History.committed as committed_history};
 ghost use Rattle.model_states.specs.Directions.{ahead, stepped};
 ghost use Rattle.node_cache.specs.NodeNames.{IsNodeCache, cached_in, sizes_in};
 ghost use Rattle.node_cache.specs.Stores.{AddsNoOther, HaveOneOwner, by_sized};
 ghost use Rattle.graph_edits.specs.Refusals.{IsRefusalOf};
-ghost use Rattle.session_states.specs.OverChains.{Leaves};
-ghost use Rattle.commit_session.specs.Parts.{session_names, working_facts};
+ghost use Rattle.root_tiles.specs.Chains.{Leaves, chain_state};
+ghost use Rattle.commit_session.specs.Commits.{Commits, commit_step, step_in};
 ghost use Rattle.commit_session.specs.Refusals.{IsRefusedAs, by_graph};
-ghost use Rattle.commit_session.specs.Seen.{IsOver, IsSessionOf};
-ghost use Rattle.commit_session.specs.Steps.{IsCommitted, IsSettled, IsStepped, LeadsTo, history_step};
+ghost use Rattle.commit_session.specs.Seen.{IsOver};
+ghost use Rattle.commit_session.specs.Steps.{IsSettled};
 
 use crate::refused::SessionRefused;
 use crate::state::SessionState;
@@ -44,22 +40,8 @@ impl<Op: OpMeaning + Drop> SessionState<Op> {
         chain: &mut C,
     ) -> Result<u64, SessionRefused>
         requires { IsOver Op.same Op.meanings self.old (C.held chain.old) }
-        ensures committed { OnOk result (IsCommitted Op.same Op.meanings self.old self.new) }
-        ensures number { IfOk result (λ number. number ≡ self.new.graph.number) }
-        ensures unchanged { OnErr result (self.new ≡ self.old) }
-        ensures session { (session : Session Table Op) → IsSessionOf Op.same Op.meanings self.old (C.held chain.old) session →
-            OnOk result (LeadsTo (committed_history Op.meanings table_shapes session.history)
-            (λ next. IsSessionOf Op.same Op.meanings self.new (C.held chain.new) (with_state Op.same Op.meanings session next))) }
-        ensures same { (session : Session Table Op) → IsSessionOf Op.same Op.meanings self.old (C.held chain.old) session →
-            OnErr result (IsSessionOf Op.same Op.meanings self.new (C.held chain.new) session) }
-        ensures refused { IfErr result (IsRefusedAs by_graph (IsRefusalOf (commit_of Op.same Op.meanings self.old.graph self.old.pending (working_facts self.old) self.old.written))) }
-        ensures refused_session { (session : Session Table Op) → IsSessionOf Op.same Op.meanings self.old (C.held chain.old) session →
-            IfErr result (IsRefusedAs by_graph (IsRefusalOf (committed_history Op.meanings table_shapes session.history))) }
-        ensures over { IsOver Op.same Op.meanings self.new (C.held chain.new) }
-        ensures other_names { AddsNoOther (C.counts chain.old) (C.counts chain.new) (values_of self.old.entries) (values_of self.new.entries) }
-        ensures left { Leaves 0 (session_names self.old) (session_names self.new)
-            (record { held = C.held chain.old; counts = C.counts chain.old; loans = C.loans chain.old; valid = C.is_valid chain.old })
-            (record { held = C.held chain.new; counts = C.counts chain.new; loans = C.loans chain.new; valid = C.is_valid chain.new }) }
+        ensures { Commits Op.same Op.meanings (commit_step Op.same Op.meanings) result self.old self.new
+            (chain_state C.ChainMeaning chain.old) (chain_state C.ChainMeaning chain.new) }
     {
         let shared = self.versions.share_working(chain)?;
         let facts = self.versions.working().facts();
@@ -92,22 +74,8 @@ impl<Op: OpMeaning + Drop> SessionState<Op> {
         direction: Direction,
     ) -> Result<u64, SessionRefused>
         requires { IsOver Op.same Op.meanings self.old (C.held chain.old) }
-        ensures stepped { OnOk result (IsStepped direction self.old self.new) }
-        ensures number { IfOk result (λ number. number ≡ self.new.graph.number) }
-        ensures unchanged { OnErr result (self.new ≡ self.old) }
-        ensures session { (session : Session Table Op) → IsSessionOf Op.same Op.meanings self.old (C.held chain.old) session →
-            OnOk result (LeadsTo (history_step direction session.history)
-            (λ next. IsSessionOf Op.same Op.meanings self.new (C.held chain.new) (with_state Op.same Op.meanings session next))) }
-        ensures same { (session : Session Table Op) → IsSessionOf Op.same Op.meanings self.old (C.held chain.old) session →
-            OnErr result (IsSessionOf Op.same Op.meanings self.new (C.held chain.new) session) }
-        ensures refused { IfErr result (IsRefusedAs by_graph (IsRefusalOf (stepped direction self.old.graph))) }
-        ensures refused_session { (session : Session Table Op) → IsSessionOf Op.same Op.meanings self.old (C.held chain.old) session →
-            IfErr result (IsRefusedAs by_graph (IsRefusalOf (history_step direction session.history))) }
-        ensures over { IsOver Op.same Op.meanings self.new (C.held chain.new) }
-        ensures other_names { AddsNoOther (C.counts chain.old) (C.counts chain.new) (values_of self.old.entries) (values_of self.new.entries) }
-        ensures left { Leaves 0 (session_names self.old) (session_names self.new)
-            (record { held = C.held chain.old; counts = C.counts chain.old; loans = C.loans chain.old; valid = C.is_valid chain.old })
-            (record { held = C.held chain.new; counts = C.counts chain.new; loans = C.loans chain.new; valid = C.is_valid chain.new }) }
+        ensures { Commits Op.same Op.meanings (step_in direction) result self.old self.new
+            (chain_state C.ChainMeaning chain.old) (chain_state C.ChainMeaning chain.new) }
     {
         if self.versions.count_ahead(direction) == 0 {
             return Err(refused_step(&mut self.graph, direction));
@@ -141,8 +109,7 @@ impl<Op: OpMeaning + Drop> SessionState<Op> {
         ensures alone { HaveOneOwner (C.held chain.new) (values_of self.new.entries) }
         ensures other_names { AddsNoOther (C.counts chain.old) (C.counts chain.new) (values_of self.old.entries) (values_of self.new.entries) }
         ensures left { Leaves 0 (values_of self.old.entries) (values_of self.new.entries)
-            (record { held = C.held chain.old; counts = C.counts chain.old; loans = C.loans chain.old; valid = C.is_valid chain.old })
-            (record { held = C.held chain.new; counts = C.counts chain.new; loans = C.loans chain.new; valid = C.is_valid chain.new }) }
+            (chain_state C.ChainMeaning chain.old) (chain_state C.ChainMeaning chain.new) }
     {
         void_all(&mut self.cache, chain, damage.rects.as_slice());
         self.pending.clear();

@@ -6,7 +6,7 @@ ghost use Rattle.std.specs.Option.{option_map};
 ghost use Rattle.model_states.specs.Cache.{all_voided, by_pair, itself};
 ghost use Rattle.node_cache.specs.NodeNames.{IsNodeCache, cached_in, pairs_in, sizes_in};
 ghost use Rattle.node_cache.specs.Stores.{AddsNoOther, HaveOneOwner, by_sized};
-ghost use Rattle.session_states.specs.OverChains.{Leaves};
+ghost use Rattle.root_tiles.specs.Chains.{Leaves, chain_state};
 
 use chain_contracts::TileChain;
 use node_cache::{NodeCache, PairStore};
@@ -28,8 +28,7 @@ pub(crate) fn void_all<C: TileChain>(cache: &mut NodeCache, chain: &mut C, damag
     ensures other_names { AddsNoOther (C.counts chain.old) (C.counts chain.new)
         (values_of cache.old.names.entries) (values_of cache.new.names.entries) }
     ensures left { Leaves 0 (values_of cache.old.names.entries) (values_of cache.new.names.entries)
-        (record { held = C.held chain.old; counts = C.counts chain.old; loans = C.loans chain.old; valid = C.is_valid chain.old })
-        (record { held = C.held chain.new; counts = C.counts chain.new; loans = C.loans chain.new; valid = C.is_valid chain.new }) }
+        (chain_state C.ChainMeaning chain.old) (chain_state C.ChainMeaning chain.new) }
 {
     for (node, rect) in damages {
         cache.void(chain, *node, *rect);

@@ -36,9 +36,27 @@ impl LevelTable {
         ensures valid { C.is_valid chain.old → C.is_valid chain.new }
     {
         let copy = self.copy()?;
+        self.own(chain);
+        Ok(copy)
+    }
+
+    /// Becomes an owner of each name once more, for a [`LevelTable::copy`] that holds it too. The chain's names and
+    /// bytes are unchanged. Takes one look into the chain for each tile, and no memory.
+    pub fn own<C: TileChain>(&self, chain: &mut C)
+        requires { IsOver self.now.tiles (C.held chain.old) }
+        ensures lengths { (C.held chain.new).lengths ≡ (C.held chain.old).lengths }
+        ensures content { (C.held chain.new).content ≡ (C.held chain.old).content }
+        ensures image { image_of self.now.tiles (C.held chain.new) ≡ image_of self.now.tiles (C.held chain.old) }
+        ensures over { IsOver self.now.tiles (C.held chain.new) }
+        ensures owned { Owns (C.held chain.new) (names self.now.tiles ++ names self.now.tiles) }
+        ensures others { Respects (C.held chain.old) (C.held chain.new)
+            (names self.now.tiles) (names self.now.tiles ++ names self.now.tiles) }
+        ensures counts { C.counts chain.new ≡ C.counts chain.old }
+        ensures loans { C.loans chain.new ≡ C.loans chain.old }
+        ensures valid { C.is_valid chain.old → C.is_valid chain.new }
+    {
         own_each(&self.put, chain);
         own_each(&self.levels, chain);
-        Ok(copy)
     }
 
     /// Gives the table up, and with it all its names. Takes no memory.

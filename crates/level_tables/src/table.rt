@@ -73,7 +73,7 @@ impl LevelTable {
     /// # Errors
     ///
     /// `NoMemory` if memory runs out.
-    pub(crate) fn copy(&self) -> Result<LevelTable, NoMemory>
+    pub fn copy(&self) -> Result<LevelTable, NoMemory>
         ensures { IfOk result (λ copy. copy.tiles ≡ self.now.tiles) }
     {
         Ok(LevelTable {

@@ -12,6 +12,7 @@ ghost use Rattle.plane_rect.specs.Rectangle.{Includes, Rectangle};
 ghost use Rattle.chain_owners.specs.Cause.{HasSwapCause};
 ghost use Rattle.root_tiles.specs.Made.{HasAll, Makes, MakesMore};
 ghost use Rattle.root_tiles.specs.Paints.{IsPaint, paint_pixels};
+ghost use Rattle.root_tiles.specs.Chains.{chain_state};
 ghost use Rattle.root_tiles.specs.Roots.{IsRootOver, RootTiles, root_names};
 ghost use Rattle.root_tiles.specs.Cutting.{cutting_of};
 
@@ -50,8 +51,7 @@ pub(crate) trait TileMaker {
         requires none { made.old.entries ≡ [] }
         ensures format { made.new.format ≡ root.now.tiles.format }
         ensures made { Makes root.now rect (pixels self.old root.now.tiles.format rect) (tile_count rect)
-            (record { held = C.held chain.old; counts = C.counts chain.old; loans = C.loans chain.old; valid = C.is_valid chain.old })
-            (record { held = C.held chain.new; counts = C.counts chain.new; loans = C.loans chain.new; valid = C.is_valid chain.new })
+            (chain_state C.ChainMeaning chain.old) (chain_state C.ChainMeaning chain.new)
             made.new.entries }
         ensures few { length made.new.entries ≤ tile_count rect }
         ensures all { OnOk result (HasAll rect made.new.entries) }
@@ -120,8 +120,7 @@ impl Root {
         requires owned { Owns (C.held chain.old) (root_names self.now ++ values_of made.old.entries) }
         ensures format { made.new.format ≡ self.now.tiles.format }
         ensures made { MakesMore self.now part rect (pixels_from_raw rect self.now.tiles.format bytes.now) (tile_count part)
-            (record { held = C.held chain.old; counts = C.counts chain.old; loans = C.loans chain.old; valid = C.is_valid chain.old })
-            (record { held = C.held chain.new; counts = C.counts chain.new; loans = C.loans chain.new; valid = C.is_valid chain.new })
+            (chain_state C.ChainMeaning chain.old) (chain_state C.ChainMeaning chain.new)
             made.old.entries made.new.entries }
         ensures few { length made.new.entries ≤ length made.old.entries + tile_count part }
         ensures all { OnOk result (HasAll part made.new.entries) }
@@ -164,8 +163,7 @@ impl Root {
         requires owned { Owns (C.held chain.old) (root_names self.now ++ values_of made.old.entries) }
         ensures format { made.new.format ≡ self.now.tiles.format }
         ensures made { MakesMore self.now part rect (paint_pixels self.now.tiles.format rect paint.now) (tile_count part)
-            (record { held = C.held chain.old; counts = C.counts chain.old; loans = C.loans chain.old; valid = C.is_valid chain.old })
-            (record { held = C.held chain.new; counts = C.counts chain.new; loans = C.loans chain.new; valid = C.is_valid chain.new })
+            (chain_state C.ChainMeaning chain.old) (chain_state C.ChainMeaning chain.new)
             made.old.entries made.new.entries }
         ensures few { length made.new.entries ≤ length made.old.entries + tile_count part }
         ensures all { OnOk result (HasAll part made.new.entries) }

@@ -8,6 +8,7 @@ ghost use Rattle.plane_rect.specs.Tile.{IsWhole, tile_square};
 ghost use Rattle.plane_rect.specs.Rectangle.{Includes};
 ghost use Rattle.chain_owners.specs.Cause.{HasSwapCause};
 ghost use Rattle.root_tiles.specs.Cutting.{Covers, cutting_of};
+ghost use Rattle.root_tiles.specs.Chains.{chain_state};
 ghost use Rattle.root_tiles.specs.{Chains.IsRead, Paints.IsPaint, Reads.MakesTile, Roots.IsRootOver};
 
 use crate::paint::Paint;
@@ -40,8 +41,7 @@ impl Root {
         requires ready { T.are_cut ready.old (cutting_of self.now rect paint.now) }
         ensures ready { OnOk result (T.are_cut ready.new (cutting_of self.now rect paint.now)) }
         ensures made { MakesTile self.now rect paint.now at result
-            (record { held = C.held chain.old; counts = C.counts chain.old; loans = C.loans chain.old; valid = C.is_valid chain.old })
-            (record { held = C.held chain.new; counts = C.counts chain.new; loans = C.loans chain.new; valid = C.is_valid chain.new }) }
+            (chain_state C.ChainMeaning chain.old) (chain_state C.ChainMeaning chain.new) }
     {
         if let Some(tile) = ready.take(at)? {
             return Ok(tile);
@@ -62,8 +62,7 @@ impl Root {
         requires whole { IsWhole at }
         requires paint { IsPaint self.now.tiles.format rect paint.now }
         ensures { MakesTile self.now rect paint.now at result
-            (record { held = C.held chain.old; counts = C.counts chain.old; loans = C.loans chain.old; valid = C.is_valid chain.old })
-            (record { held = C.held chain.new; counts = C.counts chain.new; loans = C.loans chain.new; valid = C.is_valid chain.new }) }
+            (chain_state C.ChainMeaning chain.old) (chain_state C.ChainMeaning chain.new) }
     {
         let covered = is_covered(at, &self.bounds(), &rect);
         let (piece, bytes) = paint.piece(self.format(), rect, rect.meet(&at.rect()));
@@ -87,8 +86,7 @@ impl Root {
         ensures zeros { covered ≡ true → IfOk result (λ bytes. bytes.items ≡ replicate (tile_length self.now.tiles.format) 0) }
         ensures cause { IfErr result (HasSwapCause (C.counts chain.old) (C.counts chain.new) (C.counts chain.old).names) }
         ensures read { IsRead
-            (record { held = C.held chain.old; counts = C.counts chain.old; loans = C.loans chain.old; valid = C.is_valid chain.old })
-            (record { held = C.held chain.new; counts = C.counts chain.new; loans = C.loans chain.new; valid = C.is_valid chain.new }) }
+            (chain_state C.ChainMeaning chain.old) (chain_state C.ChainMeaning chain.new) }
     {
         if !covered {
             if let Some(tile) = self.table.put_tile(chain, at)? {

@@ -8,6 +8,7 @@ ghost use Rattle.plane_rect.specs.Tile.{last_tile, tile_end, tile_of};
 ghost use Rattle.pixel_formats.specs.Format.{pixel_bytes};
 ghost use Rattle.patch_abyss.specs.Lines.{AreLineTiles, HasFirstPixels, HasLine};
 ghost use Rattle.chain_owners.specs.Cause.{HasSwapCause};
+ghost use Rattle.root_tiles.specs.Chains.{chain_state};
 ghost use Rattle.root_tiles.specs.Roots.{HasShape, IsRootOver, root_image, with_tile};
 ghost use Rattle.root_tiles.specs.{Chains.IsRead, Reads.ReadsPart};
 
@@ -37,8 +38,7 @@ impl Root {
         requires inside { Includes self.now.box rect }
         requires limits { InLimits rect }
         ensures { ReadsPart self.now rect result
-            (record { held = C.held chain.old; counts = C.counts chain.old; loans = C.loans chain.old; valid = C.is_valid chain.old })
-            (record { held = C.held chain.new; counts = C.counts chain.new; loans = C.loans chain.new; valid = C.is_valid chain.new }) }
+            (chain_state C.ChainMeaning chain.old) (chain_state C.ChainMeaning chain.new) }
     {
         if rect.area() * u64::from(self.format().pixel_bytes()) < LARGE_PART {
             return self.part_by_tiles(chain, rect);
@@ -52,8 +52,7 @@ impl Root {
         requires inside { Includes self.now.box rect }
         requires limits { InLimits rect }
         ensures { ReadsPart self.now rect result
-            (record { held = C.held chain.old; counts = C.counts chain.old; loans = C.loans chain.old; valid = C.is_valid chain.old })
-            (record { held = C.held chain.new; counts = C.counts chain.new; loans = C.loans chain.new; valid = C.is_valid chain.new }) }
+            (chain_state C.ChainMeaning chain.old) (chain_state C.ChainMeaning chain.new) }
     {
         let mut patch = Patch::zero(self.alloc, rect, self.format())?;
         for at in rect.tiles() {
@@ -69,8 +68,7 @@ impl Root {
         requires inside { Includes self.now.box rect }
         requires limits { InLimits rect }
         ensures { ReadsPart self.now rect result
-            (record { held = C.held chain.old; counts = C.counts chain.old; loans = C.loans chain.old; valid = C.is_valid chain.old })
-            (record { held = C.held chain.new; counts = C.counts chain.new; loans = C.loans chain.new; valid = C.is_valid chain.new }) }
+            (chain_state C.ChainMeaning chain.old) (chain_state C.ChainMeaning chain.new) }
     {
         let format = self.format();
         let count = rect.area() as usize * format.pixel_bytes() as usize;
@@ -102,8 +100,7 @@ impl Root {
             → HasFirstPixels image rect (offset rect rect.first_column (min (64 * line + 64) (end_row rect))) bytes.new.items)) }
         ensures cause { IfErr result (HasSwapCause (C.counts chain.old) (C.counts chain.new) (C.counts chain.old).names) }
         ensures read { IsRead
-            (record { held = C.held chain.old; counts = C.counts chain.old; loans = C.loans chain.old; valid = C.is_valid chain.old })
-            (record { held = C.held chain.new; counts = C.counts chain.new; loans = C.loans chain.new; valid = C.is_valid chain.new }) }
+            (chain_state C.ChainMeaning chain.old) (chain_state C.ChainMeaning chain.new) }
     {
         let tiles = self.line_tiles(chain, rect, line)?;
         let tiles = bytes_of(self.alloc, &tiles)?;
@@ -124,8 +121,7 @@ impl Root {
         ensures pixels { IfOk result (λ tiles. IfSome (root_image self.now (C.held chain.old)) (λ image. HasLine image rect line tiles.items)) }
         ensures cause { IfErr result (HasSwapCause (C.counts chain.old) (C.counts chain.new) (C.counts chain.old).names) }
         ensures read { IsRead
-            (record { held = C.held chain.old; counts = C.counts chain.old; loans = C.loans chain.old; valid = C.is_valid chain.old })
-            (record { held = C.held chain.new; counts = C.counts chain.new; loans = C.loans chain.new; valid = C.is_valid chain.new }) }
+            (chain_state C.ChainMeaning chain.old) (chain_state C.ChainMeaning chain.new) }
     {
         let mut tiles = Vec::new(self.alloc);
         let end = rect.end_column().div_ceil(TILE_SIDE);
@@ -150,8 +146,7 @@ impl Root {
             patch.new ≡ with_tile patch.old at (bytes_in (C.held chain.old) self.now.tiles.put at)) }
         ensures cause { IfErr result (HasSwapCause (C.counts chain.old) (C.counts chain.new) (C.counts chain.old).names) }
         ensures read { IsRead
-            (record { held = C.held chain.old; counts = C.counts chain.old; loans = C.loans chain.old; valid = C.is_valid chain.old })
-            (record { held = C.held chain.new; counts = C.counts chain.new; loans = C.loans chain.new; valid = C.is_valid chain.new }) }
+            (chain_state C.ChainMeaning chain.old) (chain_state C.ChainMeaning chain.new) }
     {
         if let Some(tile) = self.table.put_tile(chain, at)? {
             patch.put_tile(at, &tile);

@@ -2,7 +2,7 @@
 
 ghost use Rattle.std.specs.Prelude.{◌≡◌, ◌++◌, [], IfOk, OnErr, OnOk};
 ghost use Rattle.chain_owners.specs.Owners.{Owns, Respects};
-ghost use Rattle.chain_owners.specs.Counts.{Grows};
+ghost use Rattle.root_tiles.specs.Chains.{Leaves, chain_state};
 ghost use Rattle.root_tiles.specs.Roots.{IsRootOver, root_image, root_names};
 
 use crate::root::Root;
@@ -38,13 +38,43 @@ impl Root {
         })
     }
 
+    /// Returns a root with the same box and tiles, which is no owner of their names before a [`Root::own`].
+    ///
+    /// # Errors
+    ///
+    /// `NoMemory` if memory runs out.
+    pub fn copy(&self) -> Result<Root, NoMemory>
+        ensures { IfOk result (λ copy. copy ≡ self.now) }
+    {
+        Ok(Root {
+            bounds: self.bounds(),
+            table: self.table.copy()?,
+            alloc: self.alloc,
+        })
+    }
+
+    /// Becomes an owner of each name once more, for a [`Root::copy`] that holds it too. The chain's names and bytes
+    /// are unchanged. Takes one look into the chain for each tile, and no memory.
+    pub fn own<C: TileChain>(&self, chain: &mut C)
+        requires { IsRootOver self.now (C.held chain.old) }
+        ensures lengths { (C.held chain.new).lengths ≡ (C.held chain.old).lengths }
+        ensures content { (C.held chain.new).content ≡ (C.held chain.old).content }
+        ensures image { root_image self.now (C.held chain.new) ≡ root_image self.now (C.held chain.old) }
+        ensures over { IsRootOver self.now (C.held chain.new) }
+        ensures owned { Owns (C.held chain.new) (root_names self.now ++ root_names self.now) }
+        ensures others { Respects (C.held chain.old) (C.held chain.new)
+            (root_names self.now) (root_names self.now ++ root_names self.now) }
+        ensures counts { C.counts chain.new ≡ C.counts chain.old }
+        ensures loans { C.loans chain.new ≡ C.loans chain.old }
+        ensures valid { C.is_valid chain.old → C.is_valid chain.new }
+    {
+        self.table.own(chain);
+    }
+
     /// Gives the root up, and with it all its names. Takes no memory.
     pub fn release<C: TileChain>(self, chain: &mut C)
         requires { IsRootOver self (C.held chain.old) }
-        ensures others { Respects (C.held chain.old) (C.held chain.new) (root_names self) [] }
-        ensures counts { Grows 0 (C.counts chain.old) (C.counts chain.new) }
-        ensures loans { C.loans chain.new ≡ C.loans chain.old }
-        ensures valid { C.is_valid chain.old → C.is_valid chain.new }
+        ensures { Leaves 0 (root_names self) [] (chain_state C.ChainMeaning chain.old) (chain_state C.ChainMeaning chain.new) }
     {
         self.table.release(chain);
     }

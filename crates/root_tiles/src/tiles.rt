@@ -7,7 +7,7 @@ ghost use Rattle.model_images.specs.TileCounts.{level_tiles};
 ghost use Rattle.chain_owners.specs.Cause.{HasSwapCause};
 ghost use Rattle.root_tiles.specs.Growth.{HoldsMoreTiles, names_with_root_levels, root_state};
 ghost use Rattle.root_tiles.specs.Roots.{IsRootOver, root_image};
-ghost use Rattle.root_tiles.specs.Chains.{IsRead};
+ghost use Rattle.root_tiles.specs.Chains.{IsRead, chain_state};
 
 use crate::root::Root;
 use chain_contracts::TileChain;
@@ -29,8 +29,7 @@ impl Root {
         ensures length { IfOk result (λ tile. length tile ≡ tile_length self.now.tiles.format) }
         ensures cause { IfErr result (HasSwapCause (C.counts chain.old) (C.counts chain.new) (C.counts chain.old).names) }
         ensures read { IsRead
-            (record { held = C.held chain.old; counts = C.counts chain.old; loans = C.loans chain.old; valid = C.is_valid chain.old })
-            (record { held = C.held chain.new; counts = C.counts chain.new; loans = C.loans chain.new; valid = C.is_valid chain.new }) }
+            (chain_state C.ChainMeaning chain.old) (chain_state C.ChainMeaning chain.new) }
     {
         match self.table.put_tile(chain, at)? {
             Some(tile) => Ok(tile),

@@ -6,6 +6,7 @@ ghost use Rattle.pixel_formats.specs.Format.{channels, depth};
 ghost use Rattle.pixel_formats.specs.Row.{sample_at};
 ghost use Rattle.plane_rect.specs.Rectangle.{Includes};
 ghost use Rattle.patch_abyss.specs.Samples.{IsSampleOf};
+ghost use Rattle.root_tiles.specs.Chains.{chain_state};
 ghost use Rattle.root_tiles.specs.{Paints.IsSolid, Roots.IsRootOver, Writes.IsWritten};
 
 use crate::makers::{SplitRaw, TileMaker};
@@ -42,8 +43,7 @@ impl Root {
         requires inside { Includes self.old.box rect }
         requires count { length bytes.now ≡ byte_count rect self.old.tiles.format }
         ensures { IsWritten rect (pixels_from_raw rect self.old.tiles.format bytes.now) result self.old self.new
-            (record { held = C.held chain.old; counts = C.counts chain.old; loans = C.loans chain.old; valid = C.is_valid chain.old })
-            (record { held = C.held chain.new; counts = C.counts chain.new; loans = C.loans chain.new; valid = C.is_valid chain.new }) }
+            (chain_state C.ChainMeaning chain.old) (chain_state C.ChainMeaning chain.new) }
     {
         self.write(chain, rect, &mut SplitRaw { bytes, workers })
     }
@@ -63,8 +63,7 @@ impl Root {
         requires inside { Includes self.old.box rect }
         requires count { length bytes.now ≡ byte_count rect self.old.tiles.format }
         ensures { IsWritten rect (pixels_from_raw rect self.old.tiles.format bytes.now) result self.old self.new
-            (record { held = C.held chain.old; counts = C.counts chain.old; loans = C.loans chain.old; valid = C.is_valid chain.old })
-            (record { held = C.held chain.new; counts = C.counts chain.new; loans = C.loans chain.new; valid = C.is_valid chain.new }) }
+            (chain_state C.ChainMeaning chain.old) (chain_state C.ChainMeaning chain.new) }
     {
         self.write(chain, rect, &mut Paint::Raw(bytes))
     }
@@ -86,8 +85,7 @@ impl Root {
         requires count { length samples.now ≡ channels self.old.tiles.format }
         requires each { All (IsSampleOf self.old.tiles.format) samples.now }
         ensures { IsWritten rect (λ u v. slice_index samples.now) result self.old self.new
-            (record { held = C.held chain.old; counts = C.counts chain.old; loans = C.loans chain.old; valid = C.is_valid chain.old })
-            (record { held = C.held chain.new; counts = C.counts chain.new; loans = C.loans chain.new; valid = C.is_valid chain.new }) }
+            (chain_state C.ChainMeaning chain.old) (chain_state C.ChainMeaning chain.new) }
     {
         let tile = self.solid_tile(samples)?;
         self.write(chain, rect, &mut Paint::Solid(&tile))
@@ -117,8 +115,7 @@ impl Root {
         requires inside { Includes self.old.box rect }
         requires fits { M.fits maker.old self.old rect }
         ensures { IsWritten rect (M.pixels maker.old self.old.tiles.format rect) result self.old self.new
-            (record { held = C.held chain.old; counts = C.counts chain.old; loans = C.loans chain.old; valid = C.is_valid chain.old })
-            (record { held = C.held chain.new; counts = C.counts chain.new; loans = C.loans chain.new; valid = C.is_valid chain.new }) }
+            (chain_state C.ChainMeaning chain.old) (chain_state C.ChainMeaning chain.new) }
     {
         self.table.reserve(rect.tiles().count())?;
         let mut made = NewTiles::new(self.alloc, self.format());

@@ -179,7 +179,7 @@ module _ (exposed : Bool) (capacity line : ℕ) (state : RunState) (files : File
   by_lower (buffer_refusals.Swap swap_refusals.SwapFault) cause is = ended (edits line state edit) ends.SwapFault (λ e. cc) (λ e. absurd (cc))
   by_lower (buffer_refusals.Swap (swap_refusals.SwapFull needed longest)) cause is =
       ended (edits line state edit) ends.SwapFull (λ e. cc) (λ e. full_at (edit_refused (layout_in old) edit) refl needed longest is cause)
-  by_lower (buffer_refusals.Swap swap_refusals.NoMemory) cause is = ended (edits line state edit) ends.NoMemory (λ e. cc) (λ e. absurd (cc))
+  by_lower (buffer_refusals.Swap swap_refusals.NoMemory) cause is = absurd cause
   by_lower buffer_refusals.NoMemory cause is = ended (edits line state edit) ends.NoMemory (λ e. cc) (λ e. absurd (cc))
 
   -- an edit that is refused
@@ -207,7 +207,7 @@ module _ (edit : BufferEdit) (old new : SessionOver) (shelf : Option Files) (tex
   lower_faults (buffer_refusals.Edit refused) cause grows = ends_by ends.Refused refl (λ e. absurd (cc)) grows
   lower_faults (buffer_refusals.Swap swap_refusals.SwapFault) cause grows = ends_by ends.SwapFault refl (λ e. cause) grows
   lower_faults (buffer_refusals.Swap (swap_refusals.SwapFull needed longest)) cause grows = ends_by ends.SwapFull refl (λ e. absurd (cc)) grows
-  lower_faults (buffer_refusals.Swap swap_refusals.NoMemory) cause grows = ends_by ends.NoMemory refl (λ e. absurd (cc)) grows
+  lower_faults (buffer_refusals.Swap swap_refusals.NoMemory) cause grows = absurd cause
   lower_faults buffer_refusals.NoMemory cause grows = ends_by ends.NoMemory refl (λ e. absurd (cc)) grows
 
   pub stopped_faults : (refused : SessionRefused) → IsEdited edit (Err refused) old new → HasFaults (end_of {A = Unit {0}} (Err (stop_of refused))) first last

@@ -135,7 +135,7 @@ module _ (exposed : Bool) (capacity line : ℕ) (state : RunState) (files : File
     by_lower (buffer_refusals.Swap swap_refusals.SwapFault) cause exact = ended ends.SwapFault (λ e. cc) (λ e. absurd (cc))
     by_lower (buffer_refusals.Swap (swap_refusals.SwapFull needed longest)) cause exact =
         ended ends.SwapFull (λ e. cc) (λ e. full_at needed longest (λ none. (let is = exact none in cc)) cause)
-    by_lower (buffer_refusals.Swap swap_refusals.NoMemory) cause exact = ended ends.NoMemory (λ e. cc) (λ e. absurd (cc))
+    by_lower (buffer_refusals.Swap swap_refusals.NoMemory) cause exact = absurd cause
     by_lower buffer_refusals.NoMemory cause exact = ended ends.NoMemory (λ e. cc) (λ e. absurd (cc))
 
     pub grab_stopped : (refused : SessionRefused) → IsRefusedAs by_buffers (HasReadCause layout name z before.chain after.chain) refused →
@@ -157,5 +157,5 @@ grab-faults layout name z refused old new is reads writes puts continues =
     by (buffer_refusals.Edit edit) cause = at ends.Refused refl (λ e. absurd (cc))
     by (buffer_refusals.Swap swap_refusals.SwapFault) cause = at ends.SwapFault refl (λ e. cause)
     by (buffer_refusals.Swap (swap_refusals.SwapFull needed longest)) cause = at ends.SwapFull refl (λ e. absurd (cc))
-    by (buffer_refusals.Swap swap_refusals.NoMemory) cause = at ends.NoMemory refl (λ e. absurd (cc))
+    by (buffer_refusals.Swap swap_refusals.NoMemory) cause = absurd cause
     by buffer_refusals.NoMemory cause = at ends.NoMemory refl (λ e. absurd (cc))

@@ -33,6 +33,9 @@ use Rattle.run_lines.specs.Bands.{BeginsBand, IsReached, bytes_of_rows, rows_bet
 use Rattle.run_lines.specs.Edited.{IsEdited, IsHeld, SessionOver, layout_in, stepped}
 use Rattle.run_lines.specs.Rasters.{IsPartRead}
 use Rattle.chain_owners.proofs.Causes.{cause-before, cause-more}
+use Rattle.chain_owners.specs.Cause.{HasSwapCause}
+use Rattle.chain_owners.specs.declared.swap_refused.SwapRefused.{SwapRefused}
+use Rattle.chain_owners.specs.declared.swap_refused.SwapRefused.TheVariants as swap_refusals
 
 -- ---- puts that aren't refused
 
@@ -110,12 +113,17 @@ module _ (old mid new : SessionOver) (name : List ℕ) (view : View) (there : fi
     counts = grows-more (added + tile_count part) (tile_count r) old.counts new.counts few (grows-both added (tile_count part) old.counts mid.counts new.counts grows is.counts);
   }
     where
+      swap_in : (stopped : SwapRefused) → HasSwapCause mid.counts new.counts (mid.counts.names + tile_count part) stopped → HasSwapCause old.counts new.counts (old.counts.names + tile_count r) stopped
+      swap_in stopped by =
+          cause-more old.counts new.counts (mid.counts.names + tile_count part) (old.counts.names + tile_count r) stopped (omega (arith, grows.names, few))
+          (cause-before old.counts mid.counts new.counts added (mid.counts.names + tile_count part) stopped grows by)
+
       cause_in : (lower : BufferRefused) → HasEditCause (layout_in mid) (Put name part read) mid.counts new.counts lower → HasEditCause (layout_in old) (Put name r bytes) old.counts new.counts lower
       cause_in (buffer_refusals.Edit cause) by =
           absurd (let other : edit_refused (layout_in mid) (Put name part read) ≡ None = ap (λ (l : TableLayout). edit_refused l (Put name part read)) same ∙ none_part in cc)
-      cause_in (buffer_refusals.Swap stopped) by =
-          cause-more old.counts new.counts (mid.counts.names + tile_count part) (old.counts.names + tile_count r) stopped (omega (arith, grows.names, few))
-          (cause-before old.counts mid.counts new.counts added (mid.counts.names + tile_count part) stopped grows by)
+      cause_in (buffer_refusals.Swap swap_refusals.SwapFault) by = swap_in swap_refusals.SwapFault by
+      cause_in (buffer_refusals.Swap (swap_refusals.SwapFull needed longest)) by = swap_in (swap_refusals.SwapFull needed longest) by
+      cause_in (buffer_refusals.Swap swap_refusals.NoMemory) by = absurd by
       cause_in buffer_refusals.NoMemory by = tt
 
 -- ---- what was put of a raster

@@ -4,6 +4,7 @@ use Rattle.std.specs.Option.{option_map}
 use Rattle.buffer_view.specs.Causes.{HasEditCause}
 use Rattle.buffer_view.specs.declared.refused.BufferRefused.{BufferRefused}
 use Rattle.buffer_view.specs.declared.refused.BufferRefused.TheVariants as buffer_refusals
+use Rattle.chain_owners.specs.declared.swap_refused.SwapRefused.TheVariants as swap_refusals
 use Rattle.chain_owners.specs.Counts.{Counts}
 use Rattle.chain_owners.specs.Held.{Held}
 use Rattle.commit_session.specs.Parts.{Parts}
@@ -69,7 +70,9 @@ module _ (name : List ℕ) (r : Rectangle) (a b : List ℕ) (same : length a ≡
 
   causes_alike : (layout : TableLayout) (old new : Counts) (lower : BufferRefused) → HasEditCause layout (Put name r a) old new lower → HasEditCause layout (Put name r b) old new lower
   causes_alike layout old new (buffer_refusals.Edit cause) is = sym (refusals_alike layout) ∙ is
-  causes_alike layout old new (buffer_refusals.Swap refused) is = is
+  causes_alike layout old new (buffer_refusals.Swap swap_refusals.SwapFault) is = is
+  causes_alike layout old new (buffer_refusals.Swap (swap_refusals.SwapFull needed longest)) is = is
+  causes_alike layout old new (buffer_refusals.Swap swap_refusals.NoMemory) is = absurd is
   causes_alike layout old new buffer_refusals.NoMemory is = tt
 
   -- the session after a raster that isn't refused

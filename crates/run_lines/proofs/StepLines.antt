@@ -36,7 +36,7 @@ use Rattle.plane_rect.specs.Tile.{meets}
 use Rattle.model_states.specs.declared.refused.StateRefused.{StateRefused}
 use Rattle.node_cache.specs.Stores.{AddsNoOther}
 use Rattle.outside_io.specs.Files.{Files}
-use Rattle.root_tiles.specs.Chains.{ChainState}
+use Rattle.root_tiles.specs.Chains.{ChainState, Leaves}
 use Rattle.run_lines.proofs.Carrying.{nothing_carried}
 use Rattle.run_lines.proofs.Faults.{chain_faults, faults_of_swap, only_swap}
 use Rattle.run_lines.proofs.Texts.{put_none}
@@ -50,7 +50,6 @@ use Rattle.run_lines.specs.Stops.{CarriesOutCommand, Did, IsDone, RunPoint, end_
 use Rattle.run_lines.specs.declared.stop.Stop.{Stop}
 use Rattle.script_read.specs.declared.command.Command.{Command}
 use Rattle.script_read.specs.declared.command.Line.{Line}
-use Rattle.session_states.specs.OverChains.{Leaves}
 
 -- ---- steps of histories
 

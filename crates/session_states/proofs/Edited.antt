@@ -1,17 +1,18 @@
 -- Versions of buffers of which those that are edited were handed to a call.
-use Rattle.std.proofs.Common.{◌≡◌, ℕ, List, ◌++◌, sym, ap, subst, ◌∙◌, Option, None, Result, Ok, Err, IfOk}
-use Rattle.std.specs.Option.{option_map}
-use Rattle.std.specs.Result.{MatchResult, OnErr}
-use Rattle.chain_owners.specs.Held.{Held}
-use Rattle.chain_owners.specs.Owners.{Owns}
-use Rattle.chain_owners.proofs.Ownership.{times-append}
+use Rattle.std.proofs.Common.{◌≡◌, ℕ, List, ◌++◌, refl, sym, ap, subst, ◌∙◌, Option, Result, arith}
+use Rattle.chain_owners.specs.Owners.{Owns, Respects}
+use Rattle.chain_owners.proofs.Growing.{grows-more, grows-same}
+use Rattle.chain_owners.proofs.Ownership.{respects-same, times-append}
+use Rattle.model_buffers.specs.Counts.{tiles_added}
 use Rattle.model_buffers.specs.declared.edit.BufferEdit.{BufferEdit}
-use Rattle.model_buffers.specs.BufferEdit.{edit_refused, layout_with}
-use Rattle.model_buffers.specs.Edits.{table_with}
+use Rattle.std.proofs.lemmas.Result.{IfErr-weaker}
 use Rattle.model_buffers.specs.Table.{Table}
-use Rattle.root_tiles.specs.Chains.{ChainState}
+use Rattle.root_tiles.specs.Chains.{ChainState, Leaves}
+use Rattle.buffer_view.proofs.Refusals.{added-cause}
+use Rattle.buffer_view.specs.Edits.{AddsBuffer, EditsBuffers}
+use Rattle.buffer_view.specs.declared.refused.BufferRefused.{BufferRefused}
 use Rattle.buffer_view.specs.BufferTables.{AreBuffersOver, BufferTable, buffers_names, table_of}
-use Rattle.session_states.specs.OverChains.{AreAllSame, AreShownAgain, AreVersionsOver, IsEdited, Leaves, names_of_all, tables_of, versions_names}
+use Rattle.session_states.specs.OverChains.{AreAllSame, AreVersionsOver, names_of_all, tables_of, versions_names}
 use Rattle.session_states.specs.Versions.{Versions, committed_versions}
 use Rattle.session_states.proofs.Beside.{over-again, owned-again, same-again}
 use Rattle.session_states.proofs.Names.{leaves-beside}
@@ -69,16 +70,19 @@ module _ (v now : Versions BufferTable) (is : v ≡ now) (edited : BufferTable) 
 
 -- ---- buffers that a call edited that takes no chain
 
-module _ {T E : Type 0} (before after : BufferTable) (held : Held) where
-  pub edited-by : (edit given : BufferEdit) (r : Result T E) → edit ≡ given
-      → MatchResult r (λ done. after.layout ≡ layout_with before.layout given) (λ refused. after.layout ≡ before.layout)
-      → MatchResult r (λ done. table_of after held ≡ option_map (λ table. table_with table given) (table_of before held)) (λ refused. table_of after held ≡ table_of before held)
-      → IfOk r (λ done. edit_refused before.layout given ≡ None) → IfOk r (λ done. IsEdited edit before after held held)
-  edited-by edit given (Ok done) is layout table none =
-      subst (λ (e : BufferEdit). IsEdited e before after held held) (sym is) (record { carried_out = none; layout = layout; table = table })
-  edited-by edit given (Err refused) is layout table none = tt
-
-  pub shown-by : (A B : Type 0) (r : Result T E) → MatchResult r (λ done. A) (λ refused. after.layout ≡ before.layout)
-      → MatchResult r (λ done. B) (λ refused. table_of after held ≡ table_of before held) → OnErr r (AreShownAgain before after held held)
-  shown-by A B (Ok done) layout table = tt
-  shown-by A B (Err refused) layout table = record { layout = layout; table = table }
+pub added-edits : {X : Type 0} (edit : BufferEdit) (result : Result X BufferRefused) (old new : BufferTable) (state : ChainState) → AddsBuffer edit result old new
+    → AreBuffersOver old state.held → EditsBuffers edit result old new state state
+added-edits edit result old new state added over = record {
+  layout = added.layout;
+  table = added.table state.held;
+  exact = added.exact;
+  cause = IfErr-weaker result _ _ (added-cause old.layout edit state.counts state.counts) added.cause;
+  carried_out = added.carried_out;
+  over = added.over state.held over;
+  left = record {
+    others = subst (λ (names : List ℕ). Respects state.held state.held (buffers_names old) names) (sym added.names) (respects-same state.held (buffers_names old));
+    counts = grows-more 0 (tiles_added edit) state.counts state.counts (omega arith) (grows-same state.counts);
+    loans = refl;
+    valid = λ valid. valid;
+  };
+}

@@ -2,10 +2,10 @@
 use Rattle.std.proofs.Common.{◌≡◌, ℕ, ◌+◌, List, [], ◌∷◌, ◌++◌, ◌∙◌, arith}
 use Rattle.chain_owners.specs.Owners.{times}
 use Rattle.chain_owners.proofs.Ownership.{respects-beside, respects-both, times-append}
-use Rattle.root_tiles.specs.Chains.{ChainState}
+use Rattle.root_tiles.specs.Chains.{ChainState, Leaves}
 use Rattle.chain_owners.proofs.Growing.{grows-both}
 use Rattle.buffer_view.specs.BufferTables.{BufferTable, buffers_names}
-use Rattle.session_states.specs.OverChains.{Leaves, names_of_all}
+use Rattle.session_states.specs.OverChains.{names_of_all}
 
 pub names-append : (a b : List BufferTable) (q : ℕ) → times (names_of_all (a ++ b)) q ≡ times (names_of_all a) q + times (names_of_all b) q
 names-append [] b q = omega arith

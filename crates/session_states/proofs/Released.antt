@@ -3,9 +3,9 @@ use Rattle.std.proofs.Common.{◌≡◌, ℕ, ◌+◌, List, [], ◌∷◌, ◌+
 use Rattle.pixel_formats.specs.Limits.{max_undoable}
 use Rattle.chain_owners.specs.Owners.{Owns, times}
 use Rattle.chain_owners.proofs.Ownership.{owns-fewer, times-append}
-use Rattle.root_tiles.specs.Chains.{ChainState}
+use Rattle.root_tiles.specs.Chains.{ChainState, Leaves}
 use Rattle.buffer_view.specs.BufferTables.{AreBuffersOver, BufferTable, buffers_names, table_of}
-use Rattle.session_states.specs.OverChains.{AreAllOver, AreAllSame, AreVersionsOver, IsReleased, Leaves, names_of_all, tables_of, versions_names}
+use Rattle.session_states.specs.OverChains.{AreAllOver, AreAllSame, AreVersionsOver, IsReleased, names_of_all, tables_of, versions_names}
 use Rattle.session_states.specs.Versions.{Versions, after_commit, all_versions}
 use Rattle.session_states.proofs.Beside.{all-append, all-first, all-second, over-again, owned-again, same-again}
 use Rattle.session_states.proofs.Names.{leaves-beside, leaves-both, names-append}

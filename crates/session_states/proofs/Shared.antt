@@ -6,11 +6,11 @@ use Rattle.std.specs.Result.{MatchResult}
 use Rattle.chain_owners.specs.Counts.{Grows}
 use Rattle.chain_owners.specs.Owners.{Owns, Respects, times}
 use Rattle.chain_owners.proofs.Ownership.{owns-fewer, times-append}
-use Rattle.root_tiles.specs.Chains.{ChainState}
+use Rattle.root_tiles.specs.Chains.{ChainState, Leaves}
 use Rattle.model_states.specs.declared.direction.Direction.{Direction}
 use Rattle.model_states.specs.declared.direction.Direction.TheVariants.{Undo, Redo}
 use Rattle.buffer_view.specs.BufferTables.{AreBuffersOver, BufferTable, buffers_names, table_of}
-use Rattle.session_states.specs.OverChains.{AreAllOver, AreAllSame, AreShared, AreVersionsOver, IsShared, Leaves, names_of_all, tables_of, versions_names}
+use Rattle.session_states.specs.OverChains.{AreAllOver, AreAllSame, AreShared, AreVersionsOver, IsShared, names_of_all, tables_of, versions_names}
 use Rattle.session_states.specs.Versions.{IsOneOf, Versions, all_versions, committed_versions, versions_ahead}
 use Rattle.session_states.proofs.Beside.{all-append, all-first, all-second, over-again, owned-again, same-again}
 use Rattle.session_states.proofs.Names.{leaves-beside, names-append}

@@ -5,11 +5,11 @@ use Rattle.std.specs.List.{AllByRecursion}
 use Rattle.chain_owners.specs.Owners.{Owns, times}
 use Rattle.chain_owners.proofs.Ownership.{times-append}
 use Rattle.chain_owners.specs.Held.{Held}
-use Rattle.root_tiles.specs.Chains.{ChainState}
+use Rattle.root_tiles.specs.Chains.{ChainState, Leaves}
 use Rattle.model_states.specs.declared.direction.Direction.{Direction}
 use Rattle.model_states.specs.declared.direction.Direction.TheVariants.{Undo, Redo}
 use Rattle.buffer_view.specs.BufferTables.{AreBuffersOver, BufferTable, buffers_names}
-use Rattle.session_states.specs.OverChains.{AreAllOver, AreVersionsOver, IsReleased, Leaves, names_of_all, versions_names}
+use Rattle.session_states.specs.OverChains.{AreAllOver, AreVersionsOver, IsReleased, names_of_all, versions_names}
 use Rattle.session_states.specs.Versions.{IsMoved, Versions, all_versions, versions_after, versions_ahead, versions_behind}
 use Rattle.session_states.proofs.Beside.{all-append, all-first, all-second}
 use Rattle.session_states.proofs.Edited.{with_working}

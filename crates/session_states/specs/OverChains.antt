@@ -1,15 +1,10 @@
 -- Versions of buffers whose tiles are in one chain.
-use Rattle.std.specs.Prelude.{◌≡◌, ℕ, List, [], ◌∷◌, ◌++◌, MatchResult, None, Option, Result}
+use Rattle.std.specs.Prelude.{◌≡◌, ℕ, List, [], ◌∷◌, ◌++◌, MatchResult, Option, Result}
 use Rattle.std.specs.List.{AllByRecursion}
-use Rattle.std.specs.Option.{option_map}
-use Rattle.chain_owners.specs.Counts.{Grows}
 use Rattle.chain_owners.specs.Held.{Held}
-use Rattle.chain_owners.specs.Owners.{Owns, Respects}
-use Rattle.model_buffers.specs.declared.edit.BufferEdit.{BufferEdit}
-use Rattle.model_buffers.specs.BufferEdit.{edit_refused, layout_with}
-use Rattle.model_buffers.specs.Edits.{table_with}
+use Rattle.chain_owners.specs.Owners.{Owns}
 use Rattle.model_buffers.specs.Table.{Table}
-use Rattle.root_tiles.specs.Chains.{ChainState}
+use Rattle.root_tiles.specs.Chains.{ChainState, Leaves}
 use Rattle.buffer_view.specs.BufferTables.{AreBuffersOver, BufferTable, buffers_names, table_of}
 use Rattle.session_states.specs.Versions.{Versions, all_versions, map_versions}
 
@@ -44,14 +39,6 @@ AreAllSame old new buffers = AllByRecursion (λ (b : BufferTable). table_of b ne
 
 -- ---- what calls leave
 
--- What a call leaves of a chain: its other owners are respected, it has so many names more at most, and its loans are
--- unchanged.
-pub record Leaves (added : ℕ) (before after : List ℕ) (old new : ChainState) : Type 0 where
-  pub others : Respects old.held new.held before after
-  pub counts : Grows added old.counts new.counts
-  pub loans : new.loans ≡ old.loans
-  pub valid : old.valid → new.valid
-
 -- The versions show what they showed over the chain before, and others of these names that were held are released.
 pub record IsReleased (before : List ℕ) (final : Versions BufferTable) (old new : ChainState) : Type 0 where
   pub tables : tables_of final new.held ≡ tables_of final old.held
@@ -69,14 +56,3 @@ pub record IsShared (now : Versions BufferTable) (more : List ℕ) (old new : Ch
 abbrev pub AreShared : {E : Type 0} → Versions BufferTable → Result BufferTable E → ChainState → ChainState → Type 0
 AreShared now given old new =
     MatchResult given (λ shared. IsShared now (buffers_names shared) old new) (λ refused. IsShared now [] old new)
-
--- An edit was carried out on buffers.
-pub record IsEdited (edit : BufferEdit) (before after : BufferTable) (old new : Held) : Type 0 where
-  pub carried_out : edit_refused before.layout edit ≡ None
-  pub layout : after.layout ≡ layout_with before.layout edit
-  pub table : table_of after new ≡ option_map (λ table. table_with table edit) (table_of before old)
-
--- Buffers show what they showed.
-pub record AreShownAgain (before after : BufferTable) (old new : Held) : Type 0 where
-  pub layout : after.layout ≡ before.layout
-  pub table : table_of after new ≡ table_of before old

@@ -1,21 +1,19 @@
 //! Edits and reads of the buffers that are edited.
 
-ghost use Rattle.std.specs.Prelude.{◌≡◌, ◌≤◌, IfErr, IfOk, OnErr, Err, None, Some};
-ghost use Rattle.chain_owners.specs.Counts.{Grows};
+ghost use Rattle.std.specs.Prelude.{◌≡◌, ◌≤◌};
 ghost use Rattle.pixel_formats.specs.Limits.{max_level};
-ghost use Rattle.model_buffers.specs.BufferEdit.{IsProperEdit, edit_refused};
-ghost use Rattle.model_buffers.specs.{Counts.tiles_added, Layout.find, declared.refused.EditRefused.EditRefused as Cause};
-ghost use Rattle.model_buffers.specs.declared.refused.EditRefused.TheVariants.{UnknownBuffer};
+ghost use Rattle.model_buffers.specs.BufferEdit.{IsProperEdit};
+ghost use Rattle.model_buffers.specs.{Counts.tiles_added};
 ghost use Rattle.model_images.specs.TileCounts.{level_tiles};
 ghost use Rattle.plane_rect.specs.Rectangle.{InLimits};
-ghost use Rattle.root_tiles.specs.Roots.{HasShape};
-ghost use Rattle.buffer_view.specs.BufferTables.{AreBuffersOver, buffers_names, table_of};
-ghost use Rattle.buffer_view.specs.Reads.{HasReadCause, IsReadOfBuffer, box_of_root, part_of_buffer};
-ghost use Rattle.buffer_view.specs.{Causes.HasEditCause, declared.refused.BufferRefused.TheVariants.Edit};
-ghost use Rattle.session_states.specs.OverChains.{AreShownAgain, AreVersionsOver, IsEdited, Leaves, tables_of, versions_names};
+ghost use Rattle.root_tiles.specs.Chains.{Leaves, chain_state};
+ghost use Rattle.buffer_view.specs.BufferTables.{AreBuffersOver, table_of};
+ghost use Rattle.buffer_view.specs.Reads.{GrabsBuffer, box_of_root};
+ghost use Rattle.buffer_view.specs.Edits.{EditsBuffers};
+ghost use Rattle.session_states.specs.OverChains.{AreVersionsOver, tables_of, versions_names};
 
 use crate::versions::BufferVersions;
-use buffer_view::{BufferRefused, Buffers, added_buffers_have_causes};
+use buffer_view::{BufferRefused, Buffers};
 use chain_contracts::TileChain;
 use model_buffers::BufferEdit;
 use patch_abyss::{Abyss, Patch};
@@ -38,21 +36,14 @@ impl BufferVersions {
     ) -> Result<(), BufferRefused>
         requires over { AreVersionsOver self.old (C.held chain.old) }
         requires proper { IsProperEdit edit.now }
-        ensures edited { IfOk result (λ _.
-            IsEdited edit.now self.old.working self.new.working (C.held chain.old) (C.held chain.new)) }
-        ensures unchanged { OnErr result
-            (AreShownAgain self.old.working self.new.working (C.held chain.old) (C.held chain.new)) }
-        ensures exact { (cause : Cause) → edit_refused self.old.working.layout edit.now ≡ Some cause →
-            result ≡ Err (Edit cause) }
-        ensures cause { IfErr result
-            (HasEditCause self.old.working.layout edit.now (C.counts chain.old) (C.counts chain.new)) }
+        ensures edited { EditsBuffers edit.now result self.old.working self.new.working
+            (chain_state C.ChainMeaning chain.old) (chain_state C.ChainMeaning chain.new) }
         ensures states { self.new ≡ record self.old { working = self.new.working } }
         ensures tables { tables_of self.new (C.held chain.new)
             ≡ record (tables_of self.old (C.held chain.old)) { working = table_of self.new.working (C.held chain.new) } }
         ensures over { AreVersionsOver self.new (C.held chain.new) }
         ensures left { Leaves (tiles_added edit.now) (versions_names self.old) (versions_names self.new)
-            (record { held = C.held chain.old; counts = C.counts chain.old; loans = C.loans chain.old; valid = C.is_valid chain.old })
-            (record { held = C.held chain.new; counts = C.counts chain.new; loans = C.loans chain.new; valid = C.is_valid chain.new }) }
+            (chain_state C.ChainMeaning chain.old) (chain_state C.ChainMeaning chain.new) }
     {
         edit_buffers(&mut self.working, chain, edit, workers)
     }
@@ -74,20 +65,14 @@ impl BufferVersions {
         requires over { AreVersionsOver self.old (C.held chain.old) }
         requires level { level ≤ max_level }
         requires limits { InLimits rect }
-        ensures shape { IfOk result (HasShape (part_of_buffer self.old.working.layout name rect)) }
-        ensures image { IfOk result
-            (IsReadOfBuffer (table_of self.old.working (C.held chain.old)) name level abyss rect) }
-        ensures unknown { find self.old.working.layout.buffers name ≡ None → result ≡ Err (Edit UnknownBuffer) }
-        ensures cause { IfErr result
-            (HasReadCause self.old.working.layout name level (C.counts chain.old) (C.counts chain.new)) }
-        ensures layout { self.new.working.layout ≡ self.old.working.layout }
+        ensures read { GrabsBuffer name level abyss rect result self.old.working self.new.working
+            (chain_state C.ChainMeaning chain.old) (chain_state C.ChainMeaning chain.new) }
         ensures states { self.new ≡ record self.old { working = self.new.working } }
         ensures tables { tables_of self.new (C.held chain.new) ≡ tables_of self.old (C.held chain.old) }
         ensures over { AreVersionsOver self.new (C.held chain.new) }
         ensures left { Leaves (level_tiles (box_of_root self.old.working.layout name) level)
             (versions_names self.old) (versions_names self.new)
-            (record { held = C.held chain.old; counts = C.counts chain.old; loans = C.loans chain.old; valid = C.is_valid chain.old })
-            (record { held = C.held chain.new; counts = C.counts chain.new; loans = C.loans chain.new; valid = C.is_valid chain.new }) }
+            (chain_state C.ChainMeaning chain.old) (chain_state C.ChainMeaning chain.new) }
     {
         self.working.get(chain, name, level, abyss, rect)
     }
@@ -106,16 +91,9 @@ fn edit_buffers<C: TileChain, R: Threads + Sync>(
 ) -> Result<(), BufferRefused>
     requires over { AreBuffersOver buffers.old (C.held chain.old) }
     requires proper { IsProperEdit edit.now }
-    ensures edited { IfOk result (λ _. IsEdited edit.now buffers.old buffers.new (C.held chain.old) (C.held chain.new)) }
-    ensures unchanged { OnErr result (AreShownAgain buffers.old buffers.new (C.held chain.old) (C.held chain.new)) }
-    ensures exact { (cause : Cause) → edit_refused buffers.old.layout edit.now ≡ Some cause → result ≡ Err (Edit cause) }
-    ensures cause { IfErr result (HasEditCause buffers.old.layout edit.now (C.counts chain.old) (C.counts chain.new)) }
-    ensures over { AreBuffersOver buffers.new (C.held chain.new) }
-    ensures left { Leaves (tiles_added edit.now) (buffers_names buffers.old) (buffers_names buffers.new)
-        (record { held = C.held chain.old; counts = C.counts chain.old; loans = C.loans chain.old; valid = C.is_valid chain.old })
-        (record { held = C.held chain.new; counts = C.counts chain.new; loans = C.loans chain.new; valid = C.is_valid chain.new }) }
+    ensures { EditsBuffers edit.now result buffers.old buffers.new
+        (chain_state C.ChainMeaning chain.old) (chain_state C.ChainMeaning chain.new) }
 {
-    added_buffers_have_causes();
     match edit {
         BufferEdit::Create {
             name,

@@ -4,8 +4,9 @@ ghost use Rattle.std.specs.Prelude.{◌≡◌, ◌<◌, ◌≤◌, ◌+◌, ◌-
 ghost use Rattle.std.specs.VecDeque.{deque_capacity, deque_len};
 ghost use Rattle.chain_owners.specs.Owners.{Owns};
 ghost use Rattle.pixel_formats.specs.Limits.{max_undoable};
+ghost use Rattle.root_tiles.specs.Chains.{Leaves, chain_state};
 ghost use Rattle.buffer_view.specs.BufferTables.{AreBuffersOver, BufferTable, buffers_names};
-ghost use Rattle.session_states.specs.OverChains.{AreAllOver, AreAllSame, AreShared, AreVersionsOver, IsReleased, Leaves, names_of_all, versions_names};
+ghost use Rattle.session_states.specs.OverChains.{AreAllOver, AreAllSame, AreShared, AreVersionsOver, IsReleased, names_of_all, versions_names};
 ghost use Rattle.session_states.specs.Versions.{IsMoved, IsOneOf, after_commit, all_versions, versions_after, versions_ahead};
 
 use crate::versions::BufferVersions;
@@ -28,8 +29,7 @@ impl BufferVersions {
         ensures shared { IfOk result (λ shared. shared ≡ self.now.working) }
         ensures shared_over { IfOk result (λ shared. AreBuffersOver shared (C.held chain.new)) }
         ensures kept { AreShared self.now result
-            (record { held = C.held chain.old; counts = C.counts chain.old; loans = C.loans chain.old; valid = C.is_valid chain.old })
-            (record { held = C.held chain.new; counts = C.counts chain.new; loans = C.loans chain.new; valid = C.is_valid chain.new }) }
+            (chain_state C.ChainMeaning chain.old) (chain_state C.ChainMeaning chain.new) }
     {
         self.share(chain, self.working())
     }
@@ -50,8 +50,7 @@ impl BufferVersions {
         ensures shared { IfOk result (λ shared. slice_get (versions_ahead direction self.now) 0 ≡ Some shared) }
         ensures shared_over { IfOk result (λ shared. AreBuffersOver shared (C.held chain.new)) }
         ensures kept { AreShared self.now result
-            (record { held = C.held chain.old; counts = C.counts chain.old; loans = C.loans chain.old; valid = C.is_valid chain.old })
-            (record { held = C.held chain.new; counts = C.counts chain.new; loans = C.loans chain.new; valid = C.is_valid chain.new }) }
+            (chain_state C.ChainMeaning chain.old) (chain_state C.ChainMeaning chain.new) }
     {
         self.share(chain, self.first_ahead(direction))
     }
@@ -63,8 +62,7 @@ impl BufferVersions {
         ensures shared { IfOk result (λ shared. shared ≡ buffers.now) }
         ensures shared_over { IfOk result (λ shared. AreBuffersOver shared (C.held chain.new)) }
         ensures kept { AreShared self.now result
-            (record { held = C.held chain.old; counts = C.counts chain.old; loans = C.loans chain.old; valid = C.is_valid chain.old })
-            (record { held = C.held chain.new; counts = C.counts chain.new; loans = C.loans chain.new; valid = C.is_valid chain.new }) }
+            (chain_state C.ChainMeaning chain.old) (chain_state C.ChainMeaning chain.new) }
     {
         buffers.snapshot(chain)
     }
@@ -89,8 +87,7 @@ impl BufferVersions {
         requires owned { Owns (C.held chain.old) (buffers_names shared ++ versions_names self.old) }
         ensures committed { self.new ≡ after_commit self.old }
         ensures released { IsReleased (buffers_names shared ++ versions_names self.old) self.new
-            (record { held = C.held chain.old; counts = C.counts chain.old; loans = C.loans chain.old; valid = C.is_valid chain.old })
-            (record { held = C.held chain.new; counts = C.counts chain.new; loans = C.loans chain.new; valid = C.is_valid chain.new }) }
+            (chain_state C.ChainMeaning chain.old) (chain_state C.ChainMeaning chain.new) }
     {
         let left = mem::replace(&mut self.latest, shared);
         self.undoable.push_front_reserved(left);
@@ -108,8 +105,7 @@ impl BufferVersions {
         ensures stepped { (rest : List BufferTable) → versions_ahead direction self.old ≡ shared ∷ rest →
             self.new ≡ versions_after direction self.old shared rest }
         ensures released { IsReleased (buffers_names shared ++ versions_names self.old) self.new
-            (record { held = C.held chain.old; counts = C.counts chain.old; loans = C.loans chain.old; valid = C.is_valid chain.old })
-            (record { held = C.held chain.new; counts = C.counts chain.new; loans = C.loans chain.new; valid = C.is_valid chain.new }) }
+            (chain_state C.ChainMeaning chain.old) (chain_state C.ChainMeaning chain.new) }
     {
         self.move_latest(direction);
         let edited = mem::replace(&mut self.working, shared);
@@ -154,8 +150,7 @@ fn release_past<C: TileChain>(states: &mut VecDeque<Buffers>, chain: &mut C)
     ensures over { AreAllOver states.new.items (C.held chain.new) }
     ensures same { AreAllSame (C.held chain.old) (C.held chain.new) states.new.items }
     ensures left { Leaves 0 (names_of_all states.old.items) (names_of_all states.new.items)
-        (record { held = C.held chain.old; counts = C.counts chain.old; loans = C.loans chain.old; valid = C.is_valid chain.old })
-        (record { held = C.held chain.new; counts = C.counts chain.new; loans = C.loans chain.new; valid = C.is_valid chain.new }) }
+        (chain_state C.ChainMeaning chain.old) (chain_state C.ChainMeaning chain.new) }
 {
     if states.len() <= MAX_UNDOABLE {
         return;
@@ -174,8 +169,7 @@ fn release_last<C: TileChain>(states: &mut VecDeque<Buffers>, chain: &mut C)
     ensures owned { Owns (C.held chain.new) (names_of_all states.new.items) }
     ensures same { AreAllSame (C.held chain.old) (C.held chain.new) states.new.items }
     ensures left { Leaves 0 (names_of_all states.old.items) (names_of_all states.new.items)
-        (record { held = C.held chain.old; counts = C.counts chain.old; loans = C.loans chain.old; valid = C.is_valid chain.old })
-        (record { held = C.held chain.new; counts = C.counts chain.new; loans = C.loans chain.new; valid = C.is_valid chain.new }) }
+        (chain_state C.ChainMeaning chain.old) (chain_state C.ChainMeaning chain.new) }
 {
     let last = states.pop_back().unwrap();
     last.release(chain);
@@ -188,8 +182,7 @@ fn release_all<C: TileChain>(states: &mut VecDeque<Buffers>, chain: &mut C)
     ensures items { states.new.items ≡ [] }
     ensures capacity { deque_capacity states.new ≡ deque_capacity states.old }
     ensures left { Leaves 0 (names_of_all states.old.items) []
-        (record { held = C.held chain.old; counts = C.counts chain.old; loans = C.loans chain.old; valid = C.is_valid chain.old })
-        (record { held = C.held chain.new; counts = C.counts chain.new; loans = C.loans chain.new; valid = C.is_valid chain.new }) }
+        (chain_state C.ChainMeaning chain.old) (chain_state C.ChainMeaning chain.new) }
 {
     while !states.is_empty() {
         release_last(states, chain);

@@ -7,7 +7,7 @@ ghost use Rattle.model_images.specs.{Level.halved_image, Raw.tile_bytes};
 ghost use Rattle.plane_rect.specs.Rectangle.{InLimits};
 ghost use Rattle.chain_owners.specs.Cause.{HasSwapCause};
 ghost use Rattle.root_tiles.specs.Roots.{HasShape, IsPartOf, IsRootOver, part_shape};
-ghost use Rattle.root_tiles.specs.Chains.{IsRead};
+ghost use Rattle.root_tiles.specs.Chains.{IsRead, chain_state};
 ghost use Rattle.view_reads.specs.Views.{IsPartOfLevel, IsViewOver, ReadsLevels, view_image};
 ghost use Rattle.view_reads.specs.Reaches.{IsReach};
 
@@ -72,8 +72,7 @@ pub fn level_tile<C: TileChain>(
     ensures bytes { IfOk result (IsTileOfLevel (view_image root.old extent (C.held chain.old)) level at) }
     ensures length { IfOk result (λ tile. length tile ≡ tile_length root.old.tiles.format) }
     ensures reads { ReadsLevels level result root.old root.new
-        (record { held = C.held chain.old; counts = C.counts chain.old; loans = C.loans chain.old; valid = C.is_valid chain.old })
-        (record { held = C.held chain.new; counts = C.counts chain.new; loans = C.loans chain.new; valid = C.is_valid chain.new }) }
+        (chain_state C.ChainMeaning chain.old) (chain_state C.ChainMeaning chain.new) }
 {
     match reach_of(root.bounds(), extent, level, at) {
         Reach::Outside => zero_tile(root, chain),
@@ -92,8 +91,7 @@ fn zero_tile<C: TileChain>(root: &Root, chain: &mut C) -> Result<Tile, SwapRefus
     ensures bytes { IfOk result (λ tile. tile ≡ replicate (tile_length root.now.tiles.format) 0) }
     ensures cause { IfErr result (HasSwapCause (C.counts chain.old) (C.counts chain.new) (C.counts chain.old).names) }
     ensures read { IsRead
-        (record { held = C.held chain.old; counts = C.counts chain.old; loans = C.loans chain.old; valid = C.is_valid chain.old })
-        (record { held = C.held chain.new; counts = C.counts chain.new; loans = C.loans chain.new; valid = C.is_valid chain.new }) }
+        (chain_state C.ChainMeaning chain.old) (chain_state C.ChainMeaning chain.new) }
 {
     Ok(chain.zero(TILE_PIXELS * root.format().pixel_bytes())?)
 }
@@ -126,8 +124,7 @@ pub fn level_part<C: TileChain>(
     ensures shape { IfOk result (HasShape (part_shape root.old rect)) }
     ensures image { IfOk result (IsPartOfLevel (view_image root.old extent (C.held chain.old)) level rect) }
     ensures reads { ReadsLevels level result root.old root.new
-        (record { held = C.held chain.old; counts = C.counts chain.old; loans = C.loans chain.old; valid = C.is_valid chain.old })
-        (record { held = C.held chain.new; counts = C.counts chain.new; loans = C.loans chain.new; valid = C.is_valid chain.new }) }
+        (chain_state C.ChainMeaning chain.old) (chain_state C.ChainMeaning chain.new) }
 {
     if level == 0 {
         return first_part(root, chain, extent, rect);
@@ -153,8 +150,7 @@ fn first_part<C: TileChain>(
     ensures image { IfOk result (IsPartOf (view_image root.now extent (C.held chain.old)) rect) }
     ensures cause { IfErr result (HasSwapCause (C.counts chain.old) (C.counts chain.new) (C.counts chain.old).names) }
     ensures read { IsRead
-        (record { held = C.held chain.old; counts = C.counts chain.old; loans = C.loans chain.old; valid = C.is_valid chain.old })
-        (record { held = C.held chain.new; counts = C.counts chain.new; loans = C.loans chain.new; valid = C.is_valid chain.new }) }
+        (chain_state C.ChainMeaning chain.old) (chain_state C.ChainMeaning chain.new) }
 {
     let shared = extent.meet(&rect);
     let part = root.part(chain, shared)?;

@@ -1,5 +1,6 @@
 //! Tiles of the images of views.
 
+ghost use Rattle.root_tiles.specs.Chains.{chain_state};
 ghost use Rattle.view_reads.specs.Views.{IsViewOver, ReadsViewTile};
 
 use chain_contracts::TileChain;
@@ -24,8 +25,7 @@ pub fn view_tile<C: TileChain>(
 ) -> Result<Tile, SwapRefused>
     requires { IsViewOver root.now extent (C.held chain.old) }
     ensures { ReadsViewTile root.now extent at result
-        (record { held = C.held chain.old; counts = C.counts chain.old; loans = C.loans chain.old; valid = C.is_valid chain.old })
-        (record { held = C.held chain.new; counts = C.counts chain.new; loans = C.loans chain.new; valid = C.is_valid chain.new }) }
+        (chain_state C.ChainMeaning chain.old) (chain_state C.ChainMeaning chain.new) }
 {
     let square = at.rect();
     if extent.contains(&square.meet(&root.bounds())) {

@@ -1,6 +1,6 @@
 use Rattle.std.proofs.Common.{All}
 use Rattle.plane_rect.specs.Tile.{IsWhole}
-use Rattle.root_tiles.specs.Chains.{IsRead}
+use Rattle.root_tiles.specs.Chains.{IsRead, chain_state}
 use Rattle.buffer_view.specs.Freezing.{IsFrozenOver}
 use Rattle.buffer_view.proofs.FrozenParts.{AreFrozenBut}
 use Rattle.buffer_view.proofs.freezing.frozen_view.Given as goal
@@ -11,8 +11,7 @@ invariant-loop-at g l =
     × record {
       shape : IsFrozenOver (record { box = l.fn.extent; format = l.fn.root.tiles.format }) l.frozen;
       read : IsRead
-          (record { held = g.C.ChainMeaning.held l.initial.chain; counts = g.C.ChainMeaning.counts l.initial.chain; loans = g.C.ChainMeaning.loans l.initial.chain; valid = g.C.ChainMeaning.is_valid l.initial.chain })
-          (record { held = g.C.ChainMeaning.held l.chain; counts = g.C.ChainMeaning.counts l.chain; loans = g.C.ChainMeaning.loans l.chain; valid = g.C.ChainMeaning.is_valid l.chain });
+          (chain_state g.C.ChainMeaning l.initial.chain) (chain_state g.C.ChainMeaning l.chain);
       whole : All IsWhole l.at-iterator;
       but : AreFrozenBut l.fn.root l.fn.extent (g.C.ChainMeaning.held l.initial.chain) l.frozen l.at-iterator;
     }

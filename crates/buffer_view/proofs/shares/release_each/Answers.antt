@@ -19,20 +19,11 @@ loop-root-preserved g c = (
   tt,
   tt,
   releases-next c.args.roots.items (into_iter_items c.loop-root.root-iterator) (into_iter_items c.next.new.self) c.in-Some.root _ _ _ c.in-Some.ensures.steps.0 c.loop-root.invariant.2
-      c.release.ensures.others c.release.ensures.counts c.release.ensures.loans c.release.ensures.valid,
+      c.release.ensures,
 )
 
-pub returns-clause-others : goal.returns-clause-others
-returns-clause-others g c =
+pub returns : goal.returns
+returns g c =
     let left = into_iter_items c.loop-root.root-iterator in
     let count : length left ≡ into_iter_len c.loop-root.root-iterator = search rules in
     released-all c.args.roots.items left _ _ (count ∙ c.in-None.ensures.steps.0) c.loop-root.invariant.2
-
-pub returns-clause-counts : goal.returns-clause-counts
-returns-clause-counts g c = c.loop-root.invariant.2.counts
-
-pub returns-clause-loans : goal.returns-clause-loans
-returns-clause-loans g c = c.loop-root.invariant.2.loans
-
-pub returns-clause-valid : goal.returns-clause-valid
-returns-clause-valid g c = c.loop-root.invariant.2.valid

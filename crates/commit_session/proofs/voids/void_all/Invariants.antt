@@ -4,7 +4,7 @@ use Rattle.std.specs.Option.{option_map}
 use Rattle.model_states.specs.Cache.{Cached, all_voided, by_pair, itself}
 use Rattle.node_cache.specs.NodeNames.{IsNodeCache, cached_in, pairs_in, sizes_in}
 use Rattle.node_cache.specs.Stores.{AddsNoOther, HaveOneOwner, by_sized}
-use Rattle.session_states.specs.OverChains.{Leaves}
+use Rattle.root_tiles.specs.Chains.{Leaves, chain_state}
 use Rattle.commit_session.proofs.voids.void_all.Given as goal
 
 abbrev pub invariant-loop-node : goal.invariant-loop-node
@@ -19,6 +19,5 @@ invariant-loop-node g l = record {
   alone : HaveOneOwner (g.C.ChainMeaning.held l.chain) (values_of l.cache.names.entries);
   other_names : AddsNoOther (g.C.ChainMeaning.counts l.fn.chain) (g.C.ChainMeaning.counts l.chain) (values_of l.fn.cache.names.entries) (values_of l.cache.names.entries);
   left : Leaves 0 (values_of l.fn.cache.names.entries) (values_of l.cache.names.entries)
-      (record { held = g.C.ChainMeaning.held l.fn.chain; counts = g.C.ChainMeaning.counts l.fn.chain; loans = g.C.ChainMeaning.loans l.fn.chain; valid = g.C.ChainMeaning.is_valid l.fn.chain })
-      (record { held = g.C.ChainMeaning.held l.chain; counts = g.C.ChainMeaning.counts l.chain; loans = g.C.ChainMeaning.loans l.chain; valid = g.C.ChainMeaning.is_valid l.chain });
+      (chain_state g.C.ChainMeaning l.fn.chain) (chain_state g.C.ChainMeaning l.chain);
 }

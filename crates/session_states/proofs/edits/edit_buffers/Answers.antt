@@ -1,31 +1,67 @@
-use Rattle.std.proofs.Common.{rules, sym, subst}
+use Rattle.std.proofs.Common.{rules, ◌∙◌, List, ℕ, ap, sym, subst}
+use Rattle.std.proofs.lemmas.Result.{IfErr-weaker}
+use Rattle.chain_owners.proofs.Growing.{grows-same}
+use Rattle.chain_owners.specs.Counts.{Counts, Grows}
 use Rattle.model_buffers.specs.declared.edit.BufferEdit.{BufferEdit}
-use Rattle.model_buffers.specs.Counts.{tiles_added}
-use Rattle.root_tiles.specs.Chains.{ChainState}
-use Rattle.buffer_view.specs.BufferTables.{buffers_names}
-use Rattle.session_states.specs.OverChains.{Leaves}
-use Rattle.session_states.proofs.Edited.{edited-by, shown-by}
+use Rattle.model_buffers.specs.declared.edit.BufferEdit.TheVariants.{Duplicate, Fill, Put}
+use Rattle.root_tiles.specs.Chains.{chain_state}
+use Rattle.buffer_view.proofs.Refusals.{added-cause}
+use Rattle.buffer_view.specs.Edits.{EditsBuffers}
+use Rattle.session_states.proofs.Edited.{added-edits}
 use Rattle.session_states.proofs.edits.edit_buffers.Goals as goal
 
-pub returns-in-Create-clause-edited : goal.returns-in-Create-clause-edited
-returns-in-Create-clause-edited g c =
-    edited-by _ _ _ _ _ c.create.result c.in-Create.is c.create.ensures.layout (c.create.ensures.table (g.C.ChainMeaning.held c.args.chain.now)) c.create.ensures.carried_out
+pub returns-in-Create : goal.returns-in-Create
+returns-in-Create g c =
+    subst (λ (e : BufferEdit). EditsBuffers e c.create.result c.args.buffers.now c.create.new.self (chain_state g.C.ChainMeaning c.args.chain.now) (chain_state g.C.ChainMeaning c.args.chain.now)) (sym c.in-Create.is)
+    (added-edits _ c.create.result c.args.buffers.now c.create.new.self _ c.create.ensures c.requires.over)
 
-pub returns-in-Create-clause-unchanged : goal.returns-in-Create-clause-unchanged
-returns-in-Create-clause-unchanged g c =
-    shown-by _ _ _ _ _ c.create.result c.create.ensures.layout (c.create.ensures.table (g.C.ChainMeaning.held c.args.chain.now))
+pub returns-in-Sub : goal.returns-in-Sub
+returns-in-Sub g c =
+    subst (λ (e : BufferEdit). EditsBuffers e c.sub.result c.args.buffers.now c.sub.new.self (chain_state g.C.ChainMeaning c.args.chain.now) (chain_state g.C.ChainMeaning c.args.chain.now)) (sym c.in-Sub.is)
+    (added-edits _ c.sub.result c.args.buffers.now c.sub.new.self _ c.sub.ensures c.requires.over)
 
-pub returns-in-Sub-clause-edited : goal.returns-in-Sub-clause-edited
-returns-in-Sub-clause-edited g c =
-    edited-by _ _ _ _ _ c.sub.result c.in-Sub.is c.sub.ensures.layout (c.sub.ensures.table (g.C.ChainMeaning.held c.args.chain.now)) c.sub.ensures.carried_out
+pub returns-in-Duplicate : goal.returns-in-Duplicate
+returns-in-Duplicate g c =
+    let s0 = chain_state g.C.ChainMeaning c.args.chain.now in
+    let s1 = chain_state g.C.ChainMeaning c.dup.new.chain in
+    subst (λ (e : BufferEdit). EditsBuffers e c.dup.result c.args.buffers.now c.dup.new.self s0 s1) (sym c.in-Duplicate.is)
+    (record {
+      layout = c.dup.ensures.layout;
+      table = c.dup.ensures.table;
+      exact = c.dup.ensures.exact;
+      cause = IfErr-weaker c.dup.result _ _ (added-cause c.args.buffers.now.layout (Duplicate c.in-Duplicate.name c.in-Duplicate.from) s0.counts s1.counts) c.dup.ensures.cause;
+      carried_out = c.dup.ensures.carried_out;
+      over = c.dup.ensures.over;
+      left = record {
+        others = c.dup.ensures.others;
+        counts = subst (λ (n : Counts). Grows 0 s0.counts n) (sym c.dup.ensures.counts) (grows-same s0.counts);
+        loans = c.dup.ensures.loans;
+        valid = c.dup.ensures.valid;
+      };
+    })
 
-pub returns-in-Sub-clause-unchanged : goal.returns-in-Sub-clause-unchanged
-returns-in-Sub-clause-unchanged g c =
-    shown-by _ _ _ _ _ c.sub.result c.sub.ensures.layout (c.sub.ensures.table (g.C.ChainMeaning.held c.args.chain.now))
+pub returns-in-Fill : goal.returns-in-Fill
+returns-in-Fill g c =
+    subst (λ (e : BufferEdit). EditsBuffers e c.fill.result c.args.buffers.now c.fill.new.self (chain_state g.C.ChainMeaning c.args.chain.now) (chain_state g.C.ChainMeaning c.fill.new.chain))
+    (ap (λ (xs : List ℕ). Fill c.in-Fill.name c.in-Fill.rect xs) c.as_slice.ensures ∙ sym c.in-Fill.is) c.fill.ensures
 
-pub returns-in-Copy-clause-left : goal.returns-in-Copy-clause-left
-returns-in-Copy-clause-left g c =
-    let s0 : ChainState = record { held = g.C.ChainMeaning.held c.args.chain.now; counts = g.C.ChainMeaning.counts c.args.chain.now; loans = g.C.ChainMeaning.loans c.args.chain.now; valid = g.C.ChainMeaning.is_valid c.args.chain.now } in
-    let s1 : ChainState = record { held = g.C.ChainMeaning.held c.copy.new.chain; counts = g.C.ChainMeaning.counts c.copy.new.chain; loans = g.C.ChainMeaning.loans c.copy.new.chain; valid = g.C.ChainMeaning.is_valid c.copy.new.chain } in
-    subst (λ (e : BufferEdit). Leaves (tiles_added e) (buffers_names c.args.buffers.now) (buffers_names c.copy.new.self) s0 s1) (sym c.in-Copy.is)
-    (record { others = c.copy.ensures.others; counts = search (rules, c.copy.ensures.counts); loans = c.copy.ensures.loans; valid = c.copy.ensures.valid })
+pub returns-in-Put : goal.returns-in-Put
+returns-in-Put g c =
+    subst (λ (e : BufferEdit). EditsBuffers e c.put_raw.result c.args.buffers.now c.put_raw.new.self (chain_state g.C.ChainMeaning c.args.chain.now) (chain_state g.C.ChainMeaning c.put_raw.new.chain))
+    (ap (λ (xs : List ℕ). Put c.in-Put.name c.in-Put.rect xs) c.as_slice-in-Put.ensures ∙ sym c.in-Put.is) c.put_raw.ensures
+
+pub returns-in-Copy : goal.returns-in-Copy
+returns-in-Copy g c =
+    let s0 = chain_state g.C.ChainMeaning c.args.chain.now in
+    let s1 = chain_state g.C.ChainMeaning c.copy.new.chain in
+    let done = c.copy.ensures in
+    subst (λ (e : BufferEdit). EditsBuffers e c.copy.result c.args.buffers.now c.copy.new.self s0 s1) (sym c.in-Copy.is)
+    (record {
+      layout = search (rules, done.layout);
+      table = search (rules, done.table);
+      exact = search (rules, done.exact);
+      cause = search (rules, done.cause);
+      carried_out = search (rules, done.carried_out);
+      over = done.over;
+      left = record { others = done.left.others; counts = search (rules, done.left.counts); loans = done.left.loans; valid = done.left.valid };
+    })

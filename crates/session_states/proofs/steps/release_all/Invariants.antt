@@ -1,7 +1,8 @@
 use Rattle.std.proofs.Common.{◌≡◌, length}
 use Rattle.std.specs.VecDeque.{deque_capacity}
 use Rattle.chain_owners.specs.Owners.{Owns}
-use Rattle.session_states.specs.OverChains.{AreAllOver, Leaves, names_of_all}
+use Rattle.root_tiles.specs.Chains.{Leaves, chain_state}
+use Rattle.session_states.specs.OverChains.{AreAllOver, names_of_all}
 use Rattle.session_states.proofs.steps.release_all.Given as goal
 
 abbrev pub invariant-loop-states : goal.invariant-loop-states
@@ -10,8 +11,7 @@ invariant-loop-states g l = record {
   owned : Owns (g.C.ChainMeaning.held l.chain) (names_of_all l.states.items);
   capacity : deque_capacity l.states ≡ deque_capacity l.initial.states;
   left : Leaves 0 (names_of_all l.initial.states.items) (names_of_all l.states.items)
-      (record { held = g.C.ChainMeaning.held l.initial.chain; counts = g.C.ChainMeaning.counts l.initial.chain; loans = g.C.ChainMeaning.loans l.initial.chain; valid = g.C.ChainMeaning.is_valid l.initial.chain })
-      (record { held = g.C.ChainMeaning.held l.chain; counts = g.C.ChainMeaning.counts l.chain; loans = g.C.ChainMeaning.loans l.chain; valid = g.C.ChainMeaning.is_valid l.chain });
+      (chain_state g.C.ChainMeaning l.initial.chain) (chain_state g.C.ChainMeaning l.chain);
 }
 
 abbrev pub decreases-loop-states : goal.decreases-loop-states

@@ -1,6 +1,6 @@
 use Rattle.std.proofs.Common.{◌≡◌, [], ◌∷◌, ◌++◌, ap, ◌∙◌, Option}
 use Rattle.std.specs.Option.{option_to_list}
-use Rattle.root_tiles.specs.Chains.{ChainState}
+use Rattle.root_tiles.specs.Chains.{chain_state}
 use Rattle.buffer_view.specs.BufferTables.{BufferTable}
 use Rattle.session_states.proofs.Released.{IsLastReleased, last-first, last-released}
 use Rattle.session_states.proofs.steps.release_last.Given
@@ -8,22 +8,19 @@ use Rattle.session_states.proofs.steps.release_last.Goals.{After-release, After-
 use Rattle.session_states.proofs.steps.release_last.Goals as goal
 
 module _ (g : Given.Over) where
-  abbrev state : g.row.C.Denot → ChainState
-  state chain = record { held = g.C.ChainMeaning.held chain; counts = g.C.ChainMeaning.counts chain; loans = g.C.ChainMeaning.loans chain; valid = g.C.ChainMeaning.is_valid chain }
-
   parts : (c : After-unwrap-last g) → c.args.states.now.items ≡ c.pop_back.new.self.items ++ c.unwrap-last.result ∷ []
   parts c = c.pop_back.ensures.items ∙ ap (λ (o : Option BufferTable). c.pop_back.new.self.items ++ option_to_list o) c.unwrap-last.ensures
 
   -- the others, where the last was released
   others : (c : After-release g) → c.args.states.now.items ≡ c.pop_back.new.self.items ++ c.unwrap-last.result ∷ []
-      → IsLastReleased c.args.states.now.items c.pop_back.new.self.items (state c.args.chain.now) (state c.release.new.chain)
+      → IsLastReleased c.args.states.now.items c.pop_back.new.self.items (chain_state g.C.ChainMeaning c.args.chain.now) (chain_state g.C.ChainMeaning c.release.new.chain)
   others c is =
-      last-released c.args.states.now.items c.pop_back.new.self.items c.unwrap-last.result is (state c.args.chain.now) (state c.release.new.chain) c.requires.over c.requires.owned
-      (record { others = c.release.ensures.others; counts = c.release.ensures.counts; loans = c.release.ensures.loans; valid = c.release.ensures.valid })
+      last-released c.args.states.now.items c.pop_back.new.self.items c.unwrap-last.result is (chain_state g.C.ChainMeaning c.args.chain.now) (chain_state g.C.ChainMeaning c.release.new.chain) c.requires.over c.requires.owned
+      c.release.ensures
 
 pub release-requires : goal.release-requires
 release-requires g c =
-    let s0 = state g c.args.chain.now in
+    let s0 = chain_state g.C.ChainMeaning c.args.chain.now in
     last-first c.args.states.now.items c.pop_back.new.self.items c.unwrap-last.result (parts g (goal.at.release-requires g c).After-unwrap-last) s0 s0 c.requires.over c.requires.owned
 
 pub returns-clause-over : goal.returns-clause-over

@@ -56,7 +56,7 @@ module _ (g : Given.Over) (c : After-write g) (is : get_or c.args.self.now.roots
 
   changed : IsChanged c.args.self.now (held_as c.args.self.now.layout (set c.args.self.now.roots c.args.number c.write.new.root)) first last
   changed =
-      root-changed c.args.self.now c.args.number c.index_mut.result.now c.write.new.root first last c.requires.over inside is c.write.ensures.others
+      root-changed c.args.self.now c.args.number c.index_mut.result.now c.write.new.root first last c.requires.over inside is c.write.ensures.left.others
       c.write.ensures.shape c.write.ensures.over
 
 pub invariant_of-self : goal.invariant_of-self
@@ -83,16 +83,18 @@ returns g c =
       table = λ name shape entry.
           on_ok_weaker c.write.result
           (λ image. as_table
-          ∙ shown-painted now c.args.number root new first last c.requires.over inside there c.write.ensures.others c.write.ensures.shape name shape c.args.rect (g.W.Written.pixels c.args.samples.now shape.format c.args.rect) entry
+          ∙ shown-painted now c.args.number root new first last c.requires.over inside there c.write.ensures.left.others c.write.ensures.shape name shape c.args.rect (g.W.Written.pixels c.args.samples.now shape.format c.args.rect) entry
           (subst (λ (f : Format). paints f new) (format-shown now first c.requires.over.table c.args.number root name shape entry there) image)) c.write.ensures.image;
       same = on_err_both c.write.result
           (λ same image. as_table
-          ∙ shown-same now c.args.number root new first last c.requires.over inside there c.write.ensures.others c.write.ensures.shape same image)
+          ∙ shown-same now c.args.number root new first last c.requires.over inside there c.write.ensures.left.others c.write.ensures.shape same image)
           c.write.ensures.unchanged c.write.ensures.same;
       over = changed-of _ now c.self.view_is c.args.number new (λ (b : BufferTable). AreBuffersOver b last) changed.over;
-      others = changed-of _ now c.self.view_is c.args.number new (λ (b : BufferTable). Respects first last (buffers_names now) (buffers_names b)) changed.others;
-      counts = c.write.ensures.counts;
       cause = c.write.ensures.cause;
-      loans = c.write.ensures.loans;
-      valid = c.write.ensures.valid;
+      left = record {
+        others = changed-of _ now c.self.view_is c.args.number new (λ (b : BufferTable). Respects first last (buffers_names now) (buffers_names b)) changed.others;
+        counts = c.write.ensures.left.counts;
+        loans = c.write.ensures.left.loans;
+        valid = c.write.ensures.left.valid;
+      };
     }

@@ -1,17 +1,24 @@
-use Rattle.std.proofs.Common.{◌≡◌, sym, ap, subst, ◌∙◌}
+use Rattle.std.proofs.Common.{◌≡◌, rules, refl, sym, ap, subst, ◌∙◌}
+use Rattle.std.proofs.lemmas.Result.{err_from_is_err_and}
+use Rattle.graph_edits.specs.declared.refused.GraphRefused.TheVariants as graphs
 use Rattle.model_graphs.specs.Facts.{rectangles_of}
-use Rattle.model_states.specs.Commits.{committed}
+use Rattle.model_states.specs.Commits.{Graph, committed}
 use Rattle.model_states.specs.History as history
 use Rattle.model_sessions.specs.Tables.{table_shapes}
 use Rattle.session_states.specs.OverChains.{AreVersionsOver}
 use Rattle.graph_edits.specs.Refusals.{IsRefusalOf}
 use Rattle.commit_session.specs.Parts.{Parts, working_facts}
+use Rattle.commit_session.specs.Commits.{commit_step}
 use Rattle.commit_session.specs.Refusals.{IsRefusedAs, by_graph}
+use Rattle.commit_session.specs.Seen.{IsSessionOf}
+use Rattle.commit_session.specs.declared.refused.SessionRefused.TheVariants.{NoMemory}
 use Rattle.commit_session.specs.Steps.{IsCommitted}
+use Rattle.commit_session.proofs.Acting.{acts-commit}
+use Rattle.commit_session.proofs.Passed.{unstepped}
 use Rattle.commit_session.proofs.CommitStep.{commit-refused-too}
 use Rattle.commit_session.proofs.Still.{commit-here, working-still}
-use Rattle.commit_session.proofs.Chain.{chain_state}
-use Rattle.commit_session.proofs.Changed.{on-err, versions-over}
+use Rattle.root_tiles.specs.Chains.{chain_state}
+use Rattle.commit_session.proofs.Changed.{versions-over}
 use Rattle.commit_session.proofs.Done.{IsMade, commit-both-made, ready}
 use Rattle.commit_session.proofs.Kept.{IsKept, kept, over-here, refused-too, unshared}
 use Rattle.commit_session.proofs.Same.{this}
@@ -33,7 +40,7 @@ module _ (g : Given.Over) where
   refused_still c =
       unshared g.Op.OpMeaning.same g.Op.OpMeaning.meanings _ c.args.self.now c.self.view_is (chain_state g.C.ChainMeaning c.args.chain.now) (chain_state g.C.ChainMeaning c.release.new.chain) c.requires c.in_ok-shared.shared (chain_state g.C.ChainMeaning c.share_working.new.chain)
       c.in_ok-shared.ensures.kept
-      (record { others = c.release.ensures.others; counts = c.release.ensures.counts; loans = c.release.ensures.loans; valid = c.release.ensures.valid })
+      c.release.ensures
       c.commit.new.self c.in-Err.ensures.unchanged
 
   -- ---- what is committed
@@ -76,14 +83,11 @@ module _ (g : Given.Over) where
         (record { local = g.Op.OpMeaning.local; dual = g.Op.OpMeaning.dual }) g.Op.OpMeaning.boxed g.Op.OpMeaning.distinguished.apart (sym is ∙ c.in-Ok.ensures.committed) c.commit-in-Ok.ensures.committed
         (rectangles_of c.deref-2.result.now) (ap rectangles_of c.deref-2.ensures.value) c.in-Ok.ensures.damages
 
-pub returns-in_err-shared-clause-same : goal.returns-in_err-shared-clause-same
-returns-in_err-shared-clause-same g c = λ session of. on-err _ _ ((unshared_still g c).session session of)
-
-pub returns-in_err-shared-clause-over : goal.returns-in_err-shared-clause-over
-returns-in_err-shared-clause-over g c = (unshared_still g c).over
-
-pub returns-in_err-shared-clause-left : goal.returns-in_err-shared-clause-left
-returns-in_err-shared-clause-left g c = (unshared_still g c).left
+pub returns-in_err-shared : goal.returns-in_err-shared
+returns-in_err-shared g c =
+    let p = err_from_is_err_and c.from_residual.result c.from_residual.ensures.1 in
+    rw (p.1, p.2) (unstepped g.Op.OpMeaning.same g.Op.OpMeaning.meanings (commit_step g.Op.OpMeaning.same g.Op.OpMeaning.meanings) NoMemory c.args.self.now c.args.self.now (chain_state g.C.ChainMeaning c.args.chain.now) (chain_state g.C.ChainMeaning c.share_working.new.chain)
+    (unshared_still g c) refl (record { lower = graphs.NoMemory; is = refl; by_cause = tt }) (λ held of. record { lower = graphs.NoMemory; is = refl; by_cause = tt }))
 
 pub settle-requires : goal.settle-requires
 settle-requires g c =
@@ -91,34 +95,33 @@ settle-requires g c =
     c.requires c.commit-in-Ok.new.self _ c.in_ok-shared.ensures.kept c.commit-in-Ok.ensures.released in
     record { cache = is.cache; alone = is.alone }
 
-pub returns-in-Ok-clause-committed : goal.returns-in-Ok-clause-committed
-returns-in-Ok-clause-committed g c = (step g c (commit_is g (goal.at.returns-in-Ok-clause-committed g c).After-deref-2)).1
+pub returns-in-Ok : goal.returns-in-Ok
+returns-in-Ok g c =
+    let made = step g c (commit_is g (goal.at.returns-in-Ok g c).After-deref-2) in
+    record {
+      made = made.1;
+      number = search rules;
+      unchanged = tt;
+      session = made.0.session;
+      action = λ held of.
+          acts-commit g.Op.OpMeaning.same g.Op.OpMeaning.meanings held c.args.self.now.capacity
+          (IsSessionOf g.Op.OpMeaning.same g.Op.OpMeaning.meanings c.settle.new.self (g.C.ChainMeaning.held c.settle.new.chain)) (made.0.session held of);
+      same = λ held of. tt;
+      refused = tt;
+      refused_session = λ held of. tt;
+      over = made.0.over;
+      other_names = search rules;
+      left = made.0.left;
+    }
 
-pub returns-in-Ok-clause-session : goal.returns-in-Ok-clause-session
-returns-in-Ok-clause-session g c = (step g c (commit_is g (goal.at.returns-in-Ok-clause-session g c).After-deref-2)).0.session
-
-pub returns-in-Ok-clause-over : goal.returns-in-Ok-clause-over
-returns-in-Ok-clause-over g c = (step g c (commit_is g (goal.at.returns-in-Ok-clause-over g c).After-deref-2)).0.over
-
-pub returns-in-Ok-clause-left : goal.returns-in-Ok-clause-left
-returns-in-Ok-clause-left g c = (step g c (commit_is g (goal.at.returns-in-Ok-clause-left g c).After-deref-2)).0.left
-
-pub returns-in-Err-clause-same : goal.returns-in-Err-clause-same
-returns-in-Err-clause-same g c = (refused_still g c).session
-
-pub returns-in-Err-clause-over : goal.returns-in-Err-clause-over
-returns-in-Err-clause-over g c = (refused_still g c).over
-
-pub returns-in-Err-clause-left : goal.returns-in-Err-clause-left
-returns-in-Err-clause-left g c = (refused_still g c).left
-
-pub returns-in-Err-clause-refused : goal.returns-in-Err-clause-refused
-returns-in-Err-clause-refused g c = refusal g c (commit_is g (goal.at.returns-in-Err-clause-refused g c).After-deref-2)
-
-pub returns-in-Err-clause-refused_session : goal.returns-in-Err-clause-refused_session
-returns-in-Err-clause-refused_session g c = λ session of.
-    refused-too _ _ (commit-refused-too g.Op.OpMeaning.same g.Op.OpMeaning.meanings c.args.self.now (g.C.ChainMeaning.held c.args.chain.now) session of) c.from.result
-    (refusal g c (commit_is g (goal.at.returns-in-Err-clause-refused_session g c).After-deref-2))
+pub returns-in-Err : goal.returns-in-Err
+returns-in-Err g c =
+    let why = refusal g c (commit_is g (goal.at.returns-in-Err g c).After-deref-2) in
+    unstepped g.Op.OpMeaning.same g.Op.OpMeaning.meanings (commit_step g.Op.OpMeaning.same g.Op.OpMeaning.meanings) c.from.result c.args.self.now _ (chain_state g.C.ChainMeaning c.args.chain.now) (chain_state g.C.ChainMeaning c.release.new.chain)
+    (refused_still g c)
+    (ap (λ (graph : Graph g.row.Op.Denot). let p : Parts g.row.Op.Denot = record (this c.self.view_is) { graph = graph } in p) c.in-Err.ensures.unchanged ∙ c.self.view_is)
+    why
+    (λ held of. refused-too _ _ (commit-refused-too g.Op.OpMeaning.same g.Op.OpMeaning.meanings c.args.self.now (g.C.ChainMeaning.held c.args.chain.now) held of) c.from.result why)
 
 pub share_working-requires : goal.share_working-requires
 share_working-requires g c =

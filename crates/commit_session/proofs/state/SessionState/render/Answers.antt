@@ -1,20 +1,25 @@
-use Rattle.std.proofs.Common.{◌≡◌, ℕ, ◌+◌, ◌≤◌, false, true, List, length, refl, sym, ap, ◌∙◌}
+use Rattle.std.proofs.Common.{◌≡◌, rules, ℕ, ◌+◌, ◌≤◌, false, true, List, Result, Err, length, refl, sym, subst, ap, ◌∙◌}
+use Rattle.std.proofs.lemmas.Result.{err_from_is_err_and}
 use Rattle.std.proofs.lemmas.Option.{same_Some}
 use Rattle.plane_rect.specs.Rectangle.{scaled}
-use Rattle.root_tiles.specs.Chains.{ChainState}
+use Rattle.root_tiles.specs.Chains.{chain_state}
 use Rattle.model_buffers.specs.Layout.{facts_of}
 use Rattle.model_graphs.specs.declared.node.NodeFact.{NodeFact}
 use Rattle.model_graphs.specs.Facts.{specs_of}
+use Rattle.model_graphs.specs.Node.{index_of}
+use Rattle.model_states.specs.Damage.{IsStated}
+use Rattle.node_tiles.specs.Stated.{shape_at}
+use Rattle.strip_patches.specs.Shown.{picture_format}
+use Rattle.strip_patches.specs.declared.picture.Picture.{Picture}
+use Rattle.commit_session.specs.declared.refused.SessionRefused.{SessionRefused}
 use Rattle.model_states.specs.Edits.{has_node}
 use Rattle.strip_renders.specs.Moments.{Moment}
-use Rattle.strip_renders.proofs.Moments.{matched-err}
 use Rattle.render_workers.specs.declared.refused.RenderRefused.TheVariants as renders
 use Rattle.render_workers.specs.Refusals.{CanBeRendered}
 use Rattle.render_workers.specs.Requests.{Request, pairs_requested, request}
 use Rattle.commit_session.specs.Parts.{Parts}
 use Rattle.commit_session.specs.Refusals.{by_render}
-use Rattle.commit_session.proofs.Changed.{on-err}
-use Rattle.commit_session.proofs.Handed.{IsAsked, IsLeft, IsShownBy, by-session, done-image, done-over, done-rendered, done-session, err-as, err-same, handed-buffers, handed-cache, handed-node, handed-on, handed-owned, handed-sized, handed-stated, holds-unless, left-cause, left-names, left-others, left-same, left-states, ok-never, plan-unchanged, refused-over, refused-session, some-unless}
+use Rattle.commit_session.proofs.Handed.{IsAsked, IsLeft, IsShownBy, by-session, done-image, done-over, done-rendered, done-session, err-same, handed-buffers, handed-cache, handed-node, handed-owned, handed-sized, handed-stated, holds-unless, left-cause, left-names, left-others, left-same, left-states, ok-never, plan-unchanged, refused-over, refused-session, some-unless}
 use Rattle.commit_session.proofs.Requested.{entries-same}
 use Rattle.commit_session.proofs.Same.{this}
 use Rattle.commit_session.proofs.state.SessionState.render.Given
@@ -22,13 +27,10 @@ use Rattle.commit_session.proofs.state.SessionState.render.Goals.{After-render, 
 use Rattle.commit_session.proofs.state.SessionState.render.Goals as goal
 
 module _ (g : Given.Over) where
-  abbrev state : g.row.C.Denot → ChainState
-  state chain = record { held = g.C.ChainMeaning.held chain; counts = g.C.ChainMeaning.counts chain; loans = g.C.ChainMeaning.loans chain; valid = g.C.ChainMeaning.is_valid chain }
-
   -- ---- what is handed to the call
 
   module _ (c : goal.After-render-arg-4-1 g) where
-    asked : IsAsked g.Op.OpMeaning.same g.Op.OpMeaning.meanings (this c.self.view_is) c.args.self.now (state c.args.chain.now) c.new-sources.result.buffers.now c.nodes.result.now c.unwrap-capacity.result
+    asked : IsAsked g.Op.OpMeaning.same g.Op.OpMeaning.meanings (this c.self.view_is) c.args.self.now (chain_state g.C.ChainMeaning c.args.chain.now) c.new-sources.result.buffers.now c.nodes.result.now c.unwrap-capacity.result
     asked = record {
       is = c.self.view_is;
       over = c.requires.over;
@@ -47,7 +49,7 @@ module _ (g : Given.Over) where
     abbrev asked_for : Request
     asked_for = request c.args.node c.args.level c.args.rect
 
-    left : IsLeft g.Op.OpMeaning.meanings v (state c.args.chain.now) (state c.render.new.chain) c.new-sources.result.buffers.now c.nodes.result.now asked_for
+    left : IsLeft g.Op.OpMeaning.meanings v (chain_state g.C.ChainMeaning c.args.chain.now) (chain_state g.C.ChainMeaning c.render.new.chain) c.new-sources.result.buffers.now c.nodes.result.now asked_for
         c.render.new.cache.names.entries c.render.new.cache.names.cap c.render.new.cache.capacity
     left = record {
       cache = c.render.ensures.cache_over;
@@ -63,7 +65,7 @@ module _ (g : Given.Over) where
     }
 
   module _ (c : goal.After-saturating_add-self-inside-2 g) where
-    done : IsShownBy g.Op.OpMeaning.meanings (this c.self.view_is) (state c.args.chain.now) (state c.render.new.chain) c.new-sources.result.buffers.now c.nodes.result.now
+    done : IsShownBy g.Op.OpMeaning.meanings (this c.self.view_is) (chain_state g.C.ChainMeaning c.args.chain.now) (chain_state g.C.ChainMeaning c.render.new.chain) c.new-sources.result.buffers.now c.nodes.result.now
         (request c.args.node c.args.level c.args.rect) c.render.new.cache.names.entries c.in_ok-done.done.picture c.unwrap-capacity.result c.in_ok-done.done.applied c.in_ok-done.done.reused
         c.saturating_add-self-inside.result c.saturating_add-self-inside-2.result
     done =
@@ -97,112 +99,71 @@ render-requires-clause-owned g c κs within = handed-owned (asked g c)
 pub render-requires-clause-sized : goal.render-requires-clause-sized
 render-requires-clause-sized g c κs within = handed-sized (asked g c)
 
-pub returns-in_err-done-clause-over : goal.returns-in_err-done-clause-over
-returns-in_err-done-clause-over g c =
-    let at = goal.at.returns-in_err-done-clause-over g c in
-    refused-over (asked g at.After-render-arg-4-1) (left g at.After-render) _ _ refl refl
+pub returns-in_err-done : goal.returns-in_err-done
+returns-in_err-done g c =
+    let at = goal.at.returns-in_err-done g c in
+    let asked = asked g at.After-render-arg-4-1 in
+    let left = left g at.After-render in
+    let lower = c.in_err-done.field-0.0 in
+    let error : SessionRefused → Result Picture SessionRefused = λ e. Err e in
+    let p = err_from_is_err_and c.from_residual.result c.from_residual.ensures.1 in
+    rw (p.1, p.2) (record {
+      rect = tt;
+      format = tt;
+      image = λ held of some. tt;
+      patch = λ is. tt;
+      rendered = tt;
+      session = λ held of. tt;
+      can = tt;
+      stated = subst (λ (q : Parts g.row.Op.Denot). IsStated g.Op.OpMeaning.meanings q.graph.latest) c.self.view_is c.nodes.ensures.graph.latest.stated;
+      unknown = λ none. ap error (ap by_render (err-same _ lower renders.UnknownNode refl (c.in_err-done.ensures.unknown (handed-node asked c.args.node false none))));
+      outside = λ there far. ap error (ap by_render (err-same _ lower renders.Rect refl (c.in_err-done.ensures.outside (handed-node asked c.args.node true there) far)));
+      cause = record { lower = lower; is = refl; by_cause = left-cause asked left lower c.in_err-done.ensures.few_names };
+      unchanged =
+          plan-unchanged lower _ _ (g.K.OpKit.permits c.args.purse.now) (g.K.OpKit.permits c.render.new.purse) _ (λ same permits. (
+            left-same asked left _ _ (entries-same c.render.new.cache.names.entries (this c.self.view_is).entries (ap (λ (m : Moment). m.pairs) same) (ap (λ (m : Moment). m.cache_names) same)) refl refl,
+            ap (λ (m : Moment). m.held) same,
+            ap (λ (m : Moment). m.counts) same,
+            permits,
+          )) c.in_err-done.ensures.unchanged;
+      refused_session = λ held of. refused-session asked left _ _ refl refl held of;
+      states = left-states asked left _ _;
+      uncounted = (ap (λ (q : Parts g.row.Op.Denot). q.applied) c.self.view_is, ap (λ (q : Parts g.row.Op.Denot). q.reused) c.self.view_is);
+      permits =
+          by-session asked
+          (λ (xs : List (NodeFact g.row.Op.Denot)) (n : ℕ). (g.K.OpKit.permits c.render.new.purse ≤ g.K.OpKit.permits c.args.purse.now)
+          × (g.K.OpKit.permits c.args.purse.now ≤ g.K.OpKit.permits c.render.new.purse + length (pairs_requested g.Op.OpMeaning.meanings xs (asked_for g at.After-render)))) c.in_err-done.ensures.permits;
+      over = refused-over asked left _ _ refl refl;
+      other_names = left-others asked left;
+      left = left-names asked left;
+    })
 
-pub returns-in_err-done-clause-refused_session : goal.returns-in_err-done-clause-refused_session
-returns-in_err-done-clause-refused_session g c =
-    let at = goal.at.returns-in_err-done-clause-refused_session g c in
-    λ session of. on-err c.from_residual.result _ (refused-session (asked g at.After-render-arg-4-1) (left g at.After-render) _ _ refl refl session of)
-
-pub returns-in_err-done-clause-states : goal.returns-in_err-done-clause-states
-returns-in_err-done-clause-states g c =
-    let at = goal.at.returns-in_err-done-clause-states g c in
-    left-states (asked g at.After-render-arg-4-1) (left g at.After-render) _ _
-
-pub returns-in_err-done-clause-left : goal.returns-in_err-done-clause-left
-returns-in_err-done-clause-left g c =
-    let at = goal.at.returns-in_err-done-clause-left g c in
-    left-names (asked g at.After-render-arg-4-1) (left g at.After-render)
-
-pub returns-in_err-done-clause-other_names : goal.returns-in_err-done-clause-other_names
-returns-in_err-done-clause-other_names g c =
-    let at = goal.at.returns-in_err-done-clause-other_names g c in
-    left-others (asked g at.After-render-arg-4-1) (left g at.After-render)
-
-pub returns-in_err-done-clause-unknown : goal.returns-in_err-done-clause-unknown
-returns-in_err-done-clause-unknown g c =
-    let at = goal.at.returns-in_err-done-clause-unknown g c in
-    λ none. err-as c.from_residual.result (by_render c.in_err-done.field-0.0) _ c.from_residual.ensures.1 (ap by_render (err-same _ c.in_err-done.field-0.0 renders.UnknownNode refl (c.in_err-done.ensures.unknown (handed-node (asked g at.After-render-arg-4-1) c.args.node false none))))
-
-pub returns-in_err-done-clause-outside : goal.returns-in_err-done-clause-outside
-returns-in_err-done-clause-outside g c =
-    let at = goal.at.returns-in_err-done-clause-outside g c in
-    λ there far. err-as c.from_residual.result (by_render c.in_err-done.field-0.0) _ c.from_residual.ensures.1 (ap by_render (err-same _ c.in_err-done.field-0.0 renders.Rect refl (c.in_err-done.ensures.outside (handed-node (asked g at.After-render-arg-4-1) c.args.node true there) far)))
-
-pub returns-in_err-done-clause-cause : goal.returns-in_err-done-clause-cause
-returns-in_err-done-clause-cause g c =
-    let at = goal.at.returns-in_err-done-clause-cause g c in
-    handed-on c.from_residual.result (by_render c.in_err-done.field-0.0) _ c.from_residual.ensures.1
-    (record { lower = c.in_err-done.field-0.0; is = refl; by_cause = left-cause (asked g at.After-render-arg-4-1) (left g at.After-render) c.in_err-done.field-0.0 c.in_err-done.ensures.few_names })
-
-pub returns-in_err-done-clause-unchanged : goal.returns-in_err-done-clause-unchanged
-returns-in_err-done-clause-unchanged g c =
-    let at = goal.at.returns-in_err-done-clause-unchanged g c in
-    handed-on c.from_residual.result (by_render c.in_err-done.field-0.0) _ c.from_residual.ensures.1
-    (plan-unchanged c.in_err-done.field-0.0 _ _ (g.K.OpKit.permits c.args.purse.now) (g.K.OpKit.permits c.render.new.purse) _ (λ same permits. (
-      left-same (asked g at.After-render-arg-4-1) (left g at.After-render) _ _ (entries-same c.render.new.cache.names.entries (this c.self.view_is).entries (ap (λ (m : Moment). m.pairs) same) (ap (λ (m : Moment). m.cache_names) same)) refl refl,
-      ap (λ (m : Moment). m.held) same,
-      ap (λ (m : Moment). m.counts) same,
-      permits,
-    )) c.in_err-done.ensures.unchanged)
-
-pub returns-in_err-done-clause-permits : goal.returns-in_err-done-clause-permits
-returns-in_err-done-clause-permits g c =
-    let at = goal.at.returns-in_err-done-clause-permits g c in
-    matched-err c.from_residual.result _ _ _ c.from_residual.ensures.1
-    (by-session (asked g at.After-render-arg-4-1)
-    (λ (xs : List (NodeFact g.row.Op.Denot)) (n : ℕ). (g.K.OpKit.permits c.render.new.purse ≤ g.K.OpKit.permits c.args.purse.now)
-    × (g.K.OpKit.permits c.args.purse.now ≤ g.K.OpKit.permits c.render.new.purse + length (pairs_requested g.Op.OpMeaning.meanings xs (asked_for g at.After-render)))) c.in_err-done.ensures.permits)
-
-pub returns-clause-over : goal.returns-clause-over
-returns-clause-over g c =
-    let at = goal.at.returns-clause-over g c in
-    done-over (asked g at.After-render-arg-4-1) (left g at.After-render) _ _ (done g at.After-saturating_add-self-inside-2)
-
-pub returns-clause-session : goal.returns-clause-session
-returns-clause-session g c =
-    let at = goal.at.returns-clause-session g c in
-    done-session (asked g at.After-render-arg-4-1) (left g at.After-render) _ _ (done g at.After-saturating_add-self-inside-2)
-
-pub returns-clause-image : goal.returns-clause-image
-returns-clause-image g c =
-    let at = goal.at.returns-clause-image g c in
-    done-image (asked g at.After-render-arg-4-1) (left g at.After-render) _ _ (done g at.After-saturating_add-self-inside-2)
-
-pub returns-clause-states : goal.returns-clause-states
-returns-clause-states g c =
-    let at = goal.at.returns-clause-states g c in
-    left-states (asked g at.After-render-arg-4-1) (left g at.After-render) _ _
-
-pub returns-clause-left : goal.returns-clause-left
-returns-clause-left g c =
-    let at = goal.at.returns-clause-left g c in
-    left-names (asked g at.After-render-arg-4-1) (left g at.After-render)
-
-pub returns-clause-other_names : goal.returns-clause-other_names
-returns-clause-other_names g c =
-    let at = goal.at.returns-clause-other_names g c in
-    left-others (asked g at.After-render-arg-4-1) (left g at.After-render)
-
-pub returns-clause-rendered : goal.returns-clause-rendered
-returns-clause-rendered g c =
-    let at = goal.at.returns-clause-rendered g c in
-    done-rendered (asked g at.After-render-arg-4-1) (left g at.After-render) _ _ (done g at.After-saturating_add-self-inside-2)
-
-pub returns-clause-can : goal.returns-clause-can
-returns-clause-can g c =
-    let at = goal.at.returns-clause-can g c in
-    by-session (asked g at.After-render-arg-4-1) (λ (xs : List (NodeFact g.row.Op.Denot)) (n : ℕ). CanBeRendered g.Op.OpMeaning.meanings xs (asked_for g at.After-render) n) (done g at.After-saturating_add-self-inside-2).can
-
-pub returns-clause-unknown : goal.returns-clause-unknown
-returns-clause-unknown g c =
-    let at = goal.at.returns-clause-unknown g c in
-    λ none. absurd (ok-never _ c.in_ok-done.done renders.UnknownNode refl (c.in_ok-done.ensures.unknown (handed-node (asked g at.After-render-arg-4-1) c.args.node false none)))
-
-pub returns-clause-outside : goal.returns-clause-outside
-returns-clause-outside g c =
-    let at = goal.at.returns-clause-outside g c in
-    λ there far. absurd (ok-never _ c.in_ok-done.done renders.Rect refl (c.in_ok-done.ensures.outside (handed-node (asked g at.After-render-arg-4-1) c.args.node true there) far))
+pub returns : goal.returns
+returns g c =
+    let at = goal.at.returns g c in
+    let asked = asked g at.After-render-arg-4-1 in
+    let left = left g at.After-render in
+    let shown = done g at.After-saturating_add-self-inside-2 in
+    record {
+      rect = c.in_ok-done.ensures.rect;
+      format =
+          by-session asked
+          (λ (xs : List (NodeFact g.row.Op.Denot)) (n : ℕ). picture_format c.in_ok-done.done.picture ≡ (shape_at xs (index_of (specs_of xs) c.args.node)).format) c.in_ok-done.ensures.format;
+      image = done-image asked left _ _ shown;
+      patch = c.in_ok-done.ensures.patch;
+      rendered = done-rendered asked left _ _ shown;
+      session = done-session asked left _ _ shown;
+      can = by-session asked (λ (xs : List (NodeFact g.row.Op.Denot)) (n : ℕ). CanBeRendered g.Op.OpMeaning.meanings xs (asked_for g at.After-render) n) shown.can;
+      stated = subst (λ (q : Parts g.row.Op.Denot). IsStated g.Op.OpMeaning.meanings q.graph.latest) c.self.view_is c.nodes.ensures.graph.latest.stated;
+      unknown = λ none. absurd (ok-never _ c.in_ok-done.done renders.UnknownNode refl (c.in_ok-done.ensures.unknown (handed-node asked c.args.node false none)));
+      outside = λ there far. absurd (ok-never _ c.in_ok-done.done renders.Rect refl (c.in_ok-done.ensures.outside (handed-node asked c.args.node true there) far));
+      cause = tt;
+      unchanged = tt;
+      refused_session = λ held of. tt;
+      states = left-states asked left _ _;
+      uncounted = tt;
+      permits = search rules;
+      over = done-over asked left _ _ shown;
+      other_names = left-others asked left;
+      left = left-names asked left;
+    }

@@ -8,7 +8,7 @@ use Rattle.pixel_formats.specs.Row.{Pixel}
 use Rattle.pixel_formats.specs.declared.format.Format.{Format}
 use Rattle.plane_rect.specs.Tile.{Tile}
 use Rattle.plane_rect.proofs.Lists.{Contains-cases, Contains-first, Contains-later}
-use Rattle.root_tiles.specs.Chains.{ChainState}
+use Rattle.root_tiles.specs.Chains.{ChainState, chain_state}
 use Rattle.root_tiles.specs.Paints.{IsPainted, paint_pixels}
 use Rattle.root_tiles.specs.Made.{MakesMore}
 use Rattle.root_tiles.proofs.ChainReads.{grows-read, refused-after}
@@ -67,13 +67,13 @@ module _ (g : Given.Over) (c : After-next_tile g) where
   f = paint_pixels c.args.self.now.tiles.format c.args.rect c.args.paint.now
 
   abbrev s0 : ChainState
-  s0 = record { held = g.C.ChainMeaning.held c.args.chain.now; counts = g.C.ChainMeaning.counts c.args.chain.now; loans = g.C.ChainMeaning.loans c.args.chain.now; valid = g.C.ChainMeaning.is_valid c.args.chain.now }
+  s0 = chain_state g.C.ChainMeaning c.args.chain.now
 
   abbrev s1 : ChainState
-  s1 = record { held = g.C.ChainMeaning.held c.loop-at.chain; counts = g.C.ChainMeaning.counts c.loop-at.chain; loans = g.C.ChainMeaning.loans c.loop-at.chain; valid = g.C.ChainMeaning.is_valid c.loop-at.chain }
+  s1 = chain_state g.C.ChainMeaning c.loop-at.chain
 
   abbrev s2 : ChainState
-  s2 = record { held = g.C.ChainMeaning.held c.next_tile.new.chain; counts = g.C.ChainMeaning.counts c.next_tile.new.chain; loans = g.C.ChainMeaning.loans c.next_tile.new.chain; valid = g.C.ChainMeaning.is_valid c.next_tile.new.chain }
+  s2 = chain_state g.C.ChainMeaning c.next_tile.new.chain
 
   mid : MakesMore c.args.self.now c.args.part c.args.rect f c.loop-at.invariant.2.added s0 s2 c.args.made.now.entries c.loop-at.made.entries
   mid =
@@ -92,7 +92,7 @@ loop-at-preserved g c =
     let entries = c.loop-at.made.entries in
     let more = c.add.new.self.entries in
     let added = c.in_ok-add.ensures in
-    let s3 : ChainState = record { held = g.C.ChainMeaning.held c.add.new.chain; counts = g.C.ChainMeaning.counts c.add.new.chain; loans = g.C.ChainMeaning.loans c.add.new.chain; valid = g.C.ChainMeaning.is_valid c.add.new.chain } in
+    let s3 : ChainState = chain_state g.C.ChainMeaning c.add.new.chain in
     let steps : c.loop-at.at-iterator ≡ at ∷ c.next.new.self = c.in-Some.ensures.steps in
     let here = before.left at (subst (λ (ts : List Tile). Contains ts at) (sym steps) (Contains-first at c.next.new.self at refl)) in
     let painted : IsSome (s0 g step).held.content → IsPainted root.tiles.format (bytes_in (s0 g step).held root.tiles.put) rect (f g step) at c.in_ok-tile.tile =
@@ -149,7 +149,7 @@ returns-in_err-add-clause-made g c =
     let before = c.loop-at.invariant.2 in
     let entries = c.loop-at.made.entries in
     let refused = c.in_err-add.ensures in
-    let s3 : ChainState = record { held = g.C.ChainMeaning.held c.add.new.chain; counts = g.C.ChainMeaning.counts c.add.new.chain; loans = g.C.ChainMeaning.loans c.add.new.chain; valid = g.C.ChainMeaning.is_valid c.add.new.chain } in
+    let s3 : ChainState = chain_state g.C.ChainMeaning c.add.new.chain in
     let some : before.added + 1 ≤ tile_count part = omega (arith, before.count, ap length c.in-Some.ensures.steps) in
     subst (MakesMore root part rect (f g step) (tile_count part) (s0 g step) s3 first) (sym refused.unchanged)
     (more-raise root part rect (f g step) (before.added + 1) (tile_count part) (s0 g step) s3 first entries some

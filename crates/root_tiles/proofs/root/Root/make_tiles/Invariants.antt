@@ -2,6 +2,7 @@ use Rattle.std.proofs.Common.{◌≡◌, ℕ, ◌+◌, ◌⊎◌, Contains, leng
 use Rattle.std.specs.Map.{keys_of}
 use Rattle.model_images.specs.TileCounts.{tile_count}
 use Rattle.plane_rect.specs.Tile.{IsWhole, Meets, Tile}
+use Rattle.root_tiles.specs.Chains.{chain_state}
 use Rattle.root_tiles.specs.Cutting.{cutting_of}
 use Rattle.root_tiles.specs.Made.{MakesMore}
 use Rattle.root_tiles.specs.Paints.{paint_pixels}
@@ -16,8 +17,7 @@ invariant-loop-at g l =
       added : ℕ;
       grown : length l.made.entries ≡ length l.initial.made.entries + added;
       makes : MakesMore l.fn.self l.fn.part l.fn.rect (paint_pixels l.fn.self.tiles.format l.fn.rect l.fn.paint) added
-          (record { held = g.C.ChainMeaning.held l.initial.chain; counts = g.C.ChainMeaning.counts l.initial.chain; loans = g.C.ChainMeaning.loans l.initial.chain; valid = g.C.ChainMeaning.is_valid l.initial.chain })
-          (record { held = g.C.ChainMeaning.held l.chain; counts = g.C.ChainMeaning.counts l.chain; loans = g.C.ChainMeaning.loans l.chain; valid = g.C.ChainMeaning.is_valid l.chain })
+          (chain_state g.C.ChainMeaning l.initial.chain) (chain_state g.C.ChainMeaning l.chain)
           l.initial.made.entries l.made.entries;
       count : added + length l.at-iterator ≡ tile_count l.fn.part;
       left : (tile : Tile) → Contains l.at-iterator tile → Meets tile l.fn.part × IsWhole tile;

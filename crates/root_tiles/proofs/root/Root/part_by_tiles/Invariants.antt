@@ -1,6 +1,6 @@
 use Rattle.std.specs.Prelude.{IsSome}
 use Rattle.level_tables.specs.LevelTiles.{bytes_in}
-use Rattle.root_tiles.specs.Chains.{IsRead}
+use Rattle.root_tiles.specs.Chains.{IsRead, chain_state}
 use Rattle.root_tiles.specs.Roots.{HasShape, part_shape}
 use Rattle.root_tiles.proofs.Blitting.{Blitted}
 use Rattle.root_tiles.proofs.root.Root.part_by_tiles.Given as goal
@@ -11,8 +11,7 @@ invariant-loop-at g l =
     × record {
       shape : HasShape (part_shape l.fn.self l.fn.rect) l.patch;
       read : IsRead
-          (record { held = g.C.ChainMeaning.held l.initial.chain; counts = g.C.ChainMeaning.counts l.initial.chain; loans = g.C.ChainMeaning.loans l.initial.chain; valid = g.C.ChainMeaning.is_valid l.initial.chain })
-          (record { held = g.C.ChainMeaning.held l.chain; counts = g.C.ChainMeaning.counts l.chain; loans = g.C.ChainMeaning.loans l.chain; valid = g.C.ChainMeaning.is_valid l.chain });
+          (chain_state g.C.ChainMeaning l.initial.chain) (chain_state g.C.ChainMeaning l.chain);
       blitted : IsSome (g.C.ChainMeaning.held l.initial.chain).content
           → Blitted (bytes_in (g.C.ChainMeaning.held l.initial.chain) l.fn.self.tiles.put) l.patch l.at-iterator;
     }

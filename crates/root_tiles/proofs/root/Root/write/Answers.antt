@@ -1,13 +1,17 @@
-use Rattle.std.proofs.Common.{◌≡◌, ℕ, ◌∙◌, rules, ap, sym, subst}
+use Rattle.std.proofs.Common.{◌≡◌, ℕ, ◌∙◌, rules, arith, Err, refl, ap, sym, subst}
+use Rattle.std.proofs.lemmas.Result.{err_from_is_err_and}
 use Rattle.std.specs.Option.{option_map}
-use Rattle.chain_owners.proofs.Ownership.{respects-both}
+use Rattle.chain_owners.proofs.Growing.{grows-more, grows-same}
+use Rattle.chain_owners.proofs.Ownership.{respects-both, respects-same}
+use Rattle.chain_owners.specs.declared.swap_refused.SwapRefused.TheVariants.{NoMemory}
+use Rattle.root_tiles.specs.Writes.{IsWritten}
 use Rattle.chain_owners.specs.Owners.{Respects}
 use Rattle.level_tables.specs.LevelTiles.{LevelTiles}
 use Rattle.model_images.specs.Paint.{painted}
 use Rattle.model_images.specs.TileCounts.{tile_count}
 use Rattle.pixel_formats.specs.Row.{Pixel}
 use Rattle.plane_rect.specs.Rectangle.{Includes, Rectangle}
-use Rattle.root_tiles.specs.Chains.{ChainState}
+use Rattle.root_tiles.specs.Chains.{ChainState, chain_state}
 use Rattle.root_tiles.specs.Roots.{IsRootOver, RootTiles, root_image, root_names, root_shape}
 use Rattle.root_tiles.proofs.Written.{given-up-image, given-up-others, given-up-over, switched-image, switched-over}
 use Rattle.root_tiles.proofs.root.Root.write.Given
@@ -36,10 +40,36 @@ module _ (g : Given.Over) (c : After-make g) where
   f = g.M.TileMaker.pixels c.args.maker.now root.tiles.format c.args.rect
 
   abbrev s0 : ChainState
-  s0 = record { held = g.C.ChainMeaning.held c.args.chain.now; counts = g.C.ChainMeaning.counts c.args.chain.now; loans = g.C.ChainMeaning.loans c.args.chain.now; valid = g.C.ChainMeaning.is_valid c.args.chain.now }
+  s0 = chain_state g.C.ChainMeaning c.args.chain.now
 
   abbrev s2 : ChainState
-  s2 = record { held = g.C.ChainMeaning.held c.make.new.chain; counts = g.C.ChainMeaning.counts c.make.new.chain; loans = g.C.ChainMeaning.loans c.make.new.chain; valid = g.C.ChainMeaning.is_valid c.make.new.chain }
+  s2 = chain_state g.C.ChainMeaning c.make.new.chain
+
+-- ---- what is left
+
+-- there was no memory for them
+unwritten : {X : Type 0} (r : Rectangle) (f : ℕ → ℕ → Pixel) (old new : RootTiles) (state : ChainState) → new ≡ old → IsRootOver old state.held
+    → IsWritten {X = X} r f (Err NoMemory) old new state state
+unwritten {X} r f old new state is over = subst (λ (root : RootTiles). IsWritten {X = X} r f (Err NoMemory) old root state state) (sym is) (record {
+  image = tt;
+  shape = refl;
+  unchanged = refl;
+  same = refl;
+  over = over;
+  cause = tt;
+  left = record {
+    others = respects-same state.held (root_names old);
+    counts = grows-more 0 (tile_count r) state.counts state.counts (omega arith) (grows-same state.counts);
+    loans = refl;
+    valid = λ valid. valid;
+  };
+})
+
+pub returns-in_err-reserve : goal.returns-in_err-reserve
+returns-in_err-reserve g c =
+    let same : (record { box = c.self.inside.bounds; tiles = c.reserve.new.self.tiles }) ≡ c.args.self.now = ap (λ (tiles : LevelTiles). let r : RootTiles = record { box = c.self.inside.bounds; tiles = tiles } in r) c.reserve.ensures.tiles ∙ c.self.view_is in
+    let p = err_from_is_err_and c.from_residual.result c.from_residual.ensures.1 in
+    rw (p.1, p.2) (unwritten c.args.rect (g.M.TileMaker.pixels c.args.maker.now c.args.self.now.tiles.format c.args.rect) c.args.self.now _ (chain_state g.C.ChainMeaning c.args.chain.now) same c.requires.over)
 
 pub returns-in-Err : goal.returns-in-Err
 returns-in-Err g c =
@@ -56,12 +86,14 @@ returns-in-Err g c =
       same = given-up-image (root g at) c.args.rect (f g at) n (s0 g at) (s2 g at) entries made new c.discard.ensures.others
           ∙ ap (λ (r : RootTiles). root_image r held) (same g at);
       over = given-up-over (root g at) c.args.rect (f g at) n (s0 g at) (s2 g at) entries made new c.discard.ensures.others;
-      others = subst (λ (r : RootTiles). Respects held new (root_names r) (root_names (root g at))) (same g at)
-          (given-up-others (root g at) c.args.rect (f g at) n (s0 g at) (s2 g at) entries made new c.discard.ensures.others);
-      counts = search rules;
       cause = search rules;
-      loans = search rules;
-      valid = search rules;
+      left = record {
+        others = subst (λ (r : RootTiles). Respects held new (root_names r) (root_names (root g at))) (same g at)
+            (given-up-others (root g at) c.args.rect (f g at) n (s0 g at) (s2 g at) entries made new c.discard.ensures.others);
+        counts = search rules;
+        loans = search rules;
+        valid = search rules;
+      };
     }
 
 pub returns : goal.returns
@@ -90,10 +122,12 @@ returns g c =
       over = switched-over (root g at) rect (f g at) n (s0 g at) (s2 g at) entries made tiles new
           c.switch.ensures.format c.switch.ensures.bytes c.switch.ensures.others.exposed over inside all
           c.switch.ensures.over c.switch.ensures.positions;
-      others = subst (λ (r : RootTiles). Respects held new (root_names r) (root_names after)) (same g at)
-          (respects-both held (s2 g at).held (root_names (root g at)) _ made.others new (root_names after) c.switch.ensures.others);
-      counts = search rules;
       cause = tt;
-      loans = search rules;
-      valid = search rules;
+      left = record {
+        others = subst (λ (r : RootTiles). Respects held new (root_names r) (root_names after)) (same g at)
+            (respects-both held (s2 g at).held (root_names (root g at)) _ made.others new (root_names after) c.switch.ensures.others);
+        counts = search rules;
+        loans = search rules;
+        valid = search rules;
+      };
     }

@@ -2,9 +2,9 @@ use Rattle.std.proofs.Common.{◌≡◌, List, [], ◌∷◌, ◌++◌, length, 
 use Rattle.std.proofs.lemmas.List.{length-take}
 use Rattle.pixel_formats.specs.Limits.{max_undoable}
 use Rattle.chain_owners.specs.Owners.{Owns}
-use Rattle.root_tiles.specs.Chains.{ChainState}
+use Rattle.root_tiles.specs.Chains.{ChainState, Leaves, chain_state}
 use Rattle.buffer_view.specs.BufferTables.{BufferTable, buffers_names}
-use Rattle.session_states.specs.OverChains.{AreAllOver, AreAllSame, IsReleased, Leaves, names_of_all, versions_names}
+use Rattle.session_states.specs.OverChains.{AreAllOver, AreAllSame, IsReleased, names_of_all, versions_names}
 use Rattle.session_states.specs.Versions.{Versions, after_commit}
 use Rattle.session_states.proofs.Released.{IsCut, committed, past-over, past-owned, redo-handed, redo-owned}
 use Rattle.session_states.proofs.Returned.{committed-is, four, pushed-is}
@@ -13,9 +13,6 @@ use Rattle.session_states.proofs.versions.BufferVersions.commit.Goals.{After-pus
 use Rattle.session_states.proofs.versions.BufferVersions.commit.Goals as goal
 
 module _ (g : Given.Over) where
-  abbrev state : g.row.C.Denot → ChainState
-  state chain = record { held = g.C.ChainMeaning.held chain; counts = g.C.ChainMeaning.counts chain; loans = g.C.ChainMeaning.loans chain; valid = g.C.ChainMeaning.is_valid chain }
-
   -- ---- the last state was put before those that can be undone to
 
   module _ (c : After-push_front_reserved g) where
@@ -28,10 +25,10 @@ module _ (g : Given.Over) where
 
   module _ (c : After-release_past g) (is : c.push_front_reserved.new.self.items ≡ c.args.self.now.latest ∷ c.args.self.now.undoable) where
     abbrev s0 : ChainState
-    s0 = state c.args.chain.now
+    s0 = chain_state g.C.ChainMeaning c.args.chain.now
 
     abbrev s1 : ChainState
-    s1 = state c.release_past.new.chain
+    s1 = chain_state g.C.ChainMeaning c.release_past.new.chain
 
     abbrev all : List BufferTable
     all = c.args.self.now.latest ∷ c.args.self.now.undoable
@@ -56,45 +53,45 @@ module _ (g : Given.Over) where
         c.requires.shared c.replace-left.ensures.after c.replace-left.ensures.value c.push_front_reserved.ensures.items
         c.release_past.new.states.items c.release_all.new.states.items c.release_past.ensures.items c.release_all.ensures.items
 
-    done : IsCut c.args.self.now (state c.args.chain.now) (state c.release_past.new.chain)
+    done : IsCut c.args.self.now (chain_state g.C.ChainMeaning c.args.chain.now) (chain_state g.C.ChainMeaning c.release_past.new.chain)
         → IsReleased (buffers_names c.args.shared ++ versions_names c.args.self.now)
-        (four c.self.inside.working c.replace-left.new.dest c.release_past.new.states.items c.release_all.new.states.items) (state c.args.chain.now) (state c.release_all.new.chain)
+        (four c.self.inside.working c.replace-left.new.dest c.release_past.new.states.items c.release_all.new.states.items) (chain_state g.C.ChainMeaning c.args.chain.now) (chain_state g.C.ChainMeaning c.release_all.new.chain)
     done first =
         let names = buffers_names c.args.shared ++ versions_names c.args.self.now in
-        let second : Leaves 0 (names_of_all c.args.self.now.redoable) [] (state c.release_past.new.chain) (state c.release_all.new.chain) =
-        subst (λ (x : Versions BufferTable). Leaves 0 (names_of_all x.redoable) [] (state c.release_past.new.chain) (state c.release_all.new.chain)) c.self.view_is c.release_all.ensures.left in
-        subst (λ (f : Versions BufferTable). IsReleased names f (state c.args.chain.now) (state c.release_all.new.chain)) (sym final)
-        (committed c.args.self.now c.args.shared c.requires.shared (state c.args.chain.now) (state c.release_past.new.chain) (state c.release_all.new.chain)
+        let second : Leaves 0 (names_of_all c.args.self.now.redoable) [] (chain_state g.C.ChainMeaning c.release_past.new.chain) (chain_state g.C.ChainMeaning c.release_all.new.chain) =
+        subst (λ (x : Versions BufferTable). Leaves 0 (names_of_all x.redoable) [] (chain_state g.C.ChainMeaning c.release_past.new.chain) (chain_state g.C.ChainMeaning c.release_all.new.chain)) c.self.view_is c.release_all.ensures.left in
+        subst (λ (f : Versions BufferTable). IsReleased names f (chain_state g.C.ChainMeaning c.args.chain.now) (chain_state g.C.ChainMeaning c.release_all.new.chain)) (sym final)
+        (committed c.args.self.now c.args.shared c.requires.shared (chain_state g.C.ChainMeaning c.args.chain.now) (chain_state g.C.ChainMeaning c.release_past.new.chain) (chain_state g.C.ChainMeaning c.release_all.new.chain)
         c.requires.over c.requires.shared_over c.requires.owned first second)
 
 -- ---- what is asked
 
 pub release_past-requires-clause-over : goal.release_past-requires-clause-over
 release_past-requires-clause-over g c =
-    let s0 = state g c.args.chain.now in
+    let s0 = chain_state g.C.ChainMeaning c.args.chain.now in
     subst (λ (bs : List BufferTable). AreAllOver bs s0.held) (sym (pushed g (goal.at.release_past-requires-clause-over g c).After-push_front_reserved))
     (past-over c.args.self.now c.args.shared c.requires.shared s0 s0 s0 c.requires.over c.requires.shared_over c.requires.owned)
 
 pub release_past-requires-clause-owned : goal.release_past-requires-clause-owned
 release_past-requires-clause-owned g c =
-    let s0 = state g c.args.chain.now in
+    let s0 = chain_state g.C.ChainMeaning c.args.chain.now in
     subst (λ (bs : List BufferTable). Owns s0.held (names_of_all bs)) (sym (pushed g (goal.at.release_past-requires-clause-owned g c).After-push_front_reserved))
     (past-owned c.args.self.now c.args.shared c.requires.shared s0 s0 s0 c.requires.over c.requires.shared_over c.requires.owned)
 
 pub release_all-requires-clause-over : goal.release_all-requires-clause-over
 release_all-requires-clause-over g c =
     let at = goal.at.release_all-requires-clause-over g c in
-    let s1 = state g c.release_past.new.chain in
+    let s1 = chain_state g.C.ChainMeaning c.release_past.new.chain in
     subst (λ (x : Versions BufferTable). AreAllOver x.redoable s1.held) (sym c.self.view_is)
-    (redo-handed c.args.self.now c.args.shared c.requires.shared (state g c.args.chain.now) s1 s1 c.requires.over c.requires.shared_over c.requires.owned
+    (redo-handed c.args.self.now c.args.shared c.requires.shared (chain_state g.C.ChainMeaning c.args.chain.now) s1 s1 c.requires.over c.requires.shared_over c.requires.owned
     (cut g at.After-release_past (pushed g at.After-push_front_reserved)).left)
 
 pub release_all-requires-clause-owned : goal.release_all-requires-clause-owned
 release_all-requires-clause-owned g c =
     let at = goal.at.release_all-requires-clause-owned g c in
-    let s1 = state g c.release_past.new.chain in
+    let s1 = chain_state g.C.ChainMeaning c.release_past.new.chain in
     subst (λ (x : Versions BufferTable). Owns s1.held (names_of_all x.redoable)) (sym c.self.view_is)
-    (redo-owned c.args.self.now c.args.shared c.requires.shared (state g c.args.chain.now) s1 s1 c.requires.over c.requires.shared_over c.requires.owned
+    (redo-owned c.args.self.now c.args.shared c.requires.shared (chain_state g.C.ChainMeaning c.args.chain.now) s1 s1 c.requires.over c.requires.shared_over c.requires.owned
     (cut g at.After-release_past (pushed g at.After-push_front_reserved)).left)
 
 -- ---- what is left

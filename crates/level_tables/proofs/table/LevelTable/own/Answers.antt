@@ -1,7 +1,7 @@
 use Rattle.std.proofs.Common.{◌∙◌}
 use Rattle.level_tables.specs.LevelTiles.{LevelTiles}
 use Rattle.level_tables.proofs.Owning.{levels-there, put-there, shared-others, shared-over, shared-owns}
-use Rattle.level_tables.proofs.table.LevelTable.share.Goals as goal
+use Rattle.level_tables.proofs.table.LevelTable.own.Goals as goal
 
 pub own_each-requires : goal.own_each-requires
 own_each-requires g c =
