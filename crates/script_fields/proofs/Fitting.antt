@@ -1,15 +1,12 @@
--- The words of fields are words of a text, and short.
-use Rattle.std.proofs.Common.{◌≡◌, ℕ, ℤ, pos, suc, ◌+◌, ◌*◌, ◌^◌, ◌<◌, ◌≤◌, nat_lt, nat_le, unsigned_abs, All, List, [], ◌∷◌, ◌++◌, true, false, ◌&&◌, decimal, length, map, sum_by, refl, arith}
+-- The words of kinds are words of a text, and short.
+use Rattle.std.proofs.Common.{◌≡◌, ℕ, ℤ, suc, ◌+◌, ◌*◌, ◌^◌, ◌<◌, ◌≤◌, nat_lt, nat_le, unsigned_abs, IsTrue, List, [], ◌∷◌, ◌++◌, Bool, true, false, ◌&&◌, decimal, length, sum_by, refl, arith}
 use Rattle.std.specs.Char.{is_ascii_lowercase}
 use Rattle.std.specs.Fmt.{signed_decimal}
 use Rattle.std.specs.List.{list_all}
 use Rattle.std.proofs.lemmas.Bool.{leb-true}
-use Rattle.std.proofs.lemmas.Int.{ints}
 use Rattle.std.proofs.lemmas.List.Sums.{sum_by-cons}
-use Rattle.std.proofs.lemmas.List.Elements.{All-head, All-tail}
 use Rattle.outside_io.specs.FileName as files
 use Rattle.plane_rect.specs.Name as names
-use Rattle.plane_rect.specs.Rectangle.{plane_coordinate}
 use Rattle.pixel_formats.specs.declared.abyss.Abyss.{Abyss}
 use Rattle.pixel_formats.specs.declared.abyss.Abyss.TheVariants as policies
 use Rattle.pixel_formats.specs.Format.{word}
@@ -19,12 +16,11 @@ use Rattle.script_words.specs.Words.{is_word}
 use Rattle.script_words.proofs.Passing.{and_second, and_both, and_first}
 use Rattle.script_words.proofs.NumberLaws.{is_word-decimal, is_word-signed_decimal, length-decimal, length-signed_decimal}
 use Rattle.script_words.proofs.WordLaws.{is_word-file_name, is_word-name}
-use Rattle.script_fields.proofs.FieldsBack.{small-coordinate}
-use Rattle.pixel_formats.specs.Limits.{IsSample}
+use Rattle.script_fields.proofs.Values.{Value, Values, is_small, sideways_word, word_with, words_with}
+use Rattle.script_fields.proofs.ValuesBack.{small-integer, small-natural}
 use Rattle.pixel_formats.specs.Policies.{policy_word}
-use Rattle.script_fields.specs.Spelling.{AreValid, AreNames, IsValid, field_words, words_of_fields}
-use Rattle.script_fields.specs.declared.field.Field.{Field}
-use Rattle.script_fields.specs.declared.field.Field.TheVariants as fields
+use Rattle.script_fields.specs.declared.kind.Kind.{Kind}
+use Rattle.script_fields.specs.declared.kind.Kind.TheVariants as kinds
 
 -- how many bytes words take with a space after each
 abbrev pub size : List (List ℕ) → ℕ
@@ -102,59 +98,46 @@ integer_fits value small =
     let short : length (signed_decimal value) ≤ 11 = length-signed_decimal value small in
     fits_one (signed_decimal value) 12 (is_word-signed_decimal value small) (omega arith)
 
--- a number has at most 10 digits
-abbrev pub IsBounded : Field → Type 0
-IsBounded (fields.Natural value) = value < 10 ^ 10
-IsBounded (fields.Integer value) = unsigned_abs value < 10 ^ 10
-IsBounded field = Unit {0}
+-- the word of an operation is one of a text, and short; what other kinds hold always is
+abbrev pub IsShort : (kind : Kind) → Value kind → Type 0
+IsShort kinds.Operation value = Fits (value ∷ []) 65
+IsShort kind value = Unit {0}
 
-abbrev pub AreBounded : List Field → Type 0
-AreBounded [] = Unit {0}
-AreBounded (field ∷ others) = IsBounded field × AreBounded others
+abbrev pub AreShort : (all : List Kind) → Values all → Type 0
+AreShort [] values = Unit {0}
+AreShort (kind ∷ others) values = IsShort kind values.0 × AreShort others values.1
 
-field_fits : (field : Field) → IsValid field → IsBounded field → Fits (field_words field) 65
-field_fits (fields.Name name) valid bounded =
-    let short : length name ≤ 16 = short-name name valid in
-    fits_one name 65 (is_word-name name valid) (omega arith)
-field_fits (fields.File name) valid bounded =
-    let short : length name ≤ 64 = short-file name valid in
-    fits_one name 65 (is_word-file_name name valid) (omega arith)
-field_fits (fields.Format format) valid bounded = format_fits format
-field_fits (fields.Policy policy) valid bounded = policy_fits policy
-field_fits (fields.Natural value) valid bounded = fits_weaker (decimal value ∷ []) 11 65 (omega arith) (natural_fits value bounded)
-field_fits (fields.Integer value) valid bounded = fits_weaker (signed_decimal value ∷ []) 12 65 (omega arith) (integer_fits value bounded)
-field_fits (fields.Sideways true) valid bounded = (refl, omega arith)
-field_fits (fields.Sideways false) valid bounded = (refl, omega arith)
-field_fits (fields.Rect rect) valid bounded =
-    let columns : rect.first_column + rect.width ≤ 2 ^ 25 = valid.columns in
-    let rows : rect.first_row + rect.height ≤ 2 ^ 25 = valid.rows in
-    fits_weaker (field_words (fields.Rect rect)) (12 + (12 + (12 + 12))) 65 (omega arith)
-    (fits_append (signed_decimal (plane_coordinate rect.first_column) ∷ []) (signed_decimal (plane_coordinate rect.first_row) ∷ signed_decimal (pos rect.width) ∷ signed_decimal (pos rect.height) ∷ []) 12 (12 + (12 + 12))
-    (integer_fits (plane_coordinate rect.first_column) (small-coordinate rect.first_column (omega arith)))
-    (fits_append (signed_decimal (plane_coordinate rect.first_row) ∷ []) (signed_decimal (pos rect.width) ∷ signed_decimal (pos rect.height) ∷ []) 12 (12 + 12)
-    (integer_fits (plane_coordinate rect.first_row) (small-coordinate rect.first_row (omega arith)))
-    (fits_append (signed_decimal (pos rect.width) ∷ []) (signed_decimal (pos rect.height) ∷ []) 12 12
-    (integer_fits (pos rect.width) (omega (arith, ints)))
-    (integer_fits (pos rect.height) (omega (arith, ints))))))
+direction_fits : (sideways : Bool) → Fits (sideways_word sideways ∷ []) 65
+direction_fits true = (refl, omega arith)
+direction_fits false = (refl, omega arith)
 
-pub fields_fit : (all : List Field) → AreValid all → AreBounded all → Fits (words_of_fields all) (65 * length all)
-fields_fit [] valid bounded = (refl, omega arith)
-fields_fit (field ∷ others) valid bounded =
-    fits_weaker (words_of_fields (field ∷ others)) (65 + 65 * length others) (65 * length (field ∷ others)) (omega arith)
-    (fits_append (field_words field) (words_of_fields others) 65 (65 * length others) (field_fits field valid.0 bounded.0) (fields_fit others valid.1 bounded.1))
+name_fits : (name : List ℕ) → names.is_name name ≡ true → Fits (name ∷ []) 65
+name_fits name is =
+    let short : length name ≤ 16 = short-name name is in
+    fits_one name 65 (is_word-name name is) (omega arith)
 
--- ---- lists
+file_fits : (name : List ℕ) → files.is_file_name name ≡ true → Fits (name ∷ []) 65
+file_fits name is =
+    let short : length name ≤ 64 = short-file name is in
+    fits_one name 65 (is_word-file_name name is) (omega arith)
 
-pub samples_fit : (samples : List ℕ) → All IsSample samples → Fits (map decimal samples) (11 * length samples)
-samples_fit [] are = (refl, omega arith)
-samples_fit (sample ∷ samples) are =
-    let limit : sample ≤ 65535 = All-head IsSample sample samples are in
-    fits_weaker (map decimal (sample ∷ samples)) (11 + 11 * length samples) (11 * length (sample ∷ samples)) (omega arith)
-    (fits_append (decimal sample ∷ []) (map decimal samples) 11 (11 * length samples) (natural_fits sample (omega arith)) (samples_fit samples (All-tail IsSample sample samples are)))
+word_fits : (kind : Kind) (value : Value kind) → IsTrue (is_small kind) → IsShort kind value → Fits (word_with kind value ∷ []) 65
+word_fits kinds.Name value small short = name_fits value.0 value.1
+word_fits kinds.File value small short = file_fits value.0 value.1
+word_fits kinds.Prefix value small short = file_fits value.0 value.1
+word_fits kinds.Format value small short = format_fits value
+word_fits kinds.Policy value small short = policy_fits value
+word_fits kinds.AreaPolicy value small short = policy_fits value.0
+word_fits kinds.Direction value small short = direction_fits value
+word_fits kinds.Operation value small short = short
+word_fits (kinds.Natural low high) value small short =
+    fits_weaker (decimal value.0 ∷ []) 11 65 (omega arith) (natural_fits value.0 (small-natural low high value.0 small value.2))
+word_fits (kinds.Integer low high) value small short =
+    fits_weaker (signed_decimal value.0 ∷ []) 12 65 (omega arith) (integer_fits value.0 (small-integer low high value.0 small value.1 value.2))
 
-pub names_fit : (all : List (List ℕ)) → AreNames all → Fits all (17 * length all)
-names_fit [] are = (refl, omega arith)
-names_fit (name ∷ others) are =
-    let short : length name ≤ 16 = short-name name are.0 in
-    fits_weaker (name ∷ others) (17 + 17 * length others) (17 * length (name ∷ others)) (omega arith)
-    (fits_cons name others 17 (17 * length others) (is_word-name name are.0) (omega arith) (names_fit others are.1))
+pub words_fit : (all : List Kind) (values : Values all) → list_all is_small all ≡ true → AreShort all values → Fits (words_with all values) (65 * length all)
+words_fit [] values small short = (refl, omega arith)
+words_fit (kind ∷ others) values small short =
+    fits_weaker (words_with (kind ∷ others) values) (65 + 65 * length others) (65 * length (kind ∷ others)) (omega arith)
+    (fits_append (word_with kind values.0 ∷ []) (words_with others values.1) 65 (65 * length others) (word_fits kind values.0 (and_first _ _ small) short.0)
+    (words_fit others values.1 (and_second (is_small kind) _ small) short.1))

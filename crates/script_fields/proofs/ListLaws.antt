@@ -1,7 +1,6 @@
 -- Reading one word after another.
-use Rattle.std.proofs.Common.{◌≡◌, ℕ, ◌-◌, List, ◌++◌, Result, Ok, Err, Bor, length, take, drop, sym, ap, ◌∙◌, arith}
-use Rattle.std.proofs.lemmas.List.{drop-map, take_all, length-drop}
-use Rattle.script_fields.specs.Fields.{texts}
+use Rattle.std.proofs.Common.{◌≡◌, ℕ, true, List, [], ◌∷◌, ◌++◌, Result, Ok, Err, length, refl, arith}
+use Rattle.script_fields.specs.Fields.{fields_of_words, numbers_fit}
 use Rattle.script_fields.specs.declared.cause.ScriptCause.{ScriptCause}
 
 -- values before those that are read after them
@@ -9,8 +8,15 @@ abbrev pub after : {A : Type 0} → List A → Result (List A) ScriptCause → R
 after prefix (Ok rest) = Ok (prefix ++ rest)
 after prefix (Err cause) = Err cause
 
--- the words from one on, as a slice of them is reported
-pub texts-from : (index : ℕ) (words : List (Bor (List ℕ))) → drop index (texts words) ≡ texts (take (length words - index) (drop index words))
-texts-from index words =
-    drop-map (λ (word : Bor (List ℕ)). word.now) index words
-    ∙ ap texts (sym (take_all (length words - index) (drop index words) (omega (arith, length-drop index words))))
+-- words after the last kind
+pub no_items : {A : Type 0} (items : List A) → length items ≡ 0 → items ≡ []
+no_items [] none = refl
+no_items (item ∷ items) none = absurd (omega arith)
+
+pub fields_of_none : (words : List (List ℕ)) → fields_of_words [] words ≡ Ok []
+fields_of_none [] = refl
+fields_of_none (word ∷ words) = refl
+
+pub numbers_of_none : (words : List (List ℕ)) → numbers_fit [] words ≡ true
+numbers_of_none [] = refl
+numbers_of_none (word ∷ words) = refl

@@ -1,5 +1,5 @@
 -- What reading answers.
-use Rattle.std.specs.Prelude.{◌≡◌, ℕ, ⊤, Result, Ok, Err}
+use Rattle.std.specs.Prelude.{◌≡◌, ℕ, ⊤, List, Result, Ok, Err}
 use Rattle.script_fields.specs.declared.cause.ScriptCause.{ScriptCause}
 use Rattle.script_fields.specs.declared.cause.LineAnswer.{LineAnswer}
 use Rattle.script_fields.specs.declared.cause.LineAnswer.TheVariants.{Refused, NoMemory}
@@ -11,6 +11,12 @@ abbrev pub Answers : {A : Type 0} → Result A LineAnswer → Result A ScriptCau
 Answers (Ok value) read = read ≡ Ok value
 Answers (Err (Refused cause)) read = read ≡ Err cause
 Answers (Err NoMemory) read = ⊤
+
+-- the same where a list is read into memory that was there before
+abbrev pub AnswersList : {A : Type 0} → Result (Unit {0}) LineAnswer → List A → Result (List A) ScriptCause → Type 0
+AnswersList (Ok done) items read = read ≡ Ok items
+AnswersList (Err (Refused cause)) items read = read ≡ Err cause
+AnswersList (Err NoMemory) items read = ⊤
 
 -- the same, reported of a line
 abbrev pub at_line : ℕ → LineAnswer → ScriptAnswer

@@ -1,7 +1,7 @@
--- The fields that the words of a line are, or why the line is refused. Each word has an index in its line, from 0 on.
-use Rattle.std.specs.Prelude.{ℕ, ℤ, pos, neg_ℤ, nat_le, is_some, ◌+◌, ◌-◌, ◌^◌, ◌==◌, Bool, true, false, ◌&&◌, if◌then◌else◌, List, [], ◌∷◌, length, map, drop, find, codes, Option, Result, Ok, Err, slice_index_or}
+-- What the words of a command have to be, and the fields that they are, or why they are refused.
+use Rattle.std.specs.Prelude.{ℕ, nat_le, is_some, Bool, true, false, not, ◌&&◌, ◌||◌, if◌then◌else◌, List, [], ◌∷◌, length, map, find, codes, Option, Some, None, Result, Ok, Err, slice_index_or}
 use Rattle.std.specs.Borrow.{Bor}
-use Rattle.std.specs.Option.{ok_or}
+use Rattle.std.specs.Option.{ok_or, option_and_then, option_map}
 use Rattle.std.specs.Str.{bytes_eq}
 use Rattle.plane_rect.specs.Rectangle.{Rectangle, new_rectangle, in_limits, scaled}
 use Rattle.plane_rect.specs.Name.{is_name}
@@ -15,9 +15,13 @@ use Rattle.script_words.specs.Numbers.{natural_in, integer_in}
 use Rattle.pixel_formats.specs.Policies.{policy_named}
 use Rattle.script_fields.specs.declared.cause.ScriptCause.{ScriptCause}
 use Rattle.script_fields.specs.declared.cause.ScriptCause.TheVariants as causes
-use Rattle.pixel_formats.specs.Limits.{max_move, max_prefix_bytes, max_sample, suits_areas}
+use Rattle.script_fields.specs.declared.field.Field.{Field}
+use Rattle.script_fields.specs.declared.field.Field.TheVariants as fields
+use Rattle.script_fields.specs.declared.kind.Kind.{Kind}
+use Rattle.script_fields.specs.declared.kind.Kind.TheVariants as kinds
+use Rattle.pixel_formats.specs.Limits.{max_frames, max_level, max_prefix_bytes, max_viewers, suits_areas}
 use Rattle.script_fields.specs.Limits.{may_watch}
-use Rattle.script_fields.specs.declared.fields.RectNumbers.{RectNumbers}
+use Rattle.script_fields.specs.declared.rectangles.RectNumbers.{RectNumbers}
 
 -- what is read, then what is read by it; the first cause is reported
 infixl 10 ◌>>=◌
@@ -37,60 +41,11 @@ word_at words index = slice_index_or words index []
 abbrev pub passed : {A : Type 0} → Bool → ScriptCause → A → Result A ScriptCause
 passed test cause value = if test then Ok value else Err cause
 
--- there are so many words
-abbrev pub count : ℕ → List (List ℕ) → Result (Unit {0}) ScriptCause
-count number words = passed (length words == number) causes.Words tt
+-- ---- choices
 
--- there are from so many to so many
-abbrev pub count_in : ℕ → ℕ → List (List ℕ) → Result (Unit {0}) ScriptCause
-count_in minimum maximum words = passed (nat_le minimum (length words) && nat_le (length words) maximum) causes.Words tt
-
--- ---- numbers
-
-unfoldable pub natural_at : ℕ → ℕ → List (List ℕ) → ℕ → Result ℕ ScriptCause
-natural_at low high words index = ok_or (natural_in low high (word_at words index)) causes.Number
-
-unfoldable pub integer_at : ℤ → ℤ → List (List ℕ) → ℕ → Result ℤ ScriptCause
-integer_at low high words index = ok_or (integer_in low high (word_at words index)) causes.Number
-
--- a column, a row, a width or a height as it may be written
-abbrev pub coordinate_at : List (List ℕ) → ℕ → Result ℤ ScriptCause
-coordinate_at words index = integer_at (neg_ℤ (pos (2 ^ 31))) (pos (2 ^ 31 - 1)) words index
-
--- one sample of any format
-unfoldable pub sample_of : List ℕ → Result ℕ ScriptCause
-sample_of word = ok_or (natural_in 0 max_sample word) causes.Number
-
-abbrev pub sample_at : List (List ℕ) → ℕ → Result ℕ ScriptCause
-sample_at words index = sample_of (word_at words index)
-
-abbrev pub move_at : List (List ℕ) → ℕ → Result ℤ ScriptCause
-move_at words index = integer_at (neg_ℤ (pos max_move)) (pos max_move) words index
-
--- the four numbers of a rectangle, from a word on
-unfoldable pub rect_numbers_at : List (List ℕ) → ℕ → Result RectNumbers ScriptCause
-rect_numbers_at words index = do
-  x ← coordinate_at words index
-  y ← coordinate_at words (index + 1)
-  w ← coordinate_at words (index + 2)
-  h ← coordinate_at words (index + 3)
-  Ok (record { x = x; y = y; w = w; h = h })
-
--- ---- names and choices
-
-unfoldable pub name_of : List ℕ → Result (List ℕ) ScriptCause
-name_of word = passed (is_name word) causes.Name word
-
-abbrev pub name_at : List (List ℕ) → ℕ → Result (List ℕ) ScriptCause
-name_at words index = name_of (word_at words index)
-
-unfoldable pub file_at : List (List ℕ) → ℕ → Result (List ℕ) ScriptCause
-file_at words index = passed (is_file_name (word_at words index)) causes.Name (word_at words index)
-
-unfoldable pub prefix_at : List (List ℕ) → ℕ → Result (List ℕ) ScriptCause
-prefix_at words index =
-    passed (is_file_name (word_at words index) && nat_le (length (word_at words index)) max_prefix_bytes)
-    causes.Name (word_at words index)
+-- the first part of the names of several files
+abbrev pub prefix_named : List ℕ → Option (List ℕ)
+prefix_named word = if nat_le (length word) max_prefix_bytes && is_file_name word then Some word else None
 
 -- all formats
 abbrev pub formats : List Format
@@ -100,20 +55,77 @@ formats = Y8 ∷ YA8 ∷ RGB8 ∷ RGBA8 ∷ Y16 ∷ YA16 ∷ RGB16 ∷ RGBA16 �
 abbrev pub format_named : List ℕ → Option Format
 format_named name = find (λ (format : Format). bytes_eq (word format) name) formats
 
-unfoldable pub format_at : List (List ℕ) → ℕ → Result Format ScriptCause
-format_at words index = ok_or (format_named (word_at words index)) causes.Name
+-- a policy that area operations may have
+abbrev pub for_areas : Abyss → Option Abyss
+for_areas policy = if suits_areas policy then Some policy else None
 
-unfoldable pub policy_at : List (List ℕ) → ℕ → Result Abyss ScriptCause
-policy_at words index = ok_or (policy_named (word_at words index)) causes.Name
-
-unfoldable pub near_policy_at : List (List ℕ) → ℕ → Result Abyss ScriptCause
-near_policy_at words index = policy_at words index >>= λ policy. passed (suits_areas policy) causes.Name policy
+abbrev pub area_policy_named : List ℕ → Option Abyss
+area_policy_named word = option_and_then for_areas (policy_named word)
 
 -- `h` for left and right, `v` for top and bottom
-unfoldable pub sideways_at : List (List ℕ) → ℕ → Result Bool ScriptCause
-sideways_at words index =
-    if bytes_eq (word_at words index) (codes "h") then Ok true
-    else passed (bytes_eq (word_at words index) (codes "v")) causes.Name false
+abbrev pub direction_named : List ℕ → Option Bool
+direction_named word =
+    if bytes_eq word (codes "h") then Some true else if bytes_eq word (codes "v") then Some false else None
+
+-- ---- one word
+
+-- the field that a word of a kind is
+abbrev pub found : Kind → List ℕ → Option Field
+found kinds.Name word = if is_name word then Some (fields.Name word) else None
+found kinds.File word = if is_file_name word then Some (fields.File word) else None
+found kinds.Prefix word = option_map fields.File (prefix_named word)
+found kinds.Format word = option_map fields.Format (format_named word)
+found kinds.Policy word = option_map fields.Policy (policy_named word)
+found kinds.AreaPolicy word = option_map fields.Policy (area_policy_named word)
+found kinds.Direction word = option_map fields.Sideways (direction_named word)
+found kinds.Operation word = Some fields.Operation
+found (kinds.Natural low high) word = option_map fields.Natural (natural_in low high word)
+found (kinds.Integer low high) word = option_map fields.Integer (integer_in low high word)
+
+-- numbers are judged before all else
+abbrev pub is_number : Kind → Bool
+is_number (kinds.Natural low high) = true
+is_number (kinds.Integer low high) = true
+is_number kind = false
+
+-- a word is a number where its kind is one
+abbrev pub fits_as_number : Kind → List ℕ → Bool
+fits_as_number kind word = not (is_number kind) || is_some (found kind word)
+
+-- ---- all words, each of its kind
+
+-- those that have to be numbers are
+abbrev pub numbers_fit : List Kind → List (List ℕ) → Bool
+numbers_fit kinds [] = true
+numbers_fit [] (word ∷ words) = true
+numbers_fit (kind ∷ kinds) (word ∷ words) = fits_as_number kind word && numbers_fit kinds words
+
+-- the others are what they have to be
+abbrev pub names_fit : List Kind → List (List ℕ) → Bool
+names_fit kinds [] = true
+names_fit [] (word ∷ words) = true
+names_fit (kind ∷ kinds) (word ∷ words) = (is_number kind || is_some (found kind word)) && names_fit kinds words
+
+-- the fields that they are, once the numbers are numbers
+abbrev pub fields_of_words : List Kind → List (List ℕ) → Result (List Field) ScriptCause
+fields_of_words kinds [] = Ok []
+fields_of_words [] (word ∷ words) = Ok []
+fields_of_words (kind ∷ kinds) (word ∷ words) = do
+  field ← ok_or (found kind word) causes.Name
+  others ← fields_of_words kinds words
+  Ok (field ∷ others)
+
+-- ---- lists among fields
+
+abbrev pub names_in : List Field → List (List ℕ)
+names_in [] = []
+names_in (fields.Name name ∷ others) = name ∷ names_in others
+names_in (field ∷ others) = names_in others
+
+abbrev pub naturals_in : List Field → List ℕ
+naturals_in [] = []
+naturals_in (fields.Natural value ∷ others) = value ∷ naturals_in others
+naturals_in (field ∷ others) = naturals_in others
 
 -- ---- rectangles
 
@@ -127,34 +139,11 @@ rect_of numbers = rect_in_limits (new_rectangle numbers.x numbers.y numbers.w nu
 
 -- a rectangle of a level whose positions are in limits at level 0 too
 unfoldable pub level_rect_of : ℕ → RectNumbers → Result Rectangle ScriptCause
-level_rect_of level numbers = rect_of numbers >>= λ rect. passed (is_some (scaled level rect)) causes.Rect rect
+level_rect_of level numbers =
+    rect_of numbers >>= λ rect. passed (nat_le level max_level && is_some (scaled level rect)) causes.Rect rect
 
+-- a rectangle that so many viewers may render so many times, and once more
 unfoldable pub watched_rect_of : ℕ → ℕ → RectNumbers → Result Rectangle ScriptCause
 watched_rect_of viewers frames numbers =
-    rect_of numbers >>= λ rect. passed (may_watch viewers frames rect) causes.Rect rect
-
--- ---- lists
-
--- what is read of each of some words
-abbrev pub each : {A : Type 0} → (List ℕ → Result A ScriptCause) → List (List ℕ) → Result (List A) ScriptCause
-each read [] = Ok []
-each read (word ∷ words) = do
-  value ← read word
-  values ← each read words
-  Ok (value ∷ values)
-
--- the names that words are
-unfoldable pub names_of : List (List ℕ) → Result (List (List ℕ)) ScriptCause
-names_of words = each name_of words
-
--- those from a word on
-abbrev pub names_from : ℕ → List (List ℕ) → Result (List (List ℕ)) ScriptCause
-names_from index words = names_of (drop index words)
-
--- the samples that words write
-unfoldable pub samples_of : List (List ℕ) → Result (List ℕ) ScriptCause
-samples_of words = each sample_of words
-
--- those from a word on
-abbrev pub samples_from : ℕ → List (List ℕ) → Result (List ℕ) ScriptCause
-samples_from index words = samples_of (drop index words)
+    rect_of numbers
+    >>= λ rect. passed (nat_le viewers max_viewers && nat_le frames max_frames && may_watch viewers frames rect) causes.Rect rect

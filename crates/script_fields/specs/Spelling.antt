@@ -20,6 +20,7 @@ field_words (fields.Natural value) = decimal value ∷ []
 field_words (fields.Integer value) = signed_decimal value ∷ []
 field_words (fields.Sideways true) = codes "h" ∷ []
 field_words (fields.Sideways false) = codes "v" ∷ []
+field_words fields.Operation = []
 field_words (fields.Rect rect) =
     signed_decimal (plane_coordinate rect.first_column)
     ∷ signed_decimal (plane_coordinate rect.first_row)

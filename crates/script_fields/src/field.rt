@@ -11,7 +11,7 @@ use pixel_formats::{Abyss, Format};
 use plane_rect::{Name, Rect};
 use script_words::{FileName, push_integer, push_natural, push_word};
 
-/// A field of a command: one word, or a rectangle's four.
+/// A field of a command: what one word is, or a rectangle's four as they are printed.
 #[derive(Clone, Copy, Debug, PartialEq)]
 pub enum Field {
     Name(Name),
@@ -21,6 +21,8 @@ pub enum Field {
     Natural(u32),
     Integer(i64),
     Sideways(bool),
+    /// The word of a node's operation, which is printed apart.
+    Operation,
     Rect(Rect),
 }
 
@@ -43,6 +45,7 @@ impl Field {
             Field::Integer(value) => push_integer(text, *value),
             Field::Sideways(true) => push_word(text, b"h"),
             Field::Sideways(false) => push_word(text, b"v"),
+            Field::Operation => Ok(()),
             Field::Rect(rect) => put_rect(text, rect),
         }
     }

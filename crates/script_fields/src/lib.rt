@@ -3,16 +3,15 @@
 
 mod cause;
 mod field;
-mod fields;
+mod kind;
 mod limits;
 mod lists;
+mod rectangles;
 
 pub use cause::{LineAnswer, ScriptAnswer, ScriptCause};
 pub use field::{Field, put_fields, put_names, put_samples};
-pub use fields::{
-    RectNumbers, count, count_in, file_at, format_at, move_at, name_at, natural_at, near_policy_at,
-    policy_at, prefix_at, rect_numbers_at, sample_at, sideways_at, word_at,
-};
+pub use kind::{Kind, numbers_fit, read_fields, word_at};
 pub use limits::{is_level_rect, may_watch};
-pub use lists::{names_from, samples_from};
+pub use lists::{names_in, naturals_in};
+pub use rectangles::RectNumbers;
 pub use script_words::FileName;

@@ -1,79 +1,44 @@
-//! Lists of names and of samples.
+//! Lists of names and of samples among fields.
 
-ghost use Rattle.std.specs.Prelude.{◌≡◌, ◌+◌, ◌≤◌, IfOk, length, All, IsTrue};
-ghost use Rattle.plane_rect.specs.Name.{is_name};
-ghost use Rattle.script_fields.specs.Fields.{names_from, names_of, samples_from, samples_of, texts};
-ghost use Rattle.script_fields.specs.Answers.{Answers};
-ghost use Rattle.pixel_formats.specs.Limits.{max_sample};
+ghost use Rattle.std.specs.Prelude.{◌≡◌, IfOk};
+ghost use Rattle.script_fields.specs.Fields.{names_in, naturals_in};
 
-use crate::cause::LineAnswer;
-use crate::fields::{name_of, sample_of};
+use crate::field::Field;
+use alloc_basics::NoMemory;
 use pixel_formats::PixelSamples;
 use plane_rect::NameList;
 use std::alloc::Global;
 
-/// Returns the names that words are.
+/// Returns the names among fields, in their order.
 ///
 /// # Errors
 ///
-/// `Name` where a word is none, and `NoMemory` if memory runs out.
-#[tactic(auto, unfolding(crate::specs::Fields::names_of))]
-fn names_of(alloc: Global, words: &[&[u8]]) -> Result<NameList, LineAnswer>
-    ensures value { Answers result (names_of (texts words.now)) }
-    ensures length { IfOk result (λ names. length names ≡ length words.now) }
+/// `NoMemory` if memory runs out.
+pub fn names_in(alloc: Global, fields: &[Field]) -> Result<NameList, NoMemory>
+    ensures { IfOk result (λ names. names ≡ names_in fields.now) }
 {
     let mut names = Vec::new(alloc);
-    for word in words {
-        names.push(name_of(word)?)?;
+    for field in fields {
+        if let Field::Name(name) = field {
+            names.push(*name)?;
+        }
     }
     Ok(NameList::new(names))
 }
 
-/// Returns the names from an index on.
+/// Returns the natural numbers among fields, in their order, as samples.
 ///
 /// # Errors
 ///
-/// `Name` where a word is none, and `NoMemory` if memory runs out.
-pub fn names_from(alloc: Global, index: usize, words: &[&[u8]]) -> Result<NameList, LineAnswer>
-    requires { index ≤ length words.now }
-    ensures value { Answers result (names_from index (texts words.now)) }
-    ensures length { IfOk result (λ names. length names + index ≡ length words.now) }
-{
-    names_of(alloc, &words[index..])
-}
-
-/// Returns the samples that words write.
-///
-/// # Errors
-///
-/// `Number` where a word writes none, and `NoMemory` if memory runs out.
-#[tactic(auto, unfolding(crate::specs::Fields::samples_of))]
-fn samples_of(alloc: Global, words: &[&[u8]]) -> Result<PixelSamples, LineAnswer>
-    ensures value { Answers result (samples_of (texts words.now)) }
-    ensures length { IfOk result (λ samples. length samples ≡ length words.now) }
-    ensures range { IfOk result (λ samples. All (λ sample. sample ≤ max_sample) samples) }
+/// As [`names_in`].
+pub fn naturals_in(alloc: Global, fields: &[Field]) -> Result<PixelSamples, NoMemory>
+    ensures { IfOk result (λ samples. samples ≡ naturals_in fields.now) }
 {
     let mut samples = Vec::new(alloc);
-    for word in words {
-        samples.push(sample_of(word)?)?;
+    for field in fields {
+        if let Field::Natural(sample) = field {
+            samples.push(*sample)?;
+        }
     }
     Ok(PixelSamples::new(samples))
-}
-
-/// Returns the samples from an index on.
-///
-/// # Errors
-///
-/// `Number` where a word is none, and `NoMemory` if memory runs out.
-pub fn samples_from(
-    alloc: Global,
-    index: usize,
-    words: &[&[u8]],
-) -> Result<PixelSamples, LineAnswer>
-    requires { index ≤ length words.now }
-    ensures value { Answers result (samples_from index (texts words.now)) }
-    ensures length { IfOk result (λ samples. length samples + index ≡ length words.now) }
-    ensures range { IfOk result (λ samples. All (λ sample. sample ≤ max_sample) samples) }
-{
-    samples_of(alloc, &words[index..])
 }

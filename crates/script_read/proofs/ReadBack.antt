@@ -7,8 +7,7 @@ use Rattle.script_words.specs.Words.{joined}
 use Rattle.script_words.proofs.LineLaws.{is_line-text, lines_of-text_of}
 use Rattle.script_words.proofs.Passing.{and_both}
 use Rattle.script_words.proofs.WordLaws.{is_text-joined, words_of-joined}
-use Rattle.script_read.proofs.CommandsBack.{command_of-words}
-use Rattle.script_read.proofs.Fitting.{are_words-of_command, short-command}
+use Rattle.script_read.proofs.CommandsBack.{are_words-of_command, command_of_words-words, short-command}
 use Rattle.script_read.proofs.PrintLaws.{AreTyped}
 use Rattle.script_read.proofs.ScriptLaws.{command_in-of_words}
 use Rattle.script_read.specs.IsScript.{IsScript, MayFollow, MayContinue}
@@ -21,7 +20,7 @@ use Rattle.script_fields.specs.declared.cause.ScriptCause.{ScriptCause}
 use Rattle.script_read.specs.declared.command.Command.{Command}
 use Rattle.script_read.specs.declared.command.Line.{Line}
 use Rattle.script_read.specs.declared.keyword.Keyword.{Keyword}
-use Rattle.script_read.specs.declared.keyword.Keyword.TheVariants.{Buffer, Sub, Dup, Load, Fill, Copy, Node, Drop, Commit, Undo, Redo, Render, Grab, Watch, EndWatch}
+use Rattle.script_read.specs.declared.keyword.Keyword.TheVariants.{Buffer}
 use Rattle.script_read.specs.declared.reader.ReadLine.{ReadLine}
 
 -- ---- empty lines
@@ -51,24 +50,11 @@ skips (suc count) number watching rest early =
 
 no_comment : (first : Keyword) → begins_comment (keyword_word first) ≡ false
 no_comment Buffer = refl
-no_comment Sub = refl
-no_comment Dup = refl
-no_comment Load = refl
-no_comment Fill = refl
-no_comment Copy = refl
-no_comment Node = refl
-no_comment Drop = refl
-no_comment Commit = refl
-no_comment Undo = refl
-no_comment Redo = refl
-no_comment Render = refl
-no_comment Grab = refl
-no_comment Watch = refl
-no_comment EndWatch = refl
+no_comment _ = refl
 
 spoken-words : (command : Command) → IsInLimits command → HasValidFields command → spoken (command_words command) ≡ Ok (Some command)
 unfolding spoken
-spoken-words command limits types = rw (no_comment (keyword command), command_of-words command limits types) refl
+spoken-words command limits types = rw (no_comment (keyword command), command_of_words-words command limits types) refl
 
 command_in-words : (number : ℕ) (command : Command) → number ≤ max_lines → IsInLimits command → HasValidFields command →
     command_in number (joined (command_words command)) ≡ Ok (Some command)

@@ -1,13 +1,9 @@
--- What reading a text answers, and reading the words of a line.
-use Rattle.std.specs.Prelude.{◌≡◌, ℕ, ⊤, IfOk, List, Result, Ok, Err}
+-- What reading a text answers.
+use Rattle.std.specs.Prelude.{◌≡◌, ℕ, ⊤, List, Result, Ok, Err}
 use Rattle.std.specs.Global.{Vec}
-use Rattle.script_fields.specs.Answers.{Answers}
-use Rattle.script_fields.specs.declared.cause.LineAnswer.{LineAnswer}
 use Rattle.script_fields.specs.declared.cause.ScriptCause.{ScriptCause}
 use Rattle.script_fields.specs.declared.cause.ScriptAnswer.{ScriptAnswer}
 use Rattle.script_fields.specs.declared.cause.ScriptAnswer.TheVariants.{Refused, NoMemory}
-use Rattle.script_read.specs.Limits.{IsInLimits}
-use Rattle.script_read.specs.declared.command.Command.{Command}
 use Rattle.script_read.specs.declared.command.Line.{Line}
 
 -- what is answered where this is read of a text; running out of memory may come whatever is read
@@ -15,8 +11,3 @@ abbrev pub Reads : Result (Vec Line) ScriptAnswer → Result (List Line) (ℕ ×
 Reads (Ok lines) read = read ≡ Ok lines.items
 Reads (Err (Refused line cause)) read = read ≡ Err (line, cause)
 Reads (Err NoMemory) read = ⊤
-
--- what is answered where this is read of a line's words, and that a command that is read is in limits
-pub record ReadsCommand (result : Result Command LineAnswer) (read : Result Command ScriptCause) : Type 0 where
-  pub value : Answers result read
-  pub limits : IfOk result IsInLimits

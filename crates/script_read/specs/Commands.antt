@@ -1,109 +1,155 @@
--- The commands of lines, but those of nodes. Of the causes of a line the lowest is reported: its words are counted,
--- then its numbers are read, then its names and choices, and then its rectangle.
-use Rattle.std.specs.Prelude.{ℕ, List, Result, Ok}
-use Rattle.script_fields.specs.Fields.{◌>>=◌, count, count_in, natural_at, move_at, rect_numbers_at, name_at, file_at, prefix_at, format_at, policy_at, rect_of, level_rect_of, watched_rect_of, samples_from}
+-- The commands that are made of the fields of lines. Fields of the kinds of a form are refused only where four of them
+-- are no rectangle that the command may have.
+use Rattle.std.specs.Prelude.{ℕ, ◌-◌, List, drop, length, Result, Ok, Err}
+use Rattle.pixel_formats.specs.declared.abyss.Abyss.{Abyss}
+use Rattle.script_fields.specs.Fields.{◌>>=◌, names_in, naturals_in}
 use Rattle.script_fields.specs.declared.cause.ScriptCause.{ScriptCause}
-use Rattle.pixel_formats.specs.Limits.{max_frames, max_level, max_viewers}
-use Rattle.plane_rect.specs.Rectangle.{Rectangle}
+use Rattle.script_fields.specs.declared.cause.ScriptCause.TheVariants as causes
+use Rattle.script_fields.specs.declared.field.Field.{Field}
+use Rattle.script_read.specs.Arguments.{file_at, format_at, integer_at, level_rect_at, name_at, natural_at, policy_at, rect_at, sideways_at, watched_rect_at}
+use Rattle.script_read.specs.Limits.{input_count}
 use Rattle.script_read.specs.declared.command.Command.{Command}
-use Rattle.script_read.specs.declared.command.Command.TheVariants.{Buffer, Sub, Dup, Load, Fill, Copy, Drop, Render, Grab, Watch}
+use Rattle.script_read.specs.declared.command.Command.TheVariants as commands
+use Rattle.script_read.specs.declared.command.OpWords.{OpWords}
+use Rattle.script_read.specs.declared.command.OpWords.TheVariants.{Source, Compute}
+use Rattle.model_operations.specs.declared.operation.IntOp.{IntOp}
+use Rattle.model_operations.specs.declared.operation.IntOp.TheVariants as ops
+use Rattle.script_read.specs.declared.forms.Form.{Form}
+use Rattle.script_read.specs.declared.forms.Form.TheVariants as forms
+use Rattle.script_read.specs.declared.keyword.Keyword.{Keyword}
+use Rattle.script_read.specs.declared.keyword.Keyword.TheVariants as keywords
+use Rattle.script_read.specs.declared.operation_word.OperationWord.{OperationWord}
+use Rattle.script_read.specs.declared.operation_word.OperationWord.TheVariants as operations
 
--- a command of 7 words: a name, another field and a rectangle, whose numbers begin at a word
-abbrev pub with_field : {A : Type 0} → ℕ → Result A ScriptCause → (List ℕ → A → Rectangle → Command) → List (List ℕ) → Result Command ScriptCause
-with_field index field make words = do
-  _ ← count 7 words
-  numbers ← rect_numbers_at words index
-  name ← name_at words 1
-  value ← field
-  rect ← rect_of numbers
-  Ok (make name value rect)
+-- the command of a first word and fields, but not nodes
+abbrev pub command_with : Keyword → List Field → Result Command ScriptCause
+command_with keywords.Buffer fields = do
+  name ← name_at fields 0
+  format ← format_at fields 1
+  rect ← rect_at fields 2
+  Ok (commands.Buffer name format rect)
+command_with keywords.Sub fields = do
+  name ← name_at fields 0
+  parent ← name_at fields 1
+  rect ← rect_at fields 2
+  Ok (commands.Sub name parent rect)
+command_with keywords.Dup fields = do
+  name ← name_at fields 0
+  from ← name_at fields 1
+  Ok (commands.Dup name from)
+command_with keywords.Load fields = do
+  name ← name_at fields 0
+  rect ← rect_at fields 1
+  file ← file_at fields 5
+  Ok (commands.Load name rect file)
+command_with keywords.Fill fields = do
+  name ← name_at fields 0
+  rect ← rect_at fields 1
+  Ok (commands.Fill name rect (naturals_in (drop 5 fields)))
+command_with keywords.Copy fields = do
+  from ← name_at fields 0
+  to ← name_at fields 1
+  rect ← rect_at fields 2
+  dx ← integer_at fields 6
+  dy ← integer_at fields 7
+  Ok (commands.Copy from to rect dx dy)
+command_with keywords.Node fields = Err causes.Rect
+command_with keywords.Drop fields = do
+  name ← name_at fields 0
+  Ok (commands.Drop name)
+command_with keywords.Commit fields = Ok commands.Commit
+command_with keywords.Undo fields = Ok commands.Undo
+command_with keywords.Redo fields = Ok commands.Redo
+command_with keywords.Render fields = do
+  name ← name_at fields 0
+  level ← natural_at fields 1
+  rect ← level_rect_at fields 2 level
+  file ← file_at fields 6
+  Ok (commands.Render name level rect file)
+command_with keywords.Grab fields = do
+  name ← name_at fields 0
+  level ← natural_at fields 1
+  policy ← policy_at fields 2
+  rect ← level_rect_at fields 3 level
+  file ← file_at fields 7
+  Ok (commands.Grab name level policy rect file)
+command_with keywords.Watch fields = do
+  name ← name_at fields 0
+  viewers ← natural_at fields 5
+  frames ← natural_at fields 6
+  rect ← watched_rect_at fields 1 viewers frames
+  prefix ← file_at fields 7
+  Ok (commands.Watch name rect viewers frames prefix)
+command_with keywords.EndWatch fields = Ok commands.EndWatch
 
--- `buffer B FORMAT X Y W H`
-abbrev pub buffer : List (List ℕ) → Result Command ScriptCause
-buffer words = with_field 3 (format_at words 2) (λ name format rect. Buffer name format rect) words
+-- the area operation of a word: a mean for `box`, a dilation for `dilate`, and else an erosion
+abbrev pub area_operation : OperationWord → ℕ → Abyss → IntOp
+area_operation operations.BoxMean radius abyss = ops.BoxMean radius abyss
+area_operation operations.Dilate radius abyss = ops.Dilate radius abyss
+area_operation _ radius abyss = ops.Erode radius abyss
 
--- `sub B PARENT X Y W H`
-abbrev pub sub : List (List ℕ) → Result Command ScriptCause
-sub words = with_field 3 (name_at words 2) (λ name parent rect. Sub name parent rect) words
+abbrev pub area : OperationWord → List Field → Result OpWords ScriptCause
+area operation fields = do
+  radius ← natural_at fields 2
+  policy ← policy_at fields 3
+  Ok (Compute (area_operation operation radius policy))
 
--- `dup B FROM`
-abbrev pub dup : List (List ℕ) → Result Command ScriptCause
-dup words = do
-  _ ← count 3 words
-  name ← name_at words 1
-  from ← name_at words 2
-  Ok (Dup name from)
+-- what a node of an operation and fields does
+abbrev pub operation_with : OperationWord → List Field → Result OpWords ScriptCause
+operation_with operations.Source fields = do
+  buffer ← name_at fields 2
+  Ok (Source buffer)
+operation_with operations.Color fields = do
+  format ← format_at fields 2
+  rect ← rect_at fields 3
+  Ok (Compute (ops.Color format rect (naturals_in (drop 7 fields))))
+operation_with operations.Checker fields = do
+  format ← format_at fields 2
+  rect ← rect_at fields 3
+  size ← natural_at fields 7
+  v1 ← natural_at fields 8
+  v2 ← natural_at fields 9
+  Ok (Compute (ops.Checker format rect size v1 v2))
+operation_with operations.Convert fields = do
+  format ← format_at fields 2
+  Ok (Compute (ops.Convert format))
+operation_with operations.Invert fields = Ok (Compute ops.Invert)
+operation_with operations.Threshold fields = do
+  at ← natural_at fields 2
+  Ok (Compute (ops.Threshold at))
+operation_with operations.Gain fields = do
+  num ← natural_at fields 2
+  den ← natural_at fields 3
+  Ok (Compute (ops.Gain num den))
+operation_with operations.Translate fields = do
+  dx ← integer_at fields 2
+  dy ← integer_at fields 3
+  Ok (Compute (ops.Translate dx dy))
+operation_with operations.Crop fields = do
+  rect ← rect_at fields 2
+  Ok (Compute (ops.Crop rect))
+operation_with operations.Flip fields = do
+  sideways ← sideways_at fields 2
+  Ok (Compute (ops.Flip sideways))
+operation_with operations.BoxMean fields = area operations.BoxMean fields
+operation_with operations.Dilate fields = area operations.Dilate fields
+operation_with operations.Erode fields = area operations.Erode fields
+operation_with operations.Add fields = Ok (Compute ops.Add)
+operation_with operations.Over fields = Ok (Compute ops.Over)
+operation_with operations.Mask fields = Ok (Compute ops.Mask)
 
--- `load B X Y W H FILE`
-abbrev pub load : List (List ℕ) → Result Command ScriptCause
-load words = with_field 2 (file_at words 6) (λ name file rect. Load name rect file) words
+-- the inputs of a node: the last of its fields, as many as it has
+abbrev pub inputs_in : List Field → OpWords → List (List ℕ)
+inputs_in fields op = names_in (drop (length fields - input_count op) fields)
 
--- `fill B X Y W H S..`, 1 to 4 samples
-abbrev pub fill : List (List ℕ) → Result Command ScriptCause
-fill words = do
-  _ ← count_in 7 10 words
-  numbers ← rect_numbers_at words 2
-  samples ← samples_from 6 words
-  name ← name_at words 1
-  rect ← rect_of numbers
-  Ok (Fill name rect samples)
+-- the node of an operation and fields: its name, the operation's word, its arguments and its inputs
+abbrev pub node_with : OperationWord → List Field → Result Command ScriptCause
+node_with operation fields = do
+  name ← name_at fields 0
+  op ← operation_with operation fields
+  Ok (commands.Node name op (inputs_in fields op))
 
--- `copy FROM TO X Y W H DX DY`
-abbrev pub copy : List (List ℕ) → Result Command ScriptCause
-copy words = do
-  _ ← count 9 words
-  numbers ← rect_numbers_at words 3
-  dx ← move_at words 7
-  dy ← move_at words 8
-  from ← name_at words 1
-  to ← name_at words 2
-  rect ← rect_of numbers
-  Ok (Copy from to rect dx dy)
-
--- `drop N`
-abbrev pub drop_node : List (List ℕ) → Result Command ScriptCause
-drop_node words = do
-  _ ← count 2 words
-  name ← name_at words 1
-  Ok (Drop name)
-
--- `commit`, `undo`, `redo`, `endwatch`: the command alone
-abbrev pub alone : Command → List (List ℕ) → Result Command ScriptCause
-alone command words = do
-  _ ← count 1 words
-  Ok command
-
--- `render N LEVEL X Y W H FILE`
-abbrev pub render : List (List ℕ) → Result Command ScriptCause
-render words = do
-  _ ← count 8 words
-  level ← natural_at 0 max_level words 2
-  numbers ← rect_numbers_at words 3
-  name ← name_at words 1
-  file ← file_at words 7
-  rect ← level_rect_of level numbers
-  Ok (Render name level rect file)
-
--- `grab B LEVEL ABYSS X Y W H FILE`
-abbrev pub grab : List (List ℕ) → Result Command ScriptCause
-grab words = do
-  _ ← count 9 words
-  level ← natural_at 0 max_level words 2
-  numbers ← rect_numbers_at words 4
-  name ← name_at words 1
-  policy ← policy_at words 3
-  file ← file_at words 8
-  rect ← level_rect_of level numbers
-  Ok (Grab name level policy rect file)
-
--- `watch N X Y W H VIEWERS FRAMES PREFIX`
-abbrev pub watch : List (List ℕ) → Result Command ScriptCause
-watch words = do
-  _ ← count 9 words
-  numbers ← rect_numbers_at words 2
-  viewers ← natural_at 1 max_viewers words 6
-  frames ← natural_at 1 max_frames words 7
-  name ← name_at words 1
-  prefix ← prefix_at words 8
-  rect ← watched_rect_of viewers frames numbers
-  Ok (Watch name rect viewers frames prefix)
+-- the command of a form and fields
+abbrev pub command_of : Form → List Field → Result Command ScriptCause
+command_of (forms.Command keyword) fields = command_with keyword fields
+command_of (forms.Node operation) fields = node_with operation fields

@@ -1,13 +1,12 @@
 pub mod Answers
+pub mod Arguments
 pub mod Commands
+pub mod Forms
 pub mod IsScript
 pub mod Keywords
 pub mod Limits
-pub mod Nodes
 pub mod OperationWords
 pub mod Script
 pub mod Spelling
-pub mod Grammar
-pub mod CommandGrammars
 pub mod LineCauses
 pub mod TextCauses

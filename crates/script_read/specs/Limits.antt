@@ -2,7 +2,7 @@
 use Rattle.std.specs.Prelude.{ℕ, ◌≡◌, ◌≤◌, IsTrue, length}
 use Rattle.plane_rect.specs.Rectangle.{in_limits}
 use Rattle.script_fields.specs.Limits.{IsLevelRect, may_watch}
-use Rattle.pixel_formats.specs.Limits.{ArePixel, IsArea, IsIn, IsMove, IsSample, max_checker_size, max_frames, max_prefix_bytes, max_sample, max_viewers}
+use Rattle.pixel_formats.specs.Limits.{ArePixel, IsArea, IsIn, IsMove, IsSample, max_checker_size, max_factor, max_frames, max_prefix_bytes, max_viewers}
 use Rattle.script_read.specs.declared.command.Command.{Command}
 use Rattle.script_read.specs.declared.command.Command.TheVariants.{Buffer, Sub, Load, Fill, Copy, Node, Render, Grab, Watch}
 use Rattle.script_read.specs.declared.command.OpWords.{OpWords}
@@ -22,7 +22,7 @@ AreInRange (Color format rect samples) = IsTrue (in_limits rect) × ArePixel sam
 AreInRange (Checker format rect size v1 v2) =
     IsTrue (in_limits rect) × IsIn 1 max_checker_size size × IsSample v1 × IsSample v2
 AreInRange (Threshold at) = IsSample at
-AreInRange (Gain num den) = IsSample num × IsIn 1 max_sample den
+AreInRange (Gain num den) = (num ≤ max_factor) × IsIn 1 max_factor den
 AreInRange (Translate dx dy) = IsMove dx × IsMove dy
 AreInRange (Crop rect) = IsTrue (in_limits rect)
 AreInRange (BoxMean radius policy) = IsArea radius policy

@@ -1,19 +1,26 @@
 -- The causes for which a line is refused, each by itself.
-use Rattle.std.specs.Prelude.{◌≡◌, ℕ, ◌<◌, Bool, true, false, not, ◌&&◌, ◌||◌, nat_le, nat_lt, List, IsTrue, Option, is_none, is_some, length}
-use Rattle.std.specs.Option.{option_map_or}
+use Rattle.std.specs.Prelude.{◌≡◌, ℕ, ◌<◌, Bool, true, false, not, ◌&&◌, ◌||◌, nat_le, nat_lt, List, [], ◌∷◌, IsTrue, Option, is_none, is_some, Result, Ok, Err, drop, length}
+use Rattle.std.specs.Option.{option_map_or, unwrap_or}
 use Rattle.pixel_formats.specs.Limits.{max_line_bytes, max_lines}
 use Rattle.script_words.specs.Lines.{is_text}
 use Rattle.script_words.specs.Words.{words_of}
-use Rattle.script_fields.specs.Fields.{word_at}
+use Rattle.script_fields.specs.Fields.{found, names_fit, numbers_fit, word_at}
 use Rattle.script_fields.specs.declared.cause.ScriptCause.{ScriptCause}
 use Rattle.script_fields.specs.declared.cause.ScriptCause.TheVariants as causes
+use Rattle.script_fields.specs.declared.field.Field.{Field}
+use Rattle.script_fields.specs.declared.field.Field.TheVariants as fields
+use Rattle.script_fields.specs.declared.kind.Kind.{Kind}
+use Rattle.script_fields.specs.declared.kind.Kind.TheVariants as kinds
+use Rattle.pixel_formats.specs.declared.abyss.Abyss.TheVariants as policies
+use Rattle.pixel_formats.specs.declared.format.Format.TheVariants.{Y8}
 use Rattle.script_read.specs.Keywords.{keyword_of}
 use Rattle.script_read.specs.OperationWords.{operation_of}
 use Rattle.script_read.specs.Script.{is_silent}
 use Rattle.script_read.specs.declared.keyword.Keyword.{Keyword}
 use Rattle.script_read.specs.declared.keyword.Keyword.TheVariants as keywords
-use Rattle.script_read.specs.CommandGrammars.{grammar_of}
-use Rattle.script_read.specs.Grammar.{Grammar, area_refused, is_counted, names_fit, numbers_fit}
+use Rattle.script_read.specs.declared.forms.Form.{Form}
+use Rattle.script_read.specs.Commands.{command_of}
+use Rattle.script_read.specs.Forms.{form_of, is_counted, kinds_for}
 
 -- the command that a line's first word names
 abbrev pub keyword_in : List (List ℕ) → Option Keyword
@@ -36,9 +43,43 @@ names_operation words = nat_lt 2 (length words)
 abbrev pub has_keyword : (Keyword → Bool) → List (List ℕ) → Bool
 has_keyword test words = option_map_or test (keyword_in words) false
 
--- a test of words by their grammar, where it is known
-abbrev pub by_grammar : (Grammar → List (List ℕ) → Bool) → List (List ℕ) → Bool
-by_grammar test words = option_map_or (λ grammar. test grammar words) (grammar_of words) false
+-- a test of what is read, where it is
+abbrev pub if_read : {A : Type 0} → Result A ScriptCause → (A → Bool) → Bool
+if_read (Ok value) test = test value
+if_read (Err cause) test = false
+
+abbrev pub is_refused : {A : Type 0} → Result A ScriptCause → Bool
+is_refused (Ok value) = false
+is_refused (Err cause) = true
+
+-- a test of the words after the first, where the line's form is known
+abbrev pub by_form : (Form → List (List ℕ) → Bool) → List (List ℕ) → Bool
+by_form test words = if_read (form_of words) (λ form. test form (drop 1 words))
+
+-- a field of a kind, in place of a name that is none
+abbrev pub any_field : Kind → Field
+any_field kinds.Name = fields.Name []
+any_field kinds.File = fields.File []
+any_field kinds.Prefix = fields.File []
+any_field kinds.Format = fields.Format Y8
+any_field kinds.Policy = fields.Policy policies.None
+any_field kinds.AreaPolicy = fields.Policy policies.None
+any_field kinds.Direction = fields.Sideways true
+any_field kinds.Operation = fields.Operation
+any_field (kinds.Natural low high) = fields.Natural low
+any_field (kinds.Integer low high) = fields.Integer low
+
+-- the fields of words, whatever their names are
+abbrev pub fields_anyway : List Kind → List (List ℕ) → List Field
+fields_anyway all [] = []
+fields_anyway [] (word ∷ words) = []
+fields_anyway (kind ∷ others) (word ∷ words) = unwrap_or (found kind word) (any_field kind) ∷ fields_anyway others words
+
+-- The numbers are numbers, but whatever the names are, no command is made of them: four of them are no rectangle that
+-- it may have.
+abbrev pub makes_none : Form → List (List ℕ) → Bool
+makes_none form words =
+    numbers_fit (kinds_for form words) words && is_refused (command_of form (fields_anyway (kinds_for form words) words))
 
 -- the words of a command, while that watch is open, have a cause
 abbrev pub words_have : Option ℕ → List (List ℕ) → ScriptCause → Bool
@@ -50,10 +91,10 @@ words_have watching words causes.UnknownCommand =
     || (has_keyword is_node words && names_operation words && is_none (operation_of (word_at words 2)))
 words_have watching words causes.Words =
     (has_keyword is_node words && not (names_operation words))
-    || by_grammar (λ grammar words. not (is_counted grammar words)) words
-words_have watching words causes.Number = by_grammar (λ grammar words. not (numbers_fit grammar words)) words
-words_have watching words causes.Name = by_grammar (λ grammar words. not (names_fit grammar words)) words
-words_have watching words causes.Rect = by_grammar (λ grammar words. area_refused grammar.area words) words
+    || by_form (λ form words. not (is_counted form words)) words
+words_have watching words causes.Number = by_form (λ form words. not (numbers_fit (kinds_for form words) words)) words
+words_have watching words causes.Name = by_form (λ form words. not (names_fit (kinds_for form words) words)) words
+words_have watching words causes.Rect = by_form makes_none words
 words_have watching words causes.Order = has_keyword (is_out_of_order watching) words
 
 -- The line of a number, while that watch is open, has a cause. A line without words and a comment have no others than

@@ -1,46 +1,33 @@
 -- The script that a text is: the commands of its lines, or the first line that has a cause with the lowest of its
 -- causes.
-use Rattle.std.specs.Prelude.{ℕ, ◌+◌, ◌==◌, nat_le, Bool, true, false, if◌then◌else◌, List, [], ◌∷◌, length, Option, Some, None, Result, Ok, Err}
-use Rattle.std.specs.Option.{ok_or}
+use Rattle.std.specs.Prelude.{ℕ, ◌+◌, ◌==◌, nat_le, Bool, true, false, if◌then◌else◌, List, [], ◌∷◌, drop, length, Option, Some, None, Result, Ok, Err}
 use Rattle.pixel_formats.specs.Limits.{max_line_bytes, max_lines}
 use Rattle.script_words.specs.Lines.{is_text, lines_of}
 use Rattle.script_words.specs.Words.{words_of}
-use Rattle.script_read.specs.Commands.{buffer, sub, dup, load, fill, copy, drop_node, alone, render, grab, watch}
-use Rattle.script_fields.specs.Fields.{◌>>=◌, passed, word_at}
-use Rattle.script_read.specs.Keywords.{keyword_of}
-use Rattle.script_read.specs.Nodes.{node}
+use Rattle.script_read.specs.Commands.{command_of}
+use Rattle.script_read.specs.Forms.{form_of, is_counted, kinds_for}
+use Rattle.script_fields.specs.Fields.{◌>>=◌, fields_of_words, numbers_fit, passed}
 use Rattle.script_fields.specs.declared.cause.ScriptCause.{ScriptCause}
 use Rattle.script_fields.specs.declared.cause.ScriptCause.TheVariants as causes
 use Rattle.script_read.specs.declared.command.Command.{Command}
 use Rattle.script_read.specs.declared.command.Command.TheVariants as commands
 use Rattle.script_read.specs.declared.command.Line.{Line}
-use Rattle.script_read.specs.declared.keyword.Keyword.{Keyword}
-use Rattle.script_read.specs.declared.keyword.Keyword.TheVariants.{Buffer, Sub, Dup, Load, Fill, Copy, Node, Drop, Commit, Undo, Redo, Render, Grab, Watch, EndWatch}
+use Rattle.script_read.specs.declared.forms.Form.{Form}
 use Rattle.script_read.specs.declared.reader.ReadLine.{ReadLine}
 
 -- ---- one line
 
--- the command of words, by the first of them
-unfoldable pub command_by : Keyword → List (List ℕ) → Result Command ScriptCause
-command_by Buffer words = buffer words
-command_by Sub words = sub words
-command_by Dup words = dup words
-command_by Load words = load words
-command_by Fill words = fill words
-command_by Copy words = copy words
-command_by Node words = node words
-command_by Drop words = drop_node words
-command_by Commit words = alone commands.Commit words
-command_by Undo words = alone commands.Undo words
-command_by Redo words = alone commands.Redo words
-command_by Render words = render words
-command_by Grab words = grab words
-command_by Watch words = watch words
-command_by EndWatch words = alone commands.EndWatch words
+-- the command of the words after the first, of a line of this form
+unfoldable pub command_by : Form → List (List ℕ) → Result Command ScriptCause
+command_by form words = do
+  _ ← passed {A = Unit {0}} (is_counted form words) causes.Words tt
+  _ ← passed {A = Unit {0}} (numbers_fit (kinds_for form words) words) causes.Number tt
+  fields ← fields_of_words (kinds_for form words) words
+  command_of form fields
 
 -- the command of words
-unfoldable pub command_of : List (List ℕ) → Result Command ScriptCause
-command_of words = ok_or (keyword_of (word_at words 0)) causes.UnknownCommand >>= λ keyword. command_by keyword words
+unfoldable pub command_of_words : List (List ℕ) → Result Command ScriptCause
+command_of_words words = form_of words >>= λ form. command_by form (drop 1 words)
 
 -- a word that begins with `#`
 abbrev pub begins_comment : List ℕ → Bool
@@ -54,7 +41,7 @@ is_silent (word ∷ words) = begins_comment word
 
 -- the command of words, where they are neither none nor those of a comment
 unfoldable pub spoken : List (List ℕ) → Result (Option Command) ScriptCause
-spoken words = if is_silent words then Ok None else (command_of words >>= λ command. Ok (Some command))
+spoken words = if is_silent words then Ok None else (command_of_words words >>= λ command. Ok (Some command))
 
 -- the command of the line of a number, where it has one
 unfoldable pub command_in : ℕ → List ℕ → Result (Option Command) ScriptCause

@@ -1,12 +1,13 @@
 //! The script language: the lines of a text are read as commands, and commands are printed as a text.
 #![tactic(auto)]
 
+mod arguments;
 mod command;
 mod commands;
+mod forms;
 mod keyword;
 pub mod laws;
 mod limits;
-mod nodes;
 mod operation_word;
 mod printer;
 mod reader;

@@ -10,8 +10,8 @@ use crate::command::{Command, Line, OpWords};
 use crate::reader::open_after;
 use model_operations::IntOp;
 use pixel_formats::limits::{
-    MAX_CHECKER_SIZE, MAX_FRAMES, MAX_LINES, MAX_PREFIX_BYTES, MAX_SAMPLE, MAX_VIEWERS, are_pixel,
-    is_area, is_in, is_move,
+    MAX_CHECKER_SIZE, MAX_FACTOR, MAX_FRAMES, MAX_LINES, MAX_PREFIX_BYTES, MAX_SAMPLE, MAX_VIEWERS,
+    are_pixel, is_area, is_in, is_move,
 };
 use script_fields::{is_level_rect, may_watch};
 
@@ -104,7 +104,7 @@ fn are_in_range(op: &IntOp) -> bool
                 && *v2 <= MAX_SAMPLE
         }
         IntOp::Threshold { at } => *at <= MAX_SAMPLE,
-        IntOp::Gain { num, den } => *num <= MAX_SAMPLE && is_in(1, MAX_SAMPLE, *den),
+        IntOp::Gain { num, den } => *num <= MAX_FACTOR && is_in(1, MAX_FACTOR, *den),
         IntOp::Translate { dx, dy } => is_move(*dx) && is_move(*dy),
         IntOp::Crop { rect } => rect.in_limits(),
         IntOp::BoxMean { radius, abyss }
@@ -120,7 +120,7 @@ fn are_in_range(op: &IntOp) -> bool
 }
 
 /// Returns how many inputs a node has.
-fn input_count(op: &OpWords) -> usize
+pub(crate) fn input_count(op: &OpWords) -> usize
     ensures { result ≡ input_count op.now }
 {
     match op {

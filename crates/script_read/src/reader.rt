@@ -3,16 +3,16 @@
 ghost use Rattle.std.specs.Prelude.{◌≡◌, ◌+◌, ◌≤◌, ◌<◌, IfOk, IfSome, IsTrue, length};
 ghost use Rattle.script_words.specs.Lines.{is_text};
 ghost use Rattle.script_fields.specs.{Answers.Answers, Fields.texts};
-ghost use Rattle.script_read.specs.Answers.{Reads, ReadsCommand};
-ghost use Rattle.script_read.specs.Script.{begins_comment, command_by, command_in, command_of, is_silent, open_after, open_past, script_of, spoken, step_of};
+ghost use Rattle.script_read.specs.Answers.{Reads};
+ghost use Rattle.script_read.specs.Script.{begins_comment, command_by, command_in, command_of_words, is_silent, open_after, open_past, script_of, spoken, step_of};
 ghost use Rattle.script_read.specs.{IsScript.IsScript, Limits.IsInLimits};
 ghost use Rattle.pixel_formats.specs.Limits.{max_lines};
 
 use crate::command::{Command, Line};
-use crate::keyword::Keyword;
-use crate::{commands, nodes};
+use crate::commands::command_of;
+use crate::forms::Form;
 use pixel_formats::limits::{MAX_LINE_BYTES, MAX_LINES};
-use script_fields::{LineAnswer, ScriptAnswer, ScriptCause, word_at};
+use script_fields::{Field, LineAnswer, ScriptAnswer, ScriptCause, numbers_fit, read_fields};
 use script_words::{is_text, next_line, split_words};
 use std::alloc::Global;
 
@@ -38,6 +38,7 @@ pub fn read_script(alloc: Global, text: &[u8]) -> Result<Vec<Line>, ScriptAnswer
 {
     let mut lines = Vec::new(alloc);
     let mut words = Vec::new(alloc);
+    let mut fields = Vec::new(alloc);
     let mut watching = None;
     let mut number = 1;
     let mut rest = text;
@@ -45,7 +46,7 @@ pub fn read_script(alloc: Global, text: &[u8]) -> Result<Vec<Line>, ScriptAnswer
         let ReadLine {
             command,
             watching: after,
-        } = match step_of(alloc, number, watching, line, &mut words) {
+        } = match step_of(alloc, number, watching, line, &mut words, &mut fields) {
             Ok(step) => step,
             Err(answer) => return Err(answer.at(number)),
         };
@@ -65,7 +66,7 @@ pub fn read_script(alloc: Global, text: &[u8]) -> Result<Vec<Line>, ScriptAnswer
     }
 }
 
-/// Reads a line, which is split into `words`, where the watch of an earlier line may be open.
+/// Reads a line, which is split into `words` and `fields`, where the watch of an earlier line may be open.
 #[tactic(auto, unfolding(crate::specs::Script::step_of))]
 fn step_of<'t>(
     alloc: Global,
@@ -73,13 +74,14 @@ fn step_of<'t>(
     watching: Option<u32>,
     line: &'t [u8],
     words: &mut Vec<&'t [u8]>,
+    fields: &mut Vec<Field>,
 ) -> Result<ReadLine, LineAnswer>
     ensures value { Answers result (step_of number watching line.now) }
     ensures number { IfOk result (λ step. number ≤ max_lines) }
     ensures watch { IfOk result (λ step. open_past number watching step.command ≡ Ok step.watching) }
     ensures limits { IfOk result (λ step. IfSome step.command IsInLimits) }
 {
-    let command = command_in(alloc, number, line, words)?;
+    let command = command_in(alloc, number, line, words, fields)?;
     let watching = match &command {
         Some(command) => open_after(number, watching, command)?,
         None => watching,
@@ -107,13 +109,14 @@ pub(crate) fn open_after(
     }
 }
 
-/// Reads the command of a line, which is split into `words`, where it has one.
+/// Reads the command of a line, which is split into `words` and `fields`, where it has one.
 #[tactic(auto, unfolding(crate::specs::Script::command_in))]
 fn command_in<'t>(
     alloc: Global,
     number: u32,
     line: &'t [u8],
     words: &mut Vec<&'t [u8]>,
+    fields: &mut Vec<Field>,
 ) -> Result<Option<Command>, LineAnswer>
     ensures value { Answers result (command_in number line.now) }
     ensures number { IfOk result (λ command. number ≤ max_lines) }
@@ -129,19 +132,23 @@ fn command_in<'t>(
         return Err(LineAnswer::Refused(ScriptCause::TooManyLines));
     }
     split_words(line, words)?;
-    spoken(alloc, words)
+    spoken(alloc, words, fields)
 }
 
 /// Reads the command of words, where they are neither none nor those of a comment.
 #[tactic(auto, unfolding(crate::specs::Script::spoken))]
-fn spoken(alloc: Global, words: &[&[u8]]) -> Result<Option<Command>, LineAnswer>
+fn spoken(
+    alloc: Global,
+    words: &[&[u8]],
+    fields: &mut Vec<Field>,
+) -> Result<Option<Command>, LineAnswer>
     ensures value { Answers result (spoken (texts words.now)) }
     ensures limits { IfOk result (λ command. IfSome command IsInLimits) }
 {
     if is_silent(words) {
         return Ok(None);
     }
-    let command = command_of(alloc, words)?;
+    let command = command_of_words(alloc, words, fields)?;
     Ok(Some(command))
 }
 
@@ -163,36 +170,37 @@ fn begins_comment(word: &[u8]) -> bool
     word.first() == Some(&b'#')
 }
 
-/// Reads the command of words.
-#[tactic(auto, unfolding(crate::specs::Script::command_of))]
-fn command_of(alloc: Global, words: &[&[u8]]) -> Result<Command, LineAnswer>
+/// Reads the command of words, whose fields are put into `fields`.
+#[tactic(auto, unfolding(crate::specs::Script::command_of_words))]
+fn command_of_words(
+    alloc: Global,
+    words: &[&[u8]],
+    fields: &mut Vec<Field>,
+) -> Result<Command, LineAnswer>
     requires { 0 < length words.now }
-    ensures { ReadsCommand result (command_of (texts words.now)) }
+    ensures { Answers result (command_of_words (texts words.now)) }
 {
-    let keyword = Keyword::parse(word_at(words, 0)).ok_or(ScriptCause::UnknownCommand)?;
-    command_by(alloc, keyword, words)
+    let form = Form::parse(words)?;
+    command_by(alloc, form, &words[1..], fields)
 }
 
-/// Reads the command of words, by the first of them.
+/// Reads the command of the words after the first, of a line of this form.
 #[tactic(auto, unfolding(crate::specs::Script::command_by))]
-fn command_by(alloc: Global, keyword: Keyword, words: &[&[u8]]) -> Result<Command, LineAnswer>
-    ensures { ReadsCommand result (command_by keyword (texts words.now)) }
+fn command_by(
+    alloc: Global,
+    form: Form,
+    words: &[&[u8]],
+    fields: &mut Vec<Field>,
+) -> Result<Command, LineAnswer>
+    ensures { Answers result (command_by form (texts words.now)) }
 {
-    match keyword {
-        Keyword::Buffer => commands::buffer(words),
-        Keyword::Sub => commands::sub(words),
-        Keyword::Dup => commands::dup(words),
-        Keyword::Load => commands::load(words),
-        Keyword::Fill => commands::fill(alloc, words),
-        Keyword::Copy => commands::copy(words),
-        Keyword::Node => nodes::node(alloc, words),
-        Keyword::Drop => commands::drop_node(words),
-        Keyword::Commit => commands::alone(Command::Commit, words),
-        Keyword::Undo => commands::alone(Command::Undo, words),
-        Keyword::Redo => commands::alone(Command::Redo, words),
-        Keyword::Render => commands::render(words),
-        Keyword::Grab => commands::grab(words),
-        Keyword::Watch => commands::watch(words),
-        Keyword::EndWatch => commands::alone(Command::EndWatch, words),
+    let kinds = form.kinds(words.len());
+    if kinds.len() != words.len() {
+        return Err(LineAnswer::Refused(ScriptCause::Words));
     }
+    if !numbers_fit(kinds, words) {
+        return Err(LineAnswer::Refused(ScriptCause::Number));
+    }
+    read_fields(kinds, words, fields)?;
+    command_of(alloc, form, fields)
 }

@@ -1,5 +1,0 @@
-use Rattle.script_fields.proofs.ListLaws.{texts-from}
-use Rattle.script_fields.proofs.lists.names_from.Goals as goal
-
-pub returns-clause-value : goal.returns-clause-value
-returns-clause-value c = rw (texts-from c.args.index c.args.words.now) c.names_of.ensures.value
