@@ -1,14 +1,13 @@
 -- Tiles of an operation that copies an input.
-use Rattle.std.proofs.Common.{◌≡◌, ℕ, suc, zero, ◌*◌, ◌+◌, ◌<◌, ◌≤◌, List, length, Option, Some, None, option_map, refl, sym, ap, ◌∙◌, subst, arith}
-use Rattle.std.specs.Prelude.{IsSome, slice_get, slice_index, unwrap_or}
+use Rattle.std.proofs.Common.{◌≡◌, ℕ, ◌*◌, ◌<◌, ◌≤◌, List, length, Option, Some, None, option_map, refl, sym, ap, ◌∙◌, subst}
+use Rattle.std.specs.Prelude.{IsSome, slice_get, unwrap_or}
 use Rattle.std.proofs.lemmas.Option.{slice_get-map}
 use Rattle.plane_rect.specs.Rectangle.{Includes, Inside, Rectangle}
 use Rattle.plane_rect.specs.Tile.{Tile, tile_square}
-use Rattle.pixel_formats.specs.Format.{channels, depth, max_sample, max_sample_of, pixel_bytes}
-use Rattle.pixel_formats.specs.Row.{sample_at}
+use Rattle.pixel_formats.specs.Format.{channels, max_sample, pixel_bytes}
 use Rattle.pixel_formats.specs.declared.format.Format.{Format}
 use Rattle.pixel_formats.specs.declared.format.Format.TheVariants.{Y8}
-use Rattle.pixel_formats.proofs.FormatLaws.{by_depth}
+use Rattle.pixel_formats.proofs.FormatLaws.{sample_within}
 use Rattle.model_images.specs.FromRaw.{AreBytes, pixels_from_raw}
 use Rattle.model_images.specs.Image.{Image, at, sample_index}
 use Rattle.model_images.specs.Paint.{cut}
@@ -26,11 +25,6 @@ use Rattle.op_contracts.proofs.Applied.{boxes-shown, formats-shown}
 pub there-is : {X : Type 0} (o : Option X) (d : X) → IsSome o → o ≡ Some (unwrap_or o d)
 there-is (Some x) d is = refl
 there-is None d is = absurd (cc is)
-
--- a sample that bytes encode is at most the largest
-small-sample : (format : Format) (bytes : List ℕ) (i : ℕ) → AreBytes bytes → sample_at (depth format) bytes i ≤ max_sample format
-small-sample format bytes i small =
-    by_depth (λ d. sample_at d bytes i ≤ max_sample_of d) (omega (arith, small i)) (omega (arith, small (2 * i), small (2 * i + 1))) format
 
 module _ {Op : Type 0} (meanings : Meanings Op) (operation : Op) (windows : List Window) (input : ℕ) (window : Window) (there : slice_get windows input ≡ Some window)
     (tile : Tile) (copies : CopiesInput meanings operation (window_bounds windows) (tile_square tile) input)
@@ -65,7 +59,7 @@ module _ {Op : Type 0} (meanings : Meanings Op) (operation : Op) (windows : List
   pixel u v c here known =
       let shown = shown-pixel u v c here known in
       let most : at (window_image window) u v c ≤ max_sample window.format =
-      subst (λ n. n ≤ max_sample window.format) (sym shown) (small-sample window.format bytes (sample_index (tile_square tile) (channels window.format) u v c) small) in
+      subst (λ n. n ≤ max_sample window.format) (sym shown) (sample_within window.format bytes (sample_index (tile_square tile) (channels window.format) u v c) small) in
       at-image_from_fn result.box result.format (meanings.value operation (window_images windows)) u v c (in-box u v here)
       (subst (λ (f : Format). c < channels f) same-format known)
       ∙ copies.samples (window_images windows) (boxes-shown windows) (subst (λ (formats : List Format). IsSome (meanings.format operation formats)) (sym (formats-shown windows)) format)

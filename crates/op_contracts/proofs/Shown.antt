@@ -1,5 +1,5 @@
 -- Samples that windows show.
-use Rattle.std.proofs.Common.{◌≡◌, ℕ, suc, ◌+◌, ◌*◌, ◌<◌, ◌≤◌, List, [], ◌∷◌, Bool, true, false, cond, length, All, Option, Some, ap, ◌∙◌, arith}
+use Rattle.std.proofs.Common.{◌≡◌, ℕ, suc, ◌+◌, ◌*◌, ◌<◌, List, [], ◌∷◌, Bool, true, false, cond, length, All, Option, Some, ap, ◌∙◌, arith}
 use Rattle.std.specs.Map.{lookup}
 use Rattle.std.specs.Option.{option_map_or}
 use Rattle.plane_rect.specs.Rectangle.{Inside, offset}
@@ -7,7 +7,6 @@ use Rattle.plane_rect.specs.Tile.{Tile, same_tile, tile_at, tile_square}
 use Rattle.pixel_formats.specs.Format.{channels, depth, pixel_bytes}
 use Rattle.pixel_formats.specs.Row.{sample_at}
 use Rattle.pixel_formats.specs.declared.format.Format.{Format}
-use Rattle.pixel_formats.specs.declared.format.Format.TheVariants.{Y8, YA8, RGB8, RGBA8, Y16, YA16, RGB16, RGBA16}
 use Rattle.model_images.specs.FromRaw.{pixels_from_raw}
 use Rattle.model_images.specs.Image.{at}
 use Rattle.model_images.specs.Tiles.{held_pixels}
@@ -36,15 +35,3 @@ found-long format tile [] bytes long e = absurd (cc e)
 found-long format tile (entry ∷ entries) bytes long e =
     first-long format entry bytes (lookup (same_tile tile) entries) (same_tile tile entry.0) (long 0 entry (omega arith))
     (found-long format tile entries bytes (λ k d below. long (suc k) d (omega (arith, below)))) e
-
--- the sample of a channel of a pixel is in the bytes of a tile
-pub sample-fits : (format : Format) (k c : ℕ) → k < 4096 → c < channels format
-    → depth format * (k * channels format + c + 1) ≤ 4096 * pixel_bytes format
-sample-fits Y8 k c below known = omega arith
-sample-fits YA8 k c below known = omega arith
-sample-fits RGB8 k c below known = omega arith
-sample-fits RGBA8 k c below known = omega arith
-sample-fits Y16 k c below known = omega arith
-sample-fits YA16 k c below known = omega arith
-sample-fits RGB16 k c below known = omega arith
-sample-fits RGBA16 k c below known = omega arith

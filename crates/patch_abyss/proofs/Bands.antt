@@ -3,8 +3,8 @@ use Rattle.std.proofs.Common.{◌≡◌, ℕ, ◌+◌, ◌-◌, ◌*◌, ◌<◌
 use Rattle.std.proofs.Math.Nat.{mul-le-mul_right}
 use Rattle.plane_rect.specs.Rectangle.{Rectangle}
 use Rattle.pixel_formats.specs.Format.{pixel_bytes}
+use Rattle.pixel_formats.proofs.FormatLaws.{few_bytes}
 use Rattle.pixel_formats.specs.declared.format.Format.{Format}
-use Rattle.patch_abyss.proofs.TilesOfPatches.{few_bytes}
 
 -- rows with columns have bytes
 pub some_bytes : (format : Format) (width count rows : ℕ) → count ≡ width * pixel_bytes format → 0 < width → 0 < rows → 0 < rows * count

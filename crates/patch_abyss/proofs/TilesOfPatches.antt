@@ -1,12 +1,11 @@
 -- Tiles of patches. A tile that begins after the plane has no position there.
-use Rattle.std.proofs.Common.{◌≡◌, ℕ, ◌*◌, ◌<◌, ◌≤◌, ◌↔◌, true, false, cond, List, replicate, refl, sym, ap, ◌∙◌, arith}
+use Rattle.std.proofs.Common.{◌≡◌, ℕ, ◌*◌, ◌<◌, ◌↔◌, true, false, cond, List, replicate, refl, sym, ap, ◌∙◌, arith}
 use Rattle.std.proofs.lemmas.Simd.{length-replicate}
 use Rattle.plane_rect.specs.Rectangle.{Rectangle, IsRectangle, Includes, Inside, empty, is_empty}
 use Rattle.plane_rect.specs.Tile.{Tile, IsWhole, plane, tile_at, tile_square}
 use Rattle.plane_rect.proofs.TileLists.{Inside-tile_square}
 use Rattle.pixel_formats.specs.Format.{channels, depth, pixel_bytes}
 use Rattle.pixel_formats.specs.declared.format.Format.{Format}
-use Rattle.pixel_formats.specs.declared.format.Format.TheVariants.{Y8, YA8, RGB8, RGBA8, Y16, YA16, RGB16, RGBA16}
 use Rattle.std.specs.List.{flat_map}
 use Rattle.std.proofs.lemmas.Bool.Decides.{nat_tests}
 use Rattle.model_images.specs.Image.{Image, at, image_from_fn, is_inside}
@@ -76,17 +75,6 @@ put_from_raw image r bytes =
 
 pub some_positions : (r : Rectangle) → false ≡ is_empty r → (0 < r.width) × (0 < r.height)
 some_positions r some = (grind (arith, nat_tests), grind (arith, nat_tests))
-
--- a pixel has from one byte to eight
-pub few_bytes : (format : Format) → (1 ≤ pixel_bytes format) × (pixel_bytes format ≤ 8)
-few_bytes Y8 = (omega arith, omega arith)
-few_bytes YA8 = (omega arith, omega arith)
-few_bytes RGB8 = (omega arith, omega arith)
-few_bytes RGBA8 = (omega arith, omega arith)
-few_bytes Y16 = (omega arith, omega arith)
-few_bytes YA16 = (omega arith, omega arith)
-few_bytes RGB16 = (omega arith, omega arith)
-few_bytes RGBA16 = (omega arith, omega arith)
 
 pub raw-part : (image : Image) (r : Rectangle) → raw (image_from_fn r image.format (at image)) r ≡ raw image r
 unfolding raw

@@ -1,5 +1,5 @@
 -- What becomes of pixels depends on nothing but their channels.
-use Rattle.std.proofs.Common.{◌≡◌, ℕ, ◌-◌, ◌<◌, Bool, true, false, cond, refl, ap, ◌∙◌, arith}
+use Rattle.std.proofs.Common.{◌≡◌, ℕ, ◌+◌, ◌-◌, ◌<◌, Bool, true, false, ◌&&◌, cond, eqb, ltb, refl, ap, ◌∙◌, arith}
 use Rattle.std.proofs.lemmas.Bool.Decides.{nat_tests}
 use Rattle.pixel_formats.specs.Average.{mean_of_three}
 use Rattle.pixel_formats.specs.Convert.{color_of, converted_pixel, gray_of, is_gray, rescaled}
@@ -10,7 +10,7 @@ use Rattle.pixel_formats.specs.Recolor.{cap, is_alpha, recolored}
 use Rattle.pixel_formats.specs.Row.{Pixel}
 use Rattle.pixel_formats.specs.Threshold.{thresholded}
 use Rattle.pixel_formats.specs.declared.format.Format.{Format}
-use Rattle.pixel_formats.specs.declared.format.Format.TheVariants.{Y8, YA8, RGB8, RGBA8, Y16, YA16, RGB16, RGBA16}
+use Rattle.pixel_formats.proofs.FormatLaws.{by_alpha, by_channels, some_channels}
 use Rattle.point_ops.specs.Changes.{changed_format, changed_pixel}
 use Rattle.point_ops.specs.declared.change.Change.{Change}
 use Rattle.point_ops.specs.declared.change.Change.TheVariants.{Convert, Invert, Threshold, Gain}
@@ -18,10 +18,6 @@ use Rattle.point_ops.specs.declared.change.Change.TheVariants.{Convert, Invert, 
 -- two pixels have the same samples in so many channels
 abbrev pub Agree : ℕ → Pixel → Pixel → Type 0
 Agree n p q = (c : ℕ) → c < n → p c ≡ q c
-
-some_channels : (f : Format) → 0 < channels f
-some_channels Y8 = omega arith
-some_channels f = omega arith
 
 pub last_channel : (f : Format) → channels f - 1 < channels f
 last_channel f = omega (arith, some_channels f)
@@ -37,24 +33,17 @@ recolored-agrees f change p q c agree known =
 
 -- a color channel of a format of three colors
 color_channel : (to : Format) (c : ℕ) → c < channels to → is_alpha to c ≡ false → is_gray to ≡ false → c < 3
-color_channel Y8 c known color colors = absurd (cc colors)
-color_channel YA8 c known color colors = absurd (cc colors)
-color_channel RGB8 c known color colors = known
-color_channel RGBA8 c known color colors = grind (arith, nat_tests)
-color_channel Y16 c known color colors = absurd (cc colors)
-color_channel YA16 c known color colors = absurd (cc colors)
-color_channel RGB16 c known color colors = known
-color_channel RGBA16 c known color colors = grind (arith, nat_tests)
+color_channel to c =
+    by_alpha (λ n alpha. c < n → (alpha && eqb (c + 1) n) ≡ false → ltb n 3 ≡ false → c < 3)
+    (λ known color colors. absurd (cc colors))
+    (λ known color colors. absurd (cc colors))
+    (λ known color colors. known)
+    (λ known color colors. grind (arith, nat_tests))
+    to
 
 three_channels : (from : Format) → is_gray from ≡ false → 2 < channels from
-three_channels Y8 colors = absurd (cc colors)
-three_channels YA8 colors = absurd (cc colors)
-three_channels RGB8 colors = omega arith
-three_channels RGBA8 colors = omega arith
-three_channels Y16 colors = absurd (cc colors)
-three_channels YA16 colors = absurd (cc colors)
-three_channels RGB16 colors = omega arith
-three_channels RGBA16 colors = omega arith
+three_channels =
+    by_channels (λ n. ltb n 3 ≡ false → 2 < n) (λ colors. absurd (cc colors)) (λ colors. absurd (cc colors)) (λ colors. omega arith) (λ colors. omega arith)
 
 module _ (from to : Format) (p q : Pixel) (c : ℕ) (agree : Agree (channels from) p q) (known : c < channels to) where
   first : p 0 ≡ q 0

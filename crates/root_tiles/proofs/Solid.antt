@@ -2,6 +2,7 @@
 use Rattle.std.proofs.Common.{◌≡◌, ℕ, zero, suc, ◌+◌, ◌*◌, ◌/◌, ◌%◌, ◌<◌, ◌≤◌, List, [], ◌∷◌, cond, length, take, get_or, Option, Some, None, Result, refl, sym, ap, ap₂, ◌∙◌, arith}
 use Rattle.std.specs.Option.{option_map}
 use Rattle.std.specs.Result.{OnOk}
+use Rattle.std.proofs.Math.Nat.{mul-le-mul}
 use Rattle.std.proofs.lemmas.Result.{on_ok_weaker}
 use Rattle.level_tables.specs.LevelTiles.{bytes_in}
 use Rattle.plane_rect.specs.Rectangle.{Includes, Inside, Rectangle, area, offset, spanning}
@@ -9,8 +10,7 @@ use Rattle.plane_rect.proofs.RectangleLaws.{offset-below, offset-index}
 use Rattle.pixel_formats.specs.Format.{channels, depth, pixel_bytes}
 use Rattle.pixel_formats.specs.Row.{Pixel, sample_at}
 use Rattle.pixel_formats.specs.declared.format.Format.{Format}
-use Rattle.pixel_formats.specs.declared.format.Format.TheVariants.{Y8, YA8, RGB8, RGBA8, Y16, YA16, RGB16, RGBA16}
-use Rattle.pixel_formats.proofs.FormatLaws.{by_depth}
+use Rattle.pixel_formats.proofs.FormatLaws.{by_depth, sample_fits}
 use Rattle.model_images.specs.FromRaw.{byte_count, pixels_from_raw}
 use Rattle.model_images.specs.Image.{Image, at, image_from_fn, is_inside}
 use Rattle.model_images.specs.Paint.{painted}
@@ -46,26 +46,8 @@ sample-taken format =
     (λ xs n i less. ap₂ (λ (a b : ℕ). a + 256 * b) (get-taken xs n (2 * i) (omega (arith, less))) (get-taken xs n (2 * i + 1) (omega (arith, less))))
     format
 
--- a sample of one of the first pixels is in their bytes
-pub within : (format : Format) (count o c : ℕ) → o < count → c < channels format → depth format * ((o * channels format + c) + 1) ≤ count * pixel_bytes format
-within Y8 count o c below known = omega (arith, below, known)
-within YA8 count o c below known = omega (arith, below, known)
-within RGB8 count o c below known = omega (arith, below, known)
-within RGBA8 count o c below known = omega (arith, below, known)
-within Y16 count o c below known = omega (arith, below, known)
-within YA16 count o c below known = omega (arith, below, known)
-within RGB16 count o c below known = omega (arith, below, known)
-within RGBA16 count o c below known = omega (arith, below, known)
-
 fits : (format : Format) (count : ℕ) → count ≤ 4096 → count * pixel_bytes format ≤ 4096 * pixel_bytes format
-fits Y8 count few = omega (arith, few)
-fits YA8 count few = omega (arith, few)
-fits RGB8 count few = omega (arith, few)
-fits RGBA8 count few = omega (arith, few)
-fits Y16 count few = omega (arith, few)
-fits YA16 count few = omega (arith, few)
-fits RGB16 count few = omega (arith, few)
-fits RGBA16 count few = omega (arith, few)
+fits format count few = mul-le-mul {m₁ = pixel_bytes format} {m₂ = pixel_bytes format} few (omega arith)
 
 -- as many pixels of it as a part has paint the part
 pub solid-paints : (format : Format) (r part : Rectangle) (bytes : List ℕ) (n : ℕ) → IsSolid format bytes → Includes r part → area part ≤ 4096
@@ -78,7 +60,7 @@ solid-paints format r part bytes n solid inside small is = record {
   pixels = λ u v c there known.
       let o = offset part u v in
       let below = offset-below u v part there in
-      sample-taken format bytes n (o * channels format + c) (omega (arith, is, within format (area part) o c below known))
+      sample-taken format bytes n (o * channels format + c) (omega (arith, is, sample_fits format (area part) o c below known))
       ∙ solid.even o c (omega (arith, below, small)) known;
 }
 

@@ -5,7 +5,7 @@ use Rattle.std.proofs.lemmas.Nat.{mul-le}
 use Rattle.model_images.specs.FromRaw.{byte_count}
 use Rattle.pixel_formats.specs.Format.{pixel_bytes}
 use Rattle.pixel_formats.specs.declared.format.Format.{Format}
-use Rattle.pixel_formats.specs.declared.format.Format.TheVariants.{Y8, YA8, RGB8, RGBA8, Y16, YA16, RGB16, RGBA16}
+use Rattle.pixel_formats.proofs.FormatLaws.{few_bytes}
 use Rattle.plane_rect.proofs.Rectangles.{some_or_empty}
 use Rattle.plane_rect.specs.Rectangle.{IsRectangle, Rectangle, empty, end_row}
 use Rattle.plane_rect.specs.Tile.{tile_side}
@@ -53,20 +53,10 @@ module _ (r : Rectangle) (format : Format) (is : IsRectangle r) (end row : ℕ) 
     some = λ none. start-none (some_or_empty r is) none;
   }
     where
-      positive : (f : Format) → 0 < pixel_bytes f
-      positive Y8 = omega arith
-      positive YA8 = omega arith
-      positive RGB8 = omega arith
-      positive RGBA8 = omega arith
-      positive Y16 = omega arith
-      positive YA16 = omega arith
-      positive RGB16 = omega arith
-      positive RGBA16 = omega arith
-
       start-none : ((0 < r.width) × (0 < r.height)) ⊎ (r ≡ empty) → bytes_of_rows r format (end - row) ≡ 0 → bytes_of_rows r format (row - r.first_row) ≡ 0
       start-none (inl (wide, high)) none =
           let below : row < end = begins.some (reached.some (omega (arith, high))) in
-          let few = mul-le 1 1 (r.width * (end - row)) (pixel_bytes format) (mul-le 1 1 r.width (end - row) wide (omega (arith, below))) (positive format) in
+          let few = mul-le 1 1 (r.width * (end - row)) (pixel_bytes format) (mul-le 1 1 r.width (end - row) wide (omega (arith, below))) (few_bytes format).0 in
           absurd (omega (arith, few, none))
       start-none (inr none) flat =
           let w : r.width ≡ 0 = ap (λ (r : Rectangle). r.width) none in

@@ -9,7 +9,7 @@ use Rattle.plane_rect.specs.Rectangle.{Inside, Rectangle, hull, offset}
 use Rattle.plane_rect.proofs.RectangleLaws.{offset-below}
 use Rattle.pixel_formats.specs.Format.{channels, depth, pixel_bytes}
 use Rattle.pixel_formats.specs.declared.format.Format.{Format}
-use Rattle.pixel_formats.specs.declared.format.Format.TheVariants.{Y8, YA8, RGB8, RGBA8, Y16, YA16, RGB16, RGBA16}
+use Rattle.pixel_formats.proofs.FormatLaws.{sample_fits}
 use Rattle.model_images.specs.FromRaw.{byte_count, pixels_from_raw}
 use Rattle.model_images.specs.Image.{Image, at, is_inside}
 use Rattle.model_images.specs.Paint.{no_image, painted}
@@ -30,20 +30,13 @@ use Rattle.model_states.specs.Rectangles.{Rectangles, with_written}
 use Rattle.model_states.specs.Workspace.{Workspace}
 use Rattle.model_sessions.specs.Steps.{after_edit, with_edit, with_working}
 use Rattle.run_lines.proofs.Cuts.{IsCut, bottom, hull-cut, hull-parts, top}
-use Rattle.root_tiles.proofs.Solid.{sample-taken, within}
+use Rattle.root_tiles.proofs.Solid.{sample-taken}
 
 -- ---- samples
 
 -- a byte of a sample of a pixel after so many others
 after : (format : Format) (n o c m : ℕ) → n * pixel_bytes format + (depth format * (o * channels format + c) + m) ≡ depth format * ((n + o) * channels format + c) + m
-after Y8 n o c m = omega arith
-after YA8 n o c m = omega arith
-after RGB8 n o c m = omega arith
-after RGBA8 n o c m = omega arith
-after Y16 n o c m = omega arith
-after YA16 n o c m = omega arith
-after RGB16 n o c m = omega arith
-after RGBA16 n o c m = omega arith
+after format n o c m = omega arith
 
 rows_apart : (w a b u : ℕ) → w * a + (b * w + u) ≡ (a + b) * w + u
 rows_apart w a b u = omega arith
@@ -65,7 +58,7 @@ module _ (r : Rectangle) (row : ℕ) (cut : IsCut r row) (format : Format) (byte
   first-samples u v c there few =
       let o = offset (top r row) u v in
       let below = offset-below u v (top r row) there in
-      sample-taken format bytes count (o * channels format + c) (within format (r.width * (row - r.first_row)) o c below few)
+      sample-taken format bytes count (o * channels format + c) (sample_fits format (r.width * (row - r.first_row)) o c below few)
 
   later : (u v : ℕ) → Inside u v (bottom r row) → r.width * (row - r.first_row) + offset (bottom r row) u v ≡ offset r u v
   later u v there =

@@ -1,9 +1,11 @@
 -- The parts of pixels as the channels of other formats.
-use Rattle.std.proofs.Common.{◌≡◌, ℕ, zero, suc, ◌+◌, ◌*◌, ◌/◌, ◌%◌, ◌<◌, ◌≤◌, List, length, refl, sym, ap, ◌∙◌, subst, arith, rules}
+use Rattle.std.proofs.Common.{◌≡◌, ℕ, zero, suc, ◌+◌, ◌-◌, ◌*◌, ◌/◌, ◌%◌, ◌<◌, ◌≤◌, Bool, true, false, ◌&&◌, ◌||◌, cond, eqb, ltb, List, length, refl, sym, ap, ◌∙◌, subst, arith, rules}
 use Rattle.pixel_formats.specs.declared.format.Format.{Format}
-use Rattle.pixel_formats.specs.declared.format.Format.TheVariants.{Y8, YA8, RGB8, RGBA8, Y16, YA16, RGB16, RGBA16}
+use Rattle.pixel_formats.specs.declared.format.Format.TheVariants.{Y8}
+use Rattle.pixel_formats.proofs.FormatLaws.{by_alpha, by_channels}
+use Rattle.pixel_formats.specs.Average.{mean_of_three}
 use Rattle.pixel_formats.specs.Convert.{converted_pixel, rechannelled, rescaled}
-use Rattle.pixel_formats.specs.Format.{channels, depth, max_sample, max_sample_of, pixel_bytes}
+use Rattle.pixel_formats.specs.Format.{channels, depth, has_alpha, max_sample, max_sample_of, pixel_bytes}
 use Rattle.sample_rows.specs.Groups.{Maps, groups}
 use Rattle.simd_pixels.specs.Components.{component_for, components_of_gray, components_of_colors, components_of_colors_alpha}
 use Rattle.pixel_formats.specs.Row.{sample_at, HasPixels, Pixel, pixel_at}
@@ -17,65 +19,83 @@ each_channel P n few a b c d (suc (suc zero)) lt = c lt
 each_channel P n few a b c d (suc (suc (suc zero))) lt = d lt
 each_channel P n few a b c d (suc (suc (suc (suc i)))) lt = absurd (omega arith)
 
+-- a channel of a pixel of n channels as one of m channels, where the last of either may be alpha
+abbrev as_channel : ℕ → Bool → ℕ → Bool → ℕ → Pixel → ℕ → ℕ
+as_channel n alpha m to_alpha most pixel i =
+    cond (to_alpha && eqb (i + 1) m) (cond alpha (pixel (n - 1)) most)
+    (cond (ltb m 3)
+    (cond (ltb n 3) (pixel 0) (mean_of_three (pixel 0) (pixel 1) (pixel 2)))
+    (cond (ltb n 3) (pixel 0) (pixel i)))
+
+-- the channels of a pixel of n channels as m channels are among these parts
+abbrev AreParts : (ℕ → ℕ) → ℕ → Bool → ℕ → Pixel → ℕ → Bool → Type 0
+AreParts parts n alpha most pixel m to_alpha = (i : ℕ) → i < m → parts (component_for m i) ≡ as_channel n alpha m to_alpha most pixel i
+
 -- gray pixels without alpha
 pub gray_to : (from to : Format) → channels from ≡ 1 → (pixel : Pixel) (i : ℕ) → i < channels to → components_of_gray (max_sample from) pixel (component_for (channels to) i) ≡ rechannelled from to pixel i
-gray_to Y8 Y8 is pixel = each_channel _ 1 (omega arith) (λ lt. search rules) (λ lt. search rules) (λ lt. search rules) (λ lt. search rules)
-gray_to Y8 to is pixel = each_channel _ (channels to) (omega arith) (λ lt. search rules) (λ lt. search rules) (λ lt. search rules) (λ lt. search rules)
-gray_to Y16 Y8 is pixel = each_channel _ 1 (omega arith) (λ lt. search rules) (λ lt. search rules) (λ lt. search rules) (λ lt. search rules)
-gray_to Y16 to is pixel = each_channel _ (channels to) (omega arith) (λ lt. search rules) (λ lt. search rules) (λ lt. search rules) (λ lt. search rules)
-gray_to from to is pixel = λ i lt. absurd (omega arith)
+gray_to from to =
+    by_alpha (λ n alpha. n ≡ 1 → (pixel : Pixel) → AreParts (components_of_gray (max_sample from) pixel) n alpha (max_sample from) pixel (channels to) (has_alpha to))
+    (λ is pixel.
+    by_alpha (AreParts (components_of_gray (max_sample from) pixel) 1 false (max_sample from) pixel)
+    (each_channel _ 1 (omega arith) (λ lt. search rules) (λ lt. search rules) (λ lt. search rules) (λ lt. search rules))
+    (each_channel _ 2 (omega arith) (λ lt. search rules) (λ lt. search rules) (λ lt. search rules) (λ lt. search rules))
+    (each_channel _ 3 (omega arith) (λ lt. search rules) (λ lt. search rules) (λ lt. search rules) (λ lt. search rules))
+    (each_channel _ 4 (omega arith) (λ lt. search rules) (λ lt. search rules) (λ lt. search rules) (λ lt. search rules)) to)
+    (λ is. absurd (omega (arith, is)))
+    (λ is. absurd (omega (arith, is)))
+    (λ is. absurd (omega (arith, is)))
+    from
 
 -- pixels of three colors without alpha
 pub colors_to : (from to : Format) → channels from ≡ 3 → (pixel : Pixel) (i : ℕ) → i < channels to → components_of_colors (max_sample from) pixel (component_for (channels to) i) ≡ rechannelled from to pixel i
-colors_to RGB8 Y8 is pixel = each_channel _ 1 (omega arith) (λ lt. search rules) (λ lt. search rules) (λ lt. search rules) (λ lt. search rules)
-colors_to RGB8 to is pixel = each_channel _ (channels to) (omega arith) (λ lt. search rules) (λ lt. search rules) (λ lt. search rules) (λ lt. search rules)
-colors_to RGB16 Y8 is pixel = each_channel _ 1 (omega arith) (λ lt. search rules) (λ lt. search rules) (λ lt. search rules) (λ lt. search rules)
-colors_to RGB16 to is pixel = each_channel _ (channels to) (omega arith) (λ lt. search rules) (λ lt. search rules) (λ lt. search rules) (λ lt. search rules)
-colors_to from to is pixel = λ i lt. absurd (omega arith)
+colors_to from to =
+    by_alpha (λ n alpha. n ≡ 3 → (pixel : Pixel) → AreParts (components_of_colors (max_sample from) pixel) n alpha (max_sample from) pixel (channels to) (has_alpha to))
+    (λ is. absurd (omega (arith, is)))
+    (λ is. absurd (omega (arith, is)))
+    (λ is pixel.
+    by_alpha (AreParts (components_of_colors (max_sample from) pixel) 3 false (max_sample from) pixel)
+    (each_channel _ 1 (omega arith) (λ lt. search rules) (λ lt. search rules) (λ lt. search rules) (λ lt. search rules))
+    (each_channel _ 2 (omega arith) (λ lt. search rules) (λ lt. search rules) (λ lt. search rules) (λ lt. search rules))
+    (each_channel _ 3 (omega arith) (λ lt. search rules) (λ lt. search rules) (λ lt. search rules) (λ lt. search rules))
+    (each_channel _ 4 (omega arith) (λ lt. search rules) (λ lt. search rules) (λ lt. search rules) (λ lt. search rules)) to)
+    (λ is. absurd (omega (arith, is)))
+    from
 
 -- pixels of three colors with alpha
 pub colors_alpha_to : (from to : Format) → channels from ≡ 4 → (pixel : Pixel) (i : ℕ) → i < channels to → components_of_colors_alpha pixel (component_for (channels to) i) ≡ rechannelled from to pixel i
-colors_alpha_to RGBA8 Y8 is pixel = each_channel _ 1 (omega arith) (λ lt. search rules) (λ lt. search rules) (λ lt. search rules) (λ lt. search rules)
-colors_alpha_to RGBA8 to is pixel = each_channel _ (channels to) (omega arith) (λ lt. search rules) (λ lt. search rules) (λ lt. search rules) (λ lt. search rules)
-colors_alpha_to RGBA16 Y8 is pixel = each_channel _ 1 (omega arith) (λ lt. search rules) (λ lt. search rules) (λ lt. search rules) (λ lt. search rules)
-colors_alpha_to RGBA16 to is pixel = each_channel _ (channels to) (omega arith) (λ lt. search rules) (λ lt. search rules) (λ lt. search rules) (λ lt. search rules)
-colors_alpha_to from to is pixel = λ i lt. absurd (omega arith)
+colors_alpha_to from to =
+    by_alpha (λ n alpha. n ≡ 4 → (pixel : Pixel) → AreParts (components_of_colors_alpha pixel) n alpha (max_sample from) pixel (channels to) (has_alpha to))
+    (λ is. absurd (omega (arith, is)))
+    (λ is. absurd (omega (arith, is)))
+    (λ is. absurd (omega (arith, is)))
+    (λ is pixel.
+    by_alpha (AreParts (components_of_colors_alpha pixel) 4 true (max_sample from) pixel)
+    (each_channel _ 1 (omega arith) (λ lt. search rules) (λ lt. search rules) (λ lt. search rules) (λ lt. search rules))
+    (each_channel _ 2 (omega arith) (λ lt. search rules) (λ lt. search rules) (λ lt. search rules) (λ lt. search rules))
+    (each_channel _ 3 (omega arith) (λ lt. search rules) (λ lt. search rules) (λ lt. search rules) (λ lt. search rules))
+    (each_channel _ 4 (omega arith) (λ lt. search rules) (λ lt. search rules) (λ lt. search rules) (λ lt. search rules)) to)
+    from
+
+-- the last of so many channels is alpha
+abbrev alpha_of : ℕ → Bool
+alpha_of n = eqb n 2 || eqb n 4
+
+has_alpha-of : (format : Format) → has_alpha format ≡ alpha_of (channels format)
+has_alpha-of = by_alpha (λ n alpha. alpha ≡ alpha_of n) refl refl refl refl
 
 -- where the channels are the same they stay
 pub same_channels : (from to : Format) → channels from ≡ channels to → (pixel : Pixel) (i : ℕ) → i < channels to → pixel i ≡ rechannelled from to pixel i
-same_channels Y8 Y8 same pixel =
-    each_channel (λ i. pixel i ≡ rechannelled Y8 Y8 pixel i) 1 (omega arith) (λ lt. search rules) (λ lt. search rules) (λ lt. search rules) (λ lt. search rules)
-same_channels Y8 Y16 same pixel =
-    each_channel (λ i. pixel i ≡ rechannelled Y8 Y16 pixel i) 1 (omega arith) (λ lt. search rules) (λ lt. search rules) (λ lt. search rules) (λ lt. search rules)
-same_channels YA8 YA8 same pixel =
-    each_channel (λ i. pixel i ≡ rechannelled YA8 YA8 pixel i) 2 (omega arith) (λ lt. search rules) (λ lt. search rules) (λ lt. search rules) (λ lt. search rules)
-same_channels YA8 YA16 same pixel =
-    each_channel (λ i. pixel i ≡ rechannelled YA8 YA16 pixel i) 2 (omega arith) (λ lt. search rules) (λ lt. search rules) (λ lt. search rules) (λ lt. search rules)
-same_channels RGB8 RGB8 same pixel =
-    each_channel (λ i. pixel i ≡ rechannelled RGB8 RGB8 pixel i) 3 (omega arith) (λ lt. search rules) (λ lt. search rules) (λ lt. search rules) (λ lt. search rules)
-same_channels RGB8 RGB16 same pixel =
-    each_channel (λ i. pixel i ≡ rechannelled RGB8 RGB16 pixel i) 3 (omega arith) (λ lt. search rules) (λ lt. search rules) (λ lt. search rules) (λ lt. search rules)
-same_channels RGBA8 RGBA8 same pixel =
-    each_channel (λ i. pixel i ≡ rechannelled RGBA8 RGBA8 pixel i) 4 (omega arith) (λ lt. search rules) (λ lt. search rules) (λ lt. search rules) (λ lt. search rules)
-same_channels RGBA8 RGBA16 same pixel =
-    each_channel (λ i. pixel i ≡ rechannelled RGBA8 RGBA16 pixel i) 4 (omega arith) (λ lt. search rules) (λ lt. search rules) (λ lt. search rules) (λ lt. search rules)
-same_channels Y16 Y8 same pixel =
-    each_channel (λ i. pixel i ≡ rechannelled Y16 Y8 pixel i) 1 (omega arith) (λ lt. search rules) (λ lt. search rules) (λ lt. search rules) (λ lt. search rules)
-same_channels Y16 Y16 same pixel =
-    each_channel (λ i. pixel i ≡ rechannelled Y16 Y16 pixel i) 1 (omega arith) (λ lt. search rules) (λ lt. search rules) (λ lt. search rules) (λ lt. search rules)
-same_channels YA16 YA8 same pixel =
-    each_channel (λ i. pixel i ≡ rechannelled YA16 YA8 pixel i) 2 (omega arith) (λ lt. search rules) (λ lt. search rules) (λ lt. search rules) (λ lt. search rules)
-same_channels YA16 YA16 same pixel =
-    each_channel (λ i. pixel i ≡ rechannelled YA16 YA16 pixel i) 2 (omega arith) (λ lt. search rules) (λ lt. search rules) (λ lt. search rules) (λ lt. search rules)
-same_channels RGB16 RGB8 same pixel =
-    each_channel (λ i. pixel i ≡ rechannelled RGB16 RGB8 pixel i) 3 (omega arith) (λ lt. search rules) (λ lt. search rules) (λ lt. search rules) (λ lt. search rules)
-same_channels RGB16 RGB16 same pixel =
-    each_channel (λ i. pixel i ≡ rechannelled RGB16 RGB16 pixel i) 3 (omega arith) (λ lt. search rules) (λ lt. search rules) (λ lt. search rules) (λ lt. search rules)
-same_channels RGBA16 RGBA8 same pixel =
-    each_channel (λ i. pixel i ≡ rechannelled RGBA16 RGBA8 pixel i) 4 (omega arith) (λ lt. search rules) (λ lt. search rules) (λ lt. search rules) (λ lt. search rules)
-same_channels RGBA16 RGBA16 same pixel =
-    each_channel (λ i. pixel i ≡ rechannelled RGBA16 RGBA16 pixel i) 4 (omega arith) (λ lt. search rules) (λ lt. search rules) (λ lt. search rules) (λ lt. search rules)
-same_channels from to same pixel = λ i lt. absurd (omega arith)
+same_channels from to same pixel i lt =
+    let n = channels from in
+    let most = max_sample from in
+    by_channels (λ n. (i : ℕ) → i < n → pixel i ≡ as_channel n (alpha_of n) n (alpha_of n) most pixel i)
+    (each_channel _ 1 (omega arith) (λ lt. search rules) (λ lt. search rules) (λ lt. search rules) (λ lt. search rules))
+    (each_channel _ 2 (omega arith) (λ lt. search rules) (λ lt. search rules) (λ lt. search rules) (λ lt. search rules))
+    (each_channel _ 3 (omega arith) (λ lt. search rules) (λ lt. search rules) (λ lt. search rules) (λ lt. search rules))
+    (each_channel _ 4 (omega arith) (λ lt. search rules) (λ lt. search rules) (λ lt. search rules) (λ lt. search rules)) from i (subst (λ m. i < m) (sym same) lt)
+    ∙ ap (λ alpha. as_channel n alpha n (alpha_of n) most pixel i) (sym (has_alpha-of from))
+    ∙ ap (λ m. as_channel n (has_alpha from) m (alpha_of m) most pixel i) same
+    ∙ ap (λ alpha. as_channel n (has_alpha from) (channels to) alpha most pixel i) (sym (has_alpha-of to))
 
 -- a row whose pixels are made of the parts of others
 pub converted_by_parts : (from to : Format) (s d n : ℕ) (value : ℕ → Pixel → ℕ → ℕ) (src dst : List ℕ) → depth from ≡ s → depth to ≡ d → channels from ≡ n
@@ -103,13 +123,9 @@ converted_by_samples from to s d src dst at_depth to_depth same whole maps k cha
     ∙ ap (rescaled (depth from) (depth to)) (ap (λ n. sample_at (depth from) src (k * n + channel)) (sym same) ∙ same_channels from to same (pixel_at from src k) channel within)
 
 pub four_channels : (f : Format) → (channels f ≡ 1 → ⊥) → (channels f ≡ 2 → ⊥) → (channels f ≡ 3 → ⊥) → channels f ≡ 4
-four_channels Y8 one two three = absurd (one refl)
-four_channels Y16 one two three = absurd (one refl)
-four_channels YA8 one two three = absurd (two refl)
-four_channels YA16 one two three = absurd (two refl)
-four_channels RGB8 one two three = absurd (three refl)
-four_channels RGB16 one two three = absurd (three refl)
-four_channels f one two three = refl
+four_channels =
+    by_channels (λ n. (n ≡ 1 → ⊥) → (n ≡ 2 → ⊥) → (n ≡ 3 → ⊥) → n ≡ 4)
+    (λ one two three. absurd (one refl)) (λ one two three. absurd (two refl)) (λ one two three. absurd (three refl)) (λ one two three. refl)
 
 pub whole_pixels : (f : Format) (l n : ℕ) → l ≡ n * pixel_bytes f → l % pixel_bytes f ≡ 0
 whole_pixels Y8 l n is = omega arith

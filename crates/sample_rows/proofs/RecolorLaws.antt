@@ -1,29 +1,27 @@
 -- The pixels of a row whose samples were changed.
-use Rattle.std.proofs.Common.{◌≡◌, ℕ, ◌*◌, ◌/◌, ◌%◌, ◌<◌, Bool, true, false, cond, leb, List, length, refl, ap, ◌∙◌, arith, leb-false}
+use Rattle.std.proofs.Common.{◌≡◌, ℕ, ◌+◌, ◌-◌, ◌*◌, ◌/◌, ◌%◌, ◌<◌, Bool, true, false, ◌&&◌, cond, eqb, leb, List, length, refl, sym, ap, ◌∙◌, arith, leb-false}
 use Rattle.pixel_formats.specs.declared.format.Format.{Format}
-use Rattle.pixel_formats.specs.declared.format.Format.TheVariants.{Y8, YA8, RGB8, Y16, YA16, RGB16}
-use Rattle.pixel_formats.specs.Format.{channels, depth, has_alpha, max_sample_of, pixel_bytes}
+use Rattle.pixel_formats.proofs.FormatLaws.{by_alpha}
+use Rattle.pixel_formats.specs.Format.{channels, depth, has_alpha, max_sample, max_sample_of, pixel_bytes}
 use Rattle.pixel_formats.specs.Recolor.{recolored}
 use Rattle.sample_rows.proofs.SampleLaws.{HasPixels-from_samples}
-use Rattle.pixel_formats.specs.Row.{sample_at, HasPixels, pixel_at}
+use Rattle.pixel_formats.specs.Row.{sample_at, HasPixels, Pixel, pixel_at}
 use Rattle.pixel_formats.specs.Threshold.{thresholded}
 
 -- in a format without alpha the colors are all samples
+recolored-opaque : (f : Format) (change : ℕ → ℕ → ℕ) (pixel : Pixel) (channel : ℕ) → has_alpha f ≡ false → recolored f change pixel channel ≡ change (max_sample f) (pixel channel)
+recolored-opaque f change pixel channel none =
+    ap (λ alpha. cond (alpha && eqb (channel + 1) (channels f)) (pixel channel) (change (cond alpha (pixel (channels f - 1)) (max_sample f)) (pixel channel))) none
+
 pub opaque_pixels : (f : Format) (change : ℕ → ℕ → ℕ) (src dst : List ℕ) → has_alpha f ≡ false → length dst % pixel_bytes f ≡ 0 → ((j : ℕ) → j < length dst / (1 * depth f) → sample_at (depth f) dst j ≡ change (max_sample_of (depth f)) (sample_at (depth f) src j)) → HasPixels f dst (λ k. recolored f change (pixel_at f src k))
-opaque_pixels Y8 change src dst none whole samples = HasPixels-from_samples Y8 dst _ whole samples
-opaque_pixels RGB8 change src dst none whole samples = HasPixels-from_samples RGB8 dst _ whole samples
-opaque_pixels Y16 change src dst none whole samples = HasPixels-from_samples Y16 dst _ whole samples
-opaque_pixels RGB16 change src dst none whole samples = HasPixels-from_samples RGB16 dst _ whole samples
-opaque_pixels f change src dst none whole samples = absurd (cc)
+opaque_pixels f change src dst none whole samples k channel before known =
+    HasPixels-from_samples f dst (λ j. change (max_sample f) (sample_at (depth f) src j)) whole samples k channel before known
+    ∙ sym (recolored-opaque f change (pixel_at f src k) channel none)
 
 pub no_alpha : (f : Format) → (channels f ≡ 2 → ⊥) → (channels f ≡ 4 → ⊥) → has_alpha f ≡ false
-no_alpha Y8 two four = refl
-no_alpha RGB8 two four = refl
-no_alpha Y16 two four = refl
-no_alpha RGB16 two four = refl
-no_alpha YA8 two four = absurd (two refl)
-no_alpha YA16 two four = absurd (two refl)
-no_alpha f two four = absurd (four refl)
+no_alpha =
+    by_alpha (λ n alpha. (n ≡ 2 → ⊥) → (n ≡ 4 → ⊥) → alpha ≡ false)
+    (λ two four. refl) (λ two four. absurd (two refl)) (λ two four. refl) (λ two four. absurd (four refl))
 
 -- ---- lanes of vectors of pixels
 

@@ -2,10 +2,10 @@ use Rattle.std.proofs.Common.{◌≡◌, ℕ, ◌+◌, ◌*◌, ◌/◌, ◌<◌
 use Rattle.plane_rect.specs.Rectangle.{Rectangle}
 use Rattle.pixel_formats.specs.Average.{mean_pixel}
 use Rattle.pixel_formats.specs.Format.{pixel_bytes}
+use Rattle.pixel_formats.proofs.FormatLaws.{few_bytes}
 use Rattle.pixel_formats.specs.Row.{HasPixels, pixel_at}
 use Rattle.sample_rows.proofs.RowLaws.{pixel_count_of}
 use Rattle.patch_abyss.proofs.HalvedRows.{shows_own, shows_read, mean_row, pair_count}
-use Rattle.patch_abyss.proofs.TilesOfPatches.{few_bytes}
 use Rattle.patch_abyss.proofs.halving.halve_row.Goals as goal
 
 pub returns-then-has_rows-clause-pixels : goal.returns-then-has_rows-clause-pixels

@@ -2,11 +2,11 @@ use Rattle.std.proofs.Common.{◌≡◌, ℕ, ◌+◌, ◌-◌, ◌*◌, ◌<◌
 use Rattle.std.proofs.Math.Nat.{mul-le-mul_right}
 use Rattle.plane_rect.specs.Rectangle.{Rectangle, IsRectangle, halved, origin, plane_side}
 use Rattle.pixel_formats.specs.Format.{pixel_bytes}
+use Rattle.pixel_formats.proofs.FormatLaws.{few_bytes}
 use Rattle.model_images.specs.Level.{mean_at, doubled}
 use Rattle.patch_abyss.specs.Fetched.{RowsFilled}
 use Rattle.patch_abyss.proofs.FilledRows.{RowsFilled-none, RowsFilled-row}
 use Rattle.patch_abyss.proofs.HalvedRows.{halved-trailing, halved-rows, whole_pixels, mean_doubled}
-use Rattle.patch_abyss.proofs.TilesOfPatches.{few_bytes}
 use borrow.Rule.Slice.PartMut.{put_mid}
 use Rattle.patch_abyss.proofs.halving.halve_rows.Goals.{After-first_row}
 use Rattle.patch_abyss.proofs.halving.halve_rows.Goals as goal

@@ -2,12 +2,12 @@ use Rattle.std.proofs.Common.{◌≡◌, ℕ, ◌+◌, ◌-◌, ◌*◌, ◌≤�
 use Rattle.std.proofs.Math.Nat.{mul-le-mul_right}
 use Rattle.plane_rect.specs.Rectangle.{Rectangle, plane_side}
 use Rattle.pixel_formats.specs.Format.{pixel_bytes}
+use Rattle.pixel_formats.proofs.FormatLaws.{few_bytes}
 use Rattle.model_images.specs.Abyss.{abyss_at}
 use Rattle.patch_abyss.specs.Fetched.{RowsFilled}
 use Rattle.patch_abyss.specs.Rows.{moved_to}
 use Rattle.patch_abyss.proofs.Bands.{rows_fit}
 use Rattle.patch_abyss.proofs.FilledRows.{RowsFilled-row, RowsFilled-written}
-use Rattle.patch_abyss.proofs.TilesOfPatches.{few_bytes}
 use Rattle.patch_abyss.proofs.reading.fetch_band.Goals.{After-first_row, After-first_row-2}
 use Rattle.patch_abyss.proofs.reading.fetch_band.Goals as goal
 use borrow.Rule.Slice.PartMut.{put_mid}

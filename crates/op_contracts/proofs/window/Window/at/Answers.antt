@@ -3,8 +3,9 @@ use Rattle.plane_rect.specs.Rectangle.{Inside, InsideSigned, Rectangle, offset, 
 use Rattle.plane_rect.specs.Tile.{IsWhole, tile_at, tile_square}
 use Rattle.plane_rect.proofs.Rectangles.{InsideSigned-index}
 use Rattle.pixel_formats.specs.Format.{pixel_bytes}
+use Rattle.pixel_formats.proofs.FormatLaws.{sample_fits}
 use Rattle.model_graphs.specs.Windows.{Window, tiles_of}
-use Rattle.op_contracts.proofs.Shown.{found-long, sample-fits, shown-of}
+use Rattle.op_contracts.proofs.Shown.{found-long, shown-of}
 use Rattle.op_contracts.proofs.window.Window.at.Goals as goal
 
 pub sample_at-requires : goal.sample_at-requires
@@ -18,7 +19,7 @@ sample_at-requires c =
     let below : k < 4096 = rw square at c.offset-pixel.ensures.in_area in
     let long : length c.in-Some.bytes.now ≡ 4096 * pixel_bytes window.format =
     found-long window.format tile window.tiles c.in-Some.bytes.now c.requires.whole.lengths (sym c.in-Some.ensures) in
-    rw (c.channels.ensures, format, long) (sample-fits window.format k c.args.c below c.requires.channel)
+    rw (c.channels.ensures, format, long) (sample_fits window.format 4096 k c.args.c below c.requires.channel)
 
 pub returns-in-Some-clause-inside : goal.returns-in-Some-clause-inside
 returns-in-Some-clause-inside c there =

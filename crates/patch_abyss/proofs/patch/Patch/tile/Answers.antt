@@ -2,10 +2,11 @@ use Rattle.std.proofs.Common.{◌≡◌, ◌*◌, ◌∙◌, refl, ap, arith, ru
 use Rattle.plane_rect.specs.Rectangle.{empty}
 use Rattle.plane_rect.specs.Tile.{tile_square}
 use Rattle.pixel_formats.specs.Format.{pixel_bytes}
+use Rattle.pixel_formats.proofs.FormatLaws.{few_bytes}
 use Rattle.model_images.specs.Image.{Image}
 use Rattle.model_images.specs.Raw.{raw, tile_bytes}
 use Rattle.model_images.specs.FromRaw.{image_from_raw, byte_count}
-use Rattle.patch_abyss.proofs.TilesOfPatches.{no_tile_pixel, zero_tile, some_positions, whole_tile, few_bytes, raw-part}
+use Rattle.patch_abyss.proofs.TilesOfPatches.{no_tile_pixel, zero_tile, some_positions, whole_tile, raw-part}
 use Rattle.patch_abyss.proofs.patch.Patch.tile.Goals as goal
 
 pub returns-then-is_empty : goal.returns-then-is_empty
