@@ -69,12 +69,7 @@ impl<'s, K: OpKit + Drop, D: SwapDisk> OwnedSession<K, OwnedTiles<Lent<'s, D>>> 
     {
         let state = SessionState::new(alloc, cache)?;
         let chain = OwnedTiles::new(alloc, swap, blocks, resident)?;
-        Ok(OwnedSession {
-            kit,
-            chain,
-            state,
-            workers,
-        })
+        Ok(OwnedSession::over(kit, chain, state, workers))
     }
 }
 
@@ -102,8 +97,10 @@ impl<K: OpKit, C: TileChain> OwnedSession<K, C> {
     /// state, and then the chain's memory, lends or gives a disk only once all memory is there.
     pub fn over(kit: K, chain: C, state: SessionState<K::Op>, workers: u32) -> OwnedSession<K, C>
         requires { IsOver K.Op.same K.Op.meanings state (C.held chain) }
+        ensures kit { result.kit ≡ kit }
         ensures state { result.state ≡ state }
         ensures chain { result.chain ≡ chain }
+        ensures workers { result.workers ≡ workers }
     {
         OwnedSession {
             kit,
