@@ -3,9 +3,9 @@ use Rattle.std.proofs.Common.{Fits, w8, ◌≡◌, ℕ, zero, suc, ◌+◌, ◌*
 use Rattle.std.specs.List.{flat_map}
 use Rattle.plane_rect.specs.Rectangle.{Rectangle, Inside}
 use Rattle.pixel_formats.specs.Format.{channels, depth}
-use Rattle.pixel_formats.specs.Row.{sample_at}
+use Rattle.pixel_formats.specs.Sample.{sample_at, sample_from}
 use Rattle.pixel_formats.specs.declared.format.Format.{Format}
-use Rattle.pixel_formats.proofs.FormatLaws.{by_depth}
+use Rattle.pixel_formats.proofs.FormatLaws.{by_depth, sample_equal}
 use Rattle.pixel_formats.proofs.Zeros.{get_or-zeros}
 use Rattle.model_images.specs.Image.{Image, at, sampled, sample_index, sample_count}
 use Rattle.model_images.specs.Paint.{blank}
@@ -16,25 +16,19 @@ use Rattle.model_images.specs.FromRaw.{AreBytes, image_from_raw, pixels_from_raw
 
 -- ---- samples of bytes
 
--- samples are equal whose bytes are
-pub sample_equal : (d : ℕ) (xs ys : List ℕ) (i j : ℕ) → ((k : ℕ) → k < d → get_or xs (d * i + k) 0 ≡ get_or ys (d * j + k) 0) → sample_at d xs i ≡ sample_at d ys j
-sample_equal zero xs ys i j same = refl
-sample_equal (suc zero) xs ys i j same =
-    ap (λ (n : ℕ). get_or xs n 0) (omega arith) ∙ same 0 (omega arith) ∙ ap (λ (n : ℕ). get_or ys n 0) (omega arith)
-sample_equal (suc (suc zero)) xs ys i j same =
-    let low : get_or xs (2 * i) 0 ≡ get_or ys (2 * j) 0 =
-    ap (λ (n : ℕ). get_or xs n 0) (omega arith) ∙ same 0 (omega arith) ∙ ap (λ (n : ℕ). get_or ys n 0) (omega arith) in
-    omega (arith, low, same 1 (omega arith))
-sample_equal (suc (suc (suc d))) xs ys i j same = refl
+from_zero : (n : ℕ) (xs : List ℕ) (a : ℕ) → ((k : ℕ) → k < n → get_or xs (a + k) 0 ≡ 0) → sample_from n xs a ≡ 0
+from_zero zero xs a none = refl
+from_zero (suc zero) xs a none = ap (λ (n : ℕ). get_or xs n 0) (omega arith) ∙ none 0 (omega arith)
+from_zero (suc (suc n)) xs a none =
+    let low : get_or xs a 0 ≡ 0 = ap (λ (n : ℕ). get_or xs n 0) (omega arith) ∙ none 0 (omega arith) in
+    let rest = from_zero (suc n) xs (a + 1) (λ k below. ap (λ (n : ℕ). get_or xs n 0) (omega arith) ∙ none (suc k) (omega (arith, below))) in
+    omega (arith, low, rest)
 
 -- a sample of bytes that are 0
 pub sample_zero : (d : ℕ) (xs : List ℕ) (i : ℕ) → ((k : ℕ) → k < d → get_or xs (d * i + k) 0 ≡ 0) → sample_at d xs i ≡ 0
 sample_zero zero xs i none = refl
 sample_zero (suc zero) xs i none = ap (λ (n : ℕ). get_or xs n 0) (omega arith) ∙ none 0 (omega arith)
-sample_zero (suc (suc zero)) xs i none =
-    let low : get_or xs (2 * i) 0 ≡ 0 = ap (λ (n : ℕ). get_or xs n 0) (omega arith) ∙ none 0 (omega arith) in
-    omega (arith, low, none 1 (omega arith))
-sample_zero (suc (suc (suc d))) xs i none = refl
+sample_zero (suc (suc n)) xs i none = from_zero (suc (suc n)) xs (suc (suc n) * i) none
 
 -- ---- images that bytes spell
 
@@ -82,6 +76,30 @@ bytes_of_two (s ∷ samples) (a ∷ b ∷ bytes) small whole same =
     ∙ ap (λ (n : ℕ). get_or bytes (2 * i) 0 + 256 * get_or (a ∷ b ∷ bytes) n 0) high_index) in
     rw (low, high, rest) refl
 
+bytes_of_four : (samples bytes : List ℕ) → AreBytes bytes → AreRawSamples bytes samples 4
+bytes_of_four [] [] small whole same = refl
+bytes_of_four [] (a ∷ bytes) small whole same = absurd (omega arith)
+bytes_of_four (s ∷ samples) [] small whole same = absurd (omega arith)
+bytes_of_four (s ∷ samples) (a ∷ []) small whole same = absurd (omega arith)
+bytes_of_four (s ∷ samples) (a ∷ b ∷ []) small whole same = absurd (omega arith)
+bytes_of_four (s ∷ samples) (a ∷ b ∷ e ∷ []) small whole same = absurd (omega arith)
+bytes_of_four (s ∷ samples) (a ∷ b ∷ e ∷ f ∷ bytes) small whole same =
+    let first : s ≡ a + 256 * (b + 256 * (e + 256 * f)) = same 0 (omega arith) in
+    let low : s % 256 ≡ a = omega (arith, small 0) in
+    let second : s / 256 ≡ b + 256 * (e + 256 * f) = omega (arith, small 0) in
+    let middle : s / 256 % 256 ≡ b = omega (arith, second, small 1) in
+    let third : s / 256 / 256 ≡ e + 256 * f = omega (arith, second, small 1) in
+    let next : s / 256 / 256 % 256 ≡ e = omega (arith, third, small 2) in
+    let high : s / 256 / 256 / 256 ≡ f = omega (arith, third, small 2) in
+    let rest = bytes_of_four samples bytes (λ k. small (suc (suc (suc (suc k))))) (omega arith)
+    (λ i lt. same (suc i) (omega arith)
+    ∙ sample_equal 4 (a ∷ b ∷ e ∷ f ∷ bytes) bytes (suc i) i
+    (λ k below. ap (λ (n : ℕ). get_or (a ∷ b ∷ e ∷ f ∷ bytes) n 0) (shift_four i k))) in
+    rw (low, middle, next, high, rest) refl
+  where
+    shift_four : (i k : ℕ) → 4 * suc i + k ≡ suc (suc (suc (suc (4 * i + k))))
+    shift_four i k = omega arith
+
 -- bytes are the raw bytes of a rectangle that spell the image's samples there
 pub raw-is : (image : Image) (r : Rectangle) (bytes : List ℕ) → AreBytes bytes → length bytes ≡ byte_count r image.format →
     ((u v c : ℕ) → Inside u v r → c < channels image.format → at image u v c ≡ sample_at (depth image.format) bytes (sample_index r (channels image.format) u v c)) →
@@ -91,7 +109,7 @@ raw-is image r bytes small whole same =
     let n = channels image.format in
     let samples = sampled r n (at image) in
     let count : length samples ≡ sample_count r n = length-sampled r n (at image) in
-    by_depth (λ d. AreRawSamples bytes samples d) (bytes_of_one samples bytes) (bytes_of_two samples bytes small) image.format
+    by_depth (λ d. AreRawSamples bytes samples d) (bytes_of_one samples bytes) (bytes_of_two samples bytes small) (bytes_of_four samples bytes small) image.format
     (whole ∙ rw count (omega arith))
     (λ i lt.
     let below : i < sample_count r n = rw (← count) lt in

@@ -1,5 +1,5 @@
 -- The samples that raw bytes encode.
-use Rattle.std.proofs.Common.{◌≡◌, ℕ, zero, suc, ◌+◌, ◌*◌, ◌<◌, List, [], ◌∷◌, replicate, get_or, refl, sym, ap, ◌∙◌, arith}
+use Rattle.std.proofs.Common.{◌≡◌, ℕ, zero, suc, ◌+◌, ◌*◌, ◌/◌, ◌%◌, ◌<◌, List, [], ◌∷◌, replicate, get_or, refl, sym, ap, ◌∙◌, arith}
 use Rattle.std.specs.List.{flat_map}
 use Rattle.std.proofs.lemmas.Simd.{length-replicate}
 use Rattle.plane_rect.specs.Rectangle.{Rectangle, Inside}
@@ -7,7 +7,7 @@ use Rattle.plane_rect.specs.Tile.{Tile, tile_square}
 use Rattle.pixel_formats.specs.Format.{channels, depth}
 use Rattle.pixel_formats.specs.Row.{sample_at}
 use Rattle.pixel_formats.specs.declared.format.Format.{Format}
-use Rattle.pixel_formats.proofs.FormatLaws.{by_depth}
+use Rattle.pixel_formats.proofs.FormatLaws.{by_depth, sample_equal}
 use Rattle.pixel_formats.proofs.Zeros.{get_or-zeros}
 use Rattle.model_images.specs.Agreement.{AgreeOver}
 use Rattle.model_images.specs.FromRaw.{byte_count, pixels_from_raw}
@@ -39,8 +39,22 @@ encode-two (s ∷ samples) (suc i) =
     ∙ ap (λ (n : ℕ). get_or rest (2 * i) 0 + 256 * get_or bytes n 0) high
     ∙ encode-two samples i
 
+encode-four : EncodeSamples 4
+encode-four [] i = refl
+encode-four (s ∷ samples) zero =
+    let low : s % 256 + 256 * (s / 256) ≡ s = omega arith in
+    let middle : s / 256 % 256 + 256 * (s / 256 / 256) ≡ s / 256 = omega arith in
+    let high : s / 256 / 256 % 256 + 256 * (s / 256 / 256 / 256) ≡ s / 256 / 256 = omega arith in
+    omega (arith, low, middle, high)
+encode-four (s ∷ samples) (suc i) =
+    let rest = flat_map (sample_bytes 4) samples in
+    let later : (k : ℕ) → 4 * suc i + k ≡ suc (suc (suc (suc (4 * i + k)))) = λ k. omega arith in
+    sample_equal 4 (flat_map (sample_bytes 4) (s ∷ samples)) rest (suc i) i
+    (λ k below. ap (λ (n : ℕ). get_or (flat_map (sample_bytes 4) (s ∷ samples)) n 0) (later k))
+    ∙ encode-four samples i
+
 pub encoded : (format : Format) (samples : List ℕ) (i : ℕ) → sample_at (depth format) (flat_map (sample_bytes (depth format)) samples) i ≡ get_or samples i 0
-encoded format = by_depth EncodeSamples encode-one encode-two format
+encoded format = by_depth EncodeSamples encode-one encode-two encode-four format
 
 pub raw-samples : (image : Image) (r : Rectangle) (u v c : ℕ) → Inside u v r → c < channels image.format
     → pixels_from_raw r image.format (raw image r) u v c ≡ at image u v c

@@ -6,7 +6,7 @@ use Rattle.plane_rect.specs.Tile.{Tile, tile_square}
 use Rattle.pixel_formats.specs.Format.{channels, depth}
 use Rattle.model_images.specs.Image.{Image, at, sampled}
 
--- a sample in so many bytes, the less significant first
+-- a sample in so many bytes, the least significant first
 abbrev pub sample_bytes : ℕ → ℕ → List ℕ
 sample_bytes zero v = []
 sample_bytes (suc zero) v = v ∷ []

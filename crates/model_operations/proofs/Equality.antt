@@ -6,7 +6,7 @@ use Rattle.plane_rect.specs.Rectangle.{same_rectangle}
 use Rattle.pixel_formats.specs.Format.{same_format}
 use Rattle.pixel_formats.specs.contracts.format.FormatPartialEq.TheImpl as formats
 use Rattle.pixel_formats.specs.declared.format.Format.{Format}
-use Rattle.pixel_formats.specs.declared.format.Format.TheVariants.{Y8, YA8, RGB8, RGBA8, Y16, YA16, RGB16, RGBA16}
+use Rattle.pixel_formats.specs.declared.format.Format.TheVariants.{Y8, YA8, RGB8, RGBA8, Y16, YA16, RGB16, RGBA16, Y32, YA32, RGB32, RGBA32}
 use Rattle.pixel_formats.specs.contracts.abyss.AbyssPartialEq.TheImpl as abysses
 use Rattle.pixel_formats.specs.declared.abyss.Abyss.{Abyss}
 use Rattle.pixel_formats.specs.declared.abyss.Abyss.TheVariants as policies
@@ -24,6 +24,10 @@ eq-format Y16 Y16 = refl
 eq-format YA16 YA16 = refl
 eq-format RGB16 RGB16 = refl
 eq-format RGBA16 RGBA16 = refl
+eq-format Y32 Y32 = refl
+eq-format YA32 YA32 = refl
+eq-format RGB32 RGB32 = refl
+eq-format RGBA32 RGBA32 = refl
 eq-format _ _ = refl
 
 eq-policy : (a b : Abyss) → abysses.ghosts.eq a b ≡ same_policy a b

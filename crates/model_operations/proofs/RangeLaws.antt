@@ -63,17 +63,21 @@ scaled_by-minimum s w h k = let product : s * w ≤ 255 * 255 = mul-le-mul h k i
 scaled_by-most : (s w : ℕ) → s ≤ 65535 → w ≤ 65535 → scaled_by 65535 s w ≤ 65535
 scaled_by-most s w h k = let product : s * w ≤ 65535 * 65535 = mul-le-mul h k in omega (arith, product)
 
+scaled_by-largest : (s w : ℕ) → s ≤ 4294967295 → w ≤ 4294967295 → scaled_by 4294967295 s w ≤ 4294967295
+scaled_by-largest s w h k = let product : s * w ≤ 4294967295 * 4294967295 = mul-le-mul h k in omega (arith, product)
+
 scaled_by-below : (f : Format) (s w : ℕ) → s ≤ max_sample f → w ≤ max_sample f → scaled_by (max_sample f) s w ≤ max_sample f
 scaled_by-below f s w =
-    by_max (λ (m : ℕ). s ≤ m → w ≤ m → scaled_by m s w ≤ m) (scaled_by-minimum s w) (scaled_by-most s w) f
+    by_max (λ (m : ℕ). s ≤ m → w ≤ m → scaled_by m s w ≤ m) (scaled_by-minimum s w) (scaled_by-most s w) (scaled_by-largest s w) f
 
 -- ---- conversion
 
 rescaled-most : (from to : Format) (s : ℕ) → s ≤ max_sample from → rescaled (depth from) (depth to) s ≤ max_sample to
 rescaled-most from to s =
     by_depth (λ d. s ≤ max_sample_of d → rescaled d (depth to) s ≤ max_sample to)
-    (by_depth (λ e. s ≤ 255 → rescaled 1 e s ≤ max_sample_of e) (λ most. most) (λ most. omega (arith, most)) to)
-    (by_depth (λ e. s ≤ 65535 → rescaled 2 e s ≤ max_sample_of e) (λ most. omega (arith, most)) (λ most. most) to)
+    (by_depth (λ e. s ≤ 255 → rescaled 1 e s ≤ max_sample_of e) (λ most. omega (arith, most)) (λ most. omega (arith, most)) (λ most. omega (arith, most)) to)
+    (by_depth (λ e. s ≤ 65535 → rescaled 2 e s ≤ max_sample_of e) (λ most. omega (arith, most)) (λ most. omega (arith, most)) (λ most. omega (arith, most)) to)
+    (by_depth (λ e. s ≤ 4294967295 → rescaled 4 e s ≤ max_sample_of e) (λ most. omega (arith, most)) (λ most. omega (arith, most)) (λ most. omega (arith, most)) to)
     from
 
 gray-most : (from : Format) (p : Pixel) (most : ℕ) → ((c : ℕ) → p c ≤ most) → gray_of from p ≤ most

@@ -1,5 +1,5 @@
 -- The limits of the script language, of the operations and of what a session holds. Lengths are in pixels, samples are
--- of either depth.
+-- of every depth.
 use Rattle.std.specs.Prelude.{ℕ, ℤ, pos, neg_ℤ, ◌-◌, ◌^◌, ◌≤◌, ◌≤ℤ◌, ◌&&◌, not, nat_le, unsigned_abs, Bool, true, false, IsTrue, All, List, length}
 use Rattle.pixel_formats.specs.declared.abyss.Abyss.{Abyss}
 use Rattle.pixel_formats.specs.declared.abyss.Abyss.TheVariants.{None, Clamp, Loop, Black, White}
@@ -8,7 +8,7 @@ use Rattle.pixel_formats.specs.declared.abyss.Abyss.TheVariants.{None, Clamp, Lo
 
 -- the largest sample of all formats
 abbrev pub max_sample : ℕ
-max_sample = 2 ^ 16 - 1
+max_sample = 2 ^ 32 - 1
 
 -- the largest number that a gain multiplies by, and the largest that it divides by
 abbrev pub max_factor : ℕ

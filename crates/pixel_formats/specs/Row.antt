@@ -1,5 +1,5 @@
 -- Rows of pixels. A row is a list of bytes: pixels from the left, the samples of each in the order of its channels,
--- and of a sample of two bytes the less significant first.
+-- and of a sample of several bytes the least significant first.
 use Rattle.std.specs.Prelude.{◌≡◌, ℕ, ◌+◌, ◌*◌, ◌/◌, ◌<◌, List, length}
 use Rattle.pixel_formats.specs.declared.format.Format.{Format}
 use Rattle.pixel_formats.specs.Format.{channels, depth, pixel_bytes}

@@ -1,11 +1,17 @@
 -- Samples in a row of bytes, and what is made of single ones.
 use Rattle.std.specs.Prelude.{ℕ, zero, suc, ◌+◌, ◌-◌, ◌*◌, ◌/◌, ◌^◌, List, slice_index, min, nat_le, if◌then◌else◌}
 
--- sample number i of a row whose samples have so many bytes, the less significant first; none has others than one and two
+-- the number that so many bytes of a row spell, from a position on, the least significant first
+abbrev pub sample_from : ℕ → List ℕ → ℕ → ℕ
+sample_from zero row at = 0
+sample_from (suc zero) row at = slice_index row at
+sample_from (suc (suc n)) row at = slice_index row at + 256 * sample_from (suc n) row (at + 1)
+
+-- sample number i of a row whose samples have so many bytes
 abbrev pub sample_at : ℕ → List ℕ → ℕ → ℕ
+sample_at zero row i = 0
 sample_at (suc zero) row i = slice_index row i
-sample_at (suc (suc zero)) row i = slice_index row (2 * i) + 256 * slice_index row (2 * i + 1)
-sample_at _ row i = 0
+sample_at (suc (suc n)) row i = sample_from (suc (suc n)) row (suc (suc n) * i)
 
 -- the largest sample of so many bytes
 abbrev pub max_sample_of : ℕ → ℕ
@@ -31,11 +37,13 @@ mean_of_four a b c d = (a + b + c + d + 2) / 4
 abbrev pub mean_of_three : ℕ → ℕ → ℕ → ℕ
 mean_of_three a b c = (a + b + c + 1) / 3
 
--- a sample of the one depth at the other, rounded to the nearest
+-- a sample whose largest is `from` where the largest is `to`, rounded to the nearest
+abbrev pub rescaled_to : ℕ → ℕ → ℕ → ℕ
+rescaled_to from to sample = if nat_le from to then sample * (to / from) else (sample * to + from / 2) / from
+
+-- a sample of the one depth at the other
 abbrev pub rescaled : ℕ → ℕ → ℕ → ℕ
-rescaled (suc zero) (suc (suc zero)) sample = sample * 257
-rescaled (suc (suc zero)) (suc zero) sample = (sample * 255 + 32767) / 65535
-rescaled from to sample = sample
+rescaled from to sample = rescaled_to (max_sample_of from) (max_sample_of to) sample
 
 -- the fraction that a factor of samples of a depth counts: 65,536 for each level of a sample
 abbrev pub unit_of : ℕ → ℕ

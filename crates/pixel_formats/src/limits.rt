@@ -6,7 +6,7 @@ ghost use Rattle.pixel_formats.specs.Limits.{ArePixel, IsArea, IsIn, IsMove, is_
 use crate::abyss::Abyss;
 
 /// The largest sample of all formats.
-pub const MAX_SAMPLE: u32 = 65_535;
+pub const MAX_SAMPLE: u32 = u32::MAX;
 
 /// The largest number that a gain multiplies by, and the largest that it divides by.
 pub const MAX_FACTOR: u32 = 65_535;
