@@ -7,7 +7,7 @@ use Rattle.pixel_formats.specs.Average.{mean_of_three}
 use Rattle.pixel_formats.specs.Convert.{converted_pixel, rechannelled, rescaled}
 use Rattle.pixel_formats.specs.Format.{channels, depth, has_alpha, max_sample, max_sample_of, pixel_bytes}
 use Rattle.sample_rows.specs.Groups.{Maps, groups}
-use Rattle.simd_pixels.specs.Components.{component_for, components_of_gray, components_of_colors, components_of_colors_alpha}
+use Rattle.simd_pixels.specs.Components.{component_for, components_of_gray, components_of_gray_alpha, components_of_colors, components_of_colors_alpha}
 use Rattle.pixel_formats.specs.Row.{sample_at, HasPixels, Pixel, pixel_at}
 use Rattle.sample_rows.proofs.SampleLaws.{HasPixels-from_samples}
 
@@ -42,6 +42,21 @@ gray_to from to =
     (each_channel _ 3 (omega arith) (λ lt. search rules) (λ lt. search rules) (λ lt. search rules) (λ lt. search rules))
     (each_channel _ 4 (omega arith) (λ lt. search rules) (λ lt. search rules) (λ lt. search rules) (λ lt. search rules)) to)
     (λ is. absurd (omega (arith, is)))
+    (λ is. absurd (omega (arith, is)))
+    (λ is. absurd (omega (arith, is)))
+    from
+
+-- gray pixels with alpha
+pub gray_alpha_to : (from to : Format) → channels from ≡ 2 → (pixel : Pixel) (i : ℕ) → i < channels to → components_of_gray_alpha pixel (component_for (channels to) i) ≡ rechannelled from to pixel i
+gray_alpha_to from to =
+    by_alpha (λ n alpha. n ≡ 2 → (pixel : Pixel) → AreParts (components_of_gray_alpha pixel) n alpha (max_sample from) pixel (channels to) (has_alpha to))
+    (λ is. absurd (omega (arith, is)))
+    (λ is pixel.
+    by_alpha (AreParts (components_of_gray_alpha pixel) 2 true (max_sample from) pixel)
+    (each_channel _ 1 (omega arith) (λ lt. search rules) (λ lt. search rules) (λ lt. search rules) (λ lt. search rules))
+    (each_channel _ 2 (omega arith) (λ lt. search rules) (λ lt. search rules) (λ lt. search rules) (λ lt. search rules))
+    (each_channel _ 3 (omega arith) (λ lt. search rules) (λ lt. search rules) (λ lt. search rules) (λ lt. search rules))
+    (each_channel _ 4 (omega arith) (λ lt. search rules) (λ lt. search rules) (λ lt. search rules) (λ lt. search rules)) to)
     (λ is. absurd (omega (arith, is)))
     (λ is. absurd (omega (arith, is)))
     from

@@ -2,7 +2,7 @@
 use Rattle.std.proofs.Common.{◌≡◌, ℕ, zero, suc, ◌+◌, ◌-◌, ◌*◌, ◌/◌, ◌%◌, ◌<◌, ◌≤◌, Bool, true, false, cond, leb, min, refl, ap, ◌∙◌, arith, leb-true, leb-false}
 use Rattle.std.proofs.lemmas.Grind.{div_ceil_times}
 use Rattle.std.proofs.lemmas.Nat.{div_below, le-div}
-use Rattle.std.proofs.Math.Nat.{div-eq_of_lt-le, div-lt_iff_lt-mul, mul-le-mul, mul-le-mul_left, le_of_mul-le-mul_right, lt_of_mul-lt-mul_right, lt-div-mul-add, div-mul-le_self}
+use Rattle.std.proofs.Math.Nat.{div-eq_of_lt-le, div-lt_iff_lt-mul, mul-le-mul, mul-le-mul_left, div-le_self, le_of_mul-le-mul_right, lt_of_mul-lt-mul_right, lt-div-mul-add, div-mul-le_self}
 
 -- c, num and half make the number that is divided by den; factor and offset are num and half over den, in parts of unit and rounded up
 module _ (c num den half unit factor offset : ℕ) (some : 0 < den)
@@ -27,7 +27,7 @@ module _ (c num den half unit factor offset : ℕ) (some : 0 < den)
   quotient_by_factor = div-eq_of_lt-le unit low high
 
 -- A gain of num / den for samples of so many levels, where `last` is the last sample that comes out below them.
-module _ (num den levels last : ℕ) (few_num : num ≤ 65535) (some : 0 < den) (few_den : den ≤ 65535) (some_levels : 0 < levels) (few_levels : levels ≤ 65536)
+module _ (num den levels last : ℕ) (few_num : num ≤ 65535) (some : 0 < den) (few_den : den ≤ 65535) (some_levels : 0 < levels) (few_levels : levels ≤ 4294967296)
     (bound : last < levels) (within : last * num + den / 2 < levels * den)
     (above : (color : ℕ) → last < color → color < levels → levels * den ≤ color * num + den / 2) where
   abbrev unit : ℕ
@@ -41,6 +41,12 @@ module _ (num den levels last : ℕ) (few_num : num ≤ 65535) (some : 0 < den) 
 
   abbrev pub offset : ℕ
   offset = den / 2 * unit / den + min 1 (den / 2 * unit % den)
+
+  -- 64 bits hold what it is cut off at, or else all of it
+  pub factor_in_bits : min whole_factor (min (unit * levels) 18446744073709551615 - 1) ≡ factor
+  factor_in_bits =
+      let few : num * unit ≤ 65535 * 281474976710656 = mul-le-mul {n₂ = 65535} {m₂ = 281474976710656} few_num (omega arith) in
+      omega (arith, few, div-le_self (num * unit) den)
 
   some_unit : 0 < unit
   some_unit = omega arith

@@ -22,7 +22,7 @@ group_at g row k = λ i. sample_at g.depth row (k * g.size + i)
 pub record Blocks (bytes count : ℕ) (g : Groups) : Type 0 where
   pub some_group : 0 < group_bytes g
   pub whole : bytes ≡ count * group_bytes g
-  pub few : bytes ≤ 192
+  pub few : bytes ≤ 384
 
 -- The first n groups of one row come each from the group of the same number of another.
 abbrev pub Maps : Groups → Groups → ℕ → ((ℕ → ℕ) → ℕ → ℕ) → List ℕ → List ℕ → Type 0

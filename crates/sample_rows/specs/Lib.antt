@@ -1,4 +1,5 @@
 pub mod Groups
 pub mod SizeLaws
 pub mod Averages
+pub mod Depths
 pub mod ScaledGain

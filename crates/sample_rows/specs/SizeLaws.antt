@@ -26,7 +26,7 @@ some_size count (suc size) sixteen = omega arith
 pub lane_index : (count size : ℕ) → count * size ≡ 16 → (k i : ℕ) → k < count → i < size → k * size + i < 16
 lane_index count size sixteen k i lt within = omega (arith, mul-le-mul_left size lt)
 
-module _ (bytes depth : ℕ) (whole : bytes ≡ 16 * depth) (few : bytes ≤ 32) (some_depth : 0 < depth) where
+module _ (bytes depth : ℕ) (whole : bytes ≡ 16 * depth) (few : bytes ≤ 64) (some_depth : 0 < depth) where
   -- blocks of one vector in groups
   pub vector_blocks : (count size : ℕ) → count * size ≡ 16 → Blocks bytes count (groups size depth)
   vector_blocks count size sixteen = record {
@@ -56,7 +56,7 @@ module _ (bytes depth : ℕ) (whole : bytes ≡ 16 * depth) (few : bytes ≤ 32)
   vectors_blocks n all is some n_few = record {
     some_group = some_bytes n depth some some_depth;
     whole = planes_bytes n all bytes depth is whole;
-    few = omega (arith, is, mul-le-mul {n₁ = n} {m₁ = bytes} {n₂ = 6} {m₂ = 32} n_few few);
+    few = omega (arith, is, mul-le-mul {n₁ = n} {m₁ = bytes} {n₂ = 6} {m₂ = 64} n_few few);
   }
 
   pub planes_blocks : (n all : ℕ) → PlaneSizes n bytes all → Blocks all 16 (groups n depth)

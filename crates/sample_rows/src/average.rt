@@ -4,16 +4,17 @@ ghost use Rattle.std.specs.Prelude.{◌≡◌, ℕ, ◌+◌, ◌*◌, ◌/◌, �
 ghost use Rattle.std.proofs.Common.{rules};
 ghost use Rattle.pixel_formats.specs.Average.{mean_of_four, mean_pixel};
 ghost use Rattle.pixel_formats.specs.Row.{HasPixels, pixel_at, sample_at};
-ghost use Rattle.pixel_formats.specs.Format.{pixel_bytes};
+ghost use Rattle.pixel_formats.specs.Format.{depth, pixel_bytes};
 ghost use Rattle.sample_rows.specs.Groups.{MapsPairs, SameGroups, groups};
 ghost use Rattle.sample_rows.specs.SizeLaws.{pair_blocks, vector_blocks, vectors_blocks};
 ghost use Rattle.sample_rows.specs.Averages.{Averages};
 ghost use Rattle.simd_samples.specs.Lanes.{HoldTwo};
 
 use crate::blocks::{PairKernel, transform_rows};
+use crate::depths::{Depth, depth_of};
 use pixel_formats::Format;
 use simd_pixels::{AlphaOfFour, AlphaOfTwo, Layout, Opaque};
-use simd_samples::{ByteLanes, Lanes, WordLanes, load_three, load_two, store_three};
+use simd_samples::{ByteLanes, Lanes, LongLanes, WordLanes, load_three, load_two, store_three};
 use std::marker::PhantomData;
 
 /// Writes to `dst` a row half as long as `up` and `down`, the row below it: each of its pixels is
@@ -26,15 +27,26 @@ pub fn row_average4(f: Format, up: &[u8], down: &[u8], dst: &mut [u8])
     ensures { HasPixels f dst.new (λ k. mean_pixel
         (pixel_at f up.now (2 * k)) (pixel_at f up.now (2 * k + 1)) (pixel_at f down.now (2 * k)) (pixel_at f down.now (2 * k + 1))) }
 {
-    match f {
-        Format::Y8 => average_pixels::<ByteLanes, Opaque>(up, down, dst),
-        Format::YA8 => average_pixels::<ByteLanes, AlphaOfTwo>(up, down, dst),
-        Format::RGB8 => average_colors::<ByteLanes>(up, down, dst),
-        Format::RGBA8 => average_pixels::<ByteLanes, AlphaOfFour>(up, down, dst),
-        Format::Y16 => average_pixels::<WordLanes, Opaque>(up, down, dst),
-        Format::YA16 => average_pixels::<WordLanes, AlphaOfTwo>(up, down, dst),
-        Format::RGB16 => average_colors::<WordLanes>(up, down, dst),
-        Format::RGBA16 => average_pixels::<WordLanes, AlphaOfFour>(up, down, dst),
+    match depth_of(f) {
+        Depth::Byte => average_samples::<ByteLanes>(f, up, down, dst),
+        Depth::Word => average_samples::<WordLanes>(f, up, down, dst),
+        Depth::Long => average_samples::<LongLanes>(f, up, down, dst),
+    }
+}
+
+fn average_samples<L: Lanes>(f: Format, up: &[u8], down: &[u8], dst: &mut [u8])
+    requires depth { depth f ≡ L.depth }
+    requires whole { length dst.old % pixel_bytes f ≡ 0 }
+    requires up_length { length up.now ≡ 2 * length dst.old }
+    requires down_length { length down.now ≡ 2 * length dst.old }
+    ensures { HasPixels f dst.new (λ k. mean_pixel
+        (pixel_at f up.now (2 * k)) (pixel_at f up.now (2 * k + 1)) (pixel_at f down.now (2 * k)) (pixel_at f down.now (2 * k + 1))) }
+{
+    match f.channels() {
+        1 => average_pixels::<L, Opaque>(up, down, dst),
+        2 => average_pixels::<L, AlphaOfTwo>(up, down, dst),
+        3 => average_colors::<L>(up, down, dst),
+        _ => average_pixels::<L, AlphaOfFour>(up, down, dst),
     }
 }
 

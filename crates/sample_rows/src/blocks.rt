@@ -4,7 +4,7 @@ ghost use Rattle.std.specs.Prelude.{◌≡◌, ℕ, ◌+◌, ◌*◌, ◌/◌, �
 ghost use Rattle.sample_rows.specs.Groups.{Blocks, Groups, group_at, group_bytes, Maps, MapsPairs, SameGroups};
 
 /// The most bytes that a block has.
-const MAX_BLOCK_BYTES: usize = 192;
+const MAX_BLOCK_BYTES: usize = 384;
 
 /// What is made of two rows, block by block.
 pub(crate) trait PairKernel {
@@ -111,7 +111,7 @@ fn transform_rest<K: PairKernel>(kernel: &K, a: &[u8], b: &[u8], dst: &mut [u8],
 
 /// Returns the bytes of a row, and zeros after it.
 fn padded(row: &[u8]) -> [u8; MAX_BLOCK_BYTES]
-    requires { length row.now ≤ 192 }
+    requires { length row.now ≤ 384 }
     ensures { (p : ℕ) → slice_index result p ≡ slice_index row.now p }
 {
     let mut bytes = [0; MAX_BLOCK_BYTES];

@@ -6,9 +6,10 @@ ghost use Rattle.pixel_formats.specs.Row.{HasPixels, pixel_at};
 ghost use Rattle.sample_rows.specs.Groups.{MapsPairs, SameGroups, groups};
 ghost use Rattle.simd_samples.specs.Lanes.{Hold};
 
+use crate::depths::{Depth, depth_of};
 use crate::vectors::{VectorKernel, transform_vectors};
 use pixel_formats::Format;
-use simd_samples::{ByteLanes, Lanes, WordLanes};
+use simd_samples::{ByteLanes, Lanes, LongLanes, WordLanes};
 
 /// What two samples become.
 pub(crate) trait Combine: Copy {
@@ -55,9 +56,10 @@ pub(crate) fn combine_rows<K: Combine>(
     requires written_length { length dst.old ≡ length a.now }
     ensures { HasPixels f dst.new (λ k channel. K.combined combination (max_sample f) (pixel_at f a.now k channel) (pixel_at f b.now k channel)) }
 {
-    match f.depth() {
-        1 => combine_samples::<ByteLanes, K>(f, combination, a, b, dst),
-        _ => combine_samples::<WordLanes, K>(f, combination, a, b, dst),
+    match depth_of(f) {
+        Depth::Byte => combine_samples::<ByteLanes, K>(f, combination, a, b, dst),
+        Depth::Word => combine_samples::<WordLanes, K>(f, combination, a, b, dst),
+        Depth::Long => combine_samples::<LongLanes, K>(f, combination, a, b, dst),
     }
 }
 

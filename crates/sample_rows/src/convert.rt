@@ -10,9 +10,10 @@ ghost use Rattle.sample_rows.specs.SizeLaws.{planes_blocks};
 ghost use Rattle.simd_pixels.specs.Components.{component_for};
 
 use crate::blocks::{RowKernel, transform_row};
+use crate::depths::{Depth, depth_of};
 use pixel_formats::Format;
 use simd_pixels::{Colors, ColorsAlpha, Components, FromComponents, Gray, GrayAlpha};
-use simd_samples::{ByteLanes, Lanes, Rescale, WordLanes};
+use simd_samples::{ByteLanes, Lanes, LongLanes, Rescale, WordLanes};
 use std::marker::PhantomData;
 
 /// Writes the row `src` of one format to `dst` in another: first the channels are converted, at
@@ -28,11 +29,16 @@ pub fn convert_row(from: Format, src: &[u8], to: Format, dst: &mut [u8])
         dst.copy_from_slice(src);
         return;
     }
-    match (from.depth(), to.depth()) {
-        (1, 1) => convert_layout::<ByteLanes, ByteLanes>(from, src, to, dst),
-        (1, _) => convert_layout::<ByteLanes, WordLanes>(from, src, to, dst),
-        (_, 1) => convert_layout::<WordLanes, ByteLanes>(from, src, to, dst),
-        _ => convert_layout::<WordLanes, WordLanes>(from, src, to, dst),
+    match (depth_of(from), depth_of(to)) {
+        (Depth::Byte, Depth::Byte) => convert_layout::<ByteLanes, ByteLanes>(from, src, to, dst),
+        (Depth::Byte, Depth::Word) => convert_layout::<ByteLanes, WordLanes>(from, src, to, dst),
+        (Depth::Byte, Depth::Long) => convert_layout::<ByteLanes, LongLanes>(from, src, to, dst),
+        (Depth::Word, Depth::Byte) => convert_layout::<WordLanes, ByteLanes>(from, src, to, dst),
+        (Depth::Word, Depth::Word) => convert_layout::<WordLanes, WordLanes>(from, src, to, dst),
+        (Depth::Word, Depth::Long) => convert_layout::<WordLanes, LongLanes>(from, src, to, dst),
+        (Depth::Long, Depth::Byte) => convert_layout::<LongLanes, ByteLanes>(from, src, to, dst),
+        (Depth::Long, Depth::Word) => convert_layout::<LongLanes, WordLanes>(from, src, to, dst),
+        (Depth::Long, Depth::Long) => convert_layout::<LongLanes, LongLanes>(from, src, to, dst),
     }
 }
 

@@ -8,15 +8,16 @@ ghost use Rattle.pixel_formats.specs.Sample.{unit_of};
 ghost use Rattle.sample_rows.specs.ScaledGain.{scaled};
 ghost use Rattle.simd_samples.specs.Lanes.{Hold};
 
+use crate::depths::{Depth, depth_of};
 use crate::recolor::{Recolor, recolor_row};
 use pixel_formats::Format;
 use simd_pixels::Layout;
-use simd_samples::{ByteLanes, Lanes, WordLanes};
+use simd_samples::{ByteLanes, Lanes, LongLanes, WordLanes};
 use std::alloc::AllocError;
 use std::marker::PhantomData;
 
 /// The largest number and divisor of a gain that is done by a multiplication.
-const MAX_FACTOR: u32 = 65_535;
+const MAX_SCALED_FACTOR: u32 = 65_535;
 
 /// Multiplies each color by num / den without a division: `factor` and `offset` are num / den and
 /// one half in parts of 65,536 times the levels of a sample. Colors above `last` would come out
@@ -95,7 +96,7 @@ fn factors_of(num: u64, den: u64, levels: u64) -> Factors
     requires some { 0 < den }
     requires den { den ≤ 65535 }
     requires some_levels { 0 < levels }
-    requires few_levels { levels ≤ 65536 }
+    requires few_levels { levels ≤ 4294967296 }
     ensures factor_fits { result.factor < levels * (65536 * levels) }
     ensures small { result.last * result.factor + result.offset < levels * (65536 * levels) }
     ensures last_fits { result.last < levels }
@@ -106,8 +107,9 @@ fn factors_of(num: u64, den: u64, levels: u64) -> Factors
     let half = den / 2;
     let unit = 65_536 * levels;
     let factor = (num * unit).div_ceil(den);
+    let most = unit.saturating_mul(levels) - 1;
     Factors {
-        factor: factor.min(unit * levels - 1),
+        factor: factor.min(most),
         offset: (half * unit).div_ceil(den),
         last: last_within(num, den, levels),
     }
@@ -119,7 +121,7 @@ fn last_within(num: u64, den: u64, levels: u64) -> u32
     requires some { 0 < den }
     requires den { den ≤ 65535 }
     requires some_levels { 0 < levels }
-    requires few_levels { levels ≤ 65536 }
+    requires few_levels { levels ≤ 4294967296 }
     ensures bound { result < levels }
     ensures within { result * num + den / 2 < levels * den }
     ensures last { (color : ℕ) → result < color → color < levels → levels * den ≤ color * num + den / 2 }
@@ -170,15 +172,24 @@ pub fn row_gain(f: Format, num: u32, den: u32, src: &[u8], dst: &mut [u8])
     requires same_length { length dst.old ≡ length src.now }
     ensures { HasPixels f dst.new (λ k. gained_pixel f num den (pixel_at f src.now k)) }
 {
-    if num > MAX_FACTOR || den > MAX_FACTOR {
-        let division = Division { num, den };
-        return match f.depth() {
-            1 => recolor_row::<ByteLanes, Division>(f, division, src, dst),
-            _ => recolor_row::<WordLanes, Division>(f, division, src, dst),
-        };
+    if num > MAX_SCALED_FACTOR || den > MAX_SCALED_FACTOR {
+        return divide_row(f, Division { num, den }, src, dst);
     }
-    match f.depth() {
-        1 => recolor_row::<ByteLanes, Gain<ByteLanes>>(f, Gain::new(num, den), src, dst),
-        _ => recolor_row::<WordLanes, Gain<WordLanes>>(f, Gain::new(num, den), src, dst),
+    match depth_of(f) {
+        Depth::Byte => recolor_row::<ByteLanes, Gain<ByteLanes>>(f, Gain::new(num, den), src, dst),
+        Depth::Word => recolor_row::<WordLanes, Gain<WordLanes>>(f, Gain::new(num, den), src, dst),
+        Depth::Long => recolor_row::<LongLanes, Gain<LongLanes>>(f, Gain::new(num, den), src, dst),
+    }
+}
+
+fn divide_row(f: Format, change: Division, src: &[u8], dst: &mut [u8])
+    requires whole { length src.now % pixel_bytes f ≡ 0 }
+    requires same_length { length dst.old ≡ length src.now }
+    ensures { HasPixels f dst.new (λ k. gained_pixel f change.num change.den (pixel_at f src.now k)) }
+{
+    match depth_of(f) {
+        Depth::Byte => recolor_row::<ByteLanes, Division>(f, change, src, dst),
+        Depth::Word => recolor_row::<WordLanes, Division>(f, change, src, dst),
+        Depth::Long => recolor_row::<LongLanes, Division>(f, change, src, dst),
     }
 }

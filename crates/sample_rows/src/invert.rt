@@ -5,10 +5,11 @@ ghost use Rattle.pixel_formats.specs.Invert.{inverted, inverted_pixel};
 ghost use Rattle.pixel_formats.specs.Row.{HasPixels, pixel_at};
 ghost use Rattle.pixel_formats.specs.Format.{pixel_bytes};
 
+use crate::depths::{Depth, depth_of};
 use crate::recolor::{Recolor, recolor_row};
 use pixel_formats::Format;
 use simd_pixels::Layout;
-use simd_samples::{ByteLanes, Lanes, WordLanes};
+use simd_samples::{ByteLanes, Lanes, LongLanes, WordLanes};
 
 /// Counts each color down from its cap.
 #[derive(Clone, Copy)]
@@ -32,8 +33,9 @@ pub fn row_invert(f: Format, src: &[u8], dst: &mut [u8])
     requires same_length { length dst.old ≡ length src.now }
     ensures { HasPixels f dst.new (λ k. inverted_pixel f (pixel_at f src.now k)) }
 {
-    match f.depth() {
-        1 => recolor_row::<ByteLanes, Invert>(f, Invert, src, dst),
-        _ => recolor_row::<WordLanes, Invert>(f, Invert, src, dst),
+    match depth_of(f) {
+        Depth::Byte => recolor_row::<ByteLanes, Invert>(f, Invert, src, dst),
+        Depth::Word => recolor_row::<WordLanes, Invert>(f, Invert, src, dst),
+        Depth::Long => recolor_row::<LongLanes, Invert>(f, Invert, src, dst),
     }
 }

@@ -6,6 +6,7 @@ mod average;
 mod blocks;
 mod combine;
 mod convert;
+mod depths;
 mod extremes;
 mod gain;
 mod invert;

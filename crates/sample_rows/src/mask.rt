@@ -9,9 +9,10 @@ ghost use Rattle.sample_rows.specs.Groups.{MapsPairs, SameGroups, groups};
 ghost use Rattle.sample_rows.specs.SizeLaws.{planes_blocks, vector_blocks};
 
 use crate::blocks::{PairKernel, transform_rows};
+use crate::depths::{Depth, depth_of};
 use pixel_formats::Format;
 use simd_pixels::{Colors, ColorsAlpha, Gray, GrayAlpha, Planes};
-use simd_samples::{ByteLanes, Lanes, WordLanes};
+use simd_samples::{ByteLanes, Lanes, LongLanes, WordLanes};
 use std::marker::PhantomData;
 
 /// Pixels scaled each by a sample of its own.
@@ -66,15 +67,25 @@ pub fn row_mask(f: Format, src: &[u8], mask: &[u8], dst: &mut [u8])
     requires same_length { length dst.old ≡ length src.now }
     ensures { HasPixels f dst.new (λ k. masked_pixel f (pixel_at f src.now k) (sample_at (depth f) mask.now k)) }
 {
-    match f {
-        Format::Y8 => mask_pixels::<ByteLanes, Gray<ByteLanes>>(src, mask, dst),
-        Format::YA8 => mask_pixels::<ByteLanes, GrayAlpha<ByteLanes>>(src, mask, dst),
-        Format::RGB8 => mask_pixels::<ByteLanes, Colors<ByteLanes>>(src, mask, dst),
-        Format::RGBA8 => mask_pixels::<ByteLanes, ColorsAlpha<ByteLanes>>(src, mask, dst),
-        Format::Y16 => mask_pixels::<WordLanes, Gray<WordLanes>>(src, mask, dst),
-        Format::YA16 => mask_pixels::<WordLanes, GrayAlpha<WordLanes>>(src, mask, dst),
-        Format::RGB16 => mask_pixels::<WordLanes, Colors<WordLanes>>(src, mask, dst),
-        Format::RGBA16 => mask_pixels::<WordLanes, ColorsAlpha<WordLanes>>(src, mask, dst),
+    match depth_of(f) {
+        Depth::Byte => mask_samples::<ByteLanes>(f, src, mask, dst),
+        Depth::Word => mask_samples::<WordLanes>(f, src, mask, dst),
+        Depth::Long => mask_samples::<LongLanes>(f, src, mask, dst),
+    }
+}
+
+fn mask_samples<L: Lanes>(f: Format, src: &[u8], mask: &[u8], dst: &mut [u8])
+    requires depth { depth f ≡ L.depth }
+    requires whole { length src.now % pixel_bytes f ≡ 0 }
+    requires mask_length { length mask.now ≡ pixel_count f src.now * depth f }
+    requires same_length { length dst.old ≡ length src.now }
+    ensures { HasPixels f dst.new (λ k. masked_pixel f (pixel_at f src.now k) (sample_at (depth f) mask.now k)) }
+{
+    match f.channels() {
+        1 => mask_pixels::<L, Gray<L>>(src, mask, dst),
+        2 => mask_pixels::<L, GrayAlpha<L>>(src, mask, dst),
+        3 => mask_pixels::<L, Colors<L>>(src, mask, dst),
+        _ => mask_pixels::<L, ColorsAlpha<L>>(src, mask, dst),
     }
 }
 

@@ -6,10 +6,11 @@ ghost use Rattle.pixel_formats.specs.Over.{composited, over_pixel};
 ghost use Rattle.pixel_formats.specs.Row.{HasPixels, pixel_at};
 ghost use Rattle.sample_rows.specs.Groups.{MapsPairs, SameGroups, groups};
 
+use crate::depths::{Depth, depth_of};
 use crate::vectors::{VectorKernel, transform_vectors};
 use pixel_formats::Format;
 use simd_pixels::{AlphaOfFour, AlphaOfTwo, Layout};
-use simd_samples::{ByteLanes, Lanes, WordLanes};
+use simd_samples::{ByteLanes, Lanes, LongLanes, WordLanes};
 use std::marker::PhantomData;
 
 /// Pixels of a layout over others.
@@ -47,12 +48,25 @@ pub fn row_over(f: Format, top: &[u8], bottom: &[u8], dst: &mut [u8])
     requires written_length { length dst.old ≡ length top.now }
     ensures { HasPixels f dst.new (λ k. over_pixel f (pixel_at f top.now k) (pixel_at f bottom.now k)) }
 {
-    match f {
-        Format::YA8 => over_pixels::<ByteLanes, AlphaOfTwo>(top, bottom, dst),
-        Format::RGBA8 => over_pixels::<ByteLanes, AlphaOfFour>(top, bottom, dst),
-        Format::YA16 => over_pixels::<WordLanes, AlphaOfTwo>(top, bottom, dst),
-        Format::RGBA16 => over_pixels::<WordLanes, AlphaOfFour>(top, bottom, dst),
-        Format::Y8 | Format::RGB8 | Format::Y16 | Format::RGB16 => unreachable!(),
+    match depth_of(f) {
+        Depth::Byte => over_samples::<ByteLanes>(f, top, bottom, dst),
+        Depth::Word => over_samples::<WordLanes>(f, top, bottom, dst),
+        Depth::Long => over_samples::<LongLanes>(f, top, bottom, dst),
+    }
+}
+
+fn over_samples<L: Lanes>(f: Format, top: &[u8], bottom: &[u8], dst: &mut [u8])
+    requires depth { depth f ≡ L.depth }
+    requires alpha { IsTrue (has_alpha f) }
+    requires whole { length top.now % pixel_bytes f ≡ 0 }
+    requires same_length { length bottom.now ≡ length top.now }
+    requires written_length { length dst.old ≡ length top.now }
+    ensures { HasPixels f dst.new (λ k. over_pixel f (pixel_at f top.now k) (pixel_at f bottom.now k)) }
+{
+    match f.channels() {
+        2 => over_pixels::<L, AlphaOfTwo>(top, bottom, dst),
+        4 => over_pixels::<L, AlphaOfFour>(top, bottom, dst),
+        _ => unreachable!(),
     }
 }
 

@@ -6,10 +6,11 @@ ghost use Rattle.pixel_formats.specs.Row.{HasPixels, pixel_at};
 ghost use Rattle.pixel_formats.specs.Threshold.{thresholded, thresholded_pixel};
 ghost use Rattle.pixel_formats.specs.Recolor.{recolored};
 
+use crate::depths::{Depth, depth_of};
 use crate::recolor::{Recolor, recolor_row};
 use pixel_formats::Format;
 use simd_pixels::Layout;
-use simd_samples::{ByteLanes, Lanes, WordLanes};
+use simd_samples::{ByteLanes, Lanes, LongLanes, WordLanes};
 
 /// Puts each color at its cap where it reaches the threshold, and else at 0.
 #[derive(Clone, Copy)]
@@ -56,9 +57,10 @@ pub fn row_threshold(f: Format, at: u32, src: &[u8], dst: &mut [u8])
         return clear_row(f, src, dst);
     }
     let change = Threshold { at };
-    match f.depth() {
-        1 => recolor_row::<ByteLanes, Threshold>(f, change, src, dst),
-        _ => recolor_row::<WordLanes, Threshold>(f, change, src, dst),
+    match depth_of(f) {
+        Depth::Byte => recolor_row::<ByteLanes, Threshold>(f, change, src, dst),
+        Depth::Word => recolor_row::<WordLanes, Threshold>(f, change, src, dst),
+        Depth::Long => recolor_row::<LongLanes, Threshold>(f, change, src, dst),
     }
 }
 
@@ -67,8 +69,9 @@ fn clear_row(f: Format, src: &[u8], dst: &mut [u8])
     requires same_length { length dst.old ≡ length src.now }
     ensures { HasPixels f dst.new (λ k. recolored f (λ cap color. 0) (pixel_at f src.now k)) }
 {
-    match f.depth() {
-        1 => recolor_row::<ByteLanes, Clear>(f, Clear, src, dst),
-        _ => recolor_row::<WordLanes, Clear>(f, Clear, src, dst),
+    match depth_of(f) {
+        Depth::Byte => recolor_row::<ByteLanes, Clear>(f, Clear, src, dst),
+        Depth::Word => recolor_row::<WordLanes, Clear>(f, Clear, src, dst),
+        Depth::Long => recolor_row::<LongLanes, Clear>(f, Clear, src, dst),
     }
 }

@@ -51,6 +51,9 @@ AreLanes-bytes = AreLanes-fitting 256 (Fits w8) (omega arith) (λ a h. h.fits)
 pub AreLanes-words : (v : List ℕ) → length v ≡ 16 → Each1 (Fits w16) v → AreLanes 65536 v
 AreLanes-words = AreLanes-fitting 65536 (Fits w16) (omega arith) (λ a h. h.fits)
 
+pub AreLanes-longs : (v : List ℕ) → length v ≡ 16 → Each1 (Fits w32) v → AreLanes 4294967296 v
+AreLanes-longs = AreLanes-fitting 4294967296 (Fits w32) (omega arith) (λ a h. h.fits)
+
 -- ---- scaled samples
 
 abbrev pub scaled_by_sums : ℕ → List ℕ → List ℕ → List ℕ → List ℕ
@@ -196,3 +199,36 @@ module _ (w m : ℕ) (some : 0 < m) (room : 4 * m + 4 ≤ w) (xs ys zs ws : List
           ap (λ n. shifted (plus w (get_or v j 0) n) n) (splat_at 2 j lt) ∙ ap (λ n. shifted (plus w n 2) 2) (Makes-sums_of_four.1 j lt) ∙ ap (λ n. n / 4) (mod-eq_of_lt small),
           omega (arith, p.below j, q.below j, r.below j, s.below j),
         ))
+
+-- ---- samples of four bytes, scaled: the sums are divided by 2^32 - 1 with shifts
+
+abbrev pub quotients_of_longs : List ℕ → List ℕ → List ℕ → List ℕ
+quotients_of_longs xs ys zs =
+    zip2 shifted (zip2 (plus 18446744073709551616) (zip2 (plus 18446744073709551616) xs ys) (zip2 shifted xs zs)) zs
+
+one_long : (n : ℕ) → n < 18446744069414584320 → shifted (plus 18446744073709551616 (plus 18446744073709551616 n 1) (shifted n 32)) 32 ≡ n / 4294967295
+one_long n lt =
+    let small : (n + 1) % 18446744073709551616 ≡ n + 1 = mod-eq_of_lt (omega (arith, lt)) in
+    let sum : (n + 1 + n / 4294967296) % 18446744073709551616 ≡ n + 1 + n / 4294967296 = mod-eq_of_lt (omega (arith, lt)) in
+    let exact : (n + 1 + n / 4294967296) / 4294967296 ≡ n / 4294967295 = omega (arith, lt) in
+    ap (λ k. (k + n / 4294967296) % 18446744073709551616 / 4294967296) small ∙ ap (λ k. k / 4294967296) sum ∙ exact
+
+abbrev pub scaled_by_longs : List ℕ → List ℕ → List ℕ
+scaled_by_longs xs ys = quotients_of_longs (scaled_by_sums 18446744073709551616 xs ys (replicate 16 2147483647)) (replicate 16 1) (replicate 16 32)
+
+pub Makes-scaled_by_longs : (xs ys : List ℕ) → AreLanes 4294967296 xs → AreLanes 4294967296 ys → Makes 4294967296 (scaled_by_longs xs ys) (λ j. scaled_by 4294967295 (get_or xs j 0) (get_or ys j 0))
+Makes-scaled_by_longs xs ys p q =
+    let w : ℕ = 18446744073709551616 in
+    let sums = Makes-scaled_by_sums 18446744073709551616 4294967295 2147483647 (omega arith) xs ys p q in
+    let v = scaled_by_sums 18446744073709551616 xs ys (replicate 16 2147483647) in
+    Makes-from_four (λ xs ys zs ws. quotients_of_longs xs ys zs) (λ a b c d. shifted (plus w (plus w a b) (shifted a c)) c) (λ a b c d xs ys zs ws. refl) refl 4294967296 _ (omega arith)
+    v (replicate 16 1) (replicate 16 32) v sums.0.long refl refl sums.0.long
+    (λ j lt.
+    let few = mul-le-mul {n₂ = 4294967295} {m₂ = 4294967295} (below_le 4294967295 xs p j) (below_le 4294967295 ys q j) in
+    let n = get_or xs j 0 * get_or ys j 0 + 2147483647 in
+    let small : n < 18446744069414584320 = omega (arith, few) in (
+      ap (λ b. shifted (plus w (plus w (get_or v j 0) b) (shifted (get_or v j 0) (get_or (replicate 16 32) j 0))) (get_or (replicate 16 32) j 0)) (splat_at 1 j lt)
+          ∙ ap (λ c. shifted (plus w (plus w (get_or v j 0) 1) (shifted (get_or v j 0) c)) c) (splat_at 32 j lt)
+          ∙ ap (λ a. shifted (plus w (plus w a 1) (shifted a 32)) 32) (sums.1 j lt) ∙ one_long n small,
+      omega (arith, few),
+    ))

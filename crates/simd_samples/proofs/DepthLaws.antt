@@ -1,13 +1,15 @@
 -- Vectors of samples at another depth.
-use Rattle.std.proofs.Common.{◌≡◌, ℕ, ◌+◌, ◌-◌, ◌*◌, ◌/◌, ◌<◌, List, ◌++◌, eqb, length, get_or, replicate, refl, ap, ◌∙◌, arith, eqb→eq}
+use Rattle.std.proofs.Common.{◌≡◌, ℕ, ◌+◌, ◌-◌, ◌*◌, ◌/◌, ◌<◌, ◌≤◌, List, ◌++◌, eqb, length, get_or, map, replicate, refl, ap, ◌∙◌, arith, eqb→eq}
+use Rattle.std.proofs.Math.Nat.{mod-eq_of_lt, mul-le-mul}
 use Rattle.std.proofs.lemmas.List.{get_or-map, length-map}
 use Rattle.std.proofs.lemmas.Simd.{Each1-from_get_or, get_or_wider}
 use lib.Lanes.{zip2, pick_l, number_l, digits_l, Each1}
 use Rattle.simd_samples.specs.declared.positions.TheConstants.{DOUBLED}
-use Rattle.simd_samples.specs.Lanes.{AreLanes}
-use Rattle.simd_samples.proofs.Arithmetic.{plus, shifted, splat_at}
+use Rattle.pixel_formats.specs.Sample.{scaled_by}
+use Rattle.simd_samples.specs.Lanes.{AreLanes, Hold}
+use Rattle.simd_samples.proofs.Arithmetic.{below_le, plus, same, shifted, splat_at, times}
 use Rattle.simd_samples.proofs.Moves.{number_of_two}
-use Rattle.simd_samples.proofs.Pointwise.{Makes, Makes-from_four, Makes-from_lanes}
+use Rattle.simd_samples.proofs.Pointwise.{Makes, Makes-from_four, Makes-from_lanes, Makes-from_two}
 use Rattle.simd_samples.proofs.Saturation.{less}
 use Rattle.simd_samples.proofs.Shuffling.{in_first, joined_below, under}
 
@@ -39,26 +41,59 @@ module _ (v : List ℕ) (p : AreLanes 256 v) where
       ∙ omega (arith, doubled_at (2 * j) j (omega arith) (omega arith), doubled_at (2 * j + 1) j (omega arith) (omega arith)))
       (λ j lt. omega (arith, p.below j))
 
--- ---- words, divided by 257 and rounded
+-- ---- samples that are multiplied by one number
 
-abbrev pub narrowed : List ℕ → List ℕ → List ℕ → List ℕ → List ℕ
-narrowed xs es ks fs =
-    zip2 shifted (zip2 (plus 65536) (zip2 (less 65536) xs (zip2 shifted xs es)) (zip2 (plus 65536) ks (zip2 shifted xs fs))) es
+pub Makes-multiplied : (bound factor : ℕ) (xs : List ℕ) → 0 < bound → bound * factor < 4294967296 + factor → AreLanes bound xs
+    → Makes 4294967296 (zip2 (times 4294967296) (map same xs) (replicate 16 factor)) (λ j. get_or xs j 0 * factor)
+Makes-multiplied bound factor xs some few p =
+    Makes-from_two (λ xs ys. zip2 (times 4294967296) (map same xs) ys) (times 4294967296) (λ a b xs ys. refl) refl 4294967296 _ (omega arith)
+    xs (replicate 16 factor) p.long refl
+    (λ j lt.
+    let most : (get_or xs j 0 + 1) * factor ≤ bound * factor = mul-le-mul (omega (arith, p.below j)) (omega arith) in
+    let small : get_or xs j 0 * factor < 4294967296 = omega (arith, most, few) in
+    (ap (λ b. times 4294967296 (get_or xs j 0) b) (splat_at factor j lt) ∙ mod-eq_of_lt small, small))
 
-abbrev pub one_narrowed : ℕ → ℕ → ℕ → ℕ → ℕ
-one_narrowed a e k f = shifted (plus 65536 (less 65536 a (shifted a e)) (plus 65536 k (shifted a f))) e
+-- ---- samples below w at half their bytes: words are divided by 257 and rounded, and longs by 65,537
 
-narrow : (a : ℕ) → a < 65536 → one_narrowed a 8 127 15 ≡ (a * 255 + 32767) / 65535
-narrow a lt =
+abbrev pub narrowed : ℕ → List ℕ → List ℕ → List ℕ → List ℕ → List ℕ
+narrowed w xs es ks fs =
+    zip2 shifted (zip2 (plus w) (zip2 (less w) xs (zip2 shifted xs es)) (zip2 (plus w) ks (zip2 shifted xs fs))) es
+
+abbrev pub one_narrowed : ℕ → ℕ → ℕ → ℕ → ℕ → ℕ
+one_narrowed w a e k f = shifted (plus w (less w a (shifted a e)) (plus w k (shifted a f))) e
+
+narrow_word : (a : ℕ) → a < 65536 → one_narrowed 65536 a 8 127 15 ≡ (a * 255 + 32767) / 65535
+narrow_word a lt =
     let high : less 65536 a (a / 256) ≡ a - a / 256 = omega arith in
     let half : plus 65536 127 (a / 32768) ≡ 127 + a / 32768 = omega arith in
     let sum : plus 65536 (a - a / 256) (127 + a / 32768) ≡ a - a / 256 + (127 + a / 32768) = omega arith in
     ap (λ n. plus 65536 n (plus 65536 127 (a / 32768)) / 256) high ∙ ap (λ n. plus 65536 (a - a / 256) n / 256) half ∙ ap (λ n. n / 256) sum ∙ omega arith
 
-pub Makes-narrowed : (xs : List ℕ) → AreLanes 65536 xs → Makes 256 (narrowed xs (replicate 16 8) (replicate 16 127) (replicate 16 15)) (λ j. (get_or xs j 0 * 255 + 32767) / 65535)
-Makes-narrowed xs p =
-    Makes-from_four narrowed one_narrowed (λ a b c d xs ys zs ws. refl) refl 256 _ (omega arith) xs (replicate 16 8) (replicate 16 127) (replicate 16 15) p.long refl refl refl
-    (λ j lt. (
-      (λ i. one_narrowed (get_or xs j 0) (splat_at 8 j lt i) (splat_at 127 j lt i) (splat_at 15 j lt i)) ∙ narrow (get_or xs j 0) (p.below j),
-      omega (arith, p.below j),
-    ))
+narrow_long : (a : ℕ) → a < 4294967296 → one_narrowed 4294967296 a 16 32767 31 ≡ (a * 65535 + 2147483647) / 4294967295
+narrow_long a lt =
+    let high : less 4294967296 a (a / 65536) ≡ a - a / 65536 = omega arith in
+    let half : plus 4294967296 32767 (a / 2147483648) ≡ 32767 + a / 2147483648 = omega arith in
+    let sum : plus 4294967296 (a - a / 65536) (32767 + a / 2147483648) ≡ a - a / 65536 + (32767 + a / 2147483648) = omega arith in
+    ap (λ n. plus 4294967296 n (plus 4294967296 32767 (a / 2147483648)) / 65536) high ∙ ap (λ n. plus 4294967296 (a - a / 65536) n / 65536) half ∙ ap (λ n. n / 65536) sum ∙ omega arith
+
+module _ (w bound e k f : ℕ) (value : ℕ → ℕ) (some : 0 < bound) (narrow : (a : ℕ) → a < w → (one_narrowed w a e k f ≡ value a) × (value a < bound)) where
+  Makes-narrowed : (xs : List ℕ) → AreLanes w xs → Makes bound (narrowed w xs (replicate 16 e) (replicate 16 k) (replicate 16 f)) (λ j. value (get_or xs j 0))
+  Makes-narrowed xs p =
+      Makes-from_four (narrowed w) (one_narrowed w) (λ a b c d xs ys zs ws. refl) refl bound _ some xs (replicate 16 e) (replicate 16 k) (replicate 16 f) p.long refl refl refl
+      (λ j lt.
+      let of_one = narrow (get_or xs j 0) (p.below j) in
+      ((λ i. one_narrowed w (get_or xs j 0) (splat_at e j lt i) (splat_at k j lt i) (splat_at f j lt i)) ∙ of_one.0, of_one.1))
+
+pub Makes-narrowed_words : (xs : List ℕ) → AreLanes 65536 xs → Makes 256 (narrowed 65536 xs (replicate 16 8) (replicate 16 127) (replicate 16 15)) (λ j. (get_or xs j 0 * 255 + 32767) / 65535)
+Makes-narrowed_words = Makes-narrowed 65536 256 8 127 15 (λ a. (a * 255 + 32767) / 65535) (omega arith) (λ a lt. (narrow_word a lt, omega arith))
+
+pub Makes-narrowed_longs : (xs : List ℕ) → AreLanes 4294967296 xs → Makes 65536 (narrowed 4294967296 xs (replicate 16 16) (replicate 16 32767) (replicate 16 31)) (λ j. (get_or xs j 0 * 65535 + 2147483647) / 4294967295)
+Makes-narrowed_longs = Makes-narrowed 4294967296 65536 16 32767 31 (λ a. (a * 65535 + 2147483647) / 4294967295) (omega arith) (λ a lt. (narrow_long a lt, omega arith))
+
+-- ---- longs as bytes: 255 of 2^32 - 1 parts of each
+
+pub Makes-scaled_to_bytes : (xs weights v : List ℕ) → AreLanes 4294967296 xs → Hold (λ j. get_or weights j 0) (λ j. 255) → length v ≡ 16
+    → Hold (λ j. get_or v j 0) (λ j. scaled_by 4294967295 (get_or xs j 0) (get_or weights j 0)) → Makes 256 v (λ j. (get_or xs j 0 * 255 + 2147483647) / 4294967295)
+Makes-scaled_to_bytes xs weights v p weighs long holds =
+    Makes-from_lanes 256 v _ (omega arith) long
+    (λ j lt. holds j lt ∙ ap (scaled_by 4294967295 (get_or xs j 0)) (weighs j lt)) (λ j lt. omega (arith, below_le 4294967295 xs p j))

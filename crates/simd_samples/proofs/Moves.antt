@@ -66,3 +66,50 @@ Hold-store_of_words row v room samples j lt =
     let low = put_chunk-at (2 * j + 0) (2 * j) row bytes (omega arith) (omega arith) room ∙ get_or_narrower 65536 2 256 32 v j 0 refl small (omega arith) (omega arith) in
     let high = put_chunk-at (2 * j + 1) (2 * j + 1) row bytes refl (omega arith) room ∙ get_or_narrower 65536 2 256 32 v j 1 refl small (omega arith) (omega arith) in
     omega (arith, samples.below j, low, high)
+
+-- ---- samples of four bytes
+
+number_of_quad : (v : List ℕ) → length v ≡ 4 → number_l 256 v ≡ get_or v 0 0 + 256 * (get_or v 1 0 + 256 * (get_or v 2 0 + 256 * get_or v 3 0))
+number_of_quad [] long = absurd (omega arith)
+number_of_quad (x ∷ []) long = absurd (omega arith)
+number_of_quad (x ∷ y ∷ []) long = absurd (omega arith)
+number_of_quad (x ∷ y ∷ z ∷ []) long = absurd (omega arith)
+number_of_quad (x ∷ y ∷ z ∷ w ∷ []) long = omega arith
+number_of_quad (x ∷ y ∷ z ∷ w ∷ a ∷ rest) long = absurd (omega arith)
+
+pub number_of_four : (row : List ℕ) (k : ℕ) → k + 4 ≤ length row →
+    number_l 256 (chunk k 4 row) ≡ get_or row k 0 + 256 * (get_or row (k + 1) 0 + 256 * (get_or row (k + 1 + 1) 0 + 256 * get_or row (k + 1 + 1 + 1) 0))
+number_of_four row k room =
+    let first = chunk-at k 4 0 k row (omega arith) (omega arith) in
+    let second = chunk-at k 4 1 (k + 1) row refl (omega arith) in
+    let third = chunk-at k 4 2 (k + 1 + 1) row (omega arith) (omega arith) in
+    let fourth = chunk-at k 4 3 (k + 1 + 1 + 1) row (omega arith) (omega arith) in
+    omega (arith, number_of_quad (chunk k 4 row) (length-chunk k 4 row room), first, second, third, fourth)
+
+pub Makes-load_of_longs : (row : List ℕ) → 64 ≤ length row → ((k : ℕ) → Fits w8 (get_or row k 0)) → Makes 4294967296 (digits_l 4294967296 16 (number_l 256 (chunk 0 64 row))) (sample_at 4 row)
+Makes-load_of_longs row room fits =
+    let bytes = chunk 0 64 row in
+    let small : (k : ℕ) → get_or row k 0 < 256 = λ k. (fits k).fits in
+    let long : length bytes ≡ 64 = length-chunk 0 64 row (omega arith) in
+    Makes-from_lanes 4294967296 (digits_l 4294967296 16 (number_l 256 bytes)) (sample_at 4 row) (omega arith) refl
+    (λ j lt.
+    get_or_wider 256 4 4294967296 16 bytes j refl (below_from_Fits w8 bytes (chunk-fits w8 0 64 row fits)) lt
+    ∙ number_of_four bytes (4 * j) (omega (arith, long))
+    ∙ omega (
+      arith,
+      chunk-at 0 64 (4 * j) (4 * j) row (omega arith) (omega arith),
+      chunk-at 0 64 (4 * j + 1) (4 * j + 1) row (omega arith) (omega arith),
+      chunk-at 0 64 (4 * j + 1 + 1) (4 * j + 1 + 1) row (omega arith) (omega arith),
+      chunk-at 0 64 (4 * j + 1 + 1 + 1) (4 * j + 1 + 1 + 1) row (omega arith) (omega arith),
+    ))
+    (λ j lt. omega (arith, small (4 * j), small (4 * j + 1), small (4 * j + 1 + 1), small (4 * j + 1 + 1 + 1)))
+
+pub Hold-store_of_longs : (row v : List ℕ) → 64 ≤ length row → AreLanes 4294967296 v → Hold (sample_at 4 (put_chunk 0 row (digits_l 256 64 (number_l 4294967296 v)))) (λ j. get_or v j 0)
+Hold-store_of_longs row v room samples j lt =
+    let bytes = digits_l 256 64 (number_l 4294967296 v) in
+    let small : Each1 (λ x. x < 4294967296) v = Each1-from_get_or (λ x. x < 4294967296) v 0 (λ i _. samples.below i) in
+    let first = put_chunk-at (4 * j + 0) (4 * j) row bytes (omega arith) (omega arith) room ∙ get_or_narrower 4294967296 4 256 64 v j 0 refl small (omega arith) (omega arith) in
+    let second = put_chunk-at (4 * j + 1) (4 * j + 1) row bytes refl (omega arith) room ∙ get_or_narrower 4294967296 4 256 64 v j 1 refl small (omega arith) (omega arith) in
+    let third = put_chunk-at (4 * j + 2) (4 * j + 1 + 1) row bytes (omega arith) (omega arith) room ∙ get_or_narrower 4294967296 4 256 64 v j 2 refl small (omega arith) (omega arith) in
+    let fourth = put_chunk-at (4 * j + 3) (4 * j + 1 + 1 + 1) row bytes (omega arith) (omega arith) room ∙ get_or_narrower 4294967296 4 256 64 v j 3 refl small (omega arith) (omega arith) in
+    omega (arith, samples.below j, first, second, third, fourth)

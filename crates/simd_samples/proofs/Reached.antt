@@ -29,6 +29,13 @@ reached_words a b x y = go (leb a b)
     go true = refl
     go false = refl
 
+pub reached_ints : (a b x y : ℕ) → one_reached 31 4294967296 a b x y ≡ cond (leb a b) x y
+reached_ints a b x y = go (leb a b)
+  where
+    go : (t : Bool) → cond (top 31 (cond t 4294967295 0)) x y ≡ cond t x y
+    go true = refl
+    go false = refl
+
 choice_below : (m x y : ℕ) (t : Bool) → x < m → y < m → cond t x y < m
 choice_below m x y true p q = p
 choice_below m x y false p q = q

@@ -44,6 +44,9 @@ highest_of_bytes = record { some = omega arith; full = refl; none = refl }
 pub highest_of_words : IsHighest 15 65536
 highest_of_words = record { some = omega arith; full = refl; none = refl }
 
+pub highest_of_ints : IsHighest 31 4294967296
+highest_of_ints = record { some = omega arith; full = refl; none = refl }
+
 pub highest_of_longs : IsHighest 63 18446744073709551616
 highest_of_longs = record { some = omega arith; full = refl; none = refl }
 

@@ -32,6 +32,59 @@ Makes-scaled w bound shift xs factor offset some some_part wide long small =
       (div-lt_iff_lt-mul some_part).1 (small j lt),
     ))
 
+-- ---- samples of four bytes, scaled in two halves of 32 bits of the factor and of the offset
+
+product_few : (m a number offset : ℕ) → m ≤ 4294967295 → a ≤ m → number < 4294967296 → offset < 4294967296 → a * number + offset < 18446744073709551616
+product_few m a number offset few le n o = omega (arith, mul-le-mul {n₁ = a} {m₁ = number} {n₂ = 4294967295} {m₂ = 4294967295} (omega arith) (omega arith))
+
+Makes-half : (xs : List ℕ) (factor offset : ℕ) → AreLanes 4294967296 xs → factor < 4294967296 → offset < 4294967296
+    → Makes 18446744073709551616 (multiplied 18446744073709551616 (map same xs) (replicate 16 factor) (replicate 16 offset)) (λ j. get_or xs j 0 * factor + offset)
+Makes-half xs factor offset p few few_offset =
+    let w : ℕ = 18446744073709551616 in
+    Makes-from_four (λ xs ys zs ws. multiplied w (map same xs) ys zs) (λ a b c d. plus w (times w a b) c) (λ a b c d xs ys zs ws. refl) refl w _ (omega arith)
+    xs (replicate 16 factor) (replicate 16 offset) xs p.long refl refl p.long
+    (λ j lt.
+    let small = product_few 4294967295 (get_or xs j 0) factor offset (omega arith) (below_le 4294967295 xs p j) few few_offset in (
+      three_splats (λ b c d. plus w (times w (get_or xs j 0) b) c) j factor offset 0 lt ∙ one_multiplied w (get_or xs j 0) factor offset small,
+      small,
+    ))
+
+-- both halves together
+joined_halves : (c factor offset : ℕ) → (c * (factor / 4294967296) + offset / 4294967296 + (c * (factor % 4294967296) + offset % 4294967296) / 4294967296) / 65536 ≡ (c * factor + offset) / 281474976710656
+joined_halves c factor offset =
+    let parts : factor ≡ factor / 4294967296 * 4294967296 + factor % 4294967296 = omega arith in
+    let product : c * factor ≡ c * (factor / 4294967296 * 4294967296 + factor % 4294967296) = ap (λ f. c * f) parts in
+    omega (arith, product)
+
+abbrev pub halves_joined : List ℕ → List ℕ → List ℕ → List ℕ → List ℕ
+halves_joined xs ys zs ws = zip2 shifted (zip2 (plus 18446744073709551616) xs (zip2 shifted ys zs)) ws
+
+module _ (xs : List ℕ) (factor offset : ℕ) (p : AreLanes 4294967296 xs) (few : factor < 18446744073709551616) (few_offset : offset < 18446744073709551616)
+    (small : (j : ℕ) → j < 16 → get_or xs j 0 * factor + offset < 1208925819614629174706176) where
+  abbrev low_half : List ℕ
+  low_half = multiplied 18446744073709551616 (map same xs) (replicate 16 (factor % 4294967296)) (replicate 16 (offset % 4294967296))
+
+  abbrev high_half : List ℕ
+  high_half = multiplied 18446744073709551616 (map same xs) (replicate 16 (factor / 4294967296)) (replicate 16 (offset / 4294967296))
+
+  pub Makes-scaled_by_halves : Makes 4294967296 (halves_joined high_half low_half (replicate 16 32) (replicate 16 16)) (λ j. (get_or xs j 0 * factor + offset) / 281474976710656)
+  Makes-scaled_by_halves =
+      let w : ℕ = 18446744073709551616 in
+      let low = Makes-half xs (factor % 4294967296) (offset % 4294967296) p (omega arith) (omega arith) in
+      let high = Makes-half xs (factor / 4294967296) (offset / 4294967296) p (omega (arith, few)) (omega (arith, few_offset)) in
+      Makes-from_four halves_joined (λ a b c d. shifted (plus w a (shifted b c)) d) (λ a b c d xs ys zs ws. refl) refl 4294967296 _ (omega arith)
+      high_half low_half (replicate 16 32) (replicate 16 16) high.0.long low.0.long refl refl
+      (λ j lt.
+      let x = get_or xs j 0 in
+      let a = x * (factor / 4294967296) + offset / 4294967296 in
+      let b = x * (factor % 4294967296) + offset % 4294967296 in
+      let whole : (a + b / 4294967296) / 65536 ≡ (x * factor + offset) / 281474976710656 = joined_halves x factor offset in
+      let result : (x * factor + offset) / 281474976710656 < 4294967296 = omega (arith, small j lt) in
+      let sum : plus w a (b / 4294967296) ≡ a + b / 4294967296 = mod-eq_of_lt (omega (arith, whole, result)) in (
+        (λ i. shifted (plus w (high.1 j lt i) (shifted (low.1 j lt i) (splat_at 32 j lt i))) (splat_at 16 j lt i)) ∙ ap (λ n. n / 65536) sum ∙ whole,
+        result,
+      ))
+
 -- ---- numbers of 32 bits with an offset, scaled in lanes of 64 bits, by parts of 2^31
 
 -- the upper halves of the products of twice the numbers
@@ -96,10 +149,7 @@ abbrev pub quotients : List ℕ → ℕ → ℕ → ℕ → List ℕ
 quotients xs number offset divisor =
     zip2 over (multiplied 18446744073709551616 xs (replicate 16 number) (replicate 16 offset)) (replicate 16 divisor)
 
-product_few : (m a number offset : ℕ) → m ≤ 65535 → a ≤ m → number < 4294967296 → offset < 4294967296 → a * number + offset < 18446744073709551616
-product_few m a number offset few le n o = omega (arith, mul-le-mul {n₁ = a} {m₁ = number} {n₂ = 65535} {m₂ = 4294967295} (omega arith) (omega arith))
-
-Makes-quotients : (m : ℕ) (xs : List ℕ) (number offset divisor : ℕ) → m ≤ 65535 → AreLanes (m + 1) xs → number < 4294967296 → offset < 4294967296
+Makes-quotients : (m : ℕ) (xs : List ℕ) (number offset divisor : ℕ) → m ≤ 4294967295 → AreLanes (m + 1) xs → number < 4294967296 → offset < 4294967296
     → Makes 18446744073709551616 (quotients xs number offset divisor) (λ j. (get_or xs j 0 * number + offset) / divisor)
 Makes-quotients m xs number offset divisor few p n o =
     let w : ℕ = 18446744073709551616 in
@@ -119,7 +169,7 @@ splat_lanes bound n few = record { long = refl; below = λ j. elim (cases_lt j 1
 abbrev pub limited : List ℕ → List ℕ → List ℕ
 limited xs ys = where_below 63 18446744073709551616 xs ys xs ys
 
-pub Makes-divided : (m : ℕ) (xs : List ℕ) (number offset divisor : ℕ) → m ≤ 65535 → AreLanes (m + 1) xs → number < 4294967296 → offset < 4294967296
+pub Makes-divided : (m : ℕ) (xs : List ℕ) (number offset divisor : ℕ) → m ≤ 4294967295 → AreLanes (m + 1) xs → number < 4294967296 → offset < 4294967296
     → Makes (m + 1) (limited (quotients xs number offset divisor) (replicate 16 m)) (λ j. min m ((get_or xs j 0 * number + offset) / divisor))
 Makes-divided m xs number offset divisor few p n o =
     let w : ℕ = 18446744073709551616 in

@@ -1,45 +1,31 @@
 -- Samples of rows that agree in their bytes, and of slices of rows.
-use Rattle.std.proofs.Common.{◌≡◌, ℕ, zero, suc, ◌+◌, ◌-◌, ◌*◌, ◌<◌, ◌≤◌, List, ◌++◌, length, take, drop, get_or, refl, sym, ap, ◌∙◌, inl, inr, arith}
+use Rattle.std.proofs.Common.{◌≡◌, ℕ, ◌+◌, ◌-◌, ◌*◌, ◌<◌, ◌≤◌, List, ◌++◌, length, take, drop, get_or, refl, sym, ap, ◌∙◌, inl, inr, arith}
 use Rattle.std.proofs.lemmas.Bool.{cases_lt}
 use Rattle.std.proofs.lemmas.List.{get_or-drop, get_or-append-add, get_or_append_left, get_or_past, get_or-take, length-take}
 use Rattle.std.proofs.Math.ListN.{length-append, length-drop}
-use Rattle.std.proofs.Math.Nat.{mul-le-mul_left}
+use Rattle.std.proofs.Math.Nat.{mul-add, mul-le-mul_left}
 use Rattle.std.proofs.lemmas.Slice.{between_to_end}
 use borrow.Rule.Slice.PartMut.{put_mid, post_of}
 use Rattle.pixel_formats.specs.Sample.{sample_at}
+use Rattle.pixel_formats.proofs.FormatLaws.{sample_equal}
 
 same_index : (row : List ℕ) (p q : ℕ) → p ≡ q → get_or row p 0 ≡ get_or row q 0
 same_index row p q e = ap (λ k. get_or row k 0) e
 
 -- samples that stand m positions further on in the one row than in the other
 pub sample_at-shift : (d : ℕ) (a b : List ℕ) (m n i j : ℕ) → n ≡ d * m → j ≡ m + i → ((p : ℕ) → get_or a p 0 ≡ get_or b (n + p) 0) → sample_at d a i ≡ sample_at d b j
-sample_at-shift zero a b m n i j at_n at_j same = refl
-sample_at-shift (suc zero) a b m n i j at_n at_j same = same i ∙ same_index b (n + i) j (omega arith)
-sample_at-shift (suc (suc zero)) a b m n i j at_n at_j same =
-    let low = same (2 * i) ∙ same_index b (n + 2 * i) (2 * j) (omega arith) in
-    let high = same (2 * i + 1) ∙ same_index b (n + (2 * i + 1)) (2 * j + 1) (omega arith) in
-    omega (arith, low, high)
-sample_at-shift (suc (suc (suc d))) a b m n i j at_n at_j same = refl
+sample_at-shift d a b m n i j at_n at_j same =
+    let later : d * j ≡ n + d * i = ap (λ k. d * k) at_j ∙ mul-add d m i ∙ omega (arith, at_n) in
+    sample_equal d a b i j (λ k below. same (d * i + k) ∙ same_index b (n + (d * i + k)) (d * j + k) (omega (arith, later)))
 
 -- samples of rows that agree up to there
 pub sample_at-below : (d : ℕ) (a b : List ℕ) (n j : ℕ) → d * (j + 1) ≤ n → ((p : ℕ) → p < n → get_or a p 0 ≡ get_or b p 0) → sample_at d a j ≡ sample_at d b j
-sample_at-below zero a b n j far same = refl
-sample_at-below (suc zero) a b n j far same = same j (omega arith)
-sample_at-below (suc (suc zero)) a b n j far same =
-    let low = same (2 * j) (omega arith) in
-    let high = same (2 * j + 1) (omega arith) in
-    omega (arith, low, high)
-sample_at-below (suc (suc (suc d))) a b n j far same = refl
+sample_at-below d a b n j far same =
+    sample_equal d a b j j (λ k below. same (d * j + k) (omega (arith, far, below, mul-add d j 1)))
 
 -- samples of rows that agree from there on
 pub sample_at-past : (d : ℕ) (a b : List ℕ) (n j : ℕ) → n ≤ d * j → ((p : ℕ) → n ≤ p → get_or a p 0 ≡ get_or b p 0) → sample_at d a j ≡ sample_at d b j
-sample_at-past zero a b n j far same = refl
-sample_at-past (suc zero) a b n j far same = same j (omega arith)
-sample_at-past (suc (suc zero)) a b n j far same =
-    let low = same (2 * j) (omega arith) in
-    let high = same (2 * j + 1) (omega arith) in
-    omega (arith, low, high)
-sample_at-past (suc (suc (suc d))) a b n j far same = refl
+sample_at-past d a b n j far same = sample_equal d a b j j (λ k below. same (d * j + k) (omega (arith, far)))
 
 -- ---- slices
 

@@ -1,5 +1,6 @@
 -- Samples that are written sixteen at a time.
-use Rattle.std.proofs.Common.{◌≡◌, ℕ, ◌+◌, ◌-◌, ◌<◌, ◌≤◌, List, length, get_or, ap, ◌∙◌, inl, inr, subst, arith}
+use Rattle.std.proofs.Math.Nat.{mul-le-mul_left, mul_assoc, mul_comm}
+use Rattle.std.proofs.Common.{◌≡◌, ℕ, ◌+◌, ◌*◌, ◌-◌, ◌<◌, ◌≤◌, List, length, get_or, ap, ◌∙◌, inl, inr, subst, arith}
 use Rattle.std.specs.Simd.Lanes.{put_chunk}
 use Rattle.std.proofs.lemmas.Bool.{cases_lt}
 use Rattle.std.proofs.lemmas.Simd.{get_or-put_chunk_at}
@@ -24,3 +25,15 @@ sixteen_more d n old new lanes s first kept made holds i far =
           let at : n + (i - n) ≡ i = omega arith in
           subst Q at (made (i - n) (omega arith) ∙ holds (i - n) (omega arith))
     ]
+
+-- sixteen samples, of three vectors that are there
+pub vectors_fit : (d bytes from at n : ℕ) → bytes ≡ 16 * d → at ≤ 32 → (from + 3) * bytes ≤ n → d * (16 * from + at + 16) ≤ n
+vectors_fit d bytes from at n sixteen few there =
+    let whole : (from + 3) * bytes ≡ d * (16 * from + 48) =
+    ap (λ b. (from + 3) * b) sixteen
+    ∙ mul_comm (from + 3) (16 * d)
+    ∙ ap (λ k. k * (from + 3)) (mul_comm 16 d)
+    ∙ mul_assoc d 16 (from + 3)
+    ∙ ap (λ k. d * k) (omega arith) in
+    let part : d * (16 * from + at + 16) ≤ d * (16 * from + 48) = mul-le-mul_left d (omega (arith, few)) in
+    omega (arith, whole, part, there)

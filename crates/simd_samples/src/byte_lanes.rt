@@ -11,6 +11,7 @@ use crate::shuffles::{
     ShuffleOfThree, ShuffleOfTwo, shuffle_of_first_two, shuffle_of_two, shuffle_with_third,
 };
 use crate::wide_lanes::WideLanes;
+use crate::widen::Widen;
 use std::simd::prelude::*;
 
 /// Sixteen samples of one byte.
@@ -51,18 +52,6 @@ impl Lanes for ByteLanes {
     #[inline(always)]
     fn store(self, dst: &mut [u8]) {
         self.lanes.copy_to_slice(dst);
-    }
-
-    #[inline(always)]
-    fn widen(self) -> WideLanes {
-        WideLanes {
-            lanes: self.lanes.cast::<u32>(),
-        }
-    }
-
-    #[inline(always)]
-    fn narrow(wide: WideLanes) -> Self {
-        ByteLanes::new(wide.lanes.cast::<u8>())
     }
 
     #[inline(always)]
@@ -166,6 +155,22 @@ impl Lanes for ByteLanes {
     ghost some_levels = { Prim.search rules };
 
     ghost few_levels = { Prim.search rules };
+}
+
+impl Widen for ByteLanes {
+    #[inline(always)]
+    fn widen(self) -> WideLanes {
+        WideLanes {
+            lanes: self.lanes.cast::<u32>(),
+        }
+    }
+
+    #[inline(always)]
+    fn narrow(wide: WideLanes) -> Self {
+        ByteLanes::new(wide.lanes.cast::<u8>())
+    }
+
+    ghost narrow_levels = { Prim.search rules };
 }
 
 /// Shuffles the lanes of two vectors.

@@ -6,9 +6,8 @@ ghost use Rattle.simd_samples.specs.Shuffle.{position_of_three, position_of_two}
 ghost use Rattle.pixel_formats.specs.Sample.{added, max_sample_of, mean_of_four, mean_of_three, sample_at, thresholded, unit_of, scaled_by};
 
 use crate::shuffles::{ShuffleOfThree, ShuffleOfTwo};
-use crate::wide_lanes::WideLanes;
 
-/// A vector of sixteen samples of one depth, which is one byte or two. Lane 0 is the leftmost.
+/// A vector of sixteen samples of one depth, which is one byte, two or four. Lane 0 is the leftmost.
 pub trait Lanes: Copy {
     /// The sample in each lane.
     ghost lane: { Self → ℕ → ℕ };
@@ -36,15 +35,6 @@ pub trait Lanes: Copy {
         requires { BYTES ≤ length dst.old }
         ensures here { Hold (sample_at depth dst.new) (lane self) }
         ensures after { (k : ℕ) → BYTES ≤ k → slice_index dst.new k ≡ slice_index dst.old k };
-
-    /// Widens each sample to 32 bits.
-    fn widen(self) -> WideLanes
-        ensures { Hold (slice_index result) (lane self) };
-
-    /// Narrows numbers that are samples.
-    fn narrow(wide: WideLanes) -> Self
-        requires { (j : ℕ) → j < 16 → slice_index wide j ≤ max_sample_of depth }
-        ensures { Hold (lane result) (slice_index wide) };
 
     /// Returns the largest sample in each lane.
     fn max_sample() -> Self
@@ -229,7 +219,7 @@ pub trait Lanes: Copy {
 
     ghost some_depth: { 0 < depth };
 
-    ghost few: { BYTES ≤ 32 };
+    ghost few: { BYTES ≤ 64 };
 
     ghost fits: { (v : Self) (j : ℕ) → lane v j ≤ max_sample_of depth };
 
@@ -237,5 +227,5 @@ pub trait Lanes: Copy {
 
     ghost some_levels: { 0 < LEVELS };
 
-    ghost few_levels: { LEVELS ≤ 65536 };
+    ghost few_levels: { LEVELS ≤ 4294967296 };
 }

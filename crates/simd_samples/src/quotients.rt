@@ -15,7 +15,7 @@ pub(crate) fn limited_quotients(
     divisor: u64,
     most: u64,
 ) -> u64x16
-    requires most { most < 65536 }
+    requires most { most < 2 ^ 32 }
     requires samples { AreLanes (most + 1) samples }
     requires number { number < 2 ^ 32 }
     requires offset { offset < 2 ^ 32 }

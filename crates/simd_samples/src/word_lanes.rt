@@ -11,6 +11,7 @@ use crate::shuffles::{
     ShuffleOfThree, ShuffleOfTwo, shuffle_of_first_two, shuffle_of_two, shuffle_with_third,
 };
 use crate::wide_lanes::WideLanes;
+use crate::widen::Widen;
 use std::simd::prelude::*;
 
 /// Sixteen samples of two bytes, the less significant first.
@@ -51,18 +52,6 @@ impl Lanes for WordLanes {
     #[inline(always)]
     fn store(self, dst: &mut [u8]) {
         self.lanes.to_le_bytes().copy_to_slice(dst);
-    }
-
-    #[inline(always)]
-    fn widen(self) -> WideLanes {
-        WideLanes {
-            lanes: self.lanes.cast::<u32>(),
-        }
-    }
-
-    #[inline(always)]
-    fn narrow(wide: WideLanes) -> Self {
-        WordLanes::new(wide.lanes.cast::<u16>())
     }
 
     #[inline(always)]
@@ -168,6 +157,22 @@ impl Lanes for WordLanes {
     ghost some_levels = { Prim.search rules };
 
     ghost few_levels = { Prim.search rules };
+}
+
+impl Widen for WordLanes {
+    #[inline(always)]
+    fn widen(self) -> WideLanes {
+        WideLanes {
+            lanes: self.lanes.cast::<u32>(),
+        }
+    }
+
+    #[inline(always)]
+    fn narrow(wide: WideLanes) -> Self {
+        WordLanes::new(wide.lanes.cast::<u16>())
+    }
+
+    ghost narrow_levels = { Prim.search rules };
 }
 
 /// Shuffles the lanes of two vectors.

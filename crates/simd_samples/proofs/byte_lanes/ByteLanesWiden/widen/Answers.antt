@@ -1,6 +1,6 @@
 use Rattle.std.proofs.Common.{arith}
 use Rattle.simd_samples.proofs.Arithmetic.{AreLanes-cast_up}
-use Rattle.simd_samples.proofs.byte_lanes.ByteLanesLanes.widen.Goals as goal
+use Rattle.simd_samples.proofs.byte_lanes.ByteLanesWiden.widen.Goals as goal
 
 pub invariant_of-result : goal.invariant_of-result
 invariant_of-result c =
