@@ -1,5 +1,5 @@
 -- Samples that are copied from one row to another.
-use Rattle.std.proofs.Common.{◌≡◌, ℕ, zero, suc, ◌+◌, ◌-◌, ◌*◌, ◌<◌, ◌≤◌, List, ◌++◌, length, take, drop, get_or, refl, ap, ◌∙◌, inl, inr, subst, arith}
+use Rattle.std.proofs.Common.{◌≡◌, ℕ, ◌+◌, ◌-◌, ◌*◌, ◌<◌, ◌≤◌, List, ◌++◌, length, take, drop, get_or, ap, ◌∙◌, inl, inr, subst, arith}
 use Rattle.std.proofs.lemmas.Bool.{cases_lt}
 use Rattle.std.proofs.lemmas.Nat.{mul-add-lt}
 use Rattle.std.proofs.lemmas.List.{get_or-drop, get_or_append_left, get_or-append_right, get_or-take, length-take}
@@ -7,20 +7,10 @@ use Rattle.std.proofs.Math.ListN.{length-drop}
 use Rattle.std.proofs.Math.Nat.{mul-le-mul_left, mul-le-mul_right}
 use borrow.Rule.Slice.PartMut.{put_mid, post_of}
 use Rattle.pixel_formats.specs.Sample.{sample_at}
+use Rattle.pixel_formats.proofs.FormatLaws.{sample_equal}
 
 same_index : (row : List ℕ) (p q : ℕ) → p ≡ q → get_or row p 0 ≡ get_or row q 0
 same_index row p q e = ap (λ k. get_or row k 0) e
-
--- samples of which the bytes are equal
-sample_at-moved : (d : ℕ) (a b : List ℕ) (i j : ℕ) → ((p : ℕ) → p < d → get_or a (d * i + p) 0 ≡ get_or b (d * j + p) 0) → sample_at d a i ≡ sample_at d b j
-sample_at-moved zero a b i j same = refl
-sample_at-moved (suc zero) a b i j same =
-    same_index a i (1 * i + 0) (omega arith) ∙ same 0 (omega arith) ∙ same_index b (1 * j + 0) j (omega arith)
-sample_at-moved (suc (suc zero)) a b i j same =
-    let low = same_index a (2 * i) (2 * i + 0) (omega arith) ∙ same 0 (omega arith) ∙ same_index b (2 * j + 0) (2 * j) (omega arith) in
-    let high = same 1 (omega arith) in
-    omega (arith, low, high)
-sample_at-moved (suc (suc (suc d))) a b i j same = refl
 
 -- the bytes of a row of which k from number a on were written
 module _ (row part : List ℕ) (a k : ℕ) (room : a + k ≤ length row) (long : length part ≡ k) where
@@ -53,7 +43,7 @@ module _ (d first at count : ℕ) (from to part : List ℕ) (begin end start sto
 
   copied-here : (i : ℕ) → i < count → sample_at d (put_mid start (stop - start) to part) (at + i) ≡ sample_at d from (first + i)
   copied-here i lt =
-      sample_at-moved d (put_mid start (stop - start) to part) from (at + i) (first + i)
+      sample_equal d (put_mid start (stop - start) to part) from (at + i) (first + i)
       (λ p near.
       let inside : d * i + p < d * count = omega (arith, mul-add-lt i d p count lt near) in
       written-there to part start (stop - start) room long (d * (at + i) + p) (d * i + p) (omega arith) (omega arith)
@@ -64,7 +54,7 @@ module _ (d first at count : ℕ) (from to part : List ℕ) (begin end start sto
 
   copied-before : (i : ℕ) → i < at → sample_at d (put_mid start (stop - start) to part) i ≡ sample_at d to i
   copied-before i lt =
-      sample_at-moved d (put_mid start (stop - start) to part) to i i
+      sample_equal d (put_mid start (stop - start) to part) to i i
       (λ p near. written-before to part start (stop - start) room long (d * i + p) (omega (arith, mul-add-lt i d p at lt near)))
 
   copied : AreCopied d first at count from to (put_mid start (stop - start) to part)

@@ -76,9 +76,9 @@ sum_of_square radius f u v c =
 -- ---- rows of means
 
 -- sums of squares are below the sum of as many largest samples
-pub sums_small : (w n reach limit : ℕ) (sums : List ℕ) (columns : ℕ → ℕ)
-    → ((x c : ℕ) → x < w → c < n → get_or sums (x * n + c) 0 ≡ sum_of (reach + 1) (λ k. columns ((x + k) * n + c)))
-    → ((i : ℕ) → i < (w + reach) * n → columns i ≤ limit) → ((i : ℕ) → w * n ≤ i → get_or sums i 0 ≡ 0) → (i : ℕ) → get_or sums i 0 ≤ (reach + 1) * limit
+sums_small : (w n reach limit : ℕ) (sums columns : ℕ → ℕ)
+    → ((x c : ℕ) → x < w → c < n → sums (x * n + c) ≡ sum_of (reach + 1) (λ k. columns ((x + k) * n + c)))
+    → ((i : ℕ) → i < (w + reach) * n → columns i ≤ limit) → ((i : ℕ) → w * n ≤ i → sums i ≡ 0) → (i : ℕ) → sums i ≤ (reach + 1) * limit
 sums_small w zero reach limit sums columns made small clear i = omega (arith, clear i (omega arith))
 sums_small w (suc p) reach limit sums columns made small clear i = elim (cases_lt i (w * suc p)) [
   | inl within ↦
@@ -87,7 +87,7 @@ sums_small w (suc p) reach limit sums columns made small clear i = elim (cases_l
       let column = div_below i n w (omega arith) within in
       let channel = mod_below i n (omega arith) in
       let is = made (i / n) (i % n) column channel in
-      let here : get_or sums (i / n * n + i % n) 0 ≡ get_or sums i 0 = ap (λ k. get_or sums k 0) at in
+      let here : sums (i / n * n + i % n) ≡ sums i = ap sums at in
       omega (
         arith,
         is,
@@ -97,6 +97,13 @@ sums_small w (suc p) reach limit sums columns made small clear i = elim (cases_l
       )
   | inr past ↦ omega (arith, clear i past)
 ]
+
+-- the same where it is told how many samples a square has
+pub squares_small : (w n r max_sample size : ℕ) (sums columns : ℕ → ℕ) → size ≡ (2 * r + 1) * (2 * r + 1)
+    → ((x c : ℕ) → x < w → c < n → sums (x * n + c) ≡ sum_of (2 * r + 1) (λ k. columns ((x + k) * n + c)))
+    → ((i : ℕ) → i < (w + 2 * r) * n → columns i ≤ (2 * r + 1) * max_sample) → ((i : ℕ) → w * n ≤ i → sums i ≡ 0) → (i : ℕ) → sums i ≤ size * max_sample
+squares_small w n r max_sample size sums columns is made small clear i =
+    omega (arith, sums_small w n (2 * r) ((2 * r + 1) * max_sample) sums columns made small clear i, ap (λ k. k * max_sample) is)
 
 -- the sums of columns are below the sum of as many largest samples
 pub columns_small : (d stride side y : ℕ) (patch : List ℕ) (columns : ℕ → ℕ) → ((k : ℕ) → Fits w8 (get_or patch k 0)) → HoldsColumns d stride side y patch columns

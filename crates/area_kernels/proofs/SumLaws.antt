@@ -2,8 +2,8 @@
 use Rattle.std.proofs.Common.{◌≡◌, ℕ, zero, suc, ◌+◌, ◌-◌, ◌*◌, ◌%◌, ◌<◌, ◌≤◌, List, get_or, refl, sym, ap, ◌∙◌, subst, inl, inr, arith, w8, Fits}
 use Rattle.std.proofs.lemmas.Bool.{cases_lt}
 use Rattle.std.proofs.lemmas.Nat.{mod-mul-add, mul-add-lt}
-use Rattle.std.proofs.Math.Nat.{mod-eq_of_lt, mul-le-mul_right}
-use Rattle.pixel_formats.specs.Sample.{max_sample_of, sample_at}
+use Rattle.std.proofs.Math.Nat.{mod-eq_of_lt, mul-le-mul_right, one-le-pow, pow-succ'}
+use Rattle.pixel_formats.specs.Sample.{max_sample_of, sample_at, sample_from}
 use Rattle.area_kernels.specs.Columns.{HoldsColumns}
 use Rattle.area_kernels.specs.Sequences.{sum_of}
 
@@ -24,17 +24,16 @@ sum_of-below (suc n) b f below = omega (arith, sum_of-below n b f (λ k lt. belo
 
 -- ---- samples
 
+-- what so many bytes spell
+from-below : (n : ℕ) (row : List ℕ) → ((k : ℕ) → Fits w8 (get_or row k 0)) → (at : ℕ) → sample_from n row at ≤ max_sample_of n
+from-below zero row fits at = omega arith
+from-below (suc zero) row fits at = omega (arith, (fits at).fits)
+from-below (suc (suc n)) row fits at = omega (arith, (fits at).fits, from-below (suc n) row fits (at + 1), pow-succ' 256 (suc n), one-le-pow (suc n) 256 (omega arith))
+
 pub sample-below : (d : ℕ) (row : List ℕ) → ((k : ℕ) → Fits w8 (get_or row k 0)) → (i : ℕ) → sample_at d row i ≤ max_sample_of d
 sample-below zero row fits i = omega arith
 sample-below (suc zero) row fits i = omega (arith, (fits i).fits)
-sample-below (suc (suc zero)) row fits i = omega (arith, (fits (2 * i)).fits, (fits (2 * i + 1)).fits)
-sample-below (suc (suc (suc d))) row fits i = omega arith
-
-pub few_levels : (d : ℕ) → d ≤ 2 → max_sample_of d ≤ 65535
-few_levels zero le = omega arith
-few_levels (suc zero) le = omega arith
-few_levels (suc (suc zero)) le = omega arith
-few_levels (suc (suc (suc d))) le = absurd (omega arith)
+sample-below (suc (suc n)) row fits i = from-below (suc (suc n)) row fits (suc (suc n) * i)
 
 -- ---- numbers that are changed sixteen at a time
 
@@ -135,47 +134,52 @@ BlockSums-more d stride row next at w m samples lane old new newer below room mo
 pub sample_within : (n w reach x c k : ℕ) → x < w → c < n → k ≤ reach → (x + k) * n + c < (w + reach) * n
 sample_within n w reach x c k column channel few = omega (arith, mul-add-lt x n c w column channel, mul-le-mul_right n few)
 
--- with the number after the last
-pub sum-next : (number : ℕ → ℕ) (m sum coming : ℕ) → m ≤ 128 → ((k : ℕ) → k ≤ m → number k ≤ 8454015) → sum ≡ sum_of m number → coming ≡ number m
-    → (sum + coming) % 4294967296 ≡ sum_of (m + 1) number
-sum-next number m sum coming few small is enters =
-    let next : suc m ≡ m + 1 = omega arith in
-    let so_far : sum_of m number ≤ m * 8454015 = sum_of-below m 8454015 number (λ k lt. small k (omega arith)) in
-    let whole : (sum + coming) % 4294967296 ≡ sum_of (suc m) number = omega (arith, is, enters, so_far, small m (omega arith)) in
-    whole ∙ ap (λ m. sum_of m number) next
+-- sums of up to 129 numbers that are at most b, in numbers below w
+module _ (w b : ℕ) (room : 129 * b < w) where
+  -- with the number after the last
+  pub sum-next : (number : ℕ → ℕ) (m sum coming new : ℕ) → m ≤ 128 → ((k : ℕ) → k ≤ m → number k ≤ b) → new ≡ (sum + coming) % w → sum ≡ sum_of m number → coming ≡ number m
+      → new ≡ sum_of (m + 1) number
+  sum-next number m sum coming new few small made is enters =
+      let next : suc m ≡ m + 1 = omega arith in
+      let so_far : sum_of m number ≤ m * b = sum_of-below m b number (λ k lt. small k (omega arith)) in
+      let most : m * b ≤ 128 * b = mul-le-mul_right b few in
+      let fits : (sum_of m number + number m) % w ≡ sum_of m number + number m = mod-eq_of_lt (omega (arith, so_far, most, small m (omega arith), room)) in
+      made ∙ (λ t. (is t + enters t) % w) ∙ fits ∙ ap (λ k. sum_of k number) next
 
--- without the first number
-pub sum-slid : (s : ℕ → ℕ) (n c x reach whole leaving : ℕ) → reach ≤ 128 → ((k : ℕ) → k ≤ reach → s ((x + k) * n + c) ≤ 8454015)
-    → whole ≡ sum_of (reach + 1) (λ k. s ((x + k) * n + c)) → leaving ≡ s (x * n + c)
-    → (whole + (4294967296 - leaving)) % 4294967296 ≡ sum_of reach (λ k. s ((x + 1 + k) * n + c))
-sum-slid s n c x reach whole leaving few small is leaves =
-    let number : ℕ → ℕ = λ k. s ((x + k) * n + c) in
-    let next : suc reach ≡ reach + 1 = omega arith in
-    let all : whole ≡ sum_of reach number + number reach = is ∙ ap (λ m. sum_of m number) (sym next) in
-    let first : leaving ≡ number 0 = leaves ∙ ap (λ y. s (y * n + c)) (omega arith) in
-    let same : sum_of reach (λ k. number (k + 1)) ≡ sum_of reach (λ k. s ((x + 1 + k) * n + c)) =
-    sum_of-same reach (λ k. number (k + 1)) (λ k. s ((x + 1 + k) * n + c)) (λ k _. ap (λ y. s (y * n + c)) (omega arith)) in
-    let least : sum_of reach (λ k. number (k + 1)) ≤ reach * 8454015 = sum_of-below reach 8454015 (λ k. number (k + 1)) (λ k lt. small (k + 1) (omega arith)) in
-    let slid_sum : (whole + (4294967296 - leaving)) % 4294967296 ≡ sum_of reach (λ k. number (k + 1)) =
-    omega (arith, all, first, least, small 0 (omega arith), sum_of-slid reach number) in
-    slid_sum ∙ same
+  -- without the first number
+  pub sum-slid : (s : ℕ → ℕ) (n c x reach whole leaving new : ℕ) → reach ≤ 128 → ((k : ℕ) → k ≤ reach → s ((x + k) * n + c) ≤ b)
+      → new ≡ (whole + (w - leaving)) % w → whole ≡ sum_of (reach + 1) (λ k. s ((x + k) * n + c)) → leaving ≡ s (x * n + c)
+      → new ≡ sum_of reach (λ k. s ((x + 1 + k) * n + c))
+  sum-slid s n c x reach whole leaving new few small made is leaves =
+      let number : ℕ → ℕ = λ k. s ((x + k) * n + c) in
+      let rest = sum_of reach (λ k. number (k + 1)) in
+      let next : suc reach ≡ reach + 1 = omega arith in
+      let all : whole ≡ sum_of reach number + number reach = is ∙ ap (λ m. sum_of m number) (sym next) in
+      let first : leaving ≡ number 0 = leaves ∙ ap (λ y. s (y * n + c)) (omega arith) in
+      let same : rest ≡ sum_of reach (λ k. s ((x + 1 + k) * n + c)) =
+      sum_of-same reach (λ k. number (k + 1)) (λ k. s ((x + 1 + k) * n + c)) (λ k _. ap (λ y. s (y * n + c)) (omega arith)) in
+      let least : rest ≤ reach * b = sum_of-below reach b (λ k. number (k + 1)) (λ k lt. small (k + 1) (omega arith)) in
+      let most : reach * b ≤ 128 * b = mul-le-mul_right b few in
+      let moved : whole + (w - leaving) ≡ 1 * w + rest = omega (arith, all, first, small 0 (omega arith), room, sum_of-slid reach number) in
+      made ∙ ap (λ m. m % w) moved ∙ mod-mul-add 1 w rest (omega (arith, least, most, room)) ∙ same
 
 -- the sums of the first x pixels were written, and the numbers after those of all are zeros, but for four
-pub record SumsBelow (s : ℕ → ℕ) (n reach width x : ℕ) (sums : List ℕ) : Type 0 where
-  pub made : (p c : ℕ) → p < x → c < n → get_or sums (p * n + c) 0 ≡ sum_of (reach + 1) (λ k. s ((p + k) * n + c))
-  pub clear : (i : ℕ) → width * n + 4 ≤ i → get_or sums i 0 ≡ 0
+pub record SumsBelow (s : ℕ → ℕ) (n reach width x : ℕ) (sums : ℕ → ℕ) : Type 0 where
+  pub made : (p c : ℕ) → p < x → c < n → sums (p * n + c) ≡ sum_of (reach + 1) (λ k. s ((p + k) * n + c))
+  pub clear : (i : ℕ) → width * n + 4 ≤ i → sums i ≡ 0
 
-module _ (s : ℕ → ℕ) (n reach width : ℕ) (old new : List ℕ) where
-  pub SumsBelow-more : (x : ℕ) → n ≤ 4 → x < width
-      → ((c : ℕ) → c < n → get_or new (x * n + c) 0 ≡ sum_of (reach + 1) (λ k. s ((x + k) * n + c)))
-      → ((i : ℕ) → i < x * n → get_or new i 0 ≡ get_or old i 0) → ((i : ℕ) → x * n + 4 ≤ i → get_or new i 0 ≡ get_or old i 0)
+module _ (s : ℕ → ℕ) (n reach width : ℕ) (old new : ℕ → ℕ) where
+  pub SumsBelow-more : (x : ℕ) (four : ℕ → ℕ) → n ≤ 4 → x < width
+      → ((j : ℕ) → j < 4 → new (x * n + j) ≡ four j)
+      → ((c : ℕ) → c < n → four c ≡ sum_of (reach + 1) (λ k. s ((x + k) * n + c)))
+      → ((i : ℕ) → i < x * n → new i ≡ old i) → ((i : ℕ) → x * n + 4 ≤ i → new i ≡ old i)
       → SumsBelow s n reach width x old → SumsBelow s n reach width (x + 1) new
-  SumsBelow-more x few within here before after h = record {
+  SumsBelow-more x four few within here whole before after h = record {
     made = λ p c lt channel. elim (cases_lt p x) [
       | inl earlier ↦ before (p * n + c) (omega (arith, mul-add-lt p n c x earlier channel)) ∙ h.made p c earlier channel
       | inr past ↦
           let at : x ≡ p = omega arith in
-          subst (λ y. get_or new (y * n + c) 0 ≡ sum_of (reach + 1) (λ k. s ((y + k) * n + c))) at (here c channel)
+          subst (λ y. new (y * n + c) ≡ sum_of (reach + 1) (λ k. s ((y + k) * n + c))) at (here c (omega arith) ∙ whole c channel)
     ];
     clear = λ i far.
         let le : x * n ≤ width * n = mul-le-mul_right n (omega arith) in
@@ -183,15 +187,15 @@ module _ (s : ℕ → ℕ) (n reach width : ℕ) (old new : List ℕ) where
   }
 
   -- the four numbers after those of all pixels were made zeros
-  pub SumsBelow-made : ((i : ℕ) → i < width * n → get_or new i 0 ≡ get_or old i 0) → SumsBelow s n reach width width old
-      → (p c : ℕ) → p < width → c < n → get_or new (p * n + c) 0 ≡ sum_of (reach + 1) (λ k. s ((p + k) * n + c))
+  pub SumsBelow-made : ((i : ℕ) → i < width * n → new i ≡ old i) → SumsBelow s n reach width width old
+      → (p c : ℕ) → p < width → c < n → new (p * n + c) ≡ sum_of (reach + 1) (λ k. s ((p + k) * n + c))
   SumsBelow-made before h p c lt channel = before (p * n + c) (omega (arith, mul-add-lt p n c width lt channel)) ∙ h.made p c lt channel
 
-  pub SumsBelow-clear : ((j : ℕ) → j < 4 → get_or new (width * n + j) 0 ≡ 0) → ((i : ℕ) → width * n + 4 ≤ i → get_or new i 0 ≡ get_or old i 0)
-      → SumsBelow s n reach width width old → (i : ℕ) → width * n ≤ i → get_or new i 0 ≡ 0
-  SumsBelow-clear zeros after h i le = elim (cases_lt i (width * n + 4)) [
+  pub SumsBelow-clear : (four : ℕ → ℕ) → ((j : ℕ) → j < 4 → new (width * n + j) ≡ four j) → ((j : ℕ) → j < 4 → four j ≡ 0) → ((i : ℕ) → width * n + 4 ≤ i → new i ≡ old i)
+      → SumsBelow s n reach width width old → (i : ℕ) → width * n ≤ i → new i ≡ 0
+  SumsBelow-clear four here zeros after h i le = elim (cases_lt i (width * n + 4)) [
     | inl near ↦
         let at : width * n + (i - width * n) ≡ i = omega arith in
-        ap (λ k. get_or new k 0) (sym at) ∙ zeros (i - width * n) (omega arith)
+        ap new (sym at) ∙ here (i - width * n) (omega arith) ∙ zeros (i - width * n) (omega arith)
     | inr far ↦ after i far ∙ h.clear i far
   ]

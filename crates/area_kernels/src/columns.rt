@@ -1,17 +1,19 @@
 //! Sums of columns of samples, which slide from row to row.
 
-ghost use Rattle.std.specs.Prelude.{◌≡◌, ℕ, ◌+◌, ◌-◌, ◌*◌, ◌%◌, ◌<◌, ◌≤◌, length, slice_index};
+ghost use Rattle.std.specs.Prelude.{◌≡◌, ℕ, ◌+◌, ◌-◌, ◌*◌, ◌%◌, ◌<◌, ◌≤◌, length};
 ghost use Rattle.area_kernels.specs.{Columns.HoldsColumns, Sequences.sum_of};
 ghost use Rattle.pixel_formats.specs.Sample.{max_sample_of, sample_at};
 
-use simd_samples::{FourLanes, Lanes, load_at};
+use crate::four_sums::FourSums;
+use simd_samples::{Lanes, load_at};
 
 /// How many sums there are: those of the samples of the longest row that is read, of 192 pixels of
 /// four channels, and sixteen more.
 pub(crate) const COLUMNS: usize = 4 * 192 + 16;
 
-/// Sums of columns of samples, in numbers that have room for the sums of 130 samples.
-pub(crate) trait ColumnSums<L: Lanes> {
+/// Sums of columns of samples, in numbers that have room for the sums of 130 samples. Four of them are
+/// read as numbers that have room for the sums of 16,641 samples.
+pub(crate) trait ColumnSums<L: Lanes, F: FourSums> {
     /// Each sum.
     ghost sum: { Self → ℕ → ℕ };
 
@@ -39,16 +41,18 @@ pub(crate) trait ColumnSums<L: Lanes> {
         ensures after { (i : ℕ) → at + 16 ≤ i → sum self.new i ≡ sum self.old i };
 
     /// Returns four sums, from number `at` on.
-    fn four(&self, at: usize) -> FourLanes
+    fn four(&self, at: usize) -> F
         requires { at + 4 ≤ COLUMNS }
-        ensures { (j : ℕ) → j < 4 → slice_index result j ≡ sum self.now (at + j) };
+        ensures { (j : ℕ) → j < 4 → F.lane result j ≡ sum self.now (at + j) };
 
     ghost room: { 130 * max_sample_of L.depth < limit };
+
+    ghost square_room: { 16641 * max_sample_of L.depth < F.limit };
 }
 
 /// Adds a row of `count` samples to the sums of columns and takes another away, of which the numbers
 /// of the first samples are given. Up to fifteen sums after them are overwritten.
-fn slide_row<L: Lanes, C: ColumnSums<L>>(
+fn slide_row<L: Lanes, F: FourSums, C: ColumnSums<L, F>>(
     samples: &[u8],
     coming: usize,
     leaving: usize,
@@ -73,7 +77,7 @@ fn slide_row<L: Lanes, C: ColumnSums<L>>(
 /// Makes sixteen sums that are 0, from number `at` on, those of the columns of the first `side` rows. All
 /// others are unchanged. The rows are read down a block of columns, so that its sums need not be
 /// written after each row.
-fn sum_block<L: Lanes, C: ColumnSums<L>>(
+fn sum_block<L: Lanes, F: FourSums, C: ColumnSums<L, F>>(
     samples: &[u8],
     stride: usize,
     side: usize,
@@ -96,7 +100,11 @@ fn sum_block<L: Lanes, C: ColumnSums<L>>(
 }
 
 /// Returns the sums of the columns of the first `side` rows.
-pub(crate) fn sum_rows<L: Lanes, C: ColumnSums<L>>(samples: &[u8], stride: usize, side: usize) -> C
+pub(crate) fn sum_rows<L: Lanes, F: FourSums, C: ColumnSums<L, F>>(
+    samples: &[u8],
+    stride: usize,
+    side: usize,
+) -> C
     requires few { side ≤ 129 }
     requires narrow { stride ≤ 768 }
     requires samples { L.depth * (side * stride + 16) ≤ length samples.now }
@@ -111,7 +119,7 @@ pub(crate) fn sum_rows<L: Lanes, C: ColumnSums<L>>(samples: &[u8], stride: usize
 
 /// Makes the sums of the columns of `side` rows from row number `first` on those from the row after
 /// it on.
-pub(crate) fn slide_rows<L: Lanes, C: ColumnSums<L>>(
+pub(crate) fn slide_rows<L: Lanes, F: FourSums, C: ColumnSums<L, F>>(
     samples: &[u8],
     stride: usize,
     side: usize,

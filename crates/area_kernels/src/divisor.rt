@@ -1,14 +1,15 @@
-//! Division by the number of samples of a square.
+//! Division of sums of 32 bits by the number of samples of a square.
 
 ghost use Rattle.std.specs.Prelude.{◌≡◌, ℕ, ◌+◌, ◌*◌, ◌/◌, ◌^◌, ◌<◌, ◌≤◌, length, slice_index};
 ghost use Rattle.area_kernels.specs.Sequences.{mean_sum};
 ghost use Rattle.pixel_formats.specs.Sample.{max_sample_of, sample_at};
 
-use simd_samples::{Lanes, WideLanes, store_at};
+use simd_samples::{WideLanes, Widen, store_at};
 
-/// A number by which sums are divided, rounded to the nearest, without a division: by a multiplication
-/// with its reciprocal, which is counted in parts of 2^31 times a power of two. The power is so large
-/// that means of sums of as many samples are exact, and so small that the reciprocal fits 32 bits.
+/// A number by which sums of samples of one byte or two are divided, rounded to the nearest, without a
+/// division: by a multiplication with its reciprocal, which is counted in parts of 2^31 times a power
+/// of two. The power is so large that means of sums of as many samples are exact, and so small that
+/// the reciprocal fits 32 bits.
 #[derive(Clone, Copy)]
 pub(crate) struct Divisor {
     /// The number that is divided by.
@@ -56,32 +57,18 @@ impl Divisor {
         }
     }
 
-    /// Writes the means of sixteen sums, from number `at` on. All other samples are unchanged.
+    /// Writes the means of sixteen sums, from number `at` on. The samples before them are unchanged.
     #[inline(always)]
-    fn divide_block<L: Lanes>(&self, sums: &[u32], means: &mut [u8], at: usize)
+    pub fn divide_block<L: Widen>(self, sums: &[u32], means: &mut [u8], at: usize)
         requires sums { at + 16 ≤ length sums.now }
         requires means { L.depth * (at + 16) ≤ length means.old }
-        requires small { (i : ℕ) → slice_index sums.now i ≤ self.now.count * max_sample_of L.depth }
+        requires small { (i : ℕ) → slice_index sums.now i ≤ self.count * max_sample_of L.depth }
         ensures here { (j : ℕ) → j < 16 → sample_at L.depth means.new (at + j)
-            ≡ mean_sum self.now.count (slice_index sums.now (at + j)) }
+            ≡ mean_sum self.count (slice_index sums.now (at + j)) }
         ensures before { (i : ℕ) → i < at → sample_at L.depth means.new i ≡ sample_at L.depth means.old i }
     {
         let half = self.count / 2;
         let wide = WideLanes::load_at(sums, at).scale(half, self.factor, self.shift);
         store_at(L::narrow(wide), means, at);
-    }
-
-    /// Writes the means of the first `count` sums, rounded to the nearest. Up to fifteen samples
-    /// after them are overwritten.
-    pub fn divide<L: Lanes>(&self, sums: &[u32], means: &mut [u8], count: usize)
-        requires sums { count + 16 ≤ length sums.now }
-        requires means { L.depth * (count + 16) ≤ length means.old }
-        requires small { (i : ℕ) → slice_index sums.now i ≤ self.now.count * max_sample_of L.depth }
-        ensures { (i : ℕ) → i < count → sample_at L.depth means.new i
-            ≡ mean_sum self.now.count (slice_index sums.now i) }
-    {
-        for block in 0..count.div_ceil(16) {
-            self.divide_block::<L>(sums, means, 16 * block);
-        }
     }
 }

@@ -11,7 +11,7 @@ use crate::area::Area;
 use crate::picks::{Largest, Pick, Smallest, pick_windows};
 use crate::rows::copy_rows;
 use pixel_formats::Format;
-use simd_samples::{ByteLanes, Lanes, WordLanes};
+use simd_samples::{ByteLanes, Lanes, LongLanes, WordLanes};
 
 /// Puts what is picked of the square that begins at each position in place of its sample.
 fn pick_squares<L: Lanes, P: Pick>(area: Area, channels: usize, patch: &mut [u8])
@@ -44,6 +44,24 @@ fn pick_part<L: Lanes, P: Pick>(format: Format, area: Area, patch: &mut [u8], ds
     copy_rows::<L>(patch, area.stride(channels), dst, count, area.height);
 }
 
+/// Writes what is picked of the square around each position, at the depth of the format. The patch is
+/// overwritten.
+fn pick_format<P: Pick>(format: Format, area: Area, patch: &mut [u8], dst: &mut [u8])
+    requires read { depth format * (read_samples area (channels format) + 16) ≤ length patch.old }
+    requires written { length dst.old ≡ depth format * written_samples area (channels format) }
+    ensures { (f : ℕ → ℕ → ℕ → ℕ) (u v : ℕ)
+        → HoldsPart format (grown area.radius area.width) (grown area.radius area.height) patch.old f u v
+        → HoldsPart format area.width area.height dst.new
+        (λ s t c. best P.pick (2 * area.radius + 1) (λ i. best P.pick (2 * area.radius + 1) (λ j. f (s + i) (t + j) c))) u v }
+{
+    match format.depth() {
+        1 => pick_part::<ByteLanes, P>(format, area, patch, dst),
+        2 => pick_part::<WordLanes, P>(format, area, patch, dst),
+        4 => pick_part::<LongLanes, P>(format, area, patch, dst),
+        _ => unreachable!(),
+    }
+}
+
 /// Writes the largest sample of the square around each position, in each channel. The patch has the
 /// part of the result grown by the radius, read under a policy, and at least sixteen samples after
 /// it; it is overwritten. The cost grows with the part that is read and the logarithm of the radius.
@@ -52,10 +70,7 @@ pub fn area_max(format: Format, area: Area, patch: &mut [u8], dst: &mut [u8])
     requires written { length dst.old ≡ depth format * written_samples area (channels format) }
     ensures { HoldSquares max_of_all format area patch.old dst.new }
 {
-    match format.depth() {
-        1 => pick_part::<ByteLanes, Largest>(format, area, patch, dst),
-        _ => pick_part::<WordLanes, Largest>(format, area, patch, dst),
-    }
+    pick_format::<Largest>(format, area, patch, dst);
 }
 
 /// Writes the smallest sample of the square around each position, in each channel. The patch has the
@@ -66,8 +81,5 @@ pub fn area_min(format: Format, area: Area, patch: &mut [u8], dst: &mut [u8])
     requires written { length dst.old ≡ depth format * written_samples area (channels format) }
     ensures { HoldSquares min_of_all format area patch.old dst.new }
 {
-    match format.depth() {
-        1 => pick_part::<ByteLanes, Smallest>(format, area, patch, dst),
-        _ => pick_part::<WordLanes, Smallest>(format, area, patch, dst),
-    }
+    pick_format::<Smallest>(format, area, patch, dst);
 }

@@ -6,10 +6,14 @@ mod column_numbers;
 mod columns;
 mod divisor;
 mod extremes;
+mod four_sums;
 pub mod laws;
+mod long_divisor;
 mod means;
 mod picks;
 mod rows;
+mod square_numbers;
+mod square_sums;
 mod sums;
 
 pub use area::Area;

@@ -11,14 +11,13 @@ use Rattle.pixel_formats.specs.Row.{pixel_at}
 use Rattle.pixel_formats.specs.declared.abyss.Abyss.{Abyss}
 use Rattle.pixel_formats.specs.declared.abyss.Abyss.TheVariants.{None}
 use Rattle.pixel_formats.specs.declared.format.Format.{Format}
-use Rattle.pixel_formats.proofs.FormatLaws.{by_depth}
+use Rattle.pixel_formats.proofs.FormatLaws.{by_depth, sample_equal}
 use Rattle.model_images.specs.Abyss.{abyss_at}
 use Rattle.model_images.specs.FromRaw.{byte_count, image_from_raw}
 use Rattle.model_images.specs.Image.{Image, at, image_from_fn}
 use Rattle.model_images.specs.Paint.{cut}
 use Rattle.model_images.specs.Raw.{raw}
 use Rattle.model_images.proofs.ByteLaws.{length-raw_with, raw_with-none}
-use Rattle.model_images.proofs.FromRawLaws.{sample_equal}
 use Rattle.model_images.proofs.Laws.{at-image_from_fn}
 use Rattle.model_images.proofs.RawLaws.{raw-samples}
 use Rattle.patch_abyss.proofs.Parts.{byte_index, byte_within}
@@ -49,20 +48,20 @@ corner-is w h wide high =
     ∙ ap (λ (n : ℕ). record { first_column = 0; first_row = 0; width = n; height = h - 0 }) width
     ∙ ap (λ (n : ℕ). record { first_column = 0; first_row = 0; width = w; height = n }) height
 
-few_zeros : (f : Format) → depth f * 16 ≤ 32
-few_zeros f = by_depth (λ d. d * 16 ≤ 32) (omega arith) (omega arith) f
+few_zeros : (f : Format) → depth f * 16 ≤ 64
+few_zeros f = by_depth (λ d. d * 16 ≤ 64) (omega arith) (omega arith) (omega arith) f
 
 -- the raw bytes of an image that is generated over a rectangle, with zeros after them
 module _ (f : Format) (r : Rectangle) (g : ℕ → ℕ → ℕ → ℕ) where
   abbrev image : Image
   image = image_from_fn r f g
 
-  pub padded-room : depth f * (r.height * (r.width * channels f) + 16) ≤ length (raw image r ++ replicate 32 0)
+  pub padded-room : depth f * (r.height * (r.width * channels f) + 16) ≤ length (raw image r ++ replicate 64 0)
   padded-room =
-      omega (arith, length-append (raw image r) (replicate 32 0), length-replicate {A = ℕ} 32 0, length-raw image r, few_zeros f)
+      omega (arith, length-append (raw image r) (replicate 64 0), length-replicate {A = ℕ} 64 0, length-raw image r, few_zeros f)
 
   pub padded-samples : (x y c : ℕ) → x < r.width → y < r.height → c < channels f
-      → pixel_at f (raw image r ++ replicate 32 0) (y * r.width + x) c ≡ g (r.first_column + x) (r.first_row + y) c
+      → pixel_at f (raw image r ++ replicate 64 0) (y * r.width + x) c ≡ g (r.first_column + x) (r.first_row + y) c
   padded-samples x y c column row known =
       let u = r.first_column + x in
       let v = r.first_row + y in
@@ -70,7 +69,7 @@ module _ (f : Format) (r : Rectangle) (g : ℕ → ℕ → ℕ → ℕ) where
       let index : y * r.width + x ≡ offset r u v =
       ap (λ (n : ℕ). n * r.width + x) (omega arith) ∙ ap (λ (n : ℕ). (v - r.first_row) * r.width + n) (omega arith) in
       let below : y * r.width + x < r.width * r.height = omega (arith, mul-add-lt y r.width x r.height row column) in
-      in-first f (raw image r) (replicate 32 0) (r.width * r.height) (length-raw image r) (y * r.width + x) c below known
+      in-first f (raw image r) (replicate 64 0) (r.width * r.height) (length-raw image r) (y * r.width + x) c below known
       ∙ ap (λ (k : ℕ). pixel_at f (raw image r) k c) index
       ∙ raw-samples image r u v c there known
       ∙ at-image_from_fn r f g u v c there known
@@ -95,7 +94,7 @@ module _ (radius : ℕ) (image : Image) (policy : Abyss) (part : Rectangle) (sui
   abbrev read : Image
   read = image_from_fn corner image.format (abyss_at moved policy)
 
-  read-holds : HoldsGrown image radius policy part (raw read read.box ++ replicate 32 0)
+  read-holds : HoldsGrown image radius policy part (raw read read.box ++ replicate 64 0)
   read-holds = record {
     room = padded-room image.format corner (abyss_at moved policy);
     samples = record {
@@ -117,7 +116,7 @@ module _ (radius : ℕ) (image : Image) (policy : Abyss) (part : Rectangle) (sui
   pub holds-grown : (p m q : Image) (bytes : List ℕ) → p ≡ cut image there
       → m ≡ image_from_raw (counted_part radius part p.box) p.format (raw p p.box)
       → q ≡ image_from_fn (spanning 0 0 w h) m.format (abyss_at m policy)
-      → bytes ≡ raw q q.box ++ replicate 32 0 → HoldsGrown image radius policy part bytes
+      → bytes ≡ raw q q.box ++ replicate 64 0 → HoldsGrown image radius policy part bytes
   holds-grown p m q bytes is_part is_moved is_read is =
       let same_moved : m ≡ moved =
       is_moved
@@ -127,34 +126,34 @@ module _ (radius : ℕ) (image : Image) (policy : Abyss) (part : Rectangle) (sui
       is_read
       ∙ ap (λ (i : Image). image_from_fn (spanning 0 0 w h) i.format (abyss_at i policy)) same_moved
       ∙ ap (λ (r : Rectangle). image_from_fn r image.format (abyss_at moved policy)) (corner-is w h wide high) in
-      subst (HoldsGrown image radius policy part) (sym (is ∙ ap (λ (i : Image). raw i i.box ++ replicate 32 0) same_read)) read-holds
+      subst (HoldsGrown image radius policy part) (sym (is ∙ ap (λ (i : Image). raw i i.box ++ replicate 64 0) same_read)) read-holds
 
   pub grown-made : {E : Type 0} (p m q : Image) (made : Result (Vec ℕ Global) E) → p ≡ cut image there
       → m ≡ image_from_raw (counted_part radius part p.box) p.format (raw p p.box)
       → q ≡ image_from_fn (spanning 0 0 w h) m.format (abyss_at m policy)
-      → IfOk made (λ bytes. bytes.items ≡ raw q q.box ++ replicate 32 0) → IfOk made (λ bytes. HoldsGrown image radius policy part bytes.items)
+      → IfOk made (λ bytes. bytes.items ≡ raw q q.box ++ replicate 64 0) → IfOk made (λ bytes. HoldsGrown image radius policy part bytes.items)
   grown-made p m q (Ok bytes) is_part is_moved is_read is = holds-grown p m q bytes.items is_part is_moved is_read is
   grown-made p m q (Err refused) is_part is_moved is_read is = tt
 
   -- the same where all of the grown part is near
-  pub all-holds : there.width ≡ w → there.height ≡ h → HoldsGrown image radius policy part (raw (cut image there) there ++ replicate 32 0)
+  pub all-holds : there.width ≡ w → there.height ≡ h → HoldsGrown image radius policy part (raw (cut image there) there ++ replicate 64 0)
   all-holds width height = record {
     room =
-        subst (λ (n : ℕ). depth image.format * (h * (n * channels image.format) + 16) ≤ length (raw (cut image there) there ++ replicate 32 0)) width
-        (subst (λ (n : ℕ). depth image.format * (n * (there.width * channels image.format) + 16) ≤ length (raw (cut image there) there ++ replicate 32 0)) height
+        subst (λ (n : ℕ). depth image.format * (h * (n * channels image.format) + 16) ≤ length (raw (cut image there) there ++ replicate 64 0)) width
+        (subst (λ (n : ℕ). depth image.format * (n * (there.width * channels image.format) + 16) ≤ length (raw (cut image there) there ++ replicate 64 0)) height
         (padded-room image.format there (at image)));
     samples = record {
       samples = λ x y c column row known.
-          ap (λ (n : ℕ). pixel_at image.format (raw (cut image there) there ++ replicate 32 0) (y * n + x) c) (sym width)
+          ap (λ (n : ℕ). pixel_at image.format (raw (cut image there) there ++ replicate 64 0) (y * n + x) c) (sym width)
           ∙ padded-samples image.format there (at image) x y c (omega (arith, width, column)) (omega (arith, height, row)) known
           ∙ read-all radius image policy part near width height x y c column row;
     };
   }
 
   pub all-made : {E : Type 0} (p : Image) (made : Result (Vec ℕ Global) E) → p ≡ cut image there → there.width ≡ w → there.height ≡ h
-      → IfOk made (λ bytes. bytes.items ≡ raw p p.box ++ replicate 32 0) → IfOk made (λ bytes. HoldsGrown image radius policy part bytes.items)
+      → IfOk made (λ bytes. bytes.items ≡ raw p p.box ++ replicate 64 0) → IfOk made (λ bytes. HoldsGrown image radius policy part bytes.items)
   all-made p (Ok bytes) is_part width height is =
-      subst (HoldsGrown image radius policy part) (sym (is ∙ ap (λ (i : Image). raw i i.box ++ replicate 32 0) is_part)) (all-holds width height)
+      subst (HoldsGrown image radius policy part) (sym (is ∙ ap (λ (i : Image). raw i i.box ++ replicate 64 0) is_part)) (all-holds width height)
   all-made p (Err refused) is_part width height is = tt
 
   pub InLimits-grown : (r : Rectangle) → r ≡ spanning 0 0 w h → radius ≤ 64 → part.width ≤ 64 → part.height ≤ 64 → InLimits r

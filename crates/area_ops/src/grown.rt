@@ -114,10 +114,10 @@ fn moved_patch(patch: Patch, rect: Rect) -> Patch
 ///
 /// `NoMemory` if memory runs out.
 fn padded_bytes(patch: Patch) -> Result<Vec<u8>, NoMemory>
-    ensures { IfOk result (λ bytes. bytes.items ≡ raw patch patch.box ++ replicate 32 0) }
+    ensures { IfOk result (λ bytes. bytes.items ≡ raw patch patch.box ++ replicate 64 0) }
 {
     let mut bytes = patch.into_raw();
-    bytes.reserve_exact(32)?;
-    bytes.extend_from_slice(&[0; 32])?;
+    bytes.reserve_exact(64)?;
+    bytes.extend_from_slice(&[0; 64])?;
     Ok(bytes)
 }

@@ -1,5 +1,4 @@
 use Rattle.std.proofs.Common.{◌≡◌, ℕ, ◌+◌, ◌*◌, length, ◌∙◌, subst, arith}
-use Rattle.pixel_formats.proofs.Zeros.{get_or-zeros}
 use Rattle.area_kernels.specs.Columns.{HoldsColumns}
 use Rattle.area_kernels.proofs.CopiedSamples.{bytes_of_row}
 use Rattle.area_kernels.proofs.MeanLaws.{columns_small, mean_of_columns, mean_rows_more}
@@ -8,7 +7,7 @@ use Rattle.area_kernels.proofs.means.mean_rows.Goals as goal
 pub loop-y-init : goal.loop-y-init
 loop-y-init g c = record {
   columns = λ some. subst (λ (m : ℕ). HoldsColumns g.L.Lanes.depth c.stride-stride.result m 0 c.args.patch.now (g.C.ColumnSums.sum c.sum_rows-columns.result)) c.side-side.ensures c.sum_rows-columns.ensures;
-  clear = λ i le. get_or-zeros 272 i;
+  clear = λ i le. c.zeros-squares.ensures i;
   made = λ x y k column row channel. absurd (omega arith);
 }
 
@@ -30,14 +29,14 @@ loop-y-preserved g c =
     let n = c.args.channels in
     let y = c.loop-y.y in
     let stride = c.stride-stride.result in
-    let divisor = c.new-divisor.result.count in
-    let is_count : divisor ≡ (2 * area.radius + 1) * (2 * area.radius + 1) = c.new-divisor.ensures ∙ (λ t. c.side-side.ensures t * c.side-side.ensures t) in
+    let is_count : g.S.SquareSums.count c.divisor-divisor.result ≡ (2 * area.radius + 1) * (2 * area.radius + 1) =
+    c.divisor-divisor.ensures ∙ (λ t. c.side-side.ensures t * c.side-side.ensures t) in
     record {
       columns = λ more. c.next_columns.ensures more;
       clear = c.mean_row.ensures.clear;
       made = mean_rows_more d area.width area.radius n y c.args.patch.now c.loop-y.dst c.copy_samples.new.to c.mean_row.new.means c.loop-y.invariant.made
           (λ x k column channel.
-          mean_of_columns d area.width area.radius n y stride divisor c.args.patch.now (g.C.ColumnSums.sum c.loop-y.columns) c.mean_row.new.means c.stride-stride.ensures is_count
+          mean_of_columns d area.width area.radius n y stride (g.S.SquareSums.count c.divisor-divisor.result) c.args.patch.now (g.C.ColumnSums.sum c.loop-y.columns) c.mean_row.new.means c.stride-stride.ensures is_count
           (c.loop-y.invariant.columns c.loop-y-test.true) x k column channel (c.mean_row.ensures.made x k column channel))
           c.copy_samples.ensures.here c.copy_samples.ensures.before;
     }

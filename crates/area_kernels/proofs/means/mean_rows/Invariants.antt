@@ -1,4 +1,4 @@
-use Rattle.std.proofs.Common.{◌≡◌, ℕ, ◌+◌, ◌*◌, ◌<◌, ◌≤◌, slice_index}
+use Rattle.std.proofs.Common.{◌≡◌, ℕ, ◌+◌, ◌*◌, ◌<◌, ◌≤◌}
 use Rattle.pixel_formats.specs.Sample.{sample_at}
 use Rattle.area_kernels.specs.Columns.{HoldsColumns}
 use Rattle.area_kernels.proofs.MeanLaws.{mean_at}
@@ -11,6 +11,6 @@ invariant-loop-y g l =
     let w = l.area.width in
     record {
       columns : l.y < l.area.height → HoldsColumns d l.stride (2 * l.area.radius + 1) l.y l.patch (g.C.ColumnSums.sum l.columns);
-      clear : (i : ℕ) → w * n ≤ i → slice_index l.sums i ≡ 0;
+      clear : (i : ℕ) → w * n ≤ i → g.S.SquareSums.sum l.squares i ≡ 0;
       made : (x y c : ℕ) → x < w → y < l.y → c < n → sample_at d l.dst (y * (w * n) + (x * n + c)) ≡ mean_at d w l.area.radius n l.patch x y c;
     }

@@ -1,5 +1,5 @@
 use Rattle.pixel_formats.proofs.Zeros.{get_or-zeros}
-use Rattle.area_kernels.proofs.column_numbers.LongSumsColumnSumsWordLanes.zeros.Goals as goal
+use Rattle.area_kernels.proofs.column_numbers.ByteColumnsColumnSumsByteLanesFourLanes.zeros.Goals as goal
 
 pub returns : goal.returns
 returns c i = get_or-zeros 784 i

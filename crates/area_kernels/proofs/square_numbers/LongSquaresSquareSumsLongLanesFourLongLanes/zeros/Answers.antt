@@ -1,0 +1,5 @@
+use Rattle.pixel_formats.proofs.Zeros.{get_or-zeros}
+use Rattle.area_kernels.proofs.square_numbers.LongSquaresSquareSumsLongLanesFourLongLanes.zeros.Goals as goal
+
+pub returns : goal.returns
+returns c i = get_or-zeros 272 i
