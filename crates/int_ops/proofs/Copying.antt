@@ -62,11 +62,12 @@ crop-copies rect boxes part one inside = record {
 
 -- what a sample of nothing adds
 over-nothing : (format : Format) (s : ℕ) → s ≤ max_sample format → composited (max_sample format) 0 0 s ≡ s
-over-nothing format = by_depth (λ d. (s : ℕ) → s ≤ max_sample_of d → composited (max_sample_of d) 0 0 s ≡ s) (λ s most. omega (arith, most)) (λ s most. omega (arith, most)) format
+over-nothing format =
+    by_depth (λ d. (s : ℕ) → s ≤ max_sample_of d → composited (max_sample_of d) 0 0 s ≡ s) (λ s most. omega (arith, most)) (λ s most. omega (arith, most)) (λ s most. omega (arith, most)) format
 
 nothing-under : (format : Format) (alpha s : ℕ) → s ≤ max_sample format → composited (max_sample format) alpha s 0 ≡ s
 nothing-under format =
-    by_depth (λ d. (alpha s : ℕ) → s ≤ max_sample_of d → composited (max_sample_of d) alpha s 0 ≡ s) (λ alpha s most. omega (arith, most)) (λ alpha s most. omega (arith, most))
+    by_depth (λ d. (alpha s : ℕ) → s ≤ max_sample_of d → composited (max_sample_of d) alpha s 0 ≡ s) (λ alpha s most. omega (arith, most)) (λ alpha s most. omega (arith, most)) (λ alpha s most. omega (arith, most))
     format
 
 nothing-added : (most s : ℕ) → s ≤ most → added most s 0 ≡ s

@@ -13,3 +13,4 @@ mod Empty
 pub mod PutTiles
 pub mod SwitchingAll
 pub mod FourMeans
+pub mod HalfRows

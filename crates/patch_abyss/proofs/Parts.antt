@@ -4,6 +4,7 @@ use Rattle.std.proofs.lemmas.Nat.{mul-add-lt}
 use Rattle.plane_rect.specs.Rectangle.{Rectangle, Inside, offset}
 use Rattle.pixel_formats.specs.Format.{channels, depth, pixel_bytes}
 use Rattle.pixel_formats.specs.declared.format.Format.{Format}
+use Rattle.pixel_formats.proofs.FormatLaws.{sample_equal}
 use Rattle.model_images.specs.Image.{at, is_inside, sample_index}
 use Rattle.model_images.specs.Paint.{painted}
 use Rattle.model_images.proofs.Samples.{Inside_from, inside_where}
@@ -11,7 +12,7 @@ use Rattle.model_images.proofs.Laws.{generated_equal, at_outside}
 use Rattle.model_images.specs.FromRaw.{image_from_raw, pixels_from_raw}
 use Rattle.patch_abyss.specs.Copied.{HasPart, byte_at}
 use Rattle.pixel_formats.proofs.Zeros.{get_or-zeros}
-use Rattle.model_images.proofs.FromRawLaws.{sample_equal, sample_zero, at-image_from_raw}
+use Rattle.model_images.proofs.FromRawLaws.{sample_zero, at-image_from_raw}
 
 -- where the bytes of a sample are
 pub byte_index : (o m d c k : ℕ) → d * (o * m + c) + k ≡ o * (m * d) + (d * c + k)

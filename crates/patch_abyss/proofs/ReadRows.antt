@@ -1,11 +1,11 @@
 -- Which row of a box a row reads under a policy.
-use Rattle.std.proofs.Common.{◌≡◌, ℕ, zero, suc, ◌+◌, ◌-◌, ◌*◌, ◌%◌, ◌<◌, ◌≤◌, max, replicate, take, get_or, ◌⊎◌, inl, inr, refl, sym, ap, ◌∙◌, subst, arith, rules, length-take}
+use Rattle.std.proofs.Common.{◌≡◌, ℕ, zero, suc, ◌+◌, ◌-◌, ◌*◌, ◌%◌, ◌<◌, ◌≤◌, List, max, replicate, take, get_or, ◌⊎◌, inl, inr, refl, sym, ap, ◌∙◌, subst, arith, rules, length-take}
 use Rattle.std.proofs.Math.Nat.{mod-add-mod, add-mod-mod, add-mod_left, mod-eq_of_lt}
 use Rattle.std.proofs.lemmas.Bool.{cases_lt}
-use Rattle.std.proofs.lemmas.List.{get_or-take, get_or_past}
+use Rattle.std.proofs.lemmas.List.{get_or-replicate, get_or-take, get_or_past}
 use Rattle.plane_rect.specs.Rectangle.{Rectangle, Inside, Within}
-use Rattle.pixel_formats.specs.Format.{channels, depth}
-use Rattle.pixel_formats.specs.Row.{pixel_at}
+use Rattle.pixel_formats.specs.Format.{channels, depth, max_sample, max_sample_of, pixel_bytes}
+use Rattle.pixel_formats.specs.Row.{pixel_at, sample_at}
 use Rattle.pixel_formats.specs.declared.format.Format.{Format}
 use Rattle.model_images.specs.Image.{Image, at}
 use Rattle.pixel_formats.specs.declared.abyss.Abyss.{Abyss}
@@ -15,6 +15,7 @@ use Rattle.model_images.proofs.PolicyLaws.{abyss_at-outside, clamp-everywhere, l
 use Rattle.model_images.proofs.Sides.{nearest-within, nearest-inside, wrapped-within, wrapped-inside}
 use Rattle.patch_abyss.specs.Fetched.{outside_sample}
 use Rattle.patch_abyss.specs.Rows.{ReadsNothing, EqualRows, ReadsInOrder, OnOneSide}
+use Rattle.pixel_formats.proofs.FormatLaws.{by_depth, few_bytes, sample_fits}
 use Rattle.pixel_formats.proofs.Zeros.{get_or-zeros}
 use Rattle.model_images.proofs.FromRawLaws.{sample_zero}
 
@@ -193,7 +194,39 @@ outside_zero policy format c is =
     ]
 
 pub zero_pixel : (policy : Abyss) (format : Format) (n c : ℕ) → (policy ≡ None) ⊎ ((policy ≡ Clamp) ⊎ (policy ≡ Loop)) →
-    pixel_at format (take n (replicate 8 0)) 0 c ≡ outside_sample policy format c
+    pixel_at format (take n (replicate 16 0)) 0 c ≡ outside_sample policy format c
 zero_pixel policy format n c is =
-    sample_zero (depth format) (take n (replicate 8 0)) (0 * channels format + c) (λ k below. zero_byte n 8 _)
+    sample_zero (depth format) (take n (replicate 16 0)) (0 * channels format + c) (λ k below. zero_byte n 16 _)
     ∙ sym (outside_zero policy format c is)
+
+-- ---- pixels of the largest samples
+
+-- each byte of a sample is 255
+abbrev IsFull : ℕ → List ℕ → ℕ → Type 0
+IsFull d row i = (k : ℕ) → k < d → get_or row (d * i + k) 0 ≡ 255
+
+full_byte : (d : ℕ) (row : List ℕ) (i k at : ℕ) → IsFull d row i → k < d → at ≡ d * i + k → get_or row at 0 ≡ 255
+full_byte d row i k at full below is = ap (λ (n : ℕ). get_or row n 0) is ∙ full k below
+
+full_sample : (format : Format) (row : List ℕ) (i : ℕ) → IsFull (depth format) row i → sample_at (depth format) row i ≡ max_sample format
+full_sample format row i =
+    by_depth (λ d. IsFull d row i → sample_at d row i ≡ max_sample_of d)
+    (λ full. full_byte 1 row i 0 i full (omega arith) (omega arith))
+    (λ full.
+    let byte = λ (k at : ℕ). full_byte 2 row i k at full in
+    omega (arith, byte 0 (2 * i) (omega arith) (omega arith), byte 1 (2 * i + 1) (omega arith) (omega arith)))
+    (λ full.
+    let byte = λ (k at : ℕ). full_byte 4 row i k at full in
+    let low : get_or row (4 * i) 0 + 256 * get_or row (4 * i + 1) 0 ≡ 65535 =
+    omega (arith, byte 0 (4 * i) (omega arith) (omega arith), byte 1 (4 * i + 1) (omega arith) (omega arith)) in
+    omega (arith, low, byte 2 (4 * i + 1 + 1) (omega arith) (omega arith), byte 3 (4 * i + 1 + 1 + 1) (omega arith) (omega arith)))
+    format
+
+pub white_pixel : (policy : Abyss) (format : Format) (n c : ℕ) → policy ≡ White → n ≡ pixel_bytes format → c < channels format →
+    pixel_at format (take n (replicate 16 255)) 0 c ≡ outside_sample policy format c
+white_pixel policy format n c white is known =
+    full_sample format (take n (replicate 16 255)) (0 * channels format + c)
+    (λ k below.
+    let there : depth format * (0 * channels format + c) + k < n = omega (arith, is, below, sample_fits format 1 0 c (omega arith) known) in
+    get_or-take n (replicate 16 255) _ 0 there ∙ get_or-replicate 16 _ 255 0 (omega (arith, there, is, few_bytes format)))
+    ∙ ap (λ (p : Abyss). outside_sample p format c) (sym white)

@@ -7,12 +7,13 @@ use Rattle.plane_rect.specs.Rectangle.{Rectangle, Includes, Within, area, end_ro
 use Rattle.pixel_formats.specs.Format.{channels, depth, pixel_bytes}
 use Rattle.pixel_formats.specs.Row.{pixel_at}
 use Rattle.pixel_formats.specs.declared.format.Format.{Format}
+use Rattle.pixel_formats.proofs.FormatLaws.{sample_equal}
 use Rattle.model_images.specs.Image.{at}
 use Rattle.model_images.specs.FromRaw.{image_from_raw}
 use Rattle.patch_abyss.specs.Copied.{AreRows, row_byte}
 use Rattle.patch_abyss.specs.declared.rows.Rows.{Rows}
 use Rattle.patch_abyss.proofs.CopiedRows.{before_position, byte_of_part}
-use Rattle.model_images.proofs.FromRawLaws.{sample_equal, at-image_from_raw}
+use Rattle.model_images.proofs.FromRawLaws.{at-image_from_raw}
 use Rattle.patch_abyss.proofs.Parts.{byte_index, byte_within}
 
 -- pixel number k of one row has the bytes of pixel number j of another, n each

@@ -131,9 +131,9 @@ pub(crate) fn outside_pixel(abyss: Abyss, format: Format) -> &'static [u8]
 {
     let count = format.pixel_bytes() as usize;
     match abyss {
-        Abyss::None | Abyss::Clamp | Abyss::Loop => &[0; 8][..count],
+        Abyss::None | Abyss::Clamp | Abyss::Loop => &[0; 16][..count],
         Abyss::Black => black_pixel(format),
-        Abyss::White => &[255; 8][..count],
+        Abyss::White => &[255; 16][..count],
     }
 }
 
@@ -146,11 +146,15 @@ fn black_pixel(format: Format) -> &'static [u8]
     match format {
         Format::Y8 => &[0],
         Format::YA8 => &[0, 255],
-        Format::RGB8 => &[0, 0, 0],
+        Format::RGB8 => &[0; 3],
         Format::RGBA8 => &[0, 0, 0, 255],
         Format::Y16 => &[0, 0],
         Format::YA16 => &[0, 0, 255, 255],
-        Format::RGB16 => &[0, 0, 0, 0, 0, 0],
+        Format::RGB16 => &[0; 6],
         Format::RGBA16 => &[0, 0, 0, 0, 0, 0, 255, 255],
+        Format::Y32 => &[0; 4],
+        Format::YA32 => &[0, 0, 0, 0, 255, 255, 255, 255],
+        Format::RGB32 => &[0; 12],
+        Format::RGBA32 => &[0, 0, 0, 0, 0, 0, 0, 0, 0, 0, 0, 0, 255, 255, 255, 255],
     }
 }

@@ -14,6 +14,7 @@ ghost use Rattle.patch_abyss.specs.Rows.{HasWholeRows};
 
 use crate::rows::{LONG_ROW, Rows, copy_meet, cut_rows};
 use alloc_basics::NoMemory;
+use byteorder::{ByteOrder, LittleEndian};
 use pixel_formats::Format;
 use plane_rect::{Rect, TileAt, plane_index};
 use std::alloc::{AllocError, Global};
@@ -317,8 +318,6 @@ pub fn sample_at(format: Format, bytes: &[u8], index: usize) -> u32
     requires { depth format * (index + 1) ≤ length bytes.now }
     ensures { result ≡ sample_at (depth format) bytes.now index }
 {
-    match format.depth() {
-        1 => u32::from(bytes[index]),
-        _ => u32::from(bytes[2 * index]) + 256 * u32::from(bytes[2 * index + 1]),
-    }
+    let depth = format.depth() as usize;
+    LittleEndian::read_uint(&bytes[depth * index..], depth) as u32
 }

@@ -34,7 +34,7 @@ impl Rows {
     pub fn of_part(rect: &Rect, part: &Rect, pixel: usize) -> Rows
         requires part { Includes rect.now part.now }
         requires some { false ≡ is_empty part.now }
-        requires pixel { pixel ≤ 8 }
+        requires pixel { pixel ≤ 16 }
         ensures start { result.start ≡ offset rect.now part.now.first_column part.now.first_row * pixel }
         ensures stride { result.stride ≡ rect.now.width * pixel }
     {
@@ -58,7 +58,7 @@ impl Rows {
 
 /// Copies the positions that are in both rectangles, of pixels of so many bytes.
 pub(crate) fn copy_meet(to: &mut [u8], to_rect: &Rect, from: &[u8], from_rect: &Rect, pixel: usize)
-    requires pixel { pixel ≤ 8 }
+    requires pixel { pixel ≤ 16 }
     requires to { length to.old ≡ area to_rect.now * pixel }
     requires from { length from.now ≡ area from_rect.now * pixel }
     ensures len { length to.new ≡ length to.old }

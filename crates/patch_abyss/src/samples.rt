@@ -7,6 +7,7 @@ ghost use Rattle.model_images.specs.Raw.{sample_bytes};
 ghost use Rattle.patch_abyss.specs.Samples.{IsSampleOf};
 
 use alloc_basics::NoMemory;
+use byteorder::{ByteOrder, LittleEndian};
 use pixel_formats::Format;
 use std::alloc::Global;
 
@@ -31,9 +32,8 @@ fn push_sample(bytes: &mut Vec<u8>, format: Format, sample: u32) -> Result<(), N
     requires { IsSampleOf format sample }
     ensures { IfOk result (λ _. bytes.new.items ≡ bytes.old.items ++ sample_bytes (depth format) sample) }
 {
-    match format.depth() {
-        1 => bytes.push(sample as u8)?,
-        _ => bytes.extend_from_slice(&[(sample % 256) as u8, (sample / 256) as u8])?,
-    }
+    let mut encoded = [0; 4];
+    LittleEndian::write_u32(&mut encoded, sample);
+    bytes.extend_from_slice(&encoded[..format.depth() as usize])?;
     Ok(())
 }

@@ -1,9 +1,12 @@
 //! The formulas of samples.
 
-ghost use Rattle.std.specs.Prelude.{◌≡◌, ℕ, ◌<◌, ◌≤◌, ◌^◌};
+ghost use Rattle.std.specs.Prelude.{◌≡◌, ℕ, ◌<◌, ◌≤◌};
 ghost use Rattle.pixel_formats.specs.Average.{mean_of_four, mean_of_three};
 ghost use Rattle.pixel_formats.specs.{Add.added, Convert.rescaled, Gain.gained, Invert.inverted, Mask.scaled_by, Over.composited};
+ghost use Rattle.pixel_formats.specs.Format.{depth, max_sample};
 ghost use Rattle.pixel_formats.specs.Threshold.{thresholded};
+
+use pixel_formats::Format;
 
 /// Returns a color subtracted from its cap.
 pub fn inverted(cap: u32, color: u32) -> u32
@@ -74,14 +77,17 @@ pub fn mean_of_three(a: u32, b: u32, c: u32) -> u32
     ((sum + 1) / 3) as u32
 }
 
-/// Returns a sample of so many bytes in as many others, rounded to the nearest.
-pub fn rescaled(from: u32, to: u32, sample: u32) -> u32
-    requires { sample < 2 ^ 16 }
-    ensures { result ≡ rescaled from to sample }
+/// Returns a sample of one format at the depth of another, rounded to the nearest.
+pub fn rescaled(from: Format, to: Format, sample: u32) -> u32
+    requires { sample ≤ max_sample from }
+    ensures { result ≡ rescaled (depth from) (depth to) sample }
 {
-    match (from, to) {
-        (1, 2) => sample * 257,
-        (2, 1) => ((u64::from(sample) * 255 + 32_767) / 65_535) as u32,
-        _ => sample,
-    }
+    let (largest, wanted) = (u64::from(from.max()), u64::from(to.max()));
+    let sample = u64::from(sample);
+    let rescaled = if largest <= wanted {
+        sample * (wanted / largest)
+    } else {
+        (sample * wanted + largest / 2) / largest
+    };
+    rescaled as u32
 }

@@ -50,7 +50,7 @@ pub(crate) fn converted_at(
     ensures { result ≡ converted_pixel picture.now.format to (at picture.now column row) channel }
 {
     let sample = rechannelled_at(picture, to, column, row, channel);
-    rescaled(picture.format().depth(), to.depth(), sample)
+    rescaled(picture.format(), to, sample)
 }
 
 /// Returns the sample of a pixel with the channels of another format, at its own depth.

@@ -1,6 +1,6 @@
 //! Images and their raw bytes.
 
-ghost use Rattle.std.specs.Prelude.{◌≡◌, ◌<◌, ◌≤◌, ◌^◌, IfOk, length, slice_index};
+ghost use Rattle.std.specs.Prelude.{◌≡◌, ◌+◌, ◌*◌, ◌<◌, ◌≤◌, ◌^◌, ◌++◌, IfOk, length, slice_index};
 ghost use Rattle.std.specs.List.{flat_map};
 ghost use Rattle.plane_rect.specs.Rectangle.{InLimits};
 ghost use Rattle.pixel_formats.specs.Format.{depth, max_sample};
@@ -13,6 +13,7 @@ ghost use Rattle.plain_images.specs.Picture.{AreSamples};
 use crate::picture::{Picture, Samples, draw, sample_all};
 use crate::policies::Read;
 use alloc_basics::NoMemory;
+use byteorder::{ByteOrder, LittleEndian};
 use pixel_formats::{Abyss, Format};
 use plane_rect::Rect;
 use std::alloc::Global;
@@ -45,7 +46,7 @@ impl Samples for RawBytes<'_> {
 }
 
 /// Returns the image that the raw bytes of a rectangle encode: its pixels row by row, each row from the
-/// left, the less significant byte of a sample first.
+/// left, the least significant byte of a sample first.
 ///
 /// # Errors
 ///
@@ -100,15 +101,24 @@ fn to_bytes(alloc: Global, format: Format, samples: &[u32]) -> Result<Vec<u8>, N
 {
     let mut bytes = Vec::new(alloc);
     for sample in samples {
-        match format.depth() {
-            1 => bytes.push(*sample as u8)?,
-            _ => {
-                bytes.push((*sample % 256) as u8)?;
-                bytes.push((*sample / 256) as u8)?;
-            }
-        }
+        push_sample(&mut bytes, format, *sample)?;
     }
     Ok(bytes)
+}
+
+/// Adds the raw bytes of a sample.
+///
+/// # Errors
+///
+/// No memory was left.
+fn push_sample(bytes: &mut Vec<u8>, format: Format, sample: u32) -> Result<(), NoMemory>
+    requires { sample ≤ max_sample format }
+    ensures { IfOk result (λ _. bytes.new.items ≡ bytes.old.items ++ sample_bytes (depth format) sample) }
+{
+    let mut encoded = [0; 4];
+    LittleEndian::write_u32(&mut encoded, sample);
+    bytes.extend_from_slice(&encoded[..format.depth() as usize])?;
+    Ok(())
 }
 
 /// Returns a sample of raw bytes, by its index: 0 after the last.
@@ -119,8 +129,19 @@ fn sample_at(format: Format, bytes: &[u8], index: usize) -> u32
 {
     match format.depth() {
         1 => byte_at(bytes, index),
-        _ => byte_at(bytes, 2 * index) + 256 * byte_at(bytes, 2 * index + 1),
+        2 => two_bytes_at(bytes, 2 * index),
+        4 => two_bytes_at(bytes, 4 * index) + 65_536 * two_bytes_at(bytes, 4 * index + 2),
+        _ => unreachable!(),
     }
+}
+
+/// Returns the number that two bytes encode from an index on.
+fn two_bytes_at(bytes: &[u8], index: usize) -> u32
+    requires { index + 1 < 2 ^ 64 }
+    ensures value { result ≡ slice_index bytes.now index + 256 * slice_index bytes.now (index + 1) }
+    ensures range { result < 65536 }
+{
+    byte_at(bytes, index) + 256 * byte_at(bytes, index + 1)
 }
 
 /// Returns a byte, and 0 after the last.

@@ -12,7 +12,7 @@ use Rattle.pixel_formats.specs.Row.{HasPixels, Pixel, pixel_at}
 use Rattle.pixel_formats.specs.declared.format.Format.{Format}
 use Rattle.model_images.specs.FromRaw.{byte_count, image_from_raw}
 use Rattle.model_images.specs.Image.{Image, at, image_from_fn}
-use Rattle.model_images.proofs.FromRawLaws.{sample_equal}
+use Rattle.pixel_formats.proofs.FormatLaws.{sample_equal}
 use Rattle.model_operations.specs.Moves.{mirrored}
 use Rattle.model_operations.specs.Values.{flipped_pixel}
 use Rattle.sample_rows.proofs.RowLaws.{pixel_count_of}

@@ -7,7 +7,7 @@ use Rattle.pixel_formats.specs.Format.{channels, depth, pixel_bytes}
 use Rattle.pixel_formats.specs.Row.{HasPixels, Pixel, pixel_at, pixel_count}
 use Rattle.pixel_formats.specs.declared.format.Format.{Format}
 use Rattle.pixel_formats.specs.declared.format.Format.TheVariants.{Y8}
-use Rattle.model_images.proofs.FromRawLaws.{sample_equal}
+use Rattle.pixel_formats.proofs.FormatLaws.{sample_equal}
 use Rattle.sample_rows.proofs.RowLaws.{pixel_count_of}
 use Rattle.patch_abyss.proofs.Parts.{byte_index, byte_within}
 

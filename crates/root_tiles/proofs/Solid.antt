@@ -1,5 +1,5 @@
 -- Prefixes of tiles of one pixel.
-use Rattle.std.proofs.Common.{◌≡◌, ℕ, zero, suc, ◌+◌, ◌*◌, ◌/◌, ◌%◌, ◌<◌, ◌≤◌, List, [], ◌∷◌, cond, length, take, get_or, Option, Some, None, Result, refl, sym, ap, ap₂, ◌∙◌, arith}
+use Rattle.std.proofs.Common.{◌≡◌, ℕ, zero, suc, ◌+◌, ◌*◌, ◌/◌, ◌%◌, ◌<◌, ◌≤◌, List, [], ◌∷◌, cond, length, take, get_or, Option, Some, None, Result, refl, sym, ap, ◌∙◌, arith}
 use Rattle.std.specs.Option.{option_map}
 use Rattle.std.specs.Result.{OnOk}
 use Rattle.std.proofs.Math.Nat.{mul-le-mul}
@@ -10,7 +10,7 @@ use Rattle.plane_rect.proofs.RectangleLaws.{offset-below, offset-index}
 use Rattle.pixel_formats.specs.Format.{channels, depth, pixel_bytes}
 use Rattle.pixel_formats.specs.Row.{Pixel, sample_at}
 use Rattle.pixel_formats.specs.declared.format.Format.{Format}
-use Rattle.pixel_formats.proofs.FormatLaws.{by_depth, sample_fits}
+use Rattle.pixel_formats.proofs.FormatLaws.{sample_equal, sample_fits}
 use Rattle.model_images.specs.FromRaw.{byte_count, pixels_from_raw}
 use Rattle.model_images.specs.Image.{Image, at, image_from_fn, is_inside}
 use Rattle.model_images.specs.Paint.{painted}
@@ -40,11 +40,8 @@ abbrev IsTaken : ℕ → Type 0
 IsTaken d = (xs : List ℕ) (n i : ℕ) → d * (i + 1) ≤ n → sample_at d (take n xs) i ≡ sample_at d xs i
 
 pub sample-taken : (format : Format) → IsTaken (depth format)
-sample-taken format =
-    by_depth IsTaken
-    (λ xs n i less. get-taken xs n i (omega (arith, less)))
-    (λ xs n i less. ap₂ (λ (a b : ℕ). a + 256 * b) (get-taken xs n (2 * i) (omega (arith, less))) (get-taken xs n (2 * i + 1) (omega (arith, less))))
-    format
+sample-taken format xs n i less =
+    sample_equal (depth format) (take n xs) xs i i (λ k below. get-taken xs n (depth format * i + k) (omega (arith, below, less)))
 
 fits : (format : Format) (count : ℕ) → count ≤ 4096 → count * pixel_bytes format ≤ 4096 * pixel_bytes format
 fits format count few = mul-le-mul {m₁ = pixel_bytes format} {m₂ = pixel_bytes format} few (omega arith)

@@ -9,11 +9,10 @@ use Rattle.plane_rect.specs.Rectangle.{Inside, Rectangle, hull, offset}
 use Rattle.plane_rect.proofs.RectangleLaws.{offset-below}
 use Rattle.pixel_formats.specs.Format.{channels, depth, pixel_bytes}
 use Rattle.pixel_formats.specs.declared.format.Format.{Format}
-use Rattle.pixel_formats.proofs.FormatLaws.{sample_fits}
+use Rattle.pixel_formats.proofs.FormatLaws.{sample_equal, sample_fits}
 use Rattle.model_images.specs.FromRaw.{byte_count, pixels_from_raw}
 use Rattle.model_images.specs.Image.{Image, at, is_inside}
 use Rattle.model_images.specs.Paint.{no_image, painted}
-use Rattle.model_images.proofs.FromRawLaws.{sample_equal}
 use Rattle.model_images.proofs.Laws.{generated_equal}
 use Rattle.model_images.proofs.Painting.{at-painted, painted-outside}
 use Rattle.model_images.proofs.Positions.{not_inside}

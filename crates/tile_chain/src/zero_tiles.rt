@@ -9,8 +9,8 @@ use std::alloc::Global;
 use tile_cow::Tile;
 
 /// How many lengths of zero tiles are kept: as many as there are lengths of tiles of images, which are
-/// 4,096, 8,192, 12,288, 16,384, 24,576 and 32,768 bytes.
-const MAX_LENGTHS: usize = 6;
+/// 4,096, 8,192, 12,288, 16,384, 24,576, 32,768, 49,152 and 65,536 bytes.
+const MAX_LENGTHS: usize = 8;
 
 /// Tiles of zeros, one of each length that was asked for, which all who ask for it share.
 #[derive(Drop)]
@@ -18,7 +18,7 @@ pub(crate) struct ZeroTiles {
     tiles: Vec<Tile>,
     alloc: Global,
     ghost zero: { AreZero tiles.items },
-    ghost few: { vec_len tiles ≤ 6 },
+    ghost few: { vec_len tiles ≤ 8 },
 }
 
 impl ZeroTiles {
