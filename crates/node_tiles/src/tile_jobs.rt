@@ -24,20 +24,6 @@ use std::alloc::Global;
 use std::marker::Model;
 use tile_cow::Tile;
 
-/// How many pixels a tile has.
-const TILE_PIXELS: u64 = 64 * 64;
-
-/// How many bytes a pixel of the tile that a job makes is taken to have, near the mean of the eight formats.
-const MADE_BYTES: u64 = 4;
-
-/// How many bytes of its windows an operation goes through in a nanosecond, at least: an area operation takes some 0.1 ns for
-/// each, and a pointwise one less.
-const READ_BYTES_PER_NANOSECOND: u64 = 10;
-
-/// How many bytes of a tile are written in a nanosecond, at least: mostly they are new memory, of which the system gives out
-/// a page in some 2 us.
-const MADE_BYTES_PER_NANOSECOND: u64 = 2;
-
 /// A tile of a node that waits to be made, with all that this takes: the windows of its inputs and a permit. So jobs
 /// are carried out in any order, and on any thread. A clause sees the job without its permit.
 #[derive(Drop)]
@@ -49,6 +35,7 @@ pub struct TileJob<P> {
     part: Rect,
     windows: Vec<Window>,
     permit: P,
+    nanoseconds: u64,
 }
 
 impl<P> Model for TileJob<P> {
@@ -65,16 +52,9 @@ impl<P> Model for TileJob<P> {
 }
 
 impl<P> TileJob<P> {
-    /// Returns about how many nanoseconds it takes to carry the job out. Takes time in proportion to the number of
-    /// inputs.
+    /// Returns about how many nanoseconds it takes to carry the job out, as the kit said when it was made.
     pub fn nanoseconds(&self) -> u64 {
-        let mut read: u64 = 0;
-        for window in &self.windows {
-            let tiles = window.tiles.as_slice().len() as u64;
-            let tile_bytes = TILE_PIXELS * window.format.pixel_bytes() as u64;
-            read = read.saturating_add(tiles.saturating_mul(tile_bytes));
-        }
-        read / READ_BYTES_PER_NANOSECOND + TILE_PIXELS * MADE_BYTES / MADE_BYTES_PER_NANOSECOND
+        self.nanoseconds
     }
 }
 
@@ -126,6 +106,7 @@ pub fn tile_job<H: ChainMeaning, S: SourceTiles<H>, K: OpKit>(
     let inputs = &inputs[node as usize];
     let part = tile_part(&at, &fact.bounds);
     let windows = input_windows(kit, alloc, nodes, inputs, held, sources, chain, op, part)?;
+    let nanoseconds = kit.nanoseconds(op, &windows);
     let permit = kit.take(purse).unwrap();
     Ok(TileJob {
         node,
@@ -133,6 +114,7 @@ pub fn tile_job<H: ChainMeaning, S: SourceTiles<H>, K: OpKit>(
         part,
         windows,
         permit,
+        nanoseconds,
     })
 }
 

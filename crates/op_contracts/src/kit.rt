@@ -14,6 +14,20 @@ use pixel_formats::Format;
 use plane_rect::Rect;
 use std::alloc::Global;
 
+/// How many pixels a tile has.
+const TILE_PIXELS: u64 = 64 * 64;
+
+/// How many bytes a pixel of the result is taken to have, near the mean of the formats.
+const MADE_BYTES: u64 = 4;
+
+/// How many bytes of its windows an operation goes through in a nanosecond, at least: an area operation takes some 0.1 ns for
+/// each, and a pointwise one less.
+const READ_BYTES_PER_NANOSECOND: u64 = 10;
+
+/// How many bytes of a tile are written in a nanosecond, at least: mostly they are new memory, of which the system gives out
+/// a page in some 2 us.
+const MADE_BYTES_PER_NANOSECOND: u64 = 2;
+
 /// Carries out the operations of a type. Each of its answers is what the type means, so two kits with
 /// one type of operations answer the same. The lists of formats, boxes and windows that a call is handed
 /// have a member for each input.
@@ -69,6 +83,20 @@ pub trait OpKit {
         ensures { IfSome result (CopiesInput Self.Op.meanings op.now boxes.now out) }
     {
         None
+    }
+
+    /// Returns about how many nanoseconds it takes to apply an operation to what windows show, by which it is decided among
+    /// how many workers a request is split: it changes no result. By what the tiles of the windows have in bytes, unless
+    /// the kit says otherwise, as it should of an operation that is dear although it reads little. Takes time in
+    /// proportion to the number of windows.
+    fn nanoseconds(&self, _op: &Self::Op, windows: &[Window]) -> u64 {
+        let mut read: u64 = 0;
+        for window in windows {
+            let tiles = window.tiles.as_slice().len() as u64;
+            let tile_bytes = TILE_PIXELS * window.format.pixel_bytes() as u64;
+            read = read.saturating_add(tiles.saturating_mul(tile_bytes));
+        }
+        read / READ_BYTES_PER_NANOSECOND + TILE_PIXELS * MADE_BYTES / MADE_BYTES_PER_NANOSECOND
     }
 
     /// Returns how many permits are left in a purse.
