@@ -11,7 +11,7 @@ use Rattle.pixel_formats.specs.declared.abyss.Abyss.{Abyss}
 use Rattle.pixel_formats.specs.declared.abyss.Abyss.TheVariants as policies
 use Rattle.pixel_formats.specs.Format.{word}
 use Rattle.pixel_formats.specs.declared.format.Format.{Format}
-use Rattle.pixel_formats.specs.declared.format.Format.TheVariants.{Y8, YA8, RGB8, RGBA8, Y16, YA16, RGB16, RGBA16}
+use Rattle.pixel_formats.specs.declared.format.Format.TheVariants.{Y8}
 use Rattle.script_words.specs.Words.{is_word}
 use Rattle.script_words.proofs.Passing.{and_second, and_both, and_first}
 use Rattle.script_words.proofs.NumberLaws.{is_word-decimal, is_word-signed_decimal, length-decimal, length-signed_decimal}
@@ -73,13 +73,7 @@ short-file (byte ∷ bytes) is =
 
 format_fits : (format : Format) → Fits (word format ∷ []) 65
 format_fits Y8 = (refl, omega arith)
-format_fits YA8 = (refl, omega arith)
-format_fits RGB8 = (refl, omega arith)
-format_fits RGBA8 = (refl, omega arith)
-format_fits Y16 = (refl, omega arith)
-format_fits YA16 = (refl, omega arith)
-format_fits RGB16 = (refl, omega arith)
-format_fits RGBA16 = (refl, omega arith)
+format_fits _ = (refl, omega arith)
 
 policy_fits : (policy : Abyss) → Fits (policy_word policy ∷ []) 65
 policy_fits policies.None = (refl, omega arith)

@@ -85,6 +85,26 @@ numbers_fit-values (kind ∷ others) values small =
     (ap (λ (field : Option Field). not (is_number kind) || is_some field) (found-word kind values.0 (and_first _ _ small)) ∙ or-true (not (is_number kind)))
     (numbers_fit-values others values.1 (and_second (is_small kind) _ small))
 
+-- ---- where fields are read, numbers fit
+
+rest_read : (field : Field) (rest : Result (List Field) ScriptCause) (read : List Field) → (rest >>= λ more. Ok (field ∷ more)) ≡ Ok read → (more : List Field) × (rest ≡ Ok more)
+rest_read field (Err cause) read is = absurd (cc)
+rest_read field (Ok more) read is = (more, refl)
+
+word_read : (named : Option Field) (rest : Result (List Field) ScriptCause) (read : List Field) → (ok_or named causes.Name >>= λ field. rest >>= λ more. Ok (field ∷ more)) ≡ Ok read
+    → (is_some named ≡ true) × ((more : List Field) × (rest ≡ Ok more))
+word_read None rest read is = absurd (cc)
+word_read (Some field) rest read is = (refl, rest_read field rest read is)
+
+pub numbers_fit_read : (all : List Kind) (words : List (List ℕ)) (read : List Field) → fields_of_words all words ≡ Ok read → numbers_fit all words ≡ true
+numbers_fit_read all [] read is = refl
+numbers_fit_read [] (word ∷ words) read is = refl
+numbers_fit_read (kind ∷ others) (word ∷ words) read is =
+    let named = word_read (found kind word) (fields_of_words others words) read is in
+    and_both (fits_as_number kind word) (numbers_fit others words)
+    (ap (λ (some : Bool). not (is_number kind) || some) named.0 ∙ or-true (not (is_number kind)))
+    (numbers_fit_read others words named.1.0 named.1.1)
+
 -- ---- what is read is in its range
 
 -- a field is one of a kind

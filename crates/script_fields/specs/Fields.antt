@@ -8,7 +8,7 @@ use Rattle.plane_rect.specs.Name.{is_name}
 use Rattle.plane_rect.specs.declared.rect.RectRefused.{RectRefused}
 use Rattle.pixel_formats.specs.Format.{word}
 use Rattle.pixel_formats.specs.declared.format.Format.{Format}
-use Rattle.pixel_formats.specs.declared.format.Format.TheVariants.{Y8, YA8, RGB8, RGBA8, Y16, YA16, RGB16, RGBA16}
+use Rattle.pixel_formats.specs.declared.format.Format.TheVariants.{Y8, YA8, RGB8, RGBA8, Y16, YA16, RGB16, RGBA16, Y32, YA32, RGB32, RGBA32}
 use Rattle.pixel_formats.specs.declared.abyss.Abyss.{Abyss}
 use Rattle.outside_io.specs.FileName.{is_file_name}
 use Rattle.script_words.specs.Numbers.{natural_in, integer_in}
@@ -49,7 +49,7 @@ prefix_named word = if nat_le (length word) max_prefix_bytes && is_file_name wor
 
 -- all formats
 abbrev pub formats : List Format
-formats = Y8 ∷ YA8 ∷ RGB8 ∷ RGBA8 ∷ Y16 ∷ YA16 ∷ RGB16 ∷ RGBA16 ∷ []
+formats = Y8 ∷ YA8 ∷ RGB8 ∷ RGBA8 ∷ Y16 ∷ YA16 ∷ RGB16 ∷ RGBA16 ∷ Y32 ∷ YA32 ∷ RGB32 ∷ RGBA32 ∷ []
 
 -- the format that a word names
 abbrev pub format_named : List ℕ → Option Format

@@ -11,7 +11,7 @@ mod rectangles;
 pub use cause::{LineAnswer, ScriptAnswer, ScriptCause};
 pub use field::{Field, put_fields, put_names, put_samples};
 pub use kind::{Kind, numbers_fit, read_fields, word_at};
-pub use limits::{is_level_rect, may_watch};
+pub use limits::{are_of, kinds_from, may_watch};
 pub use lists::{names_in, naturals_in};
 pub use rectangles::RectNumbers;
 pub use script_words::FileName;

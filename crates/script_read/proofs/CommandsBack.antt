@@ -24,7 +24,7 @@ use Rattle.script_fields.specs.declared.kind.Kind.TheVariants as kinds
 use Rattle.script_read.specs.Commands.{command_of}
 use Rattle.script_read.specs.Forms.{form_of, kinds_for, kinds_of, move, rectangle_then, sample}
 use Rattle.script_read.specs.Keywords.{keyword_of, keyword_word}
-use Rattle.script_read.specs.Limits.{InRange, IsInLimits, input_count}
+use Rattle.script_read.specs.Limits.{HasArguments, HasPixel, IsInLimits, input_count}
 use Rattle.script_read.specs.OperationWords.{operation_of, operation_word}
 use Rattle.script_read.specs.Script.{command_by, command_of_words}
 use Rattle.script_read.specs.Spelling.{HasValidFields, arguments, command_words, keyword, word_of}
@@ -141,79 +141,79 @@ module _ (name : List ℕ) (named : IsTrue (is_name name)) where
   abbrev Spelled : OpWords → List (List ℕ) → Type 0
   Spelled op inputs = IsSpelled (Node name op inputs)
 
-  node_spelled : (op : OpWords) (inputs : List (List ℕ)) → InRange op → length inputs ≡ input_count op → AreValid (arguments op) → AreNames inputs → Spelled op inputs
-  node_spelled (Source buffer) inputs range number are names = with_none inputs (Spelled (Source buffer)) number
+  node_spelled : (op : OpWords) (inputs : List (List ℕ)) → HasArguments op → HasPixel op → length inputs ≡ input_count op → AreValid (arguments op) → AreNames inputs → Spelled op inputs
+  node_spelled (Source buffer) inputs range pixel number are names = with_none inputs (Spelled (Source buffer)) number
       (record { count = 3; values = ((name, named), (operation_word operations.Source, ((buffer, are.0), tt))); counted = refl; short = assumption (operation_fits operations.Source); words = refl; made = refl })
-  node_spelled (Compute (Color format rect samples)) inputs range number are names = with_none inputs (Spelled (Compute (Color format rect samples))) number
+  node_spelled (Compute (Color format rect samples)) inputs range pixel number are names = with_none inputs (Spelled (Compute (Color format rect samples))) number
       (by_pixel (λ (all : List ℕ). Spelled (Compute (Color format rect all)) [])
-      (λ a is_a. record { count = 8; values = ((name, named), (operation_word operations.Color, (format, with_rect rect are.1.0 (sample ∷ []) (sample_value a is_a, tt)))); counted = refl; short = assumption (operation_fits operations.Color); words = refl; made = rw (rect_of-numbers rect are.1.0 range.0) refl })
-      (λ a b is_a is_b. record { count = 9; values = ((name, named), (operation_word operations.Color, (format, with_rect rect are.1.0 (sample ∷ sample ∷ []) (sample_value a is_a, (sample_value b is_b, tt))))); counted = refl; short = assumption (operation_fits operations.Color); words = refl; made = rw (rect_of-numbers rect are.1.0 range.0) refl })
-      (λ a b c is_a is_b is_c. record { count = 10; values = ((name, named), (operation_word operations.Color, (format, with_rect rect are.1.0 (sample ∷ sample ∷ sample ∷ []) (sample_value a is_a, (sample_value b is_b, (sample_value c is_c, tt)))))); counted = refl; short = assumption (operation_fits operations.Color); words = refl; made = rw (rect_of-numbers rect are.1.0 range.0) refl })
-      (λ a b c d is_a is_b is_c is_d. record { count = 11; values = ((name, named), (operation_word operations.Color, (format, with_rect rect are.1.0 (sample ∷ sample ∷ sample ∷ sample ∷ []) (sample_value a is_a, (sample_value b is_b, (sample_value c is_c, (sample_value d is_d, tt))))))); counted = refl; short = assumption (operation_fits operations.Color); words = refl; made = rw (rect_of-numbers rect are.1.0 range.0) refl })
-      samples range.1)
-  node_spelled (Compute (Checker format rect size v1 v2)) inputs range number are names = with_none inputs (Spelled (Compute (Checker format rect size v1 v2))) number
-      (record { count = 10; values = ((name, named), (operation_word operations.Checker, (format, with_rect rect are.1.0 (kinds.Natural 1 max_checker_size ∷ sample ∷ sample ∷ []) ((size, range.1.0, range.1.1), (sample_value v1 range.2, (sample_value v2 range.3, tt)))))); counted = refl; short = assumption (operation_fits operations.Checker); words = refl; made = rw (rect_of-numbers rect are.1.0 range.0) refl })
-  node_spelled (Compute (Convert format)) inputs range number are names = with_one inputs (Spelled (Compute (Convert format))) number names
+      (λ a is_a. record { count = 8; values = ((name, named), (operation_word operations.Color, (format, with_rect rect are.1.0 (sample ∷ []) (sample_value a is_a, tt)))); counted = refl; short = assumption (operation_fits operations.Color); words = refl; made = rw (rect_of-numbers rect are.1.0 range.1.0) refl })
+      (λ a b is_a is_b. record { count = 9; values = ((name, named), (operation_word operations.Color, (format, with_rect rect are.1.0 (sample ∷ sample ∷ []) (sample_value a is_a, (sample_value b is_b, tt))))); counted = refl; short = assumption (operation_fits operations.Color); words = refl; made = rw (rect_of-numbers rect are.1.0 range.1.0) refl })
+      (λ a b c is_a is_b is_c. record { count = 10; values = ((name, named), (operation_word operations.Color, (format, with_rect rect are.1.0 (sample ∷ sample ∷ sample ∷ []) (sample_value a is_a, (sample_value b is_b, (sample_value c is_c, tt)))))); counted = refl; short = assumption (operation_fits operations.Color); words = refl; made = rw (rect_of-numbers rect are.1.0 range.1.0) refl })
+      (λ a b c d is_a is_b is_c is_d. record { count = 11; values = ((name, named), (operation_word operations.Color, (format, with_rect rect are.1.0 (sample ∷ sample ∷ sample ∷ sample ∷ []) (sample_value a is_a, (sample_value b is_b, (sample_value c is_c, (sample_value d is_d, tt))))))); counted = refl; short = assumption (operation_fits operations.Color); words = refl; made = rw (rect_of-numbers rect are.1.0 range.1.0) refl })
+      samples pixel)
+  node_spelled (Compute (Checker format rect size v1 v2)) inputs range pixel number are names = with_none inputs (Spelled (Compute (Checker format rect size v1 v2))) number
+      (record { count = 10; values = ((name, named), (operation_word operations.Checker, (format, with_rect rect are.1.0 (kinds.Natural 1 max_checker_size ∷ sample ∷ sample ∷ []) ((size, range.1.1.0.0, range.1.1.0.1), (sample_value v1 range.1.1.1.0.1, (sample_value v2 range.1.1.1.1.0.1, tt)))))); counted = refl; short = assumption (operation_fits operations.Checker); words = refl; made = rw (rect_of-numbers rect are.1.0 range.1.0) refl })
+  node_spelled (Compute (Convert format)) inputs range pixel number are names = with_one inputs (Spelled (Compute (Convert format))) number names
       (λ input is_input. record { count = 4; values = ((name, named), (operation_word operations.Convert, (format, ((input, is_input), tt)))); counted = refl; short = assumption (operation_fits operations.Convert); words = refl; made = refl })
-  node_spelled (Compute Invert) inputs range number are names = with_one inputs (Spelled (Compute Invert)) number names
+  node_spelled (Compute Invert) inputs range pixel number are names = with_one inputs (Spelled (Compute Invert)) number names
       (λ input is_input. record { count = 3; values = ((name, named), (operation_word operations.Invert, ((input, is_input), tt))); counted = refl; short = assumption (operation_fits operations.Invert); words = refl; made = refl })
-  node_spelled (Compute (Threshold at)) inputs range number are names = with_one inputs (Spelled (Compute (Threshold at))) number names
-      (λ input is_input. record { count = 4; values = ((name, named), (operation_word operations.Threshold, (sample_value at range, ((input, is_input), tt)))); counted = refl; short = assumption (operation_fits operations.Threshold); words = refl; made = refl })
-  node_spelled (Compute (Gain num den)) inputs range number are names = with_one inputs (Spelled (Compute (Gain num den))) number names
-      (λ input is_input. record { count = 5; values = ((name, named), (operation_word operations.Gain, ((num, omega arith, range.0), ((den, range.1.0, range.1.1), ((input, is_input), tt))))); counted = refl; short = assumption (operation_fits operations.Gain); words = refl; made = refl })
-  node_spelled (Compute (Translate dx dy)) inputs range number are names = with_one inputs (Spelled (Compute (Translate dx dy))) number names
-      (λ input is_input. record { count = 5; values = ((name, named), (operation_word operations.Translate, (move_value dx range.0, (move_value dy range.1, ((input, is_input), tt))))); counted = refl; short = assumption (operation_fits operations.Translate); words = refl; made = refl })
-  node_spelled (Compute (Crop rect)) inputs range number are names = with_one inputs (Spelled (Compute (Crop rect))) number names
-      (λ input is_input. record { count = 7; values = ((name, named), (operation_word operations.Crop, with_rect rect are.0 (kinds.Name ∷ []) ((input, is_input), tt))); counted = refl; short = assumption (operation_fits operations.Crop); words = refl; made = rw (rect_of-numbers rect are.0 range) refl })
-  node_spelled (Compute (Flip true)) inputs range number are names = with_one inputs (Spelled (Compute (Flip true))) number names
+  node_spelled (Compute (Threshold at)) inputs range pixel number are names = with_one inputs (Spelled (Compute (Threshold at))) number names
+      (λ input is_input. record { count = 4; values = ((name, named), (operation_word operations.Threshold, (sample_value at range.0.1, ((input, is_input), tt)))); counted = refl; short = assumption (operation_fits operations.Threshold); words = refl; made = refl })
+  node_spelled (Compute (Gain num den)) inputs range pixel number are names = with_one inputs (Spelled (Compute (Gain num den))) number names
+      (λ input is_input. record { count = 5; values = ((name, named), (operation_word operations.Gain, ((num, range.0.0, range.0.1), ((den, range.1.0.0, range.1.0.1), ((input, is_input), tt))))); counted = refl; short = assumption (operation_fits operations.Gain); words = refl; made = refl })
+  node_spelled (Compute (Translate dx dy)) inputs range pixel number are names = with_one inputs (Spelled (Compute (Translate dx dy))) number names
+      (λ input is_input. record { count = 5; values = ((name, named), (operation_word operations.Translate, (move_value dx range.0, (move_value dy range.1.0, ((input, is_input), tt))))); counted = refl; short = assumption (operation_fits operations.Translate); words = refl; made = refl })
+  node_spelled (Compute (Crop rect)) inputs range pixel number are names = with_one inputs (Spelled (Compute (Crop rect))) number names
+      (λ input is_input. record { count = 7; values = ((name, named), (operation_word operations.Crop, with_rect rect are.0 (kinds.Name ∷ []) ((input, is_input), tt))); counted = refl; short = assumption (operation_fits operations.Crop); words = refl; made = rw (rect_of-numbers rect are.0 range.0) refl })
+  node_spelled (Compute (Flip true)) inputs range pixel number are names = with_one inputs (Spelled (Compute (Flip true))) number names
       (λ input is_input. record { count = 4; values = ((name, named), (operation_word operations.Flip, (true, ((input, is_input), tt)))); counted = refl; short = assumption (operation_fits operations.Flip); words = refl; made = refl })
-  node_spelled (Compute (Flip false)) inputs range number are names = with_one inputs (Spelled (Compute (Flip false))) number names
+  node_spelled (Compute (Flip false)) inputs range pixel number are names = with_one inputs (Spelled (Compute (Flip false))) number names
       (λ input is_input. record { count = 4; values = ((name, named), (operation_word operations.Flip, (false, ((input, is_input), tt)))); counted = refl; short = assumption (operation_fits operations.Flip); words = refl; made = refl })
-  node_spelled (Compute (BoxMean radius policy)) inputs range number are names = with_one inputs (Spelled (Compute (BoxMean radius policy))) number names
-      (λ input is_input. record { count = 5; values = ((name, named), (operation_word operations.BoxMean, ((radius, range.0.0, range.0.1), ((policy, range.1), ((input, is_input), tt))))); counted = refl; short = assumption (operation_fits operations.BoxMean); words = refl; made = refl })
-  node_spelled (Compute (Dilate radius policy)) inputs range number are names = with_one inputs (Spelled (Compute (Dilate radius policy))) number names
-      (λ input is_input. record { count = 5; values = ((name, named), (operation_word operations.Dilate, ((radius, range.0.0, range.0.1), ((policy, range.1), ((input, is_input), tt))))); counted = refl; short = assumption (operation_fits operations.Dilate); words = refl; made = refl })
-  node_spelled (Compute (Erode radius policy)) inputs range number are names = with_one inputs (Spelled (Compute (Erode radius policy))) number names
-      (λ input is_input. record { count = 5; values = ((name, named), (operation_word operations.Erode, ((radius, range.0.0, range.0.1), ((policy, range.1), ((input, is_input), tt))))); counted = refl; short = assumption (operation_fits operations.Erode); words = refl; made = refl })
-  node_spelled (Compute Add) inputs range number are names = with_two inputs (Spelled (Compute Add)) number names
+  node_spelled (Compute (BoxMean radius policy)) inputs range pixel number are names = with_one inputs (Spelled (Compute (BoxMean radius policy))) number names
+      (λ input is_input. record { count = 5; values = ((name, named), (operation_word operations.BoxMean, ((radius, range.0.0, range.0.1), ((policy, range.1.0), ((input, is_input), tt))))); counted = refl; short = assumption (operation_fits operations.BoxMean); words = refl; made = refl })
+  node_spelled (Compute (Dilate radius policy)) inputs range pixel number are names = with_one inputs (Spelled (Compute (Dilate radius policy))) number names
+      (λ input is_input. record { count = 5; values = ((name, named), (operation_word operations.Dilate, ((radius, range.0.0, range.0.1), ((policy, range.1.0), ((input, is_input), tt))))); counted = refl; short = assumption (operation_fits operations.Dilate); words = refl; made = refl })
+  node_spelled (Compute (Erode radius policy)) inputs range pixel number are names = with_one inputs (Spelled (Compute (Erode radius policy))) number names
+      (λ input is_input. record { count = 5; values = ((name, named), (operation_word operations.Erode, ((radius, range.0.0, range.0.1), ((policy, range.1.0), ((input, is_input), tt))))); counted = refl; short = assumption (operation_fits operations.Erode); words = refl; made = refl })
+  node_spelled (Compute Add) inputs range pixel number are names = with_two inputs (Spelled (Compute Add)) number names
       (λ first second is_first is_second. record { count = 4; values = ((name, named), (operation_word operations.Add, ((first, is_first), ((second, is_second), tt)))); counted = refl; short = assumption (operation_fits operations.Add); words = refl; made = refl })
-  node_spelled (Compute Over) inputs range number are names = with_two inputs (Spelled (Compute Over)) number names
+  node_spelled (Compute Over) inputs range pixel number are names = with_two inputs (Spelled (Compute Over)) number names
       (λ first second is_first is_second. record { count = 4; values = ((name, named), (operation_word operations.Over, ((first, is_first), ((second, is_second), tt)))); counted = refl; short = assumption (operation_fits operations.Over); words = refl; made = refl })
-  node_spelled (Compute Mask) inputs range number are names = with_two inputs (Spelled (Compute Mask)) number names
+  node_spelled (Compute Mask) inputs range pixel number are names = with_two inputs (Spelled (Compute Mask)) number names
       (λ first second is_first is_second. record { count = 4; values = ((name, named), (operation_word operations.Mask, ((first, is_first), ((second, is_second), tt)))); counted = refl; short = assumption (operation_fits operations.Mask); words = refl; made = refl })
 
 -- ---- commands
 
 pub spelled : (command : Command) → IsInLimits command → HasValidFields command → IsSpelled command
 spelled (Buffer name format rect) limits types =
-    record { count = 6; values = ((name, types.0), (format, with_rect rect types.1.1.0 ([]) tt)); counted = refl; short = assumption; words = refl; made = rw (rect_of-numbers rect types.1.1.0 limits) refl }
+    record { count = 6; values = ((name, types.0), (format, with_rect rect types.1.1.0 ([]) tt)); counted = refl; short = assumption; words = refl; made = rw (rect_of-numbers rect types.1.1.0 limits.fields.1.1.0) refl }
 spelled (Sub name parent rect) limits types =
-    record { count = 6; values = ((name, types.0), ((parent, types.1.0), with_rect rect types.1.1.0 ([]) tt)); counted = refl; short = assumption; words = refl; made = rw (rect_of-numbers rect types.1.1.0 limits) refl }
+    record { count = 6; values = ((name, types.0), ((parent, types.1.0), with_rect rect types.1.1.0 ([]) tt)); counted = refl; short = assumption; words = refl; made = rw (rect_of-numbers rect types.1.1.0 limits.fields.1.1.0) refl }
 spelled (Dup name from) limits types =
     record { count = 2; values = ((name, types.0), ((from, types.1.0), tt)); counted = refl; short = assumption; words = refl; made = refl }
 spelled (Load name rect file) limits types =
-    record { count = 6; values = ((name, types.0), with_rect rect types.1.0 (kinds.File ∷ []) ((file, types.1.1.0), tt)); counted = refl; short = assumption; words = refl; made = rw (rect_of-numbers rect types.1.0 limits) refl }
+    record { count = 6; values = ((name, types.0), with_rect rect types.1.0 (kinds.File ∷ []) ((file, types.1.1.0), tt)); counted = refl; short = assumption; words = refl; made = rw (rect_of-numbers rect types.1.0 limits.fields.1.0) refl }
 spelled (Fill name rect samples) limits types =
     by_pixel (λ (all : List ℕ). IsSpelled (Fill name rect all))
-    (λ a is_a. record { count = 6; values = ((name, types.0), with_rect rect types.1.0 (sample ∷ []) (sample_value a is_a, tt)); counted = refl; short = assumption; words = refl; made = rw (rect_of-numbers rect types.1.0 limits.0) refl })
-    (λ a b is_a is_b. record { count = 7; values = ((name, types.0), with_rect rect types.1.0 (sample ∷ sample ∷ []) (sample_value a is_a, (sample_value b is_b, tt))); counted = refl; short = assumption; words = refl; made = rw (rect_of-numbers rect types.1.0 limits.0) refl })
-    (λ a b c is_a is_b is_c. record { count = 8; values = ((name, types.0), with_rect rect types.1.0 (sample ∷ sample ∷ sample ∷ []) (sample_value a is_a, (sample_value b is_b, (sample_value c is_c, tt)))); counted = refl; short = assumption; words = refl; made = rw (rect_of-numbers rect types.1.0 limits.0) refl })
-    (λ a b c d is_a is_b is_c is_d. record { count = 9; values = ((name, types.0), with_rect rect types.1.0 (sample ∷ sample ∷ sample ∷ sample ∷ []) (sample_value a is_a, (sample_value b is_b, (sample_value c is_c, (sample_value d is_d, tt))))); counted = refl; short = assumption; words = refl; made = rw (rect_of-numbers rect types.1.0 limits.0) refl })
-    samples limits.1
+    (λ a is_a. record { count = 6; values = ((name, types.0), with_rect rect types.1.0 (sample ∷ []) (sample_value a is_a, tt)); counted = refl; short = assumption; words = refl; made = rw (rect_of-numbers rect types.1.0 limits.fields.1.0) refl })
+    (λ a b is_a is_b. record { count = 7; values = ((name, types.0), with_rect rect types.1.0 (sample ∷ sample ∷ []) (sample_value a is_a, (sample_value b is_b, tt))); counted = refl; short = assumption; words = refl; made = rw (rect_of-numbers rect types.1.0 limits.fields.1.0) refl })
+    (λ a b c is_a is_b is_c. record { count = 8; values = ((name, types.0), with_rect rect types.1.0 (sample ∷ sample ∷ sample ∷ []) (sample_value a is_a, (sample_value b is_b, (sample_value c is_c, tt)))); counted = refl; short = assumption; words = refl; made = rw (rect_of-numbers rect types.1.0 limits.fields.1.0) refl })
+    (λ a b c d is_a is_b is_c is_d. record { count = 9; values = ((name, types.0), with_rect rect types.1.0 (sample ∷ sample ∷ sample ∷ sample ∷ []) (sample_value a is_a, (sample_value b is_b, (sample_value c is_c, (sample_value d is_d, tt))))); counted = refl; short = assumption; words = refl; made = rw (rect_of-numbers rect types.1.0 limits.fields.1.0) refl })
+    samples limits.lists
 spelled (Copy from to rect dx dy) limits types =
-    record { count = 8; values = ((from, types.0), ((to, types.1.0), with_rect rect types.1.1.0 (move ∷ move ∷ []) (move_value dx limits.1, (move_value dy limits.2, tt)))); counted = refl; short = assumption; words = refl; made = rw (rect_of-numbers rect types.1.1.0 limits.0) refl }
-spelled (Node name op inputs) limits types = node_spelled name types.0 op inputs limits.0 limits.1 types.1 types.2
+    record { count = 8; values = ((from, types.0), ((to, types.1.0), with_rect rect types.1.1.0 (move ∷ move ∷ []) (move_value dx limits.fields.1.1.1.0, (move_value dy limits.fields.1.1.1.1.0, tt)))); counted = refl; short = assumption; words = refl; made = rw (rect_of-numbers rect types.1.1.0 limits.fields.1.1.0) refl }
+spelled (Node name op inputs) limits types = node_spelled name types.0 op inputs limits.lists.0 limits.lists.1 limits.lists.2 types.1 types.2
 spelled (Drop name) limits types =
     record { count = 1; values = ((name, types.0), tt); counted = refl; short = assumption; words = refl; made = refl }
 spelled Commit limits types = record { count = 0; values = tt; counted = refl; short = tt; words = refl; made = refl }
 spelled Undo limits types = record { count = 0; values = tt; counted = refl; short = tt; words = refl; made = refl }
 spelled Redo limits types = record { count = 0; values = tt; counted = refl; short = tt; words = refl; made = refl }
 spelled (Render name level rect file) limits types =
-    record { count = 7; values = ((name, types.0), ((level, omega arith, limits.range), with_rect rect types.1.1.0 (kinds.File ∷ []) ((file, types.1.1.1.0), tt))); counted = refl; short = assumption; words = refl; made = rw (level_rect_of-numbers level rect types.1.1.0 limits) refl }
+    record { count = 7; values = ((name, types.0), ((level, limits.fields.1.0.0, limits.fields.1.0.1), with_rect rect types.1.1.0 (kinds.File ∷ []) ((file, types.1.1.1.0), tt))); counted = refl; short = assumption; words = refl; made = rw (level_rect_of-numbers level rect types.1.1.0 (record { range = limits.fields.1.0.1; limits = limits.fields.1.1.0; scaled = limits.rectangle })) refl }
 spelled (Grab name level policy rect file) limits types =
-    record { count = 8; values = ((name, types.0), ((level, omega arith, limits.range), (policy, with_rect rect types.1.1.1.0 (kinds.File ∷ []) ((file, types.1.1.1.1.0), tt)))); counted = refl; short = assumption; words = refl; made = rw (level_rect_of-numbers level rect types.1.1.1.0 limits) refl }
+    record { count = 8; values = ((name, types.0), ((level, limits.fields.1.0.0, limits.fields.1.0.1), (policy, with_rect rect types.1.1.1.0 (kinds.File ∷ []) ((file, types.1.1.1.1.0), tt)))); counted = refl; short = assumption; words = refl; made = rw (level_rect_of-numbers level rect types.1.1.1.0 (record { range = limits.fields.1.0.1; limits = limits.fields.1.1.1.0; scaled = limits.rectangle })) refl }
 spelled (Watch name rect viewers frames prefix) limits types =
-    record { count = 8; values = ((name, types.0), with_rect rect types.1.0 (kinds.Natural 1 max_viewers ∷ kinds.Natural 1 max_frames ∷ kinds.Prefix ∷ []) ((viewers, limits.1.0, limits.1.1), ((frames, limits.2.0, limits.2.1), ((prefix, types.1.1.1.1.0, limits.4), tt)))); counted = refl; short = assumption; words = refl; made = rw (watched_rect_of-numbers viewers frames rect types.1.0 limits.0 limits.1.1 limits.2.1 limits.3) refl }
+    record { count = 8; values = ((name, types.0), with_rect rect types.1.0 (kinds.Natural 1 max_viewers ∷ kinds.Natural 1 max_frames ∷ kinds.Prefix ∷ []) ((viewers, limits.fields.1.1.0.0, limits.fields.1.1.0.1), ((frames, limits.fields.1.1.1.0.0, limits.fields.1.1.1.0.1), ((prefix, types.1.1.1.1.0, limits.fields.1.1.1.1.0), tt)))); counted = refl; short = assumption; words = refl; made = rw (watched_rect_of-numbers viewers frames rect types.1.0 limits.fields.1.0 limits.fields.1.1.0.1 limits.fields.1.1.1.0.1 limits.rectangle) refl }
 spelled EndWatch limits types = record { count = 0; values = tt; counted = refl; short = tt; words = refl; made = refl }
 
 -- ---- what is printed is read

@@ -18,7 +18,7 @@ use Rattle.script_fields.specs.declared.kind.Kind.TheVariants as kinds
 use Rattle.script_fields.specs.declared.rectangles.RectNumbers.{RectNumbers}
 use Rattle.script_read.specs.Commands.{command_of, command_with, inputs_in, node_with}
 use Rattle.script_read.specs.Forms.{is_counted, kinds_for, kinds_of, rectangle_then, samples}
-use Rattle.script_read.specs.Limits.{AreInRange, IsInLimits}
+use Rattle.script_read.specs.Limits.{HasArguments, HasPixel, IsInLimits}
 use Rattle.script_read.specs.Spelling.{keyword}
 use Rattle.script_read.specs.declared.command.Command.{Command}
 use Rattle.script_read.specs.declared.command.Command.TheVariants as commands
@@ -93,14 +93,16 @@ made-rect word numbers make limits first =
 
 -- the same of an operation
 made-operation : (operation : OperationWord) (all : List Field) (name : List ℕ) (numbers : RectNumbers) (make : Rectangle → IntOp)
-    → ((rect : Rectangle) → IsTrue (in_limits rect) → AreInRange (make rect)) → ((rect : Rectangle) → length (inputs_in all (Compute (make rect))) ≡ inputs_of (make rect))
+    → ((rect : Rectangle) → IsTrue (in_limits rect) → HasArguments (Compute (make rect)) × HasPixel (Compute (make rect))) → ((rect : Rectangle) → length (inputs_in all (Compute (make rect))) ≡ inputs_of (make rect))
     → Made (forms.Node operation) ((rect_of numbers >>= λ rect. Ok (Compute (make rect))) >>= λ op. Ok (commands.Node name op (inputs_in all op)))
 made-operation operation all name numbers make range inputs =
     by_read (rect_of numbers) (rect_of-cause numbers) (λ rect is. rect_of-in_limits numbers rect is)
   where
     by_read : (read : Result Rectangle ScriptCause) → HasRectCause read → ((rect : Rectangle) → read ≡ Ok rect → IsTrue (in_limits rect))
         → Made (forms.Node operation) ((read >>= λ rect. Ok (Compute (make rect))) >>= λ op. Ok (commands.Node name op (inputs_in all op)))
-    by_read (Ok rect) cause limits = ((range rect (limits rect refl), inputs rect), refl)
+    by_read (Ok rect) cause limits =
+        let arguments = range rect (limits rect refl) in
+        (record { fields = (tt, tt); lists = (arguments.0, arguments.1, inputs rect); rectangle = tt }, refl)
     by_read (Err other) cause limits = cause
 
 -- one to four samples after other words
@@ -125,19 +127,19 @@ made-fill n from to =
     (λ values. let given = values.1.1.1.1.1 in
     let numbers : RectNumbers = record { x = values.1.0.0; y = values.1.1.0.0; w = values.1.1.1.0.0; h = values.1.1.1.1.0.0 } in
     let all : List ℕ = given.0.0 ∷ [] in
-    made-rect keywords.Fill numbers (λ rect. commands.Fill values.0.0 rect all) (λ rect limits. (limits, pixel all (omega arith) (omega arith) (given.0.2, tt))) (λ rect. refl))
+    made-rect keywords.Fill numbers (λ rect. commands.Fill values.0.0 rect all) (λ rect limits. record { fields = (tt, (limits, tt)); lists = pixel all (omega arith) (omega arith) (given.0.2, tt); rectangle = tt }) (λ rect. refl))
     (λ values. let given = values.1.1.1.1.1 in
     let numbers : RectNumbers = record { x = values.1.0.0; y = values.1.1.0.0; w = values.1.1.1.0.0; h = values.1.1.1.1.0.0 } in
     let all : List ℕ = given.0.0 ∷ given.1.0.0 ∷ [] in
-    made-rect keywords.Fill numbers (λ rect. commands.Fill values.0.0 rect all) (λ rect limits. (limits, pixel all (omega arith) (omega arith) (given.0.2, (given.1.0.2, tt)))) (λ rect. refl))
+    made-rect keywords.Fill numbers (λ rect. commands.Fill values.0.0 rect all) (λ rect limits. record { fields = (tt, (limits, tt)); lists = pixel all (omega arith) (omega arith) (given.0.2, (given.1.0.2, tt)); rectangle = tt }) (λ rect. refl))
     (λ values. let given = values.1.1.1.1.1 in
     let numbers : RectNumbers = record { x = values.1.0.0; y = values.1.1.0.0; w = values.1.1.1.0.0; h = values.1.1.1.1.0.0 } in
     let all : List ℕ = given.0.0 ∷ given.1.0.0 ∷ given.1.1.0.0 ∷ [] in
-    made-rect keywords.Fill numbers (λ rect. commands.Fill values.0.0 rect all) (λ rect limits. (limits, pixel all (omega arith) (omega arith) (given.0.2, (given.1.0.2, (given.1.1.0.2, tt))))) (λ rect. refl))
+    made-rect keywords.Fill numbers (λ rect. commands.Fill values.0.0 rect all) (λ rect limits. record { fields = (tt, (limits, tt)); lists = pixel all (omega arith) (omega arith) (given.0.2, (given.1.0.2, (given.1.1.0.2, tt))); rectangle = tt }) (λ rect. refl))
     (λ values. let given = values.1.1.1.1.1 in
     let numbers : RectNumbers = record { x = values.1.0.0; y = values.1.1.0.0; w = values.1.1.1.0.0; h = values.1.1.1.1.0.0 } in
     let all : List ℕ = given.0.0 ∷ given.1.0.0 ∷ given.1.1.0.0 ∷ given.1.1.1.0.0 ∷ [] in
-    made-rect keywords.Fill numbers (λ rect. commands.Fill values.0.0 rect all) (λ rect limits. (limits, pixel all (omega arith) (omega arith) (given.0.2, (given.1.0.2, (given.1.1.0.2, (given.1.1.1.0.2, tt)))))) (λ rect. refl))
+    made-rect keywords.Fill numbers (λ rect. commands.Fill values.0.0 rect all) (λ rect limits. record { fields = (tt, (limits, tt)); lists = pixel all (omega arith) (omega arith) (given.0.2, (given.1.0.2, (given.1.1.0.2, (given.1.1.1.0.2, tt)))); rectangle = tt }) (λ rect. refl))
     n from (omega arith)
 
 made-color : (n : ℕ) → 8 ≤ n → n ≤ 11 → (values : Values (take n color_kinds))
@@ -149,51 +151,53 @@ made-color n from to =
     let numbers : RectNumbers = record { x = values.1.1.1.0.0; y = values.1.1.1.1.0.0; w = values.1.1.1.1.1.0.0; h = values.1.1.1.1.1.1.0.0 } in
     let all : List ℕ = given.0.0 ∷ [] in
     made-operation operations.Color (fields_with (take 8 color_kinds) values) values.0.0 numbers (λ rect. ops.Color values.1.1.0 rect all)
-    (λ rect limits. (limits, pixel all (omega arith) (omega arith) (given.0.2, tt))) (λ rect. refl))
+    (λ rect limits. ((tt, (limits, tt)), pixel all (omega arith) (omega arith) (given.0.2, tt))) (λ rect. refl))
     (λ values. let given = values.1.1.1.1.1.1.1 in
     let numbers : RectNumbers = record { x = values.1.1.1.0.0; y = values.1.1.1.1.0.0; w = values.1.1.1.1.1.0.0; h = values.1.1.1.1.1.1.0.0 } in
     let all : List ℕ = given.0.0 ∷ given.1.0.0 ∷ [] in
     made-operation operations.Color (fields_with (take 9 color_kinds) values) values.0.0 numbers (λ rect. ops.Color values.1.1.0 rect all)
-    (λ rect limits. (limits, pixel all (omega arith) (omega arith) (given.0.2, (given.1.0.2, tt)))) (λ rect. refl))
+    (λ rect limits. ((tt, (limits, tt)), pixel all (omega arith) (omega arith) (given.0.2, (given.1.0.2, tt)))) (λ rect. refl))
     (λ values. let given = values.1.1.1.1.1.1.1 in
     let numbers : RectNumbers = record { x = values.1.1.1.0.0; y = values.1.1.1.1.0.0; w = values.1.1.1.1.1.0.0; h = values.1.1.1.1.1.1.0.0 } in
     let all : List ℕ = given.0.0 ∷ given.1.0.0 ∷ given.1.1.0.0 ∷ [] in
     made-operation operations.Color (fields_with (take 10 color_kinds) values) values.0.0 numbers (λ rect. ops.Color values.1.1.0 rect all)
-    (λ rect limits. (limits, pixel all (omega arith) (omega arith) (given.0.2, (given.1.0.2, (given.1.1.0.2, tt))))) (λ rect. refl))
+    (λ rect limits. ((tt, (limits, tt)), pixel all (omega arith) (omega arith) (given.0.2, (given.1.0.2, (given.1.1.0.2, tt))))) (λ rect. refl))
     (λ values. let given = values.1.1.1.1.1.1.1 in
     let numbers : RectNumbers = record { x = values.1.1.1.0.0; y = values.1.1.1.1.0.0; w = values.1.1.1.1.1.0.0; h = values.1.1.1.1.1.1.0.0 } in
     let all : List ℕ = given.0.0 ∷ given.1.0.0 ∷ given.1.1.0.0 ∷ given.1.1.1.0.0 ∷ [] in
     made-operation operations.Color (fields_with (take 11 color_kinds) values) values.0.0 numbers (λ rect. ops.Color values.1.1.0 rect all)
-    (λ rect limits. (limits, pixel all (omega arith) (omega arith) (given.0.2, (given.1.0.2, (given.1.1.0.2, (given.1.1.1.0.2, tt)))))) (λ rect. refl))
+    (λ rect limits. ((tt, (limits, tt)), pixel all (omega arith) (omega arith) (given.0.2, (given.1.0.2, (given.1.1.0.2, (given.1.1.1.0.2, tt)))))) (λ rect. refl))
     n from (omega arith)
 
 -- fields of the kinds of a form
 pub made : (form : Form) (count : ℕ) (values : Values (kinds_of form count)) → Made form (command_of form (fields_with (kinds_of form count) values))
 made (forms.Command keywords.Buffer) count values =
     let numbers : RectNumbers = record { x = values.1.1.0.0; y = values.1.1.1.0.0; w = values.1.1.1.1.0.0; h = values.1.1.1.1.1.0.0 } in
-    made-rect keywords.Buffer numbers (λ rect. commands.Buffer values.0.0 values.1.0 rect) (λ rect limits. limits) (λ rect. refl)
+    made-rect keywords.Buffer numbers (λ rect. commands.Buffer values.0.0 values.1.0 rect) (λ rect limits. record { fields = (tt, (tt, (limits, tt))); lists = tt; rectangle = tt }) (λ rect. refl)
 made (forms.Command keywords.Sub) count values =
     let numbers : RectNumbers = record { x = values.1.1.0.0; y = values.1.1.1.0.0; w = values.1.1.1.1.0.0; h = values.1.1.1.1.1.0.0 } in
-    made-rect keywords.Sub numbers (λ rect. commands.Sub values.0.0 values.1.0.0 rect) (λ rect limits. limits) (λ rect. refl)
+    made-rect keywords.Sub numbers (λ rect. commands.Sub values.0.0 values.1.0.0 rect) (λ rect limits. record { fields = (tt, (tt, (limits, tt))); lists = tt; rectangle = tt }) (λ rect. refl)
 made (forms.Command keywords.Load) count values =
     let numbers : RectNumbers = record { x = values.1.0.0; y = values.1.1.0.0; w = values.1.1.1.0.0; h = values.1.1.1.1.0.0 } in
-    made-rect keywords.Load numbers (λ rect. commands.Load values.0.0 rect values.1.1.1.1.1.0.0) (λ rect limits. limits) (λ rect. refl)
+    made-rect keywords.Load numbers (λ rect. commands.Load values.0.0 rect values.1.1.1.1.1.0.0) (λ rect limits. record { fields = (tt, (limits, (tt, tt))); lists = tt; rectangle = tt }) (λ rect. refl)
 made (forms.Command keywords.Fill) count values = made-fill (min (max count 6) 9) (omega arith) (omega arith) values
 made (forms.Command keywords.Copy) count values =
     let moved = values.1.1.1.1.1.1 in
     let numbers : RectNumbers = record { x = values.1.1.0.0; y = values.1.1.1.0.0; w = values.1.1.1.1.0.0; h = values.1.1.1.1.1.0.0 } in
     made-rect keywords.Copy numbers (λ rect. commands.Copy values.0.0 values.1.0.0 rect moved.0.0 moved.1.0.0)
-    (λ rect limits. (limits, (moved.0.1, moved.0.2), (moved.1.0.1, moved.1.0.2))) (λ rect. refl)
+    (λ rect limits. record { fields = (tt, (tt, (limits, ((moved.0.1, moved.0.2), ((moved.1.0.1, moved.1.0.2), tt))))); lists = tt; rectangle = tt }) (λ rect. refl)
 made (forms.Command keywords.Render) count values =
     let level = values.1.0.0 in
     let numbers : RectNumbers = record { x = values.1.1.0.0; y = values.1.1.1.0.0; w = values.1.1.1.1.0.0; h = values.1.1.1.1.1.0.0 } in
     made-with (forms.Command keywords.Render) (level_rect_of level numbers) (λ rect. commands.Render values.0.0 level rect values.1.1.1.1.1.1.0.0)
-    (level_rect_of-cause level numbers) (λ rect is. level_rect_of-in_limits level numbers rect is) (λ rect. refl)
+    (level_rect_of-cause level numbers) (λ rect is. let limits = level_rect_of-in_limits level numbers rect is in
+    record { fields = (tt, ((values.1.0.1, values.1.0.2), (limits.limits, (tt, tt)))); lists = tt; rectangle = limits.scaled }) (λ rect. refl)
 made (forms.Command keywords.Grab) count values =
     let level = values.1.0.0 in
     let numbers : RectNumbers = record { x = values.1.1.1.0.0; y = values.1.1.1.1.0.0; w = values.1.1.1.1.1.0.0; h = values.1.1.1.1.1.1.0.0 } in
     made-with (forms.Command keywords.Grab) (level_rect_of level numbers) (λ rect. commands.Grab values.0.0 level values.1.1.0 rect values.1.1.1.1.1.1.1.0.0)
-    (level_rect_of-cause level numbers) (λ rect is. level_rect_of-in_limits level numbers rect is) (λ rect. refl)
+    (level_rect_of-cause level numbers) (λ rect is. let limits = level_rect_of-in_limits level numbers rect is in
+    record { fields = (tt, ((values.1.0.1, values.1.0.2), (tt, (limits.limits, (tt, tt))))); lists = tt; rectangle = limits.scaled }) (λ rect. refl)
 made (forms.Command keywords.Watch) count values =
     let viewers = values.1.1.1.1.1.0 in
     let frames = values.1.1.1.1.1.1.0 in
@@ -202,27 +206,36 @@ made (forms.Command keywords.Watch) count values =
     made-with (forms.Command keywords.Watch) (watched_rect_of viewers.0 frames.0 numbers) (λ rect. commands.Watch values.0.0 rect viewers.0 frames.0 prefix.0)
     (watched_rect_of-cause viewers.0 frames.0 numbers)
     (λ rect is. let limits = watched_rect_of-in_limits viewers.0 frames.0 numbers rect is in
-    (limits.0, (viewers.1, viewers.2), (frames.1, frames.2), limits.1, prefix.2)) (λ rect. refl)
+    record { fields = (tt, (limits.0, ((viewers.1, viewers.2), ((frames.1, frames.2), (prefix.2, tt))))); lists = tt; rectangle = limits.1 }) (λ rect. refl)
 made (forms.Command keywords.Node) count values = refl
-made (forms.Command word) count values = (tt, refl)
+made (forms.Command keywords.Dup) count values = (record { fields = (tt, (tt, tt)); lists = tt; rectangle = tt }, refl)
+made (forms.Command keywords.Drop) count values = (record { fields = (tt, tt); lists = tt; rectangle = tt }, refl)
+made (forms.Command word) count values = (record { fields = tt; lists = tt; rectangle = tt }, refl)
 made (forms.Node operations.Color) count values = made-color (min (max count 8) 11) (omega arith) (omega arith) values
 made (forms.Node operations.Checker) count values =
     let given = values.1.1.1.1.1.1.1 in
     let numbers : RectNumbers = record { x = values.1.1.1.0.0; y = values.1.1.1.1.0.0; w = values.1.1.1.1.1.0.0; h = values.1.1.1.1.1.1.0.0 } in
     made-operation operations.Checker (fields_with (kinds_of (forms.Node operations.Checker) count) values) values.0.0 numbers
     (λ rect. ops.Checker values.1.1.0 rect given.0.0 given.1.0.0 given.1.1.0.0)
-    (λ rect limits. (limits, (given.0.1, given.0.2), given.1.0.2, given.1.1.0.2)) (λ rect. refl)
-made (forms.Node operations.Threshold) count values = ((values.1.1.0.2, refl), refl)
-made (forms.Node operations.Gain) count values = ((((values.1.1.0.2, (values.1.1.1.0.1, values.1.1.1.0.2))), refl), refl)
+    (λ rect limits. ((tt, (limits, ((given.0.1, given.0.2), ((given.1.0.1, given.1.0.2), ((given.1.1.0.1, given.1.1.0.2), tt))))), tt)) (λ rect. refl)
+made (forms.Node operations.Threshold) count values = (record { fields = (tt, tt); lists = (((values.1.1.0.1, values.1.1.0.2), tt), tt, refl); rectangle = tt }, refl)
+made (forms.Node operations.Gain) count values =
+    (record { fields = (tt, tt); lists = (((values.1.1.0.1, values.1.1.0.2), ((values.1.1.1.0.1, values.1.1.1.0.2), tt)), tt, refl); rectangle = tt }, refl)
 made (forms.Node operations.Translate) count values =
-    ((((values.1.1.0.1, values.1.1.0.2), (values.1.1.1.0.1, values.1.1.1.0.2)), refl), refl)
+    (record { fields = (tt, tt); lists = (((values.1.1.0.1, values.1.1.0.2), ((values.1.1.1.0.1, values.1.1.1.0.2), tt)), tt, refl); rectangle = tt }, refl)
 made (forms.Node operations.Crop) count values =
     let numbers : RectNumbers = record { x = values.1.1.0.0; y = values.1.1.1.0.0; w = values.1.1.1.1.0.0; h = values.1.1.1.1.1.0.0 } in
-    made-operation operations.Crop (fields_with (kinds_of (forms.Node operations.Crop) count) values) values.0.0 numbers (λ rect. ops.Crop rect) (λ rect limits. limits) (λ rect. refl)
-made (forms.Node operations.BoxMean) count values = ((((values.1.1.0.1, values.1.1.0.2), values.1.1.1.0.1), refl), refl)
-made (forms.Node operations.Dilate) count values = ((((values.1.1.0.1, values.1.1.0.2), values.1.1.1.0.1), refl), refl)
-made (forms.Node operations.Erode) count values = ((((values.1.1.0.1, values.1.1.0.2), values.1.1.1.0.1), refl), refl)
-made (forms.Node operation) count values = ((tt, refl), refl)
+    made-operation operations.Crop (fields_with (kinds_of (forms.Node operations.Crop) count) values) values.0.0 numbers (λ rect. ops.Crop rect) (λ rect limits. ((limits, tt), tt)) (λ rect. refl)
+made (forms.Node operations.BoxMean) count values =
+    (record { fields = (tt, tt); lists = (((values.1.1.0.1, values.1.1.0.2), (values.1.1.1.0.1, tt)), tt, refl); rectangle = tt }, refl)
+made (forms.Node operations.Dilate) count values =
+    (record { fields = (tt, tt); lists = (((values.1.1.0.1, values.1.1.0.2), (values.1.1.1.0.1, tt)), tt, refl); rectangle = tt }, refl)
+made (forms.Node operations.Erode) count values =
+    (record { fields = (tt, tt); lists = (((values.1.1.0.1, values.1.1.0.2), (values.1.1.1.0.1, tt)), tt, refl); rectangle = tt }, refl)
+made (forms.Node operations.Source) count values = (record { fields = (tt, tt); lists = ((tt, tt), tt, refl); rectangle = tt }, refl)
+made (forms.Node operations.Convert) count values = (record { fields = (tt, tt); lists = ((tt, tt), tt, refl); rectangle = tt }, refl)
+made (forms.Node operations.Flip) count values = (record { fields = (tt, tt); lists = ((tt, tt), tt, refl); rectangle = tt }, refl)
+made (forms.Node operation) count values = (record { fields = (tt, tt); lists = (tt, tt, refl); rectangle = tt }, refl)
 
 -- as many words as there have to be, whose fields are read
 pub made-fields : (form : Form) (words : List (List ℕ)) (read : List Field) → is_counted form words ≡ true → fields_of_words (kinds_for form words) words ≡ Ok read → Made form (command_of form read)

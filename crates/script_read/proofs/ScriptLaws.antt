@@ -5,9 +5,15 @@ use Rattle.script_words.specs.Lines.{is_text, lines_of}
 use Rattle.script_words.specs.Words.{words_of}
 use Rattle.script_read.specs.IsScript.{IsScript, MayFollow, MayContinue}
 use Rattle.script_read.specs.Limits.{IsInLimits}
-use Rattle.script_read.specs.Script.{Refusal, before, command_in, ended, from_step, open_after, open_past, script_from, script_of, spoken, step_of}
+use Rattle.script_read.specs.Script.{Refusal, before, command_by, command_in, ended, from_step, open_after, open_past, script_from, script_of, spoken, step_of}
 use Rattle.pixel_formats.specs.Limits.{max_line_bytes, max_lines}
+use Rattle.script_fields.proofs.ValuesBack.{numbers_fit_read}
+use Rattle.script_fields.specs.Fields.{fields_of_words}
 use Rattle.script_fields.specs.declared.cause.ScriptCause.{ScriptCause}
+use Rattle.script_fields.specs.declared.field.Field.{Field}
+use Rattle.script_read.specs.Commands.{command_of}
+use Rattle.script_read.specs.Forms.{is_counted, kinds_for}
+use Rattle.script_read.specs.declared.forms.Form.{Form}
 use Rattle.script_read.specs.declared.command.Command.{Command}
 use Rattle.script_read.specs.declared.command.Line.{Line}
 use Rattle.script_read.specs.declared.reader.ReadLine.{ReadLine}
@@ -17,6 +23,12 @@ pub command_in-of_words : (number : ℕ) (line : List ℕ) → is_text line ≡ 
     command_in number line ≡ spoken (words_of line)
 unfolding command_in
 command_in-of_words number line text short early = rw (text, short, early) refl
+
+-- where the fields of words are read, the numbers are numbers, and the command is made of the fields
+pub command_by-read : (form : Form) (words : List (List ℕ)) (read : List Field) → is_counted form words ≡ true → fields_of_words (kinds_for form words) words ≡ Ok read →
+    command_by form words ≡ command_of form read
+unfolding command_by
+command_by-read form words read counted are = rw (counted, numbers_fit_read (kinds_for form words) words read are, are) refl
 
 -- lines before those that are read after them
 abbrev pub ahead : List Line → Result (List Line) Refusal → Result (List Line) Refusal

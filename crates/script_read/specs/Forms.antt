@@ -38,10 +38,14 @@ rectangle_then others = pixels ∷ pixels ∷ pixels ∷ pixels ∷ others
 abbrev pub samples : List Kind
 samples = sample ∷ sample ∷ sample ∷ sample ∷ []
 
+-- the most words of a line after the first
+abbrev pub max_words : ℕ
+max_words = 11
+
 -- ---- the words of each command
 
 -- What the words of a command have to be, of which there are so many after the first. Only a fill may have more than
--- one number of words.
+-- one number of words. A node's are told by its operation.
 abbrev pub command_kinds : Keyword → ℕ → List Kind
 command_kinds keywords.Buffer count = Name ∷ Format ∷ rectangle_then []
 command_kinds keywords.Sub count = Name ∷ Name ∷ rectangle_then []
@@ -49,7 +53,7 @@ command_kinds keywords.Dup count = Name ∷ Name ∷ []
 command_kinds keywords.Load count = Name ∷ rectangle_then (File ∷ [])
 command_kinds keywords.Fill count = take (min (max count 6) 9) (Name ∷ rectangle_then samples)
 command_kinds keywords.Copy count = Name ∷ Name ∷ rectangle_then (move ∷ move ∷ [])
-command_kinds keywords.Node count = []
+command_kinds keywords.Node count = Name ∷ []
 command_kinds keywords.Drop count = Name ∷ []
 command_kinds keywords.Commit count = []
 command_kinds keywords.Undo count = []

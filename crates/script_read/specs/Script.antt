@@ -7,8 +7,11 @@ use Rattle.script_words.specs.Words.{words_of}
 use Rattle.script_read.specs.Commands.{command_of}
 use Rattle.script_read.specs.Forms.{form_of, is_counted, kinds_for}
 use Rattle.script_fields.specs.Fields.{◌>>=◌, fields_of_words, numbers_fit, passed}
+use Rattle.script_fields.specs.declared.cause.LineAnswer.{LineAnswer}
+use Rattle.script_fields.specs.declared.cause.LineAnswer.TheVariants.{Refused}
 use Rattle.script_fields.specs.declared.cause.ScriptCause.{ScriptCause}
 use Rattle.script_fields.specs.declared.cause.ScriptCause.TheVariants as causes
+use Rattle.script_fields.specs.declared.kind.Kind.{Kind}
 use Rattle.script_read.specs.declared.command.Command.{Command}
 use Rattle.script_read.specs.declared.command.Command.TheVariants as commands
 use Rattle.script_read.specs.declared.command.Line.{Line}
@@ -16,6 +19,10 @@ use Rattle.script_read.specs.declared.forms.Form.{Form}
 use Rattle.script_read.specs.declared.reader.ReadLine.{ReadLine}
 
 -- ---- one line
+
+-- why words aren't read as fields: a number is reported before all else
+abbrev pub number_or : List Kind → List (List ℕ) → LineAnswer → LineAnswer
+number_or kinds words answer = if numbers_fit kinds words then answer else Refused causes.Number
 
 -- the command of the words after the first, of a line of this form
 unfoldable pub command_by : Form → List (List ℕ) → Result Command ScriptCause

@@ -69,6 +69,9 @@ const FRAMES: Kind = Natural {
     high: MAX_FRAMES,
 };
 
+/// The most words of a line after the first.
+pub(crate) const MAX_WORDS: usize = 11;
+
 /// The words of a fill, of which one sample at least is there.
 static FILL: [Kind; 9] = [
     Name, PIXELS, PIXELS, PIXELS, PIXELS, SAMPLE, SAMPLE, SAMPLE, SAMPLE,
@@ -139,8 +142,9 @@ impl Form {
     }
 }
 
-/// Returns what the words of a command have to be, of which there are so many after the first.
-fn command_kinds(keyword: Keyword, count: usize) -> &'static [Kind]
+/// Returns what the words of a command have to be, of which there are so many after the first. Those
+/// of a node are told by its operation.
+pub(crate) fn command_kinds(keyword: Keyword, count: usize) -> &'static [Kind]
     ensures { result.now ≡ command_kinds keyword count }
 {
     match keyword {
@@ -150,19 +154,19 @@ fn command_kinds(keyword: Keyword, count: usize) -> &'static [Kind]
         Keyword::Load => &[Name, PIXELS, PIXELS, PIXELS, PIXELS, File],
         Keyword::Fill => &FILL[..count.max(6).min(9)],
         Keyword::Copy => &[Name, Name, PIXELS, PIXELS, PIXELS, PIXELS, MOVE, MOVE],
-        Keyword::Drop => &[Name],
+        Keyword::Node | Keyword::Drop => &[Name],
         Keyword::Render => &[Name, LEVEL, PIXELS, PIXELS, PIXELS, PIXELS, File],
         Keyword::Grab => &[Name, LEVEL, Policy, PIXELS, PIXELS, PIXELS, PIXELS, File],
         Keyword::Watch => &[
             Name, PIXELS, PIXELS, PIXELS, PIXELS, VIEWERS, FRAMES, Prefix,
         ],
-        Keyword::Node | Keyword::Commit | Keyword::Undo | Keyword::Redo | Keyword::EndWatch => &[],
+        Keyword::Commit | Keyword::Undo | Keyword::Redo | Keyword::EndWatch => &[],
     }
 }
 
 /// Returns what the words of a node with an operation have to be, of which there are so many after
 /// the first.
-fn node_kinds(operation: OperationWord, count: usize) -> &'static [Kind]
+pub(crate) fn node_kinds(operation: OperationWord, count: usize) -> &'static [Kind]
     ensures { result.now ≡ node_kinds operation count }
 {
     match operation {

@@ -4,6 +4,7 @@
 mod arguments;
 mod command;
 mod commands;
+mod fields;
 mod forms;
 mod keyword;
 pub mod laws;

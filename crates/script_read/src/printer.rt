@@ -7,40 +7,12 @@ ghost use Rattle.script_read.specs.Spelling.{HasValidFields, arguments, fields_o
 ghost use Rattle.script_read.specs.{IsScript.IsScript, Script.script_of};
 
 use crate::command::{Command, Line, OpWords};
+use crate::fields::{by_command, by_fields, by_operation, by_output};
 use alloc_basics::NoMemory;
 use model_operations::IntOp;
-use script_fields::Field::{File, Format, Integer, Name, Natural, Policy, Rect, Sideways};
-use script_fields::{put_fields, put_names, put_samples};
+use script_fields::{Field, put_fields, put_names, put_samples};
 use script_words::push_word;
 use std::alloc::Global;
-
-/// Appends one group of fields to a text, or two, each word after a space.
-macro_rules! put_groups {
-    ($text:ident, [$($kind:ident $field:ident),+]) => {
-        put_fields($text, &[$($kind(*$field)),+])
-    };
-    ($text:ident, [$($kind:ident $field:ident),+] [$($more:ident $other:ident),+]) => {{
-        put_fields($text, &[$($kind(*$field)),+])?;
-        put_fields($text, &[$($more(*$other)),+])
-    }};
-}
-
-/// Appends the fields of a value to a text by its variant: for each variant the kinds and names of
-/// its fields are listed, in one group or two, and last what is done for the other variants.
-macro_rules! put_by_variant {
-    (
-        $text:ident, $value:ident;
-        $($type:ident::$variant:ident: $([$($kind:ident $field:ident),+])+,)+
-        _: $others:expr
-    ) => {
-        match $value {
-            $($type::$variant { $($($field,)+)+ .. } => {
-                put_groups!($text, $([$($kind $field),+])+)
-            })+
-            _ => $others,
-        }
-    };
-}
 
 /// Returns the text of a script: each command on the line of its number, with empty lines between.
 /// Takes time in proportion to the text, which has a byte at least for each number up to that of
@@ -90,16 +62,8 @@ fn put_command(text: &mut Vec<u8>, command: &Command) -> Result<(), NoMemory>
 fn put_fields_of(text: &mut Vec<u8>, command: &Command) -> Result<(), NoMemory>
     ensures { PutsFields (fields_of command.now) result text.old.items text.new.items }
 {
-    put_by_variant!(text, command;
-        Command::Buffer: [Name name, Format format, Rect rect],
-        Command::Sub: [Name name, Name parent, Rect rect],
-        Command::Dup: [Name name, Name from],
-        Command::Load: [Name name, Rect rect, File file],
-        Command::Fill: [Name name, Rect rect],
-        Command::Copy: [Name from, Name to] [Rect rect, Integer dx, Integer dy],
-        Command::Node: [Name name],
-        Command::Drop: [Name name],
-        _: put_output_fields(text, command))
+    by_command!(command, fields => put_fields(text, &fields),
+        _ => put_output_fields(text, command))
 }
 
 /// Appends the fields of a command that writes files to a text, each word after a space. Others
@@ -107,11 +71,7 @@ fn put_fields_of(text: &mut Vec<u8>, command: &Command) -> Result<(), NoMemory>
 fn put_output_fields(text: &mut Vec<u8>, command: &Command) -> Result<(), NoMemory>
     ensures { PutsFields (output_fields command.now) result text.old.items text.new.items }
 {
-    put_by_variant!(text, command;
-        Command::Render: [Name name, Natural level] [Rect rect, File file],
-        Command::Grab: [Name name, Natural level, Policy abyss] [Rect rect, File file],
-        Command::Watch: [Name name, Rect rect] [Natural viewers, Natural frames, File prefix],
-        _: Ok(()))
+    by_output!(command, fields => put_fields(text, &fields), _ => Ok(()))
 }
 
 /// Appends the words after the fields of a command to a text, each after a space: samples, or an
@@ -146,7 +106,7 @@ fn put_arguments(text: &mut Vec<u8>, op: &OpWords) -> Result<(), NoMemory>
     ensures { PutsFields (arguments op.now) result text.old.items text.new.items }
 {
     match op {
-        OpWords::Source { buffer } => put_fields(text, &[Name(*buffer)]),
+        OpWords::Source { buffer } => put_fields(text, &[Field::Name(*buffer)]),
         OpWords::Compute { op } => put_operation_arguments(text, op),
     }
 }
@@ -155,19 +115,7 @@ fn put_arguments(text: &mut Vec<u8>, op: &OpWords) -> Result<(), NoMemory>
 fn put_operation_arguments(text: &mut Vec<u8>, op: &IntOp) -> Result<(), NoMemory>
     ensures { PutsFields (operation_arguments op.now) result text.old.items text.new.items }
 {
-    put_by_variant!(text, op;
-        IntOp::Color: [Format format, Rect rect],
-        IntOp::Checker: [Format format, Rect rect] [Natural size, Natural v1, Natural v2],
-        IntOp::Convert: [Format format],
-        IntOp::Threshold: [Natural at],
-        IntOp::Gain: [Natural num, Natural den],
-        IntOp::Translate: [Integer dx, Integer dy],
-        IntOp::Crop: [Rect rect],
-        IntOp::Flip: [Sideways sideways],
-        IntOp::BoxMean: [Natural radius, Policy abyss],
-        IntOp::Dilate: [Natural radius, Policy abyss],
-        IntOp::Erode: [Natural radius, Policy abyss],
-        _: Ok(()))
+    by_operation!(op, fields => put_fields(text, &fields), _ => Ok(()))
 }
 
 /// Appends the samples of an operation to a text, each after a space.

@@ -4,7 +4,7 @@ ghost use Rattle.std.specs.Prelude.{◌≡◌, ◌+◌, ◌≤◌, ◌<◌, IfOk
 ghost use Rattle.script_words.specs.Lines.{is_text};
 ghost use Rattle.script_fields.specs.{Answers.Answers, Fields.texts};
 ghost use Rattle.script_read.specs.Answers.{Reads};
-ghost use Rattle.script_read.specs.Script.{begins_comment, command_by, command_in, command_of_words, is_silent, open_after, open_past, script_of, spoken, step_of};
+ghost use Rattle.script_read.specs.Script.{begins_comment, command_by, command_in, command_of_words, is_silent, number_or, open_after, open_past, script_of, spoken, step_of};
 ghost use Rattle.script_read.specs.{IsScript.IsScript, Limits.IsInLimits};
 ghost use Rattle.pixel_formats.specs.Limits.{max_lines};
 
@@ -12,7 +12,7 @@ use crate::command::{Command, Line};
 use crate::commands::command_of;
 use crate::forms::Form;
 use pixel_formats::limits::{MAX_LINE_BYTES, MAX_LINES};
-use script_fields::{Field, LineAnswer, ScriptAnswer, ScriptCause, numbers_fit, read_fields};
+use script_fields::{Field, Kind, LineAnswer, ScriptAnswer, ScriptCause, numbers_fit, read_fields};
 use script_words::{is_text, next_line, split_words};
 use std::alloc::Global;
 
@@ -198,9 +198,20 @@ fn command_by(
     if kinds.len() != words.len() {
         return Err(LineAnswer::Refused(ScriptCause::Words));
     }
-    if !numbers_fit(kinds, words) {
-        return Err(LineAnswer::Refused(ScriptCause::Number));
+    if let Err(answer) = read_fields(kinds, words, fields) {
+        return Err(number_or(kinds, words, answer));
     }
-    read_fields(kinds, words, fields)?;
     command_of(alloc, form, fields)
+}
+
+/// Returns why words aren't read as fields: `Number` where one of them isn't the number that it has
+/// to be, and else another answer.
+fn number_or(kinds: &[Kind], words: &[&[u8]], answer: LineAnswer) -> LineAnswer
+    ensures { result ≡ number_or kinds.now (texts words.now) answer }
+{
+    if numbers_fit(kinds, words) {
+        answer
+    } else {
+        LineAnswer::Refused(ScriptCause::Number)
+    }
 }

@@ -4,6 +4,8 @@ use Rattle.run_lines.proofs.Faults.{continues_same, faults_of_swap}
 use Rattle.run_lines.specs.Moments.{HasFaults, Moment}
 use Rattle.run_lines.proofs.Loading.{load_out_of_bounds, load_unknown}
 use Rattle.run_lines.specs.Rasters.{IsTarget}
+use Rattle.script_read.specs.Limits.{HasFields}
+use Rattle.script_read.specs.declared.command.Command.TheVariants.{Load}
 use Rattle.run_lines.proofs.loads.load.Goals as goal
 
 refused_faults : (now : Moment) → HasFaults (Err ends.Refused) now now
@@ -49,7 +51,9 @@ returns-then-not-contains g c = λ text puts. record {
 }
 
 pub load_bands-requires-clause-limits : goal.load_bands-requires-clause-limits
-load_bands-requires-clause-limits g c κs within = rw c.in-Load.is at c.requires.limits
+load_bands-requires-clause-limits g c κs within =
+    let fields : HasFields (Load c.in-Load.name c.in-Load.rect c.in-Load.file) = rw c.in-Load.is at c.requires.limits.fields in
+    fields.1.0
 
 pub load_bands-requires-clause-target : goal.load_bands-requires-clause-target
 load_bands-requires-clause-target g c κs within =

@@ -1,4 +1,5 @@
-use Rattle.std.proofs.Common.{length, Result, Ok, Err, refl, sym, ap, ◌∙◌}
+use Rattle.std.proofs.Common.{IsTrue, is_some, length, Result, Ok, Err, refl, sym, ap, ◌∙◌}
+use Rattle.plane_rect.specs.Rectangle.{scaled}
 use Rattle.model_runs.specs.Effects.{writes}
 use Rattle.run_lines.specs.Moments.{Moment}
 use Rattle.run_lines.proofs.Rendered.{IsLeft, render-done, render-ended, render-faults, render-stopped, shown-by}
@@ -10,7 +11,6 @@ use Rattle.run_lines.specs.declared.stop.Stop.{Stop}
 use Rattle.run_lines.specs.declared.stop.Stop.TheVariants as stops
 use Rattle.model_runs.specs.Events.{events_alone}
 use Rattle.model_runs.specs.Texts.{render_text}
-use Rattle.script_fields.specs.Limits.{IsLevelRect}
 use Rattle.run_lines.proofs.renders.render.Goals as goal
 
 pub returns-in_err-picture : goal.returns-in_err-picture
@@ -20,11 +20,11 @@ returns-in_err-picture g c = record {
       let ensures = c.in_err-picture.ensures in
       let before : Moment = moment g.F.Shelf g.O.Sink g.C.ChainMeaning c.args.shelf.now c.args.out.now c.args.chain.now in
       let after : Moment = record before { chain = g.C.ChainMeaning.counts c.render.new.chain } in
-      let limits : IsLevelRect c.in-Render.level c.in-Render.rect = rw c.in-Render.is at c.requires.limits in
+      let readable : IsTrue (is_some (scaled c.in-Render.level c.in-Render.rect)) = rw c.in-Render.is at c.requires.limits.rectangle in
       rw c.in-Render.is
       (same_stop exposed capacity line state files _ _ _ _ _ _ _ c.from_residual.ensures.1
       (render-stopped exposed capacity line state files c.args.session.now c.render.new.self (g.C.ChainMeaning.held c.args.chain.now) (g.C.ChainMeaning.held c.render.new.chain)
-      c.in-Render.name c.in-Render.level c.in-Render.rect c.in-Render.file before after holds ensures.stated refl refl c.in_err-picture.field-0.0 limits.scaled ensures.cause));
+      c.in-Render.name c.in-Render.level c.in-Render.rect c.in-Render.file before after holds ensures.stated refl refl c.in_err-picture.field-0.0 readable ensures.cause));
   faults =
       let ensures = c.in_err-picture.ensures in
       let before : Moment = moment g.F.Shelf g.O.Sink g.C.ChainMeaning c.args.shelf.now c.args.out.now c.args.chain.now in
