@@ -1,3 +1,4 @@
+pub mod BandLemmas
 pub mod StoredFilesLemmas
 pub mod BlockLemmas
 pub mod BlockRanges

@@ -2,6 +2,7 @@ pub mod FileName
 pub mod Faults
 pub mod Files
 pub mod Shelf
+pub mod Bands
 pub mod Swap
 pub mod Sink
 pub mod Calls

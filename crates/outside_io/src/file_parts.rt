@@ -1,7 +1,8 @@
 //! Parts of files, which several threads may read.
 
-ghost use Rattle.std.specs.Prelude.{◌≡◌, ◌<◌, ◌≤◌, IfOk, length};
+ghost use Rattle.std.specs.Prelude.{◌≡◌, ◌<◌, ◌≤◌, IfOk, Ok, Some, length};
 ghost use Rattle.std.specs.Thread.{IsSync};
+ghost use Rattle.outside_io.specs.Shelf.{GivesPart};
 
 use crate::open_files::{MAX_INTERRUPTIONS, refusal};
 use crate::shelf::ShelfAnswer;
@@ -13,6 +14,19 @@ use worker_pieces::Workers;
 
 /// How many bytes of a file that the system has in memory a thread copies in a nanosecond, at least.
 const BYTES_PER_NANOSECOND: u64 = 3;
+
+/// Copies the bytes of a file from a position on, as many as the slice has room for, and fewer only where they end. Returns
+/// how many.
+pub(crate) fn copy_part(bytes: &[u8], start: u64, into: &mut [u8]) -> usize
+    ensures gives { GivesPart (Some bytes.now) start (length into.old) into.new (Ok result) }
+    ensures within { result ≤ length into.new }
+    ensures length { length into.new ≡ length into.old }
+{
+    let rest = bytes.get(start as usize..).unwrap_or(&[]);
+    let count = rest.len().min(into.len());
+    into[..count].copy_from_slice(&rest[..count]);
+    count
+}
 
 /// Reads a file from a position on into the slice, to the file's end or the slice's, and returns how many bytes. The
 /// workers read a piece each, where that is worth it.

@@ -2,18 +2,22 @@
 
 ghost use Rattle.std.specs.Prelude.{◌≡◌, ◌<◌, ◌≤◌, ◌⊎◌, None, Err, IfErr, IfOk, IsTrue, Ok, length, vec_len};
 ghost use Rattle.std.specs.Thread.{IsSync};
+ghost use Rattle.outside_io.specs.Bands.{BandsLeave, has_failed as have_failed};
 ghost use Rattle.outside_io.specs.Shelf.{AppendLeaves, TakesAtMost, WriteLeaves, has_failed};
+ghost use Rattle.outside_io.specs.declared.bands.BandsAnswer.TheVariants.{Refused};
 ghost use Rattle.outside_io.specs.{Faults.faults_after, FileName.is_file_name, FolderShelf.ShelfFaults};
 
+use crate::bands::{Bands, BandsAnswer};
 use crate::file_parts::read_at;
+use crate::new_files::{write_each_whole, write_whole};
 use crate::open_files::{MAX_INTERRUPTIONS, open_file, refusal};
 use crate::shelf::{Shelf, ShelfAnswer};
 use std::alloc::Global;
 use std::fs::{File, Files, OpenFile, OpenOptions};
+use std::io;
 use std::io::{ErrorKind, Read, Write};
 use std::marker::Model;
 use std::thread::Threads;
-use std::{fs, io};
 use worker_pieces::Workers;
 
 /// How many bytes a turn reads of a file of the length that the system says. So many stay in the processor's nearer
@@ -96,8 +100,29 @@ impl<R: Files<File = File> + AllocGlobal + Drop> Shelf for FolderShelf<R> {
         // A write that failed is counted, and no other.
         ensures counted { self.new ≡ record self.old { writes = faults_after (has_failed result) self.old.writes } }
     {
-        let answer = write_answer(fs::write(&self.rt, name, bytes));
+        let answer = write_answer(write_whole(&self.rt, name, bytes));
         count_failed(&mut self.write_faults, &answer);
+        answer
+    }
+
+    fn write_bands<B: Bands>(
+        &mut self,
+        _alloc: Global,
+        name: &str,
+        bands: &mut B,
+    ) -> Result<(), BandsAnswer<B::Refused>>
+        requires { IsTrue (is_file_name name.now) }
+        ensures leaves { BandsLeave (B.may_give bands.old) None name.now result None }
+        ensures refused { (why : B.Refused) → result ≡ Err (Refused why) → B.refuses bands.new why }
+        ensures later { self.old.writes ≤ self.new.writes }
+
+        // A write that failed is counted, and no other.
+        ensures counted { self.new ≡ record self.old { writes = faults_after (have_failed result) self.old.writes } }
+    {
+        let answer = write_each_whole(&self.rt, name, bands);
+        if let Err(BandsAnswer::Failed) = answer {
+            self.write_faults = self.write_faults.saturating_add(1);
+        }
         answer
     }
 

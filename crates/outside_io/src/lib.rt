@@ -1,6 +1,7 @@
 //! What is outside of the engine: shelves of files, swap disks, sinks and gates.
 #![tactic(auto)]
 
+mod bands;
 mod failing_calls;
 mod file_name;
 mod file_parts;
@@ -12,6 +13,7 @@ mod meet_gate;
 mod mem_shelf;
 mod mem_sink;
 mod mem_swap;
+mod new_files;
 mod open_files;
 mod shelf;
 mod sink;
@@ -24,6 +26,7 @@ mod sure_swap;
 mod swap;
 
 pub use alloc_basics::NoMemory;
+pub use bands::{Bands, BandsAnswer};
 pub use file_name::is_file_name;
 pub use file_swap::FileSwap;
 pub use folder_shelf::FolderShelf;

@@ -1,14 +1,19 @@
 //! Shelves: files by their names.
 
-ghost use Rattle.std.specs.Prelude.{◌≡◌, ℕ, ◌≤◌, Option, IfOk, IfSome, IsTrue, IsErrOf, length};
+ghost use Rattle.std.specs.Prelude.{◌≡◌, ℕ, ◌≤◌, Err, Option, IfOk, IfSome, IsTrue, IsErrOf, length};
 ghost use Rattle.std.specs.Thread.{IsSync};
+ghost use Rattle.outside_io.specs.Bands.{BandsLeave};
 ghost use Rattle.outside_io.specs.Files.{Files, file};
 ghost use Rattle.outside_io.specs.Shelf.{Answers, AppendLeaves, GivesPart, TakesAtMost, WriteLeaves};
 ghost use Rattle.outside_io.specs.FileName.{is_file_name};
+ghost use Rattle.outside_io.specs.declared.bands.BandsAnswer.TheVariants.{Refused};
 ghost use Rattle.outside_io.specs.declared.shelf.ShelfAnswer.TheVariants.{NoMemory};
 ghost use Rattle.chain_owners.specs.Counts.{Rose};
 
+use crate::bands::{Bands, BandsAnswer, joined};
+use crate::file_parts::copy_part;
 use alloc_basics::OutOfMemory;
+use std::alloc::Global;
 use std::thread::Threads;
 use thiserror::Error;
 use worker_pieces::Workers;
@@ -61,13 +66,14 @@ pub trait Shelf {
         ensures write_faults { write_faults self.new ≡ write_faults self.old };
 
     /// Reads the bytes of a file from the position `start` on, as many as the slice has room for, and fewer only
-    /// where the file ends; returns how many. The workers may read a piece of them each.
+    /// where the file ends; returns how many. The workers may read a piece of them each. A shelf that has no other way
+    /// reads the whole file each time.
     fn read_part<R: Threads + Sync>(
         &mut self,
         name: &str,
         start: u64,
         into: &mut [u8],
-        workers: Workers<'_, R>,
+        _workers: Workers<'_, R>,
     ) -> Result<usize, ShelfAnswer>
         requires name { IsTrue (is_file_name name.now) }
         requires threads { IsSync R.row }
@@ -78,7 +84,15 @@ pub trait Shelf {
         ensures absent { IsErrOf result ShelfAnswer.Absent → read_faults self.new ≡ read_faults self.old }
         ensures later { read_faults self.old ≤ read_faults self.new }
         ensures files { files self.new ≡ files self.old }
-        ensures write_faults { write_faults self.new ≡ write_faults self.old };
+        ensures write_faults { write_faults self.new ≡ write_faults self.old }
+    {
+        match self.read(name, u64::MAX) {
+            Ok(bytes) => Ok(copy_part(&bytes, start, into)),
+            // No file has more bytes than this limit.
+            Err(ShelfAnswer::TooLong { .. }) => unreachable!(),
+            Err(answer) => Err(answer),
+        }
+    }
 
     /// Makes a file hold exactly these bytes.
     fn write(&mut self, name: &str, bytes: &[u8]) -> Result<(), ShelfAnswer>
@@ -87,6 +101,30 @@ pub trait Shelf {
         ensures failed { IsErrOf result ShelfAnswer.Failed → Rose (write_faults self.old) (write_faults self.new) }
         ensures later { write_faults self.old ≤ write_faults self.new }
         ensures read_faults { read_faults self.new ≡ read_faults self.old };
+
+    /// Makes a file hold exactly the bytes of the bands that are left, one after another. No file changes where a band
+    /// can't be made. A shelf that has no other way collects them and writes them.
+    fn write_bands<B: Bands>(
+        &mut self,
+        alloc: Global,
+        name: &str,
+        bands: &mut B,
+    ) -> Result<(), BandsAnswer<B::Refused>>
+        requires { IsTrue (is_file_name name.now) }
+        ensures leaves { BandsLeave (B.may_give bands.old) (files self.old) name.now result (files self.new) }
+        ensures failed { IsErrOf result BandsAnswer.Failed → Rose (write_faults self.old) (write_faults self.new) }
+        ensures refused { (why : B.Refused) → result ≡ Err (Refused why) → B.refuses bands.new why }
+        ensures later { write_faults self.old ≤ write_faults self.new }
+        ensures read_faults { read_faults self.new ≡ read_faults self.old }
+    {
+        let bytes = joined(alloc, bands)?;
+        match self.write(name, &bytes) {
+            Ok(()) => Ok(()),
+            Err(ShelfAnswer::Failed) => Err(BandsAnswer::Failed),
+            Err(ShelfAnswer::NoMemory) => Err(BandsAnswer::NoMemory),
+            Err(ShelfAnswer::Absent | ShelfAnswer::TooLong { .. }) => unreachable!(),
+        }
+    }
 
     /// Adds bytes at the end of a file. A shelf may fail where there is no such file, or begin it.
     fn append(&mut self, name: &str, bytes: &[u8]) -> Result<(), ShelfAnswer>

@@ -6,6 +6,7 @@ ghost use Rattle.outside_io.specs.Files.{appended, file, filed};
 ghost use Rattle.outside_io.specs.Shelf.{Answers, GivesPart, TakesAtMost};
 ghost use Rattle.outside_io.specs.StoredFiles.{has_name, files_of};
 
+use crate::file_parts::copy_part;
 use crate::shelf::ShelfAnswer;
 use std::alloc::{AllocError, Global};
 use std::marker::Model;
@@ -84,10 +85,7 @@ impl StoredFiles {
         let Some(bytes) = self.get(name) else {
             return Err(ShelfAnswer::Absent);
         };
-        let rest = bytes.get(start as usize..).unwrap_or(&[]);
-        let count = rest.len().min(into.len());
-        into[..count].copy_from_slice(&rest[..count]);
-        Ok(count)
+        Ok(copy_part(bytes, start, into))
     }
 
     /// Reads a file that has at most `limit` bytes.
