@@ -3,14 +3,19 @@
 # ---- formats: channels, the maximum sample, alpha
 
 FORMATS = {
-    name + depth: (channels, 255 if depth == "8" else 65535, alpha)
+    name + str(bits): (channels, 2 ** bits - 1, alpha)
     for name, channels, alpha in (("Y", 1, False), ("YA", 2, True), ("RGB", 3, False), ("RGBA", 4, True))
-    for depth in ("8", "16")
+    for bits in (8, 16, 32)
 }
 POLICIES = ("NONE", "CLAMP", "LOOP", "BLACK", "WHITE")
 SIDE = 1 << 24
 TILE = 64
 EMPTY = (0, 0, 0, 0)
+
+
+def sample_bytes(kind):
+    """The bytes of a sample in a raw file."""
+    return FORMATS[kind][1].bit_length() // 8
 
 
 class Refused(Exception):
@@ -122,10 +127,10 @@ class Image:
         return Image(part, self.kind, rows)
 
     def raw(self):
-        width = 1 if FORMATS[self.kind][1] == 255 else 2
+        width = sample_bytes(self.kind)
         if width == 1:
             return b"".join(bytes(row) for row in self.rows)
-        return b"".join(sample.to_bytes(2, "little") for row in self.rows for sample in row)
+        return b"".join(sample.to_bytes(width, "little") for row in self.rows for sample in row)
 
     def put(self, part, rows):
         """Writes the samples of a rectangle of the box."""
@@ -166,10 +171,10 @@ class Image:
 
 
 def from_raw(part, kind, data):
-    channels, top, _ = FORMATS[kind]
-    if top == 65535:
-        data = [data[i] | data[i + 1] << 8 for i in range(0, len(data), 2)]
-    length = part[2] * channels
+    width = sample_bytes(kind)
+    if width > 1:
+        data = [int.from_bytes(data[i:i + width], "little") for i in range(0, len(data), width)]
+    length = part[2] * FORMATS[kind][0]
     return [list(data[row * length:(row + 1) * length]) for row in range(part[3])]
 
 
@@ -204,9 +209,9 @@ def converted(image, kind):
             if alpha:
                 colors = colors + [pixel[-1] if from_alpha else from_top]
             if from_top < top:
-                colors = [v * 257 for v in colors]
+                colors = [v * (top // from_top) for v in colors]
             elif from_top > top:
-                colors = [(v * 255 + 32767) // 65535 for v in colors]
+                colors = [(v * top + from_top // 2) // from_top for v in colors]
             line.extend(colors)
         rows.append(line)
     return Image(image.box, kind, rows)

@@ -5,7 +5,7 @@ import re
 
 from plain_images import (
     EMPTY, FORMATS, Image, Refused, TILE, from_raw, hull, image_of, includes, is_rectangle, meet, moved, reached_from,
-    read_for, rectangle, shape_of, square, tiles,
+    read_for, rectangle, sample_bytes, shape_of, square, tiles,
 )
 
 # ---- states: buffers are (root, extent), roots are images, nodes are (name, op or buffer, inputs)
@@ -93,9 +93,8 @@ class Session:
             raise Refused("OutOfBounds")
         if file not in self.files:
             raise Refused("Absent")
-        channels, top, _ = FORMATS[image.kind]
         data = self.files[file]
-        if len(data) != part[2] * part[3] * channels * (1 if top == 255 else 2):
+        if len(data) != part[2] * part[3] * FORMATS[image.kind][0] * sample_bytes(image.kind):
             raise Refused("WrongSize")
         self.write(root, part, from_raw(part, image.kind, data))
 

@@ -42,7 +42,7 @@ const KERNELS: [(&str, Kernel); 10] = [
 ];
 
 /// All formats.
-const FORMATS: [Format; 8] = [
+const FORMATS: [Format; 12] = [
     Format::Y8,
     Format::YA8,
     Format::RGB8,
@@ -51,6 +51,10 @@ const FORMATS: [Format; 8] = [
     Format::YA16,
     Format::RGB16,
     Format::RGBA16,
+    Format::Y32,
+    Format::YA32,
+    Format::RGB32,
+    Format::RGBA32,
 ];
 
 /// How many rows a call makes.

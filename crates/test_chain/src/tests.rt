@@ -28,7 +28,8 @@ fn make_over<D: SwapDisk>(
 {
     let mut chain = chain_over(alloc, disk, blocks, resident).expect(rt, "memory");
     make(rt, &mut chain, alloc, steps);
-    let zeros = chain.zero(8_192).expect(rt, "memory");
+    let zeros = chain.zero(65_536).expect(rt, "memory");
+    check(rt, "zeros", zeros.bytes().len(), 65_536);
     assert!(rt; zeros.bytes().iter().all(|byte| *byte == 0));
     let _disk = chain.end();
 }

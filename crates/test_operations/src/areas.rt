@@ -115,6 +115,58 @@ fn squares_at_the_corner_of_the_plane(rt: HostRuntime) {
     assert!(rt; applied(&rt, alloc, &outside, &windows, corner).is_none());
 }
 
+/// Operations on three columns and two rows of the largest samples of RGBA32, a pixel of the results, and its raw bytes as
+/// decimal numbers. All positions of a large square in the image are six, one for its corner; 16,641 largest samples add
+/// up to more than 2^46.
+const LARGEST: [(&str, Fields, &str); 7] = [
+    (
+        "box 64 CLAMP a",
+        [0, 0, 1, 1],
+        "255 255 255 255 255 255 255 255 255 255 255 255 255 255 255 255",
+    ),
+    (
+        "box 64 WHITE a",
+        [2, 1, 1, 1],
+        "255 255 255 255 255 255 255 255 255 255 255 255 255 255 255 255",
+    ),
+    (
+        "box 64 BLACK a",
+        [0, 0, 1, 1],
+        "29 161 23 0 29 161 23 0 29 161 23 0 255 255 255 255",
+    ),
+    (
+        "box 64 NONE a",
+        [0, 0, 1, 1],
+        "29 161 23 0 29 161 23 0 29 161 23 0 29 161 23 0",
+    ),
+    (
+        "box 64 NONE a",
+        [-64, -64, 1, 1],
+        "48 240 3 0 48 240 3 0 48 240 3 0 48 240 3 0",
+    ),
+    (
+        "dilate 64 BLACK a",
+        [0, 0, 1, 1],
+        "255 255 255 255 255 255 255 255 255 255 255 255 255 255 255 255",
+    ),
+    (
+        "erode 64 BLACK a",
+        [0, 0, 1, 1],
+        "0 0 0 0 0 0 0 0 0 0 0 0 255 255 255 255",
+    ),
+];
+
+#[test]
+fn squares_of_the_largest_samples(rt: HostRuntime) {
+    let alloc = rt.alloc();
+    let windows = [window(&rt, alloc, [0, 0, 3, 2], Format::RGBA32, &[255; 96])];
+    for (row, (words, part, result)) in LARGEST.iter().enumerate() {
+        let op = op_of(&rt, alloc, words);
+        let raw = bytes_of(&rt, alloc, result);
+        check(&rt, alloc, row, &op, &windows, *part, &raw);
+    }
+}
+
 /// Returns bytes of 0 to 250, again and again.
 fn repeated(rt: &impl Abort, alloc: Global, count: u32) -> Vec<u8> {
     let mut bytes = Vec::new(alloc);

@@ -35,11 +35,11 @@ const MOVES: [(&str, Fields, &[usize]); 4] = [
 
 /// Returns the image of a format of a table, by the number of the format.
 fn image_at(rt: &impl Abort, alloc: Global, rows: &Rows, index: usize) -> Window {
-    assert!(rt; index < 8);
+    assert!(rt; index < 12);
     row_of(rt, alloc, FORMATS[index], rows[index])
 }
 
-/// Checks what an operation gives of two pixels of windows, whose format has the row's number modulo 8. Without a result the
+/// Checks what an operation gives of two pixels of windows, whose format has the row's number modulo 12. Without a result the
 /// windows are not taken.
 fn check_pair(
     rt: &impl Abort,
@@ -49,7 +49,7 @@ fn check_pair(
     windows: &[Window],
     results: &Rows,
 ) {
-    let wanted = results[row % 8];
+    let wanted = results[row % 12];
     if wanted.is_empty() {
         assert!(rt; applied(rt, alloc, op, windows, PAIR).is_none());
     } else {
@@ -64,8 +64,8 @@ fn changes_of_samples(rt: HostRuntime) {
     for (number, (words, results)) in CHANGES.iter().enumerate() {
         let op = op_of(&rt, alloc, words);
         check_copy(&rt, alloc, &op);
-        for index in 0..8 {
-            let row = number.wrapping_mul(8).wrapping_add(index);
+        for index in 0..12 {
+            let row = number.wrapping_mul(12).wrapping_add(index);
             let windows = [image_at(&rt, alloc, &FIRST, index)];
             check_pair(&rt, alloc, row, &op, &windows, results);
         }
@@ -85,7 +85,7 @@ fn picked(rt: &impl Abort, alloc: Global, width: usize, image: &[u8], pixels: &[
 
 /// Checks the pixels of what an operation of the first image of each format gives over a rectangle.
 fn check_move(rt: &impl Abort, alloc: Global, op: &IntOp, out: Fields, pixels: &[usize]) {
-    for index in 0..8 {
+    for index in 0..12 {
         let windows = [image_at(rt, alloc, &FIRST, index)];
         let image = bytes_of(rt, alloc, FIRST[index]);
         let width = FORMATS[index].pixel_bytes() as usize;
@@ -105,16 +105,16 @@ fn moves_of_pixels(rt: HostRuntime) {
 
 #[test]
 fn conversions(rt: HostRuntime) {
-    for from in 0..8 {
+    for from in 0..12 {
         let windows = [image_at(&rt, rt.alloc(), &FIRST, from)];
-        for to in 0..8 {
+        for to in 0..12 {
             let op = IntOp::Convert {
                 format: FORMATS[to],
             };
             check_pair(
                 &rt,
                 rt.alloc(),
-                8 * from + to,
+                12 * from + to,
                 &op,
                 &windows,
                 &CONVERTED[from],
@@ -127,7 +127,9 @@ fn conversions(rt: HostRuntime) {
 fn mask_of(rt: &impl Abort, alloc: Global, format: Format) -> Window {
     match format.depth() {
         1 => row_of(rt, alloc, Format::Y8, "128 255"),
-        _ => row_of(rt, alloc, Format::Y16, "0 128 244 1"),
+        2 => row_of(rt, alloc, Format::Y16, "0 128 244 1"),
+        4 => row_of(rt, alloc, Format::Y32, "0 0 0 128 0 202 154 59"),
+        _ => panic!(rt; "a depth"),
     }
 }
 
@@ -135,7 +137,7 @@ fn mask_of(rt: &impl Abort, alloc: Global, format: Format) -> Window {
 #[test]
 fn two_images(rt: HostRuntime) {
     let alloc = rt.alloc();
-    for index in 0..8 {
+    for index in 0..12 {
         let images = [
             image_at(&rt, alloc, &FIRST, index),
             image_at(&rt, alloc, &SECOND, index),
@@ -187,7 +189,7 @@ fn check_of_none(
 #[test]
 fn colors_and_checkerboards(rt: HostRuntime) {
     let alloc = rt.alloc();
-    for index in 0..8 {
+    for index in 0..12 {
         let format = FORMATS[index];
         let image = bytes_of(&rt, alloc, FIRST[index]);
         let (pixel, _) = image.as_slice().split_at(image.len() / 2);

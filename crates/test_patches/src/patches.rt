@@ -66,6 +66,15 @@ fn samples_by_x_and_y(rt: HostRuntime) {
     }
 }
 
+#[test]
+fn samples_of_four_bytes(rt: HostRuntime) {
+    let bytes = [1, 2, 3, 4, 255, 255, 255, 255];
+    let patch = patch_of(&rt, rt.alloc(), [0, 0, 1, 1], Format::YA32, &bytes);
+    check(&rt, "color", patch.at(0, 0, 0), 67_305_985);
+    check(&rt, "alpha", patch.at(0, 0, 1), u32::MAX);
+    check(&rt, "outside", patch.at(1, 0, 1), 0);
+}
+
 /// A rectangle, and the samples over it.
 const PARTS: [([i64; 4], [u8; 4]); 5] = [
     ([-1, -1, 2, 2], [1, 2, 3, 4]),
@@ -137,6 +146,19 @@ fn puts_tiles(rt: HostRuntime) {
     let sevens = back.bytes().iter().filter(|byte| **byte == 7).count();
     check(&rt, "sevens", sevens, 2);
     assert!(rt; back.bytes().starts_with(&[7, 7, 0]));
+}
+
+#[test]
+fn tiles_of_the_widest_format(rt: HostRuntime) {
+    let bytes = [1, 2, 3, 4, 5, 6, 7, 8, 9, 10, 11, 12, 13, 14, 15, 16];
+    let patch = patch_of(&rt, rt.alloc(), [65, 0, 1, 1], Format::RGBA32, &bytes);
+    let tile = tile_of(&rt, rt.alloc(), &patch, TileAt::of(64, 0));
+    assert!(rt; tile.bytes().len() == 65_536);
+    let second = tile.bytes().get(16..32);
+    check(&rt, "second pixel", second, Some(bytes.as_slice()));
+    let mut back = zeros(&rt, rt.alloc(), [65, 0, 1, 1], Format::RGBA32);
+    back.put_tile(TileAt::of(64, 0), &tile);
+    check(&rt, "put", back.raw_bytes(), bytes.as_slice());
 }
 
 /// Checks the half of an image.

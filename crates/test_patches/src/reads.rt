@@ -20,9 +20,9 @@ pub const POLICIES: [Abyss; 5] = [
 ];
 
 /// The bytes of a white pixel of the widest format, and of one that is zero.
-const WHITE: &[u8] = &[255; 8];
+const WHITE: &[u8] = &[255; 16];
 
-const ZERO: &[u8] = &[0; 8];
+const ZERO: &[u8] = &[0; 16];
 
 /// Returns how many bytes a pixel of an image has.
 fn width_of(image: &Image) -> usize

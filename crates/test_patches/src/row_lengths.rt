@@ -8,7 +8,10 @@ use sample_rows::{convert_row, row_add, row_average4, row_invert, row_mask, row_
 use std::process::Abort;
 
 /// How many bytes the rows have that are read and written, of which a kernel uses a prefix.
-const ROOM: usize = 200;
+const ROOM: usize = 400;
+
+/// The largest sample of four bytes.
+const LARGEST: usize = 4_294_967_295;
 
 /// The bytes of a row before it is written.
 const OLD: u8 = 7;
@@ -18,7 +21,7 @@ const OLD: u8 = 7;
 const COUNTS: [usize; 14] = [0, 1, 3, 4, 5, 7, 8, 9, 15, 16, 17, 31, 32, 33];
 
 /// The shapes of loops.
-const SHAPES: [Shape; 10] = [
+const SHAPES: [Shape; 16] = [
     Shape::Samples,
     Shape::PixelsWithAlpha,
     Shape::Pairs,
@@ -29,6 +32,12 @@ const SHAPES: [Shape; 10] = [
     Shape::HalvingColors,
     Shape::Masked,
     Shape::Layouts,
+    Shape::LongSamples,
+    Shape::LongPairs,
+    Shape::LongHalving,
+    Shape::LongMasked,
+    Shape::Spreading,
+    Shape::Gathering,
 ];
 
 /// A shape of loop, by one kernel that has it.
@@ -54,6 +63,18 @@ enum Shape {
     Masked,
     /// RGBA8 to Y8.
     Layouts,
+    /// Inverting Y32.
+    LongSamples,
+    /// Adding Y32.
+    LongPairs,
+    /// The means of four of Y32.
+    LongHalving,
+    /// Masking Y32.
+    LongMasked,
+    /// Y8 to Y32.
+    Spreading,
+    /// Y32 to Y8.
+    Gathering,
 }
 
 impl Shape {
@@ -62,10 +83,12 @@ impl Shape {
         requires { n ≤ 33 }
     {
         match self {
-            Shape::Samples | Shape::Pairs | Shape::Narrowing | Shape::Halving | Shape::Layouts => n,
+            Shape::Samples | Shape::Pairs | Shape::Narrowing | Shape::Halving => n,
+            Shape::Layouts | Shape::Gathering => n,
             Shape::PairsWithAlpha | Shape::Widening => n * 2,
             Shape::HalvingColors | Shape::Masked => n * 3,
-            Shape::PixelsWithAlpha => n * 4,
+            Shape::PixelsWithAlpha | Shape::LongSamples | Shape::LongPairs => n * 4,
+            Shape::LongHalving | Shape::LongMasked | Shape::Spreading => n * 4,
         }
     }
 
@@ -113,12 +136,32 @@ impl Shape {
                 Format::Y8,
                 &mut dst[..n],
             ),
+            _ => self.write_long(n, first, second, dst),
+        }
+    }
+
+    /// Writes a row of so many pixels, which are read or written as samples of four bytes.
+    fn write_long(self, n: usize, first: &[u8; ROOM], second: &[u8; ROOM], dst: &mut [u8; ROOM])
+        requires { n ≤ 33 }
+    {
+        let (long, halved) = (Format::Y32, n * 8);
+        let n4 = n * 4;
+        match self {
+            Shape::LongSamples => row_invert(long, &first[..n4], &mut dst[..n4]),
+            Shape::LongPairs => row_add(long, &first[..n4], &second[..n4], &mut dst[..n4]),
+            Shape::LongHalving => {
+                row_average4(long, &first[..halved], &second[..halved], &mut dst[..n4]);
+            }
+            Shape::LongMasked => row_mask(long, &first[..n4], &second[..n4], &mut dst[..n4]),
+            Shape::Spreading => convert_row(Format::Y8, &first[..n], long, &mut dst[..n4]),
+            Shape::Gathering => convert_row(long, &first[..n4], Format::Y8, &mut dst[..n]),
+            _ => {}
         }
     }
 
     /// Returns the byte at an index, by the kernel's formula.
     fn expected(self, index: usize) -> usize
-        requires { index < 200 }
+        requires { index < 400 }
     {
         let s = first(index);
         match self {
@@ -152,21 +195,69 @@ impl Shape {
                 let colors = first(index * 4) + first(index * 4 + 1) + first(index * 4 + 2);
                 (colors + 1) / 3
             }
+            Shape::Spreading => first(index / 4),
+            Shape::Gathering => (first_sample(index) * 255 + LARGEST / 2) / LARGEST,
+            _ => byte_of(self.expected_sample(index / 4), index % 4),
         }
+    }
+
+    /// Returns the sample of four bytes at an index, by the kernel's formula.
+    fn expected_sample(self, index: usize) -> usize
+        requires { index < 100 }
+    {
+        let (s, t) = (first_sample(index), second_sample(index));
+        match self {
+            Shape::LongPairs => (s + t).min(LARGEST),
+            Shape::LongHalving => {
+                let up = first_sample(index * 2) + first_sample(index * 2 + 1);
+                let down = second_sample(index * 2) + second_sample(index * 2 + 1);
+                (up + down + 2) / 4
+            }
+            Shape::LongMasked => s.wrapping_mul(t).wrapping_add(LARGEST / 2) / LARGEST,
+            _ => LARGEST - s,
+        }
+    }
+}
+
+/// Returns the byte at an index of a sample, from the least significant one on.
+fn byte_of(sample: usize, index: usize) -> usize {
+    match index {
+        0 => sample % 256,
+        1 => sample / 256 % 256,
+        2 => sample / 65_536 % 256,
+        _ => sample / 16_777_216 % 256,
     }
 }
 
 /// Returns the byte at an index of the first row that is read.
 fn first(index: usize) -> usize
-    requires { index < 1000 }
+    requires { index < 1604 }
     ensures { result < 256 }
 {
     index * 37 % 256
 }
 
+/// Returns the sample of four bytes at an index of the first row that is read.
+fn first_sample(index: usize) -> usize
+    requires { index < 400 }
+    ensures { result < 4294967296 }
+{
+    let at = index * 4;
+    first(at) + 256 * first(at + 1) + 65_536 * first(at + 2) + 16_777_216 * first(at + 3)
+}
+
+/// Returns the sample of four bytes at an index of the second.
+fn second_sample(index: usize) -> usize
+    requires { index < 400 }
+    ensures { result < 4294967296 }
+{
+    let at = index * 4;
+    second(at) + 256 * second(at + 1) + 65_536 * second(at + 2) + 16_777_216 * second(at + 3)
+}
+
 /// Returns the byte at an index of the second.
 fn second(index: usize) -> usize
-    requires { index < 1000 }
+    requires { index < 1604 }
     ensures { result < 256 }
 {
     index * 91 % 256

@@ -4,6 +4,7 @@ pub mod buffers;
 pub mod edits;
 pub mod faults;
 pub mod graphs;
+pub mod long_samples;
 pub mod pictures;
 pub mod refusals;
 

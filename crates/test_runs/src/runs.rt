@@ -212,12 +212,23 @@ pub fn check_end(
     check_files(rt, alloc, example, shelf, example.written, Kept::Nothing);
 }
 
+/// Runs a case by the words of a line over devices that don't fail, and checks what it leaves.
+pub fn check_case_over(
+    rt: &(impl Abort + Threads + Sync),
+    alloc: Global,
+    line: &str,
+    case: &Case,
+    devices: Devices,
+) {
+    let example = example_of(rt, alloc, case);
+    let mut shelf = folder_of(rt, alloc, &example, devices);
+    let ended = run_over(rt, alloc, line, &mut shelf, devices);
+    check_end(rt, alloc, &example, &ended, &shelf);
+}
+
 /// Runs a case by the words of a line, and checks what it leaves.
 pub fn check_case(rt: &(impl Abort + Threads + Sync), alloc: Global, line: &str, case: &Case) {
-    let example = example_of(rt, alloc, case);
-    let mut shelf = folder_of(rt, alloc, &example, SOUND);
-    let ended = run_over(rt, alloc, line, &mut shelf, SOUND);
-    check_end(rt, alloc, &example, &ended, &shelf);
+    check_case_over(rt, alloc, line, case, SOUND);
 }
 
 /// Runs cases by the words of a line, and checks what each leaves.

@@ -13,8 +13,9 @@ use crate::examples::buffers::{BUFFERS, EDGES};
 use crate::examples::edits::EDITED;
 use crate::examples::faults::{EDITING_JOB, EDITING_JOB_IN_7, EDITING_JOB_IN_8};
 use crate::examples::graphs::{RENDERED, STRIP_TOO_WIDE, WIDEST_STRIP};
+use crate::examples::long_samples::LONG_SAMPLES;
 use crate::examples::pictures::FOUR_BANDS;
-use crate::runs::{PLAIN, check_case, check_cases};
+use crate::runs::{Devices, PLAIN, SOUND, check_case, check_case_over, check_cases};
 
 /// Words that ask for the same run of a small script, with few tiles in memory and with many.
 const SAME_RUNS: [&str; 3] = [
@@ -37,6 +38,26 @@ fn nodes_are_rendered_edited_and_undone(rt: HostRuntime) {
         check_cases(&rt, rt.alloc(), line, &RENDERED);
         check_cases(&rt, rt.alloc(), line, &EDITED);
         check_case(&rt, rt.alloc(), line, &EDITING_JOB);
+    }
+}
+
+/// Words of runs over a swap of 256 blocks, of which a tile of RGBA32 takes sixteen.
+const SWAPPED: [&str; 3] = [
+    PLAIN,
+    "run script.txt --resident 1",
+    "run --workers 1 --resident 2 --swap-blocks 200 script.txt",
+];
+
+#[test]
+fn samples_of_four_bytes_are_rendered_and_swapped(rt: HostRuntime) {
+    let devices = Devices {
+        blocks: 256,
+        ..SOUND
+    };
+    for line in &SWAPPED {
+        for case in &LONG_SAMPLES {
+            check_case_over(&rt, rt.alloc(), line, case, devices);
+        }
     }
 }
 

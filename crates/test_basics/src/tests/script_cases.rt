@@ -85,8 +85,9 @@ pub const REFUSED: &str = "\
 1 Number buffer a Y8 0x1 0 1 1
 1 Number sub s a 0 0 1 one
 1 Number load A 0 0 1 1. f
-1 Number fill a 0 0 1 1 65536
-1 Number fill a 0 0 1 1 1 2 3 65536
+1 Number fill a 0 0 1 1 4294967296
+1 Number fill a 0 0 1 1 9999999999
+1 Number fill a 0 0 1 1 1 2 3 4294967296
 1 Number fill a 0 0 1 1 -0
 1 Number copy a b 0 0 1 1 33554433 0
 1 Number copy a b 0 0 1 1 0 33554433
@@ -100,12 +101,12 @@ pub const REFUSED: &str = "\
 1 Number watch n 0 0 1 1 1 0 w
 1 Number watch n 0 0 1 1 1 65 w
 1 Number node n color Y8 0 0 1 1 5 through m
-1 Number node n color Y8 0 0 1 1 65536
+1 Number node n color Y8 0 0 1 1 4294967296
 1 Number node n checker Y8 0 0 1 1 0 0 9
 1 Number node n checker Y8 0 0 1 1 4097 0 9
-1 Number node n checker Y8 0 0 1 1 1 65536 9
-1 Number node n checker Y8 0 0 1 1 1 0 65536
-1 Number node n threshold 65536 a
+1 Number node n checker Y8 0 0 1 1 1 4294967296 9
+1 Number node n checker Y8 0 0 1 1 1 0 4294967296
+1 Number node n threshold 4294967296 a
 1 Number node n threshold -1 a
 1 Number node n gain 65536 1 a
 1 Number node n gain 1 0 a
@@ -126,7 +127,9 @@ pub const REFUSED: &str = "\
 1 Name buffer a-b Y8 0 0 1 1
 1 Name buffer abcdefghijklmnopq Y8 0 0 1 1
 1 Name buffer a y8 0 0 1 1
-1 Name buffer a Y32 0 0 1 1
+1 Name buffer a Y64 0 0 1 1
+1 Name buffer a y32 0 0 1 1
+1 Name buffer a RGB 0 0 1 1
 1 Name sub S a 0 0 1 1
 1 Name sub s A 0 0 1 1
 1 Name dup B a
@@ -206,12 +209,17 @@ buffer abcdefghijklmnop RGBA16 -16777216 16777215 1 1/=buffer abcdefghijklmnop R
 buffer a YA8 0 0 0 0/=buffer a YA8 16777216 -16777216 0 9
 buffer a RGB8 0 0 32768 1024/=buffer a RGB8 0 0 32768 1024
 buffer a_0 YA16 0 0 1024 32768/=buffer a_0 YA16 0 0 1024 32768
+buffer a Y32 0 0 1 1/=buffer a Y32 0 0 1 1
+buffer a YA32 0 0 1 1/=buffer a YA32 0 0 1 1
+buffer a RGB32 0 0 1 1/=buffer a RGB32 0 0 1 1
+buffer a RGBA32 0 0 1 1/=buffer a RGBA32 0 0 1 1
 sub s a -1 -2 3 4/=sub s a -1 -2 3 4
 dup b a/=dup b a
 load a 0 0 1 1 in-1_A.RAW/=load a 0 0 1 1 in-1_A.RAW
 load a 0 0 1 1 abcdefghijklmnopqrstuvwxyzabcdefghijklmnopqrstuvwxyzabcdefghijkl/=load a 0 0 1 1 abcdefghijklmnopqrstuvwxyzabcdefghijklmnopqrstuvwxyzabcdefghijkl
 fill a 0 0 1 1 65535/=fill a 0 0 1 1 65535
 fill a 0 0 1 1 0 1 2 65535/=fill a 0 0 1 1 0000000000 1 2 65535
+fill a 0 0 1 1 65536 4294967295/=fill a 0 0 1 1 65536 4294967295
 copy a b 0 0 1 1 -33554432 33554432/=copy a b 0 0 1 1 -33554432 33554432
 copy a b 0 0 1 1 33554432 -33554432/=copy a b 0 0 1 1 33554432 -33554432
 drop n/=drop n
@@ -230,9 +238,13 @@ node n color Y8 0 0 1 1 65535/=node n color Y8 0 0 1 1 65535
 node n color RGBA8 -1 -2 3 4 100 0 0 128/=node n color RGBA8 -1 -2 3 4 100 0 0 128
 node n checker Y16 0 0 1 1 4096 65535 0/=node n checker Y16 0 0 1 1 4096 65535 0
 node n checker Y8 0 0 1 1 1 0 65535/=node n checker Y8 0 0 1 1 1 0 65535
+node n color YA32 0 0 1 1 4294967295 65536/=node n color YA32 0 0 1 1 4294967295 65536
+node n checker Y32 0 0 1 1 1 65536 4294967295/=node n checker Y32 0 0 1 1 1 65536 4294967295
+node n convert RGBA32 a/=node n convert RGBA32 a
 node n convert RGB16 a/=node n convert RGB16 a
 node n invert n/=node n invert n
 node n threshold 65535 a/=node n threshold 65535 a
+node n threshold 4294967295 a/=node n threshold 4294967295 a
 node n gain 65535 1 a/=node n gain 65535 1 a
 node n gain 0 65535 a/=node n gain 0 65535 a
 node n translate -33554432 33554432 a/=node n translate -33554432 33554432 a

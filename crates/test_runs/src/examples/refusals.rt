@@ -1,7 +1,7 @@
 //! Scripts that are refused, beside their whole texts.
 
 /// Scripts beside the texts of the first line that breaks the grammar, or beside the report where none does.
-pub const GRAMMAR: [(&[u8], &str); 25] = [
+pub const GRAMMAR: [(&[u8], &str); 30] = [
     (b"", REPORT),
     (b"buffer a Y8 -0 00 2 2\n\n", REPORT),
     (b"buffer a  Y8 0 0 1 1\r\n", REPORT),
@@ -18,6 +18,11 @@ pub const GRAMMAR: [(&[u8], &str); 25] = [
     (b"render i 8 0 0 129 1 o", "line 1: Rect\n"),
     (b"render i 9 0 0 1 1 o", "line 1: Number\n"),
     (b"node b box 65 NONE a", "line 1: Number\n"),
+    (b"fill a 0 0 1 1 4294967296", "line 1: Number\n"),
+    (b"node t threshold 4294967296 a", "line 1: Number\n"),
+    (b"node g gain 65536 1 a", "line 1: Number\n"),
+    (b"node g gain 1 65536 a", "line 1: Number\n"),
+    (b"buffer a Y64 0 0 1 1", "line 1: Name\n"),
     (b"buffer a Y8 +1 0 1 1", "line 1: Number\n"),
     (b"buffer a Y8 00000000000 0 1 1", "line 1: Number\n"),
     (b"endwatch", "line 1: Order\n"),
@@ -45,7 +50,7 @@ pub const UNBUILT: [(&[u8], &str); 2] = [
 ];
 
 /// Scripts beside the text of a line that is refused for what buffers and files are there.
-pub const REFUSED_BUFFERS: [(&[u8], &str); 18] = [
+pub const REFUSED_BUFFERS: [(&[u8], &str); 21] = [
     // A raster of too few bytes, and one of too many.
     (
         b"buffer a YA8 0 0 2 2\n\
@@ -90,6 +95,23 @@ pub const REFUSED_BUFFERS: [(&[u8], &str); 18] = [
         b"buffer a RGB8 0 0 1 1\n\
           fill a 0 0 1 1 1 2 256\n",
         "line 2: Formats\n",
+    ),
+    (
+        b"buffer a Y16 0 0 1 1\n\
+          fill a 0 0 1 1 65536\n",
+        "line 2: Formats\n",
+    ),
+    // One above the largest of all formats is no number.
+    (
+        b"buffer a Y32 0 0 1 1\n\
+          fill a 0 0 1 1 4294967296\n",
+        "line 2: Number\n",
+    ),
+    // Sixteen bytes a pixel.
+    (
+        b"buffer a RGBA32 0 0 2 2\n\
+          load a 0 0 2 2 in.raw\n",
+        "line 2: WrongSize\n",
     ),
     // A copy between formats; one that is moved out of its target, or of the plane.
     (
@@ -137,7 +159,7 @@ pub const REFUSED_BUFFERS: [(&[u8], &str); 18] = [
 ];
 
 /// Scripts beside the text of a line that is refused for what nodes are there.
-pub const REFUSED_GRAPHS: [(&[u8], &str); 11] = [
+pub const REFUSED_GRAPHS: [(&[u8], &str); 15] = [
     // An input that isn't there.
     (
         b"node i invert zz\n\
@@ -193,6 +215,36 @@ pub const REFUSED_GRAPHS: [(&[u8], &str); 11] = [
         b"node k color Y8 0 0 1 1 256\n\
           commit",
         "line 2: Formats\n",
+    ),
+    (
+        b"buffer a Y16 0 0 1 1\n\
+          node s source a\n\
+          node t threshold 65536 s\n\
+          commit",
+        "line 4: Formats\n",
+    ),
+    // A factor of a gain has 16 bits, whatever the format.
+    (
+        b"buffer a Y32 0 0 1 1\n\
+          node s source a\n\
+          node g gain 65536 1 s\n\
+          commit",
+        "line 3: Number\n",
+    ),
+    // A mask of two bytes a sample for samples of four, and a sum of both.
+    (
+        b"node k color RGBA32 0 0 1 1 1 2 3 4\n\
+          node m color Y16 0 0 1 1 5\n\
+          node n mask k m\n\
+          commit",
+        "line 4: Formats\n",
+    ),
+    (
+        b"node k color Y32 0 0 1 1 5\n\
+          node m color Y16 0 0 1 1 5\n\
+          node n add k m\n\
+          commit",
+        "line 4: Formats\n",
     ),
     // Nothing was committed.
     (b"undo", "line 1: NothingToUndo\n"),
