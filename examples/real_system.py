@@ -1,7 +1,7 @@
 #!/usr/bin/env python3
 """Runs the built program where no contract reaches: on closed descriptors, beside other runs, under limits
-of the system, on a full disk; looks at what it says on standard error; and compares the README's example
-with bytes that are computed here.
+of the system, on a full disk, killed while it writes, and with names of pipes and links; looks at what it
+says on standard error; and compares the README's example with bytes that are computed here.
 
     real_system.py PROGRAM [NAME..]
 
@@ -19,6 +19,7 @@ import subprocess
 import sys
 import tempfile
 import threading
+import time
 
 PROGRAM = os.path.abspath(sys.argv[1]) if len(sys.argv) > 1 else ""
 README = pathlib.Path(__file__).resolve().parent.parent / "README.md"
@@ -210,6 +211,109 @@ def full_disk(folder):
     check_ended(run(folder / "disk", *ONE_TILE, before=before), 5, b"")
 
 
+# ---- files that are written
+
+
+# A render of 48 MiB, by bands, and a grab of 16 MiB, in one piece, each of one sample, and how many bytes they have.
+LARGE = """node k color RGB8 0 0 4096 4096 SAMPLE SAMPLE SAMPLE
+commit
+render k 0 0 0 4096 4096 out.raw
+"""
+PIECE = """buffer a Y8 0 0 4096 4096
+fill a 0 0 4096 4096 SAMPLE
+grab a 0 NONE 0 0 4096 4096 out.raw
+"""
+WRITTEN = ((LARGE, 3 * 4096**2), (PIECE, 4096**2))
+
+
+def check_same_bytes(path, size, samples):
+    """Checks that a file has so many bytes, all of them one of these samples."""
+    raster = path.read_bytes()
+    is_whole = len(raster) == size and any(raster.count(it) == size for it in samples)
+    check(is_whole, f"{path.name} has {len(raster)} bytes, {len(set(raster))} of them different")
+
+
+def killed_runs(folder):
+    """A run that is killed while it writes a file leaves the old one under its name, or the whole new one."""
+    old = b"of an older run"
+    for script, size in WRITTEN:
+        write_script(folder, script.replace("SAMPLE", "7"))
+        begun = time.monotonic()
+        check_ended(run(folder, "run", "s.txt"), 0)
+        whole = time.monotonic() - begun
+        was_cut = False
+        for part in range(1, 9):
+            (folder / "out.raw").write_bytes(old)
+            started = start_silently(folder, "run", "s.txt")
+            # From the half of a run's time on the file is written.
+            time.sleep(whole * (8 + part) / 16)
+            started.kill()
+            started.wait(timeout=LONGEST)
+            if (folder / "out.raw").read_bytes() != old:
+                check_same_bytes(folder / "out.raw", size, [7])
+            for left in folder.glob(".out.raw.part-*"):
+                was_cut = True
+                left.unlink()
+        if not was_cut:
+            print("real system: no run was killed while it wrote its file")
+
+
+def one_name_for_two_runs(folder):
+    """Of two runs that write one name at once, the file is that of one of them, whole."""
+    for script, size in WRITTEN:
+        for sample in (7, 8):
+            write_script(folder, script.replace("SAMPLE", str(sample)), f"s{sample}.txt")
+        for _ in range(3):
+            started = [start_silently(folder, "run", f"s{it}.txt") for it in (7, 8)]
+            statuses = [it.wait(timeout=LONGEST) for it in started]
+            check(statuses == [0, 0], f"runs that write one name ended with {statuses}")
+            check_same_bytes(folder / "out.raw", size, [7, 8])
+    check_nothing_left(folder, ["s7.txt", "s8.txt", "out.raw"])
+
+
+def refused_writes(folder):
+    """A file that can't be written whole is as it was, and nothing else is left of it."""
+    old = b"of an older run"
+    for script, size in WRITTEN:
+        write_script(folder, script.replace("SAMPLE", "7"))
+        (folder / "out.raw").write_bytes(old)
+        ended = run(folder, "run", "s.txt", file_limit=size // 2, has_signal=False)
+        check_said(ended, 4, "tilegraph: a file could not be written", b"")
+        check((folder / "out.raw").read_bytes() == old, "a file that couldn't be written isn't the old one")
+        check_nothing_left(folder, ["s.txt", "out.raw"])
+
+
+def links(folder):
+    """A link in the folder is replaced by the file that has its name, and not followed."""
+    outside = folder / "outside"
+    outside.mkdir()
+    (outside / "kept").write_bytes(b"of another")
+    (folder / "run").mkdir()
+    for script, size in WRITTEN:
+        write_script(folder / "run", script.replace("SAMPLE", "7"))
+        for target in ("../outside/kept", "../outside/new", "/dev/null"):
+            (folder / "run" / "out.raw").unlink(missing_ok=True)
+            os.symlink(target, folder / "run" / "out.raw")
+            check_ended(run(folder / "run", "run", "s.txt"), 0)
+            check(not (folder / "run" / "out.raw").is_symlink(), "a link is still there")
+            check_same_bytes(folder / "run" / "out.raw", size, [7])
+    check((outside / "kept").read_bytes() == b"of another", "a file outside of the folder was written to")
+    check_nothing_left(outside, ["kept"])
+
+
+def pipes(folder):
+    """A pipe as script, raster or output is an I/O error, and nobody waits for its other end."""
+    os.mkfifo(folder / "pipe")
+    check_said(run(folder, "run", "pipe"), 3, "tilegraph: a file could not be read", b"")
+    write_script(folder, "buffer a Y8 0 0 8 8\nload a 0 0 8 8 pipe\n")
+    check_said(run(folder, "run", "s.txt"), 3, "tilegraph: a file could not be read", b"")
+    write_script(folder, "buffer a Y8 0 0 8 8\ngrab a 0 NONE 0 0 8 8 pipe\n")
+    check_said(run(folder, "run", "s.txt"), 4, "tilegraph: a file could not be written", b"")
+    write_script(folder, LARGE.replace("SAMPLE", "7").replace("out.raw", "pipe"))
+    check_said(run(folder, "run", "s.txt"), 4, "tilegraph: a file could not be written", b"")
+    check((folder / "pipe").is_fifo(), "the pipe is gone")
+
+
 # ---- standard error
 
 
@@ -374,6 +478,11 @@ TESTS = [
     names_in_the_way,
     limits_of_files,
     full_disk,
+    killed_runs,
+    one_name_for_two_runs,
+    refused_writes,
+    links,
+    pipes,
     usage,
     silent_statuses,
     statuses_with_lines,

@@ -31,4 +31,3 @@ pub mod Carrying
 pub mod EventLines
 pub mod Endings
 pub mod Faults
-pub mod Appending

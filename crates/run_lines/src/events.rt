@@ -1,8 +1,6 @@
 //! Files that are written and texts that are put.
 
-ghost use Rattle.std.specs.Prelude.{◌≡◌, [], ◌∷◌, ◌++◌, ℕ, Err, IfErr, List, Option};
-ghost use Rattle.std.specs.Option.{option_map};
-ghost use Rattle.outside_io.specs.Files.{Files, filed};
+ghost use Rattle.std.specs.Prelude.{[], ◌∷◌, ℕ, Err, IfErr, List, Option};
 ghost use Rattle.model_runs.specs.Ending.{Leaves, MayTear};
 ghost use Rattle.model_runs.specs.Events.{Puts, Writes, events_alone, refusal};
 ghost use Rattle.run_lines.specs.Causes.{HasShelfCause, HasSinkCause};
@@ -21,24 +19,6 @@ pub fn write_file<F: Shelf>(bytes: &[u8], file: &FileName, shelf: &mut F) -> Res
     ensures cause { HasShelfCause F.read_faults F.write_faults result shelf.old shelf.new }
 {
     match shelf.write(file.as_str(), bytes) {
-        Ok(()) => Ok(()),
-        Err(ShelfAnswer::Failed) => Err(End::WriteFault),
-        Err(ShelfAnswer::NoMemory) => Err(End::NoMemory),
-        Err(ShelfAnswer::Absent | ShelfAnswer::TooLong { .. }) => unreachable!(),
-    }
-}
-
-/// Adds bytes at the end of a file that was begun. Together with what made it hold the bytes before them, this makes the
-/// file hold all of these. The errors are those of [`write_file`].
-pub fn append_file<F: Shelf>(bytes: &[u8], file: &FileName, shelf: &mut F) -> Result<(), End>
-    ensures leaves { (text : Option (List ℕ)) (begun : Option Files) (before : List ℕ) →
-        F.files shelf.old ≡ option_map (λ files. filed files file.now before) begun →
-        Leaves (events_alone (Writes file.now (before ++ bytes.now) ∷ [])) result
-        (record { files = begun; text = text }) (record { files = F.files shelf.new; text = text }) }
-    ensures torn { IfErr result (λ end. MayTear (Err end)) }
-    ensures cause { HasShelfCause F.read_faults F.write_faults result shelf.old shelf.new }
-{
-    match shelf.append(file.as_str(), bytes) {
         Ok(()) => Ok(()),
         Err(ShelfAnswer::Failed) => Err(End::WriteFault),
         Err(ShelfAnswer::NoMemory) => Err(End::NoMemory),

@@ -1,23 +1,21 @@
 //! Pictures that are written as raw bytes.
 
-ghost use Rattle.std.specs.Prelude.{◌≡◌, [], ◌∷◌, ◌++◌, ℕ, ◌<◌, IfErr, IfSome, List, Option, Some, length, slice_get, take};
-ghost use Rattle.std.specs.Option.{option_map};
+ghost use Rattle.std.specs.Prelude.{◌≡◌, [], ◌∷◌, ◌-◌, ℕ, IfSome, List, Option, length, ⊤};
 ghost use Rattle.model_images.specs.{FromRaw.byte_count, Image.Image};
-ghost use Rattle.model_runs.specs.Ending.{Leaves, MayTear, ended};
 ghost use Rattle.plane_rect.specs.Tile.{strip_rectangles};
-ghost use Rattle.outside_io.specs.Files.{Files, filed};
-ghost use Rattle.plane_rect.specs.Rectangle.{Rectangle};
 ghost use Rattle.run_lines.specs.Causes.{HasShelfCause};
-ghost use Rattle.run_lines.specs.PictureBytes.{AreBandsOf, LeavesBands, LeavesBytes};
+ghost use Rattle.run_lines.specs.PictureBytes.{HaveBands, LeavesBands, LeavesBytes};
 ghost use Rattle.model_runs.specs.Events.{Writes, events_alone};
 ghost use Rattle.strip_patches.specs.Shown.{Shows, picture_box, picture_format};
 ghost use Rattle.strip_patches.specs.Pictures.{HasRows};
 
-use crate::events::{append_file, write_file};
+use crate::events::write_file;
+use alloc_basics::NoMemory;
 use model_runs::End;
-use outside_io::Shelf;
+use outside_io::{Bands, BandsAnswer, Shelf};
 use script_read::FileName;
 use std::alloc::Global;
+use std::mem;
 use strip_patches::{Picture, TiledPatch};
 
 /// Returns how many bytes a picture's samples have.
@@ -59,58 +57,53 @@ fn write_bands<F: Shelf>(
         (record { files = F.files shelf.old; text = text }) (record { files = F.files shelf.new; text = text }) }
     ensures cause { HasShelfCause F.read_faults F.write_faults result shelf.old shelf.new }
 {
-    if tiled.bands() == 0 {
-        return write_file(&[], file, shelf);
+    let mut bands = TiledBands {
+        alloc,
+        tiled,
+        band: Vec::new(alloc),
+        count: 0,
+    };
+    match shelf.write_bands(alloc, file.as_str(), &mut bands) {
+        Ok(()) => Ok(()),
+        Err(BandsAnswer::Failed) => Err(End::WriteFault),
+        Err(BandsAnswer::NoMemory) => Err(End::NoMemory),
+        Err(BandsAnswer::Refused(NoMemory)) => Err(End::NoMemory),
     }
-    let first = tiled.band(alloc, Vec::new(alloc), 0)?;
-    write_file(first.raw_bytes(), file, shelf)?;
-    append_bands(alloc, tiled, first.into_raw(), file, shelf)
 }
 
-/// Adds the bands of tiles below the first to a file that holds that one, each in the memory of the one above.
-fn append_bands<F: Shelf>(
+/// The bands of tiles, from the top, each made in the memory of the one above.
+#[derive(Drop)]
+struct TiledBands<'a> {
     alloc: Global,
-    tiled: &TiledPatch,
-    memory: Vec<u8>,
-    file: &FileName,
-    shelf: &mut F,
-) -> Result<(), End>
-    ensures leaves { (known : Option Image) (text : Option (List ℕ)) (begun : Option Files) (before : List ℕ) →
-        IfSome known (λ image. HasRows image (length (strip_rectangles tiled.now.rect)) tiled.now) →
-        AreBandsOf known (take 1 (strip_rectangles tiled.now.rect)) tiled.now.format before →
-        F.files shelf.old ≡ option_map (λ files. filed files file.now before) begun →
-        LeavesBands known (strip_rectangles tiled.now.rect) tiled.now.format (λ bytes. events_alone (Writes file.now bytes ∷ [])) result
-        (record { files = begun; text = text }) (record { files = F.files shelf.new; text = text }) }
-    ensures torn { IfErr result (λ end. MayTear (Err end)) }
-    ensures cause { HasShelfCause F.read_faults F.write_faults result shelf.old shelf.new }
-{
-    let mut memory = memory;
-    for index in 1..tiled.bands() {
-        memory = append_band(alloc, tiled, memory, index, file, shelf)?;
-    }
-    Ok(())
+    tiled: &'a TiledPatch,
+    band: Vec<u8>,
+    /// How many bands were made.
+    count: u32,
 }
 
-/// Adds a band of tiles to a file that holds those above it, and returns its memory.
-fn append_band<F: Shelf>(
-    alloc: Global,
-    tiled: &TiledPatch,
-    memory: Vec<u8>,
-    index: u32,
-    file: &FileName,
-    shelf: &mut F,
-) -> Result<Vec<u8>, End>
-    requires index { index < length (strip_rectangles tiled.now.rect) }
-    ensures leaves { (known : Option Image) (text : Option (List ℕ)) (begun : Option Files) (before : List ℕ) (band : Rectangle) →
-        IfSome known (λ image. HasRows image (length (strip_rectangles tiled.now.rect)) tiled.now) →
-        slice_get (strip_rectangles tiled.now.rect) index ≡ Some band →
-        F.files shelf.old ≡ option_map (λ files. filed files file.now before) begun →
-        LeavesBytes known band tiled.now.format (λ bytes. events_alone (Writes file.now (before ++ bytes) ∷ [])) (ended result)
-        (record { files = begun; text = text }) (record { files = F.files shelf.new; text = text }) }
-    ensures torn { IfErr result (λ end. MayTear (Err end)) }
-    ensures cause { HasShelfCause F.read_faults F.write_faults (ended result) shelf.old shelf.new }
-{
-    let band = tiled.band(alloc, memory, index)?;
-    append_file(band.raw_bytes(), file, shelf)?;
-    Ok(band.into_raw())
+impl Bands for TiledBands<'_> {
+    type Refused = NoMemory;
+
+    ghost made = { λ bands. bands.band.items };
+
+    ghost may_give = { λ bands bytes. HaveBands bands.tiled.now bands.count bytes };
+
+    ghost left = { λ bands. length (strip_rectangles bands.tiled.now.rect) - bands.count };
+
+    ghost refuses = { λ _ _. ⊤ };
+
+    fn next(&mut self) -> Result<bool, NoMemory> {
+        if self.count >= self.tiled.bands() {
+            return Ok(false);
+        }
+        let memory = mem::replace(&mut self.band, Vec::new(self.alloc));
+        let band = self.tiled.band(self.alloc, memory, self.count)?;
+        self.band = band.into_raw();
+        self.count += 1;
+        Ok(true)
+    }
+
+    fn band(&self) -> &[u8] {
+        &self.band
+    }
 }

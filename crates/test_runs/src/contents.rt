@@ -29,8 +29,6 @@ pub enum Kept {
     Nothing,
     /// The first half of its bytes, rounded down.
     Half,
-    /// So many of its first bytes.
-    First(usize),
     /// Some of its first bytes, or there is no such file.
     Beginning,
     /// All of its bytes.
@@ -80,7 +78,6 @@ impl Kept {
         match self {
             Kept::Nothing => None,
             Kept::Half => bytes.get(..bytes.len() / 2),
-            Kept::First(count) => bytes.get(..count),
             Kept::Beginning => bytes.get(..found?.len()),
             Kept::Whole => Some(bytes),
         }

@@ -99,3 +99,25 @@ fn a_band_that_fails_ends_the_run(rt: HostRuntime) {
     let devices = Devices { read: 6, ..SOUND };
     check_raster(&rt, alloc, ONE_WORKER, 420, devices, (0, TEXT));
 }
+
+/// A raster of one band.
+const ONE_BAND: &[u8] = b"buffer a Y8 0 0 2 2\nload a 0 0 2 2 in.raw\n";
+
+/// The read that fails, how many bytes the raster has, and how the run ends. The script is the first file that is read.
+const READS: [(u64, u32, (u8, &str)); 4] = [
+    (2, 4, (3, "")),
+    (3, 4, (0, "report applied 0 reused 0\n")),
+    (3, 3, (2, "line 2: WrongSize\n")),
+    (3, 5, (2, "line 2: WrongSize\n")),
+];
+
+#[test]
+fn a_raster_of_one_band_is_read_once(rt: HostRuntime) {
+    let alloc = rt.alloc();
+    for (read, count, wanted) in READS {
+        let raster = raster_of(&rt, alloc, count);
+        let files = [("script.txt", ONE_BAND), ("in.raw", raster.as_slice())];
+        let devices = Devices { read, ..SOUND };
+        check_run(&rt, alloc, ONE_WORKER, &files, devices, wanted);
+    }
+}

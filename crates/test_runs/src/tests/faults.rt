@@ -175,7 +175,7 @@ const READS: [(&Case, u64, &str); 4] = [
 ];
 
 /// Writes that fail, and the texts then.
-const WRITES: [(&Case, u64, &str); 5] = [
+const WRITES: [(&Case, u64, &str); 7] = [
     (&ONE_RENDER, 1, ""),
     (&EITHER_SIDE, 1, ""),
     (&EITHER_SIDE, 2, "grab 5 bytes 2\n"),
@@ -185,6 +185,8 @@ const WRITES: [(&Case, u64, &str); 5] = [
         4,
         "grab 5 bytes 2\ngrab 6 bytes 2\ngrab 8 bytes 2\n",
     ),
+    (&FOUR_BANDS, 1, ""),
+    (&FOUR_BANDS, 2, "render 8 commit 1 bytes 269860\n"),
 ];
 
 #[test]
@@ -192,24 +194,11 @@ fn a_put_that_fails_comes_after_its_file(rt: HostRuntime) {
     check_faults(&rt, rt.alloc(), Call::Put, (6, Kept::Whole), &PUTS);
 }
 
-/// Checks that a write that fails leaves half a file.
+/// Checks that a write that fails leaves half a file, also where the file comes in four bands of rows.
 #[test]
 fn a_call_of_the_shelf_that_fails_ends_the_run(rt: HostRuntime) {
     check_faults(&rt, rt.alloc(), Call::Read, (3, Kept::Nothing), &READS);
     check_faults(&rt, rt.alloc(), Call::Write, (4, Kept::Half), &WRITES);
-}
-
-/// Writes that fail of the four of which a file is made, the first of which makes it and each other adds a band of rows. Each
-/// leaves half of its bytes after those that were there.
-const BANDS: [(u64, usize); 4] = [(1, 2060), (2, 70_040), (3, 201_880), (4, 268_830)];
-
-#[test]
-fn a_band_of_rows_that_fails_ends_the_run(rt: HostRuntime) {
-    for (number, count) in &BANDS {
-        let cases = [(&FOUR_BANDS, *number, "")];
-        let wanted = (4, Kept::First(*count));
-        check_faults(&rt, rt.alloc(), Call::Write, wanted, &cases);
-    }
 }
 
 /// Runs an example over a swap of so many blocks, and checks that it ends early with status 8, or does all. Returns the
