@@ -6,14 +6,13 @@ use Rattle.std.proofs.lemmas.Slice.Eq.{bytes_eq-Decides}
 use borrow.Author.Tests.{ltb-true, ltb-false}
 use Rattle.std.specs.Global.{Vec, Global}
 use Rattle.std.specs.List.{slice_get, position_or_len}
-use Rattle.std.specs.Prelude.{unwrap_or}
 use Rattle.std.specs.Option.{option_map}
 use Rattle.std.specs.Ordering.{nat_cmp, eq_by_cmp}
 use Rattle.std.specs.Cmp.Lexicographic.{slice_cmp, texts_ties, nat_list_cmp_total}
 use Rattle.std.specs.Str.{bytes_eq}
 use Rattle.std.specs.declared.cmp.Ordering.TheVariants.{Equal}
 use Rattle.std.specs.FinMap.{find, from_entries, get-from_entries, get-insert, same_map, from_entries_push, nat_cmp-IsAntisymmetric, slice_cmp-IsAntisymmetric}
-use Rattle.outside_io.specs.Files.{Files, appended, file, filed}
+use Rattle.outside_io.specs.Files.{file, filed}
 use Rattle.outside_io.specs.StoredFiles.{StoredFile, bytes_of, entry_of, files_of, has_name}
 
 -- what a scan from the front finds under a name
@@ -168,24 +167,3 @@ filed_pushed name key bytes files none is =
     let absent = found-number name files ∙ ap (option_map bytes_of) (slice_get_past files _ far) in
     ap from_entries (map-push files (key, bytes))
     ∙ rw is (from_entries_push nat_list_cmp_total antisymmetric (map entry_of files) name bytes.items absent)
-
--- to file what is there changes nothing
-filed_same : (files : Files) (name bytes : List ℕ) → file files name ≡ Some bytes → filed files name bytes ≡ files
-filed_same files name bytes there =
-    same_map nat_list_cmp_total antisymmetric _ _ (λ q. get-insert nat_list_cmp_total files name bytes q ∙ by q (ties q name) refl)
-  where
-    by : (q : List ℕ) (b : Bool) → ties q name ≡ b → cond b (Some bytes) (file files q) ≡ file files q
-    by q true ties = sym (ap (file files) (tied q name ties) ∙ there)
-    by q false ties = refl
-
--- to add bytes where `position` finds the name is to append to its file, and to add none changes nothing
-pub appended_found : (name bytes : List ℕ) (grown : Vec ℕ) (files : List StoredFile) (n : ℕ) (stored : StoredFile)
-    → Some n ≡ position (has_name name) files → stored ≡ slice_index_or files n stored
-    → (done : Bool) → grown.items ≡ cond done (bytes_of stored ++ bytes) (bytes_of stored)
-    → files_of (slice_set files n (with_bytes stored grown)) ≡ cond done (appended (files_of files) name bytes) (files_of files)
-appended_found name bytes grown files n stored found is true more =
-    filed_found name grown files n stored found is
-    ∙ ap (filed (files_of files) name) (more ∙ ap (λ there. unwrap_or there [] ++ bytes) (file_found name files n stored found is))
-appended_found name bytes grown files n stored found is false same =
-    filed_found name grown files n stored found is
-    ∙ filed_same (files_of files) name grown.items (sym (file_found name files n stored found is) ∙ ap Some (sym same))

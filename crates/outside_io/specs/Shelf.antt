@@ -2,7 +2,7 @@
 use Rattle.std.specs.Prelude.{◌≡◌, ℕ, ◌+◌, ◌-◌, ◌<◌, ◌≤◌, ◌⊎◌, Bool, true, false, List, drop, length, min, take, Option, Some, None, Result, Ok, Err, ⊤}
 use Rattle.std.specs.Option.{option_map}
 use Rattle.std.specs.Global.{Vec}
-use Rattle.outside_io.specs.Files.{Files, Storing, appended, filed}
+use Rattle.outside_io.specs.Files.{Files, filed}
 use Rattle.outside_io.specs.declared.shelf.ShelfAnswer.{ShelfAnswer}
 use Rattle.outside_io.specs.declared.shelf.ShelfAnswer.TheVariants as answers
 
@@ -42,19 +42,13 @@ GivesPart found start wanted read (Err (answers.TooLong taken)) = ⊥
 GivesPart found start wanted read (Err answers.Failed) = ⊤
 GivesPart found start wanted read (Err answers.NoMemory) = ⊤
 
--- The files that a call leaves that stores bytes so: with these bytes after Ok, with a prefix of them after an I/O error, and
--- after running out of memory with a prefix or as they were.
-abbrev pub StoreLeaves : Storing → Option Files → List ℕ → List ℕ → Result (Unit {0}) ShelfAnswer → Option Files → Type 0
-StoreLeaves store old name bytes (Ok done) new = new ≡ option_map (λ files. store files name bytes) old
-StoreLeaves store old name bytes (Err answers.Failed) new =
-    (n : ℕ) × (new ≡ option_map (λ files. store files name (take n bytes)) old)
-StoreLeaves store old name bytes (Err answers.NoMemory) new =
-    (new ≡ old) ⊎ ((n : ℕ) × (new ≡ option_map (λ files. store files name (take n bytes)) old))
-StoreLeaves store old name bytes (Err answers.Absent) new = ⊥
-StoreLeaves store old name bytes (Err (answers.TooLong taken)) new = ⊥
-
+-- The files that a write leaves: with these bytes after Ok, with a prefix of them after an I/O error, and after running out
+-- of memory with a prefix or as they were.
 abbrev pub WriteLeaves : Option Files → List ℕ → List ℕ → Result (Unit {0}) ShelfAnswer → Option Files → Type 0
-WriteLeaves = StoreLeaves filed
-
-abbrev pub AppendLeaves : Option Files → List ℕ → List ℕ → Result (Unit {0}) ShelfAnswer → Option Files → Type 0
-AppendLeaves = StoreLeaves appended
+WriteLeaves old name bytes (Ok done) new = new ≡ option_map (λ files. filed files name bytes) old
+WriteLeaves old name bytes (Err answers.Failed) new =
+    (n : ℕ) × (new ≡ option_map (λ files. filed files name (take n bytes)) old)
+WriteLeaves old name bytes (Err answers.NoMemory) new =
+    (new ≡ old) ⊎ ((n : ℕ) × (new ≡ option_map (λ files. filed files name (take n bytes)) old))
+WriteLeaves old name bytes (Err answers.Absent) new = ⊥
+WriteLeaves old name bytes (Err (answers.TooLong taken)) new = ⊥

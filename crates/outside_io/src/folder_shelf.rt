@@ -3,7 +3,7 @@
 ghost use Rattle.std.specs.Prelude.{◌≡◌, ◌<◌, ◌≤◌, ◌⊎◌, None, Err, IfErr, IfOk, IsTrue, Ok, length, vec_len};
 ghost use Rattle.std.specs.Thread.{IsSync};
 ghost use Rattle.outside_io.specs.Bands.{BandsLeave, has_failed as have_failed};
-ghost use Rattle.outside_io.specs.Shelf.{AppendLeaves, TakesAtMost, WriteLeaves, has_failed};
+ghost use Rattle.outside_io.specs.Shelf.{TakesAtMost, WriteLeaves, has_failed};
 ghost use Rattle.outside_io.specs.declared.bands.BandsAnswer.TheVariants.{Refused};
 ghost use Rattle.outside_io.specs.{Faults.faults_after, FileName.is_file_name, FolderShelf.ShelfFaults};
 
@@ -13,9 +13,9 @@ use crate::new_files::{write_each_whole, write_whole};
 use crate::open_files::{MAX_INTERRUPTIONS, open_file, refusal};
 use crate::shelf::{Shelf, ShelfAnswer};
 use std::alloc::Global;
-use std::fs::{File, Files, OpenFile, OpenOptions};
+use std::fs::{File, Files, OpenFile};
 use std::io;
-use std::io::{ErrorKind, Read, Write};
+use std::io::{ErrorKind, Read};
 use std::marker::Model;
 use std::thread::Threads;
 use worker_pieces::Workers;
@@ -125,19 +125,6 @@ impl<R: Files<File = File> + AllocGlobal + Drop> Shelf for FolderShelf<R> {
         }
         answer
     }
-
-    fn append(&mut self, name: &str, bytes: &[u8]) -> Result<(), ShelfAnswer>
-        requires { IsTrue (is_file_name name.now) }
-        ensures leaves { AppendLeaves None name.now bytes.now result None }
-        ensures later { self.old.writes ≤ self.new.writes }
-
-        // A write that failed is counted, and no other.
-        ensures counted { self.new ≡ record self.old { writes = faults_after (has_failed result) self.old.writes } }
-    {
-        let answer = write_answer(append_to_file(&self.rt, name, bytes));
-        count_failed(&mut self.write_faults, &answer);
-        answer
-    }
 }
 
 /// Counts an answer that the device failed.
@@ -155,12 +142,6 @@ fn write_answer(done: io::Result<()>) -> Result<(), ShelfAnswer>
     ensures { (result ≡ Ok tt) ⊎ ((result ≡ Err ShelfAnswer.Failed) ⊎ (result ≡ Err ShelfAnswer.NoMemory)) }
 {
     done.map_err(refusal)
-}
-
-/// Adds bytes at the end of a file of the current folder.
-fn append_to_file<R: Files>(rt: &R, name: &str, bytes: &[u8]) -> io::Result<()> {
-    let mut file = OpenOptions::new().append(true).open(rt, name)?;
-    file.write_all(bytes)
 }
 
 /// Reads the bytes of a file of the current folder from a position on, as many as the slice has room for.

@@ -3,9 +3,9 @@
 ghost use Rattle.std.specs.Prelude.{◌≡◌, ◌≤◌, ◌↔◌, Some, Ok, Err, IfOk, IsTrue, IsErrOf, if◌then◌else◌, length, reverse};
 ghost use Rattle.std.specs.Option.{option_copied};
 ghost use Rattle.outside_io.specs.Calls.{no_calls, next_fails, after_call};
-ghost use Rattle.outside_io.specs.Files.{appended, file, filed};
+ghost use Rattle.outside_io.specs.Files.{file};
 ghost use Rattle.outside_io.specs.Shelf.{Answers, GivesPart, TakesAtMost};
-ghost use Rattle.outside_io.specs.{MemShelf.StoresBy, StoredFiles.files_of};
+ghost use Rattle.outside_io.specs.{MemShelf.Stores, StoredFiles.files_of};
 
 use crate::failing_calls::{FailingCalls, kept};
 use crate::shelf::{Shelf, ShelfAnswer};
@@ -107,18 +107,10 @@ impl Shelf for MemShelf {
     }
 
     fn write(&mut self, name: &str, bytes: &[u8]) -> Result<(), ShelfAnswer>
-        ensures { StoresBy filed name.now bytes.now result self.old self.new }
+        ensures { Stores name.now bytes.now result self.old self.new }
     {
         let fails = self.writes.fails();
         self.files.put(name, kept(fails, bytes))?;
-        write_answer(fails)
-    }
-
-    fn append(&mut self, name: &str, bytes: &[u8]) -> Result<(), ShelfAnswer>
-        ensures { StoresBy appended name.now bytes.now result self.old self.new }
-    {
-        let fails = self.writes.fails();
-        self.files.append(name, kept(fails, bytes))?;
         write_answer(fails)
     }
 }

@@ -4,7 +4,7 @@ ghost use Rattle.std.specs.Prelude.{◌≡◌, ℕ, ◌≤◌, Err, Option, IfOk
 ghost use Rattle.std.specs.Thread.{IsSync};
 ghost use Rattle.outside_io.specs.Bands.{BandsLeave};
 ghost use Rattle.outside_io.specs.Files.{Files, file};
-ghost use Rattle.outside_io.specs.Shelf.{Answers, AppendLeaves, GivesPart, TakesAtMost, WriteLeaves};
+ghost use Rattle.outside_io.specs.Shelf.{Answers, GivesPart, TakesAtMost, WriteLeaves};
 ghost use Rattle.outside_io.specs.FileName.{is_file_name};
 ghost use Rattle.outside_io.specs.declared.bands.BandsAnswer.TheVariants.{Refused};
 ghost use Rattle.outside_io.specs.declared.shelf.ShelfAnswer.TheVariants.{NoMemory};
@@ -125,12 +125,4 @@ pub trait Shelf {
             Err(ShelfAnswer::Absent | ShelfAnswer::TooLong { .. }) => unreachable!(),
         }
     }
-
-    /// Adds bytes at the end of a file. A shelf may fail where there is no such file, or begin it.
-    fn append(&mut self, name: &str, bytes: &[u8]) -> Result<(), ShelfAnswer>
-        requires { IsTrue (is_file_name name.now) }
-        ensures leaves { AppendLeaves (files self.old) name.now bytes.now result (files self.new) }
-        ensures failed { IsErrOf result ShelfAnswer.Failed → Rose (write_faults self.old) (write_faults self.new) }
-        ensures later { write_faults self.old ≤ write_faults self.new }
-        ensures read_faults { read_faults self.new ≡ read_faults self.old };
 }

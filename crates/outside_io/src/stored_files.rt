@@ -2,7 +2,7 @@
 
 ghost use Rattle.std.specs.Prelude.{◌≡◌, ◌≢◌, ◌≤◌, Err, IfOk, Some, if◌then◌else◌, is_ok, length, position, reverse};
 ghost use Rattle.std.specs.Option.{option_copied};
-ghost use Rattle.outside_io.specs.Files.{appended, file, filed};
+ghost use Rattle.outside_io.specs.Files.{file, filed};
 ghost use Rattle.outside_io.specs.Shelf.{Answers, GivesPart, TakesAtMost};
 ghost use Rattle.outside_io.specs.StoredFiles.{has_name, files_of};
 
@@ -63,16 +63,6 @@ impl StoredFiles {
             }
         }
         Ok(())
-    }
-
-    /// Adds bytes at the end of a file, or begins it with them. Changes nothing where no memory is left.
-    pub fn append(&mut self, name: &str, bytes: &[u8]) -> Result<(), AllocError>
-        ensures { self.new ≡ (if is_ok result then appended self.old name.now bytes.now else self.old) }
-    {
-        match number_of(&self.stored, name) {
-            Some(number) => self.stored[number].1.extend_from_slice(bytes),
-            None => self.put(name, bytes),
-        }
     }
 
     /// Reads the bytes of a file from a position on, as many as the slice has room for; returns how many.

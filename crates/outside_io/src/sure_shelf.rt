@@ -2,7 +2,7 @@
 
 ghost use Rattle.std.specs.Prelude.{◌≡◌, ◌≢◌, ◌≤◌, Some, Err, IfOk, IsOkUnless, is_ok, if◌then◌else◌, length, reverse};
 ghost use Rattle.std.specs.Option.{option_copied};
-ghost use Rattle.outside_io.specs.Files.{appended, file, filed};
+ghost use Rattle.outside_io.specs.Files.{file, filed};
 ghost use Rattle.outside_io.specs.Shelf.{Answers, GivesPart, TakesAtMost};
 ghost use Rattle.outside_io.specs.StoredFiles.{files_of};
 
@@ -84,14 +84,6 @@ impl Shelf for SureShelf {
         ensures written { self.new ≡ (if is_ok result then filed self.old name.now bytes.now else self.old) }
     {
         self.files.put(name, bytes)?;
-        Ok(())
-    }
-
-    fn append(&mut self, name: &str, bytes: &[u8]) -> Result<(), ShelfAnswer>
-        ensures sure { IsOkUnless result ShelfAnswer.NoMemory }
-        ensures written { self.new ≡ (if is_ok result then appended self.old name.now bytes.now else self.old) }
-    {
-        self.files.append(name, bytes)?;
         Ok(())
     }
 }

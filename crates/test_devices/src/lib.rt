@@ -16,6 +16,10 @@ mod gates;
 #[cfg(test)]
 mod long_files;
 #[cfg(test)]
+mod pieces;
+#[cfg(test)]
+mod plain_shelf;
+#[cfg(test)]
 mod shelf_steps;
 #[cfg(test)]
 mod shelves;

@@ -4,7 +4,9 @@ ghost use Rattle.std.specs.Prelude.{IsTrue};
 ghost use Rattle.outside_io.specs.FileName.{is_file_name};
 
 use crate::check::check;
-use outside_io::{Shelf, ShelfAnswer};
+use crate::pieces::Pieces;
+use outside_io::{BandsAnswer, Shelf, ShelfAnswer};
+use std::alloc::Global;
 use std::process::Abort;
 use std::thread::Threads;
 use worker_pieces::Workers;
@@ -18,8 +20,8 @@ pub enum Step {
     /// Writes bytes.
     Write(&'static [u8], Result<(), ShelfAnswer>),
 
-    /// Adds bytes.
-    Append(&'static [u8], Result<(), ShelfAnswer>),
+    /// Writes bytes that come in bands of three. None is made where so many bytes are left.
+    WriteBands(&'static [u8], Option<usize>, Result<(), BandsAnswer<usize>>),
 
     /// Reads a file that has at most so many bytes.
     Read(u64, Read<'static>),
@@ -64,6 +66,7 @@ fn check_part<S: Shelf>(
 /// Makes one step.
 fn make_step<S: Shelf>(
     rt: &(impl Abort + Threads + Sync),
+    alloc: Global,
     shelf: &mut S,
     name: &str,
     row: usize,
@@ -73,7 +76,11 @@ fn make_step<S: Shelf>(
 {
     match *step {
         Step::Write(bytes, wanted) => check(rt, row, shelf.write(name, bytes), wanted),
-        Step::Append(bytes, wanted) => check(rt, row, shelf.append(name, bytes), wanted),
+        Step::WriteBands(bytes, refused, wanted) => {
+            let mut bands = Pieces::new(bytes, refused);
+            let answer = shelf.write_bands(alloc, name, &mut bands);
+            check(rt, row, answer, wanted);
+        }
         Step::Read(limit, wanted) => check(rt, row, bytes_of(&shelf.read(name, limit)), wanted),
         Step::ReadPart(start, room, wanted) => {
             check_part(rt, shelf, name, row, start, room, wanted);
@@ -83,13 +90,13 @@ fn make_step<S: Shelf>(
 
 /// Makes steps on a file, in their order.
 pub fn make<S: Shelf>(
-    rt: &(impl Abort + Threads + Sync),
+    rt: &(impl Abort + Threads + Sync + AllocGlobal),
     shelf: &mut S,
     name: &str,
     steps: &[Step],
 ) {
     assert!(rt; outside_io::is_file_name(name.as_bytes()));
     for (row, step) in steps.iter().enumerate() {
-        make_step(rt, shelf, name, row, step);
+        make_step(rt, rt.alloc(), shelf, name, row, step);
     }
 }
