@@ -74,12 +74,8 @@ impl Format {
         ensures { result ≡ has_alpha self }
     {
         match self {
-            Format::Y8
-            | Format::RGB8
-            | Format::Y16
-            | Format::RGB16
-            | Format::Y32
-            | Format::RGB32 => false,
+            Format::Y8 | Format::RGB8 | Format::Y16 | Format::RGB16 | Format::Y32 | Format::RGB32 =>
+                false,
             Format::YA8
             | Format::RGBA8
             | Format::YA16
