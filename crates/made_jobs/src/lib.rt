@@ -3,6 +3,7 @@
 
 mod generator;
 mod job;
+pub mod laws;
 mod script;
 
 pub use job::{Job, make_script};
