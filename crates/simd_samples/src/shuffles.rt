@@ -46,7 +46,7 @@ pub enum ShuffleOfThree {
     JoinedThird,
 }
 
-/// Shuffles the lanes of two vectors of either depth, by the positions of the shuffle that is given.
+/// Shuffles the lanes of two vectors of each depth, by the positions of the shuffle that is given.
 /// The positions of each are a constant, as an instruction wants them.
 macro_rules! shuffle_by {
     ($first:expr, $second:expr, $shuffle:expr, $kind:ident { $($name:ident => $positions:ident,)* }) => {
