@@ -17,7 +17,7 @@ use std::alloc::Global;
 /// How many pixels a tile has.
 const TILE_PIXELS: u64 = 64 * 64;
 
-/// How many bytes a pixel of the result is taken to have, near the mean of the formats.
+/// How many bytes a pixel of the result is taken to have, near the mean of the formats of 8 and 16 bits.
 const MADE_BYTES: u64 = 4;
 
 /// How many bytes of its windows an operation goes through in a nanosecond, at least: an area operation takes some 0.1 ns for
