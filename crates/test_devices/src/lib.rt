@@ -1,8 +1,10 @@
 //! What the devices in memory return and leave, also where each of their calls in turn fails, those of the system: a
-//! folder, a file and standard output, and stores of tiles over swap disks. All expected values were worked out by hand,
-//! but for those of a naive store.
+//! folder, a file and standard output, stores of tiles over swap disks, and batches of work among threads. All expected
+//! values were worked out by hand, but for those of a naive store.
 #![tactic(auto)]
 
+#[cfg(test)]
+mod batches;
 #[cfg(test)]
 mod check;
 #[cfg(test)]

@@ -1,18 +1,21 @@
 //! How many threads work is split among.
 
-ghost use Rattle.std.specs.Prelude.{◌≡◌, ◌<◌, ◌≤◌, All, IfOk, Ok, length, nat_lt};
+ghost use Rattle.std.specs.Prelude.{◌≡◌, ◌<◌, ◌≤◌, All, IfOk, Ok, length, map, nat_lt};
 ghost use Rattle.std.specs.List.{AllZip};
 
 use alloc_basics::NoMemory;
 use std::alloc::{AllocError, Global};
 use std::thread::{Threads, join, join_mut};
+use work_batches::work_batch;
 
 /// How much work a piece is worth at least, in nanoseconds: some times what it takes to start its thread.
 const MIN_PIECE_NANOSECONDS: u64 = 150_000;
 
-/// How many threads work may be split among, with the leave to start them. There is no pool of threads: each piece
-/// of a call's work starts a thread of its own, which takes 13 to 50 us. So work is split only where it is worth more
-/// than that.
+/// How many workers a batch has at most.
+const MAX_BATCH_WORKERS: u32 = 16;
+
+/// How many threads work may be split among, with the permission to start them. There is no pool of threads: each call
+/// starts threads of its own, which takes 13 to 50 us each. So work is split only where it is worth more than that.
 pub struct Workers<'r, R: Threads + Sync> {
     threads: &'r R,
     count: u32,
@@ -83,6 +86,28 @@ impl<'r, R: Threads + Sync> Workers<'r, R> {
         in_pieces(self.threads, alloc, jobs, self.count as usize, job)
     }
 
+    /// Does each of these jobs once, handed out one by one to whichever worker has none. The caller's thread is one of
+    /// the workers, of which there are at most 16. Returns what the jobs made, in their order. A job that is handed out
+    /// costs 35 to 250 ns.
+    ///
+    /// # Errors
+    ///
+    /// `NoMemory` if memory runs out, in a job or around it; other jobs may be done all the same.
+    pub fn batch<
+        T: Send + Drop,
+        U: Send + Drop,
+        F: Fn(T) -> Result<U, NoMemory> + Copy + Send + Sync,
+    >(self, alloc: Global, jobs: Vec<T>, job: F) -> Result<Vec<U>, NoMemory>
+        requires { All (F.pre job) jobs.items }
+        ensures { IfOk result (λ made. AllZip (λ x y. F.post job x (Ok y)) jobs.items made.items) }
+    {
+        if self.count < 2 {
+            return in_turn(alloc, jobs, job);
+        }
+        let workers = self.count.min(MAX_BATCH_WORKERS);
+        made_of(alloc, work_batch(self.threads, alloc, jobs, workers, &job)?)
+    }
+
     /// Does two jobs and returns what they gave: at the same time where there are several workers, the first one on a
     /// thread of its own, and else one after the other.
     pub fn both<A: Send, B, F: FnMut() -> A + Send, G: FnMut() -> B>(
@@ -144,6 +169,17 @@ fn in_turn<T: Drop, U: Drop, F: Fn(T) -> Result<U, NoMemory> + Copy>(
     let mut made = Vec::with_capacity(alloc, jobs.len())?;
     for next in jobs {
         made.push(job(next)?)?;
+    }
+    Ok(made)
+}
+
+/// Returns what jobs made, unless memory ran out in one of them.
+fn made_of<U: Drop>(alloc: Global, answers: Vec<Result<U, NoMemory>>) -> Result<Vec<U>, NoMemory>
+    ensures { IfOk result (λ made. map Ok made.items ≡ answers.items) }
+{
+    let mut made = Vec::with_capacity(alloc, answers.len())?;
+    for answer in answers {
+        made.push(answer?)?;
     }
     Ok(made)
 }
