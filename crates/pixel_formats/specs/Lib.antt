@@ -1,5 +1,6 @@
 pub mod Add
 pub mod Average
+pub mod Blend
 pub mod Convert
 pub mod Extremes
 pub mod Format

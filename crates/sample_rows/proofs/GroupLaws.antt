@@ -6,7 +6,7 @@ use Rattle.std.proofs.lemmas.Bool.{cases_lt}
 use Rattle.std.proofs.lemmas.List.{get_or-drop, get_or_append_left, get_or-append_right, get_or_past}
 use Rattle.simd_samples.proofs.SliceLaws.{sample_at-below, sample_at-shift}
 use Rattle.pixel_formats.proofs.Zeros.{get_or-zeros}
-use Rattle.sample_rows.specs.Groups.{Groups, group_bytes, group_at, MapsPairs}
+use Rattle.sample_rows.specs.Groups.{Groups, group_bytes, group_at, MapsTriples}
 
 -- the groups of a part of a row
 pub group_at-shift : (g : Groups) (a b : List ℕ) (m n k l : ℕ) → n ≡ m * group_bytes g → l ≡ m + k → ((p : ℕ) → get_or a p 0 ≡ get_or b (n + p) 0) → (i : ℕ) → group_at g a k i ≡ group_at g b l i
@@ -27,16 +27,16 @@ group_at-below g a b m n k i far lt within same =
     sample_at-below g.depth a b n (k * g.size + i) (omega (arith, mul-le-mul_left g.depth in_groups)) same
 
 -- rows of which m groups were made before, and the rest after them now
-pub MapsPairs-extended : (first second to : Groups) (value : (ℕ → ℕ) → (ℕ → ℕ) → ℕ → ℕ) (a b old new : List ℕ) (m n total : ℕ) → n ≡ m * group_bytes to
-    → MapsPairs first second to m value a b old
+pub MapsTriples-extended : (first second third to : Groups) (value : (ℕ → ℕ) → (ℕ → ℕ) → (ℕ → ℕ) → ℕ → ℕ) (a b c old new : List ℕ) (m n total : ℕ) → n ≡ m * group_bytes to
+    → MapsTriples first second third to m value a b c old
     → ((p : ℕ) → p < n → get_or new p 0 ≡ get_or old p 0)
-    → ((k i : ℕ) → m + k < total → i < to.size → group_at to new (m + k) i ≡ value (group_at first a (m + k)) (group_at second b (m + k)) i)
-    → MapsPairs first second to total value a b new
-MapsPairs-extended first second to value a b old new m n total at_n before kept made k i lt within =
+    → ((k i : ℕ) → m + k < total → i < to.size → group_at to new (m + k) i ≡ value (group_at first a (m + k)) (group_at second b (m + k)) (group_at third c (m + k)) i)
+    → MapsTriples first second third to total value a b c new
+MapsTriples-extended first second third to value a b c old new m n total at_n before kept made k i lt within =
     elim (cases_lt k m) [
       | inl below ↦ group_at-below to new old m n k i (omega arith) below within kept ∙ before k i below within
       | inr after ↦
-          let P : ℕ → Type 0 = λ l. group_at to new l i ≡ value (group_at first a l) (group_at second b l) i in
+          let P : ℕ → Type 0 = λ l. group_at to new l i ≡ value (group_at first a l) (group_at second b l) (group_at third c l) i in
           let at : m + (k - m) ≡ k = omega arith in
           subst P at (made (k - m) i (omega arith) within)
     ]

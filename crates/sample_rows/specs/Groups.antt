@@ -33,6 +33,11 @@ abbrev pub MapsPairs : Groups → Groups → Groups → ℕ → ((ℕ → ℕ) �
 MapsPairs first second to n value a b dst =
     (k i : ℕ) → k < n → i < to.size → group_at to dst k i ≡ value (group_at first a k) (group_at second b k) i
 
+-- The first n groups of one row come each from the groups of the same number of three others.
+abbrev pub MapsTriples : Groups → Groups → Groups → Groups → ℕ → ((ℕ → ℕ) → (ℕ → ℕ) → (ℕ → ℕ) → ℕ → ℕ) → List ℕ → List ℕ → List ℕ → List ℕ → Type 0
+MapsTriples first second third to n value a b c dst =
+    (k i : ℕ) → k < n → i < to.size → group_at to dst k i ≡ value (group_at first a k) (group_at second b k) (group_at third c k) i
+
 -- the rows have whole groups alone, and equally many
 pub record SameGroups (from to : Groups) (src dst : List ℕ) : Type 0 where
   pub read : length src % group_bytes from ≡ 0

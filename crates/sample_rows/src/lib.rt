@@ -3,6 +3,7 @@
 
 mod add;
 mod average;
+mod blend;
 mod blocks;
 mod combine;
 mod convert;
@@ -18,6 +19,7 @@ mod vectors;
 
 pub use add::row_add;
 pub use average::row_average4;
+pub use blend::row_blend;
 pub use convert::convert_row;
 pub use extremes::{row_max, row_min};
 pub use gain::row_gain;

@@ -1,5 +1,6 @@
 -- Planes, and the samples of the pixels one after the other.
 use Rattle.std.proofs.Common.{◌≡◌, ℕ, zero, suc, ◌+◌, ◌*◌, ◌/◌, ◌%◌, ◌<◌, ◌≤◌, ap, ◌∙◌, arith}
+use Rattle.pixel_formats.specs.Blend.{blended}
 use Rattle.simd_samples.specs.Lanes.{Hold}
 use Rattle.simd_pixels.specs.Components.{component_for}
 use Rattle.simd_pixels.specs.Planes.{of_two, of_three, of_four}
@@ -56,3 +57,21 @@ component_for-le zero i few within = absurd (omega arith)
 component_for-le (suc zero) i few within = omega arith
 component_for-le (suc (suc zero)) i few within = omega arith
 component_for-le (suc (suc (suc n))) i few within = omega arith
+
+-- ---- pixels that are mixed by a weight each
+
+-- sixteen samples, from a sample on, mixed by weights that were spread over the channels of the pixels
+pub mixed_lanes : (most from : ℕ) (base made lanes weights spread : ℕ → ℕ) → Hold lanes (λ j. blended most (base (from + j)) (made (from + j)) (weights j)) → Hold weights (λ j. spread (from + j))
+    → Hold lanes (λ j. blended most (base (from + j)) (made (from + j)) (spread (from + j)))
+mixed_lanes most from base made lanes weights spread mixed same j lt = mixed j lt ∙ ap (blended most (base (from + j)) (made (from + j))) (same j lt)
+
+-- the first sixteen
+pub mixed_first : (most : ℕ) (base made lanes weights spread : ℕ → ℕ) → Hold lanes (λ j. blended most (base (0 + j)) (made (0 + j)) (weights j)) → Hold weights spread
+    → Hold lanes (λ j. blended most (base j) (made j) (spread j))
+mixed_first most base made lanes weights spread mixed same j lt =
+    let at : 0 + j ≡ j = omega arith in
+    mixed j lt ∙ (λ t. blended most (base (at t)) (made (at t)) (same j lt t))
+
+-- the weight of a pixel of n channels is spread over its samples
+pub mixed_pixel : (most n k i : ℕ) (base made weights : ℕ → ℕ) → (k * n + i) / n ≡ k → blended most (base (k * n + i)) (made (k * n + i)) (weights ((k * n + i) / n)) ≡ blended most (base (k * n + i)) (made (k * n + i)) (weights k)
+mixed_pixel most n k i base made weights at = ap (λ l. blended most (base (k * n + i)) (made (k * n + i)) (weights l)) at

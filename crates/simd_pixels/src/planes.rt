@@ -2,10 +2,14 @@
 
 ghost use Rattle.std.specs.Prelude.{◌≡◌, ℕ, ◌+◌, ◌*◌, ◌<◌, ◌≤◌, length, slice_index, refl};
 ghost use Rattle.std.proofs.Common.{rules};
+ghost use Rattle.pixel_formats.specs.Blend.{blended};
 ghost use Rattle.pixel_formats.specs.Sample.{max_sample_of, sample_at, scaled_by};
+ghost use Rattle.simd_samples.specs.Lanes.{Hold};
 ghost use Rattle.simd_pixels.specs.Planes.{PlaneSizes, of_one, of_two, of_three, of_four};
 
-use simd_samples::{Lanes, load_four, load_three, load_two, store_four, store_three, store_two};
+use simd_samples::{
+    Lanes, load_at, load_four, load_three, load_two, store_four, store_three, store_two,
+};
 
 /// The planes of sixteen pixels: a vector for each channel, with a pixel's samples in one lane.
 pub trait Planes<L: Lanes>: Copy {
@@ -35,8 +39,27 @@ pub trait Planes<L: Lanes>: Copy {
     fn scale_by(self, weights: L) -> Self
         ensures { (k i : ℕ) → k < 16 → i < channels → sample result i k ≡ scaled_by (max_sample_of L.depth) (sample self i k) (L.lane weights k) };
 
+    /// Writes the first sixteen pixels of a row of bytes: the pixels of `base` mixed with those of
+    /// `made`, each by its weight, rounded to the nearest.
+    fn blend(base: &[u8], made: &[u8], weights: L, dst: &mut [u8])
+        requires base { BYTES ≤ length base.now }
+        requires made { BYTES ≤ length made.now }
+        requires written { BYTES ≤ length dst.old }
+        ensures { (k i : ℕ) → k < 16 → i < channels → sample_at L.depth dst.new (k * channels + i)
+            ≡ blended (max_sample_of L.depth) (sample_at L.depth base.now (k * channels + i)) (sample_at L.depth made.now (k * channels + i)) (L.lane weights k) };
+
     /// Each channel has a plane.
     ghost sizes: { PlaneSizes channels L.BYTES BYTES };
+}
+
+/// Returns sixteen samples of a row of bytes, from sample `from` on, mixed with those of another.
+#[inline(always)]
+fn blend_at<L: Lanes>(base: &[u8], made: &[u8], from: usize, weights: L) -> L
+    requires base { L.depth * (from + 16) ≤ length base.now }
+    requires made { L.depth * (from + 16) ≤ length made.now }
+    ensures { Hold (L.lane result) (λ j. blended (max_sample_of L.depth) (sample_at L.depth base.now (from + j)) (sample_at L.depth made.now (from + j)) (L.lane weights j)) }
+{
+    load_at::<L>(base, from).blend(load_at(made, from), weights)
 }
 
 /// Pixels of one sample.
@@ -69,6 +92,11 @@ impl<L: Lanes> Planes<L> for Gray<L> {
         Gray {
             gray: self.gray.scale_by(weights),
         }
+    }
+
+    #[inline(always)]
+    fn blend(base: &[u8], made: &[u8], weights: L, dst: &mut [u8]) {
+        blend_at(base, made, 0, weights).store(dst);
     }
 
     ghost sizes = { record { some_channels = Prim.search rules; few_channels = Prim.search rules; whole = Prim.search rules } };
@@ -111,6 +139,14 @@ impl<L: Lanes> Planes<L> for GrayAlpha<L> {
         }
     }
 
+    #[inline(always)]
+    fn blend(base: &[u8], made: &[u8], weights: L, dst: &mut [u8]) {
+        let (low, high) = weights.interleave(weights);
+        let first = blend_at(base, made, 0, low);
+        let second = blend_at(base, made, 16, high);
+        store_two(first, second, dst);
+    }
+
     ghost sizes = { record { some_channels = Prim.search rules; few_channels = Prim.search rules; whole = refl } };
 }
 
@@ -151,6 +187,15 @@ impl<L: Lanes> Planes<L> for Colors<L> {
             green: self.green.scale_by(weights),
             blue: self.blue.scale_by(weights),
         }
+    }
+
+    #[inline(always)]
+    fn blend(base: &[u8], made: &[u8], weights: L, dst: &mut [u8]) {
+        let (low, middle, high) = weights.join_thirds(weights, weights);
+        let first = blend_at(base, made, 0, low);
+        let second = blend_at(base, made, 16, middle);
+        let third = blend_at(base, made, 32, high);
+        store_three(first, second, third, dst);
     }
 
     ghost sizes = { record { some_channels = Prim.search rules; few_channels = Prim.search rules; whole = refl } };
@@ -206,6 +251,18 @@ impl<L: Lanes> Planes<L> for ColorsAlpha<L> {
             blue: self.blue.scale_by(weights),
             alpha: self.alpha.scale_by(weights),
         }
+    }
+
+    #[inline(always)]
+    fn blend(base: &[u8], made: &[u8], weights: L, dst: &mut [u8]) {
+        let (low, high) = weights.interleave(weights);
+        let (lowest, lower) = low.interleave(low);
+        let (higher, highest) = high.interleave(high);
+        let first = blend_at(base, made, 0, lowest);
+        let second = blend_at(base, made, 16, lower);
+        let third = blend_at(base, made, 32, higher);
+        let fourth = blend_at(base, made, 48, highest);
+        store_four(first, second, third, fourth, dst);
     }
 
     ghost sizes = { record { some_channels = Prim.search rules; few_channels = Prim.search rules; whole = refl } };

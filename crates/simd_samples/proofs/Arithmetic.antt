@@ -104,7 +104,7 @@ by_shifts n lt = omega arith
 abbrev pub quotients_by_shifts : List ℕ → List ℕ → List ℕ → List ℕ
 quotients_by_shifts xs ys zs = zip2 shifted (zip2 (plus 4294967296) (zip2 (plus 4294967296) xs ys) (zip2 shifted xs zs)) zs
 
-one_quotient : (n : ℕ) → n < 4294901760 → shifted (plus 4294967296 (plus 4294967296 n 1) (shifted n 16)) 16 ≡ n / 65535
+pub one_quotient : (n : ℕ) → n < 4294901760 → shifted (plus 4294967296 (plus 4294967296 n 1) (shifted n 16)) 16 ≡ n / 65535
 one_quotient n lt =
     let small : (n + 1) % 4294967296 ≡ n + 1 = omega arith in
     let sum : (n + 1 + n / 65536) % 4294967296 ≡ n + 1 + n / 65536 = omega arith in
@@ -206,7 +206,7 @@ abbrev pub quotients_of_longs : List ℕ → List ℕ → List ℕ → List ℕ
 quotients_of_longs xs ys zs =
     zip2 shifted (zip2 (plus 18446744073709551616) (zip2 (plus 18446744073709551616) xs ys) (zip2 shifted xs zs)) zs
 
-one_long : (n : ℕ) → n < 18446744069414584320 → shifted (plus 18446744073709551616 (plus 18446744073709551616 n 1) (shifted n 32)) 32 ≡ n / 4294967295
+pub one_long : (n : ℕ) → n < 18446744069414584320 → shifted (plus 18446744073709551616 (plus 18446744073709551616 n 1) (shifted n 32)) 32 ≡ n / 4294967295
 one_long n lt =
     let small : (n + 1) % 18446744073709551616 ≡ n + 1 = mod-eq_of_lt (omega (arith, lt)) in
     let sum : (n + 1 + n / 4294967296) % 18446744073709551616 ≡ n + 1 + n / 4294967296 = mod-eq_of_lt (omega (arith, lt)) in

@@ -9,3 +9,4 @@ mod Interleaving
 mod VectorLaws
 mod Scaling
 mod DepthLaws
+mod Blending

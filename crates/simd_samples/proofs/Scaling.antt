@@ -17,7 +17,7 @@ one_multiplied : (w a b c : ℕ) → a * b + c < w → plus w (times w a b) c �
 one_multiplied w a b c room = ap (λ n. (n + c) % w) (mod-eq_of_lt (omega (arith, room))) ∙ mod-eq_of_lt room
 
 -- a lane of the splats
-three_splats : (f : ℕ → ℕ → ℕ → ℕ) (j b c d : ℕ) → j < 16 → f (get_or (replicate 16 b) j 0) (get_or (replicate 16 c) j 0) (get_or (replicate 16 d) j 0) ≡ f b c d
+pub three_splats : (f : ℕ → ℕ → ℕ → ℕ) (j b c d : ℕ) → j < 16 → f (get_or (replicate 16 b) j 0) (get_or (replicate 16 c) j 0) (get_or (replicate 16 d) j 0) ≡ f b c d
 three_splats f j b c d lt = λ p. f (splat_at b j lt p) (splat_at c j lt p) (splat_at d j lt p)
 
 pub Makes-scaled : (w bound shift : ℕ) (xs : List ℕ) (factor offset : ℕ) → 0 < bound → 0 < 2 ^ shift → bound * 2 ^ shift ≤ w → length xs ≡ 16

@@ -97,6 +97,14 @@ impl Lanes for ByteLanes {
     }
 
     #[inline(always)]
+    fn blend(self, made: Self, weights: Self) -> Self {
+        let shares = weights.lanes.cast::<u16>();
+        let left = u16x16::splat(255) - shares;
+        let sum = self.lanes.cast::<u16>() * left + made.lanes.cast::<u16>() * shares;
+        ByteLanes::new(((sum + u16x16::splat(127)) / u16x16::splat(255)).cast::<u8>())
+    }
+
+    #[inline(always)]
     fn scale(self, factor: u64, offset: u64) -> Self {
         let products = self.lanes.cast::<u32>() * u32x16::splat(factor as u32);
         let scaled = (products + u32x16::splat(offset as u32)) >> u32x16::splat(24);

@@ -3,6 +3,7 @@
 ghost use Rattle.std.specs.Prelude.{◌≡◌, ℕ, ◌+◌, ◌-◌, ◌*◌, ◌/◌, ◌%◌, ◌^◌, ◌<◌, ◌≤◌, ◌==◌, length, slice_index, min, max, nat_le, if◌then◌else◌};
 ghost use Rattle.simd_samples.specs.Lanes.{Hold, HoldThree, HoldTwo};
 ghost use Rattle.simd_samples.specs.Shuffle.{position_of_three, position_of_two};
+ghost use Rattle.pixel_formats.specs.Blend.{blended};
 ghost use Rattle.pixel_formats.specs.Sample.{added, max_sample_of, mean_of_four, mean_of_three, sample_at, thresholded, unit_of, scaled_by};
 
 use crate::shuffles::{ShuffleOfThree, ShuffleOfTwo};
@@ -108,6 +109,11 @@ pub trait Lanes: Copy {
     /// it, and 0 nothing.
     fn scale_by(self, weights: Self) -> Self
         ensures { Hold (lane result) (λ j. scaled_by (max_sample_of depth) (lane self j) (lane weights j)) };
+
+    /// Mixes each sample with another by a weight, rounded to the nearest: 0 leaves the sample of
+    /// `self`, and the largest sample gives that of `made`.
+    fn blend(self, made: Self, weights: Self) -> Self
+        ensures { Hold (lane result) (λ j. blended (max_sample_of depth) (lane self j) (lane made j) (lane weights j)) };
 
     /// Multiplies each sample by a factor and adds an offset; both are counted in parts of 65,536
     /// times the number of levels.

@@ -98,6 +98,17 @@ impl Lanes for LongLanes {
     }
 
     #[inline(always)]
+    fn blend(self, made: Self, weights: Self) -> Self {
+        let shares = weights.lanes.cast::<u64>();
+        let left = u64x16::splat(4_294_967_295) - shares;
+        let mixture = self.lanes.cast::<u64>() * left + made.lanes.cast::<u64>() * shares;
+        let sum = mixture + u64x16::splat(2_147_483_647);
+        // Dividing by 2^32 - 1 with shifts, which is exact for what two samples give.
+        let quotient = (sum + u64x16::splat(1) + (sum >> u64x16::splat(32))) >> u64x16::splat(32);
+        LongLanes::new(quotient.cast::<u32>())
+    }
+
+    #[inline(always)]
     fn scale(self, factor: u64, offset: u64) -> Self {
         // The factor and the offset in halves of 32 bits, so that no product leaves 64.
         let samples = self.lanes.cast::<u64>();

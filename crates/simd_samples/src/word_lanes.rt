@@ -99,6 +99,17 @@ impl Lanes for WordLanes {
     }
 
     #[inline(always)]
+    fn blend(self, made: Self, weights: Self) -> Self {
+        let shares = weights.lanes.cast::<u32>();
+        let left = u32x16::splat(65_535) - shares;
+        let mixture = self.lanes.cast::<u32>() * left + made.lanes.cast::<u32>() * shares;
+        let sum = mixture + u32x16::splat(32_767);
+        // Dividing by 65,535 with shifts, which is exact for what two samples give.
+        let quotient = (sum + u32x16::splat(1) + (sum >> u32x16::splat(16))) >> u32x16::splat(16);
+        WordLanes::new(quotient.cast::<u16>())
+    }
+
+    #[inline(always)]
     fn scale(self, factor: u64, offset: u64) -> Self {
         let products = self.lanes.cast::<u64>() * u64x16::splat(factor);
         let scaled = (products + u64x16::splat(offset)) >> u64x16::splat(32);

@@ -3,6 +3,8 @@
 #![tactic(auto)]
 
 #[cfg(test)]
+mod blends;
+#[cfg(test)]
 mod check;
 #[cfg(test)]
 mod halved_cases;

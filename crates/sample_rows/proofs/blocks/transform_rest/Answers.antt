@@ -9,8 +9,8 @@ use Rattle.sample_rows.proofs.blocks.transform_rest.Goals as goal
 
 pub returns-clause-made : goal.returns-clause-made
 returns-clause-made g c k i lt within =
-    let K = g.K.PairKernel in
-    let L = g.met.K.PairKernel in
+    let K = g.K.TripleKernel in
+    let L = g.met.K.TripleKernel in
     let blocks = c.args.blocks in
     let dst = c.args.dst.now in
     let to = c.WRITTEN.result * blocks in
@@ -21,12 +21,15 @@ returns-clause-made g c k i lt within =
     lt_of_mul-lt-mul_right (group_bytes K.to) (omega (arith, far, L.written_blocks.some_group, c.requires.written_short, ap (λ n. (blocks + 1) * n) L.written_blocks.whole)) in
     let part = c.copy_from_slice.new.self in
     let made = c.block.new.dst in
+    let first : group_at K.first c.padded-first.result k ≡ group_at K.first c.args.a.now (blocks * K.count + k) =
+    λ t j. group_at-block K.first c.padded-first.result c.args.a.now c.FIRST.result K.count blocks k (c.FIRST.ensures ∙ L.first_blocks.whole) (λ p. c.padded-first.ensures p ∙ part_from c.args.a.now (c.FIRST.result * blocks) p) j t in
+    let second : group_at K.second c.padded-second.result k ≡ group_at K.second c.args.b.now (blocks * K.count + k) =
+    λ t j. group_at-block K.second c.padded-second.result c.args.b.now c.SECOND.result K.count blocks k (c.SECOND.ensures ∙ L.second_blocks.whole) (λ p. c.padded-second.ensures p ∙ part_from c.args.b.now (c.SECOND.result * blocks) p) j t in
+    let third : group_at K.third c.padded-third.result k ≡ group_at K.third c.args.c.now (blocks * K.count + k) =
+    λ t j. group_at-block K.third c.padded-third.result c.args.c.now c.THIRD.result K.count blocks k (c.THIRD.ensures ∙ L.third_blocks.whole) (λ p. c.padded-third.ensures p ∙ part_from c.args.c.now (c.THIRD.result * blocks) p) j t in
     let long : length part ≡ length dst - to = c.copy_from_slice.auto.self ∙ length-part_from dst to in
     sym (group_at-block K.to part (put_mid to (length dst - to) dst part) c.WRITTEN.result K.count blocks k (c.WRITTEN.ensures ∙ L.written_blocks.whole) (λ p. part_written dst part to (length dst - to) p (omega arith) long) i)
     ∙ group_at-below K.to part made (k + 1) (length part) k i (omega (arith, far)) (omega arith) within
     (λ p near. ap (λ l. get_or l p 0) c.copy_from_slice.ensures.after ∙ get_or-take _ made p 0 (omega (arith, near, c.copy_from_slice.auto.self)))
     ∙ c.block.ensures k i (omega (arith, few)) within
-    ∙ ap (λ (s : ℕ → ℕ). K.value c.args.kernel.now s (group_at K.second c.padded-second.result k) i)
-    (λ t j. group_at-block K.first c.padded-first.result c.args.a.now c.FIRST.result K.count blocks k (c.FIRST.ensures ∙ L.first_blocks.whole) (λ p. c.padded-first.ensures p ∙ part_from c.args.a.now (c.FIRST.result * blocks) p) j t)
-    ∙ ap (λ (s : ℕ → ℕ). K.value c.args.kernel.now (group_at K.first c.args.a.now (blocks * K.count + k)) s i)
-    (λ t j. group_at-block K.second c.padded-second.result c.args.b.now c.SECOND.result K.count blocks k (c.SECOND.ensures ∙ L.second_blocks.whole) (λ p. c.padded-second.ensures p ∙ part_from c.args.b.now (c.SECOND.result * blocks) p) j t)
+    ∙ (λ t. K.value c.args.kernel.now (first t) (second t) (third t) i)
