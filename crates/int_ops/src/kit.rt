@@ -67,6 +67,16 @@ impl OpKit for IntKit {
         purse.take()
     }
 
+    fn steady(&self, op: &IntOp) -> bool {
+        !matches!(
+            op,
+            IntOp::Color { .. }
+                | IntOp::Checker { .. }
+                | IntOp::Translate { .. }
+                | IntOp::Flip { .. }
+        )
+    }
+
     fn same(&self, a: &IntOp, b: &IntOp) -> bool {
         a == b
     }

@@ -1,3 +1,4 @@
+pub mod Filter
 pub mod Node
 pub mod Evaluation
 pub mod Shapes
@@ -5,5 +6,7 @@ pub mod Facts
 pub mod Meanings
 pub mod Laws
 pub mod Changes
+pub mod Filters
+pub mod Lawful
 pub mod Windows
 pub mod Permits

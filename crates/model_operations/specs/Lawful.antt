@@ -7,3 +7,4 @@ pub mod Reaching
 pub mod ImageLaws
 pub mod MeaningLaws
 pub mod SameLaws
+pub mod InPlace

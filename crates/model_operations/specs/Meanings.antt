@@ -27,6 +27,14 @@ int_meanings =
       invalidated = invalidated;
     }
 
+-- the operations that may stand through a mask: their result is in place of their first input
+abbrev pub is_steady : IntOp → Bool
+is_steady (Color format rect samples) = false
+is_steady (Checker format rect size v1 v2) = false
+is_steady (Translate dx dy) = false
+is_steady (Flip sideways) = false
+is_steady _ = true
+
 -- two policies are one
 abbrev pub same_policy : Abyss → Abyss → Bool
 same_policy policies.None policies.None = true

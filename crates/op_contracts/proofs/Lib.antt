@@ -6,3 +6,8 @@ pub mod Applied
 pub mod Copied
 pub mod Bounds
 pub mod HeldLines
+pub mod Lent
+pub mod NodeOps
+pub mod Pixels
+pub mod Mixed
+pub mod Masked

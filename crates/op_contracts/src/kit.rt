@@ -107,6 +107,11 @@ pub trait OpKit {
     fn take(&self, purse: &mut Self::Purse) -> Option<Self::Permit>
         ensures { Takes (permits purse.old) (permits purse.new) result };
 
+    /// Returns whether an operation may stand through a mask, which mixes its result with its first input: its result has
+    /// that input's pixels in place.
+    fn steady(&self, op: &Self::Op) -> bool
+        ensures { result ≡ Self.Op.steady op.now };
+
     /// Returns whether two operations are one, with the same arguments.
     fn same(&self, a: &Self::Op, b: &Self::Op) -> bool
         ensures { result ≡ Self.Op.same a.now b.now };

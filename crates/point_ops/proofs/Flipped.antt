@@ -19,8 +19,8 @@ use Rattle.sample_rows.proofs.RowLaws.{pixel_count_of}
 use Rattle.patch_abyss.proofs.Parts.{byte_index, byte_within}
 use Rattle.model_operations.specs.Lawful.Sides.{mirrored_column, mirrored_row}
 use Rattle.point_ops.specs.Flipped.{chunk_from_end, flipped_index, mirrored_end, mirrored_source}
-use Rattle.point_ops.specs.PartBytes.{AreRawBytesOf}
-use Rattle.point_ops.proofs.Pixels.{image-of_pixels}
+use Rattle.op_contracts.specs.PartBytes.{AreRawBytesOf}
+use Rattle.op_contracts.proofs.Pixels.{image-of_pixels}
 use Rattle.point_ops.proofs.Squares.{rows-follow}
 
 -- ---- chunks in the reverse of their order

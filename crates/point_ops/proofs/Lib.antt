@@ -1,4 +1,3 @@
-pub mod Lent
 pub mod Agreeing
 pub mod Pixels
 pub mod Pairs

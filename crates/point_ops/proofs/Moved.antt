@@ -13,7 +13,7 @@ use Rattle.model_operations.specs.Moves.{moved_index, source_index}
 use Rattle.model_operations.specs.Lawful.Reaching.{shifted-came, translated-from}
 use Rattle.model_operations.specs.declared.operation.IntOp.TheVariants.{Translate}
 use Rattle.point_ops.specs.Moved.{moved_source}
-use Rattle.point_ops.specs.PartBytes.{AreRawBytesOf}
+use Rattle.op_contracts.specs.PartBytes.{AreRawBytesOf}
 
 -- ---- a part that is read from another of the same size
 

@@ -9,11 +9,11 @@ use Rattle.pixel_formats.specs.declared.format.Format.{Format}
 use Rattle.model_images.specs.FromRaw.{image_from_raw}
 use Rattle.model_images.specs.Image.{Image, at, image_from_fn}
 use Rattle.point_ops.specs.Combinations.{Suit, combined_pixel}
-use Rattle.point_ops.specs.PartBytes.{AreRawBytesOf}
+use Rattle.op_contracts.specs.PartBytes.{AreRawBytesOf}
 use Rattle.point_ops.specs.declared.combine.Combination.{Combination}
 use Rattle.point_ops.specs.declared.combine.Combination.TheVariants.{Add, Over, Mask}
 use Rattle.point_ops.proofs.Agreeing.{Agree, last_channel}
-use Rattle.point_ops.proofs.Pixels.{image-of_pixels}
+use Rattle.op_contracts.proofs.Pixels.{image-of_pixels}
 
 combined-agrees : (combination : Combination) (f g : Format) (p p' q q' : Pixel) (c : ℕ) → Suit combination f g → Agree (channels f) p p' → Agree (channels g) q q' → c < channels f
     → combined_pixel combination f p q c ≡ combined_pixel combination f p' q' c

@@ -17,7 +17,7 @@ use Rattle.model_images.specs.Image.{image_from_fn}
 use Rattle.model_operations.specs.Values.{checker_pixel, square_number}
 use Rattle.sample_rows.proofs.RowLaws.{pixel_count_of}
 use Rattle.point_ops.specs.Generated.{IsCheckerboard, by_square, opaque_pixel}
-use Rattle.point_ops.proofs.Pixels.{image-of_pixels}
+use Rattle.op_contracts.proofs.Pixels.{image-of_pixels}
 use Rattle.point_ops.proofs.Rows.{HasPixels-append}
 
 -- the bytes are those of one pixel

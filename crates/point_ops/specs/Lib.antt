@@ -3,5 +3,4 @@ pub mod Combinations
 pub mod Flipped
 pub mod Generated
 pub mod Moved
-pub mod PartBytes
 pub mod PointOps

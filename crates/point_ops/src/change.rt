@@ -8,7 +8,6 @@ ghost use Rattle.model_images.specs.Image.{at, image_from_fn};
 ghost use Rattle.model_graphs.specs.Windows.{IsWholeWindow, window_image};
 ghost use Rattle.point_ops.specs.Changes.{HasDivisor, changed_format, changed_pixel};
 
-use crate::part_bytes::part_bytes;
 use crate::patches::pixel_count;
 use alloc_basics::NoMemory;
 use op_contracts::Window;
@@ -98,7 +97,7 @@ pub(crate) fn changed_part(
         (λ u v. changed_pixel change window.now.format (at (window_image window.now) u v))) }
 {
     let from = window.format;
-    let src = part_bytes(alloc, window, out)?;
+    let src = window.part_bytes(alloc, out)?;
     let bytes = changed_bytes(alloc, change, from, src.as_slice(), pixel_count(&out))?;
     Ok(Patch::from_vec(out, change.format(from), bytes))
 }

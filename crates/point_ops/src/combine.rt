@@ -8,7 +8,6 @@ ghost use Rattle.model_images.specs.Image.{at, image_from_fn};
 ghost use Rattle.model_graphs.specs.Windows.{IsWholeWindow, window_image};
 ghost use Rattle.point_ops.specs.Combinations.{Suit, combined_pixel};
 
-use crate::part_bytes::part_bytes;
 use alloc_basics::NoMemory;
 use op_contracts::Window;
 use patch_abyss::Patch;
@@ -94,8 +93,8 @@ pub(crate) fn combined_part(
 {
     let formats = (first.format, second.format);
     let (a, b) = (
-        part_bytes(alloc, first, out)?,
-        part_bytes(alloc, second, out)?,
+        first.part_bytes(alloc, out)?,
+        second.part_bytes(alloc, out)?,
     );
     let bytes = combined_bytes(alloc, combination, formats, a.as_slice(), b.as_slice())?;
     Ok(Patch::from_vec(out, formats.0, bytes))

@@ -10,7 +10,6 @@ ghost use Rattle.model_graphs.specs.Windows.{IsWholeWindow, window_image};
 ghost use Rattle.model_operations.specs.Values.{flipped_pixel};
 ghost use Rattle.point_ops.specs.Flipped.{chunk_from_end, flipped_index, mirrored_source};
 
-use crate::part_bytes::part_bytes;
 use crate::patches::pixel_count;
 use alloc_basics::NoMemory;
 use op_contracts::Window;
@@ -37,7 +36,7 @@ pub(crate) fn flipped_part(
     ensures { IfOk result (λ patch. patch ≡ image_from_fn out window.now.format (flipped_pixel sideways (window_image window.now))) }
 {
     let source = mirrored_source(sideways, &window.bounds, &out);
-    let part = part_bytes(alloc, window, source)?;
+    let part = window.part_bytes(alloc, source)?;
     let bytes = flipped_bytes(alloc, sideways, window.format, part.as_slice(), &out)?;
     Ok(Patch::from_vec(out, window.format, bytes))
 }

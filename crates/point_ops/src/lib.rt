@@ -7,7 +7,6 @@ mod checker;
 mod combine;
 mod flip;
 mod moves;
-mod part_bytes;
 mod patches;
 
 pub use applying::{apply, is_point_op};

@@ -7,7 +7,6 @@ ghost use Rattle.model_graphs.specs.Windows.{IsWholeWindow, window_image};
 ghost use Rattle.model_operations.specs.{Boxes.result_box, Moves.source_index, declared.operation.IntOp.IntOp};
 ghost use Rattle.point_ops.specs.Moved.{moved_source};
 
-use crate::part_bytes::part_bytes;
 use crate::patches::patch_of_slice;
 use alloc_basics::NoMemory;
 use op_contracts::Window;
@@ -35,7 +34,7 @@ pub(crate) fn translated_part(
         (λ u v. at (window_image window.now) (source_index dx u) (source_index dy v))) }
 {
     let source = moved_source(dx, dy, &window.bounds, &out);
-    let bytes = part_bytes(alloc, window, source)?;
+    let bytes = window.part_bytes(alloc, source)?;
     patch_of_slice(alloc, out, window.format, bytes.as_slice())
 }
 

@@ -1,5 +1,5 @@
 -- The operation that cuts an image to a rectangle.
-use Rattle.std.specs.Prelude.{ℕ, Bool, List, [], ◌∷◌, Option, Some, None, unwrap_or, slice_index_or}
+use Rattle.std.specs.Prelude.{ℕ, Bool, true, List, [], ◌∷◌, Option, Some, None, unwrap_or, slice_index_or}
 use Rattle.plane_rect.specs.Rectangle.{Rectangle, empty, meet, same_rectangle}
 use Rattle.pixel_formats.specs.declared.format.Format.{Format}
 use Rattle.model_images.specs.Image.{at}
@@ -33,6 +33,10 @@ cutting = record {
   required = cut_required;
   invalidated = cut_invalidated;
 }
+
+-- each cut may stand through a mask
+abbrev pub cut_is_steady : CutTo → Bool
+cut_is_steady op = true
 
 -- two rectangles are one
 abbrev pub same_cut : CutTo → CutTo → Bool

@@ -9,9 +9,10 @@ use Rattle.model_images.specs.Image.{Image, at}
 use Rattle.model_images.specs.Paint.{no_image}
 use Rattle.model_images.proofs.Agreeing.{at-by_channels}
 use Rattle.model_images.proofs.Laws.{at-image_from_fn}
+use Rattle.model_graphs.specs.Filters.{IsInPlace}
 use Rattle.model_graphs.specs.Laws.{IsBoxed, IsDual, IsEquality, IsLocal, unit_rectangle}
 use Rattle.model_graphs.specs.Meanings.{boxes_of, formats_of, result_box, result_format, result_of}
-use Rattle.test_kit.specs.Cutting.{cut_required, cutting, same_cut}
+use Rattle.test_kit.specs.Cutting.{cut_is_steady, cut_required, cutting, same_cut}
 use Rattle.test_kit.specs.declared.cutting.CutTo.{CutTo}
 
 -- a position of the result is one of the only input's box
@@ -49,6 +50,12 @@ pub is_boxed : IsBoxed cutting
 is_boxed = record {
   required = λ op boxes i part u v there. ((Inside-meet u v part (slice_index_or boxes i empty)).0 there).1;
   invalidated = λ op boxes i changed u v there. ((Inside-meet u v changed (result_box cutting op boxes)).0 there).1;
+}
+
+pub is_in_place : IsInPlace cut_is_steady cutting
+is_in_place = record {
+  input = λ op steady. omega arith;
+  required = λ op steady boxes part u v there inside first. (Inside-meet u v part (slice_index_or boxes 0 empty)).1 (there, first);
 }
 
 pub is_equality : IsEquality same_cut

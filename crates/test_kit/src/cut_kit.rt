@@ -1,6 +1,6 @@
 //! The kit of the operation, with its purse.
 
-ghost use Rattle.std.specs.Prelude.{◌≡◌, ◌<◌, All, IfOk, IsSome, length};
+ghost use Rattle.std.specs.Prelude.{◌≡◌, ◌<◌, All, IfOk, IsSome, length, true};
 ghost use Rattle.plane_rect.specs.Rectangle.{Includes};
 ghost use Rattle.model_images.specs.Paint.{cut};
 ghost use Rattle.model_graphs.specs.{Meanings.result_box, Permits.Takes, Windows.IsWholeWindow};
@@ -103,6 +103,12 @@ impl OpKit for CutKit {
     {
         purse.left = purse.left.checked_sub(1)?;
         Some(CutPermit { _spent: () })
+    }
+
+    fn steady(&self, op: &CutTo) -> bool
+        ensures { result ≡ true }
+    {
+        true
     }
 
     fn same(&self, a: &CutTo, b: &CutTo) -> bool

@@ -5,7 +5,7 @@ use Rattle.model_images.specs.FromRaw.{image_from_raw}
 use Rattle.model_images.specs.Image.{at, image_from_fn}
 use Rattle.model_graphs.specs.Windows.{Window, window_image}
 use Rattle.point_ops.specs.Changes.{changed_format, changed_pixel}
-use Rattle.point_ops.specs.PartBytes.{AreRawBytesOf}
+use Rattle.op_contracts.specs.PartBytes.{AreRawBytesOf}
 use Rattle.point_ops.proofs.Pixels.{changed-of}
 use Rattle.point_ops.proofs.change.changed_part.Goals as goal
 

@@ -3,7 +3,7 @@ use Rattle.model_images.specs.FromRaw.{image_from_raw}
 use Rattle.model_images.specs.Image.{at, image_from_fn}
 use Rattle.model_graphs.specs.Windows.{Window, window_image}
 use Rattle.point_ops.specs.Combinations.{combined_pixel}
-use Rattle.point_ops.specs.PartBytes.{AreRawBytesOf}
+use Rattle.op_contracts.specs.PartBytes.{AreRawBytesOf}
 use Rattle.point_ops.proofs.Pairs.{combined-of}
 use Rattle.point_ops.proofs.combine.combined_part.Goals as goal
 

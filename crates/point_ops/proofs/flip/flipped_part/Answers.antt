@@ -6,7 +6,7 @@ use Rattle.model_images.specs.Image.{image_from_fn}
 use Rattle.model_graphs.specs.Windows.{Window, window_image}
 use Rattle.model_operations.specs.Values.{flipped_pixel}
 use Rattle.point_ops.specs.Flipped.{flipped_index, mirrored_source}
-use Rattle.point_ops.specs.PartBytes.{AreRawBytesOf}
+use Rattle.op_contracts.specs.PartBytes.{AreRawBytesOf}
 use Rattle.point_ops.proofs.Flipped.{MirrorsFrom, mirrored-count, mirrored-image, mirrored-limits, mirrors-from}
 use Rattle.point_ops.proofs.flip.flipped_part.Goals.{After-as_slice, After-mirrored_source-source}
 use Rattle.point_ops.proofs.flip.flipped_part.Goals as goal

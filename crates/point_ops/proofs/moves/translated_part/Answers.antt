@@ -5,7 +5,7 @@ use Rattle.model_images.specs.Image.{at, image_from_fn}
 use Rattle.model_graphs.specs.Windows.{Window, window_image}
 use Rattle.model_operations.specs.Moves.{source_index}
 use Rattle.point_ops.specs.Moved.{moved_source}
-use Rattle.point_ops.specs.PartBytes.{AreRawBytesOf}
+use Rattle.op_contracts.specs.PartBytes.{AreRawBytesOf}
 use Rattle.point_ops.proofs.Moved.{ComesFrom, moved-count, moved-image, source-limits, translated-source}
 use Rattle.point_ops.proofs.moves.translated_part.Goals.{After-as_slice, After-moved_source-source}
 use Rattle.point_ops.proofs.moves.translated_part.Goals as goal

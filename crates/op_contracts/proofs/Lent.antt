@@ -15,7 +15,7 @@ use Rattle.pixel_formats.specs.declared.abyss.Abyss.TheVariants.{None}
 use Rattle.model_graphs.specs.Windows.{IsWholeWindow, Window, tiles_of, window_image}
 use Rattle.op_contracts.proofs.Shown.{found-long}
 use Rattle.patch_abyss.proofs.TilesOfPatches.{raw-part}
-use Rattle.point_ops.specs.PartBytes.{AreRawBytesOf}
+use Rattle.op_contracts.specs.PartBytes.{AreRawBytesOf}
 
 length-raw : (image : Image) (r : Rectangle) → length (raw image r) ≡ byte_count r image.format
 length-raw image r = ap length (sym (raw_with-none image r)) ∙ length-raw_with image None r

@@ -1,8 +1,8 @@
 use Rattle.std.proofs.Common.{◌≡◌, sym, ap, subst, refl}
 use Rattle.plane_rect.specs.Rectangle.{Includes, Rectangle}
 use Rattle.model_graphs.specs.Windows.{Window}
-use Rattle.point_ops.proofs.Lent.{tile-are}
-use Rattle.point_ops.proofs.part_bytes.lent_tile.Goals as goal
+use Rattle.op_contracts.proofs.Lent.{tile-are}
+use Rattle.op_contracts.proofs.part_bytes.lent_tile.Goals as goal
 
 pub returns-then-contains : goal.returns-then-contains
 returns-then-contains c =

@@ -5,8 +5,8 @@ use Rattle.pixel_formats.specs.Format.{channels}
 use Rattle.model_images.specs.FromRaw.{byte_count, pixels_from_raw}
 use Rattle.model_images.specs.Image.{Image, at}
 use Rattle.model_images.specs.Raw.{raw}
-use Rattle.point_ops.specs.declared.part_bytes.PartBytes.{PartBytes}
-use Rattle.point_ops.specs.declared.part_bytes.PartBytes.TheVariants.{Lent, Copied}
+use Rattle.op_contracts.specs.declared.part_bytes.PartBytes.{PartBytes}
+use Rattle.op_contracts.specs.declared.part_bytes.PartBytes.TheVariants.{Lent, Copied}
 
 -- the bytes, lent or copied
 abbrev pub bytes_of : PartBytes → List ℕ

@@ -3,17 +3,17 @@
 ghost use Rattle.std.specs.Prelude.{◌≡◌, IfOk, IfSome};
 ghost use Rattle.plane_rect.specs.{Rectangle.InLimits, Tile.tile_square};
 ghost use Rattle.model_graphs.specs.Windows.{IsWholeWindow, window_image};
-ghost use Rattle.point_ops.specs.PartBytes.{AreRawBytesOf, bytes_of};
+ghost use Rattle.op_contracts.specs.PartBytes.{AreRawBytesOf, bytes_of};
 
+use crate::window::Window;
 use alloc_basics::NoMemory;
-use op_contracts::Window;
 use patch_abyss::Patch;
 use plane_rect::{Rect, TileAt};
 use std::alloc::Global;
 
 /// The raw bytes of a part of what a window shows.
 #[derive(Drop)]
-pub(crate) enum PartBytes<'a> {
+pub enum PartBytes<'a> {
     /// Those of a tile of the window, which the part is.
     Lent(&'a [u8]),
     /// A copy of the part.
@@ -32,25 +32,22 @@ impl PartBytes<'_> {
     }
 }
 
-/// Returns the raw bytes of what a window shows over a rectangle, without a copy where that is a
-/// tile in the input's box. Else it takes time in proportion to the rectangle's pixels and to the
-/// number of tiles.
-///
-/// # Errors
-///
-/// `NoMemory` if memory runs out.
-pub(crate) fn part_bytes(
-    alloc: Global,
-    window: &Window,
-    rect: Rect,
-) -> Result<PartBytes<'_>, NoMemory>
-    requires whole { IsWholeWindow window.now }
-    requires limits { InLimits rect }
-    ensures { IfOk result (λ part. AreRawBytesOf (window_image window.now) rect (bytes_of part)) }
-{
-    match lent_tile(window, &rect) {
-        Some(bytes) => Ok(PartBytes::Lent(bytes)),
-        None => Ok(PartBytes::Copied(window.part(alloc, rect)?)),
+impl Window {
+    /// Returns the raw bytes of what the window shows over a rectangle, as `part` has it, without a copy where that is a
+    /// tile in the input's box. Else it takes time in proportion to the rectangle's pixels and to the number of tiles.
+    ///
+    /// # Errors
+    ///
+    /// `NoMemory` if memory runs out.
+    pub fn part_bytes(&self, alloc: Global, rect: Rect) -> Result<PartBytes<'_>, NoMemory>
+        requires whole { IsWholeWindow self.now }
+        requires limits { InLimits rect }
+        ensures { IfOk result (λ part. AreRawBytesOf (window_image self.now) rect (bytes_of part)) }
+    {
+        match lent_tile(self, &rect) {
+            Some(bytes) => Ok(PartBytes::Lent(bytes)),
+            None => Ok(PartBytes::Copied(self.part(alloc, rect)?)),
+        }
     }
 }
 
