@@ -54,7 +54,20 @@ impl HandCache {
         ensures over { IsHandCache self.new.tiles.entries self.new.tiles.cap }
         ensures capacity { self.new.capacity ≡ self.old.capacity }
     {
-        while self.tiles.len() > self.capacity as usize {
+        self.trim_to(self.capacity);
+    }
+
+    /// Cuts the list to `most` pairs: the last ones go. Takes no memory.
+    pub fn trim_to(&mut self, most: u32)
+        requires { IsHandCache self.old.tiles.entries self.old.tiles.cap }
+        ensures entries { self.new.tiles.entries ≡ take most self.old.tiles.entries }
+        ensures pairs { pairs_in self.new.tiles.entries ≡ take most (pairs_in self.old.tiles.entries) }
+        ensures sizes { map hand_size self.new.tiles.entries ≡ take most (map hand_size self.old.tiles.entries) }
+        ensures cached { map hand_bytes self.new.tiles.entries ≡ take most (map hand_bytes self.old.tiles.entries) }
+        ensures over { IsHandCache self.new.tiles.entries self.new.tiles.cap }
+        ensures capacity { self.new.capacity ≡ self.old.capacity }
+    {
+        while self.tiles.len() > most as usize {
             self.tiles.pop_lru();
         }
     }

@@ -7,13 +7,15 @@ use Rattle.model_graphs.specs.Facts.{Facts, shapes_of_facts}
 use Rattle.model_graphs.specs.declared.buffer.BufferFact.{BufferFact}
 use Rattle.model_graphs.specs.declared.node.NodeFact.{NodeFact}
 use Rattle.model_graphs.specs.Meanings.{Meanings}
+use Rattle.model_states.specs.declared.damage.Damage.{Damage}
 use Rattle.model_states.specs.Valid.{AreStated}
 
--- the number of a committed state, its nodes, and buffers whose images are frozen
+-- the number of a committed state, its nodes, buffers whose images are frozen, and the damages of the last commits
 pub record SceneOf (Op : Type 0) : Type 0 where
   pub number : ℕ
   pub nodes : List (NodeFact Op)
   pub buffers : List NamedTiles
+  pub damages : List Damage
 
 -- the names of buffers
 abbrev pub names_in : List NamedTiles → List (List ℕ)

@@ -1,0 +1,3 @@
+pub mod Transitive
+pub mod Stay
+pub mod Committed

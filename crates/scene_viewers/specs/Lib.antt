@@ -1,0 +1,5 @@
+pub mod Frames
+pub mod HubScenes
+pub mod Leaving
+pub mod Refusals
+pub mod Viewers
