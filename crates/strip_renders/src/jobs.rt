@@ -118,7 +118,8 @@ fn work_of<P>(jobs: &[TileJob<P>]) -> u64 {
     work
 }
 
-/// Carries jobs out, split among as many workers as they are worth. Returns the tiles that they make, in their order.
+/// Carries jobs out, handed out one by one to as many workers as they are worth. Returns the tiles that they make, in
+/// their order.
 ///
 /// # Errors
 ///
@@ -139,7 +140,7 @@ where
     ensures { IfOk result (λ made. made.items ≡ map (made_of K.Op.meanings nodes.now) jobs.items) }
 {
     let workers = workers.for_work(work_of(&jobs));
-    workers.map(
+    workers.batch(
         alloc,
         jobs,
         |job: TileJob<K::Permit>| -> Result<((u32, TileAt), Tile), NoMemory>

@@ -4,9 +4,9 @@ use Rattle.strip_renders.specs.Ahead.{made_of}
 use Rattle.strip_renders.proofs.JobLists.{all-made}
 use Rattle.strip_renders.proofs.jobs.apply_jobs.Goals as goal
 
-pub map-requires-after_bounds : goal.map-requires-after_bounds
-map-requires-after_bounds g c κs within = λ k d less.
+pub batch-requires-after_bounds : goal.batch-requires-after_bounds
+batch-requires-after_bounds g c κs within = λ k d less.
     (c.requires.inputs, All-from_recursion (IsTileJob g.K.Op.OpMeaning.meanings c.args.nodes.now) c.args.jobs.items c.requires.jobs k d less)
 
 pub returns : goal.returns
-returns g c = all-made (made_of g.K.Op.OpMeaning.meanings c.args.nodes.now) c.args.jobs.items (λ made. made.items) c.map.result c.map.ensures
+returns g c = all-made (made_of g.K.Op.OpMeaning.meanings c.args.nodes.now) c.args.jobs.items (λ made. made.items) c.batch.result c.batch.ensures
