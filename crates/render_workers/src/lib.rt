@@ -13,3 +13,4 @@ pub use frozen_images::{FrozenBuffer, SceneTiles};
 pub use refused::RenderRefused;
 pub use rendering::{Rendered, render};
 pub use scene::Scene;
+pub use work_batches::work_batch;
