@@ -7,6 +7,7 @@ mod levels;
 mod plain;
 mod seen;
 mod steps;
+mod waiting_kit;
 
 use crate::values::disk_of;
 use canvases::run_example;
@@ -20,9 +21,11 @@ use levels::steps_at;
 use outside_io::{SureSwap, SwapDisk};
 use std::alloc::Global;
 use std::process::Abort;
+use std::sync::atomic::Ordering;
 use std::thread::Threads;
 use steps::Step;
 use tile_chain::Chain;
+use waiting_kit::{WaitingKit, show_gray};
 
 /// Runs an example over a chain over a disk. Returns whether the disk refused a call.
 fn run_over<D: SwapDisk>(
@@ -105,4 +108,27 @@ fn a_render_that_the_disk_refuses_is_made_again(rt: HostRuntime) {
         by_a_write = is_refused(&rt, rt.alloc(), 0, call) || by_a_write;
     }
     assert!(rt; by_a_read && by_a_write);
+}
+
+#[test]
+fn two_tiles_are_made_at_the_same_time(rt: HostRuntime) {
+    let kit = WaitingKit::new(2, 0);
+    let two_tiles = [0, 0, 128, 64];
+    assert!(rt; !show_gray(&rt, rt.alloc(), &kit, 2, ("k", two_tiles), 7));
+    let begun = kit.begun.load(Ordering::SeqCst);
+    let ran_out = kit.ran_out.load(Ordering::SeqCst);
+    assert!(rt; begun == 2 && ran_out == 0);
+}
+
+/// Lets memory run out at each of the eight tiles of a render in turn, and at none.
+#[test]
+fn a_render_that_is_out_of_memory_in_one_tile_is_made_again(rt: HostRuntime) {
+    let four_tiles = [0, 0, 128, 128];
+    for workers in [1, 2, 3, 16] {
+        for scarce in 0..10 {
+            let kit = WaitingKit::new(0, scarce);
+            let is_refused = show_gray(&rt, rt.alloc(), &kit, workers, ("i", four_tiles), 248);
+            assert!(rt; is_refused == (1 <= scarce && scarce <= 8));
+        }
+    }
 }

@@ -27,6 +27,11 @@ pub type Asked = (&'static str, u32, Fields);
 /// How many permits there are for each render.
 const PERMITS: u64 = 1 << 32;
 
+/// The refusal of an edit or a read of buffers by a disk of which a call fails.
+const SWAP_FAULT: SessionRefused = SessionRefused::Buffer(BufferRefused::Swap(
+    SwapRefused::SwapFault,
+));
+
 /// An operation on one input.
 #[derive(Clone, Copy)]
 pub enum Work {
@@ -118,7 +123,7 @@ pub fn edit<C: TileChain>(
     let Err(refused) = edited else {
         return false;
     };
-    assert!(rt; refused == SessionRefused::Buffer(BufferRefused::Swap(SwapRefused::SwapFault)));
+    assert!(rt; refused == SWAP_FAULT);
     let again = session.edit(rt, edit_of(rt, alloc, made));
     again.expect(rt, "one call that fails");
     true
@@ -188,16 +193,39 @@ pub fn shown<C: TileChain>(
     }
 }
 
-/// Returns a rectangle of a buffer that is edited.
+/// Reads a rectangle of a buffer that is edited.
+///
+/// # Errors
+///
+/// As [`OwnedSession::grab`].
+fn grab<C: TileChain>(
+    rt: &impl Abort,
+    session: &mut OwnedSession<IntKit, C>,
+    word: &str,
+    fields: Fields,
+) -> Result<Patch, SessionRefused>
+    requires { IsOver same_operation int_meanings session.old.state (C.held session.old.chain) }
+    ensures { IsOver same_operation int_meanings session.new.state (C.held session.new.chain) }
+{
+    session.grab(name(rt, word), 0, Abyss::None, rect(fields))
+}
+
+/// Reads a rectangle of a buffer that is edited, and again where the disk refuses it. Returns the patch, and whether it did.
 pub fn grabbed<C: TileChain>(
     rt: &impl Abort,
     session: &mut OwnedSession<IntKit, C>,
     word: &str,
     fields: Fields,
-) -> Patch
+) -> (Patch, bool)
     requires { IsOver same_operation int_meanings session.old.state (C.held session.old.chain) }
     ensures { IsOver same_operation int_meanings session.new.state (C.held session.new.chain) }
 {
-    let patch = session.grab(name(rt, word), 0, Abyss::None, rect(fields));
-    patch.expect(rt, "a buffer that is there")
+    match grab(rt, session, word, fields) {
+        Ok(patch) => (patch, false),
+        Err(refused) => {
+            assert!(rt; refused == SWAP_FAULT);
+            let patch = grab(rt, session, word, fields);
+            (patch.expect(rt, "one call that fails"), true)
+        }
+    }
 }

@@ -137,3 +137,33 @@ pub fn inverted_and_painted<'a>(raw: &'a [u8], painted: &'a [u8]) -> [Step<'a>; 
         Shows(("j", 0, PAIR), All(painted)),
     ]
 }
+
+/// Returns the steps that render the mean of nine of a gray square twice, and again after one pixel was written and
+/// committed. Both states show these means.
+pub fn work_after_an_edit<'a>(first: &'a [u8], second: &'a [u8]) -> [Step<'a>; 10] {
+    [
+        Edit(Buffer("a", SQUARE)),
+        Edit(Paint("a", SQUARE, 100)),
+        Edit(Source("s", "a")),
+        Edit(Node("b", Work::Mean, "s")),
+        Commit(1),
+        Shows(("b", 0, SQUARE), All(first)),
+        Shows(("b", 0, SQUARE), All(first)),
+        Edit(Paint("a", [0, 0, 1, 1], 200)),
+        Commit(2),
+        Shows(("b", 0, SQUARE), All(second)),
+    ]
+}
+
+/// Returns the steps that paint both tiles of a buffer and read it four times, each time these bytes.
+pub fn four_reads<'a>(raw: &'a [u8]) -> [Step<'a>; 7] {
+    [
+        Edit(Buffer("a", PAIR)),
+        Edit(Paint("a", [0, 0, 64, 64], 1)),
+        Edit(Paint("a", [64, 0, 64, 64], 2)),
+        Grabs("a", PAIR, raw),
+        Grabs("a", PAIR, raw),
+        Grabs("a", PAIR, raw),
+        Grabs("a", PAIR, raw),
+    ]
+}

@@ -106,7 +106,7 @@ fn make_sure<C: TileChain>(
     ensures { IsOver same_operation int_meanings session.new.state (C.held session.new.chain) }
 {
     match step {
-        Step::Edit(_) | Step::Shows(_, _) => {}
+        Step::Edit(_) | Step::Shows(_, _) | Step::Grabs(_, _, _) => {}
         Step::Commit(number) => check_row(rt, row, &commit(rt, session), number),
         Step::Undo(number) => check_row(rt, row, &undo(rt, session), number),
         Step::Redo(number) => check_row(rt, row, &redo(rt, session), number),
@@ -126,10 +126,6 @@ fn make_sure<C: TileChain>(
                 &(*applied, *reused),
             );
         }
-        Step::Grabs(word, fields, bytes) => {
-            let patch = grabbed(rt, session, word, *fields);
-            check_row(rt, row, &patch.raw_bytes(), bytes);
-        }
     }
 }
 
@@ -148,6 +144,11 @@ fn make_step<C: TileChain>(
     match step {
         Step::Edit(made) => edit(rt, session, alloc, *made),
         Step::Shows(asked, wanted) => show(rt, session, patches, row, *asked, wanted),
+        Step::Grabs(word, fields, bytes) => {
+            let (patch, is_refused) = grabbed(rt, session, word, *fields);
+            check_row(rt, row, &patch.raw_bytes(), bytes);
+            is_refused
+        }
         _ => {
             make_sure(rt, session, row, step);
             false
@@ -155,7 +156,8 @@ fn make_step<C: TileChain>(
     }
 }
 
-/// Makes steps in their order. An edit or a render that the disk refuses is made again. Returns whether it refused one.
+/// Makes steps in their order. An edit, a render or a read that the disk refuses is made again. Returns whether it refused
+/// one.
 pub fn make<C: TileChain>(
     rt: &(impl Abort + Threads + Sync),
     session: &mut OwnedSession<IntKit, C>,
