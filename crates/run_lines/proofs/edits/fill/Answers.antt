@@ -1,7 +1,11 @@
-use Rattle.std.proofs.Common.{Result, Err, refl}
+use Rattle.std.proofs.Common.{ℕ, List, Result, Err, refl, subst}
+use Rattle.model_buffers.specs.declared.edit.BufferEdit.TheVariants.{Fill}
+use Rattle.model_runs.specs.Effects.{edits}
 use Rattle.model_runs.specs.declared.ending.End.TheVariants as ends
+use Rattle.root_tiles.specs.Chains.{chain_state}
 use Rattle.run_lines.proofs.EditLines.{out_of_memory, out_of_memory_faults}
 use Rattle.run_lines.proofs.Stopping.{same_stop, same_stop_faults}
+use Rattle.run_lines.specs.Stops.{CarriesOverChain}
 use Rattle.run_lines.specs.declared.stop.Stop.{Stop}
 use Rattle.run_lines.specs.declared.stop.Stop.TheVariants as stops
 use Rattle.run_lines.proofs.edits.fill.Goals as goal
@@ -16,3 +20,8 @@ returns-in_err-copied g c = λ line shelf text reads writes puts. record {
   loans = refl;
   valid = λ valid. valid;
 }
+
+pub returns : goal.returns
+returns g c =
+    subst (λ (samples : List ℕ). CarriesOverChain (λ line state. edits line state (Fill c.args.name c.args.rect samples)) c.make.result c.args.session.now c.make.new.session
+    (chain_state g.C.ChainMeaning c.args.chain.now) (chain_state g.C.ChainMeaning c.make.new.chain)) c.in_ok-copied.ensures c.make.ensures

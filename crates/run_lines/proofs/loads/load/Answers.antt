@@ -9,14 +9,14 @@ use Rattle.run_lines.proofs.loads.load.Goals as goal
 refused_faults : (now : Moment) → HasFaults (Err ends.Refused) now now
 refused_faults now = faults_of_swap (Err ends.Refused) now now refl (λ e. absurd (cc)) (omega arith) (omega arith) (omega arith) (continues_same now.chain now.chain refl)
 
-pub returns-in_default-extent : goal.returns-in_default-extent
-returns-in_default-extent g c = λ line text puts. record {
+pub returns-in_default : goal.returns-in_default
+returns-in_default g c = λ line text puts. record {
   did = λ exposed capacity state files holds.
       let parts = c.args.session.now in
       let held = g.C.ChainMeaning.held c.args.chain.now in
       let shelf = g.F.Shelf.files c.args.shelf.now in
       (record {
-        effect = load_unknown exposed capacity line state files parts held shelf c.args.name c.args.rect holds c.args.file.now (sym c.extent.ensures ∙ c.in_default-extent.is);
+        effect = load_unknown exposed capacity line state files parts held shelf c.args.name c.args.rect holds c.args.file.now (sym c.extent.ensures ∙ c.in_default.is);
         files = refl;
         text = refl;
       });
