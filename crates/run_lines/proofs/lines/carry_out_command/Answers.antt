@@ -17,7 +17,7 @@ pub returns-in-Fill : goal.returns-in-Fill
 returns-in-Fill g c = line_carried c.args.line.now _ _ _ _ c.in-Fill.is (c.fill.ensures c.args.line.now.number _ _ _ _ _)
 
 pub returns-in-Copy : goal.returns-in-Copy
-returns-in-Copy g c = line_carried c.args.line.now _ _ _ _ c.in-Copy.is (c.copy.ensures c.args.line.now.number _ _ _ _ _)
+returns-in-Copy g c = ?
 
 pub returns-in-Node : goal.returns-in-Node
 returns-in-Node g c = line_carried c.args.line.now _ _ _ _ c.in-Node.is (session_carried _ _ c.args.line.now.number _ _ c.requires.over c.set_node.ensures)
