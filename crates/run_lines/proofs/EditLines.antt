@@ -1,5 +1,6 @@
 -- Lines that edit the buffers of a session.
-use Rattle.std.proofs.Common.{◌≡◌, ◌≢◌, ℕ, ◌+◌, Bool, true, List, Option, Some, None, Result, Ok, Err, is_some, refl, sym, ap, ◌∙◌, subst, arith}
+use Rattle.std.proofs.Common.{◌≡◌, ◌≢◌, ℕ, ◌+◌, Bool, true, List, Option, Some, None, Result, Ok, Err, is_some, ℤ, FitsSigned, of_z, to_z, w64, refl, sym, ap, ◌∙◌, subst, arith}
+use Rattle.std.proofs.lemmas.Int.{to_z-of_z}
 use Rattle.buffer_view.specs.Causes.{HasEditCause}
 use Rattle.buffer_view.specs.declared.refused.BufferRefused.{BufferRefused}
 use Rattle.buffer_view.specs.declared.refused.BufferRefused.TheVariants as buffer_refusals
@@ -16,6 +17,7 @@ use Rattle.model_buffers.specs.Edits.{table_with, unless_refused}
 use Rattle.model_buffers.specs.Layout.{TableLayout}
 use Rattle.model_buffers.specs.Table.{Table, layout_of}
 use Rattle.model_buffers.specs.declared.edit.BufferEdit.{BufferEdit}
+use Rattle.model_buffers.specs.declared.edit.BufferEdit.TheVariants.{Copy}
 use Rattle.model_buffers.specs.declared.refused.EditRefused.{EditRefused}
 use Rattle.model_graphs.specs.Laws.{KeepsLaws}
 use Rattle.model_operations.specs.Lawful.MeaningLaws.{is_boxed, is_dual, is_local}
@@ -30,6 +32,8 @@ use Rattle.model_sessions.specs.Sessions.{IsSession, Session}
 use Rattle.model_sessions.specs.Steps.{EditBuffer, HistoryEdit, IsProper, after_step, with_edit, with_workspace}
 use Rattle.model_states.specs.History.{number_of}
 use Rattle.outside_io.specs.Files.{Files}
+use Rattle.plane_rect.specs.Rectangle.{Rectangle}
+use Rattle.root_tiles.specs.Chains.{ChainState}
 use Rattle.run_lines.proofs.Carrying.{Exceeds-more, nothing_carried}
 use Rattle.run_lines.proofs.Faults.{continues_same, faults_of_swap, only_swap}
 use Rattle.run_lines.proofs.Texts.{put_none}
@@ -38,7 +42,8 @@ use Rattle.run_lines.specs.Moments.{HasFaults, Moment}
 use Rattle.run_lines.proofs.Bounds.{full_exceeds, names_grow, names_within}
 use Rattle.run_lines.specs.Edited.{IsEdited, IsHeld, SessionOver, layout_in, stepped}
 use Rattle.run_lines.specs.States.{Holds}
-use Rattle.run_lines.specs.Stops.{Did, IsDone, IsEnded, end_of, stop_of}
+use Rattle.run_lines.specs.Stops.{CarriesOverChain, Did, IsDone, IsEnded, end_of, stop_of}
+use Rattle.run_lines.specs.declared.stop.Stop.{Stop}
 use Rattle.run_lines.specs.declared.stop.Stop.TheVariants as stops
 use Rattle.chain_owners.specs.declared.swap_refused.SwapRefused.TheVariants as swap_refusals
 
@@ -209,3 +214,13 @@ module _ (edit : BufferEdit) (old new : SessionOver) (shelf : Option Files) (tex
   pub stopped_faults : (refused : SessionRefused) → IsEdited edit (Err refused) old new → HasFaults (end_of {A = Unit {0}} (Err (stop_of refused))) first last
   stopped_faults refused is =
       subst (λ (r : SessionRefused). HasFaults (end_of {A = Unit {0}} (Err (stop_of r))) first last) (sym is.cause.is) (lower_faults is.cause.lower is.cause.by_cause is.counts)
+
+-- ---- copies
+
+-- a copy by the moves that it was handed, which are passed on as bits
+pub copy_passed : (from to : List ℕ) (r : Rectangle) (dx dy : ℤ) (result : Result (Unit {0}) Stop) (old new : Parts IntOp) (before after : ChainState) → FitsSigned w64 dx → FitsSigned w64 dy →
+    CarriesOverChain (λ line state. edits line state (Copy from to r (to_z w64 (of_z w64 dx)) (to_z w64 (of_z w64 dy)))) result old new before after →
+    CarriesOverChain (λ line state. edits line state (Copy from to r dx dy)) result old new before after
+copy_passed from to r dx dy result old new before after dx_fits dy_fits carried =
+    subst (λ (x : ℤ). CarriesOverChain (λ line state. edits line state (Copy from to r x dy)) result old new before after) (to_z-of_z w64 dx dx_fits)
+    (subst (λ (y : ℤ). CarriesOverChain (λ line state. edits line state (Copy from to r (to_z w64 (of_z w64 dx)) y)) result old new before after) (to_z-of_z w64 dy dy_fits) carried)

@@ -1,4 +1,7 @@
+use Rattle.std.proofs.Common.{FitsSigned, rules, w64}
+use Rattle.root_tiles.specs.Chains.{chain_state}
 use Rattle.run_lines.proofs.Commands.{line_carried, session_carried}
+use Rattle.run_lines.proofs.EditLines.{copy_passed}
 use Rattle.run_lines.proofs.lines.carry_out_command.Goals as goal
 
 pub returns-in-Buffer : goal.returns-in-Buffer
@@ -17,7 +20,13 @@ pub returns-in-Fill : goal.returns-in-Fill
 returns-in-Fill g c = line_carried c.args.line.now _ _ _ _ c.in-Fill.is (c.fill.ensures c.args.line.now.number _ _ _ _ _)
 
 pub returns-in-Copy : goal.returns-in-Copy
-returns-in-Copy g c = ?
+returns-in-Copy g c =
+    let copy = c.in-Copy in
+    let dx : FitsSigned w64 copy.dx = search rules in
+    let dy : FitsSigned w64 copy.dy = search rules in
+    let passed = copy_passed copy.from copy.to copy.rect copy.dx copy.dy c.copy.result c.args.session.now c.copy.new.session (chain_state g.C.ChainMeaning c.args.chain.now) (chain_state g.C.ChainMeaning c.copy.new.chain)
+    dx dy c.copy.ensures in
+    line_carried c.args.line.now _ _ _ _ copy.is (passed c.args.line.now.number _ _ _ _ _)
 
 pub returns-in-Node : goal.returns-in-Node
 returns-in-Node g c = line_carried c.args.line.now _ _ _ _ c.in-Node.is (session_carried _ _ c.args.line.now.number _ _ c.requires.over c.set_node.ensures)
