@@ -1,5 +1,6 @@
 -- Lines that edit the buffers of a session.
-use Rattle.std.proofs.Common.{◌≡◌, ◌≢◌, ℕ, ◌+◌, Bool, true, List, Option, Some, None, Result, Ok, Err, is_some, refl, sym, ap, ◌∙◌, subst, arith}
+use Rattle.std.proofs.Common.{◌≡◌, ◌≢◌, ℕ, ◌+◌, Bool, true, List, Option, Some, None, Result, Ok, Err, is_some, ℤ, FitsSigned, of_z, to_z, w64, refl, sym, ap, ◌∙◌, subst, arith}
+use Rattle.std.proofs.lemmas.Int.{to_z-of_z}
 use Rattle.buffer_view.specs.Causes.{HasEditCause}
 use Rattle.buffer_view.specs.declared.refused.BufferRefused.{BufferRefused}
 use Rattle.buffer_view.specs.declared.refused.BufferRefused.TheVariants as buffer_refusals
@@ -16,14 +17,14 @@ use Rattle.model_buffers.specs.Edits.{table_with, unless_refused}
 use Rattle.model_buffers.specs.Layout.{TableLayout}
 use Rattle.model_buffers.specs.Table.{Table, layout_of}
 use Rattle.model_buffers.specs.declared.edit.BufferEdit.{BufferEdit}
-use Rattle.model_buffers.specs.declared.edit.BufferEdit.TheVariants as edit_variants
+use Rattle.model_buffers.specs.declared.edit.BufferEdit.TheVariants.{Copy}
 use Rattle.model_buffers.specs.declared.refused.EditRefused.{EditRefused}
 use Rattle.model_graphs.specs.Laws.{KeepsLaws}
 use Rattle.model_operations.specs.Lawful.MeaningLaws.{is_boxed, is_dual, is_local}
 use Rattle.model_operations.specs.Lawful.SameLaws.{is_equality}
 use Rattle.model_operations.specs.Meanings.{int_meanings, same_operation}
 use Rattle.model_operations.specs.declared.operation.IntOp.{IntOp}
-use Rattle.model_runs.specs.Effects.{edit_gives, edits, effect}
+use Rattle.model_runs.specs.Effects.{edit_gives, edits}
 use Rattle.model_runs.specs.State.{Effect, RunState, in_workspace, workspace_of}
 use Rattle.model_runs.specs.declared.ending.End.{End}
 use Rattle.model_runs.specs.declared.ending.End.TheVariants as ends
@@ -31,19 +32,19 @@ use Rattle.model_sessions.specs.Sessions.{IsSession, Session}
 use Rattle.model_sessions.specs.Steps.{EditBuffer, HistoryEdit, IsProper, after_step, with_edit, with_workspace}
 use Rattle.model_states.specs.History.{number_of}
 use Rattle.outside_io.specs.Files.{Files}
+use Rattle.plane_rect.specs.Rectangle.{Rectangle}
+use Rattle.root_tiles.specs.Chains.{ChainState}
 use Rattle.run_lines.proofs.Carrying.{Exceeds-more, nothing_carried}
 use Rattle.run_lines.proofs.Faults.{continues_same, faults_of_swap, only_swap}
 use Rattle.run_lines.proofs.Texts.{put_none}
 use Rattle.run_lines.specs.Carried.{Exceeds, most_of_line, outcome_of_line}
 use Rattle.run_lines.specs.Moments.{HasFaults, Moment}
 use Rattle.run_lines.proofs.Bounds.{full_exceeds, names_grow, names_within}
-use Rattle.run_lines.specs.Commands.{edit_of}
 use Rattle.run_lines.specs.Edited.{IsEdited, IsHeld, SessionOver, layout_in, stepped}
 use Rattle.run_lines.specs.States.{Holds}
-use Rattle.run_lines.specs.Stops.{Did, IsDone, IsEnded, end_of, stop_of}
+use Rattle.run_lines.specs.Stops.{CarriesOverChain, Did, IsDone, IsEnded, end_of, stop_of}
+use Rattle.run_lines.specs.declared.stop.Stop.{Stop}
 use Rattle.run_lines.specs.declared.stop.Stop.TheVariants as stops
-use Rattle.script_read.specs.declared.command.Command.{Command}
-use Rattle.script_read.specs.declared.command.Command.TheVariants as commands
 use Rattle.chain_owners.specs.declared.swap_refused.SwapRefused.TheVariants as swap_refusals
 
 -- ---- sessions
@@ -214,26 +215,12 @@ module _ (edit : BufferEdit) (old new : SessionOver) (shelf : Option Files) (tex
   stopped_faults refused is =
       subst (λ (r : SessionRefused). HasFaults (end_of {A = Unit {0}} (Err (stop_of r))) first last) (sym is.cause.is) (lower_faults is.cause.lower is.cause.by_cause is.counts)
 
--- ---- commands
+-- ---- copies
 
-the_edit : (a b : BufferEdit) → (let o : Option BufferEdit = Some a in o ≡ Some b) → a ≡ b
-the_edit a b e = cc
-
--- the effect of a command that is an edit
-pub edit_effect : (capacity : ℕ) (state : RunState) (files : Files) (line : ℕ) (command : Command) (edit : BufferEdit) → edit_of command ≡ Some edit →
-    edits line state edit ≡ effect capacity state files line command
-edit_effect capacity state files line (commands.Buffer name format r) edit is = ap (edits line state) (sym (the_edit (edit_variants.Create name format r) edit is))
-edit_effect capacity state files line (commands.Sub name parent r) edit is = ap (edits line state) (sym (the_edit (edit_variants.Sub name parent r) edit is))
-edit_effect capacity state files line (commands.Dup name from) edit is = ap (edits line state) (sym (the_edit (edit_variants.Duplicate name from) edit is))
-edit_effect capacity state files line (commands.Fill name r samples) edit is = ap (edits line state) (sym (the_edit (edit_variants.Fill name r samples) edit is))
-edit_effect capacity state files line (commands.Copy from to r dx dy) edit is = ap (edits line state) (sym (the_edit (edit_variants.Copy from to r dx dy) edit is))
-edit_effect capacity state files line (commands.Load name r source) edit is = absurd (cc)
-edit_effect capacity state files line (commands.Node name op inputs) edit is = absurd (cc)
-edit_effect capacity state files line (commands.Drop name) edit is = absurd (cc)
-edit_effect capacity state files line commands.Commit edit is = absurd (cc)
-edit_effect capacity state files line commands.Undo edit is = absurd (cc)
-edit_effect capacity state files line commands.Redo edit is = absurd (cc)
-edit_effect capacity state files line (commands.Render name z r target) edit is = absurd (cc)
-edit_effect capacity state files line (commands.Grab name z policy r target) edit is = absurd (cc)
-edit_effect capacity state files line (commands.Watch name r viewers frames prefix) edit is = absurd (cc)
-edit_effect capacity state files line commands.EndWatch edit is = absurd (cc)
+-- a copy by the moves that it was handed, which are passed on as bits
+pub copy_passed : (from to : List ℕ) (r : Rectangle) (dx dy : ℤ) (result : Result (Unit {0}) Stop) (old new : Parts IntOp) (before after : ChainState) → FitsSigned w64 dx → FitsSigned w64 dy →
+    CarriesOverChain (λ line state. edits line state (Copy from to r (to_z w64 (of_z w64 dx)) (to_z w64 (of_z w64 dy)))) result old new before after →
+    CarriesOverChain (λ line state. edits line state (Copy from to r dx dy)) result old new before after
+copy_passed from to r dx dy result old new before after dx_fits dy_fits carried =
+    subst (λ (x : ℤ). CarriesOverChain (λ line state. edits line state (Copy from to r x dy)) result old new before after) (to_z-of_z w64 dx dx_fits)
+    (subst (λ (y : ℤ). CarriesOverChain (λ line state. edits line state (Copy from to r (to_z w64 (of_z w64 dx)) y)) result old new before after) (to_z-of_z w64 dy dy_fits) carried)

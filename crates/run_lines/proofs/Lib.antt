@@ -11,6 +11,7 @@ mod Loading
 mod Grabs
 mod Grabbing
 mod NodeLines
+mod Commands
 mod Going
 mod Stopping
 mod Starting

@@ -9,7 +9,7 @@ use Rattle.chain_owners.specs.Held.{Held}
 use Rattle.commit_session.specs.Parts.{Parts, session_names}
 use Rattle.commit_session.specs.Refusals.{IsRefusedAs, by_graph}
 use Rattle.commit_session.specs.Seen.{IsOver, IsSessionOf}
-use Rattle.commit_session.specs.Steps.{LeadsTo}
+use Rattle.commit_session.specs.Steps.{LeadsTo, history_step, step_action}
 use Rattle.commit_session.specs.declared.refused.SessionRefused.{SessionRefused}
 use Rattle.graph_edits.specs.Refusals.{IsRefusalOf}
 use Rattle.graph_edits.specs.declared.refused.GraphRefused.{GraphRefused}
@@ -19,20 +19,22 @@ use Rattle.model_operations.specs.Lawful.MeaningLaws.{is_boxed, is_dual, is_loca
 use Rattle.model_operations.specs.Lawful.SameLaws.{is_equality}
 use Rattle.model_operations.specs.Meanings.{int_meanings, same_operation}
 use Rattle.model_operations.specs.declared.operation.IntOp.{IntOp}
-use Rattle.model_runs.specs.Effects.{effect, step_gives}
-use Rattle.model_runs.specs.State.{Effect, RunState, leaves}
+use Rattle.model_runs.specs.Effects.{step_gives}
+use Rattle.model_runs.specs.State.{RunState, leaves}
 use Rattle.model_runs.specs.declared.ending.End.{End}
 use Rattle.model_runs.specs.declared.ending.End.TheVariants as ends
 use Rattle.model_sessions.proofs.Actions.{action_keeps}
 use Rattle.model_sessions.specs.Histories.{change_to}
 use Rattle.model_sessions.specs.Sessions.{IsSession, Make, Session, with_history, with_state}
-use Rattle.model_sessions.specs.Steps.{Commit, HistoryEdit, IsProper, Redo, Undo, after_step}
+use Rattle.model_sessions.specs.Steps.{Commit, HistoryEdit, IsProper, after_step}
 use Rattle.model_sessions.specs.Tables.{table_shapes}
 use Rattle.model_states.proofs.HistoryLaws.{commit_appends, redo_appends, undo_appends}
 use Rattle.model_states.specs.Cache.{Cached}
 use Rattle.model_states.specs.Damage.{damage}
-use Rattle.model_states.specs.History.{Appends, History, committed, number_of, redone, undone}
+use Rattle.model_states.specs.History.{Appends, History, committed, number_of}
 use Rattle.plane_rect.specs.Tile.{meets}
+use Rattle.model_states.specs.declared.direction.Direction.{Direction}
+use Rattle.model_states.specs.declared.direction.Direction.TheVariants as directions
 use Rattle.model_states.specs.declared.refused.StateRefused.{StateRefused}
 use Rattle.node_cache.specs.Stores.{AddsNoOther}
 use Rattle.outside_io.specs.Files.{Files}
@@ -46,10 +48,8 @@ use Rattle.run_lines.proofs.CachedNames.{names-fall}
 use Rattle.run_lines.proofs.LookingUp.{filter-fewer}
 use Rattle.run_lines.proofs.Stopping.{same_stop, same_stop_faults}
 use Rattle.run_lines.specs.States.{HaveSameLengths, Holds}
-use Rattle.run_lines.specs.Stops.{CarriesOutCommand, Did, IsDone, RunPoint, end_of, stop_of}
+use Rattle.run_lines.specs.Stops.{CarriesCommand, Did, IsDone, RunPoint, end_of, point_over, stop_of}
 use Rattle.run_lines.specs.declared.stop.Stop.{Stop}
-use Rattle.script_read.specs.declared.command.Command.{Command}
-use Rattle.script_read.specs.declared.command.Line.{Line}
 
 -- ---- steps of histories
 
@@ -62,11 +62,9 @@ pub record IsStep (history : History Table IntOp) (step : HistoryEdit IntOp) (gi
 pub commit-step : (history : History Table IntOp) → IsStep history Commit (committed int_meanings table_shapes history)
 commit-step history = record { proper = tt; after = refl; appends = commit_appends int_meanings table_shapes history }
 
-pub undo-step : (history : History Table IntOp) → IsStep history Undo (undone history)
-undo-step history = record { proper = tt; after = refl; appends = undo_appends history }
-
-pub redo-step : (history : History Table IntOp) → IsStep history Redo (redone history)
-redo-step history = record { proper = tt; after = refl; appends = redo_appends history }
+pub direction-step : (direction : Direction) (history : History Table IntOp) → IsStep history (step_action direction) (history_step direction history)
+direction-step directions.Undo history = record { proper = tt; after = refl; appends = undo_appends history }
+direction-step directions.Redo history = record { proper = tt; after = refl; appends = redo_appends history }
 
 -- the session after a step is valid
 step-valid : (capacity : ℕ) (session : Session Table IntOp) (step : HistoryEdit IntOp) (next : History Table IntOp) → IsStep session.history step (Ok next) → IsSession int_meanings capacity session →
@@ -158,16 +156,6 @@ module _ (exposed : Bool) (capacity line : ℕ) (state : RunState) (files : File
 
 -- ---- lines of steps
 
--- what the devices show, of which a step touches the chain alone
-abbrev pub step_point : Option Files → Option (List ℕ) → ℕ → ℕ → ℕ → Parts IntOp → ChainState → RunPoint
-step_point shelf text reads writes puts parts chain = record {
-  parts = parts;
-  held = chain.held;
-  loans = chain.loans;
-  valid = chain.valid;
-  moment = record { files = shelf; text = text; reads = reads; writes = writes; puts = puts; chain = chain.counts };
-}
-
 -- a refusal by the graph is no I/O error
 step-faults : (refused : SessionRefused) (cause : GraphRefused → Type 0) (old new : Moment) → IsRefusedAs by_graph cause refused → new.reads ≡ old.reads → new.writes ≡ old.writes → new.puts ≡ old.puts →
     Continues old.chain new.chain → HasFaults (end_of {A = Unit {0}} (Err (stop_of refused))) old new
@@ -181,29 +169,27 @@ step-faults refused cause old new is reads writes puts continues =
     by (graph_refusals.State refused) = at ends.Refused refl (λ e. cc)
     by graph_refusals.NoMemory = at ends.NoMemory refl (λ e. cc)
 
--- a line whose command is a step by what that gives of a history
-module _ (line : Line) (command : Command) (is : line.command ≡ command) (gives : History Table IntOp → Result (History Table IntOp) StateRefused)
-    (by : (capacity : ℕ) (state : RunState) (files : Files) → effect capacity state files line.number command ≡ step_gives line.number state (gives state.session.history))
-    (old new : Parts IntOp) (s0 s1 : ChainState) (over : IsOver same_operation int_meanings new s1.held) (left : Leaves 0 (session_names old) (session_names new) s0 s1)
+-- a step by what it gives of a history
+module _ (line : ℕ) (gives : History Table IntOp → Result (History Table IntOp) StateRefused) (old new : Parts IntOp) (s0 s1 : ChainState)
+    (over : IsOver same_operation int_meanings new s1.held) (left : Leaves 0 (session_names old) (session_names new) s0 s1)
     (shelf : Option Files) (text : Option (List ℕ)) (reads writes puts : ℕ) where
-  of_step : (capacity : ℕ) (state : RunState) (files : Files) → step_gives line.number state (gives state.session.history) ≡ effect capacity state files line.number line.command
-  of_step capacity state files = sym (ap (effect capacity state files line.number) is ∙ by capacity state files)
-
   abbrev first : RunPoint
-  first = step_point shelf text reads writes puts old s0
+  first = point_over shelf text reads writes puts old s0
 
   abbrev last : RunPoint
-  last = step_point shelf text reads writes puts new s1
+  last = point_over shelf text reads writes puts new s1
+
+  abbrev Carried : Result (Unit {0}) Stop → Type 0
+  Carried result = CarriesCommand line (λ capacity state files. step_gives line state (gives state.session.history)) result first last
 
   pub step-carried : (step : HistoryEdit IntOp) → ((history : History Table IntOp) → IsStep history step (gives history)) →
       ((session : Session Table IntOp) → IsSessionOf same_operation int_meanings old s0.held session →
       LeadsTo (gives session.history) (λ next. IsSessionOf same_operation int_meanings new s1.held (with_state same_operation int_meanings session next))) →
-      new.capacity ≡ old.capacity → AddsNoOther s0.counts s1.counts (values_of old.entries) (values_of new.entries) → CarriesOutCommand line (Ok tt) first last
+      new.capacity ≡ old.capacity → AddsNoOther s0.counts s1.counts (values_of old.entries) (values_of new.entries) → Carried (Ok tt)
   step-carried step steps leads same_capacity others = record {
     did = λ exposed capacity state files holds.
-        subst (λ (done : Effect). IsDone exposed capacity state files done first.moment last.moment new s1.held) (of_step capacity state files)
-        (step-done exposed capacity line.number state files old new s0.held s1.held first.moment last.moment holds refl refl step (gives state.session.history) (steps state.session.history)
-        (record { leads = leads state.session holds.session; capacity = same_capacity; content = left.others.exposed; counts = left.counts; others = others }));
+        step-done exposed capacity line state files old new s0.held s1.held first.moment last.moment holds refl refl step (gives state.session.history) (steps state.session.history)
+        (record { leads = leads state.session holds.session; capacity = same_capacity; content = left.others.exposed; counts = left.counts; others = others });
     faults = chain_faults first.moment last.moment refl refl refl left.counts.continues;
     over = over;
     loans = left.loans;
@@ -212,14 +198,13 @@ module _ (line : Line) (command : Command) (is : line.command ≡ command) (give
 
   pub step-refused : (refused : SessionRefused) (cause : GraphRefused → Type 0) → IsRefusedAs by_graph cause refused →
       ((session : Session Table IntOp) → IsSessionOf same_operation int_meanings old s0.held session → IsRefusedAs by_graph (IsRefusalOf (gives session.history)) refused) →
-      (result : Result (Unit {0}) Stop) → IsErrAnd result (λ other. other ≡ stop_of refused) → CarriesOutCommand line result first last
+      (result : Result (Unit {0}) Stop) → IsErrAnd result (λ other. other ≡ stop_of refused) → Carried result
   step-refused refused cause why refused_session result same =
       let stopped : Result (Unit {0}) Stop = Err (stop_of refused) in
       record {
         did = λ exposed capacity state files holds.
-            same_stop exposed capacity line.number state files _ (stop_of refused) result first.moment last.moment new s1.held same
-            (subst (λ (done : Effect). Did exposed capacity line.number state files done (Err (stop_of refused)) first.moment last.moment new s1.held) (of_step capacity state files)
-            (step-stopped exposed capacity line.number state files old new s0.held s1.held first.moment last.moment holds refl refl (gives state.session.history) refused (refused_session state.session holds.session)));
+            same_stop exposed capacity line state files _ (stop_of refused) result first.moment last.moment new s1.held same
+            (step-stopped exposed capacity line state files old new s0.held s1.held first.moment last.moment holds refl refl (gives state.session.history) refused (refused_session state.session holds.session));
         faults = same_stop_faults stopped (stop_of refused) result first.moment last.moment refl same (step-faults refused cause first.moment last.moment why refl refl refl left.counts.continues);
         over = over;
         loans = left.loans;

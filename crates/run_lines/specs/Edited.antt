@@ -1,5 +1,5 @@
 -- Edits of a session's buffers.
-use Rattle.std.specs.Prelude.{◌≡◌, ◌≢◌, ⊤, Some, None, Result, Ok, Err, IfErr}
+use Rattle.std.specs.Prelude.{◌≡◌, ◌≢◌, Some, None, Result, Ok, Err, IfErr}
 use Rattle.std.specs.Option.{is_some}
 use Rattle.std.specs.Result.{OnOk}
 use Rattle.buffer_view.specs.Causes.{HasEditCause}
@@ -16,7 +16,6 @@ use Rattle.model_buffers.specs.Counts.{tiles_added}
 use Rattle.model_buffers.specs.Layout.{TableLayout}
 use Rattle.model_buffers.specs.Table.{Table}
 use Rattle.model_buffers.specs.declared.edit.BufferEdit.{BufferEdit}
-use Rattle.model_buffers.specs.declared.edit.BufferEdit.TheVariants.{Put}
 use Rattle.model_buffers.specs.declared.refused.EditRefused.{EditRefused}
 use Rattle.model_operations.specs.Meanings.{int_meanings, same_operation}
 use Rattle.model_operations.specs.declared.operation.IntOp.{IntOp}
@@ -53,8 +52,3 @@ pub record IsEdited (edit : BufferEdit) (result : Result (Unit {0}) SessionRefus
   pub capacity : new.parts.capacity ≡ old.parts.capacity
   pub content : is_some new.held.content ≡ is_some old.held.content
   pub counts : Grows (tiles_added edit) old.counts new.counts
-
--- it puts raw bytes
-abbrev pub IsPut : BufferEdit → Type 0
-IsPut (Put name r bytes) = ⊤
-IsPut edit = ⊥

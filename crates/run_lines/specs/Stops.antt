@@ -1,6 +1,6 @@
 -- What a command did, by what it answers.
 use Rattle.std.specs.Borrow.{GName}
-use Rattle.std.specs.Prelude.{◌≡◌, ◌≢◌, ℕ, Bool, List, Result, Ok, Err, IfOk}
+use Rattle.std.specs.Prelude.{◌≡◌, ◌≢◌, ℕ, Bool, List, Option, Result, Ok, Err, IfOk}
 use Rattle.buffer_view.specs.declared.refused.BufferRefused.{BufferRefused}
 use Rattle.buffer_view.specs.declared.refused.BufferRefused.TheVariants as buffer_refusals
 use Rattle.chain_owners.specs.Held.{Held}
@@ -20,6 +20,7 @@ use Rattle.model_runs.specs.declared.ending.End.TheVariants as ends
 use Rattle.outside_io.specs.Files.{Files}
 use Rattle.render_workers.specs.declared.refused.RenderRefused.{RenderRefused}
 use Rattle.render_workers.specs.declared.refused.RenderRefused.TheVariants as render_refusals
+use Rattle.root_tiles.specs.Chains.{ChainState}
 use Rattle.run_lines.specs.States.{Holds}
 use Rattle.run_lines.specs.Carried.{CarriesOut, HasNames, most_of_line, outcome_of_line}
 use Rattle.run_lines.specs.Moments.{HasFaults, Moment}
@@ -120,6 +121,30 @@ pub record Carries (done : Bool → ℕ → RunState → Files → Type 0) (resu
 abbrev pub CarriesCommand : ℕ → (ℕ → RunState → Files → Effect) → Result (Unit {0}) Stop → RunPoint → RunPoint → Type 0
 CarriesCommand line effect result old new =
     Carries (λ exposed capacity state files. Did exposed capacity line state files (effect capacity state files) result old.moment new.moment new.parts new.held) (end_of result) old new
+
+-- a point of a run at which the chain and the devices are in these states
+abbrev pub point_over : Option Files → Option (List ℕ) → ℕ → ℕ → ℕ → Parts IntOp → ChainState → RunPoint
+point_over shelf text reads writes puts parts chain = record {
+  parts = parts;
+  held = chain.held;
+  loans = chain.loans;
+  valid = chain.valid;
+  moment = record { files = shelf; text = text; reads = reads; writes = writes; puts = puts; chain = chain.counts };
+}
+
+-- what is left of a command that touches the session and its chain alone, whichever its line is, and whatever the devices are
+abbrev pub CarriesOverChain : (ℕ → RunState → Effect) → Result (Unit {0}) Stop → Parts IntOp → Parts IntOp → ChainState → ChainState → Type 0
+CarriesOverChain effect result old new before after =
+    (line : ℕ) (shelf : Option Files) (text : Option (List ℕ)) (reads writes puts : ℕ) →
+    CarriesCommand line (λ capacity state files. effect line state) result
+    (point_over shelf text reads writes puts old before) (point_over shelf text reads writes puts new after)
+
+-- what is left of a command that touches the session alone, whichever its line is, and whatever the chain and the devices are
+pub record CarriesInSession (effect : ℕ → RunState → Effect) (result : Result (Unit {0}) Stop) (old new : Parts IntOp) : Type 0 where
+  pub did : (line : ℕ) (now : Moment) (held : Held) (exposed : Bool) (capacity : ℕ) (state : RunState) (files : Files) →
+      Holds exposed capacity state files old held now.files → Did exposed capacity line state files (effect line state) result now now new held
+  pub faults : (now : Moment) → HasFaults (end_of result) now now
+  pub over : (held : Held) → IsOver same_operation int_meanings old held → IsOver same_operation int_meanings new held
 
 -- what is left of the command of a line
 abbrev pub CarriesOutCommand : Line → Result (Unit {0}) Stop → RunPoint → RunPoint → Type 0

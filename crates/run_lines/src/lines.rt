@@ -12,16 +12,16 @@ ghost use Rattle.run_lines.specs.Moments.{HasFaults};
 ghost use Rattle.run_lines.specs.Stops.{CarriesOutCommand, CarriesOutLine};
 ghost use Rattle.run_lines.specs.{Commands.IsBuiltLine, States.Holds};
 
-use crate::edits::edit;
+use crate::edits::{copy, create, duplicate, fill, sub};
 use crate::events::refuse;
-use crate::files::grab;
+use crate::files::{GrabLine, grab};
 use crate::loads::load;
-use crate::nodes::add_pending;
-use crate::renders::render;
-use crate::steps::step;
+use crate::nodes::{remove_node, set_node};
+use crate::renders::{RenderLine, render};
+use crate::steps::{commit, step};
 use crate::stop::Stop;
 use chain_contracts::TileChain;
-use commit_session::SessionState;
+use commit_session::{Direction, SessionState};
 use model_operations::IntOp;
 use model_runs::End;
 use outside_io::{Shelf, Sink};
@@ -111,12 +111,70 @@ fn carry_out_command<C: TileChain, F: Shelf, O: Sink, R: Threads + Sync>(
         (record { parts = session.old; held = C.held chain.old; loans = C.loans chain.old; valid = C.is_valid chain.old; moment = record { files = F.files shelf.old; text = O.written out.old; reads = F.read_faults shelf.old; writes = F.write_faults shelf.old; puts = O.faults out.old; chain = C.counts chain.old } })
         (record { parts = session.new; held = C.held chain.new; loans = C.loans chain.new; valid = C.is_valid chain.new; moment = record { files = F.files shelf.new; text = O.written out.new; reads = F.read_faults shelf.new; writes = F.write_faults shelf.new; puts = O.faults out.new; chain = C.counts chain.new } }) }
 {
-    match &line.command {
-        Command::Load { .. } => load(alloc, line, session, chain, shelf, workers),
-        Command::Grab { .. } => grab(alloc, line, session, chain, shelf, out),
-        Command::Render { .. } => render(alloc, line, session, chain, shelf, out, workers),
-        Command::Node { .. } | Command::Drop { .. } => add_pending(line, session),
-        Command::Commit | Command::Undo | Command::Redo => step(line, session, chain),
-        _ => edit(line, session, chain, workers),
+    let number = line.number;
+    match line.command {
+        Command::Buffer { name, format, rect } => {
+            create(name, format, rect, session, chain, workers)
+        }
+        Command::Sub { name, parent, rect } => sub(name, parent, rect, session, chain, workers),
+        Command::Dup { name, from } => duplicate(name, from, session, chain, workers),
+        Command::Load { name, rect, file } => {
+            load(alloc, name, rect, &file, session, chain, shelf, workers)
+        }
+        Command::Fill {
+            name,
+            rect,
+            ref samples,
+        } => fill(name, rect, samples, session, chain, workers),
+        Command::Copy {
+            from,
+            to,
+            rect,
+            dx,
+            dy,
+        } => copy(from, to, rect, dx, dy, session, chain, workers),
+        Command::Node {
+            name,
+            ref op,
+            ref inputs,
+        } => set_node(name, op, inputs, session),
+        Command::Drop { name } => remove_node(name, session),
+        Command::Commit => commit(session, chain),
+        Command::Undo => step(Direction::Undo, session, chain),
+        Command::Redo => step(Direction::Redo, session, chain),
+        Command::Render {
+            name,
+            level,
+            rect,
+            file,
+        } => {
+            let asked = RenderLine {
+                number,
+                name,
+                level,
+                rect,
+                file,
+            };
+            render(alloc, asked, session, chain, shelf, out, workers)
+        }
+        Command::Grab {
+            name,
+            level,
+            abyss,
+            rect,
+            file,
+        } => {
+            let asked = GrabLine {
+                number,
+                name,
+                level,
+                abyss,
+                rect,
+                file,
+            };
+            grab(alloc, asked, session, chain, shelf, out)
+        }
+        // Scripts with watches are refused before a line is carried out.
+        Command::Watch { .. } | Command::EndWatch => unreachable!(),
     }
 }

@@ -16,11 +16,9 @@ ghost use Rattle.outside_io.specs.Files.{file as bytes_of};
 ghost use Rattle.plane_rect.specs.Rectangle.{end_row as row_after, in_limits, plane_side};
 ghost use Rattle.run_lines.specs.Moments.{HasFaults};
 ghost use Rattle.run_lines.specs.Bands.{BeginsBand, IsReached, bytes_of_rows, rows_between as rows_of};
-ghost use Rattle.run_lines.specs.Edited.{IsEdited, IsPut, done};
+ghost use Rattle.run_lines.specs.Edited.{IsEdited, done};
 ghost use Rattle.run_lines.specs.Rasters.{IsPart, IsTarget, Reads};
-ghost use Rattle.run_lines.specs.Stops.{CarriesCommand, CarriesOutCommand, end_of};
-ghost use Rattle.run_lines.specs.Commands.{is_load};
-ghost use Rattle.script_read.specs.Limits.{IsInLimits};
+ghost use Rattle.run_lines.specs.Stops.{CarriesCommand, end_of};
 
 use crate::stop::Stop;
 use alloc_basics::NoMemory;
@@ -32,7 +30,7 @@ use model_runs::{Cause, End};
 use outside_io::{Shelf, ShelfAnswer};
 use pixel_formats::Format;
 use plane_rect::{Name, Rect, TILE_SIDE};
-use script_read::{Command, FileName, Line};
+use script_read::FileName;
 use std::alloc::Global;
 use std::thread::Threads;
 use worker_pieces::Workers;
@@ -48,34 +46,33 @@ struct Target {
     format: Format,
 }
 
-/// Carries out a line that loads a file into a buffer.
+/// Loads a file into a rectangle of a buffer.
 pub(crate) fn load<C: TileChain, F: Shelf, R: Threads + Sync>(
     alloc: Global,
-    line: &Line,
+    name: Name,
+    rect: Rect,
+    file: &FileName,
     session: &mut SessionState<IntOp>,
     chain: &mut C,
     shelf: &mut F,
     workers: Workers<'_, R>,
 ) -> Result<(), Stop>
     requires over { IsOver same_operation int_meanings session.old (C.held chain.old) }
-    requires limits { IsInLimits line.now.command }
-    requires load { IsTrue (is_load line.now.command) }
-    ensures { (text : Option (List ℕ)) (puts : ℕ) → CarriesOutCommand line.now result
+    requires limits { IsTrue (in_limits rect) }
+    ensures { (line : ℕ) (text : Option (List ℕ)) (puts : ℕ) →
+        CarriesCommand line (λ capacity state files. loads line state name rect (bytes_of files file.now)) result
         (record { parts = session.old; held = C.held chain.old; loans = C.loans chain.old; valid = C.is_valid chain.old; moment = record { files = F.files shelf.old; text = text; reads = F.read_faults shelf.old; writes = F.write_faults shelf.old; puts = puts; chain = C.counts chain.old } })
         (record { parts = session.new; held = C.held chain.new; loans = C.loans chain.new; valid = C.is_valid chain.new; moment = record { files = F.files shelf.new; text = text; reads = F.read_faults shelf.new; writes = F.write_faults shelf.new; puts = puts; chain = C.counts chain.new } }) }
 {
-    let Command::Load { name, rect, file } = &line.command else {
-        unreachable!()
-    };
-    let Some(fact) = session.extent(*name) else {
+    let Some(fact) = session.extent(name) else {
         return Err(Stop::Refused(Cause::UnknownBuffer));
     };
-    if !fact.bounds.contains(rect) {
+    if !fact.bounds.contains(&rect) {
         return Err(Stop::Refused(Cause::OutOfBounds));
     }
     let target = Target {
-        name: *name,
-        rect: *rect,
+        name,
+        rect,
         format: fact.format,
     };
     load_bands(alloc, &target, file, session, chain, shelf, workers)
@@ -106,7 +103,7 @@ fn load_bands<C: TileChain, F: Shelf, R: Threads + Sync>(
         let row = band_row(&target.rect, end, tile_rows);
         read_band(target, row, end, file, &mut bytes, shelf, workers)?;
         let band = rows_between(&target.rect, row, end);
-        bytes = put_band(target.name, band, bytes, session, chain, workers)?;
+        bytes = put_band(alloc, target.name, band, bytes, session, chain, workers)?;
         if row <= target.rect.first_row() {
             return Ok(());
         }
@@ -238,6 +235,7 @@ fn make_room(bytes: &mut Vec<u8>, count: usize) -> Result<(), NoMemory>
 
 /// Puts the bytes of a band, and returns their vector.
 fn put_band<C: TileChain, R: Threads + Sync>(
+    alloc: Global,
     name: Name,
     band: Rect,
     bytes: Vec<u8>,
@@ -260,15 +258,13 @@ fn put_band<C: TileChain, R: Threads + Sync>(
         bytes: RawBytes::new(bytes),
     };
     session.edit(chain, &edit, workers)?;
-    Ok(bytes_in(edit))
+    Ok(bytes_in(alloc, edit))
 }
 
-/// Returns the vector of the bytes that an edit puts.
-fn bytes_in(edit: BufferEdit) -> Vec<u8>
-    requires { IsPut edit }
-{
+/// Returns the vector of the bytes that an edit puts, and an empty one of any other edit.
+fn bytes_in(alloc: Global, edit: BufferEdit) -> Vec<u8> {
     match edit {
         BufferEdit::Put { bytes, .. } => bytes.into_vec(),
-        _ => unreachable!(),
+        _ => Vec::new(alloc),
     }
 }

@@ -1,55 +1,44 @@
 //! Lines that edit nodes.
 
-ghost use Rattle.std.specs.Prelude.{◌≡◌, Bool, IfOk, IsSome, Some, ℕ};
-ghost use Rattle.chain_owners.specs.Held.{Held};
-ghost use Rattle.commit_session.specs.Seen.{IsOver};
-ghost use Rattle.model_operations.specs.Meanings.{int_meanings, same_operation};
-ghost use Rattle.model_runs.specs.{Commands.body_of, Effects.effect, State.RunState};
-ghost use Rattle.outside_io.specs.Files.{Files};
-ghost use Rattle.run_lines.specs.Moments.{HasFaults, Moment};
-ghost use Rattle.run_lines.specs.Stops.{Did, end_of};
-ghost use Rattle.run_lines.specs.{Commands.node_edit_of, States.Holds};
+ghost use Rattle.std.specs.Prelude.{◌≡◌, IfOk};
+ghost use Rattle.model_graphs.specs.declared.node.NodeEdit.TheVariants.{Remove, Set};
+ghost use Rattle.model_runs.specs.Commands.{body_of, node_of};
+ghost use Rattle.run_lines.specs.{Commands.leaves_pending, Stops.CarriesInSession};
 
 use crate::stop::Stop;
 use alloc_basics::NoMemory;
 use commit_session::SessionState;
 use model_graphs::{Body, NodeEdit, NodeSpec};
 use model_operations::IntOp;
-use plane_rect::NameList;
-use script_read::{Command, Line, OpWords};
+use plane_rect::{Name, NameList};
+use script_read::OpWords;
 
-/// Adds the edit of nodes that a line is to the pending ones.
-pub(crate) fn add_pending(line: &Line, session: &mut SessionState<IntOp>) -> Result<(), Stop>
-    requires { IsSome (node_edit_of line.now.command) }
-    ensures did { (now : Moment) (held : Held) (exposed : Bool) (capacity : ℕ) (state : RunState) (files : Files) →
-        Holds exposed capacity state files session.old held now.files →
-        Did exposed capacity line.now.number state files (effect capacity state files line.now.number line.now.command) result now now session.new held }
-    ensures faults { (now : Moment) → HasFaults (end_of result) now now }
-    ensures over { (held : Held) → IsOver same_operation int_meanings session.old held →
-        IsOver same_operation int_meanings session.new held }
+/// Adds a node, or one that is made anew, to the pending edits.
+pub(crate) fn set_node(
+    name: Name,
+    op: &OpWords,
+    inputs: &NameList,
+    session: &mut SessionState<IntOp>,
+) -> Result<(), Stop>
+    ensures { CarriesInSession (λ line state. leaves_pending line state (Set (node_of name op.now inputs.now))) result session.old session.new }
 {
-    let made = edit_by(&line.command)?;
-    session.add_pending(made)?;
-    Ok(())
+    let body = body(op, inputs)?;
+    add_pending(NodeEdit::Set(NodeSpec { name, body }), session)
 }
 
-/// Returns the edit of nodes that a command is.
-///
-/// # Errors
-///
-/// `NoMemory` if memory runs out.
-fn edit_by(command: &Command) -> Result<NodeEdit<IntOp>, NoMemory>
-    requires { IsSome (node_edit_of command.now) }
-    ensures { IfOk result (λ edit. node_edit_of command.now ≡ Some edit) }
+/// Adds the removal of a node to the pending edits.
+pub(crate) fn remove_node(name: Name, session: &mut SessionState<IntOp>) -> Result<(), Stop>
+    ensures { CarriesInSession (λ line state. leaves_pending line state (Remove name)) result session.old session.new }
 {
-    match command {
-        Command::Node { name, op, inputs } => {
-            let body = body(op, inputs)?;
-            Ok(NodeEdit::Set(NodeSpec { name: *name, body }))
-        }
-        Command::Drop { name } => Ok(NodeEdit::Remove(*name)),
-        _ => unreachable!(),
-    }
+    add_pending(NodeEdit::Remove(name), session)
+}
+
+/// Adds an edit of nodes to the pending ones.
+fn add_pending(edit: NodeEdit<IntOp>, session: &mut SessionState<IntOp>) -> Result<(), Stop>
+    ensures { CarriesInSession (λ line state. leaves_pending line state edit) result session.old session.new }
+{
+    session.add_pending(edit)?;
+    Ok(())
 }
 
 /// Returns what a node does, by its words and its inputs.

@@ -1,14 +1,14 @@
 //! Lines that write a file of a node.
 
-ghost use Rattle.std.specs.Prelude.{IfSome, IsTrue, Option, length};
+ghost use Rattle.std.specs.Prelude.{IfSome, Option, length};
 ghost use Rattle.commit_session.specs.Seen.{IsOver};
 ghost use Rattle.model_images.specs.Image.{Image};
 ghost use Rattle.model_operations.specs.Meanings.{int_meanings, same_operation};
-ghost use Rattle.model_runs.specs.Effects.{writes};
+ghost use Rattle.model_runs.specs.Effects.{renders_named, writes};
 ghost use Rattle.run_lines.specs.Causes.{HasCause};
-ghost use Rattle.run_lines.specs.{Commands.is_render, PictureBytes.LeavesBytes, Stops.CarriesOutCommand};
+ghost use Rattle.run_lines.specs.{PictureBytes.LeavesBytes, Stops.CarriesCommand};
 ghost use Rattle.model_runs.specs.{Events.events_alone, Texts.render_text as text_of_render};
-ghost use Rattle.script_read.specs.Limits.{IsInLimits};
+ghost use Rattle.script_fields.specs.Limits.{IsLevelRect};
 ghost use Rattle.strip_patches.specs.Shown.{Shows, picture_box, picture_format};
 
 use crate::events::put_text;
@@ -20,7 +20,8 @@ use int_ops::{IntKit, IntPurse};
 use model_operations::IntOp;
 use model_runs::{End, render_text};
 use outside_io::{Shelf, Sink};
-use script_read::{Command, FileName, Line};
+use plane_rect::{Name, Rect};
+use script_read::FileName;
 use std::alloc::Global;
 use std::thread::Threads;
 use strip_patches::{Picture, PictureForm};
@@ -29,10 +30,20 @@ use worker_pieces::Workers;
 /// How many permits a render has: as many as any may spend.
 const RENDER_PERMITS: u64 = 1 << 32;
 
-/// Carries out a line that writes a file of a level of a node.
+/// What a line asks for that writes a file of a level of a node.
+#[derive(Clone, Copy, Debug)]
+pub(crate) struct RenderLine {
+    pub number: u32,
+    pub name: Name,
+    pub level: u32,
+    pub rect: Rect,
+    pub file: FileName,
+}
+
+/// Writes a file of a level of a node.
 pub(crate) fn render<C: TileChain, F: Shelf, O: Sink, R: Threads + Sync>(
     alloc: Global,
-    line: &Line,
+    line: RenderLine,
     session: &mut SessionState<IntOp>,
     chain: &mut C,
     shelf: &mut F,
@@ -40,29 +51,19 @@ pub(crate) fn render<C: TileChain, F: Shelf, O: Sink, R: Threads + Sync>(
     workers: Workers<'_, R>,
 ) -> Result<(), Stop>
     requires over { IsOver same_operation int_meanings session.old (C.held chain.old) }
-    requires limits { IsInLimits line.now.command }
-    requires render { IsTrue (is_render line.now.command) }
-    ensures { CarriesOutCommand line.now result
+    requires limits { IsLevelRect line.level line.rect }
+    ensures { CarriesCommand line.number (λ capacity state files. renders_named capacity line.number state line.name line.level line.rect line.file) result
         (record { parts = session.old; held = C.held chain.old; loans = C.loans chain.old; valid = C.is_valid chain.old; moment = record { files = F.files shelf.old; text = O.written out.old; reads = F.read_faults shelf.old; writes = F.write_faults shelf.old; puts = O.faults out.old; chain = C.counts chain.old } })
         (record { parts = session.new; held = C.held chain.new; loans = C.loans chain.new; valid = C.is_valid chain.new; moment = record { files = F.files shelf.new; text = O.written out.new; reads = F.read_faults shelf.new; writes = F.write_faults shelf.new; puts = O.faults out.new; chain = C.counts chain.new } }) }
 {
-    let Command::Render {
-        name,
-        level,
-        rect,
-        file,
-    } = &line.command
-    else {
-        unreachable!()
-    };
     let mut purse = IntPurse::new(RENDER_PERMITS);
     let picture = session.render(
         &IntKit,
         chain,
         &mut purse,
-        *name,
-        *level,
-        *rect,
+        line.name,
+        line.level,
+        line.rect,
         PictureForm::Tiles,
         workers,
     )?;
@@ -71,7 +72,7 @@ pub(crate) fn render<C: TileChain, F: Shelf, O: Sink, R: Threads + Sync>(
         line.number,
         session.number(),
         picture,
-        file,
+        &line.file,
         shelf,
         out,
     )?;

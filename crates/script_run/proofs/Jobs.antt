@@ -26,10 +26,11 @@ use Rattle.model_runs.specs.Texts.{report_text, sum_text}
 use Rattle.model_runs.specs.World.{World}
 use Rattle.script_read.specs.declared.command.Line.{Line}
 use Rattle.script_run.proofs.AfterLines.{files_after_read, files_by, read_ended, read_then}
-use Rattle.script_run.proofs.Promises.{options_of, ran_by, read_at, swap_at, write_at}
+use Rattle.script_run.proofs.Promises.{options_of, put_at, ran_by, read_at, swap_at, write_at}
 use Rattle.script_run.proofs.Reading.{moment}
 use Rattle.script_run.proofs.Unwatched.{plan_unwatched}
 use Rattle.script_run.specs.Carried.{CarriesOutJob, CarriesOutRead, job_blocks, job_moment, last_state}
+use Rattle.script_run.specs.Promises.{HasStatusCause, RanJob}
 
 -- what is read of a job's script
 abbrev pub read_of_job : ℕ → Result (List Line) Refusal
@@ -147,17 +148,17 @@ exposes_always plan numbers size old new before after status ran = record {
 abbrev pub JobFaults : Result (Unit {0}) End → Option (List ℕ) → Option (List ℕ) → ℕ → ℕ → Type 0
 JobFaults result text later puts more = (before after : Option Files) → HasFaults result (job_moment before text puts) (job_moment after later more)
 
-module _ (found : Option ℕ) (number status : ℕ) (ended : Result (Unit {0}) End) (text later : Option (List ℕ)) (puts more : ℕ) (named : found ≡ Some number) (is : status ≡ status_of ended) (has : JobFaults ended text later puts more) where
-  pub job_ran : ((left : Option Files) × CarriesOutJob number ended (job_moment (Some (made_files number)) text puts) (job_moment left later more)) →
-      IfSome found (λ number. (left : Option Files) × Ran ⊤ (built_job number) [] job_blocks
+module _ (number status : ℕ) (ended : Result (Unit {0}) End) (text later : Option (List ℕ)) (puts more : ℕ) (is : status ≡ status_of ended) (has : JobFaults ended text later puts more) where
+  ran : ((left : Option Files) × CarriesOutJob number ended (job_moment (Some (made_files number)) text puts) (job_moment left later more)) →
+      (left : Option Files) × Ran ⊤ (built_job number) [] job_blocks
       (record { files = Some (made_files number); text = text }) (record { files = left; text = later })
-      (record { reads = 0; writes = 0; swaps = 0; puts = puts }) (record { reads = 0; writes = 0; swaps = 0; puts = more }) status)
-  job_ran carried =
+      (record { reads = 0; writes = 0; swaps = 0; puts = puts }) (record { reads = 0; writes = 0; swaps = 0; puts = more }) status
+  ran carried =
       let files = made_files number in
       let read = read_of_job number in
       let old = job_moment (Some files) text puts in
       let new = job_moment carried.0 later more in
-      rw (named, is) (
+      rw is (
         carried.0,
         exposes_always (built_job number) [] job_blocks _ _ _ _ (status_of ended)
             (ran_by true (built_job number) default_options ended job_blocks 0 old new (plan_unwatched made_ending files default_options read)
@@ -165,14 +166,28 @@ module _ (found : Option ℕ) (number status : ℕ) (ended : Result (Unit {0}) E
       )
 
   -- its own shelf and swap don't fail
-  pub not_read : status ≢ 3
+  not_read : status ≢ 3
   not_read at = let rose = (has None None).read (read_at ended (sym is ∙ at)) in omega (arith, rose)
 
-  pub not_write : status ≢ 4
+  not_write : status ≢ 4
   not_write at = let rose = (has None None).write (write_at ended (sym is ∙ at)) in omega (arith, rose)
 
-  pub not_swap : status ≢ 5
+  not_swap : status ≢ 5
   not_swap at = let rose = (has None None).swap (swap_at ended (sym is ∙ at)) in omega (arith, rose)
 
-  pub job_statuses : IfSome found (λ number. (status ≢ 3) × ((status ≢ 4) × (status ≢ 5)))
-  job_statuses = rw named (not_read, (not_write, not_swap))
+  -- the promise of a made job, which is apart from a shelf and a swap
+  pub job_ran : {Shelf Swap : Type 0} (found : Option ℕ) (shelf : Shelf) (swap : Swap) → found ≡ Some number →
+      ((left : Option Files) × CarriesOutJob number ended (job_moment (Some (made_files number)) text puts) (job_moment left later more)) →
+      IfSome found (λ number. RanJob number shelf shelf swap swap text later puts more status)
+  job_ran found shelf swap named carried =
+      let job : RanJob number shelf shelf swap swap text later puts more status = record { job_apart = (refl, refl); job_statuses = (not_read, (not_write, not_swap)); job_ran = ran carried } in
+      rw named job
+
+  -- which has no cause but the sink's
+  pub job_cause : (reads writes swaps : ℕ) → HasStatusCause (record { reads = reads; writes = writes; swaps = swaps; puts = puts }) (record { reads = reads; writes = writes; swaps = swaps; puts = more }) status
+  job_cause reads writes swaps = record {
+    read_fault = λ at. absurd (not_read at);
+    write_fault = λ at. absurd (not_write at);
+    swap_fault = λ at. absurd (not_swap at);
+    output_fault = λ at. (has None None).put (put_at ended (sym is ∙ at));
+  }

@@ -1,5 +1,5 @@
 -- What a run promises, by what it leaves and why it ends.
-use Rattle.std.proofs.Common.{◌≡◌, ℕ, ◌⊎◌, Bool, IsTrue, ◌||◌, List, [], min, Option, Some, None, Result, Ok, Err, IfSome, inl, inr, refl, sym, ap, subst, arith}
+use Rattle.std.proofs.Common.{◌≡◌, ℕ, ◌⊎◌, Bool, IsTrue, ◌||◌, List, [], min, Option, Some, None, Result, Ok, Err, IfSome, inl, inr, refl, sym, ap, ◌∙◌, subst, arith}
 use Rattle.chain_owners.specs.Counts.{Counts, Rose}
 use Rattle.tile_chain.specs.OwnedTiles.{counts_over}
 use Rattle.outside_io.specs.Files.{Files, file}
@@ -22,7 +22,8 @@ use Rattle.script_read.specs.declared.command.Line.{Line}
 use Rattle.std.specs.Prelude.{option_and_then}
 use Rattle.script_run.proofs.Statuses.{may_tear_at}
 use Rattle.script_run.proofs.Unwatched.{plan_unwatched}
-use Rattle.script_run.specs.Carried.{CarriesOutRead}
+use Rattle.script_run.specs.Carried.{CarriesOutRead, EndsWithoutSwap}
+use Rattle.script_run.specs.Promises.{HasStatusCause, RanUnswapped}
 
 -- ---- statuses
 
@@ -71,6 +72,22 @@ full_by (Err ends.WriteFault) e = cc
 full_by (Err ends.SwapFault) e = cc
 full_by (Err ends.OutputFault) e = cc
 full_by (Err ends.NoMemory) e = cc
+
+pub read_at : (ended : Result (Unit {0}) End) → status_of ended ≡ 3 → ended ≡ Err ends.ReadFault
+read_at (Err ends.ReadFault) e = refl
+read_at _ e = cc
+
+pub write_at : (ended : Result (Unit {0}) End) → status_of ended ≡ 4 → ended ≡ Err ends.WriteFault
+write_at (Err ends.WriteFault) e = refl
+write_at _ e = cc
+
+pub swap_at : (ended : Result (Unit {0}) End) → status_of ended ≡ 5 → ended ≡ Err ends.SwapFault
+swap_at (Err ends.SwapFault) e = refl
+swap_at _ e = cc
+
+pub put_at : (ended : Result (Unit {0}) End) → status_of ended ≡ 6 → ended ≡ Err ends.OutputFault
+put_at (Err ends.OutputFault) e = refl
+put_at _ e = cc
 
 status_at_refusal : (refused : Option Refusal) → IsRefusal refused → end_status refused ≡ 2
 status_at_refusal None is = absurd is
@@ -147,6 +164,30 @@ ran_named found run swapped (Some given) ended status size faults old new named 
           (plan_unwatched report given run.options read) (options_of report [] given run.options (built_lines read)) chain carried has,
     )
 
+-- the promise of one whose script needs no swap
+pub unswapped_named : {Swap : Type 0} (found : Option ScriptRun) (run : ScriptRun) (exposes : Bool) (exposed : Option Files) (ended : Result (Unit {0}) End) (status : ℕ) (swap next_swap : Swap) (old new : Moment) →
+    found ≡ Some run → status ≡ status_of ended →
+    IfSome exposed (λ files. IsTrue (needs_no_swap (lines_of_file (file files run.script))) → (next_swap ≡ swap) × EndsWithoutSwap ended) →
+    IfSome exposed (λ files. CarriesOutRead report exposes files run.options (lines_of_file (file files run.script)) ended old new) → HasFaults ended old new →
+    IfSome found (λ run. IfSome exposed (λ files. IsTrue (needs_no_swap (lines_of_file (file files run.script))) →
+    RanUnswapped (built_plan [] files run).outcome.refused swap next_swap (faults_at old) (faults_at new) status))
+unswapped_named found run exposes None ended status swap next_swap old new named is without carried has = rw named tt
+unswapped_named found run exposes (Some files) ended status swap next_swap old new named is without carried has =
+    let left : IsTrue (needs_no_swap (lines_of_file (file files run.script))) → RanUnswapped (built_plan [] files run).outcome.refused swap next_swap (faults_at old) (faults_at new) (status_of ended) =
+    λ needs.
+    let end = without needs in
+    record { unswapped = end.0; complete = complete_by (built_plan [] files run).outcome.refused ended old new carried.refused has end.1.fault end.1.room } in
+    rw (named, is) left
+
+-- statuses of I/O errors by their causes
+pub cause_named : (ended : Result (Unit {0}) End) (status : ℕ) (old new : Moment) → status ≡ status_of ended → HasFaults ended old new → HasStatusCause (faults_at old) (faults_at new) status
+cause_named ended status old new is has = record {
+  read_fault = λ at. has.read (read_at ended (sym is ∙ at));
+  write_fault = λ at. has.write (write_at ended (sym is ∙ at));
+  swap_fault = λ at. has.swap (swap_at ended (sym is ∙ at));
+  output_fault = λ at. has.put (put_at ended (sym is ∙ at));
+}
+
 -- ---- what is asked for
 
 pub script_asked : (words : List (List ℕ)) (script : List ℕ) (options : Options) → request_of words ≡ Some (RunScript script options) →
@@ -155,21 +196,3 @@ script_asked words script options asks = ap (λ (r : Option Request). option_and
 
 pub job_asked : (words : List (List ℕ)) (number : ℕ) → request_of words ≡ Some (MakeJob number) → asked_job words ≡ Some number
 job_asked words number asks = ap (λ (r : Option Request). option_and_then job_of r) asks
-
--- ---- causes of statuses
-
-pub read_at : (ended : Result (Unit {0}) End) → status_of ended ≡ 3 → ended ≡ Err ends.ReadFault
-read_at (Err ends.ReadFault) e = refl
-read_at _ e = cc
-
-pub write_at : (ended : Result (Unit {0}) End) → status_of ended ≡ 4 → ended ≡ Err ends.WriteFault
-write_at (Err ends.WriteFault) e = refl
-write_at _ e = cc
-
-pub swap_at : (ended : Result (Unit {0}) End) → status_of ended ≡ 5 → ended ≡ Err ends.SwapFault
-swap_at (Err ends.SwapFault) e = refl
-swap_at _ e = cc
-
-pub put_at : (ended : Result (Unit {0}) End) → status_of ended ≡ 6 → ended ≡ Err ends.OutputFault
-put_at (Err ends.OutputFault) e = refl
-put_at _ e = cc

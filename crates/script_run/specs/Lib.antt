@@ -1,4 +1,5 @@
 pub mod Carried
+pub mod Promises
 pub use Rattle.outside_io.specs.Files
 pub use Rattle.outside_io.specs.Faults
 pub use Rattle.model_runs.specs.World

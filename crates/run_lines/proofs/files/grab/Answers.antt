@@ -12,15 +12,14 @@ use Rattle.run_lines.proofs.files.grab.Goals as goal
 pub returns-in_err-patch : goal.returns-in_err-patch
 returns-in_err-patch g c = record {
   did = λ exposed capacity state files holds.
-      let line = c.args.line.now.number in
+      let line = c.args.line.number in
       let parts = c.args.session.now in
       let held = g.C.ChainMeaning.held c.args.chain.now in
       let later = g.C.ChainMeaning.held c.grab.new.chain in
       let before : Moment = moment g.F.Shelf g.O.Sink g.C.ChainMeaning c.args.shelf.now c.args.out.now c.args.chain.now in
       let after : Moment = record before { chain = g.C.ChainMeaning.counts c.grab.new.chain } in
-      rw c.in-Grab.is
       (same_stop exposed capacity line state files _ _ _ _ _ c.grab.new.self later c.from_residual.ensures.1
-      (grab_stopped exposed capacity line state files parts c.grab.new.self held later c.in-Grab.name c.in-Grab.level c.in-Grab.abyss c.in-Grab.rect c.in-Grab.file before after holds refl refl
+      (grab_stopped exposed capacity line state files parts c.grab.new.self held later c.args.line.name c.args.line.level c.args.line.abyss c.args.line.rect c.args.line.file before after holds refl refl
       c.in_err-patch.field-0.0 c.in_err-patch.ensures.cause (λ none. (let other = c.in_err-patch.ensures.unknown none in cc))));
   faults =
       let before : Moment = moment g.F.Shelf g.O.Sink g.C.ChainMeaning c.args.shelf.now c.args.out.now c.args.chain.now in
@@ -28,7 +27,7 @@ returns-in_err-patch g c = record {
       let refused = c.in_err-patch.field-0.0 in
       let stopped : Result (Unit {0}) Stop = Err (stop_of refused) in
       same_stop_faults stopped (stop_of refused) _ before after refl c.from_residual.ensures.1
-      (grab-faults c.args.session.now.versions.working.layout c.in-Grab.name c.in-Grab.level refused before after c.in_err-patch.ensures.cause refl refl refl c.in_err-patch.ensures.left.counts.continues);
+      (grab-faults c.args.session.now.versions.working.layout c.args.line.name c.args.line.level refused before after c.in_err-patch.ensures.cause refl refl refl c.in_err-patch.ensures.left.counts.continues);
   over = c.in_err-patch.ensures.over;
   loans = c.in_err-patch.ensures.left.loans;
   valid = c.in_err-patch.ensures.left.valid;
@@ -41,10 +40,9 @@ returns-in_err-write_grab g c =
     let end = c.in_err-write_grab.field-0.0 in
     record {
       did = λ exposed capacity state files holds.
-          rw c.in-Grab.is
-          (same_stop exposed capacity c.args.line.now.number state files _ _ _ _ _ c.grab.new.self (g.C.ChainMeaning.held c.grab.new.chain) c.from_residual-in_err-write_grab.ensures.1
-          (grab_ended exposed capacity c.args.line.now.number state files c.args.session.now c.grab.new.self (g.C.ChainMeaning.held c.args.chain.now) (g.C.ChainMeaning.held c.grab.new.chain)
-          c.in-Grab.name c.in-Grab.level c.in-Grab.abyss c.in-Grab.rect c.in-Grab.file before after holds (λ none. (let other = c.in_ok-patch.ensures.unknown none in cc))
+          (same_stop exposed capacity c.args.line.number state files _ _ _ _ _ c.grab.new.self (g.C.ChainMeaning.held c.grab.new.chain) c.from_residual-in_err-write_grab.ensures.1
+          (grab_ended exposed capacity c.args.line.number state files c.args.session.now c.grab.new.self (g.C.ChainMeaning.held c.args.chain.now) (g.C.ChainMeaning.held c.grab.new.chain)
+          c.args.line.name c.args.line.level c.args.line.abyss c.args.line.rect c.args.line.file before after holds (λ none. (let other = c.in_ok-patch.ensures.unknown none in cc))
           _ _ c.in_ok-patch.ensures.shape c.in_ok-patch.ensures.image c.raw_bytes.ensures.value c.raw_bytes.ensures.count _ c.in_err-write_grab.ensures.cause.room c.in_err-write_grab.ensures.leaves
           end refl));
       faults =
@@ -62,9 +60,8 @@ returns g c =
     let after : Moment = moment g.F.Shelf g.O.Sink g.C.ChainMeaning c.write_grab.new.shelf c.write_grab.new.out c.grab.new.chain in
     record {
       did = λ exposed capacity state files holds.
-          rw c.in-Grab.is
-          (grab_done exposed capacity c.args.line.now.number state files c.args.session.now c.grab.new.self (g.C.ChainMeaning.held c.args.chain.now) (g.C.ChainMeaning.held c.grab.new.chain)
-          c.in-Grab.name c.in-Grab.level c.in-Grab.abyss c.in-Grab.rect c.in-Grab.file before after holds (λ none. (let other = c.in_ok-patch.ensures.unknown none in cc))
+          (grab_done exposed capacity c.args.line.number state files c.args.session.now c.grab.new.self (g.C.ChainMeaning.held c.args.chain.now) (g.C.ChainMeaning.held c.grab.new.chain)
+          c.args.line.name c.args.line.level c.args.line.abyss c.args.line.rect c.args.line.file before after holds (λ none. (let other = c.in_ok-patch.ensures.unknown none in cc))
           _ _ c.in_ok-patch.ensures.shape c.in_ok-patch.ensures.image c.raw_bytes.ensures.value c.raw_bytes.ensures.count _ c.in_ok-write_grab.ensures.cause.room c.in_ok-write_grab.ensures.leaves
           refl c.in_ok-patch.ensures.states.capacity c.in_ok-patch.ensures.left.others.exposed (c.in_ok-patch.ensures.same state.session holds.session) c.in_ok-patch.ensures.left.counts);
       faults = file-faults (Ok tt) before after c.in_ok-patch.ensures.left.counts.continues c.in_ok-write_grab.ensures.cause;
